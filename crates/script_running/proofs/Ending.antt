@@ -63,7 +63,7 @@ module _ (script : Script) (bytes : List ℕ) (number : ℕ) (phase : Phase) (be
             are = w.are;
             run = subst (λ (es : List Entry). OwnRun own_setting (who_of worker) (holding_of before worker.gateway) w.own es w.ends w.last) (sym w.entries) w.run;
           };
-          outcomes = w.outcomes;
+          parts = w.parts;
           sees = w.sees;
           cut = subst (λ (s : ℕ). IsBrokenOff own_setting (who_of worker) s (holding_of before worker.gateway) w.own kept.1 w.ends end.came) (sym sits)
               (subst (λ (es : List Entry). IsBrokenOff own_setting (who_of worker) seat (holding_of before worker.gateway) w.own es w.ends end.came) (sym w.entries) w.broken);

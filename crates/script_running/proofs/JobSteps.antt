@@ -47,7 +47,7 @@ alone setting tasks who places before seat old new end h = record {
   ends = h.ends;
   last = h.last;
   run = h.run;
-  outcomes = h.outcomes;
+  parts = h.parts;
   sees = h.sees;
   broken = h.broken;
 }
@@ -69,15 +69,15 @@ module _ (post : Post) (script : Script) (phase : Phase) (spelled : script_of po
       (subst (λ (s : Script). HasWorked (setting_of s) phase.tasks (who_of post.worker) post.worker.tasks held seat [] made end) same h)
 
   pub may_work : (seat : ℕ) (old new : List Entry) (front : Option (List Entry)) (end : WorkerEnd)
-      → ((who : Who) (held : Holding) → Sees held post.view → HasWorked (setting_of script) phase.tasks who post.worker.tasks held seat old new end) → (end.came ≡ Err broken.Full → IfSome front IsFull)
+      → ((who : Who) (held : Holding) → who.gateway ≡ post.worker.gateway → Sees held post.view → HasWorked (setting_of script) phase.tasks who post.worker.tasks held seat old new end) → (end.came ≡ Err broken.Full → IfSome front IsFull)
       → (made : List Entry) × (new ≡ old ++ made) × MayWork post seat made front end
   may_work seat old new front end worked full =
-      let first = worked (who_of post.worker) (holds post.view) (holds_it post.view) in (
+      let first = worked (who_of post.worker) (holds post.view) refl (holds_it post.view) in (
         drop (length old) new,
         gains (setting_of script) phase.tasks (who_of post.worker) post.worker.tasks (holds post.view) seat old new end first,
         record {
           worked = λ other one held is found sees.
-              by_text held seat (drop (length old) new) end (alone (setting_of script) phase.tasks (who_of post.worker) post.worker.tasks held seat old new end (worked (who_of post.worker) held sees)) other one is found;
+              by_text held seat (drop (length old) new) end (alone (setting_of script) phase.tasks (who_of post.worker) post.worker.tasks held seat old new end (worked (who_of post.worker) held refl sees)) other one is found;
           full = full;
         },
       )

@@ -9,7 +9,10 @@ pub mod Begun
 pub mod Knowing
 pub mod Ending
 pub mod Due
+pub mod GivenParts
+pub mod AllParts
 pub mod Taking
+pub mod Telling
 pub mod Gathered
 pub mod Gathers
 pub mod Closing

@@ -21,10 +21,10 @@ use Rattle.lifecycle_core.specs.Holdings.{Use}
 use Rattle.lifecycle_core.specs.Setting.{Setting}
 use Rattle.lifecycle_core.specs.Tasks.{End, answered, sync_rules, synced}
 use Rattle.script_running.specs.Drives.{Came, came_by, driven_end}
-use Rattle.script_running.specs.Outcomes.{IsOutcome}
+use Rattle.script_running.specs.Outcomes.{IsPart}
 use Rattle.script_running.specs.Tasks.{Adds, CameBy, IsDueAfter, WhenFull, view_by}
 use Rattle.script_running.specs.declared.came.Broken.TheVariants as broken
-use Rattle.script_running.specs.declared.outcome.Outcome.{Outcome}
+use Rattle.script_running.specs.declared.part.Part.{Part}
 
 -- a drive without a stop is never stopped
 never : {E : Type 0} (is_run : List Entry → Option E → Type 0) (seat : ℕ) (driven : Driven E) (old new : List Entry) → Drives is_run seat None driven old new → (n : ℕ) → driven ≡ Stopped n → ⊥
@@ -38,14 +38,14 @@ adds is_run other seat stop driven old new came runs d due = record { made = d.m
 due_in : {E : Type 0} (is_run other : List Entry → Option E → Type 0) (seat : ℕ) (made : List Entry) → ((es : List Entry) (end : Option E) → is_run es end → other es end) → Awaits is_run seat made → IsDueAfter other seat made
 due_in is_run other seat made runs d = (d.op, d.lawful, λ seen answer. (None, runs (made ++ entry_of seat d.op seen ∷ []) None (d.more seen answer)))
 
-due : {E : Type 0} (is_run other : List Entry → Option E → Type 0) (seat : ℕ) (made : List Entry) (out : E → Outcome) (driven : Driven E) → ((es : List Entry) (end : Option E) → is_run es end → other es end)
+due : {E : Type 0} (is_run other : List Entry → Option E → Type 0) (seat : ℕ) (made : List Entry) (out : E → Part) (driven : Driven E) → ((es : List Entry) (end : Option E) → is_run es end → other es end)
     → (driven ≡ Full → Awaits is_run seat made) → WhenFull (came_by out (driven_end driven)) (IsDueAfter other seat made)
 due is_run other seat made out (Ended end) runs waits = tt
 due is_run other seat made out (Stopped n) runs waits = tt
 due is_run other seat made out Full runs waits = due_in is_run other seat made runs (waits refl)
 due is_run other seat made out NoMemory runs waits = tt
 
-comes_by : {E : Type 0} (work : Work) (as_end : E → End) (out : E → Outcome) (driven : Driven E) → ((end : E) → IsOutcome work (as_end end ∷ []) (out end)) → ((n : ℕ) → driven ≡ Stopped n → ⊥)
+comes_by : {E : Type 0} (work : Work) (as_end : E → End) (out : E → Part) (driven : Driven E) → ((end : E) → IsPart work (as_end end) (out end)) → ((n : ℕ) → driven ≡ Stopped n → ⊥)
     → CameBy work (option_map as_end (end_of driven)) (came_by out (driven_end driven))
 comes_by work as_end out (Ended end) is never = is end
 comes_by work as_end out (Stopped n) is never = absurd (never n refl)
@@ -53,8 +53,8 @@ comes_by work as_end out Full is never = tt
 comes_by work as_end out NoMemory is never = tt
 
 -- A drive that nothing stops is a run, by whose end the task comes out.
-pub driven_told : {E : Type 0} (is_run other : List Entry → Option E → Type 0) (seat : ℕ) (driven : Driven E) (old new : List Entry) (work : Work) (as_end : E → End) (out : E → Outcome) (came : Came)
-    → came ≡ came_by out (driven_end driven) → ((end : E) → IsOutcome work (as_end end ∷ []) (out end)) → ((made : List Entry) (end : Option E) → is_run made end → other made end)
+pub driven_told : {E : Type 0} (is_run other : List Entry → Option E → Type 0) (seat : ℕ) (driven : Driven E) (old new : List Entry) (work : Work) (as_end : E → End) (out : E → Part) (came : Came)
+    → came ≡ came_by out (driven_end driven) → ((end : E) → IsPart work (as_end end) (out end)) → ((made : List Entry) (end : Option E) → is_run made end → other made end)
     → Drives is_run seat None driven old new → Adds other seat old new (end_of driven) came × CameBy work (option_map as_end (end_of driven)) came
 driven_told is_run other seat driven old new work as_end out came c is runs d =
     subst (λ (x : Came). Adds other seat old new (end_of driven) x × CameBy work (option_map as_end (end_of driven)) x) (sym c)

@@ -18,12 +18,12 @@ use Rattle.lifecycle_core.specs.Tasks.{End, TaskRun}
 use Rattle.lifecycle_core.proofs.phases.RunsInLine.{may_begin}
 use Rattle.lifecycle_core.proofs.phases.TaskRuns.{MayBegin}
 use Rattle.script_running.specs.Drives.{Came}
-use Rattle.script_running.specs.Outcomes.{IsOutcome}
+use Rattle.script_running.specs.Outcomes.{IsPart}
 use Rattle.script_running.specs.Tasks.{CameBy, HasDone, Sees, is_full_came}
-use Rattle.script_running.specs.Workers.{AreOutcomes, HasWorked, IsBrokenOff, OwnRun}
+use Rattle.script_running.specs.Workers.{AreParts, HasWorked, IsBrokenOff, OwnRun}
 use Rattle.script_running.specs.declared.came.Broken.{Broken}
 use Rattle.script_running.specs.declared.came.Broken.TheVariants as broken
-use Rattle.script_running.specs.declared.outcome.Outcome.{Outcome}
+use Rattle.script_running.specs.declared.part.Part.{Part}
 use Rattle.script_running.specs.declared.worker.WorkerEnd.{WorkerEnd}
 
 -- ---- the tasks at places
@@ -53,23 +53,23 @@ at_both tasks [] others (a ∷ own) more are and = absurd (cc (are))
 at_both tasks (p ∷ places) others [] more are and = absurd are
 at_both tasks (p ∷ places) others (a ∷ own) more are and = (are.0, at_both tasks places others own more are.1 and)
 
--- ---- outcomes
+-- ---- what tasks came to
 
-outcomes_more : (own : List Assigned) (ends : List End) (outcomes : List Outcome) (task : Assigned) (end : End) (o : Outcome) → AreOutcomes own ends outcomes → length ends ≡ length own → IsOutcome task.task.work (end ∷ []) o
-    → AreOutcomes (own ++ task ∷ []) (ends ++ end ∷ []) (outcomes ++ o ∷ [])
-outcomes_more [] [] [] task end o are same is = (is, refl)
-outcomes_more [] [] (x ∷ xs) task end o are same is = absurd (cc (are))
-outcomes_more [] (e ∷ ends) outcomes task end o are same is = absurd are
-outcomes_more (a ∷ own) [] outcomes task end o are same is = absurd (omega (arith, same))
-outcomes_more (a ∷ own) (e ∷ ends) [] task end o are same is = absurd are
-outcomes_more (a ∷ own) (e ∷ ends) (x ∷ xs) task end o are same is = (are.0, outcomes_more own ends xs task end o are.1 (omega (arith, same)) is)
+parts_more : (own : List Assigned) (ends : List End) (parts : List Part) (task : Assigned) (end : End) (o : Part) → AreParts own ends parts → length ends ≡ length own → IsPart task.task.work end o
+    → AreParts (own ++ task ∷ []) (ends ++ end ∷ []) (parts ++ o ∷ [])
+parts_more [] [] [] task end o are same is = (is, refl)
+parts_more [] [] (x ∷ xs) task end o are same is = absurd (cc (are))
+parts_more [] (e ∷ ends) parts task end o are same is = absurd are
+parts_more (a ∷ own) [] parts task end o are same is = absurd (omega (arith, same))
+parts_more (a ∷ own) (e ∷ ends) [] task end o are same is = absurd are
+parts_more (a ∷ own) (e ∷ ends) (x ∷ xs) task end o are same is = (are.0, parts_more own ends xs task end o are.1 (omega (arith, same)) is)
 
--- tasks that follow have no outcomes yet
-outcomes_on : (own more : List Assigned) (ends : List End) (outcomes : List Outcome) → AreOutcomes own ends outcomes → AreOutcomes (own ++ more) ends outcomes
-outcomes_on own more [] outcomes are = are
-outcomes_on [] more (e ∷ ends) outcomes are = absurd are
-outcomes_on (a ∷ own) more (e ∷ ends) [] are = absurd are
-outcomes_on (a ∷ own) more (e ∷ ends) (o ∷ outcomes) are = (are.0, outcomes_on own more ends outcomes are.1)
+-- tasks that follow have no parts yet
+parts_on : (own more : List Assigned) (ends : List End) (parts : List Part) → AreParts own ends parts → AreParts (own ++ more) ends parts
+parts_on own more [] parts are = are
+parts_on [] more (e ∷ ends) parts are = absurd are
+parts_on (a ∷ own) more (e ∷ ends) [] are = absurd are
+parts_on (a ∷ own) more (e ∷ ends) (o ∷ parts) are = (are.0, parts_on own more ends parts are.1)
 
 -- ---- what was refused
 
@@ -78,7 +78,7 @@ or_false true = refl
 or_false false = refl
 
 -- a task that came to its end was refused nothing
-pub refused_none : (first mid new : Bool) (came : Came) (o : Outcome) → new ≡ (mid || is_full_came came) → came ≡ Ok o → mid ≡ first → new ≡ first
+pub refused_none : (first mid new : Bool) (came : Came) (o : Part) → new ≡ (mid || is_full_came came) → came ≡ Ok o → mid ≡ first → new ≡ first
 refused_none first mid new came o is so same = is ∙ ap (λ (r : Came). mid || is_full_came r) so ∙ or_false mid ∙ same
 
 -- the task that broke off tells of the worker
@@ -102,7 +102,7 @@ full_end (Err broken.NoMemory) is = absurd (cc (is))
 -- ---- from one task to the next
 
 -- The tasks at these places were done to their ends. What completes the rest completes them all.
-pub record Worked (setting : Setting) (tasks : List Task) (who : Who) (places : List ℕ) (before : Holding) (seat : ℕ) (old new : List Entry) (view : Option View) (outcomes : List Outcome) : Type 0 where
+pub record Worked (setting : Setting) (tasks : List Task) (who : Who) (places : List ℕ) (before : Holding) (seat : ℕ) (old new : List Entry) (view : Option View) (parts : List Part) : Type 0 where
   pub made : List Entry
   pub entries : new ≡ old ++ made
   pub seats : All (λ e. e.seat ≡ seat) made
@@ -112,13 +112,13 @@ pub record Worked (setting : Setting) (tasks : List Task) (who : Who) (places : 
   pub whole : length ends ≡ length own
   pub next : Holding
   pub onward : (more : List Assigned) (entries : List Entry) (later : List End) (last : Holding) → OwnRun setting who next more entries later last → OwnRun setting who before (own ++ more) (made ++ entries) (ends ++ later) last
-  pub told : AreOutcomes own ends outcomes
+  pub told : AreParts own ends parts
   pub sees : Sees next view
 
 -- before the first task
-pub none_worked : (setting : Setting) (tasks : List Task) (who : Who) (before : Holding) (seat : ℕ) (journal : List Entry) (view : Option View) (places : List ℕ) (outcomes : List Outcome) → places ≡ [] → outcomes ≡ [] → Sees before view
-    → Worked setting tasks who places before seat journal journal view outcomes
-none_worked setting tasks who before seat journal view places outcomes none none_told sees = record {
+pub none_worked : (setting : Setting) (tasks : List Task) (who : Who) (before : Holding) (seat : ℕ) (journal : List Entry) (view : Option View) (places : List ℕ) (parts : List Part) → places ≡ [] → parts ≡ [] → Sees before view
+    → Worked setting tasks who places before seat journal journal view parts
+none_worked setting tasks who before seat journal view places parts none none_told sees = record {
   made = [];
   entries = sym (append-nil journal);
   seats = All-nil (λ e. e.seat ≡ seat);
@@ -132,8 +132,8 @@ none_worked setting tasks who before seat journal view places outcomes none none
   sees = sees;
 }
 
-module _ (setting : Setting) (tasks : List Task) (who : Who) (places : List ℕ) (before : Holding) (seat : ℕ) (old mid new : List Entry) (shown view : Option View) (outcomes : List Outcome) (place : ℕ) (task : Task)
-    (at : slice_get tasks place ≡ Some task) (w : Worked setting tasks who places before seat old mid shown outcomes) where
+module _ (setting : Setting) (tasks : List Task) (who : Who) (places : List ℕ) (before : Holding) (seat : ℕ) (old mid new : List Entry) (shown view : Option View) (parts : List Part) (place : ℕ) (task : Task)
+    (at : slice_get tasks place ≡ Some task) (w : Worked setting tasks who places before seat old mid shown parts) where
   abbrev this : Assigned
   this = record { place = place; task = task }
 
@@ -150,8 +150,8 @@ module _ (setting : Setting) (tasks : List Task) (who : Who) (places : List ℕ)
       (subst (λ (ends : List End). OwnRun setting who before (w.own ++ this ∷ more) (w.made ++ (made ++ entries)) ends last) (sym (append_assoc w.ends (end ∷ []) later))
       (w.onward (this ∷ more) (made ++ entries) (end ∷ later) last (λ all. inl (made, entries, end, later, after, refl, run, refl, rest all)))))
 
-  more_from : (o : Outcome) (end : End) (made : List Entry) (after : Holding) → new ≡ mid ++ made → All (λ e. e.seat ≡ seat) made → TaskRun setting who place task.work w.next made (Some end) after → Sees after view → IsOutcome task.work (end ∷ []) o
-      → Worked setting tasks who (places ++ place ∷ []) before seat old new view (outcomes ++ o ∷ [])
+  more_from : (o : Part) (end : End) (made : List Entry) (after : Holding) → new ≡ mid ++ made → All (λ e. e.seat ≡ seat) made → TaskRun setting who place task.work w.next made (Some end) after → Sees after view → IsPart task.work end o
+      → Worked setting tasks who (places ++ place ∷ []) before seat old new view (parts ++ o ∷ [])
   more_from o end made after is seats run sees by = record {
     made = w.made ++ made;
     entries = both_entries made is;
@@ -162,16 +162,16 @@ module _ (setting : Setting) (tasks : List Task) (who : Who) (places : List ℕ)
     whole = omega (arith, length-append w.ends (end ∷ []), length-append w.own (this ∷ []), w.whole);
     next = after;
     onward = both_onward made end after run;
-    told = outcomes_more w.own w.ends outcomes this end o w.told w.whole by;
+    told = parts_more w.own w.ends parts this end o w.told w.whole by;
     sees = sees;
   }
 
-  more_by : (o : Outcome) (end : Option End) (made : List Entry) (after : Holding) → new ≡ mid ++ made → All (λ e. e.seat ≡ seat) made → TaskRun setting who place task.work w.next made end after → Sees after view → CameBy task.work end (Ok o)
-      → Worked setting tasks who (places ++ place ∷ []) before seat old new view (outcomes ++ o ∷ [])
+  more_by : (o : Part) (end : Option End) (made : List Entry) (after : Holding) → new ≡ mid ++ made → All (λ e. e.seat ≡ seat) made → TaskRun setting who place task.work w.next made end after → Sees after view → CameBy task.work end (Ok o)
+      → Worked setting tasks who (places ++ place ∷ []) before seat old new view (parts ++ o ∷ [])
   more_by o (Some end) made after is seats run sees by = more_from o end made after is seats run sees by
   more_by o None made after is seats run sees by = absurd by
 
-  pub more_worked : (o : Outcome) → HasDone setting who place task.work w.next seat mid new view (Ok o) → Worked setting tasks who (places ++ place ∷ []) before seat old new view (outcomes ++ o ∷ [])
+  pub more_worked : (o : Part) → HasDone setting who place task.work w.next seat mid new view (Ok o) → Worked setting tasks who (places ++ place ∷ []) before seat old new view (parts ++ o ∷ [])
   more_worked o d = more_by o d.end d.made d.after d.entries d.seats d.run d.sees d.by
 
   -- ---- the task that was broken off
@@ -210,25 +210,25 @@ module _ (setting : Setting) (tasks : List Task) (who : Who) (places : List ℕ)
   )
 
   pub broken_worked : (all : List ℕ) (others : List ℕ) (more : List Assigned) (why : Broken) (end : WorkerEnd) → all ≡ places ++ place ∷ others → TasksAt tasks others more → All (λ (a : Assigned). MayBegin setting a.task.work) more
-      → end.outcomes.items ≡ outcomes → end.came ≡ Err why → end.view ≡ view → HasDone setting who place task.work w.next seat mid new view (Err why) → HasWorked setting tasks who all before seat old new end
-  broken_worked all others more why end parts are begin told came sight d = record {
+      → end.parts.items ≡ parts → end.came ≡ Err why → end.view ≡ view → HasDone setting who place task.work w.next seat mid new view (Err why) → HasWorked setting tasks who all before seat old new end
+  broken_worked all others more why end split are begin told came sight d = record {
     made = w.made ++ d.made;
     entries = both_entries d.made d.entries;
     seats = All-append (λ (e : Entry). e.seat ≡ seat) w.made d.made w.seats d.seats;
     own = w.own ++ this ∷ more;
-    are = subst (λ (ps : List ℕ). TasksAt tasks ps (w.own ++ this ∷ more)) (sym parts) (at_both tasks places (place ∷ others) w.own (this ∷ more) w.are ((refl, at), are));
+    are = subst (λ (ps : List ℕ). TasksAt tasks ps (w.own ++ this ∷ more)) (sym split) (at_both tasks places (place ∷ others) w.own (this ∷ more) w.are ((refl, at), are));
     ends = w.ends ++ [];
     last = d.after;
     run = cut_run more d.made d.end d.after d.run (none_by task.work d.end why d.by);
-    outcomes = subst (AreOutcomes (w.own ++ this ∷ more) (w.ends ++ [])) (sym told) (subst (λ (es : List End). AreOutcomes (w.own ++ this ∷ more) es outcomes) (sym (append-nil w.ends)) (outcomes_on w.own (this ∷ more) w.ends outcomes w.told));
+    parts = subst (AreParts (w.own ++ this ∷ more) (w.ends ++ [])) (sym told) (subst (λ (es : List End). AreParts (w.own ++ this ∷ more) es parts) (sym (append-nil w.ends)) (parts_on w.own (this ∷ more) w.ends parts w.told));
     sees = d.sees ∙ sym sight;
     broken = subst (IsBrokenOff setting who seat before (w.own ++ this ∷ more) (w.made ++ d.made) (w.ends ++ [])) (sym came) (cut_off more why begin d);
   }
 
 -- all tasks were done
-pub all_worked : (setting : Setting) (tasks : List Task) (who : Who) (places all : List ℕ) (before : Holding) (seat : ℕ) (old new : List Entry) (view : Option View) (outcomes : List Outcome) (end : WorkerEnd) → places ≡ all
-    → end.outcomes.items ≡ outcomes → end.came ≡ Ok tt → end.view ≡ view → Worked setting tasks who places before seat old new view outcomes → HasWorked setting tasks who all before seat old new end
-all_worked setting tasks who places all before seat old new view outcomes end is told came sight w = record {
+pub all_worked : (setting : Setting) (tasks : List Task) (who : Who) (places all : List ℕ) (before : Holding) (seat : ℕ) (old new : List Entry) (view : Option View) (parts : List Part) (end : WorkerEnd) → places ≡ all
+    → end.parts.items ≡ parts → end.came ≡ Ok tt → end.view ≡ view → Worked setting tasks who places before seat old new view parts → HasWorked setting tasks who all before seat old new end
+all_worked setting tasks who places all before seat old new view parts end is told came sight w = record {
   made = w.made;
   entries = w.entries;
   seats = w.seats;
@@ -240,7 +240,7 @@ all_worked setting tasks who places all before seat old new view outcomes end is
       (subst (λ (es : List Entry). OwnRun setting who before (w.own ++ []) es w.ends w.next) (append-nil w.made)
       (subst (λ (ends : List End). OwnRun setting who before (w.own ++ []) (w.made ++ []) ends w.next) (append-nil w.ends)
       (w.onward [] [] [] w.next (λ all. (refl, refl, refl)))));
-  outcomes = subst (AreOutcomes w.own w.ends) (sym told) w.told;
+  parts = subst (AreParts w.own w.ends) (sym told) w.told;
   sees = w.sees ∙ sym sight;
   broken = subst (IsBrokenOff setting who seat before w.own w.made w.ends) (sym came) w.whole;
 }
@@ -265,7 +265,7 @@ none_run setting who before (a ∷ own) begin = λ all. inr (begin 0 a (omega ar
 -- for want of memory
 pub none_done : (setting : Setting) (tasks : List Task) (who : Who) (places : List ℕ) (before : Holding) (seat : ℕ) (journal : List Entry) (view : Option View) (end : WorkerEnd) → IsLawfulScript setting.script
     → All (λ t. IsLawfulWork setting.script.gateways setting.script.blocks (length setting.script.selectors) t.work) tasks → All (λ place. place < length tasks) places → Sees before view
-    → end.outcomes.items ≡ [] → end.came ≡ Err broken.NoMemory → end.view ≡ view → HasWorked setting tasks who places before seat journal journal end
+    → end.parts.items ≡ [] → end.came ≡ Err broken.NoMemory → end.view ≡ view → HasWorked setting tasks who places before seat journal journal end
 none_done setting tasks who places before seat journal view end lawful allowed within sees told came sight =
     let own = assigned tasks places within in
     let begin = tasks_begin setting tasks (may_begin setting tasks lawful allowed) places own.0 own.1 in
@@ -278,7 +278,7 @@ none_done setting tasks who places before seat journal view end lawful allowed w
       ends = [];
       last = before;
       run = none_run setting who before own.0 begin;
-      outcomes = told;
+      parts = told;
       sees = sees ∙ sym sight;
       broken = subst (IsBrokenOff setting who seat before own.0 [] []) (sym came) tt;
     }
@@ -311,26 +311,26 @@ parts_at (p ∷ places) (suc number) place below is = let e : suc number + 1 ≡
 pub place_within : (tasks : List Task) (places : List ℕ) (number place : ℕ) → number < length places → place ≡ get_or places number place → All (λ p. p < length tasks) places → place < length tasks
 place_within tasks places number place below is within = subst (λ (p : ℕ). p < length tasks) (sym is) (within number place below)
 
-module _ (setting : Setting) (tasks : List Task) (who : Who) (places : List ℕ) (before : Holding) (seat own_seat : ℕ) (old mid new : List Entry) (shown view : Option View) (outcomes : List Outcome) (number place : ℕ) (task : Task)
+module _ (setting : Setting) (tasks : List Task) (who : Who) (places : List ℕ) (before : Holding) (seat own_seat : ℕ) (old mid new : List Entry) (shown view : Option View) (parts : List Part) (number place : ℕ) (task : Task)
     (below : number < length places) (is : place ≡ get_or places number place) (within : All (λ p. p < length tasks) places) (at : task ≡ get_or tasks place task) (same : own_seat ≡ seat)
-    (w : Worked setting tasks who (take number places) before seat old mid shown outcomes) where
+    (w : Worked setting tasks who (take number places) before seat old mid shown parts) where
   found : slice_get tasks place ≡ Some task
   found = at_place tasks place task (place_within tasks places number place below is within) at
 
-  pub step_worked : (outs : List Outcome) (o : Outcome) (came : Came) → came ≡ Ok o → outs ≡ outcomes ++ o ∷ [] → ((held : Holding) → Sees held shown → HasDone setting who place task.work held own_seat mid new view came)
+  pub step_worked : (outs : List Part) (o : Part) (came : Came) → came ≡ Ok o → outs ≡ parts ++ o ∷ [] → ((held : Holding) → Sees held shown → HasDone setting who place task.work held own_seat mid new view came)
       → Worked setting tasks who (take (number + 1) places) before seat old new view outs
   step_worked outs o came ok told done =
       let d = subst (λ (s : ℕ). HasDone setting who place task.work w.next s mid new view (Ok o)) same (subst (λ (x : Came). HasDone setting who place task.work w.next own_seat mid new view x) ok (done w.next w.sees)) in
-      subst (λ (os : List Outcome). Worked setting tasks who (take (number + 1) places) before seat old new view os) (sym told)
-      (subst (λ (ps : List ℕ). Worked setting tasks who ps before seat old new view (outcomes ++ o ∷ [])) (sym (front_more places number place below is))
-      (more_worked setting tasks who (take number places) before seat old mid new shown view outcomes place task found w o d))
+      subst (λ (os : List Part). Worked setting tasks who (take (number + 1) places) before seat old new view os) (sym told)
+      (subst (λ (ps : List ℕ). Worked setting tasks who ps before seat old new view (parts ++ o ∷ [])) (sym (front_more places number place below is))
+      (more_worked setting tasks who (take number places) before seat old mid new shown view parts place task found w o d))
 
   pub step_broken : (why : Broken) (came : Came) (end : WorkerEnd) → IsLawfulScript setting.script → All (λ t. IsLawfulWork setting.script.gateways setting.script.blocks (length setting.script.selectors) t.work) tasks
-      → came ≡ Err why → end.outcomes.items ≡ outcomes → end.came ≡ Err why → end.view ≡ view → ((held : Holding) → Sees held shown → HasDone setting who place task.work held own_seat mid new view came)
+      → came ≡ Err why → end.parts.items ≡ parts → end.came ≡ Err why → end.view ≡ view → ((held : Holding) → Sees held shown → HasDone setting who place task.work held own_seat mid new view came)
       → HasWorked setting tasks who places before seat old new end
   step_broken why came end lawful allowed err told broke sight done =
       let d = subst (λ (s : ℕ). HasDone setting who place task.work w.next s mid new view (Err why)) same (subst (λ (x : Came). HasDone setting who place task.work w.next own_seat mid new view x) err (done w.next w.sees)) in
       let more = assigned tasks (drop (number + 1) places) (All-drop (λ p. p < length tasks) (number + 1) places within) in
       let begin = tasks_begin setting tasks (may_begin setting tasks lawful allowed) (drop (number + 1) places) more.0 more.1 in
-      broken_worked setting tasks who (take number places) before seat old mid new shown view outcomes place task found w places (drop (number + 1) places) more.0 why end
+      broken_worked setting tasks who (take number places) before seat old mid new shown view parts place task found w places (drop (number + 1) places) more.0 why end
       (parts_at places number place below is) more.1 begin told broke sight d

@@ -11,7 +11,7 @@ use Rattle.lifecycle_core.specs.Setting.{Setting}
 use Rattle.lifecycle_core.specs.Tasks.{End}
 use Rattle.script_running.specs.Begun.{WasKept}
 use Rattle.script_running.specs.Tasks.{Sees}
-use Rattle.script_running.specs.Workers.{AreOutcomes, IsBrokenOff, Post}
+use Rattle.script_running.specs.Workers.{AreParts, IsBrokenOff, Post}
 use Rattle.script_running.specs.declared.came.Broken.TheVariants as broken
 use Rattle.script_running.specs.declared.worker.WorkerEnd.{WorkerEnd}
 
@@ -31,7 +31,7 @@ AreInRow seat (worker ∷ workers) = (worker.seat ≡ seat) × AreInRow (seat + 
 -- front that the root has seen is full.
 pub record HasEnded (setting : Setting) (tasks : List Task) (before : Holdings) (front : List Entry) (worker : Worker) (kept : ℕ × List Entry) (end : WorkerEnd) (ends : List End) (last : Holding) : Type 0 where
   pub was : WasKept setting tasks before worker kept ends last
-  pub outcomes : AreOutcomes was.own ends end.outcomes.items
+  pub parts : AreParts was.own ends end.parts.items
   pub sees : Sees last end.view
   pub cut : IsBrokenOff setting (who_of worker) worker.seat (holding_of before worker.gateway) was.own kept.1 ends end.came
   pub full : end.came ≡ Err broken.Full → (seen : List Entry) × IsPrefix seen front × IsFull seen

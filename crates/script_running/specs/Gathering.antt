@@ -1,8 +1,11 @@
 -- What a phase comes to, once the ends of its workers are laid together.
-use Rattle.std.specs.Prelude.{◌≡◌, ◌≢◌, ◌⊎◌, ℕ, ◌<◌, List, [], ◌∷◌, ◌++◌, length, All, Contains, Option, Some, None, Result, Ok, Err, slice_get}
-use Rattle.std.specs.List.{zip}
+use Rattle.std.specs.Prelude.{◌≡◌, ◌≢◌, ◌⊎◌, ℕ, ◌+◌, ◌<◌, List, [], ◌∷◌, ◌++◌, length, All, Contains, Option, Some, None, IsSome, Result, Ok, Err, slice_get}
+use Rattle.std.specs.List.{flat_map, zip}
 use Rattle.meta_fetcher.specs.declared.view.View.{View}
+use Rattle.script_workers.specs.Hands.{gateway_of, hands_of_task}
 use Rattle.script_workers.specs.declared.phase.Phase.{Phase}
+use Rattle.script_workers.specs.declared.task.Task.{Task}
+use Rattle.script_workers.specs.declared.work.Work.{Work}
 use Rattle.script_workers.specs.declared.worker.Worker.{Worker}
 use Rattle.lifecycle_core.specs.Conducts.{AreDone}
 use Rattle.lifecycle_core.specs.Holdings.{Holdings}
@@ -10,13 +13,14 @@ use Rattle.lifecycle_core.specs.Setting.{Setting}
 use Rattle.lifecycle_core.specs.Tasks.{End}
 use Rattle.script_running.specs.Beside.{AreSeen}
 use Rattle.script_running.specs.Going.{IfFull, Met}
-use Rattle.script_running.specs.Outcomes.{TasksCame}
+use Rattle.script_running.specs.Outcomes.{AreAllParts, IsOutcomeOf, TasksCame}
 use Rattle.script_running.specs.Tasks.{Sees}
 use Rattle.script_running.specs.declared.came.Broken.{Broken}
 use Rattle.script_running.specs.declared.came.Broken.TheVariants as broken
 use Rattle.script_running.specs.declared.outcome.Outcome.{Outcome}
-use Rattle.script_running.specs.declared.outcome.Outcome.TheVariants as outcome
-use Rattle.script_running.specs.declared.outcome.QueryOutcome.TheVariants as query
+use Rattle.script_running.specs.declared.gathering.Column.{Column}
+use Rattle.script_running.specs.declared.gathering.Slots.{Slots}
+use Rattle.script_running.specs.declared.part.Part.{Part}
 use Rattle.script_running.specs.declared.worker.WorkerEnd.{WorkerEnd}
 
 -- gateways without a worker in the phase have the views of what they hold
@@ -51,16 +55,57 @@ pub record IsTaken (gateway : Option ℕ) (own : Option View) (old new : List (O
 
 -- ---- behind it
 
--- the slot of a place has an outcome
-abbrev pub IsFilled : List (Option Outcome) → ℕ → Type 0
-IsFilled slots place = (o : Outcome) × (slice_get slots place ≡ Some (Some o))
+-- so many empty slots
+pub record AreEmpty (count : ℕ) (column : Column) : Type 0 where
+  pub wide : length column.slots.items ≡ count
+  pub empty : All (λ slot. slot ≡ None) column.slots.items
 
--- The outcomes were laid at these places, as far as there are any.
-pub record AreLaid (places : List ℕ) (outcomes : List Outcome) (old new : List (Option Outcome)) : Type 0 where
+-- empty slots for so many tasks, for those of no gateway and for the workers of so many gateways
+pub record AreAllEmpty (tasks gateways : ℕ) (slots : Slots) : Type 0 where
+  pub uploads : AreEmpty tasks slots.uploads
+  pub wide : length slots.gateways.items ≡ gateways
+  pub columns : All (AreEmpty tasks) slots.gateways.items
+
+abbrev pub slot_in : Option Column → ℕ → Option (Option Part)
+slot_in None place = None
+slot_in (Some column) place = slice_get column.slots.items place
+
+-- the slot of a worker, by its gateway, for the task at a place
+abbrev pub slot_at : Slots → Option ℕ → ℕ → Option (Option Part)
+slot_at slots None place = slot_in (Some slots.uploads) place
+slot_at slots (Some gateway) place = slot_in (slice_get slots.gateways.items gateway) place
+
+-- there is such a slot
+abbrev pub HasSlot : Slots → Option ℕ → ℕ → Type 0
+HasSlot slots gateway place = IsSome (slot_at slots gateway place)
+
+-- and it has a part
+abbrev pub IsFilled : Slots → Option ℕ → ℕ → Type 0
+IsFilled slots gateway place = (one : Part) × (slot_at slots gateway place ≡ Some (Some one))
+
+-- the slot of a place has a part
+abbrev pub HasPart : List (Option Part) → ℕ → Type 0
+HasPart slots place = (one : Part) × (slice_get slots place ≡ Some (Some one))
+
+-- The parts were laid at these places, as far as there are any.
+pub record AreLaid (places : List ℕ) (parts : List Part) (old new : List (Option Part)) : Type 0 where
   pub wide : length new ≡ length old
-  pub origin : (place : ℕ) (o : Outcome) → slice_get new place ≡ Some (Some o) → (slice_get old place ≡ Some (Some o)) ⊎ Contains (zip places outcomes) (place, o)
-  pub kept : (place : ℕ) → IsFilled old place → IsFilled new place
-  pub laid : (place : ℕ) (o : Outcome) → Contains (zip places outcomes) (place, o) → IsFilled new place
+  pub origin : (place : ℕ) (one : Part) → slice_get new place ≡ Some (Some one) → (slice_get old place ≡ Some (Some one)) ⊎ Contains (zip places parts) (place, one)
+  pub kept : (place : ℕ) → HasPart old place → HasPart new place
+  pub laid : (place : ℕ) (one : Part) → Contains (zip places parts) (place, one) → HasPart new place
+
+-- no slot has come or gone
+pub record HaveSameSlots (old new : Slots) : Type 0 where
+  pub wide : length new.gateways.items ≡ length old.gateways.items
+  pub each : (gateway : Option ℕ) (place : ℕ) → HasSlot old gateway place → HasSlot new gateway place
+
+-- A worker of this gateway, or of none, had its parts laid at the places of their tasks.
+pub record IsLaid (gateway : Option ℕ) (places : List ℕ) (parts : List Part) (old new : Slots) : Type 0 where
+  pub same : HaveSameSlots old new
+  pub origin : (other : Option ℕ) (place : ℕ) (one : Part) → slot_at new other place ≡ Some (Some one)
+      → (slot_at old other place ≡ Some (Some one)) ⊎ ((other ≡ gateway) × Contains (zip places parts) (place, one))
+  pub kept : (other : Option ℕ) (place : ℕ) → IsFilled old other place → IsFilled new other place
+  pub laid : (place : ℕ) (one : Part) → Contains (zip places parts) (place, one) → IsFilled new gateway place
 
 -- what broke workers off, one of whom met the full journal just where that is said
 abbrev pub HaveCome : List WorkerEnd → Result (Unit {0}) Broken → Type 0
@@ -74,25 +119,47 @@ pub record IsWorse (one other both : Result (Unit {0}) Broken) : Type 0 where
   pub first : one ≡ Err broken.Full → both ≡ Err broken.Full
   pub second : other ≡ Err broken.Full → both ≡ Err broken.Full
 
--- how the task of a slot came out; a query that no gateway was asked answers nothing
-abbrev pub told : Option Outcome → Outcome
-told (Some o) = o
-told None = outcome.Query (query.Answer [] [])
-
 -- a gateway, if one is named, has this view, and the others have what they had
 abbrev pub IsSeen : Option ℕ → Option View → List (Option View) → List (Option View) → Type 0
 IsSeen gateway own old new = (place : ℕ) (view : Option View) → slice_get new place ≡ Some view
     → ((gateway ≡ Some place) × (own ≡ view)) ⊎ ((slice_get old place ≡ Some view) × (gateway ≢ Some place))
 
 -- Workers were taken in. A gateway has the view with which a worker of its own came back, or what it had, if it has none; and each
--- outcome lies at the place of its task.
-pub record AreTakenIn (workers : List Worker) (ends : List WorkerEnd) (views seen : List (Option View)) (old new : List (Option Outcome)) : Type 0 where
+-- part lies at the place of its task.
+pub record AreTakenIn (workers : List Worker) (ends : List WorkerEnd) (views seen : List (Option View)) (old new : Slots) : Type 0 where
   pub long : length seen ≡ length views
-  pub wide : length new ≡ length old
+  pub same : HaveSameSlots old new
   pub views_are : (place : ℕ) (view : Option View) → slice_get seen place ≡ Some view
       → ((w : Worker) × (e : WorkerEnd) × Contains (zip workers ends) (w, e) × (w.gateway ≡ Some place) × (e.view ≡ view))
       ⊎ ((slice_get views place ≡ Some view) × All (λ (w : Worker). w.gateway ≢ Some place) workers)
-  pub origin : (place : ℕ) (o : Outcome) → slice_get new place ≡ Some (Some o)
-      → (slice_get old place ≡ Some (Some o)) ⊎ ((w : Worker) × (e : WorkerEnd) × Contains (zip workers ends) (w, e) × Contains (zip w.tasks e.outcomes.items) (place, o))
-  pub kept : (place : ℕ) → IsFilled old place → IsFilled new place
-  pub laid : (w : Worker) (e : WorkerEnd) (place : ℕ) (o : Outcome) → Contains (zip workers ends) (w, e) → Contains (zip w.tasks e.outcomes.items) (place, o) → IsFilled new place
+  pub origin : (gateway : Option ℕ) (place : ℕ) (one : Part) → slot_at new gateway place ≡ Some (Some one)
+      → (slot_at old gateway place ≡ Some (Some one)) ⊎ ((w : Worker) × (e : WorkerEnd) × Contains (zip workers ends) (w, e) × (gateway ≡ w.gateway) × Contains (zip w.tasks e.parts.items) (place, one))
+  pub kept : (gateway : Option ℕ) (place : ℕ) → IsFilled old gateway place → IsFilled new gateway place
+  pub laid : (w : Worker) (e : WorkerEnd) (place : ℕ) (one : Part) → Contains (zip workers ends) (w, e) → Contains (zip w.tasks e.parts.items) (place, one) → IsFilled new w.gateway place
+
+-- what was laid in a slot
+abbrev pub laid_in : Option (Option Part) → List Part
+laid_in None = []
+laid_in (Some None) = []
+laid_in (Some (Some one)) = one ∷ []
+
+-- the parts of those who do the task at a place, in their order
+abbrev pub parts_at : Slots → ℕ → Work → List Part
+parts_at slots place work =
+    flat_map (λ hand. laid_in (slot_at slots (gateway_of hand) place)) (hands_of_task (length slots.gateways.items) place work)
+
+-- A task's outcome, where these are the parts of all who did it.
+abbrev pub IsToldBy : Work → List Part → Outcome → Type 0
+IsToldBy work parts o = AreAllParts work parts → IsOutcomeOf work parts o
+
+-- the outcomes of tasks from a place on
+abbrev pub AreTold : Slots → ℕ → List Task → List Outcome → Type 0
+AreTold slots place [] outcomes = outcomes ≡ []
+AreTold slots place (task ∷ tasks) [] = ⊥
+AreTold slots place (task ∷ tasks) (o ∷ outcomes) =
+    IsToldBy task.work (parts_at slots place task.work) o × AreTold slots (place + 1) tasks outcomes
+
+-- the slots for the task at a place may have been emptied, and no others
+pub record IsTakenAt (place : ℕ) (old new : Slots) : Type 0 where
+  pub wide : length new.gateways.items ≡ length old.gateways.items
+  pub others : (gateway : Option ℕ) (other : ℕ) → other ≢ place → slot_at new gateway other ≡ slot_at old gateway other

@@ -1,4 +1,5 @@
 pub mod Outcomes
+pub mod Given
 pub mod Drives
 pub mod Tasks
 pub mod Workers

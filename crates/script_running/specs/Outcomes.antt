@@ -1,10 +1,9 @@
 -- How the lines of a script came out, by the ends to which its workers came.
-use Rattle.std.specs.Prelude.{◌≡◌, ℕ, ◌+◌, Bool, true, false, List, [], ◌∷◌, ◌++◌, length}
+use Rattle.std.specs.Prelude.{◌≡◌, ℕ, ◌+◌, Bool, true, false, List, [], ◌∷◌, ◌++◌, length, map, Option, Some, None}
 use Rattle.std.specs.List.{AllZip}
-use Rattle.label_sets.specs.Triples.{triples_of}
-use Rattle.label_sets.specs.declared.series.Series.{Series}
-use Rattle.block_meta.specs.Lawful.{ascending}
-use Rattle.vertical_merge.specs.Merged.{IsMerge}
+use Rattle.querier.specs.Gathered.{IsGathered, answer}
+use Rattle.querier.specs.declared.answer.Answer.{Answer}
+use Rattle.querier.specs.declared.answer.Names.{Names}
 use Rattle.shipper.specs.declared.upload_end.UploadEnd.{UploadEnd}
 use Rattle.shipper.specs.declared.upload_end.UploadEnd.TheVariants as shipped
 use Rattle.meta_fetcher.specs.declared.sync_end.SyncEnd.{SyncEnd}
@@ -20,7 +19,7 @@ use Rattle.script_workers.specs.declared.work.Work.{Work}
 use Rattle.script_workers.specs.declared.work.Work.TheVariants as work
 use Rattle.script_workers.specs.declared.worker.Worker.{Worker}
 use Rattle.lifecycle_core.specs.Conducts.{CameTo}
-use Rattle.lifecycle_core.specs.Tasks.{End, uploaded, synced, answered, without_view, stopped}
+use Rattle.lifecycle_core.specs.Tasks.{End, uploaded, synced, answered, not_asked, without_view, stopped}
 use Rattle.script_running.specs.declared.outcome.Outcome.{Outcome}
 use Rattle.script_running.specs.declared.outcome.Outcome.TheVariants as outcome
 use Rattle.script_running.specs.declared.outcome.UploadOutcome.{UploadOutcome}
@@ -29,7 +28,12 @@ use Rattle.script_running.specs.declared.outcome.SyncOutcome.{SyncOutcome}
 use Rattle.script_running.specs.declared.outcome.SyncOutcome.TheVariants as sync
 use Rattle.script_running.specs.declared.outcome.QueryOutcome.{QueryOutcome}
 use Rattle.script_running.specs.declared.outcome.QueryOutcome.TheVariants as query
+use Rattle.script_running.specs.declared.outcome.NoAnswer.{NoAnswer}
 use Rattle.script_running.specs.declared.outcome.NoAnswer.TheVariants as none
+use Rattle.script_running.specs.declared.part.Part.{Part}
+use Rattle.script_running.specs.declared.part.Part.TheVariants as part
+use Rattle.script_running.specs.declared.part.QueryPart.{QueryPart}
+use Rattle.script_running.specs.declared.part.QueryPart.TheVariants as given
 
 abbrev pub upload_outcome : UploadEnd → UploadOutcome
 upload_outcome (shipped.Done count) = upload.Done count
@@ -42,47 +46,81 @@ sync_outcome (fetched.Fault entry) = sync.Fault entry
 sync_outcome (fetched.Damaged entry) = sync.Damaged entry
 sync_outcome fetched.TooMany = sync.TooMany
 
--- of the gateway at a place
-abbrev pub call_outcome : ℕ → SeriesEnd → QueryOutcome
-call_outcome gateway (called.Answer series sources) = query.Answer series sources
-call_outcome gateway (called.Missing entry) = query.NoAnswer gateway (none.Missing entry)
-call_outcome gateway (called.Damaged entry) = query.NoAnswer gateway (none.Damaged entry)
-call_outcome gateway (called.Fault entry) = query.NoAnswer gateway (none.Fault entry)
+-- how a gateway's call came out
+abbrev pub call_part : SeriesEnd → QueryPart
+call_part (called.Answer series sources) = given.Answer (answer series sources)
+call_part (called.Missing entry) = given.NoAnswer (none.Missing entry)
+call_part (called.Damaged entry) = given.NoAnswer (none.Damaged entry)
+call_part (called.Fault entry) = given.NoAnswer (none.Fault entry)
 
--- how a gateway's part of a query comes out, by its end
-abbrev pub IsPart : ℕ → End → Outcome → Type 0
-IsPart gateway (answered used end) o = o ≡ outcome.Query (call_outcome gateway end)
-IsPart gateway without_view o = o ≡ outcome.Query (query.NoAnswer gateway none.NoView)
-IsPart gateway (uploaded end) o = ⊥
-IsPart gateway (synced end) o = ⊥
-IsPart gateway (stopped count) o = ⊥
+-- A worker's part of a task, by the end to which it came.
+abbrev pub IsPart : Work → End → Part → Type 0
+IsPart (work.Upload ulid stop) (uploaded end) p = p ≡ part.Upload (upload_outcome end)
+IsPart (work.Upload ulid stop) (stopped count) p = p ≡ part.Upload (upload.Stopped count)
+IsPart (work.Sync gateway) (synced end) p = p ≡ part.Sync (sync_outcome end)
+IsPart (work.Query low high selector) (answered used end) p = p ≡ part.Query (call_part end)
+IsPart (work.Query low high selector) without_view p = p ≡ part.Query (given.NoAnswer none.NoView)
+IsPart (work.Query low high selector) not_asked p = p ≡ part.Query given.NotAsked
+-- no other task comes to such an end
+IsPart other end p = ⊥
 
--- A gateway's part, and that of the gateways behind it, together: the first that gave no answer is told. Two answers are one, which
--- has the first pattern at each key, and the sources of both.
-abbrev pub AreOne : QueryOutcome → QueryOutcome → Outcome → Type 0
-AreOne (query.NoAnswer gateway why) others o = o ≡ outcome.Query (query.NoAnswer gateway why)
-AreOne (query.Answer series sources) (query.NoAnswer gateway why) o = o ≡ outcome.Query (query.NoAnswer gateway why)
-AreOne (query.Answer series sources) (query.Answer more others) o =
-    (all : List Series) × IsMerge (triples_of series ++ triples_of more) all × (o ≡ outcome.Query (query.Answer all (ascending (sources ++ others))))
+-- why a gateway gave no answer, if it was asked and gave none
+abbrev pub why_none : QueryPart → Option NoAnswer
+why_none given.NotAsked = None
+why_none (given.Answer own) = None
+why_none (given.NoAnswer why) = Some why
 
--- How a query comes out, by the ends of its gateways in their order, the first of which has this number. A query that asks no gateway
--- answers nothing.
-abbrev pub IsQueryOutcome : ℕ → List End → Outcome → Type 0
-IsQueryOutcome gateway [] o = o ≡ outcome.Query (query.Answer [] [])
-IsQueryOutcome gateway (end ∷ []) o = IsPart gateway end o
-IsQueryOutcome gateway (end ∷ next ∷ ends) o =
-    (own : QueryOutcome) × (others : QueryOutcome) × IsPart gateway end (outcome.Query own)
-    × IsQueryOutcome (gateway + 1) (next ∷ ends) (outcome.Query others) × AreOne own others o
+abbrev pub or_first : Option NoAnswer → ℕ → Option (ℕ × NoAnswer) → Option (ℕ × NoAnswer)
+or_first (Some why) gateway others = Some (gateway, why)
+or_first None gateway others = others
 
--- How a task comes out, by the ends of those who did it, in their order: an upload by its worker's end, a sync by its gateway's, and
--- a query by those of all gateways.
+-- the first of gateways from a number on that gave no answer, and why
+abbrev pub first_none : ℕ → List QueryPart → Option (ℕ × NoAnswer)
+first_none gateway [] = None
+first_none gateway (one ∷ parts) = or_first (why_none one) gateway (first_none (gateway + 1) parts)
+
+-- the answers that were given
+abbrev pub answers_of : List QueryPart → List Answer
+answers_of [] = []
+answers_of (given.NotAsked ∷ parts) = answers_of parts
+answers_of (given.Answer own ∷ parts) = own ∷ answers_of parts
+answers_of (given.NoAnswer why ∷ parts) = answers_of parts
+
+-- what gateways from a number on name, by their answers
+abbrev pub names_of : ℕ → List QueryPart → List Names
+names_of gateway [] = []
+names_of gateway (given.NotAsked ∷ parts) = names_of (gateway + 1) parts
+names_of gateway (given.Answer own ∷ parts) =
+    record { gateway = gateway; sources = own.sources } ∷ names_of (gateway + 1) parts
+names_of gateway (given.NoAnswer why ∷ parts) = names_of (gateway + 1) parts
+
+-- How a query comes out, by the parts of all gateways in their order: by the first that gave no answer, or else with the one answer
+-- that theirs make, and what each of them names.
+abbrev pub IsQueryOutcome : List QueryPart → QueryOutcome → Type 0
+IsQueryOutcome parts (query.NoAnswer gateway why) = first_none 0 parts ≡ Some (gateway, why)
+IsQueryOutcome parts (query.Answer own names) =
+    (first_none 0 parts ≡ None) × IsGathered (answers_of parts) own × (names ≡ names_of 0 parts)
+
+-- How a task comes out, by the parts of those who did it, in their order: an upload by its worker's, a sync by its gateway's, and a
+-- query by those of all gateways.
+abbrev pub IsOutcomeOf : Work → List Part → Outcome → Type 0
+IsOutcomeOf (work.Upload ulid stop) parts o =
+    (end : UploadOutcome) × (parts ≡ part.Upload end ∷ []) × (o ≡ outcome.Upload end)
+IsOutcomeOf (work.Sync gateway) parts o =
+    (end : SyncOutcome) × (parts ≡ part.Sync end ∷ []) × (o ≡ outcome.Sync end)
+IsOutcomeOf (work.Query low high selector) parts o =
+    (own : List QueryPart) × (end : QueryOutcome) × (parts ≡ map part.Query own) × IsQueryOutcome own end
+    × (o ≡ outcome.Query end)
+
+-- the parts are those of all who do the task
+abbrev pub AreAllParts : Work → List Part → Type 0
+AreAllParts (work.Upload ulid stop) parts = (end : UploadOutcome) × (parts ≡ part.Upload end ∷ [])
+AreAllParts (work.Sync gateway) parts = (end : SyncOutcome) × (parts ≡ part.Sync end ∷ [])
+AreAllParts (work.Query low high selector) parts = (own : List QueryPart) × (parts ≡ map part.Query own)
+
+-- How a task comes out, by the ends of those who did it, in their order.
 abbrev pub IsOutcome : Work → List End → Outcome → Type 0
-IsOutcome (work.Upload ulid stop) (uploaded end ∷ []) o = o ≡ outcome.Upload (upload_outcome end)
-IsOutcome (work.Upload ulid stop) (stopped count ∷ []) o = o ≡ outcome.Upload (upload.Stopped count)
-IsOutcome (work.Sync gateway) (synced end ∷ []) o = o ≡ outcome.Sync (sync_outcome end)
-IsOutcome (work.Query low high selector) ends o = IsQueryOutcome 0 ends o
--- there are no other ends of uploads and syncs
-IsOutcome other ends o = ⊥
+IsOutcome w ends o = (parts : List Part) × AllZip (IsPart w) ends parts × IsOutcomeOf w parts o
 
 -- the task at a place of a phase came out so, by the ends of the phase's workers
 pub record TaskCame (script : Script) (workers : List Worker) (ends : List (List End)) (place : ℕ) (task : Task) (o : Outcome) : Type 0 where
@@ -118,5 +156,5 @@ is_as_asked (outcome.Sync (sync.Blocks count)) = true
 is_as_asked (outcome.Sync (sync.Fault entry)) = false
 is_as_asked (outcome.Sync (sync.Damaged entry)) = false
 is_as_asked (outcome.Sync sync.TooMany) = false
-is_as_asked (outcome.Query (query.Answer series sources)) = true
+is_as_asked (outcome.Query (query.Answer own names)) = true
 is_as_asked (outcome.Query (query.NoAnswer gateway why)) = false

@@ -1,5 +1,5 @@
 -- What a worker's hand gains by one task, and what the task came to.
-use Rattle.std.specs.Prelude.{◌≡◌, ℕ, Bool, true, false, List, [], ◌∷◌, ◌++◌, length, All, Option, Some, None, option_map, Result, Ok, Err}
+use Rattle.std.specs.Prelude.{◌≡◌, ℕ, ℤ, Bool, true, false, List, [], ◌∷◌, ◌++◌, length, All, Option, Some, None, option_map, Result, Ok, Err}
 use Rattle.world_core.specs.Operations.{IsAnswer, IsLawful, entry_of}
 use Rattle.world_core.specs.declared.entry.Entry.{Entry}
 use Rattle.world_core.specs.declared.op.Op.{Op}
@@ -7,15 +7,17 @@ use Rattle.world_core.specs.declared.seen.Seen.{Seen}
 use Rattle.meta_fetcher.specs.declared.sync_end.SyncEnd.{SyncEnd}
 use Rattle.meta_fetcher.specs.declared.sync_end.SyncEnd.TheVariants as fetched
 use Rattle.meta_fetcher.specs.declared.view.View.{View}
+use Rattle.store_gateway.specs.SeriesRuns.{Query as Question}
 use Rattle.script_core.specs.Lawful.{IsLawfulWork}
 use Rattle.script_core.specs.declared.script.Script.{Script}
 use Rattle.script_workers.specs.declared.work.Work.{Work}
+use Rattle.script_workers.specs.declared.work.Work.TheVariants.{Query}
 use Rattle.lifecycle_core.specs.Conducts.{Who}
 use Rattle.lifecycle_core.specs.Holdings.{Holding, Use}
 use Rattle.lifecycle_core.specs.Setting.{Setting}
-use Rattle.lifecycle_core.specs.Tasks.{End, TaskRun}
+use Rattle.lifecycle_core.specs.Tasks.{End, QueryTask, TaskRun}
 use Rattle.script_running.specs.Drives.{Came}
-use Rattle.script_running.specs.Outcomes.{IsOutcome}
+use Rattle.script_running.specs.Outcomes.{IsPart}
 use Rattle.script_running.specs.declared.came.Broken.{Broken}
 use Rattle.script_running.specs.declared.came.Broken.TheVariants as broken
 
@@ -24,8 +26,8 @@ abbrev pub Allows : Script → Work → Type 0
 Allows script work = IsLawfulWork script.gateways script.blocks (length script.selectors) work
 
 -- what holds where an operation was answered that the journal is full
-abbrev pub WhenFull : Came → Type 0 → Type 0
-WhenFull (Ok o) P = Unit {0}
+abbrev pub WhenFull : {X : Type 0} → Result X Broken → Type 0 → Type 0
+WhenFull (Ok own) P = Unit {0}
 WhenFull (Err broken.Full) P = P
 WhenFull (Err broken.NoMemory) P = Unit {0}
 
@@ -47,12 +49,12 @@ pub record Adds {E : Type 0} (is_run : List Entry → E → Type 0) (seat : ℕ)
   pub run : is_run made end
   pub due : WhenFull came (IsDueAfter is_run seat made)
 
--- A task that one worker does comes to its end, or breaks off without one.
+-- A worker's part of a task comes to its end, or breaks off without one.
 abbrev pub CameBy : Work → Option End → Came → Type 0
-CameBy work (Some end) (Ok o) = IsOutcome work (end ∷ []) o
+CameBy work (Some end) (Ok own) = IsPart work end own
 CameBy work (Some end) (Err broken.Full) = ⊥
 CameBy work (Some end) (Err broken.NoMemory) = ⊥
-CameBy work None (Ok o) = ⊥
+CameBy work None (Ok own) = ⊥
 CameBy work None (Err broken.Full) = Unit {0}
 CameBy work None (Err broken.NoMemory) = Unit {0}
 
@@ -84,3 +86,10 @@ pub record HasDone (setting : Setting) (who : Who) (place : ℕ) (work : Work) (
   pub sees : Sees after view
   pub by : CameBy work end came
   pub due : WhenFull came (IsDueAfter (Does setting who place work before) seat made)
+
+-- A gateway was asked a question: with the view of what it holds, if it has one. What its hand's list gained is a run of its answer, with
+-- the end by which it came out.
+pub record HasAsked (used : Option Use) (asked : Question) (seat : ℕ) (old new : List Entry) (came : Came) : Type 0 where
+  pub end : Option End
+  pub adds : Adds (QueryTask used (Some asked)) seat old new end came
+  pub by : (low high : ℤ) (selector : ℕ) → CameBy (Query low high selector) end came

@@ -17,11 +17,11 @@ use Rattle.lifecycle_core.specs.Holdings.{Holding}
 use Rattle.lifecycle_core.specs.Phases.{by_script}
 use Rattle.lifecycle_core.specs.Setting.{Setting, setting_of}
 use Rattle.lifecycle_core.specs.Tasks.{End}
-use Rattle.script_running.specs.Outcomes.{IsOutcome}
+use Rattle.script_running.specs.Outcomes.{IsPart}
 use Rattle.script_running.specs.Tasks.{IsDueAfter, Sees}
 use Rattle.script_running.specs.declared.came.Broken.{Broken}
 use Rattle.script_running.specs.declared.came.Broken.TheVariants as broken
-use Rattle.script_running.specs.declared.outcome.Outcome.{Outcome}
+use Rattle.script_running.specs.declared.part.Part.{Part}
 use Rattle.script_running.specs.declared.worker.WorkerEnd.{WorkerEnd}
 
 -- what a worker is sent to do: by the script that a text spells, in the phase at a place, with the view that its gateway has
@@ -58,13 +58,13 @@ pub record IsLent (text : List ℕ) (number : ℕ) (script : Script) (blocks : L
   pub at : slice_get script.phases number ≡ Some phase
   pub own : tasks ≡ phase.tasks
 
--- How a worker's first tasks came out, by the ends to which they came.
-abbrev pub AreOutcomes : List Assigned → List End → List Outcome → Type 0
-AreOutcomes own [] outcomes = outcomes ≡ []
-AreOutcomes [] (end ∷ ends) outcomes = ⊥
-AreOutcomes (task ∷ own) (end ∷ ends) [] = ⊥
-AreOutcomes (task ∷ own) (end ∷ ends) (o ∷ outcomes) =
-    IsOutcome task.task.work (end ∷ []) o × AreOutcomes own ends outcomes
+-- A worker's parts of its first tasks, by the ends to which they came.
+abbrev pub AreParts : List Assigned → List End → List Part → Type 0
+AreParts own [] parts = parts ≡ []
+AreParts [] (end ∷ ends) parts = ⊥
+AreParts (task ∷ own) (end ∷ ends) [] = ⊥
+AreParts (task ∷ own) (end ∷ ends) (one ∷ parts) =
+    IsPart task.task.work end one × AreParts own ends parts
 
 -- a worker's run of its tasks, whatever the others of its phase do
 abbrev pub OwnRun : Setting → Who → Holding → List Assigned → List Entry → List End → Holding → Type 0
@@ -85,7 +85,7 @@ is_short_end (Err broken.Full) = false
 is_short_end (Err broken.NoMemory) = true
 
 -- A worker that held this did its tasks, those at these places of the phase, one after another, with these entries of its seat.
--- Its outcomes are those of the tasks that came to their ends.
+-- Its parts are those of the tasks that came to their ends.
 pub record HasWorked (setting : Setting) (tasks : List Task) (who : Who) (places : List ℕ) (before : Holding) (seat : ℕ)
     (old new : List Entry) (end : WorkerEnd) : Type 0 where
   pub made : List Entry
@@ -96,7 +96,7 @@ pub record HasWorked (setting : Setting) (tasks : List Task) (who : Who) (places
   pub ends : List End
   pub last : Holding
   pub run : OwnRun setting who before own made ends last
-  pub outcomes : AreOutcomes own ends end.outcomes.items
+  pub parts : AreParts own ends end.parts.items
   pub sees : Sees last end.view
   pub broken : IsBrokenOff setting who seat before own made ends end.came
 

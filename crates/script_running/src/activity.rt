@@ -7,18 +7,19 @@ ghost use Rattle.store_gateway.specs.declared.series_end.SeriesEnd.{SeriesEnd};
 ghost use Rattle.store_gateway.specs.SeriesRuns.{SeriesRun, asking};
 ghost use Rattle.script_core.specs.Lawful.{IsLawfulBlock};
 ghost use Rattle.script_workers.specs.declared.work.Work.TheVariants as works;
-ghost use Rattle.lifecycle_core.specs.Tasks.{End, BlockUpload, answered, sync_rules, synced};
+ghost use Rattle.lifecycle_core.specs.Tasks.{End, BlockUpload, answered, partition_of, sync_rules, synced};
 ghost use Rattle.lifecycle_core.specs.Holdings.{Use};
 ghost use Rattle.lifecycle_core.specs.Setting.{Setting, setting_of};
-ghost use Rattle.script_running.specs.Outcomes.{call_outcome, sync_outcome, upload_outcome};
+ghost use Rattle.script_running.specs.Outcomes.{call_part, sync_outcome, upload_outcome};
 ghost use Rattle.script_running.specs.Drives.{call_came, driven_end, sync_came, upload_came};
 ghost use Rattle.script_running.specs.Tasks.{Adds, CameBy, is_full_came, view_by};
 
 use crate::plan::objects_of;
-use crate::{Broken, Came, NoAnswer, Outcome, QueryOutcome, SyncOutcome, UploadOutcome};
+use crate::{Broken, Came, NoAnswer, Part, QueryPart, SyncOutcome, UploadOutcome};
 use matchers::Selector;
 use meta_fetcher::{Sync, SyncEnd, SyncRules, View};
 use moment_core::{Partition, Rules};
+use querier::Answer;
 use script_core::{Block, Script};
 use shipper::{Upload, UploadEnd};
 use std::alloc::Global;
@@ -54,8 +55,8 @@ fn upload_came(driven: Driven<UploadEnd>) -> Came
     ensures { result ≡ upload_came driven }
 {
     match driven {
-        Driven::Ended(end) => Ok(Outcome::Upload(upload_outcome(end))),
-        Driven::Stopped(count) => Ok(Outcome::Upload(UploadOutcome::Stopped(count))),
+        Driven::Ended(end) => Ok(Part::Upload(upload_outcome(end))),
+        Driven::Stopped(count) => Ok(Part::Upload(UploadOutcome::Stopped(count))),
         Driven::Full => Err(Broken::Full),
         Driven::NoMemory => Err(Broken::NoMemory),
     }
@@ -71,16 +72,17 @@ fn upload_outcome(end: UploadEnd) -> UploadOutcome
     }
 }
 
-/// A sync of a gateway, whose view it sets where it ends with one.
+/// A sync of the gateway at a place, whose view it sets where it ends with one.
 #[tactic(auto, using(crate::proofs::Syncs::nothing_synced))]
 pub(crate) fn sync<H: Hand>(
     alloc: Global,
     script: &Script,
+    place: u32,
     view: &mut Option<View>,
     hand: &mut H,
 ) -> Came
     requires { 1 ≤ script.now.rules.page_limit }
-    ensures ran { (place : ℕ) → (end : Option SyncEnd)
+    ensures ran { (end : Option SyncEnd)
         × Adds (SyncRun (sync_rules (setting_of script.now) place)) (H.seat hand.old)
         (H.entries hand.old) (H.entries hand.new) end result
         × CameBy (works.Sync place) (option_map synced end) result
@@ -92,20 +94,33 @@ pub(crate) fn sync<H: Hand>(
     ensures wanted { IsTrue (H.wanted hand.new)
         → IsTrue (H.wanted hand.old) ⊎ (result ≡ Err Broken.NoMemory) }
 {
-    let rules = &script.rules;
-    let asked = SyncRules {
-        consistency: rules.consistency,
-        mark_delay: rules.ignore,
-        page_limit: rules.page_limit,
-        partition: Partition {
-            low: i64::MIN,
-            high: i64::MAX,
-        },
-    };
-    let Ok(mut machine) = Sync::start(alloc, asked) else {
+    let Ok(mut machine) = Sync::start(alloc, sync_rules(script, place)) else {
         return Err(Broken::NoMemory);
     };
     take_view(drive(&mut machine, hand, None), view)
+}
+
+/// By what the gateway at a place syncs.
+fn sync_rules(script: &Script, place: u32) -> SyncRules
+    ensures { result ≡ sync_rules (setting_of script.now) place }
+{
+    let rules = &script.rules;
+    SyncRules {
+        consistency: rules.consistency,
+        mark_delay: rules.ignore,
+        page_limit: rules.page_limit,
+        partition: partition_of(script, place),
+    }
+}
+
+/// The times for which the gateway at a place answers.
+fn partition_of(script: &Script, place: u32) -> Partition
+    ensures { result ≡ partition_of (setting_of script.now) place }
+{
+    match script.partitions.get(place as usize) {
+        Some(partition) => *partition,
+        None => Partition::all_times(),
+    }
 }
 
 /// What a drive of a sync came to. A view that it gave is the gateway's from now on.
@@ -113,7 +128,7 @@ fn take_view(driven: Driven<SyncEnd>, view: &mut Option<View>) -> Came
     ensures came { result ≡ sync_came driven }
     ensures view { view.new ≡ view_by view.old (end_of driven) }
 {
-    Ok(Outcome::Sync(sync_outcome(driven_end(driven)?, view)))
+    Ok(Part::Sync(sync_outcome(driven_end(driven)?, view)))
 }
 
 fn sync_outcome(end: SyncEnd, view: &mut Option<View>) -> SyncOutcome
@@ -164,17 +179,17 @@ pub(crate) fn call<H: Hand>(
 fn call_came(driven: Driven<SeriesEnd>) -> Came
     ensures { result ≡ call_came driven }
 {
-    Ok(Outcome::Query(call_outcome(driven_end(driven)?)))
+    Ok(Part::Query(call_part(driven_end(driven)?)))
 }
 
-fn call_outcome(end: SeriesEnd) -> QueryOutcome
-    ensures { result ≡ call_outcome 0 end }
+fn call_part(end: SeriesEnd) -> QueryPart
+    ensures { result ≡ call_part end }
 {
     match end {
-        SeriesEnd::Answer { series, sources } => QueryOutcome::Answer(series, sources),
-        SeriesEnd::Missing(entry) => QueryOutcome::NoAnswer(0, NoAnswer::Missing(entry)),
-        SeriesEnd::Damaged(entry) => QueryOutcome::NoAnswer(0, NoAnswer::Damaged(entry)),
-        SeriesEnd::Fault(entry) => QueryOutcome::NoAnswer(0, NoAnswer::Fault(entry)),
+        SeriesEnd::Answer { series, sources } => QueryPart::Answer(Answer { series, sources }),
+        SeriesEnd::Missing(entry) => QueryPart::NoAnswer(NoAnswer::Missing(entry)),
+        SeriesEnd::Damaged(entry) => QueryPart::NoAnswer(NoAnswer::Damaged(entry)),
+        SeriesEnd::Fault(entry) => QueryPart::NoAnswer(NoAnswer::Fault(entry)),
     }
 }
 

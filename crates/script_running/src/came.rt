@@ -1,7 +1,7 @@
-use crate::Outcome;
+use crate::Part;
 
 /// What a task came to for one worker.
-pub type Came = Result<Outcome, Broken>;
+pub type Came = Result<Part, Broken>;
 
 /// Why a worker broke off.
 #[derive(Clone, Copy, Debug, PartialEq, Eq)]

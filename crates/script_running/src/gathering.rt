@@ -1,11 +1,12 @@
 //! The workers of a phase, sent with what their gateways see, and their ends, laid together in the order of the lines.
 
-ghost use Rattle.std.specs.Prelude.{◌≡◌, ◌≢◌, ◌<◌, ◌++◌, ◌∷◌, [], ℕ, List, Ok, Err, None, Some, IfOk, IfSome, MatchBool, OnOk, length, map, slice_get};
+ghost use Rattle.std.specs.Prelude.{◌≡◌, ◌≢◌, ◌<◌, ◌≤◌, [], ◌∷◌, ◌++◌, ℕ, List, Ok, Err, None, Some, IfOk, IfSome, MatchBool, OnOk, length, slice_get};
 ghost use Rattle.std.specs.List.{All, AllZip};
 ghost use Rattle.world_core.specs.declared.entry.Entry.{Entry};
 ghost use Rattle.script_core.specs.Lawful.{IsLawfulScript};
 ghost use Rattle.script_core.specs.Reading.{script_of};
 ghost use Rattle.script_core.specs.Workers.{workers_of};
+ghost use Rattle.script_workers.specs.Hands.{gateway_count};
 ghost use Rattle.script_workers.specs.declared.phase.Phase.{Phase};
 ghost use Rattle.script_workers.specs.declared.task.Task.{Task};
 ghost use Rattle.lifecycle_core.specs.Holdings.{Holding, Holdings};
@@ -14,18 +15,17 @@ ghost use Rattle.lifecycle_core.specs.Tasks.{End};
 ghost use Rattle.script_running.specs.Begun.{AreLeft};
 ghost use Rattle.script_running.specs.Beside.{AreSeen};
 ghost use Rattle.script_running.specs.Ended.{HaveEnded, IsPostOf};
-ghost use Rattle.script_running.specs.Gathering.{HaveOwnGateways, AreLaid, AreSeenBeside, AreTakenIn, Gathers, HaveCome, IsSeen, IsTaken, IsWorse, told};
+ghost use Rattle.script_running.specs.Gathering.{HaveOwnGateways, AreAllEmpty, AreEmpty, AreLaid, AreSeenBeside, AreTakenIn, AreTold, Gathers, HasSlot, HaveCome, IsLaid, IsSeen, IsTaken, IsTakenAt, IsToldBy, IsWorse, laid_in, parts_at, slot_at};
 ghost use Rattle.script_running.specs.Going.{Met};
 ghost use Rattle.script_running.specs.Workers.{IsAtWork};
 ghost use Rattle.script_running.specs.Tasks.{is_full_came};
+ghost use Rattle.script_running.specs.declared.outcome.Outcome.{Outcome};
 
-use crate::{Broken, Outcome, OutcomeList, QueryOutcome, Report, WorkerEnd, WorkerJob};
-use label_sets::SeriesList;
+use crate::{Broken, OutcomeList, Part, Report, WorkerEnd, WorkerJob, outcome_of};
 use list_core::{NoMemory, TryCopy};
 use meta_fetcher::View;
-use script_core::{Phase, Script, Task, Worker};
+use script_core::{Phase, Script, Task, Work, Worker};
 use std::alloc::Global;
-use ulid_core::UlidList;
 
 /// A job for each worker of the phase, which takes what its gateway sees.
 pub(crate) fn jobs_of<'a>(
@@ -88,6 +88,7 @@ pub(crate) fn gather<P: Report>(
     requires gateways { All
         (λ worker. IfSome worker.gateway (λ gateway. gateway < length views.old.items))
         workers.now }
+    requires few { length views.old.items ≤ 16 }
     requires places { All (λ worker. All (λ place. place < length tasks.now) worker.tasks)
         workers.now }
     ensures each { length views.new.items ≡ length views.old.items }
@@ -95,6 +96,7 @@ pub(crate) fn gather<P: Report>(
     ensures gathers { (setting : Setting) (number : ℕ) (phase : Phase) (before after : Holdings)
         (front : List Entry) (kept : List (ℕ × List Entry)) (own : List (List End))
         (lasts : List Holding) → IsLawfulScript setting.script
+        → length views.old.items ≡ gateway_count setting.script.gateways
         → slice_get setting.script.phases number ≡ Some phase → tasks.now ≡ phase.tasks
         → workers.now ≡ workers_of setting.script number
         → HaveEnded setting phase.tasks before front workers.now kept ends.items own lasts
@@ -109,7 +111,7 @@ pub(crate) fn gather<P: Report>(
     if any_full(&ends) {
         return Err(Broken::Full);
     }
-    let Ok(mut slots) = slots_for(alloc, tasks.len()) else {
+    let Ok(mut slots) = slots_for(alloc, tasks.len(), views.len()) else {
         return Err(Broken::NoMemory);
     };
     match take_in(workers, ends, views, &mut slots) {
@@ -139,22 +141,36 @@ fn met_full(end: &WorkerEnd) -> bool
     }
 }
 
-/// Takes in the end of each worker: what its gateway sees, and its outcomes at the places of their tasks.
+/// What workers came to in the tasks of a phase, at the places of these: those of no gateway, and the worker of each gateway.
+#[derive(Drop)]
+pub(crate) struct Slots {
+    pub uploads: Column,
+    pub gateways: Vec<Column>,
+}
+
+/// A slot for each task of a phase.
+#[derive(Drop)]
+pub(crate) struct Column {
+    pub slots: Vec<Option<Part>>,
+}
+
+/// Takes in the end of each worker: what its gateway sees, and its parts at the places of their tasks.
 fn take_in(
     workers: &[Worker],
     ends: Vec<WorkerEnd>,
     views: &mut Vec<Option<View>>,
-    slots: &mut Vec<Option<Outcome>>,
+    slots: &mut Slots,
 ) -> Result<(), Broken>
     requires many { length workers.now ≡ length ends.items }
     requires gateways { All
         (λ worker. IfSome worker.gateway (λ gateway. gateway < length views.old.items))
         workers.now }
-    requires places { All (λ worker. All (λ place. place < length slots.old.items) worker.tasks)
+    requires wide { length slots.old.gateways.items ≡ length views.old.items }
+    requires places { All (λ worker. All (HasSlot slots.old worker.gateway) worker.tasks)
         workers.now }
     ensures came { HaveCome ends.items result }
-    ensures taken { AreTakenIn workers.now ends.items views.old.items views.new.items
-        slots.old.items slots.new.items }
+    ensures taken { AreTakenIn workers.now ends.items views.old.items views.new.items slots.old
+        slots.new }
 {
     let mut came = Ok(());
     let mut number = 0;
@@ -171,23 +187,33 @@ fn take_one(
     worker: &Worker,
     end: WorkerEnd,
     views: &mut Vec<Option<View>>,
-    slots: &mut Vec<Option<Outcome>>,
+    slots: &mut Slots,
 ) -> Result<(), Broken>
     requires gateway { IfSome worker.now.gateway (λ gateway. gateway < length views.old.items) }
-    requires places { All (λ place. place < length slots.old.items) worker.now.tasks }
+    requires wide { length slots.old.gateways.items ≡ length views.old.items }
+    requires places { All (HasSlot slots.old worker.now.gateway) worker.now.tasks }
     ensures came { result ≡ end.came }
     ensures each { length views.new.items ≡ length views.old.items }
     ensures sees { IsSeen worker.now.gateway end.view views.old.items views.new.items }
-    ensures laid { AreLaid worker.now.tasks end.outcomes.items slots.old.items slots.new.items }
+    ensures laid { IsLaid worker.now.gateway worker.now.tasks end.parts.items slots.old slots.new }
 {
-    let WorkerEnd {
-        outcomes,
-        came,
-        view,
-    } = end;
-    lay(worker.tasks.members(), outcomes, slots);
+    let WorkerEnd { parts, came, view } = end;
+    lay_all(worker.gateway, worker.tasks.members(), parts, slots);
     see(worker.gateway, view, views);
     came
+}
+
+/// Lays a worker's parts at the places of their tasks.
+fn lay_all(gateway: Option<u32>, places: &[u64], parts: Vec<Part>, slots: &mut Slots)
+    requires gateway { IfSome gateway
+        (λ gateway. gateway < length slots.old.gateways.items) }
+    requires places { All (HasSlot slots.old gateway) places.now }
+    ensures { IsLaid gateway places.now parts.items slots.old slots.new }
+{
+    match gateway {
+        Some(gateway) => lay(places, parts, &mut slots.gateways[gateway as usize].slots),
+        None => lay(places, parts, &mut slots.uploads.slots),
+    }
 }
 
 /// Keeps what a worker's gateway sees.
@@ -201,17 +227,17 @@ fn see(gateway: Option<u32>, view: Option<View>, views: &mut Vec<Option<View>>)
     }
 }
 
-/// Lays outcomes at these places, as far as there are any.
-fn lay(places: &[u64], outcomes: Vec<Outcome>, slots: &mut Vec<Option<Outcome>>)
+/// Lays parts at these places, as far as there are any.
+fn lay(places: &[u64], parts: Vec<Part>, slots: &mut Vec<Option<Part>>)
     requires { All (λ place. place < length slots.old.items) places.now }
-    ensures { AreLaid places.now outcomes.items slots.old.items slots.new.items }
+    ensures { AreLaid places.now parts.items slots.old.items slots.new.items }
 {
     let mut number = 0;
-    for outcome in outcomes {
+    for part in parts {
         if number >= places.len() {
             return;
         }
-        slots[places[number] as usize] = Some(outcome);
+        slots[places[number] as usize] = Some(part);
         number += 1;
     }
 }
@@ -227,66 +253,138 @@ fn worse(came: Result<(), Broken>, other: Result<(), Broken>) -> Result<(), Brok
     }
 }
 
-/// A place for each task's outcome.
-fn slots_for(alloc: Global, count: usize) -> Result<Vec<Option<Outcome>>, NoMemory>
-    ensures wide { IfOk result (λ slots. length slots.items ≡ count) }
-    ensures empty { IfOk result (λ slots. All (λ slot. slot ≡ None) slots.items) }
+/// Empty slots for so many tasks, and the workers of so many gateways.
+fn slots_for(alloc: Global, tasks: usize, gateways: usize) -> Result<Slots, NoMemory>
+    ensures { IfOk result (AreAllEmpty tasks gateways) }
+{
+    let mut columns = Vec::with_capacity(alloc, gateways)?;
+    for _ in 0..gateways {
+        columns.push_reserved(empty_slots(alloc, tasks)?);
+    }
+    Ok(Slots {
+        uploads: empty_slots(alloc, tasks)?,
+        gateways: columns,
+    })
+}
+
+fn empty_slots(alloc: Global, count: usize) -> Result<Column, NoMemory>
+    ensures { IfOk result (AreEmpty count) }
 {
     let mut slots = Vec::with_capacity(alloc, count)?;
     for _ in 0..count {
         slots.push_reserved(None);
     }
-    Ok(slots)
+    Ok(Column { slots })
 }
 
-/// Adds the outcomes in the order of their tasks, also to the report.
+/// Adds the outcomes of the tasks, in their order, by the parts of those who did them, also to the report.
 fn tell<P: Report>(
     alloc: Global,
     script: &Script,
     tasks: &[Task],
-    slots: Vec<Option<Outcome>>,
+    slots: Slots,
     outcomes: &mut OutcomeList,
     report: &mut P,
 ) -> Result<(), Broken>
-    requires many { length slots.items ≡ length tasks.now }
-    ensures told { OnOk result (outcomes.new ≡ outcomes.old ++ map told slots.items) }
+    requires few { length slots.gateways.items ≤ 16 }
+    ensures told { OnOk result ((own : List Outcome) × (outcomes.new ≡ outcomes.old ++ own)
+        × AreTold slots 0 tasks.now own) }
     ensures why { result ≢ Err Broken.Full }
     ensures reported { (before : List Task) → P.tells report.old script.now before outcomes.old
         → OnOk result (P.tells report.new script.now (before ++ tasks.now) outcomes.new) }
 {
-    let mut place = 0;
-    for slot in slots {
-        let outcome = told(alloc, slot);
-        if tell_one(script, &tasks[place], outcome, outcomes, report).is_err() {
+    let mut slots = slots;
+    for place in 0..tasks.len() {
+        let task = &tasks[place];
+        let Ok(()) = tell_one(alloc, script, task, place, &mut slots, outcomes, report) else {
             return Err(Broken::NoMemory);
-        }
-        place += 1;
+        };
     }
     Ok(())
 }
 
-/// Adds the outcome of one task.
+/// Adds the outcome of the task at a place, whose slots are empty then.
 fn tell_one<P: Report>(
+    alloc: Global,
     script: &Script,
     task: &Task,
-    outcome: Outcome,
+    place: usize,
+    slots: &mut Slots,
     outcomes: &mut OutcomeList,
     report: &mut P,
 ) -> Result<(), NoMemory>
-    ensures told { OnOk result (outcomes.new ≡ outcomes.old ++ outcome ∷ []) }
+    requires few { length slots.old.gateways.items ≤ 16 }
+    ensures told { OnOk result ((o : Outcome) × (outcomes.new ≡ outcomes.old ++ o ∷ [])
+        × IsToldBy task.now.work (parts_at slots.old place task.now.work) o) }
+    ensures taken { IsTakenAt place slots.old slots.new }
     ensures reported { (before : List Task) → P.tells report.old script.now before outcomes.old
         → OnOk result (P.tells report.new script.now (before ++ task.now ∷ []) outcomes.new) }
 {
+    let parts = take_parts(alloc, &task.work, place, slots)?;
+    let outcome = outcome_of(alloc, parts)?;
     report.add(script, task, &outcome)?;
     outcomes.push(outcome)
 }
 
-/// How the task of a slot came out. A query that no gateway was asked answers nothing.
-fn told(alloc: Global, slot: Option<Outcome>) -> Outcome
-    ensures { result ≡ told slot }
+/// Takes the parts of those who did the task at a place, in their order.
+fn take_parts(
+    alloc: Global,
+    work: &Work,
+    place: usize,
+    slots: &mut Slots,
+) -> Result<Vec<Part>, NoMemory>
+    ensures parts { IfOk result (λ parts. parts.items ≡ parts_at slots.old place work.now) }
+    ensures taken { IsTakenAt place slots.old slots.new }
 {
-    match slot {
-        Some(outcome) => outcome,
-        None => Outcome::Query(QueryOutcome::Answer(SeriesList::new(alloc), UlidList::new(alloc))),
+    let mut parts = Vec::new(alloc);
+    match work {
+        Work::Upload(..) => take_part(&mut slots.uploads, place, &mut parts)?,
+        Work::Sync(gateway) => take_of(slots, *gateway as usize, place, &mut parts)?,
+        Work::Query { .. } => {
+            for gateway in 0..slots.gateways.len() {
+                take_of(slots, gateway, place, &mut parts)?;
+            }
+        }
+    }
+    Ok(parts)
+}
+
+/// Takes what a gateway's worker came to in the task at a place, if there is such a gateway, and it came to something.
+#[tactic(auto, using(crate::proofs::Telling::none_taken))]
+fn take_of(
+    slots: &mut Slots,
+    gateway: usize,
+    place: usize,
+    parts: &mut Vec<Part>,
+) -> Result<(), NoMemory>
+    ensures parts { OnOk result (parts.new.items
+        ≡ parts.old.items ++ laid_in (slot_at slots.old (Some gateway) place)) }
+    ensures taken { IsTakenAt place slots.old slots.new }
+    ensures own { (other : ℕ) → other ≢ gateway
+        → slot_at slots.new (Some other) place ≡ slot_at slots.old (Some other) place }
+{
+    if gateway >= slots.gateways.len() {
+        return Ok(());
+    }
+    take_part(&mut slots.gateways[gateway], place, parts)
+}
+
+/// Takes the part at a place, if there is one.
+fn take_part(column: &mut Column, place: usize, parts: &mut Vec<Part>) -> Result<(), NoMemory>
+    ensures parts { OnOk result (parts.new.items
+        ≡ parts.old.items ++ laid_in (slice_get column.old.slots.items place)) }
+    ensures wide { length column.new.slots.items ≡ length column.old.slots.items }
+    ensures others { (other : ℕ) → other ≢ place
+        → slice_get column.new.slots.items other ≡ slice_get column.old.slots.items other }
+{
+    if place >= column.slots.len() {
+        return Ok(());
+    }
+    match column.slots[place].take() {
+        Some(part) => {
+            parts.push(part)?;
+            Ok(())
+        }
+        None => Ok(()),
     }
 }

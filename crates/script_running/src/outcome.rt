@@ -1,8 +1,7 @@
 ghost use Rattle.std.specs.Prelude.{◌≡◌};
 
-use label_sets::SeriesList;
 use list_core::List;
-use ulid_core::UlidList;
+use querier::{Answer, NamesList};
 
 /// How one activity of the script ended, as its report line tells it. E counts entries of the journal from 1.
 #[derive(Drop)]
@@ -44,8 +43,8 @@ pub enum SyncOutcome {
 /// How a query ended.
 #[derive(Drop)]
 pub enum QueryOutcome {
-    /// The series in the order of their labels, and the blocks that they come from.
-    Answer(SeriesList, UlidList),
+    /// What the gateways answered together, and what each asked gateway names, in their order.
+    Answer(Answer, NamesList),
     /// The first gateway in order that gave no answer, and why.
     NoAnswer(u32, NoAnswer),
 }

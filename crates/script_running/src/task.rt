@@ -1,29 +1,36 @@
 //! One task of a script, done by its worker.
 
-ghost use Rattle.std.specs.Prelude.{◌≡◌, ◌||◌, ◌⊎◌, ℕ, Err, Some, IfSome, IsTrue, slice_get};
+ghost use Rattle.std.specs.Prelude.{◌≡◌, ◌==◌, ◌||◌, ◌⊎◌, ℕ, Err, Some, IfOk, IfSome, IsTrue, find, option_map, slice_get};
 ghost use Rattle.world_core.specs.Keeping.{IsFull};
+ghost use Rattle.store_gateway.specs.SeriesRuns.{asking};
 ghost use Rattle.script_core.specs.Lawful.{IsLawfulScript};
 ghost use Rattle.script_workers.specs.declared.work.Work.TheVariants as works;
 ghost use Rattle.lifecycle_core.specs.Conducts.{Who};
 ghost use Rattle.lifecycle_core.specs.Holdings.{Holding};
 ghost use Rattle.lifecycle_core.specs.Setting.{setting_of};
-ghost use Rattle.script_running.specs.Tasks.{Allows, HasDone, Sees, is_full_came};
+ghost use Rattle.lifecycle_core.specs.Tasks.{ask_to};
+ghost use Rattle.script_running.specs.Tasks.{Allows, HasAsked, HasDone, Sees, is_full_came};
 
 use crate::activity::{call, sync, upload};
 use crate::declared::{block_among, declared_block};
-use crate::{Broken, Came, NoAnswer, Outcome, QueryOutcome};
+use crate::{Broken, Came, NoAnswer, Part, QueryPart};
+use list_core::NoMemory;
 use matchers::Selector;
 use meta_fetcher::View;
+use moment_core::Rules;
+use querier::{Ask, fan_out};
 use script_core::{Block, Script, Work};
 use std::alloc::Global;
 use std::snapshot::Snapshot;
 use world_core::Hand;
 
 /// Does what one worker has to do for a task, through a hand of the worker's seat: its upload, its gateway's sync, or its
-/// gateway's part of a query. `view` is what the worker's gateway sees; an upload leaves it alone.
+/// gateway's part of a query. `gateway` is the place of the worker's gateway, if it is one's, and `view` what that gateway sees;
+/// an upload leaves the view alone.
 pub fn run_task<H: Hand>(
     alloc: Global,
     script: &Script,
+    gateway: Option<u32>,
     work: &Work,
     view: &mut Option<View>,
     hand: &mut H,
@@ -31,9 +38,10 @@ pub fn run_task<H: Hand>(
     requires lawful { IsLawfulScript script.now }
     requires work { Allows script.now work.now }
 
-    // Whoever the worker is, and wherever the task stands in its phase: what is done is a run of the task, from what the
-    // worker held.
-    ensures done { (who : Who) (place : ℕ) (held : Holding) → Sees held view.old
+    // Whatever seat the worker has, and wherever the task stands in its phase: what is done is a run of the task, from what
+    // the worker held.
+    ensures done { (who : Who) (place : ℕ) (held : Holding) → who.gateway ≡ gateway
+        → Sees held view.old
         → HasDone (setting_of script.now) who place work.now held (H.seat hand.old)
         (H.entries hand.old) (H.entries hand.new) view.new result }
 
@@ -50,30 +58,32 @@ pub fn run_task<H: Hand>(
 {
     match work {
         Work::Upload(ulid, stop) => upload(alloc, declared_block(script, *ulid), *stop, hand),
-        Work::Sync(_) => sync(alloc, script, view, hand),
+        Work::Sync(place) => sync(alloc, script, *place, view, hand),
         Work::Query {
             low,
             high,
             selector,
         } => {
             let selector = &script.selectors.members()[*selector as usize];
-            ask(alloc, script, view, selector, *low, *high, hand)
+            part_of_query(alloc, script, gateway, view, selector, *low, *high, hand)
         }
     }
 }
 
-/// A gateway's part of a query: its call over its view, if it has one.
-fn ask<H: Hand>(
+/// A worker's part of a query: what its gateway is asked, if it is asked.
+fn part_of_query<H: Hand>(
     alloc: Global,
     script: &Script,
+    gateway: Option<u32>,
     view: &Option<View>,
     selector: &Selector,
     low: i64,
     high: i64,
     hand: &mut H,
 ) -> Came
-    ensures done { (who : Who) (place : ℕ) (held : Holding) (number : ℕ) → Sees held view.now
-        → slice_get script.now.selectors number ≡ Some selector.now
+    requires lawful { IsLawfulScript script.now }
+    ensures done { (who : Who) (place : ℕ) (held : Holding) (number : ℕ) → who.gateway ≡ gateway
+        → Sees held view.now → slice_get script.now.selectors number ≡ Some selector.now
         → HasDone (setting_of script.now) who place (works.Query low high number) held
         (H.seat hand.old) (H.entries hand.old) (H.entries hand.new) view.now result }
     ensures seat { H.seat hand.new ≡ H.seat hand.old }
@@ -83,9 +93,71 @@ fn ask<H: Hand>(
     ensures wanted { IsTrue (H.wanted hand.new)
         → IsTrue (H.wanted hand.old) ⊎ (result ≡ Err Broken.NoMemory) }
 {
+    let Ok(asked) = ask_to(alloc, script, gateway, low, high) else {
+        return Err(Broken::NoMemory);
+    };
+    match asked {
+        Some(ask) => ask_view(
+            alloc,
+            &script.rules,
+            view,
+            selector,
+            ask.low,
+            ask.high,
+            hand,
+        ),
+        None => Ok(Part::Query(QueryPart::NotAsked)),
+    }
+}
+
+/// What a worker is asked in a query for the times from `low` to `high`, if it is a gateway's, and that is asked.
+fn ask_to(
+    alloc: Global,
+    script: &Script,
+    gateway: Option<u32>,
+    low: i64,
+    high: i64,
+) -> Result<Option<Ask>, NoMemory>
+    requires lawful { IsLawfulScript script.now }
+    ensures { IfOk result (λ ask. ask ≡ ask_to (setting_of script.now) gateway low high) }
+{
+    let Some(gateway) = gateway else {
+        return Ok(None);
+    };
+    let asks = fan_out(alloc, &script.partitions, low, high)?;
+    Ok(find_ask(asks.members(), gateway).copied())
+}
+
+fn find_ask(asks: &[Ask], gateway: u32) -> Option<&Ask>
+    ensures { option_map (λ ask. ask.now) result
+        ≡ find (λ ask. ask.gateway == gateway) asks.now }
+{
+    asks.iter().find(|ask| ask.gateway == gateway)
+}
+
+/// A gateway's answer for the times from `low` to `high`: its call over its view, if it has one.
+fn ask_view<H: Hand>(
+    alloc: Global,
+    rules: &Rules,
+    view: &Option<View>,
+    selector: &Selector,
+    low: i64,
+    high: i64,
+    hand: &mut H,
+) -> Came
+    ensures asked { (held : Holding) → Sees held view.now
+        → HasAsked held.used (asking selector.now rules.now.replicas low high) (H.seat hand.old)
+        (H.entries hand.old) (H.entries hand.new) result }
+    ensures seat { H.seat hand.new ≡ H.seat hand.old }
+    ensures keeps { H.keeps hand.old hand.new }
+    ensures refused { H.refused hand.new ≡ (H.refused hand.old || is_full_came result) }
+    ensures full { result ≡ Err Broken.Full → IfSome (H.front hand.new) IsFull }
+    ensures wanted { IsTrue (H.wanted hand.new)
+        → IsTrue (H.wanted hand.old) ⊎ (result ≡ Err Broken.NoMemory) }
+{
     match view {
-        Some(view) => call(alloc, &script.rules, view, selector, low, high, hand),
-        None => Ok(Outcome::Query(QueryOutcome::NoAnswer(0, NoAnswer::NoView))),
+        Some(view) => call(alloc, rules, view, selector, low, high, hand),
+        None => Ok(Part::Query(QueryPart::NoAnswer(NoAnswer::NoView))),
     }
 }
 
@@ -104,6 +176,7 @@ pub(crate) trait Means {
     fn do_task<H: Hand>(
         &self,
         alloc: Global,
+        gateway: Option<u32>,
         work: &Work,
         view: &mut Option<View>,
         hand: &mut H,
@@ -111,7 +184,8 @@ pub(crate) trait Means {
         requires lawful { IsLawfulScript (script self.now) }
         requires work { Allows (script self.now) work.now }
         requires serves { serves self.now work.now }
-        ensures done { (who : Who) (place : ℕ) (held : Holding) → Sees held view.old
+        ensures done { (who : Who) (place : ℕ) (held : Holding) → who.gateway ≡ gateway
+            → Sees held view.old
             → HasDone (setting_of (script self.now)) who place work.now held (H.seat hand.old)
             (H.entries hand.old) (H.entries hand.new) view.new result }
         ensures seat { H.seat hand.new ≡ H.seat hand.old }
@@ -131,11 +205,12 @@ impl Means for Script {
     fn do_task<H: Hand>(
         &self,
         alloc: Global,
+        gateway: Option<u32>,
         work: &Work,
         view: &mut Option<View>,
         hand: &mut H,
     ) -> Came {
-        run_task(alloc, self, work, view, hand)
+        run_task(alloc, self, gateway, work, view, hand)
     }
 }
 
@@ -158,10 +233,12 @@ impl<'a> Means for Shipping<'a> {
     fn do_task<H: Hand>(
         &self,
         alloc: Global,
+        gateway: Option<u32>,
         work: &Work,
         view: &mut Option<View>,
         hand: &mut H,
     ) -> Came {
+        let _gateway = gateway;
         let _view = view;
         match work {
             Work::Upload(ulid, stop) => {

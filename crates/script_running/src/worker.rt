@@ -12,7 +12,7 @@ ghost use Rattle.script_running.specs.Tasks.{Allows, Sees, is_full_came};
 ghost use Rattle.script_running.specs.Workers.{IsAtWork, HasWorked};
 
 use crate::task::{Means, Shipping};
-use crate::{Broken, Outcome};
+use crate::{Broken, Part};
 use meta_fetcher::View;
 use phase_runner::Job;
 use script_core::{Block, Phase, Script, Task, Worker};
@@ -54,8 +54,8 @@ impl<'a> Model for WorkerJob<'a> {
 /// What a worker leaves.
 #[derive(Drop)]
 pub struct WorkerEnd {
-    /// How those of its tasks came out that came to their ends, in the order of their lines.
-    pub outcomes: Vec<Outcome>,
+    /// What it came to in those of its tasks that came to their ends, in the order of their lines.
+    pub parts: Vec<Part>,
     /// What broke it off, if anything did.
     pub came: Result<(), Broken>,
     /// What its gateway sees from now on.
@@ -119,10 +119,10 @@ impl<'a> Job for WorkerJob<'a> {
         match worker.gateway {
             None => {
                 let shipping = Shipping { blocks, script };
-                do_tasks(alloc, &shipping, tasks, places, view, hand)
+                do_tasks(alloc, &shipping, None, tasks, places, view, hand)
             }
-            Some(_) => match Script::read(alloc, text) {
-                Ok(script) => do_tasks(alloc, &script, tasks, places, view, hand),
+            Some(gateway) => match Script::read(alloc, text) {
+                Ok(script) => do_tasks(alloc, &script, Some(gateway), tasks, places, view, hand),
                 Err(_) => wanting(alloc, view),
             },
         }
@@ -131,21 +131,22 @@ impl<'a> Job for WorkerJob<'a> {
 
 /// Nothing was done, for want of memory.
 fn wanting(alloc: Global, view: Option<View>) -> WorkerEnd
-    ensures { (result.outcomes.items ≡ []) × (result.came ≡ Err Broken.NoMemory)
+    ensures { (result.parts.items ≡ []) × (result.came ≡ Err Broken.NoMemory)
         × (result.view ≡ view) }
 {
     WorkerEnd {
-        outcomes: Vec::new(alloc),
+        parts: Vec::new(alloc),
         came: Err(Broken::NoMemory),
         view,
     }
 }
 
-/// Does the tasks at these places one after another, until one of them is broken off. It takes its memory for their
-/// outcomes first.
+/// Does a worker's parts of the tasks at these places one after another, until one of them is broken off. It takes its memory
+/// for what they come to first.
 fn do_tasks<M: Means, H: Hand>(
     alloc: Global,
     means: &M,
+    gateway: Option<u32>,
     tasks: &[Task],
     places: &[u64],
     view: Option<View>,
@@ -156,7 +157,7 @@ fn do_tasks<M: Means, H: Hand>(
     requires places { All (λ place. place < length tasks.now) places.now }
     requires serves { All (λ place.
         IfSome (slice_get tasks.now place) (λ task. M.serves means.now task.work)) places.now }
-    ensures worked { (who : Who) (held : Holding) → Sees held view
+    ensures worked { (who : Who) (held : Holding) → who.gateway ≡ gateway → Sees held view
         → HasWorked (setting_of (M.script means.now)) tasks.now who places.now held
         (H.seat hand.old) (H.entries hand.old) (H.entries hand.new) result }
     ensures seat { H.seat hand.new ≡ H.seat hand.old }
@@ -169,16 +170,16 @@ fn do_tasks<M: Means, H: Hand>(
         → IsTrue (H.wanted hand.old) ⊎ (result.came ≡ Err Broken.NoMemory) }
 {
     let mut view = view;
-    let Ok(mut outcomes) = Vec::with_capacity(alloc, places.len()) else {
+    let Ok(mut parts) = Vec::with_capacity(alloc, places.len()) else {
         return wanting(alloc, view);
     };
     for number in 0..places.len() {
         let task = &tasks[places[number] as usize];
-        match means.do_task(alloc, &task.work, &mut view, hand) {
-            Ok(outcome) => outcomes.push_reserved(outcome),
+        match means.do_task(alloc, gateway, &task.work, &mut view, hand) {
+            Ok(part) => parts.push_reserved(part),
             Err(broken) => {
                 return WorkerEnd {
-                    outcomes,
+                    parts,
                     came: Err(broken),
                     view,
                 };
@@ -186,7 +187,7 @@ fn do_tasks<M: Means, H: Hand>(
         }
     }
     WorkerEnd {
-        outcomes,
+        parts,
         came: Ok(()),
         view,
     }

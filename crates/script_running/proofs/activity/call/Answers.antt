@@ -4,8 +4,8 @@ use Rattle.std.proofs.lemmas.Int.{to_z-of_z}
 use Rattle.store_gateway.specs.SeriesRuns.{SeriesRun, asking}
 use Rattle.script_workers.specs.declared.work.Work.TheVariants as works
 use Rattle.lifecycle_core.specs.Tasks.{answered}
-use Rattle.script_running.specs.Outcomes.{call_outcome}
-use Rattle.script_running.specs.declared.outcome.Outcome.TheVariants as outcome
+use Rattle.script_running.specs.Outcomes.{call_part}
+use Rattle.script_running.specs.declared.part.Part.TheVariants as part
 use Rattle.script_running.specs.Drives.{call_came}
 use Rattle.script_running.proofs.Syncs.{asked_same, driven_told, nothing_asked, wanted_by}
 use Rattle.script_running.proofs.activity.call.Goals as goal
@@ -20,7 +20,7 @@ returns-clause-ran g c = λ used low high number.
     let upto = to_z-of_z w64 c.args.high c.ranges.high in
     let told =
     driven_told _ (SeriesRun c.args.view.now (asking c.args.selector.now c.args.rules.now.replicas c.args.low c.args.high)) (g.H.Hand.seat c.args.hand.now) c.drive.result
-    (g.H.Hand.entries c.args.hand.now) (g.H.Hand.entries c.drive.new.hand) (works.Query low high number) (answered used) (λ end. outcome.Query (call_outcome 0 end)) c.call_came.result c.call_came.ensures (λ end. refl)
+    (g.H.Hand.entries c.args.hand.now) (g.H.Hand.entries c.drive.new.hand) (works.Query low high number) (answered used) (λ end. part.Query (call_part end)) c.call_came.result c.call_came.ensures (λ end. refl)
     (λ made end run. asked_same c.args.view.now c.args.selector.now c.args.rules.now.replicas _ c.args.low _ c.args.high made end from upto (c.in-Ok.ensures.run made end c.drive.new.machine run)) c.drive.ensures.run in
     (_, told.0, told.1)
 

@@ -12,6 +12,7 @@ use Rattle.script_running.specs.Going.{HasStopped, IsClockSet}
 use Rattle.script_running.specs.Workers.{MayWork, Post}
 use Rattle.script_running.specs.declared.came.Broken.TheVariants as broken
 use Rattle.script_running.specs.declared.worker.WorkerEnd.{WorkerEnd}
+use Rattle.script_running.proofs.Gathers.{gateways_counted}
 use Rattle.script_running.proofs.Phasing.{always, as_many, at_work, clock_refused, ends_long, few_seats, idled, if_false, if_true, joined_on, moment_lawful, next_seats, no_room, phase_apart, phase_comes, within_gateways, within_tasks, workers_here}
 use Rattle.script_running.proofs.Refused.{clock_done, clock_tells, clock_unwanted, come_tells, come_unwanted, or_none, phase_tells, phase_unwanted}
 use Rattle.script_running.proofs.beside.phase_beside.Goals as goal
@@ -79,6 +80,9 @@ gather-came-requires-clause-gateways g c =
     let are = workers_here c.args.script.now c.args.place c.splits.result c.in-Ok.staff c.members-workers.result.now c.members-workers.ensures c.in-Ok.ensures (c.splits.ensures ∙ c.requires.seats) in
     within_gateways c.args.script.now c.args.text.now c.requires.lawful c.requires.spelled c.args.place c.args.phase.now c.requires.at c.members-workers.result.now (length c.jobs_of.new.views.items) are (c.jobs_of.ensures.each ∙ c.requires.gone.each)
 
+pub gather-came-requires-clause-few : goal.gather-came-requires-clause-few
+gather-came-requires-clause-few g c = (let each = c.jobs_of.ensures.each in let gone = c.requires.gone.each in let few = c.requires.lawful.few_gateways in omega (arith, each, gone, few))
+
 pub gather-came-requires-clause-places : goal.gather-came-requires-clause-places
 gather-came-requires-clause-places g c =
     let are = workers_here c.args.script.now c.args.place c.splits.result c.in-Ok.staff c.members-workers.result.now c.members-workers.ensures c.in-Ok.ensures (c.splits.ensures ∙ c.requires.seats) in
@@ -108,7 +112,7 @@ returns-clause-came g c =
     phase_comes c.args.script.now c.args.place c.args.phase.now c.requires.at c.args.root c.args.standing.now.views.items c.args.standing.now.outcomes c.requires.gone c.requires.own.1 c.begin_phase-begun.result.1 clock.0 clock.1
     c.args.text.now c.requires.lawful c.requires.spelled c.begin_phase-begun.result.1.splits (c.begin_phase-begun.ensures.pass.2 ∙ c.requires.seats) c.members-workers.result.now are c.in-Ok-jobs_of.jobs.items sent
     c.run_phase-end.result.root (vec_len c.in-Ok-jobs_of.jobs) run.0 run.1 c.run_phase-end.result.ends.items run.2 c.gather-came.new.views.items c.gather-came.new.outcomes c.gather-came.result (c.gather-came.ensures.each ∙ c.jobs_of.ensures.each)
-    (λ after own lasts have left. c.gather-came.ensures.gathers (setting_of c.args.script.now) c.args.place c.args.phase.now c.requires.gone.held after (view_of c.run_phase-end.result.root).front run.0 own lasts c.requires.lawful c.requires.at c.members.ensures are have left
+    (λ after own lasts have left. c.gather-came.ensures.gathers (setting_of c.args.script.now) c.args.place c.args.phase.now c.requires.gone.held after (view_of c.run_phase-end.result.root).front run.0 own lasts c.requires.lawful (gateways_counted c.args.script.now c.requires.lawful c.jobs_of.new.views.items (c.jobs_of.ensures.each ∙ c.requires.gone.each)) c.requires.at c.members.ensures are have left
     (c.in-Ok-jobs_of.ensures.left c.requires.gone.held c.requires.gone.seen))
 
 -- ---- whether the full journal was met

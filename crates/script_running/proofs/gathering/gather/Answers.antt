@@ -1,21 +1,21 @@
-use Rattle.std.proofs.Common.{List, length, ap, ◌∙◌, refl, subst}
+use Rattle.std.proofs.Common.{List, length, refl, subst, arith}
 use Rattle.std.specs.Prelude.{MatchBool}
 use Rattle.script_running.specs.Gathering.{HaveCome}
 use Rattle.script_running.specs.Going.{Met}
 use Rattle.script_running.specs.declared.came.Broken.TheVariants as broken
 use Rattle.script_running.specs.declared.worker.WorkerEnd.{WorkerEnd}
-use Rattle.script_running.proofs.Gathers.{came_whole, met_so}
+use Rattle.script_running.proofs.Gathers.{as_many, came_whole, empty_of, met_so, slots_there, told_of}
 use Rattle.script_running.proofs.Refused.{still_come}
 use Rattle.script_running.proofs.Phasing.{if_false}
 use Rattle.script_running.proofs.gathering.gather.Goals as goal
 
 pub returns-in-Ok-take_in-clause-gathers : goal.returns-in-Ok-take_in-clause-gathers
-returns-in-Ok-take_in-clause-gathers g c = λ setting number phase before after front kept own lasts lawful at tasks workers have left beside.
-    came_whole setting number phase before after front c.args.workers.now kept own lasts c.args.ends.items c.args.views.now.items lawful at workers have left c.take_in.new.views.items beside c.in-Ok.slots.items c.take_in.new.slots.items
-    (subst (HaveCome c.args.ends.items) c.in-Ok-take_in.is c.take_in.ensures.came) c.take_in.ensures.taken (c.in-Ok.ensures.wide ∙ ap length tasks) c.in-Ok.ensures.empty c.args.outcomes.now c.tell.new.outcomes c.tell.result c.tell.ensures.why c.tell.ensures.told
+returns-in-Ok-take_in-clause-gathers g c = λ setting number phase before after front kept own lasts lawful counted at tasks workers have left beside.
+    came_whole setting number phase before after front c.args.workers.now kept own lasts c.args.ends.items c.args.views.now.items lawful counted at workers have left c.take_in.new.views.items beside c.in-Ok.slots c.take_in.new.slots
+    (subst (HaveCome c.args.ends.items) c.in-Ok-take_in.is c.take_in.ensures.came) c.take_in.ensures.taken (empty_of c.args.tasks.now phase.tasks (length c.args.views.now.items) c.args.views.now.items c.in-Ok.slots tasks refl (as_many (length c.args.tasks.now) c.len.result (length c.args.views.now.items) c.in-Ok.slots (let ok = c.args.views.now.ok in omega (arith, c.len.ensures)) c.in-Ok.ensures)) c.args.outcomes.now c.tell.new.outcomes c.tell.result c.tell.ensures.why (told_of c.args.tasks.now phase.tasks c.take_in.new.slots c.args.outcomes.now c.tell.new.outcomes c.tell.result tasks c.tell.ensures.told)
 
 pub returns-then-any_full-clause-gathers : goal.returns-then-any_full-clause-gathers
-returns-then-any_full-clause-gathers g c = λ setting number phase before after front kept own lasts lawful at tasks workers have left beside.
+returns-then-any_full-clause-gathers g c = λ setting number phase before after front kept own lasts lawful counted at tasks workers have left beside.
     (refl, met_so c.any_full.result c.deref.result.now c.args.ends.items c.any_full.ensures c.if-any_full.true c.deref.ensures.value)
 
 pub returns-in-Ok-take_in-clause-came : goal.returns-in-Ok-take_in-clause-came
@@ -31,3 +31,11 @@ returns-in_default-clause-came g c =
 
 pub returns-then-any_full-clause-came : goal.returns-then-any_full-clause-came
 returns-then-any_full-clause-came g c = met_so c.any_full.result c.deref.result.now c.args.ends.items c.any_full.ensures c.if-any_full.true c.deref.ensures.value
+
+pub take_in-requires-clause-places : goal.take_in-requires-clause-places
+take_in-requires-clause-places g c = slots_there (length c.args.tasks.now) (length c.args.views.now.items) c.in-Ok.slots
+    (as_many (length c.args.tasks.now) c.len.result (length c.args.views.now.items) c.in-Ok.slots (let ok = c.args.views.now.ok in omega (arith, c.len.ensures)) c.in-Ok.ensures)
+    c.args.workers.now c.requires.gateways c.requires.places
+
+pub take_in-requires-clause-wide : goal.take_in-requires-clause-wide
+take_in-requires-clause-wide g c = (as_many (length c.args.tasks.now) c.len.result (length c.args.views.now.items) c.in-Ok.slots (let ok = c.args.views.now.ok in omega (arith, c.len.ensures)) c.in-Ok.ensures).wide

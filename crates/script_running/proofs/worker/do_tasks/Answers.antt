@@ -8,13 +8,13 @@ use Rattle.script_running.proofs.WorkerSteps.{all_worked, default_any, none_done
 use Rattle.script_running.proofs.worker.do_tasks.Goals as goal
 
 pub returns-in_default-clause-worked : goal.returns-in_default-clause-worked
-returns-in_default-clause-worked g c = λ who held sees.
+returns-in_default-clause-worked g c = λ who held by sees.
     none_done (setting_of (g.M.Means.script c.args.means.now)) c.args.tasks.now who c.args.places.now held (g.H.Hand.seat c.args.hand.now) (g.H.Hand.entries c.args.hand.now) c.args.view c.wanting.result
     c.requires.lawful c.requires.tasks c.requires.places sees c.wanting.ensures.0 c.wanting.ensures.1 c.wanting.ensures.2
 
 pub loop-number-init : goal.loop-number-init
 loop-number-init g c = record {
-  worked = λ who held sees. none_worked (setting_of (g.M.Means.script c.args.means.now)) c.args.tasks.now who held (g.H.Hand.seat c.args.hand.now) (g.H.Hand.entries c.args.hand.now) c.args.view [] c.in-Ok.outcomes.items refl c.in-Ok.ensures.items sees;
+  worked = λ who held by sees. none_worked (setting_of (g.M.Means.script c.args.means.now)) c.args.tasks.now who held (g.H.Hand.seat c.args.hand.now) (g.H.Hand.entries c.args.hand.now) c.args.view [] c.in-Ok.parts.items refl c.in-Ok.ensures.items sees;
   seat = refl;
   refused = refl;
   keeps = g.met.H.Hand.keeps_none _;
@@ -30,32 +30,32 @@ do_task-requires-clause-serves g c =
     serves_at (λ (t : Task). g.M.Means.serves c.args.means.now t.work) c.args.tasks.now c.args.places.now c.loop-number.number _ c.index-tasks-places.result below is (place_within c.args.tasks.now c.args.places.now c.loop-number.number _ below is c.requires.places) c.index-tasks-places.is c.requires.serves
 
 pub returns-in-Err-clause-worked : goal.returns-in-Err-clause-worked
-returns-in-Err-clause-worked g c = λ who held sees.
+returns-in-Err-clause-worked g c = λ who held by sees.
     let below : c.loop-number.number < length c.args.places.now = omega (arith, c.loop-number-test.true) in
     step_broken (setting_of (g.M.Means.script c.args.means.now)) c.args.tasks.now who c.args.places.now held (g.H.Hand.seat c.args.hand.now) (g.H.Hand.seat c.loop-number.hand) (g.H.Hand.entries c.args.hand.now) (g.H.Hand.entries c.loop-number.hand) (g.H.Hand.entries c.do_task.new.hand)
-    c.loop-number.view c.do_task.new.view c.loop-number.outcomes.items c.loop-number.number _ c.index-tasks-places.result below (default_any c.args.places.now c.loop-number.number 0 _ below) c.requires.places c.index-tasks-places.is c.loop-number.invariant.seat
-    (c.loop-number.invariant.worked who held sees) c.in-Err.broken c.do_task.result _ c.requires.lawful c.requires.tasks c.in-Err.is refl refl refl (λ h s. c.do_task.ensures.done who _ h s)
+    c.loop-number.view c.do_task.new.view c.loop-number.parts.items c.loop-number.number _ c.index-tasks-places.result below (default_any c.args.places.now c.loop-number.number 0 _ below) c.requires.places c.index-tasks-places.is c.loop-number.invariant.seat
+    (c.loop-number.invariant.worked who held by sees) c.in-Err.broken c.do_task.result _ c.requires.lawful c.requires.tasks c.in-Err.is refl refl refl (λ h s. c.do_task.ensures.done who _ h by s)
 
 pub loop-number-preserved : goal.loop-number-preserved
 loop-number-preserved g c =
     let below : c.loop-number.number < length c.args.places.now = omega (arith, c.loop-number-test.true) in
     record {
-      worked = λ who held sees.
+      worked = λ who held by sees.
           step_worked (setting_of (g.M.Means.script c.args.means.now)) c.args.tasks.now who c.args.places.now held (g.H.Hand.seat c.args.hand.now) (g.H.Hand.seat c.loop-number.hand) (g.H.Hand.entries c.args.hand.now) (g.H.Hand.entries c.loop-number.hand) (g.H.Hand.entries c.do_task.new.hand)
-          c.loop-number.view c.do_task.new.view c.loop-number.outcomes.items c.loop-number.number _ c.index-tasks-places.result below (default_any c.args.places.now c.loop-number.number 0 _ below) c.requires.places c.index-tasks-places.is c.loop-number.invariant.seat
-          (c.loop-number.invariant.worked who held sees) c.push_reserved.new.self.items c.in-Ok-do_task.outcome c.do_task.result c.in-Ok-do_task.is c.push_reserved.ensures.items (λ h s. c.do_task.ensures.done who _ h s);
+          c.loop-number.view c.do_task.new.view c.loop-number.parts.items c.loop-number.number _ c.index-tasks-places.result below (default_any c.args.places.now c.loop-number.number 0 _ below) c.requires.places c.index-tasks-places.is c.loop-number.invariant.seat
+          (c.loop-number.invariant.worked who held by sees) c.push_reserved.new.self.items c.in-Ok-do_task.part c.do_task.result c.in-Ok-do_task.is c.push_reserved.ensures.items (λ h s. c.do_task.ensures.done who _ h by s);
       seat = c.do_task.ensures.seat ∙ c.loop-number.invariant.seat;
-      refused = refused_none (g.H.Hand.refused c.args.hand.now) (g.H.Hand.refused c.loop-number.hand) (g.H.Hand.refused c.do_task.new.hand) c.do_task.result c.in-Ok-do_task.outcome c.do_task.ensures.refused c.in-Ok-do_task.is c.loop-number.invariant.refused;
+      refused = refused_none (g.H.Hand.refused c.args.hand.now) (g.H.Hand.refused c.loop-number.hand) (g.H.Hand.refused c.do_task.new.hand) c.do_task.result c.in-Ok-do_task.part c.do_task.ensures.refused c.in-Ok-do_task.is c.loop-number.invariant.refused;
       keeps = g.met.H.Hand.keeps_more _ _ _ c.loop-number.invariant.keeps c.do_task.ensures.keeps;
       wanted = λ so. elim (c.do_task.ensures.wanted so) [ inl before ↦ c.loop-number.invariant.wanted before | inr none ↦ absurd (cc (none, c.in-Ok-do_task.is)) ];
-      count = ap length c.push_reserved.ensures.items ∙ length-append c.loop-number.outcomes.items (c.in-Ok-do_task.outcome ∷ []) ∙ ap (λ n. n + 1) c.loop-number.invariant.count;
+      count = ap length c.push_reserved.ensures.items ∙ length-append c.loop-number.parts.items (c.in-Ok-do_task.part ∷ []) ∙ ap (λ n. n + 1) c.loop-number.invariant.count;
       room = (let a = c.loop-number.invariant.room in let b = c.push_reserved.ensures.capacity in omega arith);
     }
 
 pub returns-clause-worked : goal.returns-clause-worked
-returns-clause-worked g c = λ who held sees.
-    all_worked (setting_of (g.M.Means.script c.args.means.now)) c.args.tasks.now who _ c.args.places.now held (g.H.Hand.seat c.args.hand.now) (g.H.Hand.entries c.args.hand.now) (g.H.Hand.entries c.loop-number.hand) c.loop-number.view c.loop-number.outcomes.items _
-    (take_all c.loop-number.number c.args.places.now (omega (arith, c.loop-number-test.false))) refl refl refl (c.loop-number.invariant.worked who held sees)
+returns-clause-worked g c = λ who held by sees.
+    all_worked (setting_of (g.M.Means.script c.args.means.now)) c.args.tasks.now who _ c.args.places.now held (g.H.Hand.seat c.args.hand.now) (g.H.Hand.entries c.args.hand.now) (g.H.Hand.entries c.loop-number.hand) c.loop-number.view c.loop-number.parts.items _
+    (take_all c.loop-number.number c.args.places.now (omega (arith, c.loop-number-test.false))) refl refl refl (c.loop-number.invariant.worked who held by sees)
 
 pub returns-in_default-clause-refused : goal.returns-in_default-clause-refused
 returns-in_default-clause-refused g c = unrefused (g.H.Hand.refused c.args.hand.now) (g.H.Hand.refused c.args.hand.now) c.wanting.result.came (ap is_full_came c.wanting.ensures.1) refl

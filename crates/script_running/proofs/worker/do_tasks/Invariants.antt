@@ -12,12 +12,12 @@ abbrev pub invariant-loop-number : goal.invariant-loop-number
 invariant-loop-number g l =
     let h = g.H.Hand in
     record {
-      worked : (who : Who) (held : Holding) → Sees held l.initial.view
-          → Worked (setting_of (g.M.Means.script l.means)) l.tasks who (take l.number l.places) held (h.seat l.initial.hand) (h.entries l.initial.hand) (h.entries l.hand) l.view l.outcomes.items;
+      worked : (who : Who) (held : Holding) → who.gateway ≡ l.gateway → Sees held l.initial.view
+          → Worked (setting_of (g.M.Means.script l.means)) l.tasks who (take l.number l.places) held (h.seat l.initial.hand) (h.entries l.initial.hand) (h.entries l.hand) l.view l.parts.items;
       seat : h.seat l.hand ≡ h.seat l.initial.hand;
       refused : h.refused l.hand ≡ h.refused l.initial.hand;
       keeps : h.keeps l.initial.hand l.hand;
       wanted : IsTrue (h.wanted l.hand) → IsTrue (h.wanted l.initial.hand);
-      count : length l.outcomes.items ≡ l.number;
-      room : length l.places ≤ l.outcomes.cap;
+      count : length l.parts.items ≡ l.number;
+      room : length l.places ≤ l.parts.cap;
     }

@@ -1,4 +1,4 @@
-use Rattle.std.proofs.Common.{◌≡◌, ◌++◌, ◌<◌, inl, inr, ℕ, List, length, refl, sym, ap, subst}
+use Rattle.std.proofs.Common.{◌≡◌, ◌++◌, ◌<◌, ◌∙◌, inl, inr, ℕ, List, length, refl, sym, ap, subst}
 use Rattle.std.specs.Prelude.{slice_get, IfSome, IsTrue}
 use Rattle.std.specs.List.{All}
 use Rattle.world_core.specs.declared.entry.Entry.{Entry}
@@ -47,10 +47,10 @@ returns-in-None-clause-run g c =
     subst (λ (post : Post). (made : List Entry) × (g.H.Hand.entries c.do_tasks.new.hand ≡ g.H.Hand.entries c.args.hand.now ++ made) × MayWork post (g.H.Hand.seat c.args.hand.now) made (g.H.Hand.front c.do_tasks.new.hand) c.do_tasks.result) c.self.view_is
     (may_work (record { text = i.text.now; phase = i.phase; worker = i.worker; view = i.view }) i.script.value r.phase lent.spelled r.at
     (g.H.Hand.seat c.args.hand.now) (g.H.Hand.entries c.args.hand.now) (g.H.Hand.entries c.do_tasks.new.hand) (g.H.Hand.front c.do_tasks.new.hand) c.do_tasks.result
-    (λ who held sees.
+    (λ who held by sees.
     subst (λ (ts : List Task). HasWorked (setting_of i.script.value) ts who i.worker.tasks held (g.H.Hand.seat c.args.hand.now) (g.H.Hand.entries c.args.hand.now) (g.H.Hand.entries c.do_tasks.new.hand) c.do_tasks.result) r.own
     (subst (λ (ps : List ℕ). HasWorked (setting_of i.script.value) i.tasks.now who ps held (g.H.Hand.seat c.args.hand.now) (g.H.Hand.entries c.args.hand.now) (g.H.Hand.entries c.do_tasks.new.hand) c.do_tasks.result) c.members-places.ensures
-    (c.do_tasks.ensures.worked who held sees)))
+    (c.do_tasks.ensures.worked who held (by ∙ c.in-None.is) sees)))
     c.do_tasks.ensures.full)
 
 -- ---- a gateway's tasks, by the script
@@ -79,10 +79,10 @@ returns-in-Ok-clause-run g c =
     subst (λ (post : Post). (made : List Entry) × (g.H.Hand.entries c.do_tasks-in-Ok.new.hand ≡ g.H.Hand.entries c.args.hand.now ++ made) × MayWork post (g.H.Hand.seat c.args.hand.now) made (g.H.Hand.front c.do_tasks-in-Ok.new.hand) c.do_tasks-in-Ok.result) c.self.view_is
     (may_work (record { text = i.text.now; phase = i.phase; worker = i.worker; view = i.view }) c.in-Ok.script r.phase c.in-Ok.ensures.gives r.at
     (g.H.Hand.seat c.args.hand.now) (g.H.Hand.entries c.args.hand.now) (g.H.Hand.entries c.do_tasks-in-Ok.new.hand) (g.H.Hand.front c.do_tasks-in-Ok.new.hand) c.do_tasks-in-Ok.result
-    (λ who held sees.
+    (λ who held by sees.
     subst (λ (ts : List Task). HasWorked (setting_of c.in-Ok.script) ts who i.worker.tasks held (g.H.Hand.seat c.args.hand.now) (g.H.Hand.entries c.args.hand.now) (g.H.Hand.entries c.do_tasks-in-Ok.new.hand) c.do_tasks-in-Ok.result) r.own
     (subst (λ (ps : List ℕ). HasWorked (setting_of c.in-Ok.script) i.tasks.now who ps held (g.H.Hand.seat c.args.hand.now) (g.H.Hand.entries c.args.hand.now) (g.H.Hand.entries c.do_tasks-in-Ok.new.hand) c.do_tasks-in-Ok.result) c.members-places.ensures
-    (c.do_tasks-in-Ok.ensures.worked who held sees)))
+    (c.do_tasks-in-Ok.ensures.worked who held (by ∙ c.in-Some.is) sees)))
     c.do_tasks-in-Ok.ensures.full)
 
 -- ---- want of memory
@@ -94,7 +94,7 @@ returns-clause-run g c =
     subst (λ (post : Post). (made : List Entry) × (g.H.Hand.entries c.args.hand.now ≡ g.H.Hand.entries c.args.hand.now ++ made) × MayWork post (g.H.Hand.seat c.args.hand.now) made (g.H.Hand.front c.args.hand.now) c.wanting.result) c.self.view_is
     (may_work (record { text = i.text.now; phase = i.phase; worker = i.worker; view = i.view }) a.script a.phase a.spelled a.at
     (g.H.Hand.seat c.args.hand.now) (g.H.Hand.entries c.args.hand.now) (g.H.Hand.entries c.args.hand.now) (g.H.Hand.front c.args.hand.now) c.wanting.result
-    (λ who held sees.
+    (λ who held by sees.
     none_done (setting_of a.script) a.phase.tasks who i.worker.tasks held (g.H.Hand.seat c.args.hand.now) (g.H.Hand.entries c.args.hand.now) i.view c.wanting.result
     a.lawful (allowed a.script i.phase a.phase a.lawful a.at) a.within sees c.wanting.ensures.0 c.wanting.ensures.1 c.wanting.ensures.2)
     (λ full. absurd (cc (full, c.wanting.ensures.1))))

@@ -1,0 +1,77 @@
+-- The parts of all who do a task, by their ends.
+use Rattle.std.proofs.Common.{◌≡◌, ℕ, ℤ, Option, zero, suc, ◌+◌, ◌<◌, ◌≤◌, List, [], ◌∷◌, length, map, refl, sym, ◌∙◌, ap, subst, arith}
+use Rattle.std.specs.List.{AllZip, range_with_len}
+use Rattle.std.proofs.lemmas.List.FromFn.{length-map-range_with_len}
+use Rattle.script_workers.specs.Hands.{hands_of_task}
+use Rattle.script_workers.specs.declared.hand.Hand.TheVariants as hands
+use Rattle.script_workers.specs.declared.work.Work.{Work}
+use Rattle.script_workers.specs.declared.work.Work.TheVariants as work
+use Rattle.lifecycle_core.specs.Tasks.{End, answered, not_asked, stopped, synced, uploaded, without_view}
+use Rattle.script_running.specs.Outcomes.{AreAllParts, IsPart, call_part, sync_outcome, upload_outcome}
+use Rattle.script_running.specs.declared.outcome.NoAnswer.TheVariants as none
+use Rattle.script_running.specs.declared.outcome.UploadOutcome.TheVariants as upload
+use Rattle.script_running.specs.declared.part.Part.{Part}
+use Rattle.script_running.specs.declared.part.Part.TheVariants as part
+use Rattle.script_running.specs.declared.part.QueryPart.{QueryPart}
+use Rattle.script_running.specs.declared.part.QueryPart.TheVariants as given
+
+one_query : (low high : ℤ) (selector : ℕ) (end : End) (one : Part) → IsPart (work.Query low high selector) end one → (own : QueryPart) × (one ≡ part.Query own)
+one_query low high selector (uploaded e) one is = absurd is
+one_query low high selector (synced e) one is = absurd is
+one_query low high selector (answered used e) one is = (call_part e, is)
+one_query low high selector without_view one is = (given.NoAnswer none.NoView, is)
+one_query low high selector not_asked one is = (given.NotAsked, is)
+one_query low high selector (stopped count) one is = absurd is
+
+pub query_parts : (low high : ℤ) (selector : ℕ) (ends : List End) (parts : List Part) → AllZip (IsPart (work.Query low high selector)) ends parts → (own : List QueryPart) × (parts ≡ map part.Query own)
+query_parts low high selector [] [] all = ([], refl)
+query_parts low high selector [] (one ∷ parts) all = absurd all
+query_parts low high selector (end ∷ ends) [] all = absurd all
+query_parts low high selector (end ∷ ends) (one ∷ parts) all =
+    let first = one_query low high selector end one all.0 in
+    let rest = query_parts low high selector ends parts all.1 in
+    (first.0 ∷ rest.0, ap (λ (p : Part). p ∷ parts) first.1 ∙ ap (λ (l : List Part). part.Query first.0 ∷ l) rest.1)
+
+one_upload : (ulid : ℕ) (stop : Option ℕ) (end : End) (one : Part) → IsPart (work.Upload ulid stop) end one → AreAllParts (work.Upload ulid stop) (one ∷ [])
+one_upload ulid stop (uploaded e) one is = (upload_outcome e, ap (λ (p : Part). p ∷ []) is)
+one_upload ulid stop (synced e) one is = absurd is
+one_upload ulid stop (answered used e) one is = absurd is
+one_upload ulid stop without_view one is = absurd is
+one_upload ulid stop not_asked one is = absurd is
+one_upload ulid stop (stopped count) one is = (upload.Stopped count, ap (λ (p : Part). p ∷ []) is)
+
+one_sync : (gateway : ℕ) (end : End) (one : Part) → IsPart (work.Sync gateway) end one → AreAllParts (work.Sync gateway) (one ∷ [])
+one_sync gateway (uploaded e) one is = absurd is
+one_sync gateway (synced e) one is = (sync_outcome e, ap (λ (p : Part). p ∷ []) is)
+one_sync gateway (answered used e) one is = absurd is
+one_sync gateway without_view one is = absurd is
+one_sync gateway not_asked one is = absurd is
+one_sync gateway (stopped count) one is = absurd is
+
+-- the parts of as many as do the task are those of all who do it
+pub all_parts : (w : Work) (gateways place : ℕ) (ends : List End) (parts : List Part) → length ends ≡ length (hands_of_task gateways place w) → AllZip (IsPart w) ends parts → AreAllParts w parts
+unfolding hands_of_task
+all_parts (work.Upload ulid stop) gateways place [] parts count all = absurd (omega (arith, count))
+all_parts (work.Upload ulid stop) gateways place (end ∷ []) [] count all = absurd all
+all_parts (work.Upload ulid stop) gateways place (end ∷ []) (one ∷ []) count all = one_upload ulid stop end one all.0
+all_parts (work.Upload ulid stop) gateways place (end ∷ []) (one ∷ other ∷ parts) count all = absurd all.1
+all_parts (work.Upload ulid stop) gateways place (end ∷ next ∷ ends) parts count all = absurd (omega (arith, count))
+all_parts (work.Sync gateway) gateways place [] parts count all = absurd (omega (arith, count))
+all_parts (work.Sync gateway) gateways place (end ∷ []) [] count all = absurd all
+all_parts (work.Sync gateway) gateways place (end ∷ []) (one ∷ []) count all = one_sync gateway end one all.0
+all_parts (work.Sync gateway) gateways place (end ∷ []) (one ∷ other ∷ parts) count all = absurd all.1
+all_parts (work.Sync gateway) gateways place (end ∷ next ∷ ends) parts count all = absurd (omega (arith, count))
+all_parts (work.Query low high selector) gateways place ends parts count all = query_parts low high selector ends parts all
+
+-- so there are few of them
+pub few_parts : (w : Work) (gateways place : ℕ) → gateways ≤ 16 → length (hands_of_task gateways place w) ≤ 16
+unfolding hands_of_task
+few_parts (work.Upload ulid stop) gateways place few = omega arith
+few_parts (work.Sync gateway) gateways place few = omega arith
+few_parts (work.Query low high selector) gateways place few = let count = length-map-range_with_len hands.Gateway 0 gateways in omega (arith, few, count)
+
+pub zip_long : {A B : Type 0} (R : A → B → Type 0) (xs : List A) (ys : List B) → AllZip R xs ys → length ys ≡ length xs
+zip_long R [] [] all = refl
+zip_long R [] (y ∷ ys) all = absurd all
+zip_long R (x ∷ xs) [] all = absurd all
+zip_long R (x ∷ xs) (y ∷ ys) all = ap suc (zip_long R xs ys all.1)

@@ -1,0 +1,238 @@
+-- What gateways gave to a query, one after another.
+use Rattle.std.proofs.Common.{◌≡◌, ◌≢◌, ℕ, zero, suc, ◌+◌, ◌<◌, get_or, take, drop, Bool, true, false, List, [], ◌∷◌, ◌++◌, length, map, Option, Some, None, refl, sym, ◌∙◌, ap, subst, arith, append-nil}
+use Rattle.std.specs.Prelude.{Ok, Err, OnOk, Result, is_some, not}
+use Rattle.std.proofs.lemmas.List.{map-id, take-append-drop}
+use Rattle.list_core.proofs.Lists.{drop_place}
+use Rattle.querier.specs.Gathered.{IsGathered}
+use Rattle.querier.specs.declared.answer.Answer.{Answer}
+use Rattle.querier.specs.declared.answer.Names.{Names}
+use Rattle.script_workers.specs.declared.work.Work.{Work}
+use Rattle.script_workers.specs.declared.work.Work.TheVariants as work
+use Rattle.script_running.specs.Given.{HasGiven}
+use Rattle.script_running.specs.Outcomes.{AreAllParts, IsOutcomeOf, IsQueryOutcome, answers_of, first_none, names_of, or_first, why_none}
+use Rattle.script_running.specs.declared.outcome.NoAnswer.{NoAnswer}
+use Rattle.script_running.specs.declared.outcome.Outcome.{Outcome}
+use Rattle.script_running.specs.declared.outcome.Outcome.TheVariants as outcome
+use Rattle.script_running.specs.declared.outcome.QueryOutcome.{QueryOutcome}
+use Rattle.script_running.specs.declared.outcome.QueryOutcome.TheVariants as query
+use Rattle.script_running.specs.declared.outcome.SyncOutcome.{SyncOutcome}
+use Rattle.script_running.specs.declared.outcome.UploadOutcome.{UploadOutcome}
+use Rattle.script_running.specs.declared.part.Part.{Part}
+use Rattle.script_running.specs.declared.part.Part.TheVariants as part
+use Rattle.script_running.specs.declared.part.QueryPart.{QueryPart}
+use Rattle.script_running.specs.declared.part.QueryPart.TheVariants as given
+use Rattle.script_running.specs.declared.query_parts.Given.{Given}
+use Rattle.script_running.proofs.Taking.{found}
+
+-- ---- one part more
+
+-- what one part adds
+abbrev answer_in : QueryPart → List Answer
+answer_in given.NotAsked = []
+answer_in (given.Answer own) = own ∷ []
+answer_in (given.NoAnswer why) = []
+
+abbrev names_in : ℕ → QueryPart → List Names
+names_in gateway given.NotAsked = []
+names_in gateway (given.Answer own) = record { gateway = gateway; sources = own.sources } ∷ []
+names_in gateway (given.NoAnswer why) = []
+
+answers_more : (parts : List QueryPart) (one : QueryPart) → answers_of (parts ++ one ∷ []) ≡ answers_of parts ++ answer_in one
+answers_more [] given.NotAsked = refl
+answers_more [] (given.Answer own) = refl
+answers_more [] (given.NoAnswer why) = refl
+answers_more (given.NotAsked ∷ parts) one = answers_more parts one
+answers_more (given.Answer own ∷ parts) one = ap (λ (l : List Answer). own ∷ l) (answers_more parts one)
+answers_more (given.NoAnswer why ∷ parts) one = answers_more parts one
+
+names_more : (gateway : ℕ) (parts : List QueryPart) (one : QueryPart) → names_of gateway (parts ++ one ∷ []) ≡ names_of gateway parts ++ names_in (gateway + length parts) one
+names_more gateway [] given.NotAsked = refl
+names_more gateway [] (given.Answer own) = let here : gateway ≡ gateway + 0 = omega arith in ap (λ (n : ℕ). record { gateway = n; sources = own.sources } ∷ []) here
+names_more gateway [] (given.NoAnswer why) = refl
+names_more gateway (given.NotAsked ∷ parts) one =
+    let there : gateway + 1 + length parts ≡ gateway + suc (length parts) = omega arith in
+    names_more (gateway + 1) parts one ∙ ap (λ (n : ℕ). names_of (gateway + 1) parts ++ names_in n one) there
+names_more gateway (given.Answer own ∷ parts) one =
+    let there : gateway + 1 + length parts ≡ gateway + suc (length parts) = omega arith in
+    ap (λ (l : List Names). record { gateway = gateway; sources = own.sources } ∷ l) (names_more (gateway + 1) parts one ∙ ap (λ (n : ℕ). names_of (gateway + 1) parts ++ names_in n one) there)
+names_more gateway (given.NoAnswer why ∷ parts) one =
+    let there : gateway + 1 + length parts ≡ gateway + suc (length parts) = omega arith in
+    names_more (gateway + 1) parts one ∙ ap (λ (n : ℕ). names_of (gateway + 1) parts ++ names_in n one) there
+
+-- a first one, or else another
+abbrev or_other : Option (ℕ × NoAnswer) → Option (ℕ × NoAnswer) → Option (ℕ × NoAnswer)
+or_other (Some own) others = Some own
+or_other None others = others
+
+or_both : (why : Option NoAnswer) (gateway : ℕ) (own others : Option (ℕ × NoAnswer)) → or_first why gateway (or_other own others) ≡ or_other (or_first why gateway own) others
+or_both (Some why) gateway own others = refl
+or_both None gateway own others = refl
+
+none_more : (gateway : ℕ) (parts : List QueryPart) (one : QueryPart) → first_none gateway (parts ++ one ∷ []) ≡ or_other (first_none gateway parts) (or_first (why_none one) (gateway + length parts) None)
+none_more gateway [] one = let here : gateway ≡ gateway + 0 = omega arith in ap (λ (n : ℕ). or_first (why_none one) n None) here
+none_more gateway (first ∷ parts) one =
+    let there : gateway + 1 + length parts ≡ gateway + suc (length parts) = omega arith in
+    ap (or_first (why_none first) gateway) (none_more (gateway + 1) parts one ∙ ap (λ (n : ℕ). or_other (first_none (gateway + 1) parts) (or_first (why_none one) n None)) there)
+    ∙ or_both (why_none first) gateway (first_none (gateway + 1) parts) (or_first (why_none one) (gateway + suc (length parts)) None)
+
+or_none : (own : Option (ℕ × NoAnswer)) → or_other own None ≡ own
+or_none None = refl
+or_none (Some own) = refl
+
+-- a gateway that is not asked adds nothing
+pub unasked_more : (parts : List QueryPart) (before : Given) → HasGiven parts before → HasGiven (parts ++ given.NotAsked ∷ []) before
+unasked_more parts before h = record {
+  answers = h.answers ∙ sym (append-nil (answers_of parts)) ∙ sym (answers_more parts given.NotAsked);
+  names = h.names ∙ sym (append-nil (names_of 0 parts)) ∙ sym (names_more 0 parts given.NotAsked);
+  none = h.none ∙ sym (or_none (first_none 0 parts)) ∙ sym (none_more 0 parts given.NotAsked);
+}
+
+-- an answer joins those before it
+pub answer_more : (parts : List QueryPart) (before after : Given) (gateway : ℕ) (own : Answer) (sources : List ℕ) → length parts ≡ gateway → sources ≡ own.sources
+    → after.answers ≡ before.answers ++ own ∷ [] → after.names ≡ before.names ++ record { gateway = gateway; sources = sources } ∷ [] → after.none ≡ before.none
+    → HasGiven parts before → HasGiven (parts ++ given.Answer own ∷ []) after
+answer_more parts before after gateway own sources count same answers names none h =
+    let here : gateway ≡ 0 + length parts = omega (arith, count) in
+    record {
+      answers = answers ∙ ap (λ (l : List Answer). l ++ own ∷ []) h.answers ∙ sym (answers_more parts (given.Answer own));
+      names = names ∙ ap (λ (l : List Names). l ++ record { gateway = gateway; sources = sources } ∷ []) h.names
+          ∙ ap (λ (l : List ℕ). names_of 0 parts ++ record { gateway = gateway; sources = l } ∷ []) same
+          ∙ ap (λ (n : ℕ). names_of 0 parts ++ record { gateway = n; sources = own.sources } ∷ []) here ∙ sym (names_more 0 parts (given.Answer own));
+      none = none ∙ h.none ∙ sym (or_none (first_none 0 parts)) ∙ sym (none_more 0 parts (given.Answer own));
+    }
+
+noted_by : (parts : List QueryPart) (gateway : ℕ) (why : NoAnswer) (before after : Option (ℕ × NoAnswer)) → gateway ≡ 0 + length parts → before ≡ first_none 0 parts → (before ≡ None → after ≡ Some (gateway, why)) → ((own : ℕ × NoAnswer) → before ≡ Some own → after ≡ before)
+    → after ≡ first_none 0 (parts ++ given.NoAnswer why ∷ [])
+noted_by parts gateway why None after here is first other =
+    first refl ∙ ap (λ (n : ℕ). or_other None (Some (n, why))) here ∙ ap (λ (o : Option (ℕ × NoAnswer)). or_other o (Some (0 + length parts, why))) is ∙ sym (none_more 0 parts (given.NoAnswer why))
+noted_by parts gateway why (Some own) after here is first other =
+    other own refl ∙ ap (λ (o : Option (ℕ × NoAnswer)). or_other o (Some (0 + length parts, why))) is ∙ sym (none_more 0 parts (given.NoAnswer why))
+
+-- a gateway that gave no answer is noted, if it is the first
+pub none_noted : (parts : List QueryPart) (before after : Given) (gateway : ℕ) (why : NoAnswer) → length parts ≡ gateway → after.answers ≡ before.answers → after.names ≡ before.names
+    → (before.none ≡ None → after.none ≡ Some (gateway, why)) → ((own : ℕ × NoAnswer) → before.none ≡ Some own → after.none ≡ before.none)
+    → HasGiven parts before → HasGiven (parts ++ given.NoAnswer why ∷ []) after
+none_noted parts before after gateway why count answers names first other h = record {
+  answers = answers ∙ h.answers ∙ sym (append-nil (answers_of parts)) ∙ sym (answers_more parts (given.NoAnswer why));
+  names = names ∙ h.names ∙ sym (append-nil (names_of 0 parts)) ∙ sym (names_more 0 parts (given.NoAnswer why));
+  none = noted_by parts gateway why before.none after.none (omega (arith, count)) h.none first other;
+}
+
+was_none : {X : Type 0} (o : Option X) (test : Bool) → is_some o ≡ not test → test ≡ true → o ≡ None
+was_none None test shows so = refl
+was_none (Some x) true shows so = absurd (cc (shows))
+was_none (Some x) false shows so = absurd (cc (so))
+
+was_some : {X : Type 0} (o : Option X) (test : Bool) → is_some o ≡ not test → test ≡ false → o ≢ None
+was_some None true shows so = absurd (cc (so))
+was_some None false shows so = absurd (cc (shows))
+was_some (Some x) test shows so = λ is. absurd (cc (is))
+
+-- as the test shows it
+pub none_put : (parts : List QueryPart) (before : Given) (gateway : ℕ) (why : NoAnswer) (test : Bool) → is_some before.none ≡ not test → test ≡ true → length parts ≡ gateway → HasGiven parts before
+    → HasGiven (parts ++ given.NoAnswer why ∷ []) (record { answers = before.answers; names = before.names; none = Some (gateway, why) })
+none_put parts before gateway why test shows so count h =
+    let none = was_none before.none test shows so in
+    none_noted parts before (record { answers = before.answers; names = before.names; none = Some (gateway, why) }) gateway why count refl refl (λ is. refl) (λ own is. absurd (cc (none, is))) h
+
+pub none_kept : (parts : List QueryPart) (before : Given) (gateway : ℕ) (why : NoAnswer) (test : Bool) → is_some before.none ≡ not test → test ≡ false → length parts ≡ gateway → HasGiven parts before
+    → HasGiven (parts ++ given.NoAnswer why ∷ []) (record { answers = before.answers; names = before.names; none = before.none })
+none_kept parts before gateway why test shows so count h =
+    none_noted parts before (record { answers = before.answers; names = before.names; none = before.none }) gateway why count refl refl (λ is. absurd (was_some before.none test shows so is)) (λ own is. refl) h
+
+-- what a gateway gave, as it was added
+pub unasked_added : (parts : List QueryPart) (before : Given) (one : QueryPart) → one ≡ given.NotAsked → HasGiven parts before → HasGiven (parts ++ one ∷ []) before
+unasked_added parts before one is h = subst (λ (p : QueryPart). HasGiven (parts ++ p ∷ []) before) (sym is) (unasked_more parts before h)
+
+pub answer_added : {E : Type 0} (parts : List QueryPart) (before : Given) (answers : List Answer) (names : List Names) (gateway : ℕ) (own : Answer) (sources : List ℕ) (one : QueryPart) (r : Result (Unit {0}) E)
+    → one ≡ given.Answer own → sources ≡ own.sources → OnOk r (answers ≡ before.answers ++ own ∷ []) → names ≡ before.names ++ record { gateway = gateway; sources = sources } ∷ [] → length parts ≡ gateway → HasGiven parts before
+    → OnOk r (HasGiven (parts ++ one ∷ []) (record { answers = answers; names = names; none = before.none }))
+answer_added parts before answers names gateway own sources one (Err e) is same took named count h = tt
+answer_added parts before answers names gateway own sources one (Ok tt) is same took named count h =
+    subst (λ (p : QueryPart). HasGiven (parts ++ p ∷ []) (record { answers = answers; names = names; none = before.none })) (sym is)
+    (answer_more parts before (record { answers = answers; names = names; none = before.none }) gateway own sources count same took named refl h)
+
+-- ---- the outcome
+
+pub none_first : (parts : List QueryPart) (before : Given) (gateway : ℕ) (why : NoAnswer) → HasGiven parts before → before.none ≡ Some (gateway, why) → IsQueryOutcome parts (query.NoAnswer gateway why)
+none_first parts before gateway why h is = sym h.none ∙ is
+
+pub all_answered : (parts : List QueryPart) (before : Given) (own : Answer) → HasGiven parts before → before.none ≡ None → IsGathered before.answers own → IsQueryOutcome parts (query.Answer own before.names)
+all_answered parts before own h none gathered = (sym h.none ∙ none, subst (λ (l : List Answer). IsGathered l own) h.answers gathered, h.names)
+
+-- ---- a task's outcome, by the parts that came before one, and all of them
+
+inner : (own : QueryPart) (other : QueryPart) → part.Query own ≡ part.Query other → own ≡ other
+inner own other is = cc (is)
+
+pub same_parts : (one other : List QueryPart) → map part.Query one ≡ map part.Query other → one ≡ other
+same_parts [] [] is = refl
+same_parts [] (q ∷ other) is = absurd (cc (is))
+same_parts (p ∷ one) [] is = absurd (cc (is))
+same_parts (p ∷ one) (q ∷ other) is =
+    let first : part.Query p ≡ part.Query q = cc (is) in
+    let rest : map part.Query one ≡ map part.Query other = cc (is) in
+    ap (λ (x : QueryPart). x ∷ one) (inner p q first) ∙ ap (λ (l : List QueryPart). q ∷ l) (same_parts one other rest)
+
+-- all parts were those of gateways
+pub query_whole : (own : List QueryPart) (end : QueryOutcome) (parts : List Part) → parts ≡ map part.Query own → IsQueryOutcome own end → (w : Work) → AreAllParts w parts → IsOutcomeOf w parts (outcome.Query end)
+query_whole [] end parts are is (work.Upload ulid stop) (one, only) = absurd (cc (are, only))
+query_whole (p ∷ own) end parts are is (work.Upload ulid stop) (one, only) = absurd (cc (are, only))
+query_whole [] end parts are is (work.Sync gateway) (one, only) = absurd (cc (are, only))
+query_whole (p ∷ own) end parts are is (work.Sync gateway) (one, only) = absurd (cc (are, only))
+query_whole own end parts are is (work.Query low high selector) all = (own, end, are, is, refl)
+
+-- one of them was an upload's
+pub upload_whole : (own : List QueryPart) (end : UploadOutcome) (rest parts : List Part) → parts ≡ map part.Query own ++ part.Upload end ∷ rest → (w : Work) → AreAllParts w parts → IsOutcomeOf w parts (outcome.Upload end)
+upload_whole [] end rest parts are (work.Upload ulid stop) (one, only) = let same : end ≡ one = cc (are, only) in (end, only ∙ ap (λ (x : UploadOutcome). part.Upload x ∷ []) (sym same), refl)
+upload_whole (p ∷ own) end rest parts are (work.Upload ulid stop) (one, only) = absurd (cc (are, only))
+upload_whole [] end rest parts are (work.Sync gateway) (one, only) = absurd (cc (are, only))
+upload_whole (p ∷ own) end rest parts are (work.Sync gateway) (one, only) = absurd (cc (are, only))
+upload_whole own end rest parts are (work.Query low high selector) (others, all) = absurd (no_upload own others end rest (sym are ∙ all))
+  where
+    no_upload : (own others : List QueryPart) (end : UploadOutcome) (rest : List Part) → map part.Query own ++ part.Upload end ∷ rest ≡ map part.Query others → ⊥
+    no_upload [] [] end rest is = cc (is)
+    no_upload [] (q ∷ others) end rest is = cc (is)
+    no_upload (p ∷ own) [] end rest is = cc (is)
+    no_upload (p ∷ own) (q ∷ others) end rest is = no_upload own others end rest (cc (is))
+
+-- one of them was a sync's
+pub sync_whole : (own : List QueryPart) (end : SyncOutcome) (rest parts : List Part) → parts ≡ map part.Query own ++ part.Sync end ∷ rest → (w : Work) → AreAllParts w parts → IsOutcomeOf w parts (outcome.Sync end)
+sync_whole [] end rest parts are (work.Sync gateway) (one, only) = let same : end ≡ one = cc (are, only) in (end, only ∙ ap (λ (x : SyncOutcome). part.Sync x ∷ []) (sym same), refl)
+sync_whole (p ∷ own) end rest parts are (work.Sync gateway) (one, only) = absurd (cc (are, only))
+sync_whole [] end rest parts are (work.Upload ulid stop) (one, only) = absurd (cc (are, only))
+sync_whole (p ∷ own) end rest parts are (work.Upload ulid stop) (one, only) = absurd (cc (are, only))
+sync_whole own end rest parts are (work.Query low high selector) (others, all) = absurd (no_sync own others end rest (sym are ∙ all))
+  where
+    no_sync : (own others : List QueryPart) (end : SyncOutcome) (rest : List Part) → map part.Query own ++ part.Sync end ∷ rest ≡ map part.Query others → ⊥
+    no_sync [] [] end rest is = cc (is)
+    no_sync [] (q ∷ others) end rest is = cc (is)
+    no_sync (p ∷ own) [] end rest is = cc (is)
+    no_sync (p ∷ own) (q ∷ others) end rest is = no_sync own others end rest (cc (is))
+
+-- the parts of a query so far, and one more
+pub query_more : (own : List QueryPart) (one : QueryPart) (yielded : List Part) → yielded ≡ map part.Query own → yielded ++ part.Query one ∷ [] ≡ map part.Query (own ++ one ∷ [])
+query_more own one yielded are = ap (λ (l : List Part). l ++ part.Query one ∷ []) are ∙ more own one
+  where
+    more : (own : List QueryPart) (one : QueryPart) → map part.Query own ++ part.Query one ∷ [] ≡ map part.Query (own ++ one ∷ [])
+    more [] one = refl
+    more (p ∷ own) one = ap (λ (l : List Part). part.Query p ∷ l) (more own one)
+
+-- the part that comes next is the first of those that are left
+parts_here : (parts yielded : List Part) (x : Part) → map (λ (y : Part). y) yielded ≡ take (length yielded) parts → (length yielded < length parts) × (x ≡ get_or parts (length yielded) x) → parts ≡ yielded ++ x ∷ drop (length yielded + 1) parts
+parts_here parts yielded x so_far turn =
+    let at = drop_place parts (length yielded) x (found parts (length yielded) (length yielded) x refl turn.0 turn.1) in
+    sym (take-append-drop (length yielded) parts) ∙ ap (λ (l : List Part). l ++ drop (length yielded) parts) (sym so_far ∙ map-id yielded) ∙ ap (λ (l : List Part). yielded ++ l) at
+
+next_is : (own : List QueryPart) (parts yielded : List Part) (x one : Part) → x ≡ one → yielded ≡ map part.Query own → map (λ (y : Part). y) yielded ≡ take (length yielded) parts → (length yielded < length parts) × (x ≡ get_or parts (length yielded) x)
+    → parts ≡ map part.Query own ++ one ∷ drop (length yielded + 1) parts
+next_is own parts yielded x one is are so_far turn =
+    parts_here parts yielded x so_far turn ∙ ap (λ (l : List Part). l ++ x ∷ drop (length yielded + 1) parts) are ∙ ap (λ (y : Part). map part.Query own ++ y ∷ drop (length yielded + 1) parts) is
+
+pub upload_here : (own : List QueryPart) (end : UploadOutcome) (parts yielded : List Part) (x : Part) → x ≡ part.Upload end → yielded ≡ map part.Query own → map (λ (y : Part). y) yielded ≡ take (length yielded) parts → (length yielded < length parts) × (x ≡ get_or parts (length yielded) x)
+    → (w : Work) → AreAllParts w parts → IsOutcomeOf w parts (outcome.Upload end)
+upload_here own end parts yielded x is are so_far turn = upload_whole own end (drop (length yielded + 1) parts) parts (next_is own parts yielded x (part.Upload end) is are so_far turn)
+
+pub sync_here : (own : List QueryPart) (end : SyncOutcome) (parts yielded : List Part) (x : Part) → x ≡ part.Sync end → yielded ≡ map part.Query own → map (λ (y : Part). y) yielded ≡ take (length yielded) parts → (length yielded < length parts) × (x ≡ get_or parts (length yielded) x)
+    → (w : Work) → AreAllParts w parts → IsOutcomeOf w parts (outcome.Sync end)
+sync_here own end parts yielded x is are so_far turn = sync_whole own end (drop (length yielded + 1) parts) parts (next_is own parts yielded x (part.Sync end) is are so_far turn)

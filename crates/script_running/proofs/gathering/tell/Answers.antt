@@ -1,0 +1,16 @@
+use Rattle.std.proofs.Common.{◌++◌, List, subst, take}
+use Rattle.script_workers.specs.declared.task.Task.{Task}
+use Rattle.script_running.proofs.Telling.{left_more, tasks_next, told_next}
+use Rattle.script_running.proofs.gathering.tell.Goals as goal
+
+pub loop-place-preserved : goal.loop-place-preserved
+loop-place-preserved g c =
+    let i = c.loop-place.invariant in
+    record {
+      told = told_next c.args.slots c.loop-place.slots c.loop-place.place c.args.tasks.now c.index-tasks-place.result c.args.outcomes.now c.loop-place.outcomes c.tell_one.new.outcomes i.left c.loop-place-test.true c.index-tasks-place.is i.told c.in-Ok.ensures.told;
+      left = left_more c.loop-place.place c.args.slots c.loop-place.slots c.tell_one.new.slots i.left c.in-Ok.ensures.taken;
+      reported = λ before told.
+          subst (λ (ts : List Task). g.P.Report.tells c.tell_one.new.report c.args.script.now ts c.tell_one.new.outcomes)
+          (tasks_next before c.args.tasks.now c.loop-place.place c.index-tasks-place.result c.loop-place-test.true c.index-tasks-place.is)
+          (c.in-Ok.ensures.reported (before ++ take c.loop-place.place c.args.tasks.now) (i.reported before told));
+    }

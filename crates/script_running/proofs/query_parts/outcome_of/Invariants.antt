@@ -1,0 +1,9 @@
+use Rattle.std.proofs.Common.{◌≡◌, List, length, map}
+use Rattle.script_running.specs.Given.{HasGiven}
+use Rattle.script_running.specs.declared.part.Part.TheVariants as part
+use Rattle.script_running.specs.declared.part.QueryPart.{QueryPart}
+use Rattle.script_running.proofs.query_parts.outcome_of.Given as goal
+
+-- the parts so far are those of gateways
+abbrev pub invariant-loop-part : goal.invariant-loop-part
+invariant-loop-part l = (own : List QueryPart) × (l.yielded ≡ map part.Query own) × (l.gateway ≡ length own) × HasGiven own l.given

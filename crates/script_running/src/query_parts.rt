@@ -1,0 +1,103 @@
+//! A task's outcome, from the parts of those who did it.
+
+ghost use Rattle.std.specs.Prelude.{◌≡◌, ◌<◌, ◌^◌, [], ◌∷◌, ◌++◌, List, IfOk, OnOk, length};
+ghost use Rattle.script_workers.specs.declared.work.Work.{Work};
+ghost use Rattle.script_running.specs.Given.{HasGiven};
+ghost use Rattle.script_running.specs.Outcomes.{AreAllParts, IsOutcomeOf, IsQueryOutcome};
+ghost use Rattle.script_running.specs.declared.part.QueryPart.{QueryPart};
+ghost use Rattle.script_running.specs.declared.part.QueryPart.TheVariants as gives;
+
+use crate::{NoAnswer, Outcome, Part, QueryOutcome, QueryPart};
+use list_core::{NoMemory, TryCopy};
+use querier::{Gather, Names, NamesList};
+use std::alloc::Global;
+
+/// How a task came out, by the parts of all who did it, in their order: an upload by its worker's, a sync by its gateway's, and
+/// a query by those of all gateways.
+#[tactic(auto, using(crate::proofs::GivenParts::query_whole, crate::proofs::GivenParts::upload_whole, crate::proofs::GivenParts::sync_whole))]
+pub fn outcome_of(alloc: Global, parts: Vec<Part>) -> Result<Outcome, NoMemory>
+    requires few { length parts.items < 2 ^ 32 }
+    ensures whole { (work : Work) → AreAllParts work parts.items
+        → IfOk result (IsOutcomeOf work parts.items) }
+{
+    let mut given = Given::new(alloc);
+    let mut gateway = 0;
+    for part in parts {
+        match part {
+            Part::Upload(end) => return Ok(Outcome::Upload(end)),
+            Part::Sync(end) => return Ok(Outcome::Sync(end)),
+            Part::Query(own) => given.add(gateway, own)?,
+        }
+        gateway += 1;
+    }
+    Ok(Outcome::Query(given.finish()?))
+}
+
+/// What the first gateways gave to a query.
+#[derive(Drop)]
+pub(crate) struct Given {
+    pub answers: Gather,
+    pub names: NamesList,
+    /// The first of them that gave no answer, and why.
+    pub none: Option<(u32, NoAnswer)>,
+}
+
+impl Given {
+    fn new(alloc: Global) -> Given
+        ensures { HasGiven [] result }
+    {
+        Given {
+            answers: Gather::new(alloc),
+            names: NamesList::new(alloc),
+            none: None,
+        }
+    }
+
+    /// Adds what the next gateway gave.
+    #[tactic(auto, using(crate::proofs::GivenParts::unasked_more, crate::proofs::GivenParts::answer_more))]
+    fn add(&mut self, gateway: u32, part: QueryPart) -> Result<(), NoMemory>
+        ensures { (parts : List QueryPart) → length parts ≡ gateway → HasGiven parts self.old
+            → OnOk result (HasGiven (parts ++ part ∷ []) self.new) }
+    {
+        match part {
+            QueryPart::NotAsked => Ok(()),
+            QueryPart::Answer(answer) => {
+                let sources = answer.sources.copy()?;
+                self.names.push(Names { gateway, sources })?;
+                self.answers.take(answer)
+            }
+            QueryPart::NoAnswer(why) => {
+                self.note_none(gateway, why);
+                Ok(())
+            }
+        }
+    }
+
+    /// A gateway gave no answer: it is noted, if it is the first.
+    #[tactic(auto, using(crate::proofs::GivenParts::none_noted))]
+    fn note_none(&mut self, gateway: u32, why: NoAnswer)
+        ensures { (parts : List QueryPart) → length parts ≡ gateway → HasGiven parts self.old
+            → HasGiven (parts ++ gives.NoAnswer why ∷ []) self.new }
+    {
+        if self.none.is_none() {
+            self.none = Some((gateway, why));
+        }
+    }
+
+    /// How the query comes out.
+    #[tactic(auto, using(crate::proofs::GivenParts::none_first, crate::proofs::GivenParts::all_answered))]
+    fn finish(self) -> Result<QueryOutcome, NoMemory>
+        ensures { (parts : List QueryPart) → HasGiven parts self
+            → IfOk result (IsQueryOutcome parts) }
+    {
+        let Given {
+            answers,
+            names,
+            none,
+        } = self;
+        match none {
+            Some((gateway, why)) => Ok(QueryOutcome::NoAnswer(gateway, why)),
+            None => Ok(QueryOutcome::Answer(answers.finish()?, names)),
+        }
+    }
+}
