@@ -1,6 +1,6 @@
 -- Where every task has ended well, every outcome is as asked.
-use Rattle.std.proofs.Common.{◌≡◌, inl, inr, ℕ, zero, suc, ◌+◌, Bool, true, List, [], ◌∷◌, Contains, Option, refl, ◌∙◌, ap, subst, arith}
-use Rattle.std.specs.List.{AllZip, list_all, zip}
+use Rattle.std.proofs.Common.{◌≡◌, inl, inr, ℕ, zero, suc, ◌+◌, Bool, true, List, [], ◌∷◌, Contains, Option, refl, ◌∙◌, ap, subst, arith, ℤ, None, map, sym}
+use Rattle.std.specs.List.{AllZip, list_all, zip, AllByRecursion}
 use Rattle.std.proofs.lemmas.List.Folds.{list_all-append}
 use Rattle.std.proofs.lemmas.Bool.{and_from}
 use Rattle.world_core.specs.Standing.{IsHonest}
@@ -26,16 +26,21 @@ use Rattle.lifecycle_core.specs.Conducts.{CameTo}
 use Rattle.lifecycle_core.specs.Holdings.{Use}
 use Rattle.lifecycle_core.specs.Phases.{by_workers}
 use Rattle.lifecycle_core.specs.Setting.{Setting}
-use Rattle.lifecycle_core.specs.Tasks.{End, answered, stopped, synced, uploaded, without_view}
+use Rattle.lifecycle_core.specs.Tasks.{End, answered, not_asked, stopped, synced, uploaded, without_view}
 use Rattle.lifecycle_core.specs.Ways.{AreFinished, AreInTurn, Way}
 use Rattle.list_core.proofs.Membership.{contains_first, contains_later, member_cases, no_member}
-use Rattle.script_running.specs.Outcomes.{AreOne, IsOutcome, IsPart, IsQueryOutcome, PhasesCame, TasksCame, call_outcome, sync_outcome, upload_outcome}
+use Rattle.script_running.specs.Outcomes.{IsOutcome, IsOutcomeOf, IsPart, IsQueryOutcome, PhasesCame, TasksCame, call_part, first_none, sync_outcome, upload_outcome, why_none}
 use Rattle.script_running.specs.Outcomes.{is_as_asked}
 use Rattle.replay_cli.specs.Verdicts.{IsWholeRun}
 use Rattle.script_running.specs.declared.outcome.Outcome.{Outcome}
 use Rattle.script_running.specs.declared.outcome.Outcome.TheVariants as outcome
 use Rattle.script_running.specs.declared.outcome.QueryOutcome.{QueryOutcome}
 use Rattle.script_running.specs.declared.outcome.QueryOutcome.TheVariants as query
+use Rattle.script_running.specs.declared.outcome.UploadOutcome.TheVariants as upload
+use Rattle.script_running.specs.declared.part.Part.{Part}
+use Rattle.script_running.specs.declared.part.Part.TheVariants as part
+use Rattle.script_running.specs.declared.part.QueryPart.{QueryPart}
+use Rattle.script_running.specs.declared.part.QueryPart.TheVariants as given
 
 -- ---- one task
 
@@ -50,43 +55,60 @@ sync_asked (fetched.Fault entry) well = absurd well
 sync_asked (fetched.Damaged entry) well = absurd well
 sync_asked fetched.TooMany well = absurd well
 
-call_asked : (gateway : ℕ) (used : Use) (end : SeriesEnd) → IsWell (answered used end) → is_as_asked (outcome.Query (call_outcome gateway end)) ≡ true
-call_asked gateway used (called.Answer series sources) well = refl
-call_asked gateway used (called.Missing entry) well = absurd well
-call_asked gateway used (called.Damaged entry) well = absurd well
-call_asked gateway used (called.Fault entry) well = absurd well
+-- a part that is as asked
+abbrev IsFine : Part → Type 0
+IsFine (part.Upload end) = is_as_asked (outcome.Upload end) ≡ true
+IsFine (part.Sync end) = is_as_asked (outcome.Sync end) ≡ true
+IsFine (part.Query own) = why_none own ≡ None
 
-asked_as : (o p : Outcome) → o ≡ p → is_as_asked p ≡ true → is_as_asked o ≡ true
-asked_as o p is asked = ap is_as_asked is ∙ asked
+call_fine : (used : Use) (end : SeriesEnd) → IsWell (answered used end) → why_none (call_part end) ≡ None
+call_fine used (called.Answer series sources) well = refl
+call_fine used (called.Missing entry) well = absurd well
+call_fine used (called.Damaged entry) well = absurd well
+call_fine used (called.Fault entry) well = absurd well
 
-part_asked : (gateway : ℕ) (end : End) (o : Outcome) → IsWell end → IsPart gateway end o → is_as_asked o ≡ true
-part_asked gateway (answered used e) o well is = asked_as o _ is (call_asked gateway used e well)
-part_asked gateway without_view o well is = absurd well
-part_asked gateway (uploaded e) o well is = absurd is
-part_asked gateway (synced e) o well is = absurd is
-part_asked gateway (stopped count) o well is = absurd is
+fine_as : (one other : Part) → one ≡ other → IsFine other → IsFine one
+fine_as one other is fine = subst IsFine (sym is) fine
 
-both_asked : (own others : QueryOutcome) (o : Outcome) → is_as_asked (outcome.Query own) ≡ true → is_as_asked (outcome.Query others) ≡ true → AreOne own others o → is_as_asked o ≡ true
-both_asked (query.NoAnswer gateway why) others o first rest is = absurd (cc (first))
-both_asked (query.Answer series sources) (query.NoAnswer gateway why) o first rest is = absurd (cc (rest))
-both_asked (query.Answer series sources) (query.Answer more named) o first rest (all, merge, is) = asked_as o _ is refl
+part_fine : (w : Work) (end : End) (one : Part) → IsWell end → IsPart w end one → IsFine one
+part_fine (work.Upload ulid stop) (uploaded e) one well is = fine_as one (part.Upload (upload_outcome e)) is (upload_asked e well)
+part_fine (work.Upload ulid stop) (stopped count) one well is = fine_as one (part.Upload (upload.Stopped count)) is refl
+part_fine (work.Sync gateway) (synced e) one well is = fine_as one (part.Sync (sync_outcome e)) is (sync_asked e well)
+part_fine (work.Query low high n) (answered used e) one well is = fine_as one (part.Query (call_part e)) is (call_fine used e well)
+part_fine (work.Query low high n) without_view one well is = absurd well
+part_fine (work.Query low high n) not_asked one well is = fine_as one (part.Query given.NotAsked) is refl
+part_fine w end one well is = absurd is
 
 abbrev AreWell : List End → Type 0
 AreWell ends = (end : End) → Contains ends end → IsWell end
 
-query_asked : (gateway : ℕ) (ends : List End) (o : Outcome) → AreWell ends → IsQueryOutcome gateway ends o → is_as_asked o ≡ true
-query_asked gateway [] o well is = asked_as o _ is refl
-query_asked gateway (end ∷ []) o well is = part_asked gateway end o (well end (contains_first end [])) is
-query_asked gateway (end ∷ next ∷ ends) o well (own, others, first, rest, both) =
-    both_asked own others o (part_asked gateway end (outcome.Query own) (well end (contains_first end (next ∷ ends))) first)
-    (query_asked (gateway + 1) (next ∷ ends) (outcome.Query others) (λ e among. well e (contains_later end e (next ∷ ends) among)) rest) both
+parts_fine : (w : Work) (own : List End) (parts : List Part) → AreWell own → AllZip (IsPart w) own parts → AllByRecursion IsFine parts
+parts_fine w [] [] well all = tt
+parts_fine w [] (one ∷ parts) well all = absurd all
+parts_fine w (end ∷ own) [] well all = absurd all
+parts_fine w (end ∷ own) (one ∷ parts) well all =
+    (part_fine w end one (well end (contains_first end own)) all.0, parts_fine w own parts (λ e among. well e (contains_later end e own among)) all.1)
+
+none_told : (gateway : ℕ) (own : List QueryPart) → AllByRecursion IsFine (map part.Query own) → first_none gateway own ≡ None
+none_told gateway [] fine = refl
+none_told gateway (given.NotAsked ∷ own) fine = none_told (gateway + 1) own fine.1
+none_told gateway (given.Answer a ∷ own) fine = none_told (gateway + 1) own fine.1
+none_told gateway (given.NoAnswer why ∷ own) fine = absurd (let none = fine.0 in cc (none))
+
+query_asked : (own : List QueryPart) (end : QueryOutcome) → AllByRecursion IsFine (map part.Query own) → IsQueryOutcome own end → is_as_asked (outcome.Query end) ≡ true
+query_asked own (query.Answer answer names) fine is = refl
+query_asked own (query.NoAnswer gateway why) fine is = absurd (let none = none_told 0 own fine in cc (none, is))
+
+asked_as : (o p : Outcome) → o ≡ p → is_as_asked p ≡ true → is_as_asked o ≡ true
+asked_as o p is asked = ap is_as_asked is ∙ asked
+
+of_asked : (w : Work) (parts : List Part) (o : Outcome) → AllByRecursion IsFine parts → IsOutcomeOf w parts o → is_as_asked o ≡ true
+of_asked (work.Upload ulid stop) parts o fine (end, are, is) = asked_as o (outcome.Upload end) is (subst (AllByRecursion IsFine) are fine).0
+of_asked (work.Sync gateway) parts o fine (end, are, is) = asked_as o (outcome.Sync end) is (subst (AllByRecursion IsFine) are fine).0
+of_asked (work.Query low high n) parts o fine (own, end, are, is, same) = asked_as o (outcome.Query end) same (query_asked own end (subst (AllByRecursion IsFine) are fine) is)
 
 outcome_asked : (w : Work) (own : List End) (o : Outcome) → AreWell own → IsOutcome w own o → is_as_asked o ≡ true
-outcome_asked (work.Upload ulid stop) (uploaded e ∷ []) o well is = asked_as o _ is (upload_asked e (well (uploaded e) (contains_first (uploaded e) [])))
-outcome_asked (work.Upload ulid stop) (stopped count ∷ []) o well is = asked_as o _ is refl
-outcome_asked (work.Sync gateway) (synced e ∷ []) o well is = asked_as o _ is (sync_asked e (well (synced e) (contains_first (synced e) [])))
-outcome_asked (work.Query low high n) own o well is = query_asked 0 own o well is
-outcome_asked w own o well is = absurd is
+outcome_asked w own o well (parts, zipped, of) = of_asked w parts o (parts_fine w own parts well zipped) of
 
 -- ---- the ends of workers
 

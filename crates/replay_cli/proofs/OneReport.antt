@@ -1,16 +1,15 @@
 -- A journal tells the report: two whole runs of one script that leave one journal print the same.
 use Rattle.list_core.proofs.Membership.{any_of_member, contains_first, contains_later, each_member, member_cases, no_member}
-use Rattle.std.proofs.Common.{◌≡◌, inl, inr, ℕ, ◌+◌, Bool, true, false, List, [], ◌∷◌, ◌++◌, Contains, Option, Some, None, refl, sym, ◌∙◌, ap, ap₂, subst, arith}
+use Rattle.std.proofs.Common.{◌≡◌, inl, inr, ℕ, ◌+◌, Bool, true, false, List, [], ◌∷◌, ◌++◌, Contains, Option, Some, None, refl, sym, ◌∙◌, ap, ap₂, subst, arith, map}
 use Rattle.std.specs.Prelude.{slice_get}
 use Rattle.std.specs.List.{AllZip, list_all, list_any, zip}
 use Rattle.std.specs.List.Sorted.{IsStrictlySortedBy}
 use Rattle.std.specs.Ordering.{nat_cmp}
 use Rattle.std.specs.declared.cmp.Ordering.TheVariants.{Less}
 use Rattle.std.proofs.lemmas.Bool.Decides.{nat_tests}
+use Rattle.std.proofs.lemmas.Option.{same_Some}
 use Rattle.std.proofs.lemmas.List.Elements.{All-contains}
-use Rattle.label_sets.specs.Triples.{triples_of}
 use Rattle.label_sets.specs.declared.series.Series.{Series}
-use Rattle.block_meta.specs.Lawful.{ascending}
 use Rattle.world_core.specs.declared.entry.Entry.{Entry}
 use Rattle.script_workers.specs.Hands.{gateway_count, gateway_of, hands_of, hands_of_task, places_from, same_hand, seats_after, worker_of, workers_from}
 use Rattle.script_workers.specs.Whose.{IsFor, IsTaskOf, asks, ships, syncs}
@@ -26,17 +25,25 @@ use Rattle.script_core.specs.Workers.{seats_before, workers_after, workers_of}
 use Rattle.script_core.specs.declared.script.Script.{Script}
 use Rattle.lifecycle_core.specs.Conducts.{CameTo}
 use Rattle.lifecycle_core.specs.Setting.{Setting}
-use Rattle.lifecycle_core.specs.Tasks.{End, answered, stopped, synced, uploaded, without_view}
+use Rattle.lifecycle_core.specs.Tasks.{End, answered, not_asked, stopped, synced, uploaded, without_view}
 use Rattle.vertical_merge.proofs.OneMerge.{one_merge}
 use Rattle.lifecycle_core.proofs.phases.Duties.{same_self}
 use Rattle.lifecycle_core.proofs.phases.HandLists.{Apart, joins_from}
 use Rattle.lifecycle_core.proofs.phases.OneCut.{cut_is_unfinished, cuts_tell}
 use Rattle.lifecycle_core.proofs.phases.OneEnding.{ends_tell}
-use Rattle.script_running.specs.Outcomes.{AreOne, IsOutcome, IsPart, IsQueryOutcome, PhasesCame, TaskCame, TasksCame, is_as_asked}
+use Rattle.script_running.specs.Outcomes.{IsOutcome, IsOutcomeOf, IsPart, IsQueryOutcome, PhasesCame, TaskCame, TasksCame, answers_of, is_as_asked}
+use Rattle.script_running.proofs.GivenParts.{same_parts}
+use Rattle.script_running.specs.declared.outcome.NoAnswer.{NoAnswer}
 use Rattle.script_running.specs.declared.outcome.Outcome.{Outcome}
 use Rattle.script_running.specs.declared.outcome.Outcome.TheVariants as outcome
 use Rattle.script_running.specs.declared.outcome.QueryOutcome.{QueryOutcome}
 use Rattle.script_running.specs.declared.outcome.QueryOutcome.TheVariants as query
+use Rattle.script_running.specs.declared.part.Part.{Part}
+use Rattle.script_running.specs.declared.part.Part.TheVariants as part
+use Rattle.script_running.specs.declared.part.QueryPart.{QueryPart}
+use Rattle.querier.specs.Gathered.{IsGathered, gathered_samples}
+use Rattle.querier.specs.declared.answer.Answer.{Answer}
+use Rattle.querier.specs.declared.answer.Names.{Names}
 use Rattle.replay_cli.specs.Verdicts.{IsFullRun, IsReport, IsWholeRun, report_of, tasks_of}
 
 -- ---- one worker does a task
@@ -149,33 +156,52 @@ module _ (gateways : ℕ) (tasks : List Task) where
 
 -- ---- outcomes
 
-part_once : (gateway : ℕ) (end : End) (one other : Outcome) → IsPart gateway end one → IsPart gateway end other → one ≡ other
-part_once gateway (answered used end) one other is so = is ∙ sym so
-part_once gateway without_view one other is so = is ∙ sym so
-part_once gateway (uploaded end) one other is so = absurd is
-part_once gateway (synced end) one other is so = absurd is
-part_once gateway (stopped count) one other is so = absurd is
+part_once : (w : Work) (end : End) (one other : Part) → IsPart w end one → IsPart w end other → one ≡ other
+part_once (work.Upload ulid stop) (uploaded end) one other is so = is ∙ sym so
+part_once (work.Upload ulid stop) (stopped count) one other is so = is ∙ sym so
+part_once (work.Sync gateway) (synced end) one other is so = is ∙ sym so
+part_once (work.Query low high selector) (answered used end) one other is so = is ∙ sym so
+part_once (work.Query low high selector) without_view one other is so = is ∙ sym so
+part_once (work.Query low high selector) not_asked one other is so = is ∙ sym so
+part_once w end one other is so = absurd is
 
-both_once : (own others : QueryOutcome) (one other : Outcome) → AreOne own others one → AreOne own others other → one ≡ other
-both_once (query.NoAnswer gateway why) others one other is so = is ∙ sym so
-both_once (query.Answer series sources) (query.NoAnswer gateway why) one other is so = is ∙ sym so
-both_once (query.Answer series sources) (query.Answer more named) one other (all, merge, is) (also, merges, so) =
-    is ∙ ap (λ (s : List Series). outcome.Query (query.Answer s (ascending (sources ++ named)))) (one_merge (triples_of series ++ triples_of more) all also merge merges) ∙ sym so
+parts_once : (w : Work) (ends : List End) (one other : List Part) → AllZip (IsPart w) ends one → AllZip (IsPart w) ends other → one ≡ other
+parts_once w [] [] [] a b = refl
+parts_once w [] [] (q ∷ other) a b = absurd b
+parts_once w [] (p ∷ one) other a b = absurd a
+parts_once w (end ∷ ends) [] other a b = absurd a
+parts_once w (end ∷ ends) (p ∷ one) [] a b = absurd b
+parts_once w (end ∷ ends) (p ∷ one) (q ∷ other) a b =
+    ap (λ (x : Part). x ∷ one) (part_once w end p q a.0 b.0) ∙ ap (λ (l : List Part). q ∷ l) (parts_once w ends one other a.1 b.1)
 
-query_once : (gateway : ℕ) (ends : List End) (one other : Outcome) → IsQueryOutcome gateway ends one → IsQueryOutcome gateway ends other → one ≡ other
-query_once gateway [] one other is so = is ∙ sym so
-query_once gateway (end ∷ []) one other is so = part_once gateway end one other is so
-query_once gateway (end ∷ next ∷ ends) one other (own, others, first, rest, both) (own', others', first', rest', both') =
-    let here : own ≡ own' = cc (part_once gateway end (outcome.Query own) (outcome.Query own') first first') in
-    let there : others ≡ others' = cc (query_once (gateway + 1) (next ∷ ends) (outcome.Query others) (outcome.Query others') rest rest') in
-    both_once own others one other both (subst (λ (q : QueryOutcome). AreOne q others other) (sym here) (subst (λ (q : QueryOutcome). AreOne own' q other) (sym there) both'))
+-- one answer is gathered
+answer_once : (answers : List Answer) (one other : Answer) → IsGathered answers one → IsGathered answers other → one ≡ other
+answer_once answers one other a b =
+    ap (λ (s : List Series). record { series = s; sources = one.sources }) (one_merge (gathered_samples answers) one.series other.series a.merged b.merged)
+    ∙ ap (λ (l : List ℕ). record { series = other.series; sources = l }) (a.sources ∙ sym b.sources)
 
-outcome_once : (w : Work) (own : List End) (one other : Outcome) → IsOutcome w own one → IsOutcome w own other → one ≡ other
-outcome_once (work.Upload ulid stop) (uploaded end ∷ []) one other is so = is ∙ sym so
-outcome_once (work.Upload ulid stop) (stopped count ∷ []) one other is so = is ∙ sym so
-outcome_once (work.Sync gateway) (synced end ∷ []) one other is so = is ∙ sym so
-outcome_once (work.Query low high selector) own one other is so = query_once 0 own one other is so
-outcome_once w own one other is so = absurd is
+query_once : (own : List QueryPart) (one other : QueryOutcome) → IsQueryOutcome own one → IsQueryOutcome own other → one ≡ other
+query_once own (query.NoAnswer gateway why) (query.NoAnswer other because) is so =
+    let same : ◌≡◌ {A = ℕ × NoAnswer} (gateway, why) (other, because) = same_Some (gateway, why) (other, because) (sym is ∙ so) in
+    ap (λ (p : ℕ × NoAnswer). query.NoAnswer p.0 p.1) same
+query_once own (query.NoAnswer gateway why) (query.Answer other names) is so = absurd (cc (is, so.0))
+query_once own (query.Answer one names) (query.NoAnswer gateway why) is so = absurd (cc (is.0, so))
+query_once own (query.Answer one names) (query.Answer other others) is so =
+    ap (λ (x : Answer). query.Answer x names) (answer_once (answers_of own) one other is.1 so.1)
+    ∙ ap (λ (l : List Names). query.Answer other l) (is.2 ∙ sym so.2)
+
+of_once : (w : Work) (parts : List Part) (one other : Outcome) → IsOutcomeOf w parts one → IsOutcomeOf w parts other → one ≡ other
+of_once (work.Upload ulid stop) parts one other (end, is, o) (also, so, p) =
+    let same : end ≡ also = cc (is, so) in o ∙ ap outcome.Upload same ∙ sym p
+of_once (work.Sync gateway) parts one other (end, is, o) (also, so, p) =
+    let same : end ≡ also = cc (is, so) in o ∙ ap outcome.Sync same ∙ sym p
+of_once (work.Query low high selector) parts one other (own, end, are, is, o) (too, also, so_are, so, p) =
+    let same : own ≡ too = same_parts own too (sym are ∙ so_are) in
+    o ∙ ap outcome.Query (query_once own end also is (subst (λ (l : List QueryPart). IsQueryOutcome l also) (sym same) so)) ∙ sym p
+
+pub outcome_once : (w : Work) (own : List End) (one other : Outcome) → IsOutcome w own one → IsOutcome w own other → one ≡ other
+outcome_once w own one other (parts, zipped, of) (others, also, so) =
+    of_once w parts one other of (subst (λ (l : List Part). IsOutcomeOf w l other) (sym (parts_once w own parts others zipped also)) so)
 
 module _ (script : Script) where
   came_after : (before : ℕ) (o : Option Phase) (ends : List (List End)) (gateway : Option ℕ) (place : ℕ) (one other : End) → CameTo (workers_after script before o) ends gateway place one → CameTo (workers_after script before o) ends gateway place other → one ≡ other

@@ -1,15 +1,19 @@
--- One task of a script: its run in line, and what it came to.
-use Rattle.std.proofs.Common.{◌≡◌, ◌≢◌, ℕ, ℤ, zero, suc, ◌<◌, ◌≤◌, Bool, true, false, List, [], ◌∷◌, ◌++◌, length, map, refl, sym, ◌∙◌, ap, subst, inl, inr, arith}
-use Rattle.std.specs.Prelude.{◌==◌, Option, Some, None, slice_get, Ok, Err}
-use Rattle.std.specs.List.{All, range_with_len}
+-- One task of a script: its parts, one after another, and what it came to.
+use Rattle.std.proofs.Common.{◌≡◌, ◌≢◌, ℕ, ℤ, zero, suc, ◌+◌, ◌<◌, ◌≤◌, Bool, true, false, List, [], ◌∷◌, ◌++◌, length, length-append, map, drop, refl, sym, ◌∙◌, ap, subst, inl, inr, arith, append_assoc}
+use Rattle.std.specs.Prelude.{◌==◌, Option, Some, None, option_map, slice_get, IfOk, IfSome, Result, Ok, Err}
+use Rattle.std.specs.List.{All, AllZip, range_with_len}
 use Rattle.std.proofs.Math.ListN.{set}
-use Rattle.std.proofs.lemmas.List.Elements.{All-push}
-use Rattle.std.proofs.lemmas.Bool.Decides.{Decides-eqb, nat_tests}
-use Rattle.std.proofs.lemmas.List.{append-nil}
+use Rattle.std.proofs.lemmas.List.Elements.{All-cons, All-nil, All-push}
+use Rattle.std.proofs.lemmas.Bool.Decides.{nat_tests}
+use Rattle.std.proofs.lemmas.List.{append-nil, drop_all, length-map}
+use Rattle.std.proofs.lemmas.Option.{slice_get_within}
+use Rattle.list_core.proofs.Lists.{drop_none, drop_place}
 use Rattle.world_core.specs.Operations.{entry_of}
 use Rattle.world_core.specs.declared.entry.Entry.{Entry}
 use Rattle.meta_fetcher.specs.declared.view.View.{View}
 use Rattle.store_gateway.specs.declared.gateway.Gateway.{Gateway}
+use Rattle.script_core.specs.Lawful.{IsLawfulScript, IsLawfulWork}
+use Rattle.script_core.specs.declared.script.Script.{Script}
 use Rattle.script_workers.specs.Hands.{gateway_count, gateway_of, hands_of_task}
 use Rattle.script_workers.specs.declared.hand.Hand.{Hand}
 use Rattle.script_workers.specs.declared.hand.Hand.TheVariants as hands
@@ -20,87 +24,39 @@ use Rattle.lifecycle_core.specs.Holdings.{Holding, Holdings, holding_of, nothing
 use Rattle.lifecycle_core.specs.InLine.{Duty, InLine, duties_from, who_does}
 use Rattle.lifecycle_core.specs.Setting.{Setting}
 use Rattle.lifecycle_core.specs.Tasks.{End, TaskRun}
+use Rattle.lifecycle_core.proofs.phases.Joined.{MayAllBegin, duties_begin, nothing}
+use Rattle.lifecycle_core.proofs.phases.RunsInLine.{may_begin}
 use Rattle.script_running.specs.Drives.{Came}
-use Rattle.script_running.specs.Outcomes.{IsOutcome}
-use Rattle.script_running.specs.Tasks.{CameBy, Does, HasDone, IsDueAfter, Sees}
-use Rattle.script_running.proofs.TaskSteps.{when_full}
+use Rattle.script_running.specs.Outcomes.{IsOutcome, IsOutcomeOf, IsPart}
+use Rattle.script_running.specs.Tasks.{CameBy, Does, HasDone, IsDueAfter, Sees, WhenFull}
+use Rattle.script_running.specs.declared.came.Broken.{Broken}
 use Rattle.script_running.specs.declared.came.Broken.TheVariants as broken
-use Rattle.script_running.specs.declared.outcome.Outcome.TheVariants as outcome
-use Rattle.script_running.specs.declared.outcome.QueryOutcome.TheVariants as query
-use Rattle.replay_cli.specs.Progress.{IsDueInLine, IsOnlyHand, IsWhole, Shows, TaskStep, duties_at}
+use Rattle.script_running.specs.declared.outcome.Outcome.{Outcome}
+use Rattle.script_running.specs.declared.part.Part.{Part}
+use Rattle.replay_cli.specs.Progress.{IsDueInLine, IsWhole, PartStep, Shows, TaskStep, duties_at}
 
--- the entries of a task that has one hand, which came to this end or broke off
-abbrev one_end : Option End → List End
-one_end (Some end) = end ∷ []
-one_end None = []
+-- ---- one part
 
-one_run : (setting : Setting) (seat : Hand → ℕ) (views : Holdings) (duty : Duty) (made : List Entry) (end : Option End) (held : Holding) → All (λ e. e.seat ≡ seat duty.hand) made
-    → TaskRun setting (who_does seat duty.hand) duty.place duty.task.work (holding_of views (gateway_of duty.hand)) made end held → InLine setting seat views (duty ∷ []) made (one_end end) (with_holding views (gateway_of duty.hand) held)
-one_run setting seat views duty made (Some end) held seats run = inl (made, [], end, [], held, sym (append-nil made), seats, run, refl, (refl, refl, refl))
-one_run setting seat views duty made None held seats run = inr (held, seats, run, refl, refl)
+-- a worker's part that it did from its seat, with a view
+pub part_step : (setting : Setting) (seat : Hand → ℕ) (own : ℕ) (place : ℕ) (task : Task) (hand : Hand) (views : Holdings) (gateways : List Gateway) (old new : List Entry) (view : Option View) (came : Came) → own ≡ seat hand
+    → (d : HasDone setting (who_does seat hand) place task.work (holding_of views (gateway_of hand)) own old new view came) → Shows (with_holding views (gateway_of hand) d.after) gateways → PartStep setting seat place task hand views gateways old new came
+part_step setting seat own place task hand views gateways old new view came same d shows = record {
+  made = d.made;
+  entries = d.entries;
+  seats = subst (λ (s : ℕ). All (λ (e : Entry). e.seat ≡ s) d.made) same d.seats;
+  end = d.end;
+  after = d.after;
+  run = d.run;
+  shows = shows;
+  by = d.by;
+  due = subst (λ (s : ℕ). WhenFull came (IsDueAfter (Does setting (who_does seat hand) place task.work (holding_of views (gateway_of hand))) s d.made)) same d.due;
+}
 
-whole_by : (setting : Setting) (place : ℕ) (task : Task) (duty : Duty) (end : Option End) (came : Came) → duties_at setting place (task ∷ []) ≡ duty ∷ [] → CameBy task.work end came
-    → IsWhole setting place task (one_end end) came
-whole_by setting place task duty (Some end) (Ok o) are by = (sym (ap (length {A = Duty}) are), by)
-whole_by setting place task duty (Some end) (Err broken.Full) are by = absurd by
-whole_by setting place task duty (Some end) (Err broken.NoMemory) are by = tt
-whole_by setting place task duty None (Ok o) are by = absurd by
-whole_by setting place task duty None (Err broken.Full) are by = omega (arith, ap (length {A = Duty}) are)
-whole_by setting place task duty None (Err broken.NoMemory) are by = tt
-
--- ---- what is due where the journal was full
-
-one_more : (seat : ℕ) (made : List Entry) (e : Entry) → All (λ (x : Entry). x.seat ≡ seat) made → e.seat ≡ seat → All (λ (x : Entry). x.seat ≡ seat) (made ++ e ∷ [])
-one_more seat made e seats own = All-push (λ (x : Entry). x.seat ≡ seat) made e seats own
-
-due_in_line : (setting : Setting) (seat : Hand → ℕ) (views : Holdings) (duty : Duty) (duties : List Duty) (made : List Entry) → duties ≡ duty ∷ [] → All (λ e. e.seat ≡ seat duty.hand) made
-    → IsDueAfter (Does setting (who_does seat duty.hand) duty.place duty.task.work (holding_of views (gateway_of duty.hand))) (seat duty.hand) made → IsDueInLine setting seat views duties made
-due_in_line setting seat views duty duties made are seats d =
-    subst (λ (ds : List Duty). IsDueInLine setting seat views ds made) (sym are) (
-      seat duty.hand,
-      (
-        d.0,
-        d.1,
-        λ seen answer.
-            let e = entry_of (seat duty.hand) d.0 seen in
-            let next = d.2 seen answer in
-            ((one_end next.0, with_holding views (gateway_of duty.hand) next.1.0), one_run setting seat views duty (made ++ e ∷ []) next.0 next.1.0 (one_more (seat duty.hand) made e seats refl) next.1.1),
-      ),
-    )
-
--- a task that one worker did
-step_at : (setting : Setting) (seat : Hand → ℕ) (place : ℕ) (task : Task) (hand : Hand) (views : Holdings) (gateways : List Gateway) (old new : List Entry) (view : Option View) (came : Came) → IsOnlyHand setting place task hand
-    → (d : HasDone setting (who_does seat hand) place task.work (holding_of views (gateway_of hand)) (seat hand) old new view came) → Shows (with_holding views (gateway_of hand) d.after) gateways
-    → TaskStep setting seat place task views gateways old new came
-step_at setting seat place task hand views gateways old new view came are d shows =
-    let duty : Duty = record { place = place; hand = hand; task = task } in
-    record {
-      made = d.made;
-      entries = d.entries;
-      ends = one_end d.end;
-      after = with_holding views (gateway_of hand) d.after;
-      run = subst (λ (ds : List Duty). InLine setting seat views ds d.made (one_end d.end) (with_holding views (gateway_of hand) d.after)) (sym are) (one_run setting seat views duty d.made d.end d.after d.seats d.run);
-      shows = shows;
-      whole = whole_by setting place task duty d.end came are d.by;
-      due = when_full came (IsDueAfter (Does setting (who_does seat hand) place task.work (holding_of views (gateway_of hand))) (seat hand) d.made) (IsDueInLine setting seat views (duties_at setting place (task ∷ [])) d.made)
-          (λ due. due_in_line setting seat views duty (duties_at setting place (task ∷ [])) d.made are d.seats due) d.due;
-    }
-
-one_duty : (setting : Setting) (place : ℕ) (task : Task) (hand : Hand) → hands_of_task (gateway_count setting.script.gateways) place task.work ≡ hand ∷ [] → IsOnlyHand setting place task hand
-unfolding duties_from
-one_duty setting place task hand is = ap (λ hs. map (λ h. record { place = place; hand = h; task = task }) hs ++ []) is
-
--- ---- an upload
-
-pub upload_for : (setting : Setting) (place : ℕ) (task : Task) (ulid : ℕ) (stop : Option ℕ) → task.work ≡ works.Upload ulid stop → IsOnlyHand setting place task (hands.Upload place)
-unfolding hands_of_task
-upload_for setting place task ulid stop w = one_duty setting place task (hands.Upload place) (ap (hands_of_task (gateway_count setting.script.gateways) place) w)
-
-pub upload_step : (setting : Setting) (seat : Hand → ℕ) (own : ℕ) (place : ℕ) (task : Task) (views : Holdings) (gateways : List Gateway) (old new : List Entry) (view : Option View) (came : Came) (ulid : ℕ) (stop : Option ℕ) → task.work ≡ works.Upload ulid stop
-    → own ≡ seat (hands.Upload place) → HasDone setting (who_does seat (hands.Upload place)) place task.work nothing_held own old new view came → Shows views gateways → TaskStep setting seat place task views gateways old new came
-upload_step setting seat own place task views gateways old new view came ulid stop w same d shows =
-    step_at setting seat place task (hands.Upload place) views gateways old new view came (upload_for setting place task ulid stop w)
-    (subst (λ (s : ℕ). HasDone setting (who_does seat (hands.Upload place)) place task.work nothing_held s old new view came) same d) shows
+pub upload_step : (setting : Setting) (seat : Hand → ℕ) (own : ℕ) (place number : ℕ) (task : Task) (hand : Hand) (views : Holdings) (gateways : List Gateway) (old new : List Entry) (view : Option View) (came : Came) → hand ≡ hands.Upload number → own ≡ seat hand
+    → HasDone setting (who_does seat (hands.Upload number)) place task.work nothing_held own old new view came → Shows views gateways → PartStep setting seat place task hand views gateways old new came
+upload_step setting seat own place number task hand views gateways old new view came is same d shows =
+    subst (λ (h : Hand). PartStep setting seat place task h views gateways old new came) (sym is)
+    (part_step setting seat own place task (hands.Upload number) views gateways old new view came (same ∙ ap seat is) d shows)
 
 -- ---- a gateway's task
 
@@ -130,57 +86,241 @@ shows_at views number held gateways gateway place x false e shows is at =
 set_shows : (views : Holdings) (number : ℕ) (held : Holding) (gateways : List Gateway) (gateway : Gateway) → Shows views gateways → Sees held gateway.view → Shows (with_holding views (Some number) held) (set gateways number gateway)
 set_shows views number held gateways gateway shows is = λ place x at. shows_at views number held gateways gateway place x (place == number) refl shows is at
 
-pub gateway_step : (setting : Setting) (seat : Hand → ℕ) (own : ℕ) (place : ℕ) (task : Task) (views : Holdings) (gateways : List Gateway) (old new : List Entry) (came : Came) (number : ℕ) (before gateway : Gateway) → IsOnlyHand setting place task (hands.Gateway number)
-    → own ≡ seat (hands.Gateway number) → slice_get gateways number ≡ Some before
+pub gateway_step : (setting : Setting) (seat : Hand → ℕ) (own : ℕ) (place : ℕ) (task : Task) (hand : Hand) (views : Holdings) (gateways : List Gateway) (old new : List Entry) (came : Came) (number : ℕ) (before gateway : Gateway) → hand ≡ hands.Gateway number
+    → own ≡ seat hand → slice_get gateways number ≡ Some before
     → ((held : Holding) → Sees held before.view → HasDone setting (who_does seat (hands.Gateway number)) place task.work held own old new gateway.view came)
-    → Shows views gateways → TaskStep setting seat place task views (set gateways number gateway) old new came
-gateway_step setting seat own place task views gateways old new came number before gateway are same at done shows =
-    let d = subst (λ (s : ℕ). HasDone setting (who_does seat (hands.Gateway number)) place task.work (views number) s old new gateway.view came) same (done (views number) (shows number before at)) in
-    step_at setting seat place task (hands.Gateway number) views (set gateways number gateway) old new gateway.view came are d (set_shows views number d.after gateways gateway shows d.sees)
+    → Shows views gateways → PartStep setting seat place task hand views (set gateways number gateway) old new came
+gateway_step setting seat own place task hand views gateways old new came number before gateway is same at done shows =
+    let d = done (views number) (shows number before at) in
+    subst (λ (h : Hand). PartStep setting seat place task h views (set gateways number gateway) old new came) (sym is)
+    (part_step setting seat own place task (hands.Gateway number) views (set gateways number gateway) old new gateway.view came (same ∙ ap seat is) d (set_shows views number d.after gateways gateway shows d.sees))
 
-pub sync_for : (setting : Setting) (place : ℕ) (task : Task) (number : ℕ) → task.work ≡ works.Sync number → IsOnlyHand setting place task (hands.Gateway number)
+-- ---- who is next
+
+-- the hand of a number has a gateway that there is
+pub hand_within : (gateways place number : ℕ) (w : Work) (hand : Hand) → slice_get (hands_of_task gateways place w) number ≡ Some hand → ((gateway : ℕ) → w ≡ works.Sync gateway → gateway < gateways) → IfSome (gateway_of hand) (λ gateway. gateway < gateways)
 unfolding hands_of_task
-sync_for setting place task number w = one_duty setting place task (hands.Gateway number) (ap (hands_of_task (gateway_count setting.script.gateways) place) w)
+hand_within gateways place zero (works.Upload ulid stop) hand at within = subst (λ (h : Hand). IfSome (gateway_of h) (λ gateway. gateway < gateways)) (cc (at)) tt
+hand_within gateways place (suc number) (works.Upload ulid stop) hand at within = absurd (cc (at))
+hand_within gateways place zero (works.Sync gateway) hand at within = subst (λ (h : Hand). IfSome (gateway_of h) (λ g. g < gateways)) (cc (at)) (within gateway refl)
+hand_within gateways place (suc number) (works.Sync gateway) hand at within = absurd (cc (at))
+hand_within gateways place number (works.Query low high selector) hand at within = asked_within gateways 0 gateways number hand at (omega arith)
+  where
+    asked_within : (all first count number : ℕ) (hand : Hand) → slice_get (map hands.Gateway (range_with_len first count)) number ≡ Some hand → first + count ≤ all → IfSome (gateway_of hand) (λ gateway. gateway < all)
+    asked_within all first zero number hand at few = absurd (cc (at))
+    asked_within all first (suc count) zero hand at few = subst (λ (h : Hand). IfSome (gateway_of h) (λ gateway. gateway < all)) (cc (at)) (omega (arith, few))
+    asked_within all first (suc count) (suc number) hand at few = asked_within all (first + 1) count number hand at (omega (arith, few))
 
--- ---- a query
+-- as many as were counted do the task
+pub counted : (script : Script) → IsLawfulScript script → (w : Work) (place : ℕ) (gateways : List Gateway) (count : ℕ) → length gateways ≡ length script.gateways → count ≡ length (hands_of_task (length gateways) place w) → count ≡ length (hands_of_task (gateway_count script.gateways) place w)
+counted script lawful w place gateways count same is =
+    let all : length gateways ≡ gateway_count script.gateways = omega (arith, same, lawful.few_gateways) in is ∙ ap (λ (n : ℕ). length (hands_of_task n place w)) all
 
-no_gateway : (setting : Setting) (place : ℕ) (task : Task) (work : Work) → task.work ≡ work → hands_of_task (gateway_count setting.script.gateways) place work ≡ [] → duties_at setting place (task ∷ []) ≡ []
+sync_lawful : (script : Script) (w : Work) (gateway : ℕ) → w ≡ works.Sync gateway → IsLawfulWork script.gateways script.blocks (length script.selectors) w → gateway < length script.gateways
+sync_lawful script w gateway is allowed = subst (λ (x : Work). IsLawfulWork script.gateways script.blocks (length script.selectors) x) is allowed
+
+pub sync_within : (script : Script) → IsLawfulScript script → (place number : ℕ) (w : Work) (hand : Hand) → IsLawfulWork script.gateways script.blocks (length script.selectors) w → slice_get (hands_of_task (gateway_count script.gateways) place w) number ≡ Some hand
+    → (gateways : List Gateway) → length gateways ≡ length script.gateways → IfSome (gateway_of hand) (λ gateway. gateway < length gateways)
+sync_within script lawful place number w hand allowed at gateways same =
+    let all : gateway_count script.gateways ≡ length gateways = omega (arith, same, lawful.few_gateways) in
+    subst (λ (n : ℕ). IfSome (gateway_of hand) (λ gateway. gateway < n)) all
+    (hand_within (gateway_count script.gateways) place number w hand at (λ gateway is. let less = sync_lawful script w gateway is allowed in omega (arith, less, lawful.few_gateways)))
+
+pub gateway_inside : (hand : Hand) (number : ℕ) (gateways : List Gateway) → hand ≡ hands.Gateway number → IfSome (gateway_of hand) (λ gateway. gateway < length gateways) → number < length gateways
+gateway_inside hand number gateways is within = subst (λ (h : Hand). IfSome (gateway_of h) (λ gateway. gateway < length gateways)) is within
+
+-- what was gathered is the outcome
+pub gathered_is : (w : Work) (parts : List Part) (o : Result Outcome Broken) → IfOk o (IsOutcomeOf w parts) → (outcome : Outcome) → o ≡ Ok outcome → IsOutcomeOf w parts outcome
+gathered_is w parts (Ok own) holds outcome is = let same : own ≡ outcome = cc (is) in subst (IsOutcomeOf w parts) same holds
+gathered_is w parts (Err why) holds outcome is = absurd (cc (is))
+
+-- its duty is that of the number
+pub duty_at : (setting : Setting) (place number : ℕ) (task : Task) (hand : Hand) → slice_get (hands_of_task (gateway_count setting.script.gateways) place task.work) number ≡ Some hand
+    → slice_get (duties_at setting place (task ∷ [])) number ≡ Some (record { place = place; hand = hand; task = task })
 unfolding duties_from
-no_gateway setting place task work w none =
-    ap (λ x. map (λ h. record { place = place; hand = h; task = task }) (hands_of_task (gateway_count setting.script.gateways) place x) ++ []) w
-    ∙ ap (λ hs. map (λ h. record { place = place; hand = h; task = task }) hs ++ []) none
+duty_at setting place number task hand at = mapped (hands_of_task (gateway_count setting.script.gateways) place task.work) number at
+  where
+    mapped : (hs : List Hand) (number : ℕ) → slice_get hs number ≡ Some hand → slice_get (map (λ h. record { place = place; hand = h; task = task }) hs ++ []) number ≡ Some (record { place = place; hand = hand; task = task })
+    mapped [] number at = absurd (cc (at))
+    mapped (h ∷ hs) zero at = ap (λ (o : Option Hand). option_map (λ x. record { place = place; hand = x; task = task }) o) at
+    mapped (h ∷ hs) (suc number) at = mapped hs number at
 
-none_asked : (setting : Setting) (place : ℕ) (low high : ℤ) (selector : ℕ) (count : ℕ) → gateway_count setting.script.gateways ≡ count → hands_of_task (gateway_count setting.script.gateways) place (works.Query low high selector) ≡ map hands.Gateway (range_with_len 0 count)
-unfolding hands_of_task
-none_asked setting place low high selector count is = ap (λ n. map hands.Gateway (range_with_len 0 n)) is
+-- as many duties as hands
+pub duties_long : (setting : Setting) (place : ℕ) (task : Task) → length (duties_at setting place (task ∷ [])) ≡ length (hands_of_task (gateway_count setting.script.gateways) place task.work)
+unfolding duties_from
+duties_long setting place task =
+    ap (length {A = Duty}) (append-nil (map (λ h. record { place = place; hand = h; task = task }) (hands_of_task (gateway_count setting.script.gateways) place task.work)))
+    ∙ length-map (λ h. record { place = place; hand = h; task = task }) (hands_of_task (gateway_count setting.script.gateways) place task.work)
 
--- without a gateway a query answers nothing
-pub unasked_step : (setting : Setting) (seat : Hand → ℕ) (place : ℕ) (task : Task) (views : Holdings) (gateways : List Gateway) (journal : List Entry) (low high : ℤ) (selector : ℕ)
-    → task.work ≡ works.Query low high selector → length gateways ≡ length setting.script.gateways → length gateways ≡ 0 → Shows views gateways
-    → TaskStep setting seat place task views gateways journal journal (Ok (outcome.Query (query.Answer [] [])))
-unasked_step setting seat place task views gateways journal low high selector w same none shows =
-    let are = no_gateway setting place task (works.Query low high selector) w (none_asked setting place low high selector 0 (omega (arith, same, none))) in
-    record {
-      made = [];
-      entries = sym (append-nil journal);
-      ends = [];
-      after = views;
-      run = subst (λ (ds : List Duty). InLine setting seat views ds [] [] views) (sym are) (refl, refl, refl);
-      shows = shows;
-      whole = (sym (ap (length {A = Duty}) are), subst (λ (x : Work). IsOutcome x [] (outcome.Query (query.Answer [] []))) (sym w) refl);
-      due = tt;
+-- the duties behind one may begin
+begins_behind : (setting : Setting) (ds : List Duty) (number : ℕ) (d : Duty) → slice_get ds number ≡ Some d → MayAllBegin setting ds → MayAllBegin setting (drop (number + 1) ds)
+begins_behind setting [] number d at all = absurd (cc (at))
+begins_behind setting (x ∷ ds) zero d at all = all.1
+begins_behind setting (x ∷ ds) (suc number) d at all = let e : suc number + 1 ≡ suc (number + 1) = omega arith in rw e (begins_behind setting ds number d at all.1)
+
+-- those of a task that the script allows may
+pub task_begins : (setting : Setting) (place : ℕ) (task : Task) → IsLawfulScript setting.script → IsLawfulWork setting.script.gateways setting.script.blocks (length setting.script.selectors) task.work → MayAllBegin setting (duties_at setting place (task ∷ []))
+task_begins setting place task lawful allowed =
+    duties_begin setting (gateway_count setting.script.gateways) place (task ∷ []) (may_begin setting (task ∷ []) lawful (All-cons (λ t. IsLawfulWork setting.script.gateways setting.script.blocks (length setting.script.selectors) t.work) task [] allowed (All-nil (λ t. IsLawfulWork setting.script.gateways setting.script.blocks (length setting.script.selectors) t.work))))
+
+-- ---- one part after another
+
+module _ (setting : Setting) (seat : Hand → ℕ) (place : ℕ) (task : Task) (views : Holdings) where
+  abbrev duties : List Duty
+  duties = duties_at setting place (task ∷ [])
+
+  abbrev own_duty : Hand → Duty
+  own_duty hand = record { place = place; hand = hand; task = task }
+
+  -- So many parts were done to their ends. What completes the rest completes them all.
+  pub record Front (number : ℕ) (gateways : List Gateway) (old new : List Entry) (parts : List Part) : Type 0 where
+    pub made : List Entry
+    pub entries : new ≡ old ++ made
+    pub ends : List End
+    pub count : length ends ≡ number
+    pub after : Holdings
+    pub onward : (entries : List Entry) (later : List End) (last : Holdings) → InLine setting seat after (drop number duties) entries later last → InLine setting seat views duties (made ++ entries) (ends ++ later) last
+    pub shows : Shows after gateways
+    pub all : AllZip (IsPart task.work) ends parts
+
+  pub none_done : (gateways : List Gateway) (journal : List Entry) (parts : List Part) → parts ≡ [] → Shows views gateways → Front 0 gateways journal journal parts
+  none_done gateways journal parts none shows = subst (λ (l : List Part). Front 0 gateways journal journal l) (sym none) (record {
+    made = [];
+    entries = sym (append-nil journal);
+    ends = [];
+    count = refl;
+    after = views;
+    onward = λ entries later last run. subst (λ (ds : List Duty). InLine setting seat views ds entries later last) (drop_none duties) run;
+    shows = shows;
+    all = tt;
+  })
+
+  both : (one two : List Entry) (old mid new : List Entry) → mid ≡ old ++ one → new ≡ mid ++ two → new ≡ old ++ one ++ two
+  both one two old mid new first then = then ∙ ap (λ (l : List Entry). l ++ two) first ∙ append_assoc old one two
+
+  module _ (number : ℕ) (hand : Hand) (shown gateways : List Gateway) (old mid new : List Entry) (parts : List Part) (f : Front number shown old mid parts) (at : slice_get duties number ≡ Some (own_duty hand)) where
+    next : drop number duties ≡ own_duty hand ∷ drop (number + 1) duties
+    next = drop_place duties number (own_duty hand) at
+
+    one_more : (one : Part) (p : PartStep setting seat place task hand f.after gateways mid new (Ok one)) (end : Option End) → p.end ≡ end → CameBy task.work end (Ok one) → Front (number + 1) gateways old new (parts ++ one ∷ [])
+    one_more one p None is by = absurd by
+    one_more one p (Some end) is by = record {
+      made = f.made ++ p.made;
+      entries = both f.made p.made old mid new f.entries p.entries;
+      ends = f.ends ++ end ∷ [];
+      count = omega (arith, length-append f.ends (end ∷ []), f.count);
+      after = with_holding f.after (gateway_of hand) p.after;
+      onward = λ entries later last run.
+          subst (λ (es : List Entry). InLine setting seat views duties es ((f.ends ++ end ∷ []) ++ later) last) (sym (append_assoc f.made p.made entries))
+          (subst (λ (l : List End). InLine setting seat views duties (f.made ++ p.made ++ entries) l last) (sym (append_assoc f.ends (end ∷ []) later))
+          (f.onward (p.made ++ entries) (end ∷ later) last
+          (subst (λ (ds : List Duty). InLine setting seat f.after ds (p.made ++ entries) (end ∷ later) last) (sym next)
+          (inl (p.made, entries, end, later, p.after, refl, p.seats, subst (λ (e : Option End). TaskRun setting (who_does seat hand) place task.work (holding_of f.after (gateway_of hand)) p.made e p.after) is p.run, refl, run)))));
+      shows = p.shows;
+      all = zip_push (IsPart task.work) f.ends parts end one f.all by;
     }
+      where
+        zip_push : {A B : Type 0} (R : A → B → Type 0) (xs : List A) (ys : List B) (x : A) (y : B) → AllZip R xs ys → R x y → AllZip R (xs ++ x ∷ []) (ys ++ y ∷ [])
+        zip_push R [] [] x y all is = (is, tt)
+        zip_push R [] (b ∷ ys) x y all is = absurd all
+        zip_push R (a ∷ xs) [] x y all is = absurd all
+        zip_push R (a ∷ xs) (b ∷ ys) x y all is = (all.0, zip_push R xs ys x y all.1 is)
 
--- the one gateway is asked
-pub query_for : (setting : Setting) (place : ℕ) (task : Task) (gateways : List Gateway) (low high : ℤ) (selector : ℕ) → task.work ≡ works.Query low high selector → length setting.script.gateways ≤ 1 → length gateways ≡ length setting.script.gateways → 0 < length gateways
-    → IsOnlyHand setting place task (hands.Gateway 0)
-query_for setting place task gateways low high selector w few same some =
-    one_duty setting place task (hands.Gateway 0) (ap (hands_of_task (gateway_count setting.script.gateways) place) w ∙ none_asked setting place low high selector 1 (omega (arith, few, same, some)))
+    pub part_more : (came : Came) (one : Part) (made : List Part) → came ≡ Ok one → made ≡ parts ++ one ∷ [] → PartStep setting seat place task hand f.after gateways mid new came → Front (number + 1) gateways old new made
+    part_more came one made ok is p =
+        let q = subst (λ (c : Came). PartStep setting seat place task hand f.after gateways mid new c) ok p in
+        subst (λ (l : List Part). Front (number + 1) gateways old new l) (sym is) (one_more one q q.end refl q.by)
 
--- whether there is a gateway
-pub no_member : (count : ℕ) (empty : Bool) → empty ≡ (count == 0) → empty ≡ true → count ≡ 0
-no_member count empty is holds = (Decides-eqb count 0).0 (sym is ∙ holds)
+    -- what an operation of the part leads to
+    on_end : (begin : MayAllBegin setting duties) (made : List Entry) (end : Option End) (held : Holding) → All (λ (e : Entry). e.seat ≡ seat hand) made → TaskRun setting (who_does seat hand) place task.work (holding_of f.after (gateway_of hand)) made end held
+        → (run : List End × Holdings) × InLine setting seat views duties (f.made ++ made) run.0 run.1
+    on_end begin made None held seats run = (
+      (f.ends ++ [], with_holding f.after (gateway_of hand) held),
+      f.onward made [] (with_holding f.after (gateway_of hand) held)
+          (subst (λ (ds : List Duty). InLine setting seat f.after ds made [] (with_holding f.after (gateway_of hand) held)) (sym next) (inr (held, seats, run, refl, refl))),
+    )
+    on_end begin made (Some end) held seats run =
+        let last = with_holding f.after (gateway_of hand) held in (
+          (f.ends ++ end ∷ [], last),
+          f.onward made (end ∷ []) last
+              (subst (λ (ds : List Duty). InLine setting seat f.after ds made (end ∷ []) last) (sym next)
+              (inl (made, [], end, [], held, sym (append-nil made), seats, run, refl, nothing setting seat last (drop (number + 1) duties) (begins_behind setting duties number (own_duty hand) at begin)))),
+        )
 
-pub some_member : (count : ℕ) (empty : Bool) → empty ≡ (count == 0) → empty ≡ false → 0 < count
-some_member zero empty is fails = let same : (0 == 0) ≡ true = (Decides-eqb 0 0).1 refl in absurd (cc (sym same ∙ sym is ∙ fails))
-some_member (suc n) empty is fails = omega arith
+    none_by : (end : Option End) (why : Broken) → CameBy task.work end (Err why) → end ≡ None
+    none_by None why by = refl
+    none_by (Some end) broken.Full by = absurd by
+    none_by (Some end) broken.NoMemory by = absurd by
+
+    pub part_broken : (begin : MayAllBegin setting duties) (came : Came) (why : Broken) → came ≡ Err why → PartStep setting seat place task hand f.after gateways mid new came → TaskStep setting seat place task views gateways old new (Err why)
+    part_broken begin came why is p =
+        let q = subst (λ (c : Came). PartStep setting seat place task hand f.after gateways mid new c) is p in
+        let last = with_holding f.after (gateway_of hand) q.after in
+        let within : number < length duties = slice_get_within duties number (own_duty hand) at in
+        record {
+          made = f.made ++ q.made;
+          entries = both f.made q.made old mid new f.entries q.entries;
+          ends = f.ends ++ [];
+          after = last;
+          run = f.onward q.made [] last (subst (λ (ds : List Duty). InLine setting seat f.after ds q.made [] last) (sym next) (inr (q.after, q.seats, subst (λ (e : Option End). TaskRun setting (who_does seat hand) place task.work (holding_of f.after (gateway_of hand)) q.made e q.after) (none_by q.end why q.by) q.run, refl, refl)));
+          shows = q.shows;
+          whole = cut why (omega (arith, within, f.count, length-append f.ends []));
+          due = broke why q;
+        }
+      where
+        cut : (why : Broken) → length (f.ends ++ []) < length duties → IsWhole setting place task (f.ends ++ []) (Err why)
+        cut broken.Full less = less
+        cut broken.NoMemory less = tt
+
+        broke : (why : Broken) (q : PartStep setting seat place task hand f.after gateways mid new (Err why)) → WhenFull {X = Outcome} (Err why) (IsDueInLine setting seat views duties (f.made ++ q.made))
+        broke broken.NoMemory q = tt
+        broke broken.Full q = (
+          seat hand,
+          (
+            (q.due).0,
+            (q.due).1,
+            λ seen answer.
+                let e = entry_of (seat hand) (q.due).0 seen in
+                let next = (q.due).2 seen answer in
+                let on = on_end begin (q.made ++ e ∷ []) next.0 next.1.0 (All-push (λ (x : Entry). x.seat ≡ seat hand) q.made e q.seats refl) next.1.1 in
+                (on.0, subst (λ (es : List Entry). InLine setting seat views duties es on.0.0 on.0.1) (sym (append_assoc f.made q.made (e ∷ []))) on.1),
+          ),
+        )
+
+  -- all parts were done, and what they came to was gathered, or memory was wanting for that
+  pub all_done : (number : ℕ) (gateways : List Gateway) (old new : List Entry) (parts : List Part) (o : Result Outcome Broken) → Front number gateways old new parts → number ≡ length duties → o ≢ Err broken.Full
+      → ((outcome : Outcome) → o ≡ Ok outcome → IsOutcomeOf task.work parts outcome) → TaskStep setting seat place task views gateways old new o
+  all_done number gateways old new parts o f all why is = record {
+    made = f.made;
+    entries = f.entries;
+    ends = f.ends;
+    after = f.after;
+    run = subst (λ (es : List Entry). InLine setting seat views duties es f.ends f.after) (append-nil f.made) (subst (λ (l : List End). InLine setting seat views duties (f.made ++ []) l f.after) (append-nil f.ends)
+        (f.onward [] [] f.after (subst (λ (ds : List Duty). InLine setting seat f.after ds [] [] f.after) (sym (drop_all number duties (omega (arith, all)))) (refl, refl, refl))));
+    shows = f.shows;
+    whole = came o (λ outcome same. (f.count ∙ all, (parts, f.all, is outcome same)));
+    due = none_due o why;
+  }
+    where
+      came : (o : Result Outcome Broken) → ((outcome : Outcome) → o ≡ Ok outcome → (length f.ends ≡ length duties) × IsOutcome task.work f.ends outcome) → IsWhole setting place task f.ends o
+      came (Ok outcome) is = is outcome refl
+      came (Err broken.Full) is = absurd (why refl)
+      came (Err broken.NoMemory) is = tt
+
+      none_due : (o : Result Outcome Broken) → o ≢ Err broken.Full → WhenFull o (IsDueInLine setting seat views duties f.made)
+      none_due (Ok outcome) why = tt
+      none_due (Err broken.Full) why = absurd (why refl)
+      none_due (Err broken.NoMemory) why = tt
+
+  -- memory was wanting before the first part
+  pub none_begun : (gateways : List Gateway) (journal : List Entry) → MayAllBegin setting duties → Shows views gateways → TaskStep setting seat place task views gateways journal journal (Err broken.NoMemory)
+  none_begun gateways journal begin shows = record {
+    made = [];
+    entries = sym (append-nil journal);
+    ends = [];
+    after = views;
+    run = nothing setting seat views duties begin;
+    shows = shows;
+    whole = tt;
+    due = tt;
+  }

@@ -27,7 +27,6 @@ use Rattle.script_running.specs.Outcomes.{is_as_asked}
 use Rattle.replay_cli.specs.Verdicts.{report_of}
 use Rattle.script_running.specs.declared.came.Broken.{Broken}
 use Rattle.script_running.specs.declared.came.Broken.TheVariants as broken
-use Rattle.script_running.specs.Drives.{Came}
 use Rattle.script_running.specs.declared.outcome.Outcome.{Outcome}
 use Rattle.replay_cli.proofs.ReportLists.{all_append, report_append}
 
@@ -169,7 +168,7 @@ module _ (setting : Setting) (seat : Hand → ℕ) (place : ℕ) (tasks : List T
   )
 
   -- broken off for want of memory
-  pub cut_short : (came : Came) → All (λ t. MayBegin setting t.work) (drop (place + 1) tasks) → (d : TasksDone setting seat (take place tasks) views shown start mid as_asked text)
+  pub cut_short : (came : Result Outcome Broken) → All (λ t. MayBegin setting t.work) (drop (place + 1) tasks) → (d : TasksDone setting seat (take place tasks) views shown start mid as_asked text)
       → ((v : Holdings) → Shows v shown → TaskStep setting seat place task v gateways mid new came) → TasksBroken setting seat tasks views start new broken.NoMemory
   cut_short came begin d step =
       let s = step d.after d.shows in

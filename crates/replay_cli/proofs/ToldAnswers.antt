@@ -1,38 +1,42 @@
--- Each answer that a report tells was given by the gateway.
-use Rattle.std.proofs.Common.{◌≡◌, ◌≢◌, ◌⊎◌, inl, inr, true, Contains, ℕ, zero, suc, ◌+◌, ◌≤◌, ℤ, Bool, append-nil, List, [], ◌∷◌, ◌++◌, length, Some, refl, sym, ap, subst, arith}
-use Rattle.std.specs.Prelude.{find, slice_get, map}
-use Rattle.std.specs.List.{AllZip, list_any, range_with_len}
-use Rattle.std.specs.List.Sorted.{IsStrictlySortedBy}
-use Rattle.std.proofs.lemmas.List.Elements.{All-nil}
-use Rattle.label_sets.specs.Triples.{has_same_key, triples_of}
+-- Each answer that a report tells was given by the gateways.
+use Rattle.std.proofs.Common.{◌≡◌, ◌⊎◌, inl, inr, ℕ, ℤ, zero, suc, ◌+◌, Bool, append-nil, List, [], ◌∷◌, ◌++◌, length, Option, None, Some, refl, sym, ◌∙◌, ap, subst, arith}
+use Rattle.std.specs.Prelude.{slice_get, map}
+use Rattle.std.specs.List.{AllZip, flat_map}
+use Rattle.block_meta.specs.Lawful.{ascending}
+use Rattle.label_sets.specs.Triples.{Triple, triples_of}
 use Rattle.vertical_merge.specs.Merged.{IsMerge}
-use Rattle.label_sets.specs.declared.series.Series.{Series}
 use Rattle.world_core.specs.Standing.{IsHonest}
 use Rattle.world_core.specs.declared.entry.Entry.{Entry}
 use Rattle.store_gateway.specs.declared.series_end.SeriesEnd.{SeriesEnd}
 use Rattle.store_gateway.specs.declared.series_end.SeriesEnd.TheVariants as called
-use Rattle.script_workers.specs.Hands.{gateway_count, gateway_of, hands_of_task}
+use Rattle.querier.specs.Gathered.{answer as whole_answer, gathered_samples, gathered_sources}
+use Rattle.querier.specs.declared.answer.Names.{Names}
+use Rattle.script_workers.specs.Hands.{gateway_count, hands_of_task}
 use Rattle.script_core.specs.Workers.{workers_of}
 use Rattle.script_core.specs.Lawful.{IsLawfulScript}
-use Rattle.script_workers.specs.declared.hand.Hand.TheVariants as hands
+use Rattle.script_core.proofs.SeatLaws.{partitions_counted}
 use Rattle.script_workers.specs.declared.phase.Phase.{Phase}
 use Rattle.script_workers.specs.declared.task.Task.{Task}
 use Rattle.script_workers.specs.declared.work.Work.{Work}
 use Rattle.script_workers.specs.declared.work.Work.TheVariants as work
 use Rattle.script_workers.specs.declared.worker.Worker.{Worker}
-use Rattle.lifecycle_core.specs.Conducts.{CameTo}
-use Rattle.lifecycle_core.specs.Guarantees.{Answered, IsGiven, IsSound, Named}
+use Rattle.lifecycle_core.specs.Guarantees.{Answered, IsGiven, IsSound, Named, names_by}
 use Rattle.lifecycle_core.specs.Holdings.{Use}
 use Rattle.lifecycle_core.specs.Phases.{IsRunOf}
 use Rattle.lifecycle_core.specs.Setting.{Setting}
-use Rattle.lifecycle_core.proofs.answers.OneGateway.{IsGivenByOne, given_by_one}
-use Rattle.lifecycle_core.specs.Tasks.{End, answered, stopped, synced, uploaded, without_view}
-use Rattle.script_running.specs.Outcomes.{IsOutcome, PhasesCame, TaskCame, TasksCame, call_outcome}
+use Rattle.lifecycle_core.proofs.answers.SeveralGateways as Several
+use Rattle.lifecycle_core.proofs.answers.SeveralGateways.{AllAnswered, CameAll, end_of, given_by_all, named_by_all, names_from, names_of_all, series_of}
+use Rattle.lifecycle_core.specs.Tasks.{End, answered, not_asked, stopped, synced, uploaded, without_view}
+use Rattle.script_running.specs.Outcomes.{IsOutcome, IsPart, IsQueryOutcome, PhasesCame, TaskCame, TasksCame, answers_of, call_part, first_none, names_of, why_none}
 use Rattle.replay_cli.specs.ToldAnswers.{IsTold, IsWorth, ToldAnswer, answered_by}
 use Rattle.replay_cli.specs.Verdicts.{IsFullRun, IsWholeRun, tasks_of}
+use Rattle.script_running.specs.declared.outcome.NoAnswer.TheVariants as nothing
 use Rattle.script_running.specs.declared.outcome.Outcome.{Outcome}
 use Rattle.script_running.specs.declared.outcome.Outcome.TheVariants as outcome
 use Rattle.script_running.specs.declared.outcome.QueryOutcome.TheVariants as query
+use Rattle.script_running.specs.declared.part.Part.TheVariants as part
+use Rattle.script_running.specs.declared.part.QueryPart.{QueryPart}
+use Rattle.script_running.specs.declared.part.QueryPart.TheVariants as given
 
 -- ---- which task an outcome is of
 
@@ -109,48 +113,75 @@ phase_of setting number (phase ∷ phases) (first ∷ later) outcomes (own, othe
           }
     ]
 
--- ---- the answer of the one gateway
+-- ---- the answers of the gateways
 
-answer_of : (used : Use) (end : SeriesEnd) (series : List Series) (sources : List ℕ) → outcome.Query (query.Answer series sources) ≡ outcome.Query (call_outcome 0 end) → end ≡ called.Answer series sources
-answer_of used (called.Answer s t) series sources is = cc (is)
-answer_of used (called.Missing n) series sources is = absurd (cc (is))
-answer_of used (called.Damaged n) series sources is = absurd (cc (is))
-answer_of used (called.Fault n) series sources is = absurd (cc (is))
+-- a gateway's part of a query that was answered: an answer, or it was not asked
+abbrev query_part : Option Several.Part → QueryPart
+query_part None = given.NotAsked
+query_part (Some p) = given.Answer (whole_answer p.series p.sources)
 
-end_of : (low high : ℤ) (n : ℕ) (end : End) (series : List Series) (sources : List ℕ) → IsOutcome (work.Query low high n) (end ∷ []) (outcome.Query (query.Answer series sources)) → (used : Use) × (end ≡ answered used (called.Answer series sources))
-end_of low high n (uploaded e) series sources is = absurd is
-end_of low high n (synced e) series sources is = absurd is
-end_of low high n (answered used e) series sources is = (used, ap (answered used) (answer_of used e series sources is))
-end_of low high n without_view series sources is = absurd (cc (is))
-end_of low high n (stopped count) series sources is = absurd is
+inner : (own other : QueryPart) → part.Query own ≡ part.Query other → own ≡ other
+inner own other is = cc (is)
 
--- with one gateway, a query has its end and no other
-one_end : (workers : List Worker) (ends : List (List End)) (place : ℕ) (low high : ℤ) (n : ℕ) (own : List End) (series : List Series) (sources : List ℕ)
-    → AllZip (λ hand end. CameTo workers ends (gateway_of hand) place end) (hands.Gateway 0 ∷ []) own → IsOutcome (work.Query low high n) own (outcome.Query (query.Answer series sources))
-    → (used : Use) × CameTo workers ends (Some 0) place (answered used (called.Answer series sources))
-one_end workers ends place low high n [] series sources all is = absurd all
-one_end workers ends place low high n (end ∷ []) series sources all is =
-    let e = end_of low high n end series sources is in (e.0, subst (CameTo workers ends (Some 0) place) e.1 all.0)
-one_end workers ends place low high n (end ∷ other ∷ more) series sources all is = absurd all.1
+by_call : (used : Use) (end : SeriesEnd) (own : QueryPart) → own ≡ call_part end → why_none own ≡ None → (p : Option Several.Part) × (answered used end ≡ end_of p) × (own ≡ query_part p)
+by_call used (called.Answer series sources) own is none = (Some (record { used = used; series = series; sources = sources }), refl, is)
+by_call used (called.Missing n) own is none = absurd (let w = ap why_none is in cc (w, none))
+by_call used (called.Damaged n) own is none = absurd (let w = ap why_none is in cc (w, none))
+by_call used (called.Fault n) own is none = absurd (let w = ap why_none is in cc (w, none))
 
--- without one it has none
-no_end : (workers : List Worker) (ends : List (List End)) (place : ℕ) (low high : ℤ) (n : ℕ) (own : List End) (series : List Series) (sources : List ℕ)
-    → AllZip (λ hand end. CameTo workers ends (gateway_of hand) place end) [] own → IsOutcome (work.Query low high n) own (outcome.Query (query.Answer series sources)) → (series ≡ []) × (sources ≡ [])
-no_end workers ends place low high n [] series sources all is = (cc (is), cc (is))
-no_end workers ends place low high n (end ∷ more) series sources all is = absurd all
+by_part : (low high : ℤ) (n : ℕ) (end : End) (own : QueryPart) → IsPart (work.Query low high n) end (part.Query own) → why_none own ≡ None → (p : Option Several.Part) × (end ≡ end_of p) × (own ≡ query_part p)
+by_part low high n (uploaded e) own is none = absurd is
+by_part low high n (synced e) own is none = absurd is
+by_part low high n (answered used e) own is none = by_call used e own (inner own (call_part e) is) none
+by_part low high n without_view own is none = absurd (let w = ap why_none (inner own (given.NoAnswer nothing.NoView) is) in cc (w, none))
+by_part low high n not_asked own is none = (None, refl, inner own given.NotAsked is)
+by_part low high n (stopped count) own is none = absurd is
 
--- an answer with nothing in it
-pub none_merged : IsMerge [] []
-unfolding triples_of IsStrictlySortedBy
-none_merged = record {
-  ascending = tt;
-  inhabited = All-nil (λ s. s.samples ≢ []);
-  first = record { ascending = tt; first = All-nil (λ t. find (has_same_key t) [] ≡ Some t); complete = All-nil (λ t. list_any (has_same_key t) [] ≡ true) };
-}
+-- where none is told, none of them gave none
+first_answers : (gateway : ℕ) (own : QueryPart) (parts : List QueryPart) → first_none gateway (own ∷ parts) ≡ None → (why_none own ≡ None) × (first_none (gateway + 1) parts ≡ None)
+first_answers gateway given.NotAsked parts is = (refl, is)
+first_answers gateway (given.Answer a) parts is = (refl, is)
+first_answers gateway (given.NoAnswer why) parts is = absurd (cc (is))
 
--- what the one gateway names
-abbrev named_by_one : Use → ToldAnswer → Named
-named_by_one used answer = record { gateway = 0; used = used; low = answer.low; high = answer.high; sources = answer.sources }
+-- a query that answers does so by the answers of its gateways
+record IsByAll (ends : List End) (own : List QueryPart) : Type 0 where
+  parts : List (Option Several.Part)
+  are : ends ≡ map end_of parts
+  own_are : own ≡ map query_part parts
+
+by_all : (low high : ℤ) (n gateway : ℕ) (ends : List End) (own : List QueryPart) → AllZip (IsPart (work.Query low high n)) ends (map part.Query own) → first_none gateway own ≡ None → IsByAll ends own
+by_all low high n gateway [] [] all none = record { parts = []; are = refl; own_are = refl }
+by_all low high n gateway [] (q ∷ own) all none = absurd all
+by_all low high n gateway (end ∷ ends) [] all none = absurd all
+by_all low high n gateway (end ∷ ends) (q ∷ own) all none =
+    let first = first_answers gateway q own none in
+    let one = by_part low high n end q all.0 first.0 in
+    let rest = by_all low high n (gateway + 1) ends own all.1 first.1 in
+    record {
+      parts = one.0 ∷ rest.parts;
+      are = ap (λ (e : End). e ∷ ends) one.1 ∙ ap (λ (l : List End). end_of one.0 ∷ l) rest.are;
+      own_are = ap (λ (x : QueryPart). x ∷ own) one.2 ∙ ap (λ (l : List QueryPart). query_part one.0 ∷ l) rest.own_are;
+    }
+
+-- the samples and the names of both
+samples_are : (parts : List (Option Several.Part)) → gathered_samples (answers_of (map query_part parts)) ≡ flat_map triples_of (series_of (Several.answers_of parts))
+samples_are [] = refl
+samples_are (None ∷ parts) = samples_are parts
+samples_are (Some p ∷ parts) = ap (λ (l : List Triple). triples_of p.series ++ l) (samples_are parts)
+
+names_are : (gateway : ℕ) (parts : List (Option Several.Part)) → names_of gateway (map query_part parts) ≡ names_from gateway parts
+names_are gateway [] = refl
+names_are gateway (None ∷ parts) = names_are (gateway + 1) parts
+names_are gateway (Some p ∷ parts) = ap (λ (l : List Names). record { gateway = gateway; sources = p.sources } ∷ l) (names_are (gateway + 1) parts)
+
+sources_are : (gateway : ℕ) (parts : List (Option Several.Part)) → gathered_sources (answers_of (map query_part parts)) ≡ flat_map (λ (one : Names). one.sources) (names_from gateway parts)
+sources_are gateway [] = refl
+sources_are gateway (None ∷ parts) = sources_are (gateway + 1) parts
+sources_are gateway (Some p ∷ parts) = ap (λ (l : List ℕ). p.sources ++ l) (sources_are (gateway + 1) parts)
+
+named_sources : (named : List Named) → flat_map (λ (one : Names). one.sources) (map names_by named) ≡ flat_map (λ (one : Named). one.sources) named
+named_sources [] = refl
+named_sources (one ∷ named) = ap (λ (l : List ℕ). one.sources ++ l) (named_sources named)
 
 module _ (setting : Setting) (journal : List Entry) (phases left : List Phase) (ends untold : List (List (List End))) (outcomes : List Outcome) where
   slice_left : {X : Type 0} (xs more : List X) (k : ℕ) (x : X) → slice_get xs k ≡ Some x → slice_get (xs ++ more) k ≡ Some x
@@ -158,65 +189,20 @@ module _ (setting : Setting) (journal : List Entry) (phases left : List Phase) (
   slice_left (y ∷ xs) more zero x at = at
   slice_left (y ∷ xs) more (suc k) x at = slice_left xs more k x at
 
-  -- with no gateway
-  module _ (answer : ToldAnswer) (sound : (query : Answered) → IsGiven setting (ends ++ untold) query → IsSound setting journal query) (none : gateway_count setting.script.gateways ≡ 0) (series : answer.series ≡ []) (sources : answer.sources ≡ []) (task : Task) (selector_number : ℕ)
-      (asks : task.work ≡ work.Query answer.low answer.high selector_number) (selects : slice_get setting.script.selectors selector_number ≡ Some answer.selector) (p : IsOfPhase setting 0 phases ends task (outcome.Query (query.Answer answer.series answer.sources))) (parts : setting.script.phases ≡ phases ++ left) where
-    none_asked : [] ≡ range_with_len 0 (gateway_count setting.script.gateways)
-    none_asked = ap (range_with_len 0) (sym none)
-
-    given_by_none : IsGiven setting (ends ++ untold) (answered_by [] answer)
-    given_by_none = record {
-      phase_number = p.k;
-      phase = p.phase;
-      place = p.place;
-      task = task;
-      low = answer.low;
-      high = answer.high;
-      selector_number = selector_number;
-      in_phases = subst (λ l. slice_get l p.k ≡ Some p.phase) (sym parts) (slice_left phases left p.k p.phase p.in_phases);
-      in_tasks = p.in_tasks;
-      asks = asks;
-      selects = selects;
-      phase_ends = p.own;
-      phase_came = slice_left ends untold p.k p.own p.in_ends;
-      parts = [];
-      given = tt;
-      every = none_asked;
-      series = [];
-      merged = none_merged;
-      samples = ap triples_of series;
-    }
-
-    worth_none : IsWorth setting journal (ends ++ untold) answer
-    worth_none = record {
-      named = [];
-      sources = λ ulid. (λ among. subst (λ (l : List ℕ). Contains l ulid) sources among, λ among. subst (λ (l : List ℕ). Contains l ulid) (sym sources) among);
-      given = given_by_none;
-      sound = sound (answered_by [] answer) given_by_none;
-    }
-
-  by_gateways : (names : List (List ℕ)) → setting.script.gateways ≡ names → length names ≤ 1 → setting.script.phases ≡ phases ++ left → PhasesCame setting.script 0 phases ends outcomes
-      → ((answer : ToldAnswer) (used : Use) → IsGivenByOne setting (ends ++ untold) answer.low answer.high answer.selector used answer.series answer.sources → gateway_count setting.script.gateways ≡ 1 → IsGiven setting (ends ++ untold) (answered_by (named_by_one used answer ∷ []) answer))
+  by_gateways : IsLawfulScript setting.script → setting.script.phases ≡ phases ++ left → PhasesCame setting.script 0 phases ends outcomes → IsRunOf setting journal (ends ++ untold)
       → ((query : Answered) → IsGiven setting (ends ++ untold) query → IsSound setting journal query)
       → (place : ℕ) (answer : ToldAnswer) → IsTold setting.script phases outcomes place answer → IsWorth setting journal (ends ++ untold) answer
-  unfolding hands_of_task
-  by_gateways [] are few parts came by_one sound place answer told =
-      let p = phase_of setting 0 phases ends outcomes came place told.task (outcome.Query (query.Answer answer.series answer.sources)) told.at told.came in
-      let no_one : gateway_count setting.script.gateways ≡ 0 = ap gateway_count are in
-      let is = subst (λ (w : Work). IsOutcome w p.came.own (outcome.Query (query.Answer answer.series answer.sources))) told.asks p.came.is in
-      let all = subst (λ (w : Work). AllZip (λ hand end. CameTo (workers_of setting.script (0 + p.k)) p.own (gateway_of hand) p.place end) (hands_of_task (gateway_count setting.script.gateways) p.place w) p.came.own) told.asks p.came.came in
-      let none = subst (λ n. AllZip (λ hand end. CameTo (workers_of setting.script (0 + p.k)) p.own (gateway_of hand) p.place end) (map hands.Gateway (range_with_len 0 n)) p.came.own) no_one all in
-      let empty = no_end (workers_of setting.script (0 + p.k)) p.own p.place answer.low answer.high told.selector_number p.came.own answer.series answer.sources none is in
-      worth_none answer sound no_one empty.0 empty.1 told.task told.selector_number told.asks told.selects p parts
-  by_gateways (name ∷ []) are few parts came by_one sound place answer told =
-      let p = phase_of setting 0 phases ends outcomes came place told.task (outcome.Query (query.Answer answer.series answer.sources)) told.at told.came in
-      let one : gateway_count setting.script.gateways ≡ 1 = ap gateway_count are in
-      let is = subst (λ (w : Work). IsOutcome w p.came.own (outcome.Query (query.Answer answer.series answer.sources))) told.asks p.came.is in
-      let all = subst (λ (w : Work). AllZip (λ hand end. CameTo (workers_of setting.script (0 + p.k)) p.own (gateway_of hand) p.place end) (hands_of_task (gateway_count setting.script.gateways) p.place w) p.came.own) told.asks p.came.came in
-      let single = subst (λ n. AllZip (λ hand end. CameTo (workers_of setting.script (0 + p.k)) p.own (gateway_of hand) p.place end) (map hands.Gateway (range_with_len 0 n)) p.came.own) one all in
-      let end = one_end (workers_of setting.script (0 + p.k)) p.own p.place answer.low answer.high told.selector_number p.came.own answer.series answer.sources single is in
+  by_gateways lawful parts came run sound place answer told =
+      let p = phase_of setting 0 phases ends outcomes came place told.task (outcome.Query (query.Answer answer.answer answer.names)) told.at told.came in
+      let asked : Work = work.Query answer.low answer.high told.selector_number in
+      let is = subst (λ (w : Work). IsOutcome w p.came.own (outcome.Query (query.Answer answer.answer answer.names))) told.asks p.came.is in
+      let of = is.2 in
+      let end : of.1 ≡ query.Answer answer.answer answer.names = cc (of.4) in
+      let out = subst (IsQueryOutcome of.0) end of.3 in
+      let zipped = subst (AllZip (IsPart asked) p.came.own) of.2 is.1 in
+      let all = by_all answer.low answer.high told.selector_number 0 p.came.own of.0 zipped out.0 in
       let number : 0 + p.k ≡ p.k = omega arith in
-      let given = by_one answer end.0 (record {
+      let their_answers : AllAnswered setting (ends ++ untold) answer.low answer.high answer.selector all.parts = record {
         phase_number = p.k;
         phase = p.phase;
         place = p.place;
@@ -228,29 +214,36 @@ module _ (setting : Setting) (journal : List Entry) (phases left : List Phase) (
         selects = told.selects;
         phase_ends = p.own;
         phase_came = slice_left ends untold p.k p.own p.in_ends;
-        came = subst (λ n. CameTo (workers_of setting.script n) p.own (Some 0) p.place (answered end.0 (called.Answer answer.series answer.sources))) number end.1;
-      }) one in
-      let only : answer.sources ++ [] ≡ answer.sources = append-nil answer.sources in
+        came = subst (λ n. CameAll (workers_of setting.script n) p.own p.place (hands_of_task (gateway_count setting.script.gateways) p.place told.task.work) (map end_of all.parts)) number
+            (subst (CameAll (workers_of setting.script (0 + p.k)) p.own p.place (hands_of_task (gateway_count setting.script.gateways) p.place told.task.work)) all.are p.came.came);
+      } in
+      let named = named_by_all setting journal (ends ++ untold) run answer.low answer.high answer.selector all.parts their_answers in
+      let names_all = names_of_all setting journal (ends ++ untold) run answer.low answer.high answer.selector all.parts their_answers in
+      let gathered = out.1 in
+      let merged : IsMerge (flat_map triples_of (series_of (Several.answers_of all.parts))) answer.answer.series =
+      subst (λ (ts : List Triple). IsMerge ts answer.answer.series) (ap (λ (l : List QueryPart). gathered_samples (answers_of l)) all.own_are ∙ samples_are all.parts) gathered.merged in
+      let by_their_parts = given_by_all setting journal (ends ++ untold) run answer.low answer.high answer.selector all.parts their_answers (partitions_counted setting.script lawful) answer.answer.series merged in
+      let of_all : gathered_sources (answers_of of.0) ≡ flat_map (λ (one : Named). one.sources) named =
+      ap (λ (l : List QueryPart). gathered_sources (answers_of l)) all.own_are ∙ sources_are 0 all.parts
+      ∙ ap (λ (l : List Names). flat_map (λ (one : Names). one.sources) l) (sym names_all) ∙ named_sources named in
       record {
-        named = named_by_one end.0 answer ∷ [];
-        sources = λ ulid. (λ among. subst (λ (l : List ℕ). Contains l ulid) (sym only) among, λ among. subst (λ (l : List ℕ). Contains l ulid) only among);
-        given = given;
-        sound = sound (answered_by (named_by_one end.0 answer ∷ []) answer) given;
+        named = named;
+        names = out.2 ∙ ap (names_of 0) all.own_are ∙ names_are 0 all.parts ∙ sym names_all;
+        sources = gathered.sources ∙ ap ascending of_all;
+        given = by_their_parts;
+        sound = sound (answered_by named answer) by_their_parts;
       }
-  by_gateways (name ∷ other ∷ names) are few parts came by_one sound place answer told = absurd (omega (arith, few))
 
 pub whole_answers : (setting : Setting) (as_asked : Bool) (text : List ℕ) (journal : List Entry) (run : IsWholeRun setting as_asked text journal) → IsLawfulScript setting.script → IsHonest journal
     → (place : ℕ) (answer : ToldAnswer) → IsTold setting.script setting.script.phases run.report.outcomes place answer → IsWorth setting journal run.ends answer
 whole_answers setting as_asked text journal run lawful honest place answer told =
     let same : run.ends ++ [] ≡ run.ends = append-nil run.ends in
     subst (λ es. IsWorth setting journal es answer) same
-    (by_gateways setting journal setting.script.phases [] run.ends [] run.report.outcomes setting.script.gateways refl lawful.few_gateways (sym (append-nil setting.script.phases)) run.report.came
-    (λ a used given one. given_by_one setting journal (run.ends ++ []) lawful (subst (IsRunOf setting journal) (sym same) run.run) honest a.low a.high a.selector used a.series a.sources given one)
-    (λ q given. run.guaranteed.sound honest q (subst (λ es. IsGiven setting es q) same given)) place answer told)
+    (by_gateways setting journal setting.script.phases [] run.ends [] run.report.outcomes lawful (sym (append-nil setting.script.phases)) run.report.came (subst (IsRunOf setting journal) (sym same) run.run)
+    (λ q by. run.guaranteed.sound honest q (subst (λ es. IsGiven setting es q) same by)) place answer told)
 
 pub full_answers : (setting : Setting) (text : List ℕ) (journal : List Entry) (run : IsFullRun setting text journal) → IsLawfulScript setting.script → IsHonest journal
     → (place : ℕ) (answer : ToldAnswer) → IsTold setting.script run.done run.report.outcomes place answer → IsWorth setting journal (run.told ++ (run.cut).untold) answer
 full_answers setting text journal run lawful honest place answer told =
     let cut = run.cut in
-    by_gateways setting journal run.done cut.left run.told cut.untold run.report.outcomes setting.script.gateways refl lawful.few_gateways cut.phases run.report.came
-    (λ a used given one. given_by_one setting journal (run.told ++ cut.untold) lawful cut.run honest a.low a.high a.selector used a.series a.sources given one) (λ q given. run.guaranteed.sound honest q given) place answer told
+    by_gateways setting journal run.done cut.left run.told cut.untold run.report.outcomes lawful cut.phases run.report.came cut.run (λ q by. run.guaranteed.sound honest q by) place answer told

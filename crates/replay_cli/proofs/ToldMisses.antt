@@ -1,6 +1,6 @@
 -- A missing object that a report tells of is one that a call found missing.
 use Rattle.list_core.proofs.Membership.{contains_first, contains_later, member_cases, no_member}
-use Rattle.std.proofs.Common.{◌≡◌, ◌⊎◌, inl, inr, ℕ, zero, suc, ◌+◌, ℤ, Bool, List, [], ◌∷◌, ◌++◌, Contains, refl, sym, ap, subst, arith}
+use Rattle.std.proofs.Common.{◌≡◌, ◌⊎◌, inl, inr, ℕ, zero, suc, ◌+◌, ℤ, Bool, List, [], ◌∷◌, ◌++◌, Contains, refl, sym, ap, subst, arith, Option, Some, map}
 use Rattle.std.specs.List.{AllZip}
 use Rattle.std.proofs.lemmas.List.Elements.{Contains-append_cases, Contains-append_left}
 use Rattle.world_core.specs.declared.entry.Entry.{Entry}
@@ -19,14 +19,19 @@ use Rattle.lifecycle_core.specs.Causes.{IsExplained, SomeCame}
 use Rattle.lifecycle_core.specs.Conducts.{CameTo}
 use Rattle.lifecycle_core.specs.Holdings.{Use}
 use Rattle.lifecycle_core.specs.Setting.{Setting}
-use Rattle.lifecycle_core.specs.Tasks.{End, answered, stopped, synced, uploaded, without_view}
-use Rattle.script_running.specs.Outcomes.{AreOne, IsOutcome, IsPart, IsQueryOutcome, PhasesCame, TaskCame, TasksCame}
+use Rattle.lifecycle_core.specs.Tasks.{End, answered, not_asked, stopped, synced, uploaded, without_view}
+use Rattle.script_running.specs.Outcomes.{IsOutcome, IsPart, IsQueryOutcome, PhasesCame, TaskCame, TasksCame, call_part, first_none}
 use Rattle.replay_cli.specs.Verdicts.{IsFullRun, IsWholeRun}
 use Rattle.script_running.specs.declared.outcome.Outcome.{Outcome}
 use Rattle.script_running.specs.declared.outcome.Outcome.TheVariants as outcome
 use Rattle.script_running.specs.declared.outcome.QueryOutcome.{QueryOutcome}
 use Rattle.script_running.specs.declared.outcome.QueryOutcome.TheVariants as query
+use Rattle.script_running.specs.declared.outcome.NoAnswer.{NoAnswer}
 use Rattle.script_running.specs.declared.outcome.NoAnswer.TheVariants as none
+use Rattle.script_running.specs.declared.part.Part.TheVariants as part
+use Rattle.script_running.specs.declared.part.QueryPart.{QueryPart}
+use Rattle.script_running.specs.declared.part.QueryPart.TheVariants as given
+use Rattle.std.proofs.lemmas.Option.{same_Some}
 use Rattle.replay_cli.proofs.CalmRuns.{end_came}
 
 -- a line that tells of a missing object
@@ -37,45 +42,48 @@ missing gateway number = outcome.Query (query.NoAnswer gateway (none.Missing num
 abbrev Missed : List End → ℕ → Type 0
 Missed own number = (used : Use) × Contains own (answered used (called.Missing number))
 
-call_missed : (first gateway number : ℕ) (used : Use) (end : SeriesEnd) → IsPart first (answered used end) (missing gateway number) → Missed (answered used end ∷ []) number
-call_missed first gateway number used (called.Answer series sources) is = absurd (cc (is))
-call_missed first gateway number used (called.Missing m) is =
-    let same : m ≡ number = cc (is) in
-    (used, subst (λ (k : ℕ). Contains (answered used (called.Missing m) ∷ []) (answered used (called.Missing k))) same (contains_first (answered used (called.Missing m)) []))
-call_missed first gateway number used (called.Damaged m) is = absurd (cc (is))
-call_missed first gateway number used (called.Fault m) is = absurd (cc (is))
+call_missed : (number : ℕ) (used : Use) (end : SeriesEnd) → given.NoAnswer (none.Missing number) ≡ call_part end → Missed (answered used end ∷ []) number
+call_missed number used (called.Answer series sources) is = absurd (cc (is))
+call_missed number used (called.Missing m) is =
+    let same : number ≡ m = cc (is) in
+    (used, subst (λ (k : ℕ). Contains (answered used (called.Missing m) ∷ []) (answered used (called.Missing k))) (sym same) (contains_first (answered used (called.Missing m)) []))
+call_missed number used (called.Damaged m) is = absurd (cc (is))
+call_missed number used (called.Fault m) is = absurd (cc (is))
 
-part_missed : (first : ℕ) (end : End) (gateway number : ℕ) → IsPart first end (missing gateway number) → Missed (end ∷ []) number
-part_missed first (answered used e) gateway number is = call_missed first gateway number used e is
-part_missed first without_view gateway number is = absurd (cc (is))
-part_missed first (uploaded e) gateway number is = absurd is
-part_missed first (synced e) gateway number is = absurd is
-part_missed first (stopped count) gateway number is = absurd is
+inner : (own other : QueryPart) → part.Query own ≡ part.Query other → own ≡ other
+inner own other is = cc (is)
 
--- of two parts, one is told
-both_missed : (own others : QueryOutcome) (gateway number : ℕ) → AreOne own others (missing gateway number) → (outcome.Query own ≡ missing gateway number) ⊎ (outcome.Query others ≡ missing gateway number)
-both_missed (query.NoAnswer g why) others gateway number is = inl (sym is)
-both_missed (query.Answer series sources) (query.NoAnswer g why) gateway number is = inr (sym is)
-both_missed (query.Answer series sources) (query.Answer more named) gateway number (all, merge, is) = absurd (cc (is))
+part_missed : (low high : ℤ) (n number : ℕ) (end : End) → IsPart (work.Query low high n) end (part.Query (given.NoAnswer (none.Missing number))) → Missed (end ∷ []) number
+part_missed low high n number (answered used e) is = call_missed number used e (inner (given.NoAnswer (none.Missing number)) (call_part e) is)
+part_missed low high n number without_view is = absurd (let same = inner (given.NoAnswer (none.Missing number)) (given.NoAnswer none.NoView) is in cc (same))
+part_missed low high n number not_asked is = absurd (let same = inner (given.NoAnswer (none.Missing number)) given.NotAsked is in cc (same))
+part_missed low high n number (uploaded e) is = absurd is
+part_missed low high n number (synced e) is = absurd is
+part_missed low high n number (stopped count) is = absurd is
 
-query_missed : (first : ℕ) (ends : List End) (gateway number : ℕ) → IsQueryOutcome first ends (missing gateway number) → Missed ends number
-query_missed first [] gateway number is = absurd (cc (is))
-query_missed first (end ∷ []) gateway number is = part_missed first end gateway number is
-query_missed first (end ∷ next ∷ ends) gateway number (own, others, part, rest, both) = elim (both_missed own others gateway number both) [
-  | inl here ↦
-      let m = part_missed first end gateway number (subst (IsPart first end) here part) in
-      (m.0, Contains-append_left (end ∷ []) (next ∷ ends) (answered m.0 (called.Missing number)) m.1)
-  | inr there ↦
-      let m = query_missed (first + 1) (next ∷ ends) gateway number (subst (IsQueryOutcome (first + 1) (next ∷ ends)) there rest) in
-      (m.0, contains_later end (answered m.0 (called.Missing number)) (next ∷ ends) m.1)
-]
+later_missed : (end : End) (ends : List End) (number : ℕ) → Missed ends number → Missed (end ∷ ends) number
+later_missed end ends number m = (m.0, contains_later end (answered m.0 (called.Missing number)) ends m.1)
+
+query_missed : (low high : ℤ) (n first : ℕ) (ends : List End) (own : List QueryPart) (gateway number : ℕ) → AllZip (IsPart (work.Query low high n)) ends (map part.Query own) → first_none first own ≡ Some (gateway, none.Missing number) → Missed ends number
+query_missed low high n first [] [] gateway number all is = absurd (cc (is))
+query_missed low high n first [] (q ∷ own) gateway number all is = absurd all
+query_missed low high n first (end ∷ ends) [] gateway number all is = absurd all
+query_missed low high n first (end ∷ ends) (given.NotAsked ∷ own) gateway number all is = later_missed end ends number (query_missed low high n (first + 1) ends own gateway number all.1 is)
+query_missed low high n first (end ∷ ends) (given.Answer a ∷ own) gateway number all is = later_missed end ends number (query_missed low high n (first + 1) ends own gateway number all.1 is)
+query_missed low high n first (end ∷ ends) (given.NoAnswer why ∷ own) gateway number all is =
+    let pair : ◌≡◌ {A = ℕ × NoAnswer} (first, why) (gateway, none.Missing number) = same_Some (first, why) (gateway, none.Missing number) is in
+    let same : why ≡ none.Missing number = ap (λ (p : ℕ × NoAnswer). p.1) pair in
+    let m = part_missed low high n number end (subst (λ (y : NoAnswer). IsPart (work.Query low high n) end (part.Query (given.NoAnswer y))) same all.0) in
+    (m.0, Contains-append_left (end ∷ []) ends (answered m.0 (called.Missing number)) m.1)
+
+end_is : (gateway number : ℕ) (end : QueryOutcome) → missing gateway number ≡ outcome.Query end → end ≡ query.NoAnswer gateway (none.Missing number)
+end_is gateway number end is = cc (is)
 
 all_missed : (w : Work) (own : List End) (gateway number : ℕ) → IsOutcome w own (missing gateway number) → Missed own number
-all_missed (work.Upload ulid stop) (uploaded e ∷ []) gateway number is = absurd (cc (is))
-all_missed (work.Upload ulid stop) (stopped count ∷ []) gateway number is = absurd (cc (is))
-all_missed (work.Sync own) (synced e ∷ []) gateway number is = absurd (cc (is))
-all_missed (work.Query low high n) own gateway number is = query_missed 0 own gateway number is
-all_missed w own gateway number is = absurd is
+all_missed (work.Upload ulid stop) own gateway number (parts, zipped, (end, are, is)) = absurd (cc (is))
+all_missed (work.Sync g) own gateway number (parts, zipped, (end, are, is)) = absurd (cc (is))
+all_missed (work.Query low high n) own gateway number (parts, zipped, (given_parts, end, are, is, same)) =
+    query_missed low high n 0 own given_parts gateway number (subst (AllZip (IsPart (work.Query low high n)) own) are zipped) (subst (IsQueryOutcome given_parts) (end_is gateway number end same) is)
 
 -- ---- among the ends of a run
 

@@ -1,19 +1,19 @@
 -- How far a run in the order of the lines has come, as the contracts of its parts say it.
-use Rattle.std.specs.Prelude.{◌≡◌, ◌≢◌, ℕ, ◌+◌, ◌<◌, Bool, true, false, List, [], ◌∷◌, ◌++◌, length, take, drop, Some, slice_get, Result, Ok, Err}
+use Rattle.std.specs.Prelude.{◌≡◌, ◌≢◌, ℕ, ◌+◌, ◌<◌, Bool, true, false, List, [], ◌∷◌, ◌++◌, length, take, drop, All, Option, Some, slice_get, Result, Ok, Err}
 use Rattle.std.specs.List.{list_all}
 use Rattle.world_core.specs.declared.entry.Entry.{Entry}
 use Rattle.store_gateway.specs.declared.gateway.Gateway.{Gateway}
-use Rattle.script_workers.specs.Hands.{gateway_count}
+use Rattle.script_workers.specs.Hands.{gateway_count, gateway_of}
 use Rattle.script_workers.specs.declared.hand.Hand.{Hand}
 use Rattle.script_workers.specs.declared.phase.Phase.{Phase}
 use Rattle.script_workers.specs.declared.task.Task.{Task}
-use Rattle.lifecycle_core.specs.Holdings.{Holdings, none_held}
-use Rattle.lifecycle_core.specs.InLine.{Duty, duties_from, InLine, in_line}
+use Rattle.lifecycle_core.specs.Holdings.{Holding, Holdings, holding_of, none_held, with_holding}
+use Rattle.lifecycle_core.specs.InLine.{Duty, duties_from, InLine, in_line, who_does}
 use Rattle.lifecycle_core.specs.Setting.{Setting}
-use Rattle.lifecycle_core.specs.Tasks.{End}
+use Rattle.lifecycle_core.specs.Tasks.{End, TaskRun}
 use Rattle.lifecycle_core.specs.Ways.{AreInTurn, AreUnfinished, IsOperationDue, PhasesRun}
 use Rattle.script_running.specs.Outcomes.{IsOutcome, PhasesTold, is_as_asked}
-use Rattle.script_running.specs.Tasks.{IsDueAfter, Sees, WhenFull}
+use Rattle.script_running.specs.Tasks.{CameBy, Does, IsDueAfter, Sees, WhenFull}
 use Rattle.replay_cli.specs.Verdicts.{report_of, tasks_of}
 use Rattle.script_running.specs.declared.came.Broken.{Broken}
 use Rattle.script_running.specs.declared.came.Broken.TheVariants as broken
@@ -32,12 +32,20 @@ Shows views gateways = (place : ℕ) (gateway : Gateway) → slice_get gateways 
 abbrev pub duties_at : Setting → ℕ → List Task → List Duty
 duties_at setting place tasks = duties_from (gateway_count setting.script.gateways) place tasks
 
--- the hand alone does the task at a place
-abbrev pub IsOnlyHand : Setting → ℕ → Task → Hand → Type 0
-IsOnlyHand setting place task hand = duties_at setting place (task ∷ []) ≡ record { place = place; hand = hand; task = task } ∷ []
+-- a worker's part of the task at a place: its entries and what it came to
+pub record PartStep (setting : Setting) (seat : Hand → ℕ) (place : ℕ) (task : Task) (hand : Hand) (views : Holdings) (gateways : List Gateway) (old new : List Entry) (came : Came) : Type 0 where
+  pub made : List Entry
+  pub entries : new ≡ old ++ made
+  pub seats : All (λ e. e.seat ≡ seat hand) made
+  pub end : Option End
+  pub after : Holding
+  pub run : TaskRun setting (who_does seat hand) place task.work (holding_of views (gateway_of hand)) made end after
+  pub shows : Shows (with_holding views (gateway_of hand) after) gateways
+  pub by : CameBy task.work end came
+  pub due : WhenFull came (IsDueAfter (Does setting (who_does seat hand) place task.work (holding_of views (gateway_of hand))) (seat hand) made)
 
 -- the task has come to all its ends, or the full journal left one out
-abbrev pub IsWhole : Setting → ℕ → Task → List End → Came → Type 0
+abbrev pub IsWhole : Setting → ℕ → Task → List End → Result Outcome Broken → Type 0
 IsWhole setting place task ends (Ok o) = (length ends ≡ length (duties_at setting place (task ∷ []))) × IsOutcome task.work ends o
 IsWhole setting place task ends (Err broken.Full) = length ends < length (duties_at setting place (task ∷ []))
 IsWhole setting place task ends (Err broken.NoMemory) = Unit {0}
@@ -47,7 +55,7 @@ abbrev pub IsDueInLine : Setting → (Hand → ℕ) → Holdings → List Duty �
 IsDueInLine setting seat views duties made = (at : ℕ) × IsDueAfter (λ entries (run : List End × Holdings). InLine setting seat views duties entries run.0 run.1) at made
 
 -- a task's entries and what it came to
-pub record TaskStep (setting : Setting) (seat : Hand → ℕ) (place : ℕ) (task : Task) (views : Holdings) (gateways : List Gateway) (old new : List Entry) (came : Came) : Type 0 where
+pub record TaskStep (setting : Setting) (seat : Hand → ℕ) (place : ℕ) (task : Task) (views : Holdings) (gateways : List Gateway) (old new : List Entry) (came : Result Outcome Broken) : Type 0 where
   pub made : List Entry
   pub entries : new ≡ old ++ made
   pub ends : List End

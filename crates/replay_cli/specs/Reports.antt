@@ -1,12 +1,16 @@
 -- The lines of a report: one for each activity, and more for an answered query.
-use Rattle.std.specs.Prelude.{ℕ, ℤ, List, [], ◌∷◌, ◌++◌, length, codes, slice_get}
-use Rattle.std.specs.List.{flat_map}
+use Rattle.std.specs.Prelude.{ℕ, ◌-◌, ◌^◌, min, ℤ, Bool, not, ◌&&◌, List, [], ◌∷◌, ◌++◌, length, codes, slice_get, if◌then◌else◌}
+use Rattle.std.specs.List.{flat_map, list_any, sum_by}
 use Rattle.std.specs.Option.{option_map_or}
+use Rattle.std.specs.Ordering.{int_eq}
 use Rattle.reading_core.specs.Decimal.{decimal_text, signed_text}
 use Rattle.ulid_core.specs.UlidText.{text_of}
 use Rattle.label_sets.specs.Counts.{sample_count}
 use Rattle.label_sets.specs.SampleText.{series_text}
 use Rattle.label_sets.specs.declared.series.Series.{Series}
+use Rattle.moment_core.specs.Partitions.{all_times}
+use Rattle.moment_core.specs.declared.partition.Partition.{Partition}
+use Rattle.querier.specs.declared.answer.Names.{Names}
 use Rattle.script_core.specs.declared.script.Script.{Script}
 use Rattle.script_workers.specs.declared.work.Work.{Work}
 use Rattle.script_workers.specs.declared.work.Work.TheVariants as work
@@ -50,21 +54,49 @@ gateway_name script gateway = option_map_or (λ name. name) (slice_get script.ga
 unfoldable pub source_line : ℕ → List ℕ
 source_line ulid = codes "source " ++ text_of ulid ++ newline
 
+-- a source of a gateway's answer
+unfoldable pub named_line : Script → ℕ → ℕ → List ℕ
+named_line script gateway ulid =
+    codes "source " ++ gateway_name script gateway ++ codes " " ++ text_of ulid ++ newline
+
+unfoldable pub named_lines : Script → Names → List ℕ
+named_lines script names = flat_map (named_line script names.gateway) names.sources
+
+-- A gateway's line gives it a partition. None gives it all times.
+abbrev pub is_part : Partition → Bool
+is_part partition = not (int_eq partition.low all_times.low && int_eq partition.high all_times.high)
+
+-- some gateway's line does
+abbrev pub are_parted : Script → Bool
+are_parted script = list_any is_part script.partitions
+
+-- how many uploads gateways name together; the count stands still at the end of 64 bits
+unfoldable pub named_count : List Names → ℕ
+named_count names = min (sum_by (λ one. length one.sources) names) (2 ^ 64 - 1)
+
 unfoldable pub series_line : Series → List ℕ
 series_line series = codes "series " ++ series_text series ++ newline
 
 -- how many series, samples and sources an answer has
-unfoldable pub counts_text : List Series → List ℕ → List ℕ
+unfoldable pub counts_text : List Series → ℕ → List ℕ
 counts_text series sources =
     decimal_text (length series) ++ codes " series " ++ (decimal_text (sample_count series) ++ codes " samples ")
-    ++ (decimal_text (length sources) ++ codes " sources") ++ newline
+    ++ (decimal_text sources ++ codes " sources") ++ newline
 
 -- the counts of an answer, a line for each source and one for each series
 unfoldable pub answer_text : List Series → List ℕ → List ℕ
-answer_text series sources = counts_text series sources ++ flat_map source_line sources ++ flat_map series_line series
+answer_text series sources =
+    counts_text series (length sources) ++ flat_map source_line sources ++ flat_map series_line series
 
+-- the same with the sources by gateway
+unfoldable pub parted_text : Script → List Series → List Names → List ℕ
+parted_text script series names =
+    counts_text series (named_count names) ++ flat_map (named_lines script) names ++ flat_map series_line series
+
+-- An answered query tells its sources by gateway where some gateway has a partition, and else those of all gateways together.
 unfoldable pub query_text : Script → QueryOutcome → List ℕ
-query_text script (query.Answer series sources) = answer_text series sources
+query_text script (query.Answer answer names) =
+    if are_parted script then parted_text script answer.series names else answer_text answer.series answer.sources
 query_text script (query.NoAnswer gateway why) = gateway_name script gateway ++ codes " " ++ no_answer_words why ++ newline
 
 abbrev pub upload_line : ℕ → UploadOutcome → List ℕ

@@ -1,13 +1,15 @@
 ghost use Rattle.std.specs.Prelude.{◌≡◌, ◌++◌, ◌∷◌, [], codes, length, OnOk};
-ghost use Rattle.std.specs.List.{flat_map};
+ghost use Rattle.std.specs.List.{flat_map, list_any};
 ghost use Rattle.reading_core.specs.Decimal.{decimal_text, signed_text};
 ghost use Rattle.ulid_core.specs.UlidText.{text_of};
 ghost use Rattle.replay_cli.specs.Checks.{check_line};
-ghost use Rattle.replay_cli.specs.Reports.{activity_text, gateway_name, upload_line, sync_line, query_line, query_text, no_answer_words, answer_text, counts_text, source_line, series_line, newline};
+ghost use Rattle.replay_cli.specs.Reports.{activity_text, gateway_name, upload_line, sync_line, query_line, query_text, no_answer_words, answer_text, parted_text, counts_text, source_line, named_line, named_lines, named_count, is_part, series_line, newline};
 
 use crate::check_outcome::CheckOutcome;
 use label_sets::{Series, SeriesList, sample_count};
 use list_core::NoMemory;
+use moment_core::Partition;
+use querier::{Names, NamesList};
 use reading_core::{put_signed, put_unsigned};
 use script_core::{Script, Task, Work};
 use script_running::{NoAnswer, Outcome, QueryOutcome, SyncOutcome, UploadOutcome};
@@ -139,7 +141,13 @@ fn put_query_end(out: &mut Vec<u8>, script: &Script, end: &QueryOutcome) -> Resu
     ensures { OnOk result (out.new.items ≡ out.old.items ++ query_text script.now end.now) }
 {
     match end {
-        QueryOutcome::Answer(series, sources) => put_answer(out, series, sources),
+        QueryOutcome::Answer(answer, names) => {
+            if are_parted(script.partitions.members()) {
+                put_parted(out, script, &answer.series, names)
+            } else {
+                put_answer(out, &answer.series, &answer.sources)
+            }
+        }
         QueryOutcome::NoAnswer(gateway, why) => {
             put_text(out, gateway_name(script, *gateway))?;
             put_text(out, " ")?;
@@ -161,22 +169,68 @@ fn put_no_answer(out: &mut Vec<u8>, why: &NoAnswer) -> Result<(), NoMemory>
     }
 }
 
+/// Whether some gateway's line gives it a partition.
+fn are_parted(partitions: &[Partition]) -> bool
+    ensures { result ≡ list_any is_part partitions.now }
+{
+    match partitions {
+        [] => false,
+        [first, others @ ..] => is_part(first) || are_parted(others),
+    }
+}
+
+fn is_part(partition: &Partition) -> bool
+    ensures { result ≡ is_part partition.now }
+{
+    let whole = (partition.low == i64::MIN) & (partition.high == i64::MAX);
+    !whole
+}
+
+/// Appends an answer with the sources of all gateways together.
 #[tactic(auto, unfolding(crate::specs::Reports::answer_text))]
 fn put_answer(out: &mut Vec<u8>, series: &SeriesList, sources: &UlidList) -> Result<(), NoMemory>
     ensures { OnOk result (out.new.items ≡ out.old.items ++ answer_text series.now sources.now) }
 {
-    put_counts(out, series, sources)?;
+    put_counts(out, series, sources.len() as u64)?;
     put_sources(out, sources.members())?;
     put_all_series(out, series.members())
 }
 
+/// Appends an answer with the sources of each gateway.
+#[tactic(auto, unfolding(crate::specs::Reports::parted_text))]
+fn put_parted(
+    out: &mut Vec<u8>,
+    script: &Script,
+    series: &SeriesList,
+    names: &NamesList,
+) -> Result<(), NoMemory>
+    ensures { OnOk result
+        (out.new.items ≡ out.old.items ++ parted_text script.now series.now names.now) }
+{
+    put_counts(out, series, named_count(names.members()))?;
+    put_all_named(out, script, names.members())?;
+    put_all_series(out, series.members())
+}
+
+/// How many uploads gateways name together.
+#[tactic(auto, unfolding(crate::specs::Reports::named_count))]
+fn named_count(names: &[Names]) -> u64
+    ensures { result ≡ named_count names.now }
+{
+    let mut count = 0u64;
+    for one in names {
+        count = count.saturating_add(one.sources.len() as u64);
+    }
+    count
+}
+
 #[tactic(auto, unfolding(crate::specs::Reports::counts_text))]
-fn put_counts(out: &mut Vec<u8>, series: &SeriesList, sources: &UlidList) -> Result<(), NoMemory>
-    ensures { OnOk result (out.new.items ≡ out.old.items ++ counts_text series.now sources.now) }
+fn put_counts(out: &mut Vec<u8>, series: &SeriesList, sources: u64) -> Result<(), NoMemory>
+    ensures { OnOk result (out.new.items ≡ out.old.items ++ counts_text series.now sources) }
 {
     put_count(out, series.len() as u64, " series ")?;
     put_count(out, sample_count(series.members()), " samples ")?;
-    put_count(out, sources.len() as u64, " sources")?;
+    put_count(out, sources, " sources")?;
     put_text(out, "\n")
 }
 
@@ -201,6 +255,43 @@ fn put_source(out: &mut Vec<u8>, source: Ulid) -> Result<(), NoMemory>
     ensures { OnOk result (out.new.items ≡ out.old.items ++ source_line source) }
 {
     put_text(out, "source ")?;
+    source.put_text(out)?;
+    put_text(out, "\n")
+}
+
+fn put_all_named(out: &mut Vec<u8>, script: &Script, names: &[Names]) -> Result<(), NoMemory>
+    ensures { OnOk result
+        (out.new.items ≡ out.old.items ++ flat_map (named_lines script.now) names.now) }
+{
+    for one in names {
+        put_named(out, script, one)?;
+    }
+    Ok(())
+}
+
+/// Appends a line for each upload that the gateway names.
+#[tactic(auto, unfolding(crate::specs::Reports::named_lines))]
+fn put_named(out: &mut Vec<u8>, script: &Script, names: &Names) -> Result<(), NoMemory>
+    ensures { OnOk result (out.new.items ≡ out.old.items ++ named_lines script.now names.now) }
+{
+    for source in names.sources.members() {
+        put_named_source(out, script, names.gateway, *source)?;
+    }
+    Ok(())
+}
+
+#[tactic(auto, unfolding(crate::specs::Reports::named_line))]
+fn put_named_source(
+    out: &mut Vec<u8>,
+    script: &Script,
+    gateway: u32,
+    source: Ulid,
+) -> Result<(), NoMemory>
+    ensures { OnOk result (out.new.items ≡ out.old.items ++ named_line script.now gateway source) }
+{
+    put_text(out, "source ")?;
+    put_text(out, gateway_name(script, gateway))?;
+    put_text(out, " ")?;
     source.put_text(out)?;
     put_text(out, "\n")
 }

@@ -1,30 +1,31 @@
 //! One task of a script, done in the order of the lines.
 
-ghost use Rattle.std.specs.Prelude.{◌≡◌, ◌<◌, [], ℕ, false, Err, IsTrue, length};
+ghost use Rattle.std.specs.Prelude.{◌≡◌, ◌≢◌, ◌<◌, ◌^◌, ℕ, false, Err, IfOk, IfSome, IsTrue, Some, length, slice_get};
 ghost use Rattle.world_core.specs.Keeping.{IsFull};
 ghost use Rattle.script_core.specs.Lawful.{IsLawfulScript};
-ghost use Rattle.script_workers.specs.declared.hand.Hand.TheVariants as hands;
+ghost use Rattle.script_workers.specs.Hands.{gateway_of, hands_of_task};
+ghost use Rattle.script_workers.specs.declared.work.Work.{Work};
 ghost use Rattle.lifecycle_core.specs.Conducts.{Who};
 ghost use Rattle.lifecycle_core.specs.Holdings.{Holding, Holdings};
 ghost use Rattle.lifecycle_core.specs.InLine.{seat_of};
 ghost use Rattle.lifecycle_core.specs.Setting.{setting_of};
+ghost use Rattle.script_running.specs.Outcomes.{AreAllParts, IsOutcomeOf};
 ghost use Rattle.script_running.specs.Tasks.{Allows, HasDone, Sees, is_full_came};
 ghost use Rattle.replay_cli.specs.LineHands.{KeepsRun};
-ghost use Rattle.replay_cli.specs.Progress.{IsOnlyHand, Shows, TaskStep};
+ghost use Rattle.replay_cli.specs.Progress.{PartStep, Shows, TaskStep};
 
 use crate::line_hand::LineHand;
 use crate::phases::Progress;
 use crate::seats::Seats;
 use bucket_core::Bucket;
-use label_sets::SeriesList;
+use list_core::NoMemory;
 use meta_fetcher::View;
 use script_core::{Hand, Script, Task, Work};
-use script_running::{Broken, Came, Outcome, QueryOutcome, run_task};
+use script_running::{Broken, Came, Outcome, Part, outcome_of, run_task};
 use std::alloc::Global;
-use ulid_core::UlidList;
 
-/// Does one task, before the next one begins. A query is asked of the one gateway, where there is one.
-#[tactic(auto, using(crate::proofs::Unfailed::kept))]
+/// Does one task, before the next one begins: those who do it come one after another, and what they came to is gathered.
+#[tactic(auto, using(crate::proofs::Unfailed::kept, crate::proofs::Unfailed::kept_on))]
 pub(crate) fn do_task<B: Bucket>(
     alloc: Global,
     script: &Script,
@@ -33,7 +34,7 @@ pub(crate) fn do_task<B: Bucket>(
     seats: &Seats,
     progress: &mut Progress,
     hand: LineHand<B>,
-) -> (Came, LineHand<B>)
+) -> (Result<Outcome, Broken>, LineHand<B>)
     requires lawful { IsLawfulScript script.now }
     requires work { Allows script.now task.now.work }
     requires ready { length progress.old.gateways.items ≡ length script.now.gateways }
@@ -52,31 +53,53 @@ pub(crate) fn do_task<B: Bucket>(
     ensures workers { progress.new.workers ≡ progress.old.workers }
     ensures ready { length progress.new.gateways.items ≡ length script.now.gateways }
 {
-    match &task.work {
-        Work::Upload(..) => {
-            let seat = seats.seat_of(Hand::Upload(place as u64));
-            let mut unseen = None;
-            do_over(alloc, script, &task.work, &mut unseen, hand, seat)
+    let count = hand_count(&task.work, progress.gateways.len());
+    let Ok(mut parts) = Vec::with_capacity(alloc, count) else {
+        return (Err(Broken::NoMemory), hand);
+    };
+    let mut hand = hand;
+    for number in 0..count {
+        let who = hand_at(&task.work, place, number);
+        let (came, next) = do_part(alloc, script, task, place, who, seats, progress, hand);
+        hand = next;
+        match came {
+            Ok(part) => parts.push_reserved(part),
+            Err(broken) => return (Err(broken), hand),
         }
-        Work::Sync(number) => at_gateway(
-            alloc, script, task, place, *number, seats, progress, hand,
-        ),
-        Work::Query { .. } => {
-            if progress.gateways.is_empty() {
-                return (Ok(answer_of_none(alloc)), hand);
-            }
-            at_gateway(alloc, script, task, place, 0, seats, progress, hand)
-        }
+    }
+    (gathered(alloc, parts), hand)
+}
+
+/// How many do a task, where there are so many gateways.
+fn hand_count(work: &Work, gateways: usize) -> usize
+    ensures { (place : ℕ) → result ≡ length (hands_of_task gateways place work.now) }
+{
+    match work {
+        Work::Upload(..) | Work::Sync(_) => 1,
+        Work::Query { .. } => gateways,
     }
 }
 
-/// Has the gateway of this number do the task.
-fn at_gateway<B: Bucket>(
+/// Who is the one of this number that does the task at a place.
+fn hand_at(work: &Work, place: usize, number: usize) -> Hand
+    requires few { number < 2 ^ 32 }
+    ensures { (gateways : ℕ) → number < length (hands_of_task gateways place work.now)
+        → slice_get (hands_of_task gateways place work.now) number ≡ Some result }
+{
+    match work {
+        Work::Upload(..) => Hand::Upload(place as u64),
+        Work::Sync(gateway) => Hand::Gateway(*gateway),
+        Work::Query { .. } => Hand::Gateway(number as u32),
+    }
+}
+
+/// Does one worker's part of a task.
+fn do_part<B: Bucket>(
     alloc: Global,
     script: &Script,
     task: &Task,
     place: usize,
-    number: u32,
+    who: Hand,
     seats: &Seats,
     progress: &mut Progress,
     hand: LineHand<B>,
@@ -86,31 +109,54 @@ fn at_gateway<B: Bucket>(
     requires ready { length progress.old.gateways.items ≡ length script.now.gateways }
     requires unrefused { hand.refused ≡ false }
     requires unwanted { hand.wanted ≡ false }
-    requires within { number < length progress.old.gateways.items }
-    requires alone { IsOnlyHand (setting_of script.now) place task.now (hands.Gateway number) }
+    requires within { IfSome (gateway_of who)
+        (λ gateway. gateway < length progress.old.gateways.items) }
     ensures full { result.0 ≡ Err Broken.Full → IsFull result.1.world.journal }
     ensures refused { result.1.refused ≡ is_full_came result.0 }
     ensures wanted { IsTrue result.1.wanted → result.0 ≡ Err Broken.NoMemory }
     ensures keeps { KeepsRun B.faults B.quiet B.asked hand.opened.value hand.wanted hand.world
         result.1.opened.value result.1.wanted result.1.world }
     ensures step { (views : Holdings) → Shows views progress.old.gateways.items
-        → TaskStep (setting_of script.now)
-        (seat_of seats.now.workers) place task.now views progress.new.gateways.items
+        → PartStep (setting_of script.now)
+        (seat_of seats.now.workers) place task.now who views progress.new.gateways.items
         hand.world.journal result.1.world.journal result.0 }
     ensures report { progress.new.report ≡ progress.old.report }
     ensures workers { progress.new.workers ≡ progress.old.workers }
     ensures ready { length progress.new.gateways.items ≡ length script.now.gateways }
 {
-    let seat = seats.seat_of(Hand::Gateway(number));
-    let gateway = &mut progress.gateways[number as usize];
-    do_over(alloc, script, &task.work, &mut gateway.view, hand, seat)
+    let seat = seats.seat_of(who);
+    match who {
+        Hand::Upload(_) => {
+            let mut unseen = None;
+            do_over(alloc, script, None, &task.work, &mut unseen, hand, seat)
+        }
+        Hand::Gateway(number) => {
+            let gateway = &mut progress.gateways[number as usize];
+            let own = Some(number);
+            do_over(
+                alloc,
+                script,
+                own,
+                &task.work,
+                &mut gateway.view,
+                hand,
+                seat,
+            )
+        }
+    }
 }
 
-/// What a query answers that no gateway was asked.
-fn answer_of_none(alloc: Global) -> Outcome
-    ensures { result ≡ Outcome.Query (QueryOutcome.Answer [] []) }
+/// How a task came out, by all its parts.
+fn gathered(alloc: Global, parts: Vec<Part>) -> Result<Outcome, Broken>
+    requires few { length parts.items < 2 ^ 32 }
+    ensures whole { (work : Work) → AreAllParts work parts.items
+        → IfOk result (IsOutcomeOf work parts.items) }
+    ensures why { result ≢ Err Broken.Full }
 {
-    Outcome::Query(QueryOutcome::Answer(SeriesList::new(alloc), UlidList::new(alloc)))
+    match outcome_of(alloc, parts) {
+        Ok(outcome) => Ok(outcome),
+        Err(NoMemory) => Err(Broken::NoMemory),
+    }
 }
 
 /// Does a task from a worker's seat.
@@ -118,6 +164,7 @@ fn answer_of_none(alloc: Global) -> Outcome
 fn do_over<B: Bucket>(
     alloc: Global,
     script: &Script,
+    gateway: Option<u32>,
     work: &Work,
     view: &mut Option<View>,
     hand: LineHand<B>,
@@ -132,11 +179,12 @@ fn do_over<B: Bucket>(
     ensures wanted { IsTrue result.1.wanted → result.0 ≡ Err Broken.NoMemory }
     ensures keeps { KeepsRun B.faults B.quiet B.asked hand.opened.value hand.wanted hand.world
         result.1.opened.value result.1.wanted result.1.world }
-    ensures done { (who : Who) (place : ℕ) (held : Holding) → Sees held view.old
+    ensures done { (who : Who) (place : ℕ) (held : Holding) → who.gateway ≡ gateway
+        → Sees held view.old
         → HasDone (setting_of script.now) who place work.now held seat
         hand.world.journal result.1.world.journal view.new result.0 }
 {
     let mut hand = hand.at_seat(seat);
-    let came = run_task(alloc, script, work, view, &mut hand);
+    let came = run_task(alloc, script, gateway, work, view, &mut hand);
     (came, hand)
 }

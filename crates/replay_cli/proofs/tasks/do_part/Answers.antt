@@ -1,0 +1,27 @@
+use Rattle.std.proofs.Common.{sym, ◌∙◌, ap, refl}
+use Rattle.std.specs.Prelude.{Some}
+use Rattle.std.proofs.lemmas.Option.{slice_get-get_or}
+use Rattle.script_workers.specs.declared.hand.Hand.TheVariants as hands
+use Rattle.lifecycle_core.specs.Holdings.{nothing_held}
+use Rattle.lifecycle_core.specs.InLine.{seat_of, who_does}
+use Rattle.lifecycle_core.specs.Setting.{setting_of}
+use Rattle.replay_cli.proofs.Steps.{gateway_inside, gateway_step, upload_step}
+use Rattle.replay_cli.proofs.tasks.do_part.Goals as goal
+
+pub returns-in-Upload-clause-step : goal.returns-in-Upload-clause-step
+returns-in-Upload-clause-step g c = λ views shows.
+    upload_step (setting_of c.args.script.now) (seat_of c.args.seats.now.workers) c.seat_of-seat.result c.args.place c.in-Upload.field-0 c.args.task.now c.args.who views c.args.progress.now.gateways.items c.args.hand.world.journal c.do_over.result.1.world.journal c.do_over.new.view c.do_over.result.0
+    c.in-Upload.is c.seat_of-seat.ensures (c.do_over.ensures.done (who_does (seat_of c.args.seats.now.workers) (hands.Upload c.in-Upload.field-0)) c.args.place nothing_held refl refl) shows
+
+pub returns-in-Gateway-clause-step : goal.returns-in-Gateway-clause-step
+returns-in-Gateway-clause-step g c = λ views shows.
+    gateway_step (setting_of c.args.script.now) (seat_of c.args.seats.now.workers) c.seat_of-seat.result c.args.place c.args.task.now c.args.who views c.args.progress.now.gateways.items c.args.hand.world.journal c.do_over.result.1.world.journal c.do_over.result.0
+    c.in-Gateway.number c.index_mut-gateway.result.now _ c.in-Gateway.is c.seat_of-seat.ensures
+    (slice_get-get_or c.args.progress.now.gateways.items c.in-Gateway.number c.index_mut-gateway.result.now (gateway_inside c.args.who c.in-Gateway.number c.args.progress.now.gateways.items c.in-Gateway.is c.requires.within) ∙ ap Some (sym c.index_mut-gateway.ensures.value))
+    (λ held sees. c.do_over.ensures.done (who_does (seat_of c.args.seats.now.workers) (hands.Gateway c.in-Gateway.number)) c.args.place held refl sees) shows
+
+pub returns-in-Upload-clause-wanted : goal.returns-in-Upload-clause-wanted
+returns-in-Upload-clause-wanted g c = c.do_over.ensures.wanted
+
+pub returns-in-Gateway-clause-wanted : goal.returns-in-Gateway-clause-wanted
+returns-in-Gateway-clause-wanted g c = c.do_over.ensures.wanted
