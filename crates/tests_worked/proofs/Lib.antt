@@ -4,6 +4,7 @@ pub mod SmallTasks
 pub mod Bucket
 pub mod OneBlock
 pub mod OtherReads
+pub mod SmallOutcomes
 pub mod OneReport
 pub mod OneAnswer
 pub mod YoungBlock

@@ -1,5 +1,6 @@
 -- The answered query of the script of one block.
-use Rattle.std.proofs.Common.{◌≡◌, ◌<◌, ℕ, pos, true, List, [], ◌∷◌, ◌++◌, All, Contains, Some, refl, sym, subst, lit<, lit≤}
+use Rattle.std.proofs.Common.{◌≡◌, ◌<◌, ℕ, pos, true, List, [], ◌∷◌, ◌++◌, All, Contains, Some, refl, sym, subst, arith, lit<, lit≤}
+use Rattle.std.proofs.lemmas.Int.{ints}
 use Rattle.std.proofs.lemmas.List.Elements.{All-nil, All-cons, All-from_recursion}
 use Rattle.std.specs.List.{IsDistinct, list_any}
 use Rattle.std.specs.List.Sorted.{IsStrictlySortedBy}
@@ -55,11 +56,7 @@ given = record {
   phase_came = refl;
   parts = (small.up ∷ []) ∷ [];
   given = (
-    record {
-      came = subst (λ (ws : List Worker). CameTo ws second_ends (Some 0) 1 (answered one.used (called.Answer (small.up ∷ []) (small.a ∷ [])))) (sym second_workers) answer_came;
-      from = refl;
-      upto = refl;
-    },
+    subst (λ (ws : List Worker). CameTo ws second_ends (Some 0) 1 (answered one.used (called.Answer (small.up ∷ []) (small.a ∷ [])))) (sym second_workers) answer_came,
     tt,
   );
   every = refl;
@@ -109,4 +106,4 @@ names = All-cons (λ (n : Named). All (λ ulid. IsUploadedBefore one.setting one
     (All-nil (λ (n : Named). All (λ ulid. IsUploadedBefore one.setting one.journal ulid n.used.last) n.sources))
 
 pub settled : IsSettled one.setting one.journal (sync_rules one.setting 0) one.used small.a
-settled = record { uploaded = uploaded_before 7 (lit< tt); old = lit≤ tt }
+settled = record { uploaded = uploaded_before 7 (lit< tt); old = lit≤ tt; passes = record { from = omega (arith, ints); upto = omega (arith, ints) } }

@@ -19,12 +19,13 @@ use Rattle.script_running.specs.declared.outcome.Outcome.{Outcome}
 use Rattle.script_running.specs.declared.outcome.Outcome.TheVariants as outcome
 use Rattle.script_running.specs.declared.outcome.UploadOutcome.TheVariants as uploads
 use Rattle.script_running.specs.declared.outcome.SyncOutcome.TheVariants as syncs
-use Rattle.script_running.specs.declared.outcome.QueryOutcome.TheVariants as queries
 use Rattle.tests_worked.specs.SmallBlock as small
 use Rattle.tests_worked.specs.OneBlock as one
 use Rattle.tests_worked.specs.OneBlockChanged as changed
 use Rattle.tests_worked.proofs.OneBlock.{uploader, gateway, first_workers, second_workers, first_tasks, second_tasks, first_ends, second_ends}
+use Rattle.replay_cli.proofs.OneReport.{outcome_once}
 use Rattle.tests_worked.proofs.OneReport.{outcomes, lines}
+use Rattle.tests_worked.proofs.SmallOutcomes.{small_out, small_outcome, sync_out, upload_out}
 
 -- ---- lists of two
 
@@ -80,25 +81,25 @@ upload_outcome : (o : Outcome) → TaskCame one.script (uploader ∷ []) first_e
 unfolding hands_of_task
 upload_outcome o came =
     let own = one_end (hands.Upload 0) (λ hand end. CameTo (uploader ∷ []) first_ends (gateway_of hand) 0 end) came.own came.came in
-    subst (λ (ends : List End). IsOutcome upload.work ends o) (own.1 ∙ ap (λ end. end ∷ []) (sym (upload_came own.0 own.2))) came.is
+    outcome_once upload.work (uploaded (shipped.Done 3) ∷ []) o (outcome.Upload (uploads.Done 3)) (subst (λ (ends : List End). IsOutcome upload.work ends o) (own.1 ∙ ap (λ end. end ∷ []) (sym (upload_came own.0 own.2))) came.is) (upload_out small.a None)
 
 sync_outcome : (o : Outcome) → TaskCame one.script (gateway ∷ []) second_ends 0 sync o → o ≡ outcome.Sync (syncs.Blocks 1)
 unfolding hands_of_task
 sync_outcome o came =
     let own = one_end (hands.Gateway 0) (λ hand end. CameTo (gateway ∷ []) second_ends (gateway_of hand) 0 end) came.own came.came in
-    subst (λ (ends : List End). IsOutcome sync.work ends o) (own.1 ∙ ap (λ end. end ∷ []) (sym (sync_came own.0 own.2))) came.is
+    outcome_once sync.work (synced (fetched.View one.view) ∷ []) o (outcome.Sync (syncs.Blocks 1)) (subst (λ (ends : List End). IsOutcome sync.work ends o) (own.1 ∙ ap (λ end. end ∷ []) (sym (sync_came own.0 own.2))) came.is) (sync_out 0 one.view 1 refl)
 
-query_outcome : (o : Outcome) → TaskCame one.script (gateway ∷ []) second_ends 1 query o → o ≡ outcome.Query (queries.Answer (small.up ∷ []) (small.a ∷ []))
+query_outcome : (o : Outcome) → TaskCame one.script (gateway ∷ []) second_ends 1 query o → o ≡ small_outcome
 unfolding hands_of_task
 query_outcome o came =
     let own = one_end (hands.Gateway 0) (λ hand end. CameTo (gateway ∷ []) second_ends (gateway_of hand) 1 end) came.own came.came in
-    subst (λ (ends : List End). IsOutcome query.work ends o) (own.1 ∙ ap (λ end. end ∷ []) (sym (query_came own.0 own.2))) came.is
+    outcome_once query.work (answered one.used (called.Answer (small.up ∷ []) (small.a ∷ [])) ∷ []) o small_outcome (subst (λ (ends : List End). IsOutcome query.work ends o) (own.1 ∙ ap (λ end. end ∷ []) (sym (query_came own.0 own.2))) came.is) (small_out (pos 0) (pos 5000) 0 one.used)
 
 first_outcomes : (os : List Outcome) → TasksCame one.script (uploader ∷ []) first_ends 0 first_tasks os → os ≡ outcome.Upload (uploads.Done 3) ∷ []
 first_outcomes [] came = absurd came
 first_outcomes (o ∷ os) came = let one = upload_outcome o came.0 in cc (one, came.1)
 
-second_outcomes : (os : List Outcome) → TasksCame one.script (gateway ∷ []) second_ends 0 second_tasks os → os ≡ outcome.Sync (syncs.Blocks 1) ∷ outcome.Query (queries.Answer (small.up ∷ []) (small.a ∷ [])) ∷ []
+second_outcomes : (os : List Outcome) → TasksCame one.script (gateway ∷ []) second_ends 0 second_tasks os → os ≡ outcome.Sync (syncs.Blocks 1) ∷ small_outcome ∷ []
 second_outcomes [] came = absurd came
 second_outcomes (o ∷ []) came = absurd came.1
 second_outcomes (o ∷ p ∷ os) came = let one = sync_outcome o came.0 in let two = query_outcome p came.1.0 in cc (one, two, came.1.1)

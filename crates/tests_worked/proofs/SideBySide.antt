@@ -265,7 +265,7 @@ given = record {
   phase_ends = phase_ends;
   phase_came = refl;
   parts = (small.up ∷ []) ∷ [];
-  given = (record { came = subst (λ (ws : List Worker). CameTo ws phase_ends (Some 0) 1 answer) (sym workers_are) came; from = refl; upto = refl }, tt);
+  given = (subst (λ (ws : List Worker). CameTo ws phase_ends (Some 0) 1 answer) (sym workers_are) came, tt);
   every = refl;
   series = small.up ∷ [];
   merged = merge_given;

@@ -26,7 +26,7 @@ use Rattle.tests_worked.specs.YoungBlock as young
 use Rattle.block_meta.specs.MetaFields.{fields_of}
 use Rattle.tests_worked.proofs.Bytes.{is_meta_text}
 use Rattle.tests_worked.proofs.SmallTasks.{merge_given}
-use Rattle.replay_cli.proofs.ToldAnswers.{none_merged}
+use Rattle.lifecycle_core.proofs.answers.Joining.{none_merged}
 use Rattle.tests_worked.proofs.YoungBlock.{first_gateway, uploader, second_gateway, first_workers, second_workers, first_tasks, second_tasks, first_ends, second_ends}
 
 none_came : (used : Use) → CameTo (first_gateway ∷ uploader ∷ []) (first_ends used) (Some 0) 2 (young.no_answer used)
@@ -56,11 +56,7 @@ none_given early late = record {
   phase_came = refl;
   parts = [] ∷ [];
   given = (
-    record {
-      came = subst (λ (ws : List Worker). CameTo ws (first_ends early) (Some 0) 2 (young.no_answer early)) (sym first_workers) (none_came early);
-      from = refl;
-      upto = refl;
-    },
+    subst (λ (ws : List Worker). CameTo ws (first_ends early) (Some 0) 2 (young.no_answer early)) (sym first_workers) (none_came early),
     tt,
   );
   every = refl;
@@ -138,11 +134,7 @@ some_given early late = record {
   phase_came = refl;
   parts = (small.up ∷ []) ∷ [];
   given = (
-    record {
-      came = subst (λ (ws : List Worker). CameTo ws (second_ends late) (Some 0) 1 (young.block_answer late)) (sym second_workers) (some_came late);
-      from = refl;
-      upto = refl;
-    },
+    subst (λ (ws : List Worker). CameTo ws (second_ends late) (Some 0) 1 (young.block_answer late)) (sym second_workers) (some_came late),
     tt,
   );
   every = refl;

@@ -24,6 +24,7 @@ abbrev pub script : Script
 script = record {
   rules = standard_rules;
   gateways = [];
+  partitions = [];
   blocks = small.block ∷ [];
   selectors = [];
   phases =

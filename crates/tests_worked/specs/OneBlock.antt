@@ -1,6 +1,7 @@
 -- One block, one gateway: the block is uploaded, half an hour passes, the gateway syncs and answers.
 use Rattle.std.specs.Prelude.{ℕ, pos, List, [], ◌∷◌, ◌++◌, codes, None, Some}
 use Rattle.std.specs.List.{join_with_byte}
+use Rattle.moment_core.specs.Partitions.{all_times}
 use Rattle.moment_core.specs.StandardRules.{standard_rules}
 use Rattle.world_core.specs.declared.entry.Entry.{Entry}
 use Rattle.shipper.specs.declared.upload_end.UploadEnd.TheVariants as shipped
@@ -42,6 +43,7 @@ abbrev pub script : Script
 script = record {
   rules = standard_rules;
   gateways = codes "g" ∷ [];
+  partitions = all_times ∷ [];
   blocks = small.block ∷ [];
   selectors = selector ∷ [];
   phases =

@@ -29,6 +29,7 @@ abbrev pub script_with : Span → Script
 script_with ignore = record {
   rules = rules_with ignore;
   gateways = one.script.gateways;
+  partitions = one.script.partitions;
   blocks = one.script.blocks;
   selectors = one.script.selectors;
   phases = one.script.phases;

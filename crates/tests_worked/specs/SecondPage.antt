@@ -6,6 +6,7 @@
 --     at 0
 --     sync g
 use Rattle.std.specs.Prelude.{ℕ, List, [], ◌∷◌, codes, None}
+use Rattle.moment_core.specs.Partitions.{all_times}
 use Rattle.moment_core.specs.StandardRules.{minutes, hours}
 use Rattle.world_core.specs.declared.entry.Entry.{Entry}
 use Rattle.world_core.specs.declared.op.Op.TheVariants as op
@@ -31,6 +32,7 @@ script = record {
     retention = None;
   };
   gateways = codes "g" ∷ [];
+  partitions = all_times ∷ [];
   blocks = [];
   selectors = [];
   phases = record { line = 3; moment = record { ms = 0 }; tasks = record { line = 4; work = Sync 0 } ∷ [] } ∷ [];

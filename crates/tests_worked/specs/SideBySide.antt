@@ -17,6 +17,7 @@ use Rattle.std.specs.Prelude.{◌≤◌, ◌+◌, ℕ, pos, List, [], ◌∷◌,
 use Rattle.block_keys.specs.declared.key.Key.TheVariants as key
 use Rattle.block_meta.specs.MetaFields.{fields_of}
 use Rattle.block_meta.specs.MetaValue.{meta_text}
+use Rattle.moment_core.specs.Partitions.{all_times}
 use Rattle.moment_core.specs.StandardRules.{minutes, hours}
 use Rattle.ulid_core.specs.Times.{time_of}
 use Rattle.world_core.specs.declared.entry.Entry.{Entry}
@@ -65,6 +66,7 @@ script = record {
     retention = None;
   };
   gateways = codes "g" ∷ [];
+  partitions = all_times ∷ [];
   blocks = small.block ∷ small.block_of b ∷ [];
   selectors = [] ∷ [];
   phases = record { line = 7; moment = record { ms = 0 }; tasks = tasks } ∷ [];

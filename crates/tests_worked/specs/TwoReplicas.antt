@@ -10,6 +10,7 @@ use Rattle.std.specs.Prelude.{ℕ, ℤ, pos, List, [], ◌∷◌, codes, None}
 use Rattle.label_sets.specs.declared.label.Label.{Label}
 use Rattle.label_sets.specs.declared.sample.Sample.{Sample}
 use Rattle.label_sets.specs.Triples.{Triple}
+use Rattle.moment_core.specs.Partitions.{all_times}
 use Rattle.moment_core.specs.StandardRules.{minutes, hours}
 use Rattle.script_core.specs.declared.block.Block.{Block}
 use Rattle.script_core.specs.declared.body.Body.TheVariants.{Inline}
@@ -46,6 +47,7 @@ script = record {
     retention = None;
   };
   gateways = codes "g" ∷ [];
+  partitions = all_times ∷ [];
   blocks =
       block 10 (codes "0") (sample (pos 1000) 1 ∷ sample (pos 3000) 3 ∷ [])
       ∷ block 11 (codes "1") (sample (pos 1000) 1 ∷ sample (pos 2000) 2 ∷ [])

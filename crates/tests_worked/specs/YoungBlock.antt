@@ -2,6 +2,7 @@
 -- sync, an upload and a query stand, in the second one a sync and a query.
 use Rattle.std.specs.Prelude.{◌≤◌, ℕ, pos, All, Contains, List, [], ◌∷◌, ◌++◌, codes, None, Some}
 use Rattle.std.specs.List.{join_with_byte}
+use Rattle.moment_core.specs.Partitions.{all_times}
 use Rattle.moment_core.specs.StandardRules.{standard_rules}
 use Rattle.world_core.specs.declared.entry.Entry.{Entry}
 use Rattle.shipper.specs.declared.upload_end.UploadEnd.TheVariants as shipped
@@ -40,6 +41,7 @@ abbrev pub script : Script
 script = record {
   rules = standard_rules;
   gateways = codes "g" ∷ [];
+  partitions = all_times ∷ [];
   blocks = small.block ∷ [];
   selectors = [] ∷ [] ∷ [];
   phases =

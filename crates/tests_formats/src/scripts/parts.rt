@@ -20,6 +20,9 @@ fn print_script(rt: &HostRuntime, script: &Script) -> io::Result<()> {
     for gateway in script.gateways.members() {
         println!(rt; "gateway {}", gateway.as_str())?;
     }
+    for partition in script.partitions.members() {
+        println!(rt; "from {} to {}", partition.low, partition.high)?;
+    }
     println!(rt; "selectors: {}", script.selectors.len())?;
     for block in script.blocks.members() {
         print_block(rt, block)?;
