@@ -6,6 +6,7 @@ use Rattle.std.proofs.Math.ListN.{set}
 use Rattle.std.proofs.lemmas.List.Elements.{All-cons, All-nil, All-push}
 use Rattle.std.proofs.lemmas.Bool.Decides.{nat_tests}
 use Rattle.std.proofs.lemmas.List.{append-nil, drop_all, length-map}
+use Rattle.std.proofs.lemmas.List.FromFn.{length-map-range_with_len}
 use Rattle.std.proofs.lemmas.Option.{slice_get_within}
 use Rattle.list_core.proofs.Lists.{drop_none, drop_place}
 use Rattle.world_core.specs.Operations.{entry_of}
@@ -100,16 +101,57 @@ gateway_step setting seat own place task hand views gateways old new came number
 -- the hand of a number has a gateway that there is
 pub hand_within : (gateways place number : ℕ) (w : Work) (hand : Hand) → slice_get (hands_of_task gateways place w) number ≡ Some hand → ((gateway : ℕ) → w ≡ works.Sync gateway → gateway < gateways) → IfSome (gateway_of hand) (λ gateway. gateway < gateways)
 unfolding hands_of_task
-hand_within gateways place zero (works.Upload ulid stop) hand at within = subst (λ (h : Hand). IfSome (gateway_of h) (λ gateway. gateway < gateways)) (cc (at)) tt
+hand_within gateways place zero (works.Upload ulid stop) hand at within = let same : hands.Upload place ≡ hand = cc (at) in subst (λ (h : Hand). IfSome (gateway_of h) (λ gateway. gateway < gateways)) same tt
 hand_within gateways place (suc number) (works.Upload ulid stop) hand at within = absurd (cc (at))
-hand_within gateways place zero (works.Sync gateway) hand at within = subst (λ (h : Hand). IfSome (gateway_of h) (λ g. g < gateways)) (cc (at)) (within gateway refl)
+hand_within gateways place zero (works.Sync gateway) hand at within = let same : hands.Gateway gateway ≡ hand = cc (at) in subst (λ (h : Hand). IfSome (gateway_of h) (λ g. g < gateways)) same (within gateway refl)
 hand_within gateways place (suc number) (works.Sync gateway) hand at within = absurd (cc (at))
 hand_within gateways place number (works.Query low high selector) hand at within = asked_within gateways 0 gateways number hand at (omega arith)
   where
     asked_within : (all first count number : ℕ) (hand : Hand) → slice_get (map hands.Gateway (range_with_len first count)) number ≡ Some hand → first + count ≤ all → IfSome (gateway_of hand) (λ gateway. gateway < all)
     asked_within all first zero number hand at few = absurd (cc (at))
-    asked_within all first (suc count) zero hand at few = subst (λ (h : Hand). IfSome (gateway_of h) (λ gateway. gateway < all)) (cc (at)) (omega (arith, few))
+    asked_within all first (suc count) zero hand at few = let same : hands.Gateway first ≡ hand = cc (at) in subst (λ (h : Hand). IfSome (gateway_of h) (λ gateway. gateway < all)) same (omega (arith, few))
     asked_within all first (suc count) (suc number) hand at few = asked_within all (first + 1) count number hand at (omega (arith, few))
+
+-- so many do a task
+pub count_of_upload : (gateways place ulid : ℕ) (stop : Option ℕ) (w : Work) → w ≡ works.Upload ulid stop → ◌≡◌ {A = ℕ} 1 (length (hands_of_task gateways place w))
+unfolding hands_of_task
+count_of_upload gateways place ulid stop w is = ap (λ (x : Work). length (hands_of_task gateways place x)) (sym is)
+
+pub count_of_sync : (gateways place gateway : ℕ) (w : Work) → w ≡ works.Sync gateway → ◌≡◌ {A = ℕ} 1 (length (hands_of_task gateways place w))
+unfolding hands_of_task
+count_of_sync gateways place gateway w is = ap (λ (x : Work). length (hands_of_task gateways place x)) (sym is)
+
+pub count_of_query : (gateways place : ℕ) (low high : ℤ) (selector : ℕ) (w : Work) → w ≡ works.Query low high selector → gateways ≡ length (hands_of_task gateways place w)
+unfolding hands_of_task
+count_of_query gateways place low high selector w is =
+    sym (length-map-range_with_len hands.Gateway 0 gateways) ∙ ap (λ (x : Work). length (hands_of_task gateways place x)) (sym is)
+
+-- and this is the hand of a number
+the_only : (hand : Hand) (number : ℕ) → number < 1 → slice_get (hand ∷ []) number ≡ Some hand
+the_only hand zero less = refl
+the_only hand (suc number) less = absurd (omega (arith, less))
+
+the_gateway : (first count number : ℕ) → number < count → slice_get (map hands.Gateway (range_with_len first count)) number ≡ Some (hands.Gateway (first + number))
+the_gateway first zero number less = absurd (omega (arith, less))
+the_gateway first (suc count) zero less = let same : first ≡ first + 0 = omega arith in ap (λ (n : ℕ). Some (hands.Gateway n)) same
+the_gateway first (suc count) (suc number) less =
+    let same : first + 1 + number ≡ first + suc number = omega arith in the_gateway (first + 1) count number (omega (arith, less)) ∙ ap (λ (n : ℕ). Some (hands.Gateway n)) same
+
+pub hand_of_upload : (gateways place number ulid : ℕ) (stop : Option ℕ) (w : Work) → w ≡ works.Upload ulid stop → number < length (hands_of_task gateways place w) → slice_get (hands_of_task gateways place w) number ≡ Some (hands.Upload place)
+unfolding hands_of_task
+hand_of_upload gateways place number ulid stop w is =
+    subst (λ (x : Work). number < length (hands_of_task gateways place x) → slice_get (hands_of_task gateways place x) number ≡ Some (hands.Upload place)) (sym is) (λ less. the_only (hands.Upload place) number less)
+
+pub hand_of_sync : (gateways place number gateway : ℕ) (w : Work) → w ≡ works.Sync gateway → number < length (hands_of_task gateways place w) → slice_get (hands_of_task gateways place w) number ≡ Some (hands.Gateway gateway)
+unfolding hands_of_task
+hand_of_sync gateways place number gateway w is =
+    subst (λ (x : Work). number < length (hands_of_task gateways place x) → slice_get (hands_of_task gateways place x) number ≡ Some (hands.Gateway gateway)) (sym is) (λ less. the_only (hands.Gateway gateway) number less)
+
+pub hand_of_query : (gateways place number : ℕ) (low high : ℤ) (selector : ℕ) (w : Work) → w ≡ works.Query low high selector → number < length (hands_of_task gateways place w) → slice_get (hands_of_task gateways place w) number ≡ Some (hands.Gateway number)
+unfolding hands_of_task
+hand_of_query gateways place number low high selector w is =
+    subst (λ (x : Work). number < length (hands_of_task gateways place x) → slice_get (hands_of_task gateways place x) number ≡ Some (hands.Gateway number)) (sym is)
+    (λ less. let long = length-map-range_with_len hands.Gateway 0 gateways in let same : 0 + number ≡ number = omega arith in the_gateway 0 gateways number (omega (arith, less, long)) ∙ ap (λ (n : ℕ). Some (hands.Gateway n)) same)
 
 -- as many as were counted do the task
 pub counted : (script : Script) → IsLawfulScript script → (w : Work) (place : ℕ) (gateways : List Gateway) (count : ℕ) → length gateways ≡ length script.gateways → count ≡ length (hands_of_task (length gateways) place w) → count ≡ length (hands_of_task (gateway_count script.gateways) place w)
@@ -134,23 +176,27 @@ pub gathered_is : (w : Work) (parts : List Part) (o : Result Outcome Broken) →
 gathered_is w parts (Ok own) holds outcome is = let same : own ≡ outcome = cc (is) in subst (IsOutcomeOf w parts) same holds
 gathered_is w parts (Err why) holds outcome is = absurd (cc (is))
 
+-- what a hand of a task has to do
+abbrev duty_of : ℕ → Task → Hand → Duty
+duty_of place task hand = record { place = place; hand = hand; task = task }
+
 -- its duty is that of the number
 pub duty_at : (setting : Setting) (place number : ℕ) (task : Task) (hand : Hand) → slice_get (hands_of_task (gateway_count setting.script.gateways) place task.work) number ≡ Some hand
     → slice_get (duties_at setting place (task ∷ [])) number ≡ Some (record { place = place; hand = hand; task = task })
 unfolding duties_from
 duty_at setting place number task hand at = mapped (hands_of_task (gateway_count setting.script.gateways) place task.work) number at
   where
-    mapped : (hs : List Hand) (number : ℕ) → slice_get hs number ≡ Some hand → slice_get (map (λ h. record { place = place; hand = h; task = task }) hs ++ []) number ≡ Some (record { place = place; hand = hand; task = task })
+    mapped : (hs : List Hand) (number : ℕ) → slice_get hs number ≡ Some hand → slice_get (map (duty_of place task) hs ++ []) number ≡ Some (duty_of place task hand)
     mapped [] number at = absurd (cc (at))
-    mapped (h ∷ hs) zero at = ap (λ (o : Option Hand). option_map (λ x. record { place = place; hand = x; task = task }) o) at
+    mapped (h ∷ hs) zero at = ap (λ (o : Option Hand). option_map (duty_of place task) o) at
     mapped (h ∷ hs) (suc number) at = mapped hs number at
 
 -- as many duties as hands
 pub duties_long : (setting : Setting) (place : ℕ) (task : Task) → length (duties_at setting place (task ∷ [])) ≡ length (hands_of_task (gateway_count setting.script.gateways) place task.work)
 unfolding duties_from
 duties_long setting place task =
-    ap (length {A = Duty}) (append-nil (map (λ h. record { place = place; hand = h; task = task }) (hands_of_task (gateway_count setting.script.gateways) place task.work)))
-    ∙ length-map (λ h. record { place = place; hand = h; task = task }) (hands_of_task (gateway_count setting.script.gateways) place task.work)
+    ap (length {A = Duty}) (append-nil (map (duty_of place task) (hands_of_task (gateway_count setting.script.gateways) place task.work)))
+    ∙ length-map (hands_of_task (gateway_count setting.script.gateways) place task.work) (duty_of place task)
 
 -- the duties behind one may begin
 begins_behind : (setting : Setting) (ds : List Duty) (number : ℕ) (d : Duty) → slice_get ds number ≡ Some d → MayAllBegin setting ds → MayAllBegin setting (drop (number + 1) ds)
@@ -195,7 +241,7 @@ module _ (setting : Setting) (seat : Hand → ℕ) (place : ℕ) (task : Task) (
     all = tt;
   })
 
-  both : (one two : List Entry) (old mid new : List Entry) → mid ≡ old ++ one → new ≡ mid ++ two → new ≡ old ++ one ++ two
+  both : (one two : List Entry) (old mid new : List Entry) → mid ≡ old ++ one → new ≡ mid ++ two → new ≡ old ++ (one ++ two)
   both one two old mid new first then = then ∙ ap (λ (l : List Entry). l ++ two) first ∙ append_assoc old one two
 
   module _ (number : ℕ) (hand : Hand) (shown gateways : List Gateway) (old mid new : List Entry) (parts : List Part) (f : Front number shown old mid parts) (at : slice_get duties number ≡ Some (own_duty hand)) where
@@ -212,7 +258,7 @@ module _ (setting : Setting) (seat : Hand → ℕ) (place : ℕ) (task : Task) (
       after = with_holding f.after (gateway_of hand) p.after;
       onward = λ entries later last run.
           subst (λ (es : List Entry). InLine setting seat views duties es ((f.ends ++ end ∷ []) ++ later) last) (sym (append_assoc f.made p.made entries))
-          (subst (λ (l : List End). InLine setting seat views duties (f.made ++ p.made ++ entries) l last) (sym (append_assoc f.ends (end ∷ []) later))
+          (subst (λ (l : List End). InLine setting seat views duties (f.made ++ (p.made ++ entries)) l last) (sym (append_assoc f.ends (end ∷ []) later))
           (f.onward (p.made ++ entries) (end ∷ later) last
           (subst (λ (ds : List Duty). InLine setting seat f.after ds (p.made ++ entries) (end ∷ later) last) (sym next)
           (inl (p.made, entries, end, later, p.after, refl, p.seats, subst (λ (e : Option End). TaskRun setting (who_does seat hand) place task.work (holding_of f.after (gateway_of hand)) p.made e p.after) is p.run, refl, run)))));
@@ -298,14 +344,14 @@ module _ (setting : Setting) (seat : Hand → ℕ) (place : ℕ) (task : Task) (
     run = subst (λ (es : List Entry). InLine setting seat views duties es f.ends f.after) (append-nil f.made) (subst (λ (l : List End). InLine setting seat views duties (f.made ++ []) l f.after) (append-nil f.ends)
         (f.onward [] [] f.after (subst (λ (ds : List Duty). InLine setting seat f.after ds [] [] f.after) (sym (drop_all number duties (omega (arith, all)))) (refl, refl, refl))));
     shows = f.shows;
-    whole = came o (λ outcome same. (f.count ∙ all, (parts, f.all, is outcome same)));
+    whole = came o why (λ outcome same. (f.count ∙ all, (parts, f.all, is outcome same)));
     due = none_due o why;
   }
     where
-      came : (o : Result Outcome Broken) → ((outcome : Outcome) → o ≡ Ok outcome → (length f.ends ≡ length duties) × IsOutcome task.work f.ends outcome) → IsWhole setting place task f.ends o
-      came (Ok outcome) is = is outcome refl
-      came (Err broken.Full) is = absurd (why refl)
-      came (Err broken.NoMemory) is = tt
+      came : (o : Result Outcome Broken) → o ≢ Err broken.Full → ((outcome : Outcome) → o ≡ Ok outcome → (length f.ends ≡ length duties) × IsOutcome task.work f.ends outcome) → IsWhole setting place task f.ends o
+      came (Ok outcome) why is = is outcome refl
+      came (Err broken.Full) why is = absurd (why refl)
+      came (Err broken.NoMemory) why is = tt
 
       none_due : (o : Result Outcome Broken) → o ≢ Err broken.Full → WhenFull o (IsDueInLine setting seat views duties f.made)
       none_due (Ok outcome) why = tt

@@ -75,7 +75,8 @@ fn hand_count(work: &Work, gateways: usize) -> usize
     ensures { (place : ℕ) → result ≡ length (hands_of_task gateways place work.now) }
 {
     match work {
-        Work::Upload(..) | Work::Sync(_) => 1,
+        Work::Upload(..) => 1,
+        Work::Sync(_) => 1,
         Work::Query { .. } => gateways,
     }
 }

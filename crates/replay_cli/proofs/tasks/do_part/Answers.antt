@@ -15,13 +15,13 @@ returns-in-Upload-clause-step g c = λ views shows.
 
 pub returns-in-Gateway-clause-step : goal.returns-in-Gateway-clause-step
 returns-in-Gateway-clause-step g c = λ views shows.
-    gateway_step (setting_of c.args.script.now) (seat_of c.args.seats.now.workers) c.seat_of-seat.result c.args.place c.args.task.now c.args.who views c.args.progress.now.gateways.items c.args.hand.world.journal c.do_over.result.1.world.journal c.do_over.result.0
+    gateway_step (setting_of c.args.script.now) (seat_of c.args.seats.now.workers) c.seat_of-seat.result c.args.place c.args.task.now c.args.who views c.args.progress.now.gateways.items c.args.hand.world.journal c.do_over-in-Gateway.result.1.world.journal c.do_over-in-Gateway.result.0
     c.in-Gateway.number c.index_mut-gateway.result.now _ c.in-Gateway.is c.seat_of-seat.ensures
     (slice_get-get_or c.args.progress.now.gateways.items c.in-Gateway.number c.index_mut-gateway.result.now (gateway_inside c.args.who c.in-Gateway.number c.args.progress.now.gateways.items c.in-Gateway.is c.requires.within) ∙ ap Some (sym c.index_mut-gateway.ensures.value))
-    (λ held sees. c.do_over.ensures.done (who_does (seat_of c.args.seats.now.workers) (hands.Gateway c.in-Gateway.number)) c.args.place held refl sees) shows
+    (λ held sees. c.do_over-in-Gateway.ensures.done (who_does (seat_of c.args.seats.now.workers) (hands.Gateway c.in-Gateway.number)) c.args.place held refl sees) shows
 
 pub returns-in-Upload-clause-wanted : goal.returns-in-Upload-clause-wanted
 returns-in-Upload-clause-wanted g c = c.do_over.ensures.wanted
 
 pub returns-in-Gateway-clause-wanted : goal.returns-in-Gateway-clause-wanted
-returns-in-Gateway-clause-wanted g c = c.do_over.ensures.wanted
+returns-in-Gateway-clause-wanted g c = c.do_over-in-Gateway.ensures.wanted

@@ -27,22 +27,22 @@ loop-number-init g c = record {
   room = omega (arith, c.in-Ok.ensures.capacity);
 }
 
-pub hand_at-requires : goal.hand_at-requires
-hand_at-requires g c = record {
+pub hand_at-who-requires : goal.hand_at-who-requires
+hand_at-who-requires g c = record {
   few = (let few = c.requires.lawful.few_gateways in let below = c.loop-number-test.true in
-      let count = counted c.args.script.now c.requires.lawful c.args.task.now.work c.args.place c.args.progress.now.gateways.items c.hand_count.result c.requires.ready (c.hand_count.ensures c.args.place) in
+      let count = counted c.args.script.now c.requires.lawful c.args.task.now.work c.args.place c.args.progress.now.gateways.items c.hand_count-count.result c.requires.ready (c.hand_count-count.ensures c.args.place) in
       let most = few_parts c.args.task.now.work (gateway_count c.args.script.now.gateways) c.args.place (omega (arith, few)) in omega (arith, below, count, most));
 }
 
-pub do_part-requires-clause-within : goal.do_part-requires-clause-within
-do_part-requires-clause-within g c =
-    let count = counted c.args.script.now c.requires.lawful c.args.task.now.work c.args.place c.args.progress.now.gateways.items c.hand_count.result c.requires.ready (c.hand_count.ensures c.args.place) in
+pub do_part-came-requires-clause-within : goal.do_part-came-requires-clause-within
+do_part-came-requires-clause-within g c =
+    let count = counted c.args.script.now c.requires.lawful c.args.task.now.work c.args.place c.args.progress.now.gateways.items c.hand_count-count.result c.requires.ready (c.hand_count-count.ensures c.args.place) in
     let at = c.hand_at-who.ensures (gateway_count c.args.script.now.gateways) (omega (arith, c.loop-number-test.true, count)) in
     sync_within c.args.script.now c.requires.lawful c.args.place c.loop-number.number c.args.task.now.work c.hand_at-who.result c.requires.work at c.loop-number.progress.gateways.items c.loop-number.invariant.ready
 
 pub returns-in-Err-clause-step : goal.returns-in-Err-clause-step
 returns-in-Err-clause-step g c = λ views shows.
-    let count = counted c.args.script.now c.requires.lawful c.args.task.now.work c.args.place c.args.progress.now.gateways.items c.hand_count.result c.requires.ready (c.hand_count.ensures c.args.place) in
+    let count = counted c.args.script.now c.requires.lawful c.args.task.now.work c.args.place c.args.progress.now.gateways.items c.hand_count-count.result c.requires.ready (c.hand_count-count.ensures c.args.place) in
     let at = c.hand_at-who.ensures (gateway_count c.args.script.now.gateways) (omega (arith, c.loop-number-test.true, count)) in
     let f = c.loop-number.invariant.done views shows in
     part_broken (setting_of c.args.script.now) (seat_of c.args.seats.now.workers) c.args.place c.args.task.now views c.loop-number.number c.hand_at-who.result c.loop-number.progress.gateways.items c.do_part-came.new.progress.gateways.items
@@ -51,37 +51,37 @@ returns-in-Err-clause-step g c = λ views shows.
 
 pub loop-number-preserved : goal.loop-number-preserved
 loop-number-preserved g c =
-    let count = counted c.args.script.now c.requires.lawful c.args.task.now.work c.args.place c.args.progress.now.gateways.items c.hand_count.result c.requires.ready (c.hand_count.ensures c.args.place) in
+    let count = counted c.args.script.now c.requires.lawful c.args.task.now.work c.args.place c.args.progress.now.gateways.items c.hand_count-count.result c.requires.ready (c.hand_count-count.ensures c.args.place) in
     let at = c.hand_at-who.ensures (gateway_count c.args.script.now.gateways) (omega (arith, c.loop-number-test.true, count)) in
     record {
       done = λ views shows.
           let f = c.loop-number.invariant.done views shows in
           part_more (setting_of c.args.script.now) (seat_of c.args.seats.now.workers) c.args.place c.args.task.now views c.loop-number.number c.hand_at-who.result c.loop-number.progress.gateways.items c.do_part-came.new.progress.gateways.items
           c.args.hand.world.journal c.loop-number.hand.world.journal c.do_part-came.result.1.world.journal c.loop-number.parts.items f (duty_at (setting_of c.args.script.now) c.args.place c.loop-number.number c.args.task.now c.hand_at-who.result at)
-          c.do_part-came.result.0 c.in-Ok-do_part.part c.push_reserved.new.self.items c.in-Ok-do_part.is c.push_reserved.ensures.items (c.do_part-came.ensures.step f.after f.shows);
+          c.do_part-came.result.0 c.in-Ok-came.part c.push_reserved.new.self.items c.in-Ok-came.is c.push_reserved.ensures.items (c.do_part-came.ensures.step f.after f.shows);
       keeps = keeps_run-more g.B.Bucket.faults g.B.Bucket.quiet g.B.Bucket.asked c.args.hand.opened.value c.loop-number.hand.opened.value c.do_part-came.result.1.opened.value c.args.hand.wanted c.loop-number.hand.wanted c.do_part-came.result.1.wanted
           c.args.hand.world c.loop-number.hand.world c.do_part-came.result.1.world
           c.loop-number.invariant.keeps c.do_part-came.ensures.keeps;
-      unrefused = c.do_part-came.ensures.refused ∙ ap is_full_came c.in-Ok-do_part.is;
-      unwanted = still_unwanted c.do_part-came.result.1.wanted c.do_part-came.result.0 c.in-Ok-do_part.part c.in-Ok-do_part.is c.do_part-came.ensures.wanted;
+      unrefused = c.do_part-came.ensures.refused ∙ ap is_full_came c.in-Ok-came.is;
+      unwanted = still_unwanted c.do_part-came.result.1.wanted c.do_part-came.result.0 c.in-Ok-came.part c.in-Ok-came.is c.do_part-came.ensures.wanted;
       report = c.do_part-came.ensures.report ∙ c.loop-number.invariant.report;
       workers = c.do_part-came.ensures.workers ∙ c.loop-number.invariant.workers;
       ready = c.do_part-came.ensures.ready;
-      count = ap length c.push_reserved.ensures.items ∙ length-append c.loop-number.parts.items (c.in-Ok-do_part.part ∷ []) ∙ ap (λ n. n + 1) c.loop-number.invariant.count;
+      count = ap length c.push_reserved.ensures.items ∙ length-append c.loop-number.parts.items (c.in-Ok-came.part ∷ []) ∙ ap (λ n. n + 1) c.loop-number.invariant.count;
       room = (let a = c.loop-number.invariant.room in let b = c.push_reserved.ensures.capacity in omega arith);
     }
 
 pub gathered-requires : goal.gathered-requires
 gathered-requires g c = record {
   few = (let few = c.requires.lawful.few_gateways in let i = c.loop-number.invariant.count in
-      let count = counted c.args.script.now c.requires.lawful c.args.task.now.work c.args.place c.args.progress.now.gateways.items c.hand_count.result c.requires.ready (c.hand_count.ensures c.args.place) in
+      let count = counted c.args.script.now c.requires.lawful c.args.task.now.work c.args.place c.args.progress.now.gateways.items c.hand_count-count.result c.requires.ready (c.hand_count-count.ensures c.args.place) in
       let most = few_parts c.args.task.now.work (gateway_count c.args.script.now.gateways) c.args.place (omega (arith, few)) in
       let upto = c.loop-number.auto.number-end in omega (arith, i, count, most, upto));
 }
 
 pub returns-clause-step : goal.returns-clause-step
 returns-clause-step g c = λ views shows.
-    let count = counted c.args.script.now c.requires.lawful c.args.task.now.work c.args.place c.args.progress.now.gateways.items c.hand_count.result c.requires.ready (c.hand_count.ensures c.args.place) in
+    let count = counted c.args.script.now c.requires.lawful c.args.task.now.work c.args.place c.args.progress.now.gateways.items c.hand_count-count.result c.requires.ready (c.hand_count-count.ensures c.args.place) in
     let f = c.loop-number.invariant.done views shows in
     let whole : c.loop-number.number ≡ length (hands_of_task (gateway_count c.args.script.now.gateways) c.args.place c.args.task.now.work) = omega (arith, c.loop-number-test.false, c.loop-number.auto.number-end, count) in
     all_done (setting_of c.args.script.now) (seat_of c.args.seats.now.workers) c.args.place c.args.task.now views c.loop-number.number c.loop-number.progress.gateways.items c.args.hand.world.journal c.loop-number.hand.world.journal c.loop-number.parts.items c.gathered.result f
