@@ -154,9 +154,9 @@ hand_of_query gateways place number low high selector w is =
     (λ less. let long = length-map-range_with_len hands.Gateway 0 gateways in let same : 0 + number ≡ number = omega arith in the_gateway 0 gateways number (omega (arith, less, long)) ∙ ap (λ (n : ℕ). Some (hands.Gateway n)) same)
 
 -- as many as were counted do the task
-pub counted : (script : Script) → IsLawfulScript script → (w : Work) (place : ℕ) (gateways : List Gateway) (count : ℕ) → length gateways ≡ length script.gateways → count ≡ length (hands_of_task (length gateways) place w) → count ≡ length (hands_of_task (gateway_count script.gateways) place w)
-counted script lawful w place gateways count same is =
-    let all : length gateways ≡ gateway_count script.gateways = omega (arith, same, lawful.few_gateways) in is ∙ ap (λ (n : ℕ). length (hands_of_task n place w)) all
+pub counted : (script : Script) → IsLawfulScript script → (w : Work) (place : ℕ) (gateways : List Gateway) (number count : ℕ) → length gateways ≡ length script.gateways → number ≡ length gateways → count ≡ length (hands_of_task number place w) → count ≡ length (hands_of_task (gateway_count script.gateways) place w)
+counted script lawful w place gateways number count same long is =
+    let all : number ≡ gateway_count script.gateways = omega (arith, same, long, lawful.few_gateways) in is ∙ ap (λ (n : ℕ). length (hands_of_task n place w)) all
 
 sync_lawful : (script : Script) (w : Work) (gateway : ℕ) → w ≡ works.Sync gateway → IsLawfulWork script.gateways script.blocks (length script.selectors) w → gateway < length script.gateways
 sync_lawful script w gateway is allowed = subst (λ (x : Work). IsLawfulWork script.gateways script.blocks (length script.selectors) x) is allowed

@@ -30,19 +30,19 @@ loop-number-init g c = record {
 pub hand_at-who-requires : goal.hand_at-who-requires
 hand_at-who-requires g c = record {
   few = (let few = c.requires.lawful.few_gateways in let below = c.loop-number-test.true in
-      let count = counted c.args.script.now c.requires.lawful c.args.task.now.work c.args.place c.args.progress.now.gateways.items c.hand_count-count.result c.requires.ready (c.hand_count-count.ensures c.args.place) in
+      let count = counted c.args.script.now c.requires.lawful c.args.task.now.work c.args.place c.args.progress.now.gateways.items c.len.result c.hand_count-count.result c.requires.ready (let ok = c.args.progress.now.gateways.ok in omega (arith, c.len.ensures)) (c.hand_count-count.ensures c.args.place) in
       let most = few_parts c.args.task.now.work (gateway_count c.args.script.now.gateways) c.args.place (omega (arith, few)) in omega (arith, below, count, most));
 }
 
 pub do_part-came-requires-clause-within : goal.do_part-came-requires-clause-within
 do_part-came-requires-clause-within g c =
-    let count = counted c.args.script.now c.requires.lawful c.args.task.now.work c.args.place c.args.progress.now.gateways.items c.hand_count-count.result c.requires.ready (c.hand_count-count.ensures c.args.place) in
+    let count = counted c.args.script.now c.requires.lawful c.args.task.now.work c.args.place c.args.progress.now.gateways.items c.len.result c.hand_count-count.result c.requires.ready (let ok = c.args.progress.now.gateways.ok in omega (arith, c.len.ensures)) (c.hand_count-count.ensures c.args.place) in
     let at = c.hand_at-who.ensures (gateway_count c.args.script.now.gateways) (omega (arith, c.loop-number-test.true, count)) in
     sync_within c.args.script.now c.requires.lawful c.args.place c.loop-number.number c.args.task.now.work c.hand_at-who.result c.requires.work at c.loop-number.progress.gateways.items c.loop-number.invariant.ready
 
 pub returns-in-Err-clause-step : goal.returns-in-Err-clause-step
 returns-in-Err-clause-step g c = λ views shows.
-    let count = counted c.args.script.now c.requires.lawful c.args.task.now.work c.args.place c.args.progress.now.gateways.items c.hand_count-count.result c.requires.ready (c.hand_count-count.ensures c.args.place) in
+    let count = counted c.args.script.now c.requires.lawful c.args.task.now.work c.args.place c.args.progress.now.gateways.items c.len.result c.hand_count-count.result c.requires.ready (let ok = c.args.progress.now.gateways.ok in omega (arith, c.len.ensures)) (c.hand_count-count.ensures c.args.place) in
     let at = c.hand_at-who.ensures (gateway_count c.args.script.now.gateways) (omega (arith, c.loop-number-test.true, count)) in
     let f = c.loop-number.invariant.done views shows in
     part_broken (setting_of c.args.script.now) (seat_of c.args.seats.now.workers) c.args.place c.args.task.now views c.loop-number.number c.hand_at-who.result c.loop-number.progress.gateways.items c.do_part-came.new.progress.gateways.items
@@ -51,7 +51,7 @@ returns-in-Err-clause-step g c = λ views shows.
 
 pub loop-number-preserved : goal.loop-number-preserved
 loop-number-preserved g c =
-    let count = counted c.args.script.now c.requires.lawful c.args.task.now.work c.args.place c.args.progress.now.gateways.items c.hand_count-count.result c.requires.ready (c.hand_count-count.ensures c.args.place) in
+    let count = counted c.args.script.now c.requires.lawful c.args.task.now.work c.args.place c.args.progress.now.gateways.items c.len.result c.hand_count-count.result c.requires.ready (let ok = c.args.progress.now.gateways.ok in omega (arith, c.len.ensures)) (c.hand_count-count.ensures c.args.place) in
     let at = c.hand_at-who.ensures (gateway_count c.args.script.now.gateways) (omega (arith, c.loop-number-test.true, count)) in
     record {
       done = λ views shows.
@@ -74,14 +74,14 @@ loop-number-preserved g c =
 pub gathered-requires : goal.gathered-requires
 gathered-requires g c = record {
   few = (let few = c.requires.lawful.few_gateways in let i = c.loop-number.invariant.count in
-      let count = counted c.args.script.now c.requires.lawful c.args.task.now.work c.args.place c.args.progress.now.gateways.items c.hand_count-count.result c.requires.ready (c.hand_count-count.ensures c.args.place) in
+      let count = counted c.args.script.now c.requires.lawful c.args.task.now.work c.args.place c.args.progress.now.gateways.items c.len.result c.hand_count-count.result c.requires.ready (let ok = c.args.progress.now.gateways.ok in omega (arith, c.len.ensures)) (c.hand_count-count.ensures c.args.place) in
       let most = few_parts c.args.task.now.work (gateway_count c.args.script.now.gateways) c.args.place (omega (arith, few)) in
       let upto = c.loop-number.auto.number-end in omega (arith, i, count, most, upto));
 }
 
 pub returns-clause-step : goal.returns-clause-step
 returns-clause-step g c = λ views shows.
-    let count = counted c.args.script.now c.requires.lawful c.args.task.now.work c.args.place c.args.progress.now.gateways.items c.hand_count-count.result c.requires.ready (c.hand_count-count.ensures c.args.place) in
+    let count = counted c.args.script.now c.requires.lawful c.args.task.now.work c.args.place c.args.progress.now.gateways.items c.len.result c.hand_count-count.result c.requires.ready (let ok = c.args.progress.now.gateways.ok in omega (arith, c.len.ensures)) (c.hand_count-count.ensures c.args.place) in
     let f = c.loop-number.invariant.done views shows in
     let whole : c.loop-number.number ≡ length (hands_of_task (gateway_count c.args.script.now.gateways) c.args.place c.args.task.now.work) = omega (arith, c.loop-number-test.false, c.loop-number.auto.number-end, count) in
     all_done (setting_of c.args.script.now) (seat_of c.args.seats.now.workers) c.args.place c.args.task.now views c.loop-number.number c.loop-number.progress.gateways.items c.args.hand.world.journal c.loop-number.hand.world.journal c.loop-number.parts.items c.gathered.result f
