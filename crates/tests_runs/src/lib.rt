@@ -1,9 +1,10 @@
 //! Tests that cross crates: whole runs over memory, against outputs that were worked out by hand.
 #![tactic(auto)]
 
+pub mod call_notes;
 #[cfg(test)]
 mod runs;
-#[cfg(test)]
-mod strange_bucket;
+pub mod strange_bucket;
 #[cfg(test)]
 mod strange_runs;
+pub mod told_runs;

@@ -1,5 +1,6 @@
 //! A bucket that shows other objects than it holds, and the site that opens it.
 
+use crate::call_notes::CallNotes;
 use bucket_core::{
     Bucket, DeleteAnswer, FailList, GetAnswer, MemoryBucket, MemoryShelf, PageAnswer, PutAnswer,
     Site, SiteRefusal,
@@ -19,8 +20,8 @@ pub enum Lie {
     Pages,
 }
 
-/// A bucket in memory that may lie. It tells no contents. It notes its calls, and a call for whose note there is no memory is not
-/// done, unless it is a deletion.
+/// A bucket in memory that may lie. It tells no contents, but what it was asked. It notes its calls to be printed too, and a call
+/// for whose note there is no memory is not done, unless it is a deletion.
 #[derive(Drop)]
 pub struct StrangeBucket {
     alloc: Global,
@@ -28,6 +29,7 @@ pub struct StrangeBucket {
     lie: Lie,
     /// A line for each call: its kind and the key, or the name behind which names are listed.
     notes: Vec<u8>,
+    told: CallNotes,
 }
 
 impl StrangeBucket {
@@ -50,12 +52,13 @@ fn note(notes: &mut Vec<u8>, kind: &str, name: &str) -> Result<(), AllocError> {
 }
 
 impl Bucket for StrangeBucket {
-    ghost use Rattle.std.specs.Prelude.{None};
+    ghost use Rattle.std.specs.Prelude.{None, Some};
     ghost use Rattle.bucket_core.specs.MemoryBucket.{faults_counted};
+    ghost use Rattle.tests_runs.specs.Noted.{calls_told};
 
     ghost contents = { λ b. None };
 
-    ghost asked = { λ b. None };
+    ghost asked = { λ b. Some (calls_told b.told) };
 
     ghost faults = { λ b. faults_counted b.inner };
 
@@ -63,14 +66,18 @@ impl Bucket for StrangeBucket {
 
     ghost only_keys = { λ b c key told stands. absurd (Prim.cc told) };
 
+    #[tactic(auto, using(crate::proofs::Noting::noted))]
     fn put(&mut self, key: &str, bytes: &[u8]) -> PutAnswer {
+        self.told.note_put(key, bytes);
         if note(&mut self.notes, "put ", key).is_err() {
             return PutAnswer::NoMemory;
         }
         self.inner.put(key, bytes)
     }
 
+    #[tactic(auto, using(crate::proofs::Noting::noted))]
     fn get(&mut self, key: &str) -> GetAnswer {
+        self.told.note_get(key);
         if note(&mut self.notes, "get ", key).is_err() {
             return GetAnswer::NoMemory;
         }
@@ -88,19 +95,25 @@ impl Bucket for StrangeBucket {
         }
     }
 
+    #[tactic(auto, using(crate::proofs::Noting::noted))]
     fn get_range(&mut self, key: &str, from: u64, len: u64) -> GetAnswer {
+        self.told.note_range(key, from, len);
         if note(&mut self.notes, "range ", key).is_err() {
             return GetAnswer::NoMemory;
         }
         self.inner.get_range(key, from, len)
     }
 
+    #[tactic(auto, using(crate::proofs::Noting::noted_so))]
     fn delete(&mut self, key: &str) -> DeleteAnswer {
+        self.told.note_delete(key);
         let _noted = note(&mut self.notes, "delete ", key);
         self.inner.delete(key)
     }
 
+    #[tactic(auto, using(crate::proofs::Noting::noted))]
     fn page(&mut self, within: &str, after: &str, limit: u32) -> PageAnswer {
+        self.told.note_page(within, after, limit);
         if note(&mut self.notes, "page ", after).is_err() {
             return PageAnswer::NoMemory;
         }
@@ -151,6 +164,7 @@ impl Site for StrangeSite {
             inner: MemoryBucket::new(self.alloc, FailList::new(self.alloc)),
             lie: self.lie,
             notes: Vec::new(self.alloc),
+            told: CallNotes::new(),
         })
     }
 

@@ -1,6 +1,7 @@
 //! Runs over a bucket that lies, one that is not empty, and one whose journal becomes full.
 
 use crate::strange_bucket::{Lie, StrangeSite};
+use crate::told_runs::run_told;
 use bucket_core::{MemorySink, MemorySource};
 use replay_cli::run_tool;
 use std::alloc::{AllocError, Global};
@@ -42,7 +43,7 @@ fn asked_by(alloc: Global, script: &[u8]) -> Result<String, Failed> {
     let mut source = MemorySource::new(Blob::from_bytes(alloc, script)?, None);
     let mut sink = MemorySink::new(alloc, None);
     let words = serial(alloc)?;
-    let run = run_tool(alloc, &words, &mut site, &mut source, &mut sink);
+    let run = run_told(alloc, &words, &mut site, &mut source, &mut sink);
     let mut notes = String::new(alloc);
     if let Some(store) = &run.store {
         notes = String::from_str(alloc, std::str::from_utf8(store.notes())?)?;

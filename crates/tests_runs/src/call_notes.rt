@@ -1,0 +1,98 @@
+//! The calls that a bucket was asked, as clauses see them. To note one takes no memory, so none is left out.
+
+ghost use Rattle.std.specs.Prelude.{◌≡◌, ◌++◌, [], ◌∷◌};
+ghost use Rattle.bucket_core.specs.Asking.{puts, gets, gets_range, deletes, lists};
+ghost use Rattle.tests_runs.specs.Spelled.{text_told};
+ghost use Rattle.tests_runs.specs.Noted.{call_of, calls_told};
+
+use std::snapshot::Snapshot;
+
+/// The last byte of a text, and those before it.
+#[derive(Drop)]
+pub struct Spelling {
+    last: u8,
+    before: Option<Snapshot<Spelling>>,
+}
+
+/// A text, for clauses alone.
+fn spelled(bytes: &[u8]) -> Option<Snapshot<Spelling>>
+    ensures { text_told result ≡ bytes.now }
+{
+    let mut before = None;
+    for place in 0..bytes.len() {
+        let last = bytes[place];
+        before = Some(Snapshot::of(&Spelling { last, before }));
+    }
+    before
+}
+
+/// A call, with its arguments.
+#[derive(Drop)]
+pub enum Asked {
+    Put(Option<Snapshot<Spelling>>, Option<Snapshot<Spelling>>),
+    Get(Option<Snapshot<Spelling>>),
+    GetRange(Option<Snapshot<Spelling>>, u64, u64),
+    Delete(Option<Snapshot<Spelling>>),
+    Page(Option<Snapshot<Spelling>>, Option<Snapshot<Spelling>>, u32),
+}
+
+/// The last call, and those before it.
+#[derive(Drop)]
+pub struct Calls {
+    last: Asked,
+    before: Option<Snapshot<Calls>>,
+}
+
+/// The calls that a bucket was asked, in order.
+#[derive(Drop)]
+pub struct CallNotes {
+    calls: Option<Snapshot<Calls>>,
+}
+
+impl CallNotes {
+    /// Nothing was asked yet.
+    pub fn new() -> CallNotes
+        ensures { calls_told result ≡ [] }
+    {
+        CallNotes { calls: None }
+    }
+
+    fn add(&mut self, last: Asked)
+        ensures { calls_told self.new ≡ calls_told self.old ++ call_of last ∷ [] }
+    {
+        let before = self.calls.take();
+        self.calls = Some(Snapshot::of(&Calls { last, before }));
+    }
+
+    pub fn note_put(&mut self, key: &str, bytes: &[u8])
+        ensures { calls_told self.new ≡ calls_told self.old ++ puts key.now bytes.now ∷ [] }
+    {
+        let key = spelled(key.as_bytes());
+        self.add(Asked::Put(key, spelled(bytes)));
+    }
+
+    pub fn note_get(&mut self, key: &str)
+        ensures { calls_told self.new ≡ calls_told self.old ++ gets key.now ∷ [] }
+    {
+        self.add(Asked::Get(spelled(key.as_bytes())));
+    }
+
+    pub fn note_range(&mut self, key: &str, from: u64, len: u64)
+        ensures { calls_told self.new ≡ calls_told self.old ++ gets_range key.now from len ∷ [] }
+    {
+        self.add(Asked::GetRange(spelled(key.as_bytes()), from, len));
+    }
+
+    pub fn note_delete(&mut self, key: &str)
+        ensures { calls_told self.new ≡ calls_told self.old ++ deletes key.now ∷ [] }
+    {
+        self.add(Asked::Delete(spelled(key.as_bytes())));
+    }
+
+    pub fn note_page(&mut self, within: &str, after: &str, limit: u32)
+        ensures { calls_told self.new ≡ calls_told self.old ++ lists within.now after.now limit ∷ [] }
+    {
+        let within = spelled(within.as_bytes());
+        self.add(Asked::Page(within, spelled(after.as_bytes()), limit));
+    }
+}
