@@ -2,22 +2,23 @@ ghost use Rattle.std.specs.Prelude.{◌≡◌};
 
 use crate::DirBucket;
 use bucket_core::{Bucket, DeleteAnswer, GetAnswer, MemoryBucket, PageAnswer, PutAnswer};
+use call_notes::CallNotes;
 use std::rt::Files;
 
-/// A bucket in memory or in a folder. It tells what it holds where it is in memory.
+/// A bucket in memory or in a folder, with the notes of its calls. It tells what it was asked, and what it holds where it is in memory.
 #[derive(Drop)]
 pub enum HostBucket<R: Files + AllocGlobal + Clone + Drop> {
-    Memory(MemoryBucket),
-    Folder(DirBucket<R>),
+    Memory(MemoryBucket, CallNotes),
+    Folder(DirBucket<R>, CallNotes),
 }
 
 impl<R: Files + AllocGlobal + Clone + Drop> Bucket for HostBucket<R> {
-    ghost use Rattle.std.specs.Prelude.{None};
-    ghost use Rattle.dir_bucket.specs.HostBucket.{contents_told, faults_counted, IsQuiet, told_is_key};
+    ghost use Rattle.std.specs.Prelude.{Some};
+    ghost use Rattle.dir_bucket.specs.HostBucket.{calls_noted, contents_told, faults_counted, IsQuiet, told_is_key};
 
     ghost contents = { contents_told };
 
-    ghost asked = { λ bucket. None };
+    ghost asked = { λ bucket. Some (calls_noted bucket) };
 
     ghost faults = { faults_counted };
 
@@ -25,38 +26,73 @@ impl<R: Files + AllocGlobal + Clone + Drop> Bucket for HostBucket<R> {
 
     ghost only_keys = { told_is_key };
 
+    #[tactic(auto, using(crate::proofs::Noting::noted))]
     fn put(&mut self, key: &str, bytes: &[u8]) -> PutAnswer {
         match self {
-            HostBucket::Memory(bucket) => bucket.put(key, bytes),
-            HostBucket::Folder(bucket) => bucket.put(key, bytes),
+            HostBucket::Memory(bucket, notes) => {
+                notes.note_put(key, bytes);
+                bucket.put(key, bytes)
+            }
+            HostBucket::Folder(bucket, notes) => {
+                notes.note_put(key, bytes);
+                bucket.put(key, bytes)
+            }
         }
     }
 
+    #[tactic(auto, using(crate::proofs::Noting::noted))]
     fn get(&mut self, key: &str) -> GetAnswer {
         match self {
-            HostBucket::Memory(bucket) => bucket.get(key),
-            HostBucket::Folder(bucket) => bucket.get(key),
+            HostBucket::Memory(bucket, notes) => {
+                notes.note_get(key);
+                bucket.get(key)
+            }
+            HostBucket::Folder(bucket, notes) => {
+                notes.note_get(key);
+                bucket.get(key)
+            }
         }
     }
 
+    #[tactic(auto, using(crate::proofs::Noting::noted))]
     fn get_range(&mut self, key: &str, from: u64, len: u64) -> GetAnswer {
         match self {
-            HostBucket::Memory(bucket) => bucket.get_range(key, from, len),
-            HostBucket::Folder(bucket) => bucket.get_range(key, from, len),
+            HostBucket::Memory(bucket, notes) => {
+                notes.note_range(key, from, len);
+                bucket.get_range(key, from, len)
+            }
+            HostBucket::Folder(bucket, notes) => {
+                notes.note_range(key, from, len);
+                bucket.get_range(key, from, len)
+            }
         }
     }
 
+    #[tactic(auto, using(crate::proofs::Noting::noted_so))]
     fn delete(&mut self, key: &str) -> DeleteAnswer {
         match self {
-            HostBucket::Memory(bucket) => bucket.delete(key),
-            HostBucket::Folder(bucket) => bucket.delete(key),
+            HostBucket::Memory(bucket, notes) => {
+                notes.note_delete(key);
+                bucket.delete(key)
+            }
+            HostBucket::Folder(bucket, notes) => {
+                notes.note_delete(key);
+                bucket.delete(key)
+            }
         }
     }
 
+    #[tactic(auto, using(crate::proofs::Noting::noted))]
     fn page(&mut self, within: &str, after: &str, limit: u32) -> PageAnswer {
         match self {
-            HostBucket::Memory(bucket) => bucket.page(within, after, limit),
-            HostBucket::Folder(bucket) => bucket.page(within, after, limit),
+            HostBucket::Memory(bucket, notes) => {
+                notes.note_page(within, after, limit);
+                bucket.page(within, after, limit)
+            }
+            HostBucket::Folder(bucket, notes) => {
+                notes.note_page(within, after, limit);
+                bucket.page(within, after, limit)
+            }
         }
     }
 }

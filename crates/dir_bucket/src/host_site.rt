@@ -1,10 +1,11 @@
-ghost use Rattle.std.specs.Prelude.{◌≡◌, None, Some, IfOk, IfSome};
+ghost use Rattle.std.specs.Prelude.{◌≡◌, [], None, Some, IfOk, IfSome};
 ghost use Rattle.dir_bucket.specs.Folders.{shelf_faults, shelf_folder};
-ghost use Rattle.dir_bucket.specs.HostBucket.{contents_told, faults_counted as bucket_faults, folder_of, IsQuiet};
+ghost use Rattle.dir_bucket.specs.HostBucket.{calls_noted, contents_told, faults_counted as bucket_faults, folder_of, IsQuiet};
 ghost use Rattle.dir_bucket.specs.Places.{contents_under, folder_under};
 
 use crate::{DirBucket, DirShelf, HostBucket};
 use bucket_core::{FailList, MemoryBucket, Site, SiteRefusal};
+use call_notes::CallNotes;
 use std::rt::Files;
 
 /// The name of a bucket in memory. All other names are those of folders.
@@ -43,6 +44,7 @@ fn open_bucket<R: Files + AllocGlobal + Clone + Drop>(
     name: &str,
 ) -> Result<HostBucket<R>, SiteRefusal>
     ensures fresh { IfOk result (λ bucket. bucket_faults bucket ≡ 0) }
+    ensures unasked { IfOk result (λ bucket. calls_noted bucket ≡ []) }
     ensures told { IfOk result (λ bucket.
         IfSome (contents_under name.now) (λ c. contents_told bucket ≡ Some c)) }
     ensures placed { IfOk result (λ bucket. folder_of bucket ≡ folder_under name.now) }
@@ -50,12 +52,12 @@ fn open_bucket<R: Files + AllocGlobal + Clone + Drop>(
 {
     if name == MEMORY {
         let failing = FailList::new(rt.alloc());
-        return Ok(HostBucket::Memory(MemoryBucket::new(rt.alloc(), failing)));
+        return Ok(HostBucket::Memory(MemoryBucket::new(rt.alloc(), failing), CallNotes::new()));
     }
     let Ok(rt) = rt.clone() else {
         return Err(SiteRefusal::NoMemory);
     };
-    Ok(HostBucket::Folder(DirBucket::open(rt, name)?))
+    Ok(HostBucket::Folder(DirBucket::open(rt, name)?, CallNotes::new()))
 }
 
 /// Opens a shelf in a folder.
@@ -77,10 +79,10 @@ impl<R: Files + AllocGlobal + Clone + Drop> Site for HostSite<R> {
 
     type Files = DirShelf<R>;
 
-    ghost use Rattle.std.specs.Prelude.{◌≡◌, ◌≢◌, ◌≤◌, ◌+◌, None, Some, Err, IfOk, IfSome, is_ok, if◌then◌else◌};
+    ghost use Rattle.std.specs.Prelude.{◌≡◌, ◌≢◌, ◌≤◌, ◌+◌, [], None, Some, Err, IfOk, IfSome, is_ok, if◌then◌else◌};
     ghost use Rattle.bucket_core.specs.Causes.{Rose};
     ghost use Rattle.dir_bucket.specs.Folders.{shelf_faults, shelf_folder};
-    ghost use Rattle.dir_bucket.specs.HostBucket.{contents_told, folder_of, IsQuiet, faults_counted as bucket_faults};
+    ghost use Rattle.dir_bucket.specs.HostBucket.{calls_noted, contents_told, folder_of, IsQuiet, faults_counted as bucket_faults};
     ghost use Rattle.dir_bucket.specs.Places.{contents_under, folder_under};
     ghost use Rattle.dir_bucket.specs.HostSite.{buckets_handed_out, shelves_handed_out, faults_counted};
 
@@ -96,6 +98,7 @@ impl<R: Files + AllocGlobal + Clone + Drop> Site for HostSite<R> {
 
     fn open_bucket(&mut self, name: &str) -> Result<HostBucket<R>, SiteRefusal>
         ensures fresh { IfOk result (λ bucket. bucket_faults bucket ≡ 0) }
+        ensures unasked { IfOk result (λ bucket. calls_noted bucket ≡ []) }
         ensures told { IfOk result (λ bucket.
             IfSome (contents_under name.now) (λ c. contents_told bucket ≡ Some c)) }
         ensures placed { IfOk result (λ bucket. folder_of bucket ≡ folder_under name.now) }

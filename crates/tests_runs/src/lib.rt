@@ -1,7 +1,6 @@
 //! Tests that cross crates: whole runs over memory, against outputs that were worked out by hand.
 #![tactic(auto)]
 
-pub mod call_notes;
 #[cfg(test)]
 mod runs;
 pub mod strange_bucket;

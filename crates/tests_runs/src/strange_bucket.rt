@@ -1,10 +1,10 @@
 //! A bucket that shows other objects than it holds, and the site that opens it.
 
-use crate::call_notes::CallNotes;
 use bucket_core::{
     Bucket, DeleteAnswer, FailList, GetAnswer, MemoryBucket, MemoryShelf, PageAnswer, PutAnswer,
     Site, SiteRefusal,
 };
+use call_notes::CallNotes;
 use label_sets::{Text, TextList};
 use list_core::NoMemory;
 use std::alloc::{AllocError, Global};
@@ -54,7 +54,7 @@ fn note(notes: &mut Vec<u8>, kind: &str, name: &str) -> Result<(), AllocError> {
 impl Bucket for StrangeBucket {
     ghost use Rattle.std.specs.Prelude.{None, Some};
     ghost use Rattle.bucket_core.specs.MemoryBucket.{faults_counted};
-    ghost use Rattle.tests_runs.specs.Noted.{calls_told};
+    ghost use Rattle.call_notes.specs.Noted.{calls_told};
 
     ghost contents = { λ b. None };
 

@@ -1,7 +1,7 @@
 -- The text that a spelling is of.
 use Rattle.std.specs.Prelude.{ℕ, List, [], ◌∷◌, ◌++◌, Option, Some, None}
 use Rattle.std.specs.declared.snapshot.Snapshot.{Snapshot}
-use Rattle.tests_runs.specs.declared.call_notes.Spelling.{Spelling, Spelling', Held-Spelling-before, None', Some'}
+use Rattle.call_notes.specs.declared.notes.Spelling.{Spelling, Spelling', Held-Spelling-before, None', Some'}
 
 abbrev mutual
   pub text_in : Spelling → List ℕ

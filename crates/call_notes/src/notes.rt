@@ -2,14 +2,14 @@
 
 ghost use Rattle.std.specs.Prelude.{◌≡◌, ◌++◌, [], ◌∷◌};
 ghost use Rattle.bucket_core.specs.Asking.{puts, gets, gets_range, deletes, lists};
-ghost use Rattle.tests_runs.specs.Spelled.{text_told};
-ghost use Rattle.tests_runs.specs.Noted.{call_of, calls_told};
+ghost use Rattle.call_notes.specs.Spelled.{text_told};
+ghost use Rattle.call_notes.specs.Noted.{call_of, calls_told};
 
 use std::snapshot::Snapshot;
 
 /// The last byte of a text, and those before it.
 #[derive(Drop)]
-pub struct Spelling {
+struct Spelling {
     last: u8,
     before: Option<Snapshot<Spelling>>,
 }
@@ -28,7 +28,7 @@ fn spelled(bytes: &[u8]) -> Option<Snapshot<Spelling>>
 
 /// A call, with its arguments.
 #[derive(Drop)]
-pub enum Asked {
+enum Asked {
     Put(Option<Snapshot<Spelling>>, Option<Snapshot<Spelling>>),
     Get(Option<Snapshot<Spelling>>),
     GetRange(Option<Snapshot<Spelling>>, u64, u64),
@@ -38,7 +38,7 @@ pub enum Asked {
 
 /// The last call, and those before it.
 #[derive(Drop)]
-pub struct Calls {
+struct Calls {
     last: Asked,
     before: Option<Snapshot<Calls>>,
 }

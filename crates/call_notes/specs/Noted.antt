@@ -2,11 +2,11 @@
 use Rattle.std.specs.Prelude.{List, [], ◌∷◌, ◌++◌, Option, Some, None}
 use Rattle.std.specs.declared.snapshot.Snapshot.{Snapshot}
 use Rattle.bucket_core.specs.Asking.{Call, puts, gets, gets_range, deletes, lists}
-use Rattle.tests_runs.specs.declared.call_notes.Asked.{Asked}
-use Rattle.tests_runs.specs.declared.call_notes.Asked.TheVariants.{Put, Get, GetRange, Delete, Page}
-use Rattle.tests_runs.specs.declared.call_notes.CallNotes.{CallNotes}
-use Rattle.tests_runs.specs.declared.call_notes.Calls.{Calls, Calls', Held-Calls-before, None', Some'}
-use Rattle.tests_runs.specs.Spelled.{text_told}
+use Rattle.call_notes.specs.declared.notes.Asked.{Asked}
+use Rattle.call_notes.specs.declared.notes.Asked.TheVariants.{Put, Get, GetRange, Delete, Page}
+use Rattle.call_notes.specs.declared.notes.CallNotes.{CallNotes}
+use Rattle.call_notes.specs.declared.notes.Calls.{Calls, Calls', Held-Calls-before, None', Some'}
+use Rattle.call_notes.specs.Spelled.{text_told}
 
 abbrev pub call_of : Asked → Call
 call_of (Put key bytes) = puts (text_told key) (text_told bytes)
