@@ -1,6 +1,6 @@
-//! Notes of the calls that a bucket was asked, for clauses alone: by them a bucket tells what it was asked.
+//! Notes of what a bucket or a shelf was asked, for clauses alone: by them it tells what it was asked.
 #![tactic(auto)]
 
 mod notes;
 
-pub use crate::notes::CallNotes;
+pub use crate::notes::{CallNotes, NameNotes};

@@ -1,8 +1,9 @@
-//! The calls that a bucket was asked, as clauses see them. To note one takes no memory, so none is left out.
+//! What a bucket or a shelf was asked, as clauses see it. A note takes no memory, so none is left out.
 
 ghost use Rattle.std.specs.Prelude.{◌≡◌, ◌++◌, [], ◌∷◌};
 ghost use Rattle.bucket_core.specs.Asking.{puts, gets, gets_range, deletes, lists};
 ghost use Rattle.call_notes.specs.Spelled.{text_told};
+ghost use Rattle.call_notes.specs.Named.{names_told};
 ghost use Rattle.call_notes.specs.Noted.{call_of, calls_told};
 
 use std::snapshot::Snapshot;
@@ -94,5 +95,35 @@ impl CallNotes {
     {
         let within = spelled(within.as_bytes());
         self.add(Asked::Page(within, spelled(after.as_bytes()), limit));
+    }
+}
+
+/// The last name, and those before it.
+#[derive(Drop)]
+struct Names {
+    last: Option<Snapshot<Spelling>>,
+    before: Option<Snapshot<Names>>,
+}
+
+/// The names that a shelf was asked, in order.
+#[derive(Drop)]
+pub struct NameNotes {
+    names: Option<Snapshot<Names>>,
+}
+
+impl NameNotes {
+    /// Nothing was asked yet.
+    pub fn new() -> NameNotes
+        ensures { names_told result ≡ [] }
+    {
+        NameNotes { names: None }
+    }
+
+    pub fn note(&mut self, name: &str)
+        ensures { names_told self.new ≡ names_told self.old ++ name.now ∷ [] }
+    {
+        let last = spelled(name.as_bytes());
+        let before = self.names.take();
+        self.names = Some(Snapshot::of(&Names { last, before }));
     }
 }

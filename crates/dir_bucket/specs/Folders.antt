@@ -1,6 +1,7 @@
 -- What is told of a bucket and of a shelf in a folder: which folder it is, and how often they have failed.
-use Rattle.std.specs.Prelude.{ℕ, List}
+use Rattle.std.specs.Prelude.{ℕ, List, Option, Some}
 use Rattle.std.specs.String.{string_bytes}
+use Rattle.call_notes.specs.Named.{names_told}
 use Rattle.dir_bucket.specs.declared.dir_bucket.DirBucket.{DirBucket}
 use Rattle.dir_bucket.specs.declared.dir_shelf.DirShelf.{DirShelf}
 
@@ -17,3 +18,10 @@ shelf_folder shelf = string_bytes shelf.folder
 
 abbrev pub shelf_faults : {R F D : Type 0} → DirShelf R F D → ℕ
 shelf_faults shelf = shelf.faults
+
+-- the names that a shelf was asked for
+abbrev pub names_noted : {R F D : Type 0} → DirShelf R F D → List (List ℕ)
+names_noted shelf = names_told shelf.names
+
+abbrev pub names_asked : {R F D : Type 0} → DirShelf R F D → Option (List (List ℕ))
+names_asked shelf = Some (names_noted shelf)

@@ -1,18 +1,19 @@
-ghost use Rattle.std.specs.Prelude.{◌≡◌, ℕ, ◌≤◌, IfOk, IsTrue, false};
+ghost use Rattle.std.specs.Prelude.{◌≡◌, ℕ, ◌≤◌, [], IfOk, IsTrue, false};
 ghost use Rattle.std.specs.String.{string_bytes};
 ghost use Rattle.bucket_core.specs.Causes.{Rose, file_failed};
 ghost use Rattle.bucket_core.specs.Files.{IsWithinLimit};
-ghost use Rattle.dir_bucket.specs.Folders.{shelf_faults, shelf_folder};
+ghost use Rattle.dir_bucket.specs.Folders.{names_noted, shelf_faults, shelf_folder};
 
 use crate::files::{is_absent, read_range};
 use crate::names::is_plain;
 use bucket_core::{FILE_LIMIT, Shelf, ShelfAnswer, SiteRefusal};
+use call_notes::NameNotes;
 use std::io::ErrorKind;
 use std::rt::Files;
 use std::{fs, io};
 use wire_bytes::Blob;
 
-/// The files of a folder, each under its path below the folder. It tells nothing of what they hold.
+/// The files of a folder, each under its path below the folder. It tells which it was asked for, and nothing of what they hold.
 ///
 /// Of a file past the limit no more is read than shows that it is past it. Names with a part that is empty or begins with a
 /// dot have no file.
@@ -21,12 +22,14 @@ pub struct DirShelf<R: Files + AllocGlobal + Clone + Drop> {
     rt: R,
     folder: String,
     faults: u64,
+    names: NameNotes,
 }
 
 impl<R: Files + AllocGlobal + Clone + Drop> DirShelf<R> {
     /// The shelf of a folder. `Failed` is answered where it can't be listed.
     pub fn open(rt: R, folder: &str) -> Result<DirShelf<R>, SiteRefusal>
         ensures fresh { IfOk result (λ shelf. shelf_faults shelf ≡ 0) }
+        ensures unasked { IfOk result (λ shelf. names_noted shelf ≡ []) }
         ensures folder { IfOk result (λ shelf. shelf_folder shelf ≡ folder.now) }
     {
         match open_folder(&rt, folder) {
@@ -34,6 +37,7 @@ impl<R: Files + AllocGlobal + Clone + Drop> DirShelf<R> {
                 rt,
                 folder,
                 faults: 0,
+                names: NameNotes::new(),
             }),
             Err(error) if error.kind() == ErrorKind::OutOfMemory => Err(SiteRefusal::NoMemory),
             Err(_) => Err(SiteRefusal::Failed),
@@ -43,6 +47,7 @@ impl<R: Files + AllocGlobal + Clone + Drop> DirShelf<R> {
     /// What a read is answered, where a failure is counted.
     fn answer(&mut self, read: io::Result<Vec<u8>>) -> ShelfAnswer
         ensures within { IsWithinLimit result }
+        ensures names { names_noted self.new ≡ names_noted self.old }
         ensures folder { shelf_folder self.new ≡ shelf_folder self.old }
         ensures later { shelf_faults self.old ≤ shelf_faults self.new }
         ensures cause { IsTrue (file_failed result)
@@ -73,19 +78,22 @@ fn open_folder<R: Files + AllocGlobal + Clone + Drop>(rt: &R, folder: &str) -> i
 
 impl<R: Files + AllocGlobal + Clone + Drop> Shelf for DirShelf<R> {
     ghost use Rattle.std.specs.Prelude.{◌≡◌, ◌≤◌, None, IsTrue, false};
+    ghost use Rattle.bucket_core.specs.Asking.{AsksOnce};
     ghost use Rattle.bucket_core.specs.Causes.{Rose, file_failed};
     ghost use Rattle.bucket_core.specs.Files.{IsWithinLimit};
-    ghost use Rattle.dir_bucket.specs.Folders.{shelf_faults, shelf_folder};
+    ghost use Rattle.dir_bucket.specs.Folders.{names_asked, shelf_faults, shelf_folder};
     ghost use Rattle.dir_bucket.specs.Names.{is_plain as is_plain_name};
 
     ghost files = { λ shelf. None };
 
-    ghost asked = { λ shelf. None };
+    ghost asked = { names_asked };
 
     ghost faults = { shelf_faults };
 
+    #[tactic(auto, using(crate::proofs::Noting::noted))]
     fn read(&mut self, name: &str) -> ShelfAnswer
         ensures within { IsWithinLimit result }
+        ensures asks { AsksOnce names_asked self.old self.new name.now result ShelfAnswer.NoMemory }
         ensures folder { shelf_folder self.new ≡ shelf_folder self.old }
         ensures later { shelf_faults self.old ≤ shelf_faults self.new }
         ensures cause { IsTrue (file_failed result)
@@ -94,6 +102,7 @@ impl<R: Files + AllocGlobal + Clone + Drop> Shelf for DirShelf<R> {
             → shelf_faults self.new ≡ shelf_faults self.old }
         ensures strange { is_plain_name name.now ≡ false → result ≡ ShelfAnswer.Absent }
     {
+        self.names.note(name);
         if !is_plain(name) {
             return ShelfAnswer::Absent;
         }

@@ -1,5 +1,5 @@
 ghost use Rattle.std.specs.Prelude.{◌≡◌, [], None, Some, IfOk, IfSome};
-ghost use Rattle.dir_bucket.specs.Folders.{shelf_faults, shelf_folder};
+ghost use Rattle.dir_bucket.specs.Folders.{names_noted, shelf_faults, shelf_folder};
 ghost use Rattle.dir_bucket.specs.HostBucket.{calls_noted, contents_told, faults_counted as bucket_faults, folder_of, IsQuiet};
 ghost use Rattle.dir_bucket.specs.Places.{contents_under, folder_under};
 
@@ -66,6 +66,7 @@ fn open_shelf<R: Files + AllocGlobal + Clone + Drop>(
     name: &str,
 ) -> Result<DirShelf<R>, SiteRefusal>
     ensures fresh { IfOk result (λ shelf. shelf_faults shelf ≡ 0) }
+    ensures unasked { IfOk result (λ shelf. names_noted shelf ≡ []) }
     ensures placed { IfOk result (λ shelf. shelf_folder shelf ≡ name.now) }
 {
     match rt.clone() {
@@ -81,7 +82,7 @@ impl<R: Files + AllocGlobal + Clone + Drop> Site for HostSite<R> {
 
     ghost use Rattle.std.specs.Prelude.{◌≡◌, ◌≢◌, ◌≤◌, ◌+◌, [], None, Some, Err, IfOk, IfSome, is_ok, if◌then◌else◌};
     ghost use Rattle.bucket_core.specs.Causes.{Rose};
-    ghost use Rattle.dir_bucket.specs.Folders.{shelf_faults, shelf_folder};
+    ghost use Rattle.dir_bucket.specs.Folders.{names_noted, shelf_faults, shelf_folder};
     ghost use Rattle.dir_bucket.specs.HostBucket.{calls_noted, contents_told, folder_of, IsQuiet, faults_counted as bucket_faults};
     ghost use Rattle.dir_bucket.specs.Places.{contents_under, folder_under};
     ghost use Rattle.dir_bucket.specs.HostSite.{buckets_handed_out, shelves_handed_out, faults_counted};
@@ -132,6 +133,7 @@ impl<R: Files + AllocGlobal + Clone + Drop> Site for HostSite<R> {
 
     fn open_shelf(&mut self, name: &str) -> Result<DirShelf<R>, SiteRefusal>
         ensures fresh { IfOk result (λ shelf. shelf_faults shelf ≡ 0) }
+        ensures unasked { IfOk result (λ shelf. names_noted shelf ≡ []) }
         ensures placed { IfOk result (λ shelf. shelf_folder shelf ≡ name.now) }
         ensures counted { shelves_handed_out self.new
             ≡ (if is_ok result then shelves_handed_out self.old + 1
