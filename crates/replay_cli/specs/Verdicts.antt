@@ -64,10 +64,10 @@ text_of NoMemory = []
 -- the last line of a text, where it is the same in each call
 abbrev pub last_of : Verdict → List ℕ
 last_of (Full lines) = codes "journal full" ++ newline
-last_of WordsRefused = []
-last_of SourceFault = []
+last_of WordsRefused = text_of WordsRefused
+last_of SourceFault = text_of SourceFault
+last_of SiteFault = text_of SiteFault
 last_of (ScriptRefused refusal) = []
-last_of SiteFault = []
 last_of (NotEmpty name) = []
 last_of (Report lines as_asked) = []
 last_of (Checked block outcome) = []
@@ -76,26 +76,26 @@ last_of NoMemory = []
 -- the text before that line
 abbrev pub first_of : Verdict → List ℕ
 first_of (Full lines) = lines.items
-first_of WordsRefused = text_of WordsRefused
-first_of SourceFault = text_of SourceFault
+first_of WordsRefused = []
+first_of SourceFault = []
+first_of SiteFault = []
 first_of (ScriptRefused refusal) = text_of (ScriptRefused refusal)
-first_of SiteFault = text_of SiteFault
 first_of (NotEmpty name) = text_of (NotEmpty name)
 first_of (Report lines as_asked) = text_of (Report lines as_asked)
 first_of (Checked block outcome) = text_of (Checked block outcome)
 first_of NoMemory = text_of NoMemory
 
--- the verdict of a run that brings its lines along
-abbrev pub has_lines : Verdict → Bool
-has_lines (Full lines) = true
-has_lines (Report lines as_asked) = true
-has_lines WordsRefused = false
-has_lines SourceFault = false
-has_lines (ScriptRefused refusal) = false
-has_lines SiteFault = false
-has_lines (NotEmpty name) = false
-has_lines (Checked block outcome) = false
-has_lines NoMemory = false
+-- The text is there before it is written: a run brings its lines along, and of other verdicts the same words are written in each call.
+abbrev pub is_at_hand : Verdict → Bool
+is_at_hand (Full lines) = true
+is_at_hand (Report lines as_asked) = true
+is_at_hand WordsRefused = true
+is_at_hand SourceFault = true
+is_at_hand SiteFault = true
+is_at_hand (ScriptRefused refusal) = false
+is_at_hand (NotEmpty name) = false
+is_at_hand (Checked block outcome) = false
+is_at_hand NoMemory = false
 
 -- ---- reports
 
@@ -314,12 +314,12 @@ abbrev pub IsAdded : List ℕ → Saying → Type 0
 IsAdded text saying = saying.written_after ≡ option_map (λ bytes. bytes ++ text) saying.written_before
 
 -- The verdict's text was written and its status is the call's; or the sink failed as it was written; or there was no memory for
--- it, and the sink was asked for nothing: it has not failed, and nothing was written. The text of a run wants none.
+-- it, and the sink was asked for nothing: it has not failed, and nothing was written. A text that is at hand wants none.
 abbrev pub IsSaid : Verdict → Saying → Status → Type 0
 IsSaid verdict saying result =
     ((result ≡ status_of verdict) × IsAdded (text_of verdict) saying)
     ⊎ ((result ≡ status.SinkFault) × (verdict ≢ NoMemory) × Rose saying.faults_before saying.faults_after × IsWrittenInPart (text_of verdict) saying.written_before saying.written_after)
-    ⊎ ((result ≡ status.NoMemory) × (has_lines verdict ≡ false) × (saying.faults_after ≡ saying.faults_before) × (saying.written_after ≡ saying.written_before))
+    ⊎ ((result ≡ status.NoMemory) × (is_at_hand verdict ≡ false) × (saying.faults_after ≡ saying.faults_before) × (saying.written_after ≡ saying.written_before))
 
 -- With the status of a check, the line of the block's check was written, and it tells how the check ended.
 abbrev pub IsCheckSaid : Option Contents → ℕ → Saying → ℕ → Type 0

@@ -2,7 +2,7 @@ ghost use Rattle.std.specs.Prelude.{◌≡◌, ◌≢◌, ◌++◌, ◌∷◌, [
 ghost use Rattle.replay_cli.specs.Checks.{check_line};
 ghost use Rattle.replay_cli.specs.Reports.{newline};
 ghost use Rattle.script_core.specs.Wording.{refusal_text};
-ghost use Rattle.replay_cli.specs.Verdicts.{first_of, has_lines, last_of, status_of};
+ghost use Rattle.replay_cli.specs.Verdicts.{first_of, is_at_hand, last_of, status_of};
 
 use crate::report::put_check;
 use crate::{CheckOutcome, Status};
@@ -60,35 +60,30 @@ impl Verdict {
     {
         match self {
             Verdict::Full(_) => "journal full\n",
+            Verdict::WordsRefused => "words refused\n",
+            Verdict::SourceFault => "script read fault\n",
+            Verdict::SiteFault => "site fault\n",
             _ => "",
         }
     }
 
-    /// What is to be written before the last line. Want of memory has no words. The lines of a run are there already.
+    /// What is to be written before the last line. Want of memory has no words. What is at hand takes no memory.
     pub(crate) fn into_text(self, alloc: Global) -> Result<Vec<u8>, NoMemory>
         ensures text { IfOk result (λ text. text.items ≡ first_of self) }
         ensures words { OnOk result (self ≢ Verdict.NoMemory) }
-        ensures kept { OnErr result (has_lines self ≡ false) }
+        ensures kept { OnErr result (is_at_hand self ≡ false) }
     {
         match self {
-            Verdict::WordsRefused => line(alloc, "words refused"),
-            Verdict::SourceFault => line(alloc, "script read fault"),
+            Verdict::WordsRefused | Verdict::SourceFault | Verdict::SiteFault => Ok(Vec::new(
+                alloc,
+            )),
             Verdict::ScriptRefused(refusal) => refusal_line(alloc, refusal),
-            Verdict::SiteFault => line(alloc, "site fault"),
             Verdict::NotEmpty(name) => name_line(alloc, &name),
             Verdict::Full(lines) | Verdict::Report(lines, _) => Ok(lines),
             Verdict::Checked(block, outcome) => check_line(alloc, block, outcome),
             Verdict::NoMemory => Err(NoMemory),
         }
     }
-}
-
-fn line(alloc: Global, words: &str) -> Result<Vec<u8>, NoMemory>
-    ensures { IfOk result (λ text. text.items ≡ words.now ++ newline) }
-{
-    let mut text = Vec::from_slice(alloc, words.as_bytes())?;
-    text.push(b'\n')?;
-    Ok(text)
 }
 
 fn refusal_line(alloc: Global, refusal: ScriptRefusal) -> Result<Vec<u8>, NoMemory>
