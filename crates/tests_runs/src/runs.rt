@@ -114,7 +114,7 @@ fn scripts_are_refused_at_their_first_fault(rt: HostRuntime) -> Result<(), Faile
         ("gateway g\nat 0\nquery 0 1 {}\n", "line 3: never synced"),
         ("frob\n", "line 1: bad line 2"),
         ("at 0\ncompact\ncompact\n", "line 2: bad line 2"),
-        ("gateway g\ngateway h\n", "line 2: too many"),
+        ("gateway g\ngateway h\ngateway g\n", "line 3: bad line 21"),
     ];
     for (script, cause) in rows {
         let ended = run(alloc, &SERIAL, script.as_bytes(), calm(alloc))?;
