@@ -97,7 +97,7 @@ complete = record {
   first = All-from_recursion (λ (e : Entry). ¬ PutsMeta small.a e) fresh (λ put. cc (put.1), (λ put. cc (put.1), (λ put. cc (put.1), (λ put. cc (put.1), tt))));
 }
 
-uploaded_before : (last : ℕ) → 5 < last → IsUploadedBefore one.setting one.journal small.a last
+abbrev uploaded_before : (last : ℕ) → 5 < last → IsUploadedBefore one.setting one.journal small.a last
 uploaded_before last later = record { is_declared = refl; seq = 5; meta = fields_of small.said; completed = complete; earlier = later }
 
 pub names : NamesUploads one.setting one.journal one.asked

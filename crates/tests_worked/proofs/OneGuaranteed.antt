@@ -5,7 +5,9 @@ use Rattle.std.specs.Prelude.{slice_get}
 use Rattle.std.proofs.lemmas.List.Elements.{All-from_recursion, All-weaker}
 use Rattle.std.specs.List.{AllZip, flat_map}
 use Rattle.std.specs.Prelude.{map}
+use Rattle.list_core.proofs.Lists.{cons_parts}
 use Rattle.list_core.proofs.Membership.{only_member}
+use Rattle.querier.specs.declared.ask.Ask.{Ask}
 use Rattle.label_sets.specs.declared.series.Series.{Series}
 use Rattle.vertical_merge.specs.Merged.{IsMerge, PatternsAgree}
 use Rattle.vertical_merge.proofs.Laws.{deduplicates, only_one}
@@ -29,10 +31,10 @@ use Rattle.script_workers.specs.declared.work.Work.TheVariants as works
 use Rattle.lifecycle_core.specs.Breaches.{honesty}
 use Rattle.lifecycle_core.specs.Causes.{IsDamaged, IsExplained, IsFault, IsMissing, IsWell}
 use Rattle.lifecycle_core.specs.Conducts.{CameTo}
-use Rattle.lifecycle_core.specs.Guarantees.{Answered, IsGiven, IsGuaranteed, IsPartGiven, IsSound, Named, NamesAll}
+use Rattle.lifecycle_core.specs.Guarantees.{Answered, IsGiven, IsGuaranteed, IsPartGiven, IsSound, Named, NamesAll, ask_by}
 use Rattle.lifecycle_core.specs.Holdings.{Use}
 use Rattle.lifecycle_core.specs.Phases.{IsFinished, IsRunOf}
-use Rattle.lifecycle_core.specs.Tasks.{End, QueryTask, answered, sync_rules, synced}
+use Rattle.lifecycle_core.specs.Tasks.{End, QueryTask, answered, asks_in, sync_rules, synced}
 use Rattle.tests_worked.specs.LostIndex as lost
 use Rattle.tests_worked.specs.OneBlock as one
 use Rattle.tests_worked.specs.SmallBlock as small
@@ -112,22 +114,25 @@ answer_came hand end came =
       | inr is ↦ ap (λ (p : ℕ × End). p.1) is
     ]
 
+-- for what the one gateway is asked
+abbrev the_ask : Ask
+the_ask = record { gateway = 0; low = pos 0; high = pos 5000 }
+
 -- what the one gateway gave, to this query
-record IsOnly (workers : List Worker) (ends : List (List End)) (place : ℕ) (low high : ℤ) (named : List Named) (parts : List (List Series)) : Type 0 where
+record IsOnly (workers : List Worker) (ends : List (List End)) (place : ℕ) (named : List Named) (parts : List (List Series)) : Type 0 where
   n : Named
   part : List Series
   are : n ∷ [] ≡ named
   parts_are : parts ≡ part ∷ []
-  gateway_is : 0 ≡ n.gateway
-  given : IsPartGiven workers ends place low high n part
+  asked : ask_by n ≡ the_ask
+  given : IsPartGiven workers ends place n part
 
-only_part : (workers : List Worker) (ends : List (List End)) (place : ℕ) (low high : ℤ) (named : List Named) (parts : List (List Series)) → map (λ (n : Named). n.gateway) named ≡ 0 ∷ [] → AllZip (IsPartGiven workers ends place low high) named parts
-    → IsOnly workers ends place low high named parts
-only_part workers ends place low high [] parts every given = absurd (cc (every))
-only_part workers ends place low high (n ∷ []) [] every given = absurd given
-only_part workers ends place low high (n ∷ []) (part ∷ []) every given = record { n = n; part = part; are = refl; parts_are = refl; gateway_is = cc (every); given = given.0 }
-only_part workers ends place low high (n ∷ []) (part ∷ other ∷ parts) every given = absurd given.1
-only_part workers ends place low high (n ∷ other ∷ named) parts every given = absurd (cc (every))
+only_part : (workers : List Worker) (ends : List (List End)) (place : ℕ) (named : List Named) (parts : List (List Series)) → map ask_by named ≡ the_ask ∷ [] → AllZip (IsPartGiven workers ends place) named parts → IsOnly workers ends place named parts
+only_part workers ends place [] parts every given = absurd (cc (every))
+only_part workers ends place (n ∷ []) [] every given = absurd given
+only_part workers ends place (n ∷ []) (part ∷ []) every given = record { n = n; part = part; are = refl; parts_are = refl; asked = (cons_parts (ask_by n) the_ask [] [] every).0; given = given.0 }
+only_part workers ends place (n ∷ []) (part ∷ other ∷ parts) every given = absurd given.1
+only_part workers ends place (n ∷ other ∷ named) parts every given = absurd (cc (every))
 
 patterns_agree : PatternsAgree (small.triple ∷ [])
 patterns_agree one other among too same =
@@ -155,9 +160,11 @@ given_is query g = elim (own_phase g.phase_number g.phase g.in_phases) [
       let selects : slice_get one.script.selectors 0 ≡ Some query.selector = subst (λ (n : ℕ). slice_get one.script.selectors n ≡ Some query.selector) asked.1 g.selects in
       let ends : slice_get one.ends 1 ≡ Some g.phase_ends = subst (λ (n : ℕ). slice_get one.ends n ≡ Some g.phase_ends) number g.phase_came in
       let are : second_ends ≡ g.phase_ends = cc (ends) in
-      let only = only_part (workers_of one.script g.phase_number) g.phase_ends g.place g.low g.high query.named g.parts g.every g.given in
+      let every : map ask_by query.named ≡ the_ask ∷ [] =
+      g.every ∙ ap (λ (l : ℤ). asks_in one.setting l g.high) (sym asked.2) ∙ ap (λ (h : ℤ). asks_in one.setting (pos 0) h) (sym asked.3) in
+      let only = only_part (workers_of one.script g.phase_number) g.phase_ends g.place query.named g.parts every g.given in
       let end : End = answered only.n.used (called.Answer only.part only.n.sources) in
-      let here : CameTo (workers_of one.script 1) g.phase_ends (Some only.n.gateway) g.place end = subst (λ (n : ℕ). CameTo (workers_of one.script n) g.phase_ends (Some only.n.gateway) g.place end) number only.given.came in
+      let here : CameTo (workers_of one.script 1) g.phase_ends (Some only.n.gateway) g.place end = subst (λ (n : ℕ). CameTo (workers_of one.script n) g.phase_ends (Some only.n.gateway) g.place end) number only.given in
       let among : CameTo (gateway ∷ []) g.phase_ends (Some only.n.gateway) g.place end = subst (λ (ws : List Worker). CameTo ws g.phase_ends (Some only.n.gateway) g.place end) second_workers here in
       let came : CameTo (gateway ∷ []) second_ends (Some only.n.gateway) 1 end =
       subst (λ (n : ℕ). CameTo (gateway ∷ []) second_ends (Some only.n.gateway) n end) asked.0 (subst (λ (l : List (List End)). CameTo (gateway ∷ []) l (Some only.n.gateway) g.place end) (sym are) among) in
@@ -167,7 +174,7 @@ given_is query g = elim (own_phase g.phase_number g.phase g.in_phases) [
       let sources : small.a ∷ [] ≡ only.n.sources = cc (told) in
       let parts : g.parts ≡ (small.up ∷ []) ∷ [] = only.parts_are ∙ ap (λ (p : List Series). p ∷ []) (sym series) in
       let named : one_named ≡ only.n =
-      same_named 0 only.n.gateway one.used only.n.used (pos 0) only.n.low (pos 5000) only.n.high (small.a ∷ []) only.n.sources only.gateway_is used (asked.2 ∙ sym only.given.from) (asked.3 ∙ sym only.given.upto) sources in
+      same_named 0 only.n.gateway one.used only.n.used (pos 0) only.n.low (pos 5000) only.n.high (small.a ∷ []) only.n.sources (sym (ap (λ (a : Ask). a.gateway) only.asked)) used (sym (ap (λ (a : Ask). a.low) only.asked)) (sym (ap (λ (a : Ask). a.high) only.asked)) sources in
       same_query one.selector query.selector (one_named ∷ []) query.named (small.triple ∷ []) query.samples
       (cc (selects)) (ap (λ (n : Named). n ∷ []) named ∙ only.are) (one_merge g.parts g.series parts g.merged ∙ sym g.samples)
 ]

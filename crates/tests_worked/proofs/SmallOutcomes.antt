@@ -1,5 +1,6 @@
 -- How the tasks of small scripts come out, by their ends.
 use Rattle.std.proofs.Common.{◌≡◌, ℕ, ℤ, List, [], ◌∷◌, length, Option, refl, sym, ap}
+use Rattle.label_sets.specs.Triples.{triples_of}
 use Rattle.shipper.specs.declared.upload_end.UploadEnd.TheVariants as shipped
 use Rattle.meta_fetcher.specs.declared.sync_end.SyncEnd.TheVariants as fetched
 use Rattle.meta_fetcher.specs.declared.view.View.{View}
@@ -48,6 +49,7 @@ small_out low high selector used = (
 )
 
 pub no_out : (low high : ℤ) (selector : ℕ) (used : Use) → IsOutcome (works.Query low high selector) (answered used (called.Answer [] []) ∷ []) no_outcome
+unfolding triples_of
 no_out low high selector used = (
   part.Query (given.Answer no_answer) ∷ [],
   (refl, tt),
