@@ -32,3 +32,4 @@ pub mod LandedFault
 pub mod SpoiledMeta
 pub mod SecondPage
 pub mod TwoReplicas
+pub mod TwoGateways

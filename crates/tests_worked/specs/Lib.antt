@@ -15,4 +15,5 @@ pub mod OtherSeat
 pub mod LandedFault
 pub mod SpoiledMeta
 pub mod SecondPage
+pub mod TwoGateways
 pub mod TwoReplicas

@@ -16,6 +16,7 @@ mod second_page;
 mod side_by_side;
 mod spoiled_meta;
 mod strangers;
+mod two_gateways;
 mod two_replicas;
 mod young_block;
 
@@ -48,6 +49,7 @@ pub use side_by_side::{
 };
 pub use spoiled_meta::{spoiled_meta_gives_no_view, spoiled_meta_is_the_breach};
 pub use strangers::{stranger_that_lists_acts, stranger_that_puts_is_refused};
+pub use two_gateways::{answer_of_one_gateway_is_refused, two_gateways_answer};
 pub use two_replicas::replicas_are_answered_once;
 pub use young_block::{
     young_block_is_answered_later, young_block_is_left_out, young_block_is_not_answered,
