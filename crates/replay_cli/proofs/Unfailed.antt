@@ -1,16 +1,11 @@
 -- Where memory was wanted, nothing failed but what the journal shows.
-use Rattle.std.proofs.Common.{◌≡◌, ◌≢◌, ℕ, ◌≤◌, Bool, false, List, [], ◌++◌, refl, sym, ◌∙◌, ap, subst}
+use Rattle.std.proofs.Common.{◌≡◌, ◌≢◌, ℕ, Bool, false, List, [], refl, sym, ◌∙◌, ap, subst}
 use Rattle.std.specs.Prelude.{Option, Some, None, IfSome, Result, Ok, Err}
 use Rattle.bucket_core.specs.Asking.{Call}
 use Rattle.bucket_core.specs.declared.site_refusal.SiteRefusal.{SiteRefusal}
 use Rattle.bucket_core.specs.declared.site_refusal.SiteRefusal.TheVariants as site
 use Rattle.world_core.specs.Worlds.{WorldGoesOn, WorldView, failed_count}
-use Rattle.world_core.specs.Machines.{gained, is_failed, IfDone}
-use Rattle.world_core.specs.Operations.{has_failed}
-use Rattle.world_core.specs.declared.acted.Acted.{Acted}
 use Rattle.world_core.specs.declared.entry.Entry.{Entry}
-use Rattle.world_core.specs.declared.op.Op.{Op}
-use Rattle.world_core.proofs.GoingOn.{acted_goes_on}
 use Rattle.world_core.specs.declared.open_refusal.OpenRefusal.{OpenRefusal}
 use Rattle.world_core.specs.declared.open_refusal.OpenRefusal.TheVariants as unopened
 use Rattle.block_content.specs.declared.checked.Checked.{Checked as CheckedBlock}
@@ -20,7 +15,7 @@ use Rattle.block_loading.specs.declared.load_refusal.LoadRefusal.TheVariants as 
 use Rattle.replay_cli.specs.Checks.{cause_number}
 use Rattle.replay_cli.specs.CheckVerdicts.{refused_for, verdict_on}
 use Rattle.replay_cli.specs.Kept.{IsUnfailed}
-use Rattle.replay_cli.specs.LineHands.{KeepsRun, keeps_run-more, keeps_run-none}
+use Rattle.run_notes.specs.LineHands.{KeepsRun, keeps_run-more, keeps_run-none}
 use Rattle.replay_cli.specs.Verdicts.{IfShort}
 use Rattle.replay_cli.specs.declared.verdict.Verdict.{Verdict}
 use Rattle.replay_cli.specs.declared.verdict.Verdict.TheVariants.{WordsRefused, SourceFault, ScriptRefused, SiteFault, NotEmpty, Full, Report, Checked, NoMemory}
@@ -113,10 +108,6 @@ pub kept_at : {B : Type 0} (faults : B → ℕ) (quiet : B → Type 0) (asked : 
 kept_at {B} faults quiet asked opened set_opened still wanted set_wanted now first set next one flag other keeps =
     subst (λ (w : WorldView B). KeepsRun faults quiet asked opened wanted w still now next) other
     (subst (λ (f : Bool). KeepsRun faults quiet asked opened f set still now next) flag (subst (λ (w : WorldView B). KeepsRun faults quiet asked w set_wanted set still now next) one keeps))
-
-pub acted : {B : Type 0} (faults : B → ℕ) (quiet : B → Type 0) (old new : WorldView B) (seat : ℕ) (op : Op) (a : Acted) → new.journal ≡ old.journal ++ gained seat op a → new.tick ≡ old.tick
-    → faults old.bucket ≤ faults new.bucket → (is_failed a ≡ false → faults new.bucket ≡ faults old.bucket) → (quiet old.bucket → quiet new.bucket × IfDone a (λ seen. has_failed seen.reply ≡ false)) → WorldGoesOn faults quiet old new
-acted faults quiet old new seat op a added tick later only calm = acted_goes_on faults quiet old new seat op a added tick later only calm
 
 -- ---- checks of blocks
 

@@ -3,7 +3,6 @@ pub mod Checks
 pub mod CheckVerdicts
 pub mod InPhases
 pub mod Kept
-pub mod LineHands
 pub mod Noted
 pub mod Output
 pub mod Progress

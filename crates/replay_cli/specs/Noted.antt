@@ -4,14 +4,14 @@ use Rattle.bucket_core.specs.Causes.{Rose}
 use Rattle.world_core.specs.declared.entry.Entry.{Entry}
 use Rattle.replay_cli.specs.Progress.{tells_full}
 use Rattle.replay_cli.specs.Verdicts.{Saying}
-use Rattle.replay_cli.specs.declared.run_note.RunNote.{RunNote}
+use Rattle.run_notes.specs.declared.run_note.RunNote.{RunNote}
 use Rattle.replay_cli.specs.declared.verdict.Verdict.{Verdict}
 
--- The note is of the journal that is handed back, and an operation was answered that it is full just where the verdict tells that.
+-- The note is of the journal and the bucket that are handed back, and an operation was answered that it is full just where the verdict tells that.
 -- Without a note no operation was done.
-abbrev pub IsNoted : Verdict → Option (List Entry) → Option RunNote → Type 0
-IsNoted verdict journal (Some note) = (journal ≡ Some note.journal.value) × (note.full ≡ tells_full verdict)
-IsNoted verdict journal None = IfSome journal (λ entries. entries ≡ []) × (tells_full verdict ≡ false)
+abbrev pub IsNoted : {B : Type 0} → Verdict → Option (List Entry) → Option B → Option (RunNote B) → Type 0
+IsNoted {B} verdict journal store (Some note) = (journal ≡ Some note.world.value.journal) × (store ≡ Some note.world.value.bucket) × (note.full ≡ tells_full verdict)
+IsNoted {B} verdict journal store None = IfSome journal (λ entries. entries ≡ []) × (tells_full verdict ≡ false)
 
 -- Where an operation was answered that the journal is full, the status is 8, or 4 as the sink failed. Else it is not 8.
 abbrev pub IsFullSaid : Bool → Saying → ℕ → Type 0

@@ -7,17 +7,18 @@ ghost use Rattle.replay_cli.specs.Statuses.{number_of};
 ghost use Rattle.replay_cli.specs.Verdicts.{IsSaid, saying_to};
 
 use crate::output::write_all;
-use crate::{Run, RunNote, SinkFault, Status, Verdict};
+use crate::{Run, SinkFault, Status, Verdict};
 use bucket_core::{Bucket, Sink};
+use run_notes::{Finished, RunNote};
 use std::alloc::Global;
-use world_core::{Journal, World};
+use world_core::Journal;
 
 /// What a call comes to, with the shelf that the site handed out, and the note of its run, where one began.
 #[derive(Drop)]
-pub(crate) struct Ended<B, F> {
+pub(crate) struct Ended<B: Bucket, F> {
     pub conclusion: Conclusion<B>,
     pub shelf: Option<F>,
-    pub note: Option<RunNote>,
+    pub note: Option<RunNote<B>>,
 }
 
 /// A verdict, with the bucket that the site handed out and the journal over it.
@@ -28,7 +29,7 @@ pub(crate) struct Conclusion<B> {
     pub store: Option<B>,
 }
 
-impl<B, F> Ended<B, F> {
+impl<B: Bucket, F> Ended<B, F> {
     /// Says what the call comes to, and hands over what it leaves.
     pub(crate) fn into_run<K: Sink>(self, alloc: Global, out: &mut K) -> Run<B, F>
         ensures { (status : Status)
@@ -111,15 +112,16 @@ impl<B> Conclusion<B> {
 }
 
 impl<B: Bucket> Conclusion<B> {
-    /// What a run comes to that was done over a world.
-    pub(crate) fn of_world(verdict: Verdict, world: World<B>) -> Conclusion<B>
-        ensures verdict { result.verdict ≡ verdict }
-        ensures journal { result.journal ≡ Some world.journal }
-        ensures store { result.store ≡ Some world.bucket }
-        ensures back { IsHandedBack B.contents B.faults result.journal result.store }
-        ensures untouched { IsUntouched B.contents nothing result.journal result.store }
+    /// What a run comes to that is finished, and the note of it.
+    pub(crate) fn of_run(verdict: Verdict, run: Finished<B>) -> (Conclusion<B>, Option<RunNote<B>>)
+        ensures verdict { result.0.verdict ≡ verdict }
+        ensures journal { result.0.journal ≡ Some run.world.journal }
+        ensures store { result.0.store ≡ Some run.world.bucket }
+        ensures note { result.1 ≡ run.note }
+        ensures back { IsHandedBack B.contents B.faults result.0.journal result.0.store }
+        ensures untouched { IsUntouched B.contents nothing result.0.journal result.0.store }
     {
-        let (journal, store) = world.into_parts();
-        Conclusion::with_bucket(verdict, journal, store)
+        let (note, journal, store) = run.into_parts();
+        (Conclusion::with_bucket(verdict, journal, store), note)
     }
 }

@@ -7,14 +7,12 @@ mod conclusion;
 mod input;
 mod input_refusal;
 mod laws;
-mod line_hand;
 mod opening;
 mod output;
 mod phases;
 mod replay;
 mod report;
 mod run;
-mod run_note;
 mod runner;
 mod seats;
 mod standard;
@@ -35,7 +33,7 @@ pub use laws::{
 pub use output::{SinkFault, write_all};
 pub use replay::run_replay;
 pub use run::Run;
-pub use run_note::RunNote;
+pub use run_notes::RunNote;
 pub use script_running::{
     NoAnswer, Outcome, OutcomeList, QueryOutcome, SyncOutcome, UploadOutcome,
 };

@@ -35,8 +35,8 @@ where
     S::Store: Send,
     // The call comes to a verdict that has its cause, and says it. The journal is one of workers beside each other. Unless want
     // of memory is told or the full journal, the bucket was asked for what the journal shows, behind the page that opens it, and
-    // for nothing else. The note of the run is of its journal, and tells of an operation that was answered with the full journal
-    // just where the verdict does.
+    // for nothing else. The note of the run is of its journal and its bucket, and tells of an operation that was answered with the full
+    // journal just where the verdict does.
     ensures verdict { (verdict : Verdict) × (status : Status)
         × IsCaused
         (around_call IsInPhases R.left R.faults script.old script.new
@@ -48,7 +48,7 @@ where
         × (result.status ≡ number_of status)
         × (verdict ≢ Verdict.NoMemory → tells_full verdict ≡ false
         → IsBucketAsked S.Store.asked verdict result.journal result.store)
-        × IsNoted verdict result.journal result.note }
+        × IsNoted verdict result.journal result.store result.note }
 
     // Where an operation of the run was answered that the journal is full, the status says that, unless the sink failed: want
     // of memory is never told in its place.
@@ -105,7 +105,8 @@ where
         → tells_full result.conclusion.verdict ≡ false
         → IsBucketAsked S.Store.asked result.conclusion.verdict result.conclusion.journal
         result.conclusion.store }
-    ensures noted { IsNoted result.conclusion.verdict result.conclusion.journal result.note }
+    ensures noted { IsNoted result.conclusion.verdict result.conclusion.journal
+        result.conclusion.store result.note }
     ensures untouched { IfSome (told_of (S.next_bucket site.old) (replay_word words.now))
         (λ c. IsUntouched S.Store.contents c result.conclusion.journal result.conclusion.store) }
     ensures closed { replay_word words.now ≡ None
@@ -156,7 +157,8 @@ where
         → tells_full result.conclusion.verdict ≡ false
         → IsBucketAsked S.Store.asked result.conclusion.verdict result.conclusion.journal
         result.conclusion.store }
-    ensures noted { IsNoted result.conclusion.verdict result.conclusion.journal result.note }
+    ensures noted { IsNoted result.conclusion.verdict result.conclusion.journal
+        result.conclusion.store result.note }
     ensures untouched { IfSome (S.next_bucket site.old bucket.now)
         (λ c. IsUntouched S.Store.contents c result.conclusion.journal result.conclusion.store) }
     ensures shelf { IsShelfOf S.shelves S.next_shelf S.Files.files (named_by shelf.now)
@@ -171,9 +173,10 @@ where
                 shelf,
             },
         ) => {
-            let (verdict, note, world) = run_with_threads(rt, alloc, gate, &script, &text, world);
+            let (verdict, finished) = run_with_threads(rt, alloc, gate, &script, &text, world);
+            let (conclusion, note) = Conclusion::of_run(verdict, finished);
             Ended {
-                conclusion: Conclusion::of_world(verdict, world),
+                conclusion,
                 shelf,
                 note,
             }

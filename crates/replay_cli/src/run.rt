@@ -1,9 +1,10 @@
-use crate::RunNote;
+use bucket_core::Bucket;
+use run_notes::RunNote;
 use world_core::Journal;
 
 /// What a call of the program leaves.
 #[derive(Drop)]
-pub struct Run<B, F> {
+pub struct Run<B: Bucket, F> {
     /// The number of its status.
     pub status: u8,
     /// The journal of the bucket's operations, where the site handed out a bucket.
@@ -13,5 +14,5 @@ pub struct Run<B, F> {
     /// The shelf, where the site handed one out.
     pub shelf: Option<F>,
     /// What the operations of its run were answered, where one began.
-    pub note: Option<RunNote>,
+    pub note: Option<RunNote<B>>,
 }

@@ -15,11 +15,11 @@ ghost use Rattle.replay_cli.specs.Noted.{IsNoted};
 ghost use Rattle.replay_cli.specs.Progress.{tells_full};
 ghost use Rattle.replay_cli.specs.Verdicts.{IsRun};
 
-use crate::line_hand::LineHand;
+use crate::Verdict;
 use crate::phases::{Lines, Progress, run_phases};
-use crate::{RunNote, Verdict};
 use bucket_core::Bucket;
 use phase_runner::Gate;
+use run_notes::{Finished, LineHand};
 use script_core::Script;
 use script_running::{Broken, run_beside};
 use std::alloc::Global;
@@ -60,8 +60,8 @@ pub(crate) fn run_in_line<B: Bucket>(
     (verdict_of(came, progress.into_report()), hand)
 }
 
-/// Does the phases one after another, each with a thread for each of its workers. The text spells the script. The note of the
-/// operations comes with the verdict, unless nothing was begun.
+/// Does the phases one after another, each with a thread for each of its workers. The text spells the script. The world comes with
+/// the note of its operations, unless nothing was begun.
 pub(crate) fn run_with_threads<B: Bucket + Send, G: Gate + Sync, T: Threads + Wait + Sync>(
     rt: &T,
     alloc: Global,
@@ -69,36 +69,33 @@ pub(crate) fn run_with_threads<B: Bucket + Send, G: Gate + Sync, T: Threads + Wa
     script: &Script,
     text: &[u8],
     world: World<B>,
-) -> (Verdict, Option<RunNote>, World<B>)
+) -> (Verdict, Finished<B>)
     requires lawful { IsLawfulScript script.now }
     requires spelled { script_of text.now ≡ Ok script.now }
     requires fresh { world.journal ≡ [] }
     requires tick { world.tick ≡ script.now.rules.tick.ms }
     ensures cause { IsRun IsInPhases (setting_of script.now) (Some nothing) ⊥
-        (Some result.2.journal) result.0 }
-    ensures unfailed { failed_count result.2.journal ≡ 0
-        → B.faults result.2.bucket ≡ B.faults world.bucket }
+        (Some result.1.world.journal) result.0 }
+    ensures unfailed { failed_count result.1.world.journal ≡ 0
+        → B.faults result.1.world.bucket ≡ B.faults world.bucket }
 
     // All that the bucket was asked is journaled if it was before, unless want of memory is told, or the full journal. (Where one
     // worker meets that, another may have wanted memory.)
     ensures all { result.0 ≢ Verdict.NoMemory → tells_full result.0 ≡ false
         → (before : List Call) → IsAllAsked B.asked before world
-        → IsAllAsked B.asked before result.2 }
+        → IsAllAsked B.asked before result.1.world }
 
     // The full journal is told just where an operation of the run was answered so. So want of memory is told only where none was.
-    ensures noted { IsNoted result.0 (Some result.2.journal) result.1 }
+    ensures noted { IsNoted result.0 (Some result.1.world.journal) (Some result.1.world.bucket)
+        result.1.note }
 {
     let mut report = Lines::new(alloc);
     match run_beside(rt, alloc, script, text, world, gate, &mut report) {
         Ok((end, closed)) => {
-            let note = RunNote::of_closed(&closed, is_full(end.came));
-            (
-                verdict_of(end.came, report),
-                Some(note),
-                closed.into_world(),
-            )
+            let finished = Finished::of_closed(closed, is_full(end.came));
+            (verdict_of(end.came, report), finished)
         }
-        Err(world) => (Verdict::NoMemory, None, world),
+        Err(world) => (Verdict::NoMemory, Finished::unbegun(world)),
     }
 }
 

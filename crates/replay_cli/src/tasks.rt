@@ -11,15 +11,15 @@ ghost use Rattle.lifecycle_core.specs.InLine.{seat_of};
 ghost use Rattle.lifecycle_core.specs.Setting.{setting_of};
 ghost use Rattle.script_running.specs.Outcomes.{AreAllParts, IsOutcomeOf};
 ghost use Rattle.script_running.specs.Tasks.{Allows, HasDone, Sees, is_full_came};
-ghost use Rattle.replay_cli.specs.LineHands.{KeepsRun};
+ghost use Rattle.run_notes.specs.LineHands.{KeepsRun};
 ghost use Rattle.replay_cli.specs.Progress.{PartStep, Shows, TaskStep};
 
-use crate::line_hand::LineHand;
 use crate::phases::Progress;
 use crate::seats::Seats;
 use bucket_core::Bucket;
 use list_core::NoMemory;
 use meta_fetcher::View;
+use run_notes::LineHand;
 use script_core::{Hand, Script, Task, Work};
 use script_running::{Broken, Came, Outcome, Part, outcome_of, run_task};
 use std::alloc::Global;

@@ -13,8 +13,9 @@ use crate::conclusion::{Conclusion, Ended};
 use crate::opening::{Ready, read_and_open};
 use crate::runner::run_in_line;
 use crate::words::{read_check, read_serial};
-use crate::{Run, RunNote, Status, Verdict};
+use crate::{Run, Status, Verdict};
 use bucket_core::{Sink, Site, Source};
+use run_notes::Finished;
 use std::alloc::Global;
 
 /// Does what the words `serial BUCKET SHELF` and `check SHELF ULID` ask for: it reads the script to its end, runs it over the bucket
@@ -29,8 +30,8 @@ pub fn run_tool<S: Site, R: Source, K: Sink>(
 ) -> Run<S::Store, S::Files>
     // The call comes to a verdict that has its cause, and says it: its status and its text, or that the sink failed or
     // memory ran out as it was said. Unless that is want of memory, the bucket was asked for what the journal shows, behind
-    // the page that opens it, and for nothing else. The note of the run is of its journal, and tells of an operation that was
-    // answered with the full journal just where the verdict does.
+    // the page that opens it, and for nothing else. The note of the run is of its journal and its bucket, and tells of an
+    // operation that was answered with the full journal just where the verdict does.
     ensures verdict { (verdict : Verdict) × (status : Status)
         × IsCaused
         (around_call IsInLine R.left R.faults script.old script.new
@@ -42,7 +43,7 @@ pub fn run_tool<S: Site, R: Source, K: Sink>(
         × (result.status ≡ number_of status)
         × (verdict ≢ Verdict.NoMemory
         → IsBucketAsked S.Store.asked verdict result.journal result.store)
-        × IsNoted verdict result.journal result.note }
+        × IsNoted verdict result.journal result.store result.note }
 
     // Where an operation of the run was answered that the journal is full, the status says that, unless the sink failed: want
     // of memory is never told in its place.
@@ -114,7 +115,8 @@ fn come_to<S: Site, R: Source>(
         (λ c. IsUntouched S.Store.contents c result.conclusion.journal result.conclusion.store) }
     ensures closed { bucket_word words.now ≡ None
         → IsNotAsked S.buckets S.next_bucket site.old site.new }
-    ensures noted { IsNoted result.conclusion.verdict result.conclusion.journal result.note }
+    ensures noted { IsNoted result.conclusion.verdict result.conclusion.journal
+        result.conclusion.store result.note }
     ensures shelf { IsShelfOf S.shelves S.next_shelf S.Files.files (shelf_word words.now)
         site.old site.new result.shelf }
     ensures asked { IfSome result.shelf (WasAskedFor S.Files.asked
@@ -161,7 +163,8 @@ fn read_and_run<S: Site, R: Source>(
     ensures asked_bucket { result.conclusion.verdict ≢ Verdict.NoMemory
         → IsBucketAsked S.Store.asked result.conclusion.verdict result.conclusion.journal
         result.conclusion.store }
-    ensures noted { IsNoted result.conclusion.verdict result.conclusion.journal result.note }
+    ensures noted { IsNoted result.conclusion.verdict result.conclusion.journal
+        result.conclusion.store result.note }
     ensures untouched { IfSome (S.next_bucket site.old bucket.now)
         (λ c. IsUntouched S.Store.contents c result.conclusion.journal result.conclusion.store) }
     ensures shelf { IsShelfOf S.shelves S.next_shelf S.Files.files (named_by shelf.now)
@@ -177,11 +180,12 @@ fn read_and_run<S: Site, R: Source>(
             },
         ) => {
             let (verdict, hand) = run_in_line(alloc, &script, world);
-            let note = RunNote::of_hand(&hand);
+            let finished = Finished::of_hand(hand);
+            let (conclusion, note) = Conclusion::of_run(verdict, finished);
             Ended {
-                conclusion: Conclusion::of_world(verdict, hand.into_world()),
+                conclusion,
                 shelf,
-                note: Some(note),
+                note,
             }
         }
         Err(ended) => ended,

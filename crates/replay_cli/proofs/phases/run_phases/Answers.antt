@@ -1,5 +1,5 @@
 use Rattle.std.proofs.Common.{IsTrue, subst}
-use Rattle.replay_cli.specs.LineHands.{keeps_run-none}
+use Rattle.run_notes.specs.LineHands.{keeps_run-none}
 use Rattle.replay_cli.proofs.Wanted.{short_on}
 use Rattle.replay_cli.proofs.phases.run_phases.Goals as goal
 

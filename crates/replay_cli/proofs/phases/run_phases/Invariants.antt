@@ -1,6 +1,6 @@
 use Rattle.std.proofs.Common.{◌≡◌, false, length}
 use Rattle.script_core.specs.Workers.{seats_before}
-use Rattle.replay_cli.specs.LineHands.{KeepsRun}
+use Rattle.run_notes.specs.LineHands.{KeepsRun}
 use Rattle.replay_cli.specs.Progress.{Reached}
 use Rattle.replay_cli.proofs.phases.run_phases.Given as goal
 use Rattle.lifecycle_core.specs.Setting.{setting_of}

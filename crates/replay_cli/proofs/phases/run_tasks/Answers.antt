@@ -3,7 +3,7 @@ use Rattle.std.proofs.lemmas.Result.{MatchResult-at_err, MatchResult-at_ok}
 use Rattle.lifecycle_core.specs.InLine.{seat_of}
 use Rattle.lifecycle_core.specs.Setting.{setting_of}
 use Rattle.script_workers.specs.declared.task.Task.{Task}
-use Rattle.replay_cli.specs.LineHands.{keeps_run-none, keeps_run-more}
+use Rattle.run_notes.specs.LineHands.{keeps_run-none, keeps_run-more}
 use Rattle.script_running.specs.Tasks.{is_full_came}
 use Rattle.replay_cli.specs.Progress.{TasksBroken, TasksDone}
 use Rattle.replay_cli.proofs.Told.{done_none, take_whole}

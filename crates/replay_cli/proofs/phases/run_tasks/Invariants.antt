@@ -2,7 +2,7 @@ use Rattle.std.proofs.Common.{◌≡◌, false, take, length}
 use Rattle.lifecycle_core.specs.Holdings.{Holdings}
 use Rattle.lifecycle_core.specs.InLine.{seat_of}
 use Rattle.lifecycle_core.specs.Setting.{setting_of}
-use Rattle.replay_cli.specs.LineHands.{KeepsRun}
+use Rattle.run_notes.specs.LineHands.{KeepsRun}
 use Rattle.replay_cli.specs.Progress.{Shows, TasksDone}
 use Rattle.replay_cli.proofs.phases.run_tasks.Given as goal
 

@@ -66,4 +66,4 @@ returns-in-Some-clause-noted g c = c.read_and_run.ensures.noted
 
 pub returns-in-None-clause-noted : goal.returns-in-None-clause-noted
 returns-in-None-clause-noted g c =
-    without_journal c.without_bucket.result.verdict c.without_bucket.result.journal None refl c.without_bucket.ensures.journal (ap tells_full c.without_bucket.ensures.verdict)
+    without_journal c.without_bucket.result.verdict c.without_bucket.result.journal c.without_bucket.result.store None refl c.without_bucket.ensures.journal (ap tells_full c.without_bucket.ensures.verdict)

@@ -20,39 +20,40 @@ returns-in-Ok-clause-cause g c =
     worked_run
     (around_call IsInPhases g.R.Source.left g.R.Source.faults c.args.script.now c.read_and_open.new.script g.S.Site.buckets g.S.Site.next_bucket g.S.Site.shelves g.S.Site.next_shelf g.S.Site.faults (Some c.args.bucket.now) (named_by c.args.shelf.now) None
     c.args.site.now c.read_and_open.new.site g.S.Store.Bucket.faults g.S.Files.Shelf.faults
-    c.of_world.result.store c.in-Ok.field-0.shelf c.of_world.result.journal)
-    c.in-Ok.field-0.script c.run_with_threads-verdict.result.2.journal c.run_with_threads-verdict.result.0 c.of_world.result.verdict c.in-Ok.ensures.read c.in-Ok.ensures.lawful
-    (ap is_some c.of_world.ensures.store, c.in-Ok.ensures.opened) c.in-Ok.ensures.empty c.of_world.ensures.journal c.of_world.ensures.verdict c.run_with_threads-verdict.ensures.cause
+    c.of_run-conclusion.result.0.store c.in-Ok.field-0.shelf c.of_run-conclusion.result.0.journal)
+    c.in-Ok.field-0.script c.run_with_threads-verdict.result.1.world.journal c.run_with_threads-verdict.result.0 c.of_run-conclusion.result.0.verdict c.in-Ok.ensures.read c.in-Ok.ensures.lawful
+    (ap is_some c.of_run-conclusion.ensures.store, c.in-Ok.ensures.opened) c.in-Ok.ensures.empty c.of_run-conclusion.ensures.journal c.of_run-conclusion.ensures.verdict c.run_with_threads-verdict.ensures.cause
 
 pub returns-in-Ok-clause-short : goal.returns-in-Ok-clause-short
 returns-in-Ok-clause-short g c =
-    short_of c.of_world.result.verdict _ (
+    short_of c.of_run-conclusion.result.0.verdict _ (
       c.in-Ok.ensures.source,
       c.in-Ok.ensures.site,
-      unfailed_ended g.S.Store.Bucket.faults c.in-Ok.field-0.world c.run_with_threads-verdict.result.2 _ _ c.run_with_threads-verdict.ensures.unfailed c.in-Ok.ensures.unfailed c.of_world.ensures.journal c.of_world.ensures.store,
+      unfailed_ended g.S.Store.Bucket.faults c.in-Ok.field-0.world c.run_with_threads-verdict.result.1.world _ _ c.run_with_threads-verdict.ensures.unfailed c.in-Ok.ensures.unfailed c.of_run-conclusion.ensures.journal c.of_run-conclusion.ensures.store,
       c.in-Ok.ensures.unread,
     )
 
 pub returns-in-Ok-clause-handed : goal.returns-in-Ok-clause-handed
 returns-in-Ok-clause-handed g c =
-    handed_some g.S.Site.buckets c.args.site.now c.read_and_open.new.site c.of_world.result.store c.run_with_threads-verdict.result.2.bucket c.of_world.ensures.store c.in-Ok.ensures.buckets
+    handed_some g.S.Site.buckets c.args.site.now c.read_and_open.new.site c.of_run-conclusion.result.0.store c.run_with_threads-verdict.result.1.world.bucket c.of_run-conclusion.ensures.store c.in-Ok.ensures.buckets
 
 pub returns-in-Ok-clause-kept : goal.returns-in-Ok-clause-kept
-returns-in-Ok-clause-kept g c = ap is_some c.of_world.ensures.journal ∙ sym (ap is_some c.of_world.ensures.store)
+returns-in-Ok-clause-kept g c = ap is_some c.of_run-conclusion.ensures.journal ∙ sym (ap is_some c.of_run-conclusion.ensures.store)
 
 pub returns-in-Ok-clause-untouched : goal.returns-in-Ok-clause-untouched
 returns-in-Ok-clause-untouched g c =
-    if_nothing (λ k. IsUntouched g.S.Store.Bucket.contents k c.of_world.result.journal c.of_world.result.store) (g.S.Site.next_bucket c.args.site.now c.args.bucket.now) c.in-Ok.ensures.empty c.of_world.ensures.untouched
+    if_nothing (λ k. IsUntouched g.S.Store.Bucket.contents k c.of_run-conclusion.result.0.journal c.of_run-conclusion.result.0.store) (g.S.Site.next_bucket c.args.site.now c.args.bucket.now) c.in-Ok.ensures.empty c.of_run-conclusion.ensures.untouched
 
 pub returns-in-Ok-clause-asked_bucket : goal.returns-in-Ok-clause-asked_bucket
 returns-in-Ok-clause-asked_bucket g c = λ never told.
-    ended_asked g.S.Store.Bucket.asked c.in-Ok.field-0.world c.run_with_threads-verdict.result.2 c.of_world.result.verdict c.of_world.result.journal c.of_world.result.store
-    c.in-Ok.ensures.fresh c.in-Ok.ensures.asked (c.run_with_threads-verdict.ensures.all (λ is. never (c.of_world.ensures.verdict ∙ is)) (ap tells_full (sym c.of_world.ensures.verdict) ∙ told))
-    c.of_world.ensures.journal c.of_world.ensures.store
+    ended_asked g.S.Store.Bucket.asked c.in-Ok.field-0.world c.run_with_threads-verdict.result.1.world c.of_run-conclusion.result.0.verdict c.of_run-conclusion.result.0.journal c.of_run-conclusion.result.0.store
+    c.in-Ok.ensures.fresh c.in-Ok.ensures.asked (c.run_with_threads-verdict.ensures.all (λ is. never (c.of_run-conclusion.ensures.verdict ∙ is)) (ap tells_full (sym c.of_run-conclusion.ensures.verdict) ∙ told))
+    c.of_run-conclusion.ensures.journal c.of_run-conclusion.ensures.store
 
 pub returns-in-Ok-clause-noted : goal.returns-in-Ok-clause-noted
 returns-in-Ok-clause-noted g c =
-    noted_as c.run_with_threads-verdict.result.0 c.of_world.result.verdict c.run_with_threads-verdict.result.2.journal c.of_world.result.journal c.run_with_threads-verdict.result.1 c.of_world.ensures.verdict c.of_world.ensures.journal c.run_with_threads-verdict.ensures.noted
+    noted_as c.run_with_threads-verdict.result.0 c.of_run-conclusion.result.0.verdict c.run_with_threads-verdict.result.1.world c.of_run-conclusion.result.0.journal c.of_run-conclusion.result.0.store c.run_with_threads-verdict.result.1.note c.of_run-conclusion.result.1
+    c.of_run-conclusion.ensures.verdict c.of_run-conclusion.ensures.journal c.of_run-conclusion.ensures.store c.of_run-conclusion.ensures.note c.run_with_threads-verdict.ensures.noted
 
 -- ---- a call that ended before
 
@@ -62,7 +63,7 @@ returns-in-Err-clause-noted g c =
     (around_call IsInPhases g.R.Source.left g.R.Source.faults c.args.script.now c.read_and_open.new.script g.S.Site.buckets g.S.Site.next_bucket g.S.Site.shelves g.S.Site.next_shelf g.S.Site.faults (Some c.args.bucket.now) (named_by c.args.shelf.now) None
     c.args.site.now c.read_and_open.new.site g.S.Store.Bucket.faults g.S.Files.Shelf.faults
     c.in-Err.ended.conclusion.store c.in-Err.ended.shelf c.in-Err.ended.conclusion.journal)
-    c.in-Err.ended.conclusion.verdict c.in-Err.ended.note c.in-Err.ensures.unnoted c.in-Err.ensures.cause
+    c.in-Err.ended.conclusion.verdict c.in-Err.ended.conclusion.store c.in-Err.ended.note c.in-Err.ensures.unnoted c.in-Err.ensures.cause
 
 pub returns-in-Err-clause-asked_bucket : goal.returns-in-Err-clause-asked_bucket
 returns-in-Err-clause-asked_bucket g c = λ never told. c.in-Err.ensures.back_asked never

@@ -4,6 +4,8 @@ use Rattle.world_core.specs.Worlds.{failed_count}
 use Rattle.world_core.specs.declared.entry.Entry.{Entry}
 use Rattle.lifecycle_core.specs.Setting.{setting_of}
 use Rattle.script_running.specs.Beside.{HasRunBeside}
+use Rattle.replay_cli.specs.declared.verdict.Verdict.TheVariants as verdict
+use Rattle.replay_cli.proofs.Noted.{noted_world, unnoted}
 use Rattle.replay_cli.proofs.Runs.{full_told}
 use Rattle.replay_cli.proofs.RunsBeside.{beside_told, none_beside}
 use Rattle.replay_cli.proofs.ToldLines.{no_lines}
@@ -13,40 +15,45 @@ use Rattle.replay_cli.proofs.runner.run_with_threads.Goals as goal
 pub run_beside-requires-clause-untold : goal.run_beside-requires-clause-untold
 run_beside-requires-clause-untold g c = λ κs lives. no_lines c.new-report.result c.args.script.now c.new-report.ensures
 
-pub of_closed-note-requires : goal.of_closed-note-requires
-of_closed-note-requires g c = record { told = c.in-Ok.ensures.refused ∙ sym c.is_full.ensures }
+pub of_closed-finished-requires : goal.of_closed-finished-requires
+of_closed-finished-requires g c = record { told = c.in-Ok.ensures.refused ∙ sym c.is_full.ensures }
 
 pub returns-in-Ok-clause-cause : goal.returns-in-Ok-clause-cause
 returns-in-Ok-clause-cause g c =
-    beside_told (setting_of c.args.script.now) c.requires.lawful c.into_world.result.journal c.in-Ok.end.outcomes c.run_beside.new.report c.in-Ok.end.came c.verdict_of.result c.in-Ok.ensures.reported
-    (subst (λ (es : List Entry). HasRunBeside (setting_of c.args.script.now) es c.in-Ok.end.outcomes c.in-Ok.end.came) (sym (ap (λ w. w.journal) c.into_world.ensures)) c.in-Ok.ensures.ran)
+    beside_told (setting_of c.args.script.now) c.requires.lawful c.of_closed-finished.result.world.journal c.in-Ok.end.outcomes c.run_beside.new.report c.in-Ok.end.came c.verdict_of.result c.in-Ok.ensures.reported
+    (subst (λ (es : List Entry). HasRunBeside (setting_of c.args.script.now) es c.in-Ok.end.outcomes c.in-Ok.end.came) (sym (ap (λ w. w.journal) c.of_closed-finished.ensures.world)) c.in-Ok.ensures.ran)
     c.verdict_of.ensures.whole c.verdict_of.ensures.full c.verdict_of.ensures.none
 
 pub returns-in-Ok-clause-unfailed : goal.returns-in-Ok-clause-unfailed
 returns-in-Ok-clause-unfailed g c = λ none.
-    ap (λ w. g.B.Bucket.faults w.bucket) c.into_world.ensures ∙ c.in-Ok.ensures.unfailed (sym (ap (λ w. failed_count w.journal) c.into_world.ensures) ∙ none)
+    ap (λ w. g.B.Bucket.faults w.bucket) c.of_closed-finished.ensures.world ∙ c.in-Ok.ensures.unfailed (sym (ap (λ w. failed_count w.journal) c.of_closed-finished.ensures.world) ∙ none)
 
 pub returns-in-Ok-clause-all : goal.returns-in-Ok-clause-all
 returns-in-Ok-clause-all g c = λ never told before was.
-    subst (IsAllAsked g.B.Bucket.asked before) (sym c.into_world.ensures)
+    subst (IsAllAsked g.B.Bucket.asked before) (sym c.of_closed-finished.ensures.world)
     (c.in-Ok.ensures.all (whole_told c.run_beside.new.report c.in-Ok.end.came c.verdict_of.result c.verdict_of.ensures.full c.verdict_of.ensures.none never told) before was)
 
 pub returns-in-Ok-clause-noted : goal.returns-in-Ok-clause-noted
-returns-in-Ok-clause-noted g c = (
-  ap (λ w. Some w.journal) c.into_world.ensures ∙ ap (λ (es : List Entry). Some es) (sym c.of_closed-note.ensures.journal),
-  c.of_closed-note.ensures.full ∙ c.is_full.ensures ∙ full_told c.run_beside.new.report c.in-Ok.end.came c.verdict_of.result c.verdict_of.ensures.whole c.verdict_of.ensures.full c.verdict_of.ensures.none,
-)
+returns-in-Ok-clause-noted g c =
+    noted_world c.verdict_of.result c.of_closed-finished.result.world c.is_full.result c.of_closed-finished.result.note c.of_closed-finished.ensures.note
+    (c.is_full.ensures ∙ full_told c.run_beside.new.report c.in-Ok.end.came c.verdict_of.result c.verdict_of.ensures.whole c.verdict_of.ensures.full c.verdict_of.ensures.none)
 
 -- ---- nothing was begun
 
+pub unbegun-requires : goal.unbegun-requires
+unbegun-requires g c = record { fresh = ap (λ w. w.journal) c.in-Err.ensures.unbegun ∙ c.requires.fresh }
+
 pub returns-in-Err-clause-cause : goal.returns-in-Err-clause-cause
-returns-in-Err-clause-cause g c = none_beside (setting_of c.args.script.now) c.in-Err.world.journal (ap (λ w. w.journal) c.in-Err.ensures.unbegun ∙ c.requires.fresh)
+returns-in-Err-clause-cause g c =
+    none_beside (setting_of c.args.script.now) c.unbegun.result.world.journal (ap (λ w. w.journal) c.unbegun.ensures.world ∙ ap (λ w. w.journal) c.in-Err.ensures.unbegun ∙ c.requires.fresh)
 
 pub returns-in-Err-clause-unfailed : goal.returns-in-Err-clause-unfailed
-returns-in-Err-clause-unfailed g c = λ none. ap (λ w. g.B.Bucket.faults w.bucket) c.in-Err.ensures.unbegun
+returns-in-Err-clause-unfailed g c = λ none. ap (λ w. g.B.Bucket.faults w.bucket) c.unbegun.ensures.world ∙ ap (λ w. g.B.Bucket.faults w.bucket) c.in-Err.ensures.unbegun
 
 pub returns-in-Err-clause-all : goal.returns-in-Err-clause-all
 returns-in-Err-clause-all g c = λ never told before was. absurd (never refl)
 
 pub returns-in-Err-clause-noted : goal.returns-in-Err-clause-noted
-returns-in-Err-clause-noted g c = (ap (λ w. w.journal) c.in-Err.ensures.unbegun ∙ c.requires.fresh, refl)
+returns-in-Err-clause-noted g c =
+    unnoted verdict.NoMemory (Some c.unbegun.result.world.journal) (Some c.unbegun.result.world.bucket) c.unbegun.result.note c.unbegun.ensures.note
+    (ap (λ w. w.journal) c.unbegun.ensures.world ∙ ap (λ w. w.journal) c.in-Err.ensures.unbegun ∙ c.requires.fresh) refl

@@ -4,7 +4,7 @@ use Rattle.lifecycle_core.specs.InLine.{seat_of}
 use Rattle.lifecycle_core.specs.Setting.{setting_of}
 use Rattle.script_running.specs.Tasks.{is_full_came}
 use Rattle.script_running.proofs.AllParts.{all_parts, few_parts}
-use Rattle.replay_cli.specs.LineHands.{keeps_run-none, keeps_run-more}
+use Rattle.run_notes.specs.LineHands.{keeps_run-none, keeps_run-more}
 use Rattle.replay_cli.proofs.Steps.{all_done, counted, duties_long, duty_at, gathered_is, hand_within, none_begun, none_done, part_broken, part_more, sync_within, task_begins}
 use Rattle.replay_cli.proofs.Wanted.{short_on, still_unwanted}
 use Rattle.replay_cli.proofs.tasks.do_task.Goals as goal

@@ -2,7 +2,7 @@ use Rattle.std.proofs.Common.{◌≡◌, ◌≤◌, false, length}
 use Rattle.lifecycle_core.specs.Holdings.{Holdings}
 use Rattle.lifecycle_core.specs.InLine.{seat_of}
 use Rattle.lifecycle_core.specs.Setting.{setting_of}
-use Rattle.replay_cli.specs.LineHands.{KeepsRun}
+use Rattle.run_notes.specs.LineHands.{KeepsRun}
 use Rattle.replay_cli.specs.Progress.{Shows}
 use Rattle.replay_cli.proofs.Steps.{Front}
 use Rattle.replay_cli.proofs.tasks.do_task.Given as goal

@@ -122,9 +122,9 @@ returns-in-Some-clause-noted g c = c.read_and_run.ensures.noted
 
 pub returns-in-Some-read_check-clause-noted : goal.returns-in-Some-read_check-clause-noted
 returns-in-Some-read_check-clause-noted g c =
-    without_journal c.check_block.result.conclusion.verdict c.check_block.result.conclusion.journal c.check_block.result.note c.check_block.ensures.note c.check_block.ensures.journal
+    without_journal c.check_block.result.conclusion.verdict c.check_block.result.conclusion.journal c.check_block.result.conclusion.store c.check_block.result.note c.check_block.ensures.note c.check_block.ensures.journal
     (checked_tells _ _ _ c.check_block.result.conclusion.verdict c.check_block.ensures.cause)
 
 pub returns-in-None-clause-noted : goal.returns-in-None-clause-noted
 returns-in-None-clause-noted g c =
-    without_journal c.without_bucket.result.verdict c.without_bucket.result.journal None refl c.without_bucket.ensures.journal (ap tells_full c.without_bucket.ensures.verdict)
+    without_journal c.without_bucket.result.verdict c.without_bucket.result.journal c.without_bucket.result.store None refl c.without_bucket.ensures.journal (ap tells_full c.without_bucket.ensures.verdict)

@@ -22,7 +22,7 @@ pub returns-clause-verdict : goal.returns-clause-verdict
 returns-clause-verdict g c =
     left_by c.into_run.result _ _ _ _ _ c.into_run.ensures.2
     (λ status journal store shelf note. (verdict : Verdict) × (said : Status) × IsCaused (around_call IsInLine g.R.Source.left g.R.Source.faults c.args.script.now c.come_to.new.script g.S.Site.buckets g.S.Site.next_bucket g.S.Site.shelves g.S.Site.next_shelf g.S.Site.faults (bucket_word c.args.words.now) (shelf_word c.args.words.now) (block_word c.args.words.now)
-    c.args.site.now c.come_to.new.site g.S.Store.Bucket.faults g.S.Files.Shelf.faults store shelf journal) verdict × IsSaid verdict (saying_to g.K.Sink.faults g.K.Sink.written c.args.out.now c.into_run.new.out) said × (status ≡ number_of said) × (verdict ≢ NoMemory → IsBucketAsked g.S.Store.Bucket.asked verdict journal store) × IsNoted verdict journal note)
+    c.args.site.now c.come_to.new.site g.S.Store.Bucket.faults g.S.Files.Shelf.faults store shelf journal) verdict × IsSaid verdict (saying_to g.K.Sink.faults g.K.Sink.written c.args.out.now c.into_run.new.out) said × (status ≡ number_of said) × (verdict ≢ NoMemory → IsBucketAsked g.S.Store.Bucket.asked verdict journal store) × IsNoted verdict journal store note)
     (c.come_to.result.conclusion.verdict, c.into_run.ensures.0, c.come_to.ensures.cause, c.into_run.ensures.1, refl, c.come_to.ensures.asked_bucket, c.come_to.ensures.noted)
 
 pub returns-clause-calm : goal.returns-clause-calm
@@ -44,7 +44,7 @@ pub returns-clause-full : goal.returns-clause-full
 returns-clause-full g c =
     left_by c.into_run.result _ _ _ _ _ c.into_run.ensures.2
     (λ status journal store shelf note. IfSome note (λ n. IsFullSaid n.full (saying_to g.K.Sink.faults g.K.Sink.written c.args.out.now c.into_run.new.out) status))
-    (full_said c.come_to.result.conclusion.verdict _ c.into_run.ensures.0 c.come_to.result.conclusion.journal c.come_to.result.note c.come_to.ensures.noted c.into_run.ensures.1)
+    (full_said c.come_to.result.conclusion.verdict _ c.into_run.ensures.0 c.come_to.result.conclusion.journal c.come_to.result.conclusion.store c.come_to.result.note c.come_to.ensures.noted c.into_run.ensures.1)
 
 pub returns-clause-handed : goal.returns-clause-handed
 returns-clause-handed g c =

@@ -8,9 +8,9 @@ use world_core::{Acted, Hand, Op, World};
 /// world of its own.
 ///
 /// It keeps whether an operation was answered that the journal is full, and whether memory was wanted for one. Nothing makes it
-/// forget that: a hand that is made anew is made over another world.
+/// forget that: it lends its world, and hands it out to `Finished` alone.
 #[derive(Drop)]
-pub(crate) struct LineHand<B: Bucket> {
+pub struct LineHand<B: Bucket> {
     world: World<B>,
     seat: u32,
     refused: bool,
@@ -21,7 +21,7 @@ pub(crate) struct LineHand<B: Bucket> {
 
 impl<B: Bucket> LineHand<B> {
     /// A hand at seat 0, which has been refused nothing yet, and has wanted no memory.
-    pub(crate) fn new(world: World<B>) -> Self
+    pub fn new(world: World<B>) -> Self
         ensures world { result.world ≡ world }
         ensures opened { result.opened.value ≡ world }
         ensures refused { result.refused ≡ false }
@@ -38,7 +38,7 @@ impl<B: Bucket> LineHand<B> {
     }
 
     /// The hand at another seat.
-    pub(crate) fn at_seat(self, seat: u32) -> Self
+    pub fn at_seat(self, seat: u32) -> Self
         ensures world { result.world ≡ self.world }
         ensures seat { result.seat ≡ seat }
         ensures opened { result.opened ≡ self.opened }
@@ -62,7 +62,7 @@ impl<B: Bucket> LineHand<B> {
     }
 
     /// The world, as it is now.
-    pub(crate) fn world(&self) -> &World<B>
+    pub fn world(&self) -> &World<B>
         ensures { result.now ≡ self.now.world }
     {
         &self.world
@@ -75,7 +75,7 @@ impl<B: Bucket> LineHand<B> {
         self.refused
     }
 
-    /// Hands the world back.
+    /// The world, in which nothing more is done by it.
     pub(crate) fn into_world(self) -> World<B>
         ensures { result ≡ self.world }
     {
@@ -85,7 +85,7 @@ impl<B: Bucket> LineHand<B> {
 
 impl<B: Bucket> Hand for LineHand<B> {
     ghost use Rattle.std.specs.Prelude.{Some};
-    ghost use Rattle.replay_cli.specs.LineHands.{KeepsRun, keeps_run-none, keeps_run-more};
+    ghost use Rattle.run_notes.specs.LineHands.{KeepsRun, keeps_run-none, keeps_run-more};
 
     ghost entries = { λ hand. hand.world.journal };
 
@@ -107,7 +107,7 @@ impl<B: Bucket> Hand for LineHand<B> {
         first.opened.value next.opened.value last.opened.value first.wanted next.wanted
         last.wanted first.world next.world last.world one two };
 
-    #[tactic(auto, using(crate::proofs::Unfailed::acted))]
+    #[tactic(auto, using(crate::proofs::Acting::acted))]
     fn act(&mut self, op: Op) -> Acted {
         let acted = self.world.act(self.seat, op);
         match acted {
