@@ -15,7 +15,7 @@ struct Spelling {
     before: Option<Snapshot<Spelling>>,
 }
 
-/// A text, for clauses alone.
+/// A text, for clauses alone. The loop over its bytes keeps nothing when the program runs.
 fn spelled(bytes: &[u8]) -> Option<Snapshot<Spelling>>
     ensures { text_told result ≡ bytes.now }
 {
@@ -65,6 +65,7 @@ impl CallNotes {
         self.calls = Some(Snapshot::of(&Calls { last, before }));
     }
 
+    /// Notes the put of these bytes under this key.
     pub fn note_put(&mut self, key: &str, bytes: &[u8])
         ensures { calls_told self.new ≡ calls_told self.old ++ puts key.now bytes.now ∷ [] }
     {
@@ -72,24 +73,28 @@ impl CallNotes {
         self.add(Asked::Put(key, spelled(bytes)));
     }
 
+    /// Notes the get of this key.
     pub fn note_get(&mut self, key: &str)
         ensures { calls_told self.new ≡ calls_told self.old ++ gets key.now ∷ [] }
     {
         self.add(Asked::Get(spelled(key.as_bytes())));
     }
 
+    /// Notes the get of so many bytes of this key, from this place on.
     pub fn note_range(&mut self, key: &str, from: u64, len: u64)
         ensures { calls_told self.new ≡ calls_told self.old ++ gets_range key.now from len ∷ [] }
     {
         self.add(Asked::GetRange(spelled(key.as_bytes()), from, len));
     }
 
+    /// Notes the deletion of this key.
     pub fn note_delete(&mut self, key: &str)
         ensures { calls_told self.new ≡ calls_told self.old ++ deletes key.now ∷ [] }
     {
         self.add(Asked::Delete(spelled(key.as_bytes())));
     }
 
+    /// Notes the page of at most so many names within this name and behind that one.
     pub fn note_page(&mut self, within: &str, after: &str, limit: u32)
         ensures { calls_told self.new ≡ calls_told self.old ++ lists within.now after.now limit ∷ [] }
     {
@@ -119,6 +124,7 @@ impl NameNotes {
         NameNotes { names: None }
     }
 
+    /// Notes the reading of the file of this name.
     pub fn note(&mut self, name: &str)
         ensures { names_told self.new ≡ names_told self.old ++ name.now ∷ [] }
     {
