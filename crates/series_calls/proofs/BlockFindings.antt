@@ -1,7 +1,7 @@
 -- What the reads of a block come to, by what was read: the series of its index, and the samples of its chunks.
-use Rattle.std.proofs.Common.{◌≡◌, ◌⊎◌, ℕ, ◌-◌, ◌*◌, ◌≤◌, true, List, length, drop, Some, Result, Ok}
-use Rattle.std.specs.Prelude.{IsOk}
-use Rattle.std.specs.List.{AllByRecursion, AllZip}
+use Rattle.std.proofs.Common.{◌≡◌, ◌⊎◌, ℕ, ◌-◌, ◌*◌, ◌≤◌, true, false, List, length, map, drop, Some, Result, Ok, slice_get}
+use Rattle.std.specs.Prelude.{Contains, IsErr, IsOk}
+use Rattle.std.specs.List.{AllByRecursion, AllZip, flat_map}
 use Rattle.block_keys.specs.declared.key.Key.{Key}
 use Rattle.block_keys.specs.declared.key.Key.TheVariants.{Index, Segment}
 use Rattle.index_parts.specs.ContentsReading.{toc_at}
@@ -16,11 +16,31 @@ use Rattle.index_v2.specs.Opening.{opened_at}
 use Rattle.index_v2.specs.SeriesLabels.{numbered_at}
 use Rattle.index_v2.specs.WholeReading.{lists_at}
 use Rattle.series_selection.specs.Selections.{rows_read}
-use Rattle.block_ranges.specs.ChunkRanges.{offset_of, segment_of}
-use Rattle.block_ranges.specs.ChunkReads.{Read, Tests}
+use Rattle.block_content.specs.Firsts.{each_at}
+use Rattle.block_ranges.specs.BlockReads.{taken}
+use Rattle.block_ranges.specs.ChunkRanges.{group_of, group_piece, offset_of, segment_of}
+use Rattle.block_ranges.specs.ChunkReads.{Read, Tests, glimpse_at, have_keys, sticks_out, tests_at}
+use Rattle.block_ranges.specs.Stretches.{Stretch, last_of, members}
+use Rattle.index_parts.specs.SeriesEntry.{reference_of}
+use Rattle.index_v2.specs.PostingsLists.{list_of}
 use Rattle.block_ranges.specs.IndexRanges.{Piece, contents_piece, has_bytes, has_sections, section_piece}
 use Rattle.block_ranges.specs.IndexReads.{IsTakenBy, Tables, part_at, tables_of}
 use Rattle.block_ranges.specs.Reads.{Block, Query}
+
+-- A reference of a group: in the segment of the first one, and between the first and the last.
+pub record IsWithin (stretch : Stretch ℕ) (reference : ℕ) : Type 0 where
+  pub same_segment : segment_of stretch.first ≡ segment_of reference
+  pub behind : stretch.first ≤ reference
+  pub upto : reference ≤ last_of stretch
+
+-- a chunk of these series that meets the range stands at the reference
+abbrev pub IsSoughtOf : Query → List IndexSeries → ℕ → Type 0
+IsSoughtOf query series reference = Contains (map reference_of (flat_map (taken query) series)) reference
+
+-- a list that the selector needs is not read
+abbrev pub LackLists : Query → Block → Tables → Type 0
+LackLists query block tables =
+    IsErr (list_of tables.lists (slice_get tables.rows 0)) ⊎ IsErr (lists_at tables.lists (rows_read block.external tables.rows query.selector))
 
 -- `Known` holds of the bytes of a range that was read or kept, `Whole` of those of an object that was read.
 module _ (Known : Key → Piece → List ℕ → Type 0) (Whole : Key → List ℕ → Type 0) where
@@ -103,3 +123,34 @@ module _ (Known : Key → Piece → List ℕ → Type 0) (Whole : Key → List �
 
   abbrev pub AreChunksRead : ℕ → Tests → List Read → Type 0
   AreChunksRead ulid tests all = AllByRecursion (IsChunkRead ulid tests) all
+
+  -- ---- what is not as it has to be
+
+  -- The read of a group shows of a chunk that it goes further.
+  pub record SticksOut (ulid : ℕ) (tests : Tests) (IsSought : ℕ → Type 0) (stretch : Stretch ℕ) (reference len : ℕ) : Type 0 where
+    pub same_segment : segment_of stretch.first ≡ segment_of reference
+    pub within : IsWithin stretch reference
+    pub sought : IsSought reference
+    pub bytes : List ℕ
+    pub known_so : Known (Segment ulid (segment_of stretch.first)) (group_piece stretch) bytes
+    pub sees : glimpse_at tests (group_of stretch) bytes reference ≡ Ok (sticks_out len)
+
+  -- Of a group one of its chunks, or of those that stick out one that was read, is not as it is told.
+  abbrev pub LacksChunks : ℕ → Tests → (ℕ → Type 0) → Stretch ℕ → Type 0
+  LacksChunks ulid tests IsSought stretch =
+      (AllByRecursion (λ reference. IsWithin stretch reference × IsSought reference) (members stretch)
+      × (bytes : List ℕ) × Known (Segment ulid (segment_of stretch.first)) (group_piece stretch) bytes
+      × IsErr (each_at (glimpse_at tests (group_of stretch) bytes) (members stretch)))
+      ⊎ ((reference : ℕ) × (len : ℕ) × SticksOut ulid tests IsSought stretch reference len
+      × (bytes : List ℕ) × Known (Segment ulid (segment_of reference)) (record { from = offset_of reference; len = len }) bytes
+      × IsErr (tests reference bytes))
+
+  -- why a call over a block finds something damaged
+  pub data IsSpoilt (query : Query) (block : Block) : Type 0 where
+    no_index : (bytes : List ℕ) → Whole (Index block.ulid) bytes → IsErr (opened_at bytes) → IsSpoilt query block
+    no_list : (bytes : List ℕ) (opened : Opened) → Whole (Index block.ulid) bytes → opened_at bytes ≡ Ok opened → LackLists query block (tables_of opened) → IsSpoilt query block
+    no_series : (bytes : List ℕ) (opened : Opened) (numbers : List ℕ) → Whole (Index block.ulid) bytes → opened_at bytes ≡ Ok opened → AreTaken query block (tables_of opened) numbers
+        → IsErr (each_at (numbered_at bytes opened.symbols) numbers) → IsSpoilt query block
+    no_key : (series : List IndexSeries) → AreSeries query block series → have_keys (flat_map (taken query) series) ≡ false → IsSpoilt query block
+    no_chunk : (series : List IndexSeries) (stretch : Stretch ℕ) → AreSeries query block series
+        → LacksChunks block.ulid (tests_at block (flat_map (taken query) series)) (IsSoughtOf query series) stretch → IsSpoilt query block

@@ -17,9 +17,9 @@ use Rattle.series_calls.proofs.CacheChanges.{all_kept, all_promoted}
 pub block_asks : (query : Query) (block : Block) (cache : Cache) → AsksFor (λ made op. IsReadOf block.ulid op) [] (block_call query block cache)
 block_asks query block cache =
     block_holds {E = BlockEnd} breaks_off (AsksFor (λ made op. IsReadOf block.ulid op)) (IsReadOf block.ulid) (λ e. Unit {0}) (λ c. Unit {0}) (λ key piece bytes. Unit {0}) (λ key bytes. Unit {0})
-    (λ made. tt) (λ made op next is on. (is, λ e same. on e same tt)) (λ A made Such one next on. on) (λ made why c fine. tt) (λ range c fine. tt)
+    (λ made. tt) (λ made op next is on. (is, λ e same. on e same tt)) (λ A made Such one next on. on) (λ made e op c is same given absent fine. tt) (λ made e landed c given so fine. tt) (λ range c fine. tt)
     (λ e key piece bytes c same given found none fine. tt) (λ e key piece bytes same given found. tt) (λ key piece bytes c fine has. tt) (λ e key bytes same given found. tt)
-    query block refl (λ from len. refl) (λ number from len. refl) (λ after triples. ends (gives triples after)) (λ made after series all are read_so set fine. tt) [] cache tt
+    query block refl (λ from len. refl) (λ series are reference sought from len. refl) (λ made number c spoilt fine. tt) (λ after triples. ends (gives triples after)) (λ made after series all are read_so set fine. tt) [] cache tt
 
 -- the cache that the reads of a block leave
 abbrev pub cache_left : BlockEnd → Cache
@@ -31,9 +31,9 @@ pub block_keeps : (journal : List Entry) (query : Query) (block : Block) (cache 
     → EndsAre (Contains journal) (λ made end. IsOfReads journal (cache_left end)) [] (block_call query block cache)
 block_keeps journal query block cache fine =
     block_holds {E = BlockEnd} breaks_off (EndsAre (Contains journal) (λ made end. IsOfReads journal (cache_left end))) (λ op. Unit {0}) (Contains journal) (IsOfReads journal) (λ key piece bytes. Unit {0}) (λ key bytes. Unit {0})
-    (λ made. tt) (λ made op next is on. on) (λ A made Such one next on. on) (λ made why c fine. fine)
+    (λ made. tt) (λ made op next is on. on) (λ A made Such one next on. on) (λ made e op c is same given absent fine. fine) (λ made e landed c given so fine. fine)
     (λ range c fine. all_promoted (λ (p : Range × List ℕ). IsReadIn journal p.0 p.1) (same_range range) c.entries fine)
     (λ e key piece bytes c same given found none fine.
     all_kept (λ (p : Range × List ℕ). IsReadIn journal p.0 p.1) same_range c (range_of key piece) bytes none (e, given, same, found) fine)
     (λ e key piece bytes same given found. tt) (λ key piece bytes c fine has. tt) (λ e key bytes same given found. tt)
-    query block tt (λ from len. tt) (λ number from len. tt) (λ after triples. ends (gives triples after)) (λ made after series all are read_so set fine. fine) [] cache fine
+    query block tt (λ from len. tt) (λ series are reference sought from len. tt) (λ made number c spoilt fine. fine) (λ after triples. ends (gives triples after)) (λ made after series all are read_so set fine. fine) [] cache fine

@@ -159,7 +159,7 @@ WholeIn contents key bytes = contents (key_text key) ≡ Some bytes
 
 module _ (contents : Contents) (query : Query) (block : Block) (list : List Series) (holds : HoldsBlock contents block list) where
   -- a range that stands in an object that is known
-  range_in : (key : Key) (object : List ℕ) (piece : Piece) (bytes : List ℕ) → contents (key_text key) ≡ Some object → KnownIn contents key piece bytes → take piece.len (drop piece.from object) ≡ bytes
+  pub range_in : (key : Key) (object : List ℕ) (piece : Piece) (bytes : List ℕ) → contents (key_text key) ≡ Some object → KnownIn contents key piece bytes → take piece.len (drop piece.from object) ≡ bytes
   range_in key object piece bytes is shown =
       let told : ◌≡◌ {A = Option (List ℕ)} (Some (take piece.len (drop piece.from object))) (Some bytes) = subst (λ o. option_map (stored.range_of piece.from piece.len) o ≡ Some bytes) is shown in cc (told)
 
@@ -186,10 +186,10 @@ module _ (contents : Contents) (query : Query) (block : Block) (list : List Seri
       (subst (λ b. tests_at block places one.reference (drop (one.reference - read.first) b) ≡ Ok one.samples) (sym bytes) read.read_so.reads_as)) in
       ap (λ o. unwrap_or (option_map (λ (r : Read). r.samples) o) []) found.3 ∙ same
 
-  index_bytes : holds.index_is.opened.bytes ≡ holds.index
+  pub index_bytes : holds.index_is.opened.bytes ≡ holds.index
   index_bytes = holds.index_is.bytes_are
 
-  chunk_fits : (one : IndexSeries) → Contains holds.indexed one → (place : ChunkPlace) → Contains one.chunks place → place.offset < 2 ^ 32
+  pub chunk_fits : (one : IndexSeries) → Contains holds.indexed one → (place : ChunkPlace) → Contains one.chunks place → place.offset < 2 ^ 32
   chunk_fits one among place has =
       let listed = of_map (λ (x : ℕ × IndexSeries). x.1) holds.index_is.listed one (subst (λ l. Contains l one) (sym holds.index_is.list_is) among) in
       let stands = holds.index_is.series_are.stand listed.0.0 listed.0.1 listed.1 in

@@ -66,7 +66,7 @@ range_is one other same =
     λ i. record { key = keys i; from = froms i; len = lens i }
 
 -- what a cache has of a range, it keeps under the range
-kept_under : (P : Range × List ℕ → Type 0) (range : Range) (entries : List (Range × List ℕ)) (bytes : List ℕ) → AllByRecursion P entries → lookup (same_range range) entries ≡ Some bytes → P (range, bytes)
+pub kept_under : (P : Range × List ℕ → Type 0) (range : Range) (entries : List (Range × List ℕ)) (bytes : List ℕ) → AllByRecursion P entries → lookup (same_range range) entries ≡ Some bytes → P (range, bytes)
 kept_under P range [] bytes all is = absurd (cc (is))
 kept_under P range (e ∷ entries) bytes all is = by_test (same_range range e.0) refl is (kept_under P range entries bytes all.1)
   where
@@ -82,11 +82,11 @@ kept_under P range (e ∷ entries) bytes all is = by_test (same_range range e.0)
 abbrev Shows : Contents → Entry → Type 0
 Shows contents e = Tells contents e.op e.reply
 
-range_shown : (contents : Contents) (e : Entry) (key : Key) (piece : Piece) (bytes : List ℕ) → e.op ≡ GetRange key piece.from piece.len → Shows contents e → e.reply ≡ Found bytes → KnownIn contents key piece bytes
+pub range_shown : (contents : Contents) (e : Entry) (key : Key) (piece : Piece) (bytes : List ℕ) → e.op ≡ GetRange key piece.from piece.len → Shows contents e → e.reply ≡ Found bytes → KnownIn contents key piece bytes
 range_shown contents e key piece bytes op shows reply =
     subst (λ (r : Reply). Tells contents (GetRange key piece.from piece.len) r) reply (subst (λ (o : Op). Tells contents o e.reply) op shows)
 
-whole_shown : (contents : Contents) (e : Entry) (key : Key) (bytes : List ℕ) → e.op ≡ Get key → Shows contents e → e.reply ≡ Found bytes → WholeIn contents key bytes
+pub whole_shown : (contents : Contents) (e : Entry) (key : Key) (bytes : List ℕ) → e.op ≡ Get key → Shows contents e → e.reply ≡ Found bytes → WholeIn contents key bytes
 whole_shown contents e key bytes op shows reply =
     subst (λ (r : Reply). Tells contents (Get key) r) reply (subst (λ (o : Op). Tells contents o e.reply) op shows)
 
@@ -105,13 +105,13 @@ block_exact : (contents : Contents) (query : Query) (block : Block) (list : List
 block_exact contents query block list unnamed holds cache fine =
     block_holds {E = BlockEnd} breaks_off (EndsAre (Shows contents) (λ made end. EndsExact contents (asked_of query block list) end)) (λ op. Unit {0}) (Shows contents) (IsCacheOf contents)
     (KnownIn contents) (WholeIn contents)
-    (λ made. tt) (λ made op next is on. on) (λ A made Such one next on. on) (λ made why c fine. fine)
+    (λ made. tt) (λ made op next is on. on) (λ A made Such one next on. on) (λ made e op c is same given absent fine. fine) (λ made e landed c given so fine. fine)
     (λ range c fine. all_promoted (Standing contents) (same_range range) c.entries fine)
     (λ e key piece bytes c same given found none fine. all_kept (Standing contents) same_range c (range_of key piece) bytes none (range_shown contents e key piece bytes same given found) fine)
     (range_shown contents)
     (λ key piece bytes c fine has. kept_under (Standing contents) (range_of key piece) c.entries bytes (recursion_from_All (Standing contents) c.entries fine) has)
     (whole_shown contents)
-    query block tt (λ from len. tt) (λ number from len. tt) (λ after triples. ends (gives triples after))
+    query block tt (λ from len. tt) (λ series are reference sought from len. tt) (λ made number c spoilt fine. fine) (λ after triples. ends (gives triples after))
     (λ made after series all are read_so set fine. (share_is contents query block list holds unnamed series all are read_so set, fine)) [] cache fine
 
 -- ---- calls

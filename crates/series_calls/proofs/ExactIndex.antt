@@ -208,7 +208,10 @@ module _ (query : Query) (block : Block) (index : List ℕ) (indexed : List Inde
           stand = subst (λ (s : List (List ℕ)). AllZip (IsSeriesOf I s) read.numbers series) symbols stand;
         }
 
+    pub taken_from : (series : List IndexSeries) → AreSeries Known Whole query block series → IsTakenFrom series
+    taken_from series (inl whole) = of_whole series whole
+    taken_from series (inr read) = of_ranges series read
+
     -- the series that were read are those whose final labels match
     pub series_match : named_replicas query.replicas query.selector ≡ [] → (series : List IndexSeries) → AreSeries Known Whole query block series → series ≡ filter matches indexed
-    series_match unnamed series (inl whole) = taken_match unnamed series (of_whole series whole)
-    series_match unnamed series (inr read) = taken_match unnamed series (of_ranges series read)
+    series_match unnamed series are = taken_match unnamed series (taken_from series are)

@@ -16,3 +16,7 @@ pub mod ExactIndex
 pub mod ExactChunks
 pub mod ExactBlock
 pub mod ExactCalls
+pub mod ShownEnds
+pub mod StandingIndex
+pub mod StandingChunks
+pub mod FoundBlocks

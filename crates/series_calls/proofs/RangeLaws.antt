@@ -48,9 +48,9 @@ EndIn query (breaks_off why cache) = Unit {0}
 block_in : (query : Query) (block : Block) (cache : Cache) → EndsAre (λ e. Unit {0}) (λ made end. EndIn query end) [] (block_call query block cache)
 block_in query block cache =
     block_holds {E = BlockEnd} breaks_off (EndsAre (λ e. Unit {0}) (λ made end. EndIn query end)) (λ op. Unit {0}) (λ e. Unit {0}) (λ c. Unit {0}) (λ key piece bytes. Unit {0}) (λ key bytes. Unit {0})
-    (λ made. tt) (λ made op next is on. on) (λ A made Such one next on. on) (λ made why c fine. tt) (λ range c fine. tt) (λ e key piece bytes c same given found none fine. tt)
+    (λ made. tt) (λ made op next is on. on) (λ A made Such one next on. on) (λ made e op c is same given absent fine. tt) (λ made e landed c given so fine. tt) (λ range c fine. tt) (λ e key piece bytes c same given found none fine. tt)
     (λ e key piece bytes same given found. tt) (λ key piece bytes c fine has. tt) (λ e key bytes same given found. tt)
-    query block tt (λ from len. tt) (λ number from len. tt) (λ after triples. ends (gives triples after)) (λ made after series all are read_so set fine. all_in query block all series) [] cache tt
+    query block tt (λ from len. tt) (λ series are reference sought from len. tt) (λ made number c spoilt fine. tt) (λ after triples. ends (gives triples after)) (λ made after series all are read_so set fine. all_in query block all series) [] cache tt
 
 -- ---- of a call
 

@@ -13,7 +13,8 @@ use Rattle.block_content.proofs.FirstLaws.{each_found}
 use Rattle.block_ranges.specs.ChunkRanges.{AreGroups, Group, IsNear, segment_of}
 use Rattle.block_ranges.specs.ChunkReads.{Tests, chunk_len_at, glimpse, glimpse_at, shows}
 use Rattle.block_ranges.specs.IndexRanges.{AreRuns, Run, has_bytes, has_sections, run_of, section_piece}
-use Rattle.block_ranges.specs.Stretches.{AreJoined, IsJoined, Stretch, members}
+use Rattle.block_ranges.specs.Stretches.{AreJoined, IsJoined, Stretch, last_behind, last_of, members}
+use Rattle.series_calls.proofs.BlockFindings.{IsWithin}
 
 -- ---- members
 
@@ -123,26 +124,49 @@ lists_some toc size has = last_true _ _ has
 
 -- ---- groups of references
 
-abbrev IsBehind : ℕ → ℕ → Type 0
-IsBehind first reference = (segment_of first ≡ segment_of reference) × (first ≤ reference)
+last_up : (one : ℕ) (others rest : List ℕ) → Up one (others ++ rest) → one ≤ last_behind one others
+last_up one [] rest up = omega arith
+last_up one (o ∷ others) rest up = let later = last_up o others rest up.1 in omega (arith, up.0, later)
 
-near_members : (first one : ℕ) (others rest : List ℕ) → IsBehind first one → AreJoined IsNear one others → Up one (others ++ rest) → AllByRecursion (IsBehind first) others
-near_members first one [] rest behind joined up = tt
-near_members first one (o ∷ others) rest behind joined up =
-    let le : first ≤ o = omega (arith, behind.1, up.0) in
-    let so : IsBehind first o = (behind.0 ∙ joined.0.same_segment, le) in (so, near_members first o others rest so joined.1 up.1)
+near_members : (stretch : Stretch ℕ) (one : ℕ) (others rest : List ℕ) → IsWithin stretch one → last_of stretch ≡ last_behind one others → AreJoined IsNear one others → Up one (others ++ rest)
+    → AllByRecursion (IsWithin stretch) others
+near_members stretch one [] rest within last joined up = tt
+near_members stretch one (o ∷ others) rest within last joined up =
+    let most = last_up o others rest up.1 in
+    let so : IsWithin stretch o = record {
+      same_segment = within.same_segment ∙ joined.0.same_segment;
+      behind = omega (arith, within.behind, up.0);
+      upto = omega (arith, most, last);
+    } in (so, near_members stretch o others rest so last joined.1 up.1)
 
-near_cut : (groups : List (Stretch ℕ)) → AllByRecursion (IsJoined IsNear) groups → Rises (flat_map members groups) → AllByRecursion (λ stretch. AllByRecursion (IsBehind stretch.first) (members stretch)) groups
+near_cut : (groups : List (Stretch ℕ)) → AllByRecursion (IsJoined IsNear) groups → Rises (flat_map members groups) → AllByRecursion (λ stretch. AllByRecursion (IsWithin stretch) (members stretch)) groups
 near_cut [] joined up = tt
 near_cut (stretch ∷ groups) joined up =
-    let here : IsBehind stretch.first stretch.first = (refl, omega arith) in (
-      (here, near_members stretch.first stretch.first stretch.others (flat_map members groups) here joined.0 up),
+    let most = last_up stretch.first stretch.others (flat_map members groups) up in
+    let here : IsWithin stretch stretch.first = record { same_segment = refl; behind = omega arith; upto = most } in (
+      (here, near_members stretch stretch.first stretch.others (flat_map members groups) here refl joined.0 up),
       near_cut groups joined.1 (later_rises stretch.first stretch.others (flat_map members groups) up),
     )
 
 pub near_groups : (references : List ℕ) (groups : List (Stretch ℕ)) → IsStrictlyIncreasing references → AreGroups references groups
-    → AllByRecursion (λ stretch. AllByRecursion (λ reference. (segment_of stretch.first ≡ segment_of reference) × (stretch.first ≤ reference)) (members stretch)) groups
+    → AllByRecursion (λ stretch. AllByRecursion (IsWithin stretch) (members stretch)) groups
 near_groups references groups rises is = near_cut groups is.joined (subst Rises (sym is.whole) (rises_up references rises))
+
+-- what holds of the members of all groups holds in each group
+front_each : {A : Type 0} (P : A → Type 0) (xs ys : List A) → AllByRecursion P (xs ++ ys) → AllByRecursion P xs × AllByRecursion P ys
+front_each P [] ys all = (tt, all)
+front_each P (x ∷ xs) ys all = let rest = front_each P xs ys all.1 in ((all.0, rest.0), rest.1)
+
+both_each : {A : Type 0} (P Q : A → Type 0) (xs : List A) → AllByRecursion P xs → AllByRecursion Q xs → AllByRecursion (λ x. P x × Q x) xs
+both_each P Q [] one other = tt
+both_each P Q (x ∷ xs) one other = ((one.0, other.0), both_each P Q xs one.1 other.1)
+
+pub sought_groups : (IsSought : ℕ → Type 0) (groups : List (Stretch ℕ)) → AllByRecursion (λ stretch. AllByRecursion (IsWithin stretch) (members stretch)) groups → AllByRecursion IsSought (flat_map members groups)
+    → AllByRecursion (λ stretch. AllByRecursion (λ reference. IsWithin stretch reference × IsSought reference) (members stretch)) groups
+sought_groups IsSought [] within sought = tt
+sought_groups IsSought (stretch ∷ groups) within sought =
+    let parts = front_each IsSought (members stretch) (flat_map members groups) sought in
+    (both_each (IsWithin stretch) IsSought (members stretch) within.0 parts.0, sought_groups IsSought groups within.1 parts.1)
 
 -- ---- a chunk of a group
 

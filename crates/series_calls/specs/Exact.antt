@@ -1,5 +1,5 @@
 -- Blocks as they stand in a bucket, and what a call over them comes to.
-use Rattle.std.specs.Prelude.{◌≡◌, ℕ, ◌+◌, List, All, length, Some, IfSome, option_map, slice_get, zip}
+use Rattle.std.specs.Prelude.{◌≡◌, ℕ, ◌+◌, ◌≤◌, ◌≤ℤ◌, ◌<ℤ◌, List, All, length, Some, IfSome, option_map, slice_get, zip}
 use Rattle.std.specs.List.{AllByRecursion, AllZip, flat_map}
 use Rattle.reading_core.specs.Grammar.{IsBytes}
 use Rattle.label_sets.specs.declared.series.Series.{Series}
@@ -8,6 +8,7 @@ use Rattle.label_sets.specs.Triples.{Triple, triples_under}
 use Rattle.block_keys.specs.KeyText.{key_text}
 use Rattle.block_keys.specs.declared.key.Key.TheVariants.{Index, Segment}
 use Rattle.bucket_core.specs.Contents.{Contents, range_of}
+use Rattle.chunk_files.specs.Layout.{greatest}
 use Rattle.matchers.specs.Selected.{selected}
 use Rattle.world_core.specs.Standing.{Tells}
 use Rattle.world_core.specs.declared.entry.Entry.{Entry}
@@ -44,6 +45,18 @@ pub record HoldsBlock (contents : Contents) (block : Block) (list : List Series)
   pub indexed : List IndexSeries
   pub index_is : IsIndex index indexed
   pub series_are : AllZip (HoldsSeries segments) indexed list
+
+-- A block that holds these series keeps its bounds: a key has room for the number of each of its segments, no segment is longer than
+-- one may be, and its samples lie within the times that are told.
+pub record IsInBounds (block : Block) (segments : List (List ℕ)) (list : List Series) : Type 0 where
+  pub few : length segments ≤ 999_999
+  pub short : AllByRecursion (λ segment. length segment ≤ greatest) segments
+  pub within : AllByRecursion (λ s. AllByRecursion (λ sample. (block.min_time ≤ℤ sample.time) × (sample.time <ℤ block.max_time)) s.samples) list
+
+-- the block holds these series, and keeps its bounds
+pub record HoldsWhole (contents : Contents) (block : Block) (list : List Series) : Type 0 where
+  pub holds : HoldsBlock contents block list
+  pub bounds : IsInBounds block holds.segments list
 
 -- the block's samples under their final labels
 abbrev pub held_by : Query → Block → List Series → List Triple

@@ -5,6 +5,7 @@ pub mod SeriesCalls
 pub mod Shares
 pub mod Asking
 pub mod KeptRanges
+pub mod LastEntries
 pub mod Exact
 pub mod BlockRuns
 pub mod Endings

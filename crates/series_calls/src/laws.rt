@@ -1,12 +1,14 @@
-ghost use Rattle.std.specs.Prelude.{◌≡◌, ℕ, List, [], true, All, Contains, Option, Some};
+ghost use Rattle.std.specs.Prelude.{◌≡◌, ◌≢◌, ℕ, List, [], true, All, Contains, IsTrue, Option, Some};
 ghost use Rattle.std.specs.List.{AllZip};
 ghost use Rattle.bucket_core.specs.Contents.{Contents};
 ghost use Rattle.matchers.specs.SelectorText.{named_replicas};
-ghost use Rattle.series_calls.specs.Exact.{AreShown, HoldsBlock, IsCacheOf, asked_of_all};
+ghost use Rattle.series_calls.specs.Exact.{AreShown, HoldsBlock, HoldsWhole, IsCacheOf, asked_of_all};
 ghost use Rattle.label_sets.specs.Triples.{Triple, triples_of};
 ghost use Rattle.label_sets.specs.declared.series.Series.{Series};
 ghost use Rattle.std.specs.List.Sorted.{IsStrictlyIncreasing};
+ghost use Rattle.world_core.specs.Operations.{has_failed};
 ghost use Rattle.world_core.specs.declared.entry.Entry.{Entry};
+ghost use Rattle.world_core.specs.declared.reply.Reply.TheVariants.{Absent};
 ghost use Rattle.meta_fetcher.specs.declared.view.View.{View};
 ghost use Rattle.matchers.specs.Selected.{is_between};
 ghost use Rattle.vertical_merge.specs.Merged.{IsMerge};
@@ -15,6 +17,7 @@ ghost use Rattle.series_calls.specs.SeriesCalls.{CallEnd, SeriesRun, to_read};
 ghost use Rattle.series_calls.specs.Shares.{AreShares, all_shares};
 ghost use Rattle.series_calls.specs.Asking.{IsReadOfOne};
 ghost use Rattle.series_calls.specs.KeptRanges.{IsOfReads};
+ghost use Rattle.series_calls.specs.LastEntries.{EndsWith};
 ghost use Rattle.series_calls.specs.declared.series_end.SeriesEnd.TheVariants as ended;
 
 /// A law: an answer has each sample that some block of the view gave once, and no other, where the pattern of the first block
@@ -76,4 +79,27 @@ pub fn calls_are_exact()
         (Some (record { end = ended.Answer series sources; cache = after }))
         → IsMerge (asked_of_all query (to_read query view.kept) lists) series
         × IsCacheOf contents after }
+{}
+
+/// A law: where a call says that an object was missing, or that an operation failed, its last entry shows that.
+pub fn calls_show_their_ends()
+    ensures missing { (view : View) (query : Query) (before : Cache) (entries : List Entry)
+        (call : CallEnd) (number : ℕ)
+        → SeriesRun view query before entries (Some call) → call.end ≡ ended.Missing number
+        → EndsWith entries number (λ reply. reply ≡ Absent) }
+    ensures failed { (view : View) (query : Query) (before : Cache) (entries : List Entry)
+        (call : CallEnd) (number : ℕ)
+        → SeriesRun view query before entries (Some call) → call.end ≡ ended.Fault number
+        → EndsWith entries number (λ reply. IsTrue (has_failed reply)) }
+{}
+
+/// A law: where the bucket's contents are shown by each entry of a call, and by the cache before it, and have the blocks that it
+/// reads, within their bounds, the call misses no object, and finds nothing damaged.
+pub fn calls_find_their_blocks()
+    ensures { (view : View) (query : Query) (contents : Contents) (lists : List (List Series))
+        (before : Cache) (entries : List Entry) (call : CallEnd) (number : ℕ)
+        → AllZip (HoldsWhole contents) (to_read query view.kept) lists
+        → AreShown contents entries → IsCacheOf contents before
+        → SeriesRun view query before entries (Some call)
+        → (call.end ≢ ended.Missing number) × (call.end ≢ ended.Damaged number) }
 {}
