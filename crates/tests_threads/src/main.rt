@@ -16,8 +16,8 @@ use crate::faults::a_fault_stops_no_other;
 use crate::passes::passes_share_a_journal;
 use crate::phases::{workers_meet, workers_share_a_journal};
 use crate::replays::{
-    a_fault_stops_one_upload, a_young_block_is_told, one_block_is_told, serial_runs_are_told,
-    the_sink_fails, the_source_fails, two_blocks_are_told, uploads_meet,
+    a_fault_stops_one_upload, a_young_block_is_told, one_block_is_told, partitions_are_told,
+    serial_runs_are_told, the_sink_fails, the_source_fails, two_blocks_are_told, uploads_meet,
 };
 use std::alloc::Global;
 use std::io;
@@ -57,6 +57,7 @@ fn is_good<R: Threads + Wait + Sync>(rt: &R, alloc: Global, name: &str) -> bool 
         "one_block" => one_block_is_told(rt, alloc),
         "young_block" => a_young_block_is_told(rt, alloc),
         "two_blocks" => two_blocks_are_told(rt, alloc),
+        "partitions" => partitions_are_told(rt, alloc),
         "uploads" => uploads_meet(rt, alloc),
         "failing_call" => a_fault_stops_one_upload(rt, alloc),
         "source" => the_source_fails(rt, alloc),

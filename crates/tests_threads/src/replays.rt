@@ -73,6 +73,50 @@ source 0000000000000000000000000B
 series {a=\"x\"} 1000:0000000000000001 2000:0000000000000002 3000:0000000000000003
 ";
 
+/// Three gateways, each for times of its own, beside each other: the last one keeps no block, and queries ask those whose times
+/// they meet.
+const PARTITIONS: &str = "rule replica-label replica
+gateway old 0 1999
+gateway new 2000 5000
+gateway late 4001 9000
+block 0000000000000000000000000A 1000 4000 {replica=\"0\"}
+series {a=\"x\"} 1000:0000000000000001 3000:0000000000000003
+block 0000000000000000000000000B 1000 4000 {replica=\"1\"}
+series {a=\"x\"} 1000:0000000000000001 2000:0000000000000002
+at 0
+upload 0000000000000000000000000A
+upload 0000000000000000000000000B
+at 1800000
+sync old
+sync new
+sync late
+query 0 5000 {}
+query 0 1500 {}
+query 2500 2900 {}
+query -9 -1 {}
+";
+
+const PARTITIONS_REPORT: &str = "upload 0000000000000000000000000A: ok 3 objects
+upload 0000000000000000000000000B: ok 3 objects
+sync old: 2 blocks
+sync new: 2 blocks
+sync late: 0 blocks
+query 0 5000: 1 series 3 samples 4 sources
+source old 0000000000000000000000000A
+source old 0000000000000000000000000B
+source new 0000000000000000000000000A
+source new 0000000000000000000000000B
+series {a=\"x\"} 1000:0000000000000001 2000:0000000000000002 3000:0000000000000003
+query 0 1500: 1 series 1 samples 2 sources
+source old 0000000000000000000000000A
+source old 0000000000000000000000000B
+series {a=\"x\"} 1000:0000000000000001
+query 2500 2900: 0 series 0 samples 2 sources
+source new 0000000000000000000000000A
+source new 0000000000000000000000000B
+query -9 -1: 0 series 0 samples 0 sources
+";
+
 /// The call of the bucket that fails in the end: the first one opens it.
 const FAILING: u64 = 3;
 
@@ -100,11 +144,12 @@ struct Ended {
     text: Vec<u8>,
 }
 
-/// The three scripts that follow, by one thread.
+/// The four scripts that follow, by one thread.
 pub fn serial_runs_are_told(alloc: Global) -> bool {
     is_told_by_one(alloc, ONE_BLOCK, ONE_BLOCK_REPORT)
         && is_told_by_one(alloc, YOUNG_BLOCK, YOUNG_BLOCK_REPORT)
         && is_told_by_one(alloc, TWO_BLOCKS, TWO_BLOCKS_REPORT)
+        && is_told_by_one(alloc, PARTITIONS, PARTITIONS_REPORT)
 }
 
 pub fn one_block_is_told<R: Threads + Wait + Sync>(rt: &R, alloc: Global) -> bool {
@@ -117,6 +162,10 @@ pub fn a_young_block_is_told<R: Threads + Wait + Sync>(rt: &R, alloc: Global) ->
 
 pub fn two_blocks_are_told<R: Threads + Wait + Sync>(rt: &R, alloc: Global) -> bool {
     is_told(rt, alloc, &Open, TWO_BLOCKS, TWO_BLOCKS_REPORT)
+}
+
+pub fn partitions_are_told<R: Threads + Wait + Sync>(rt: &R, alloc: Global) -> bool {
+    is_told(rt, alloc, &Open, PARTITIONS, PARTITIONS_REPORT)
 }
 
 /// Two uploads wait for each other before their operation number 2, so neither comes past it unless both run.
