@@ -1,7 +1,7 @@
 #!/usr/bin/env bash
 # Times work by one thread and with a thread for each worker, prints a table, and says whether the bars are met: eight gateways
 # that sync and are asked one query over 24 blocks take at most one 2.2th of the time on four processors (one 1.5th on two), and
-# a script of 64 uploads of small blocks takes no longer. A script has one gateway today, so the job of its worker is done eight
+# a script of 64 uploads of small blocks takes no longer. The job of one gateway's worker is done eight
 # times over one world, each time from an empty view.
 # Each job of a gateway's worker reads the script again, one after another too, which the program's `serial` does not: so a bar that
 # is met here says that the jobs run beside each other, and not that `replay` is so much faster than `serial`.
