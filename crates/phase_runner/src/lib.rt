@@ -1,4 +1,4 @@
-//! The workers of one phase, each in a thread of its own, over one shared world.
+//! The workers of one phase, beside each other in threads, over one shared world.
 #![tactic(auto)]
 
 mod gate;

@@ -38,7 +38,10 @@ fn run_one<B: Bucket, J: Job + Drop, G: Gate, R: Wait>(
     work.end = Some(end);
 }
 
-/// Does all jobs, each in a thread of its own where the system makes so many.
+/// So many threads do a phase's jobs at most. Of more jobs than that, some are done one after another by one thread.
+const MOST_THREADS: usize = 16;
+
+/// Does all jobs beside each other, in at most `MOST_THREADS` threads.
 pub(crate) fn run_all<
     B: Bucket + Send,
     J: Job + Drop + Send,
@@ -55,11 +58,11 @@ where
     if works.is_empty() {
         return;
     }
-    let count = works.len();
+    let threads = works.len().min(MOST_THREADS);
     thread::for_each_mut(
         rt,
         works,
-        count,
+        threads,
         &|_, work| { run_one(rt, shared, gate, work) },
     );
 }
