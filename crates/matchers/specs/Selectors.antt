@@ -1,5 +1,5 @@
 -- Selectors as lists of matchers, and what they take.
-use Rattle.std.specs.Prelude.{ℕ, List, [], ◌∷◌, Bool, true, false, not, ◌&&◌, ◌||◌, ◌==◌, unwrap_or, Option, Some, None, if◌then◌else◌}
+use Rattle.std.specs.Prelude.{ℕ, List, [], ◌∷◌, Bool, true, false, not, ◌&&◌, ◌||◌, ◌==◌, unwrap_or}
 use Rattle.std.specs.Char.{is_ascii_alphabetic, is_ascii_digit}
 use Rattle.std.specs.List.{list_all}
 use Rattle.std.specs.Str.{bytes_eq}
@@ -55,10 +55,3 @@ is_metric_name (byte ∷ bytes) = is_metric_start byte && list_all is_metric_byt
 -- the matcher that a metric name stands for
 unfoldable pub metric_matcher : List ℕ → Matcher
 metric_matcher name = record { name = codes "__name__"; condition = Equal name }
-
--- The selector of the simplest texts: of the empty braces no matcher, of a metric name that of the metric.
-unfoldable pub simple_selector : List ℕ → Option (List Matcher)
-simple_selector text =
-    if bytes_eq text (codes "{}") then Some []
-    else (if is_metric_name text then Some (metric_matcher text ∷ [])
-    else None)

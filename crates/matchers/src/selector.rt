@@ -2,14 +2,14 @@ ghost use Rattle.std.specs.Prelude.{◌≡◌, ◌⊎◌, List, IsTrue, IsOk, If
 ghost use Rattle.matchers.specs.declared.matcher.Matcher.{Matcher};
 ghost use Rattle.matchers.specs.declared.selector_refusal.SelectorRefusal.{SelectorRefusal};
 ghost use Rattle.matchers.specs.SelectorRefusals.{IsReadable, IsGivenUp, IsRefused};
-ghost use Rattle.matchers.specs.Selectors.{is_match, is_plain, simple_selector};
+ghost use Rattle.matchers.specs.SelectorText.{IsSelectorText};
+ghost use Rattle.matchers.specs.Selectors.{is_match, is_plain};
 
 use crate::building::build;
 use crate::draft::read_draft;
-use crate::names::is_metric_name;
 use crate::replicas::first_replica;
 use crate::{Matcher, SelectorRefusal};
-use label_sets::{LabelSet, TextList};
+use label_sets::{LabelSet, Text, TextList};
 use list_core::{List, NoMemory, TryCopy};
 use std::alloc::Global;
 use std::marker::Model;
@@ -18,15 +18,20 @@ use std::marker::Model;
 #[derive(Debug, Drop)]
 pub struct Selector {
     matchers: Vec<Matcher>,
+    /// The text that was read.
+    text: Text,
 }
 
 impl Model for Selector {
     ghost use Rattle.std.specs.Prelude.{List};
     ghost use Rattle.matchers.specs.declared.matcher.Matcher.{Matcher};
+    ghost use Rattle.matchers.specs.SelectorText.{IsSelectorText};
 
     ghost Value = { List Matcher };
 
     ghost view = { λ s. s.matchers.items };
+
+    ghost invariant = { λ s. IsSelectorText s.text s.matchers.items };
 }
 
 /// A list of selectors.
@@ -51,20 +56,11 @@ impl Selector {
         read_selector(alloc, text, replicas)
     }
 
-    /// The selector of `{}`, which matches every label set, or of a metric name; none for any other text.
-    #[tactic(auto, unfolding(crate::specs::Selectors::simple_selector))]
-    pub fn simple(alloc: Global, text: &str) -> Result<Option<Selector>, NoMemory>
-        ensures { IfOk result (λ selector. selector ≡ simple_selector text.now) }
+    /// The text that it was read from.
+    pub fn text(&self) -> &str
+        ensures { IsSelectorText result.now self.now }
     {
-        let mut matchers = Vec::new(alloc);
-        if text == "{}" {
-            return Ok(Some(Selector { matchers }));
-        }
-        if !is_metric_name(text.as_bytes()) {
-            return Ok(None);
-        }
-        matchers.push(Matcher::of_metric(alloc, text)?)?;
-        Ok(Some(Selector { matchers }))
+        self.text.as_str()
     }
 
     /// The matchers in the order of the text, that of the metric name first.
@@ -112,5 +108,14 @@ fn read_selector(
     if let Some(name) = first_replica(&matchers, replicas) {
         return Err(SelectorRefusal::ReplicaNamed(name.copy()?));
     }
-    Ok(Selector { matchers })
+    Ok(keep_text(alloc, text, matchers)?)
+}
+
+/// The selector of these matchers, with the text that was read.
+fn keep_text(alloc: Global, text: &str, matchers: Vec<Matcher>) -> Result<Selector, NoMemory>
+    requires { IsSelectorText text.now matchers.items }
+    ensures { IfOk result (λ selector. selector ≡ matchers.items) }
+{
+    let text = Text::from_str(alloc, text)?;
+    Ok(Selector { matchers, text })
 }
