@@ -30,7 +30,7 @@ use Rattle.block_merging.specs.declared.input_series.InputSeries.{InputSeries}
 use Rattle.block_merging.specs.Placed.{chunk_of}
 use Rattle.block_merging.specs.MergedSeries.{IsMergedSeries}
 use Rattle.block_merging.specs.MergedBlock.{chunks_under, AreMerges}
-use Rattle.block_merging.specs.MergeSteps.{series_of, have_lesser_labels, IsFirstGroup, all_chunks, HasGroup, HasAll}
+use Rattle.block_merging.specs.MergeSteps.{lent_chunks, series_of, have_lesser_labels, IsThere, IsFirstGroup, all_chunks, HasGroup, HasAll}
 use Rattle.block_merging.proofs.Grouping.{same_labels, are_same, chunks_of, under_some, merged_same, merged_more, merges_none}
 
 by_last : {P : Type 0} (k n : ℕ) → (k < n → P) → (k ≡ n → P) → k < n + 1 → P
@@ -179,11 +179,11 @@ group_end series labels place h some all = record {
   others = λ e within same. absurd (omega (arith, within));
 }
 
-pub chunks_more : (group : List InputSeries) (k : ℕ) (d : InputSeries) (made more new : List InputChunk) → k < length group → map chunk_of made ≡ all_chunks (take k group) → more ≡ (get_or group k d).chunks.items
-    → new ≡ made ++ more → map chunk_of new ≡ all_chunks (take (k + 1) group)
-chunks_more group k d made more new lt was is added =
-    ap (map chunk_of) added ∙ map-append chunk_of made more ∙ ap (λ (l : List PutChunk). l ++ map chunk_of more) was ∙ ap (λ (l : List InputChunk). all_chunks (take k group) ++ map chunk_of l) is
-    ∙ sym (ap all_chunks (take_more group k d lt) ∙ flat_map-append (λ (s : InputSeries). map chunk_of s.chunks.items) (take k group) (get_or group k d ∷ []) ∙ ap (λ (l : List PutChunk). all_chunks (take k group) ++ l) (append-nil (map chunk_of (get_or group k d).chunks.items)))
+pub chunks_more : (group : List InputSeries) (k : ℕ) (one d : InputSeries) (made new : List InputChunk) → k < length group → map chunk_of made ≡ all_chunks (take k group) → one ≡ get_or group k d
+    → map chunk_of new ≡ map chunk_of made ++ lent_chunks one → map chunk_of new ≡ all_chunks (take (k + 1) group)
+chunks_more group k one d made new lt was is added =
+    added ∙ ap (λ (l : List PutChunk). l ++ lent_chunks one) was ∙ ap (λ (s : InputSeries). all_chunks (take k group) ++ lent_chunks s) is
+    ∙ sym (ap all_chunks (take_more group k d lt) ∙ flat_map-append lent_chunks (take k group) (get_or group k d ∷ []) ∙ ap (λ (l : List PutChunk). all_chunks (take k group) ++ l) (append-nil (lent_chunks (get_or group k d))))
 
 -- ---- the loop
 
@@ -216,7 +216,7 @@ no_groups sorted begin is = record {
 
 chunks_mapped : (xs : List InputSeries) → chunks_of (map series_of xs) ≡ all_chunks xs
 chunks_mapped [] = refl
-chunks_mapped (x ∷ xs) = ap (λ (l : List PutChunk). map chunk_of x.chunks.items ++ l) (chunks_mapped xs)
+chunks_mapped (x ∷ xs) = ap (λ (l : List PutChunk). lent_chunks x ++ l) (chunks_mapped xs)
 
 one_sum : (one : Series) → sum_by (λ (s : Series). length s.samples) (one ∷ []) ≡ length one.samples
 one_sum one = let e : 0 + length one.samples ≡ length one.samples = omega arith in e
@@ -287,17 +287,23 @@ all_groups plan sorted start now all h =
 
 -- ---- what putting a group needs
 
-chunks_in : (x : InputSeries) (xs : List InputSeries) (c : PutChunk) → Contains xs x → Contains (map chunk_of x.chunks.items) c → Contains (all_chunks xs) c
-chunks_in x xs c among here = into_flat_map (λ (s : InputSeries). map chunk_of s.chunks.items) xs x c among here
+chunks_in : (x : InputSeries) (xs : List InputSeries) (c : PutChunk) → Contains xs x → Contains (lent_chunks x) c → Contains (all_chunks xs) c
+chunks_in x xs c among here = into_flat_map lent_chunks xs x c among here
 
 pub group_stored : (plan : PlanFields) (sorted : List InputSeries) (start n : ℕ) (now : Put) → AllByRecursion (IsStored plan) (all_chunks sorted) → GroupsSoFar plan sorted start now
     → AllByRecursion (IsStored now.plan) (all_chunks (take n (drop start sorted)))
 group_stored plan sorted start n now stored h =
     subst (λ (p : PlanFields). AllByRecursion (IsStored p) (all_chunks (take n (drop start sorted)))) (sym h.has.plan_is)
-    (all_members (IsStored plan) (all_chunks (take n (drop start sorted))) (λ c among. let w = of_flat_map (λ (s : InputSeries). map chunk_of s.chunks.items) (take n (drop start sorted)) c among in
+    (all_members (IsStored plan) (all_chunks (take n (drop start sorted))) (λ c among. let w = of_flat_map lent_chunks (take n (drop start sorted)) c among in
     each_member (IsStored plan) (all_chunks sorted) c stored (chunks_in w.0 sorted c
     (subst (λ l. Contains l w.0) h.whole (Contains-append_right h.done (drop start sorted) w.0 (subst (λ l. Contains l w.0) (take-append-drop n (drop start sorted)) (Contains-append_left (take n (drop start sorted)) (drop n (drop start sorted)) w.0 w.1))))
     w.2)))
+
+-- what is there of all series is there of a group
+pub group_there : (sorted : List InputSeries) (start n : ℕ) → AllByRecursion IsThere sorted → AllByRecursion IsThere (take n (drop start sorted))
+group_there sorted start n there = all_members IsThere (take n (drop start sorted)) (λ x among.
+    each_member IsThere sorted x there (subst (λ l. Contains l x) (take-append-drop start sorted)
+    (Contains-append_right (take start sorted) (drop start sorted) x (subst (λ l. Contains l x) (take-append-drop n (drop start sorted)) (Contains-append_left (take n (drop start sorted)) (drop n (drop start sorted)) x among)))))
 
 pub group_times : (plan : PlanFields) (sorted : List InputSeries) (start : ℕ) (now : Put) → AreLawfulTimes plan.min_time plan.max_time → GroupsSoFar plan sorted start now → AreLawfulTimes now.plan.min_time now.plan.max_time
 group_times plan sorted start now times h = subst (λ (p : PlanFields). AreLawfulTimes p.min_time p.max_time) (sym h.has.plan_is) times

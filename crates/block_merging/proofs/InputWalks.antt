@@ -27,7 +27,7 @@ use Rattle.block_merging.specs.declared.input_series.InputSeries.{InputSeries}
 use Rattle.block_merging.specs.declared.merge_refusal.MergeRefusal.{MergeRefusal}
 use Rattle.block_merging.specs.declared.merge_refusal.MergeRefusal.TheVariants.{Input, NoMemory}
 use Rattle.block_merging.specs.Inputs.{LiesWithin, HasContent, IsFirstRefused, AreTaken, taken}
-use Rattle.block_merging.specs.MergeSteps.{series_of, HasTaken, HasInputs, IsTest, AreTests, refused_input}
+use Rattle.block_merging.specs.MergeSteps.{series_of, IsThere, HasTaken, HasInputs, IsTest, AreTests, refused_input}
 
 -- ---- blocks that are tested
 
@@ -150,7 +150,7 @@ taken_push external replicas (b ∷ blocks) block all new series (first, others,
 )
 
 pub none_taken : (external : List Label) (replicas : List (List ℕ)) (inputs : List BlockFiles) → HasInputs external replicas (take 0 inputs) []
-none_taken external replicas inputs = record { are = refl; bytes = tt }
+none_taken external replicas inputs = record { are = refl; there = tt; bytes = tt }
 
 pub taken_more : (external : List Label) (replicas : List (List ℕ)) (inputs : List BlockFiles) (i : ℕ) (block d : BlockFiles) (all new : List InputSeries) → HasInputs external replicas (take i inputs) all → i < length inputs → block ≡ get_or inputs i d
     → HasTaken external replicas block all new → HasInputs external replicas (take (i + 1) inputs) new
@@ -158,6 +158,7 @@ taken_more external replicas inputs i block d all new h lt at has =
     let split : take i inputs ++ block ∷ [] ≡ take (i + 1) inputs = ap (λ (b : BlockFiles). take i inputs ++ b ∷ []) at ∙ sym (take_more inputs i d lt) in
     record {
       are = subst (λ l. AreTaken external replicas l (map series_of new)) split (taken_push external replicas (take i inputs) block (map series_of all) (map series_of new) has.series h.are has.index_is has.added);
+      there = has.there h.there;
       bytes = subst (AllByRecursion (λ block. IsBytes block.index)) split (AllByRecursion-append (λ block. IsBytes block.index) (take i inputs) (block ∷ []) h.bytes (has.bytes, tt));
     }
 
@@ -210,12 +211,13 @@ walk_goes_on external replicas inputs i number next all new {X} block d r x h lt
 
 -- the series of one block were added
 pub has_taken : (external : List Label) (replicas : List (List ℕ)) (block : BlockFiles) (made all : List InputSeries) (segments : List (List ℕ)) (series items : List IndexSeries) → segments ≡ block.segments → items ≡ series → IsIndex block.index series → IsBytes block.index
-    → map series_of all ≡ map series_of made ++ map (taken external replicas segments) items → HasTaken external replicas block made all
-has_taken external replicas block made all segments series items segments_are same is bytes added = record {
+    → map series_of all ≡ map series_of made ++ map (taken external replicas segments) items → (AllByRecursion IsThere made → AllByRecursion IsThere all) → HasTaken external replicas block made all
+has_taken external replicas block made all segments series items segments_are same is bytes added there = record {
   series = series;
   index_is = is;
   bytes = bytes;
   added = added ∙ ap (λ (s : List (List ℕ)). map series_of made ++ map (taken external replicas s) items) segments_are ∙ ap (λ (l : List IndexSeries). map series_of made ++ map (taken external replicas block.segments) l) same;
+  there = there;
 }
 
 err_twice : {X Y : Type 0} (e f : CheckRefusal) → ◌≡◌ {A = Result X CheckRefusal} (Err e) (Err f) → ◌≡◌ {A = Result Y CheckRefusal} (Err e) (Err f)

@@ -15,6 +15,7 @@ pub mod SameLists
 pub mod OneCut
 pub mod StoredInputs
 pub mod StandingData
+pub mod UnderNumbers
 pub mod OneMerged
 pub mod MergeAnswers
 pub mod PlansFit

@@ -14,13 +14,6 @@ use Rattle.block_merging.specs.declared.placed_chunk.PlacedChunk.{PlacedChunk}
 use Rattle.block_merging.specs.Placed.{placed_chunk}
 use Rattle.block_merging.specs.Steps.{StandsFor, joined, HasRun}
 
-pub carried : {U E : Type 0} (r : Result U E) (old new : Put) (content : List ℕ) (min max min' max' : ℤ) → min' ≡ min → max' ≡ max
-    → ((samples : List Sample) → IsText 8 content samples → OnOk r (new ≡ with_chunk old (record { content = content; min = min'; max = max' }) (length samples)))
-    → (samples : List Sample) → IsText 8 content samples → OnOk r (new ≡ with_chunk old (record { content = content; min = min; max = max }) (length samples))
-carried r old new content min max min' max' e f ok samples text =
-    subst (λ (t : ℤ). OnOk r (new ≡ with_chunk old (record { content = content; min = t; max = max }) (length samples))) e
-    (subst (λ (t : ℤ). OnOk r (new ≡ with_chunk old (record { content = content; min = min'; max = t }) (length samples))) f (ok samples text))
-
 pub alone_put : {U E : Type 0} (r : Result U E) (old new : Put) (labels : List Label) (chunk : PutChunk) → IsStored old.plan chunk
     → ((samples : List Sample) → IsText 8 chunk.content samples → OnOk r (new ≡ with_chunk old chunk (length samples))) → OnOk r (HasRun old labels (chunk ∷ []) new)
 alone_put (Err e) old new labels chunk stored ok = tt

@@ -1,11 +1,14 @@
 -- The data that is lent of a chunk that stands at a place is the chunk's.
-use Rattle.std.proofs.Common.{◌≡◌, ℕ, ◌<◌, List, ◌∷◌, ◌++◌, length, take, drop, Ok, Err, sym, ap, subst, ◌∙◌, append_assoc, arith}
+use Rattle.std.proofs.Common.{◌≡◌, ℕ, ◌+◌, ◌<◌, ◌≤◌, List, [], ◌∷◌, ◌++◌, length, take, drop, Result, Ok, Err, refl, sym, ap, subst, ◌∙◌, append_assoc, arith}
+use Rattle.std.specs.Int.{w32}
 use Rattle.std.specs.List.{AllByRecursion}
 use Rattle.std.proofs.Math.Seq.{take-append_seam}
 use Rattle.std.proofs.lemmas.List.{length-append}
 use Rattle.list_core.proofs.Membership.{all_members}
 use Rattle.reading_core.specs.Grammar.{IsBytes}
 use Rattle.reading_core.proofs.Binds.{ok_is}
+use Rattle.wire_bytes.specs.Crc.{crc}
+use Rattle.wire_bytes.specs.FieldTexts.{IsFixed}
 use Rattle.wire_bytes.specs.Position.{Position, left, further}
 use Rattle.wire_bytes.specs.Fields.{uvarint_at}
 use Rattle.wire_bytes.specs.declared.refusal.WireRefusal.{WireRefusal}
@@ -42,6 +45,27 @@ front_lent part content framed lent size after read rest cut h =
     let same : (size, after) ≡ (length content, further (length h.1.1.size) (start part)) = ok_is {E = WireRefusal} _ _ (sym read ∙ told part content h) in
     data_in_front content (h.1.1.sum ++ h.0) framed lent size (ap (λ p. p.0) same)
     (rest ∙ ap (λ p. left p.1) same ∙ left_after h.1.1.size ((xor ∷ content) ++ (h.1.1.sum ++ h.0)) (start part) (whole part content h)) cut
+
+-- behind so many bytes of the front stands what follows it
+cut_behind : (front rest : List ℕ) → drop (length front) (front ++ rest) ≡ rest
+cut_behind [] rest = refl
+cut_behind (b ∷ bs) rest = cut_behind bs rest
+
+pub left_behind : (framed front text after : List ℕ) (size : ℕ) (at : Position) → at ≡ record { bytes = framed; place = size + 1 } → length front ≡ size + 1 → framed ≡ front ++ (text ++ after) → left at ≡ text ++ after
+left_behind framed front text after size at at_is many is =
+    ap left at_is ∙ ap (λ (n : ℕ). drop n framed) (sym many) ∙ ap (drop (length front)) is ∙ cut_behind front (text ++ after)
+
+pub front_within : (framed front text after : List ℕ) (size : ℕ) → length front ≡ size + 1 → framed ≡ front ++ (text ++ after) → length framed ≤ size → ⊥
+front_within framed front text after size many is few = omega (arith, many, few, ap length is, length-append front (text ++ after))
+
+-- behind the data of a chunk stands the sum of its encoding and data
+pub front_summed : (part content framed : List ℕ) (sum size : ℕ) (after : Position) → uvarint_at (start part) ≡ Ok (size, after) → framed ≡ left after
+    → ((front text others : List ℕ) (n : ℕ) → length front ≡ size + 1 → IsFixed w32 text n → framed ≡ front ++ (text ++ others) → sum ≡ n) → IsFront part content → sum ≡ crc (xor ∷ content)
+front_summed part content framed sum size after read rest there h =
+    let same : (size, after) ≡ (length content, further (length h.1.1.size) (start part)) = ok_is {E = WireRefusal} _ _ (sym read ∙ told part content h) in
+    let many : size ≡ length content = ap (λ p. p.0) same in
+    there (xor ∷ content) h.1.1.sum h.0 (crc (xor ∷ content)) (omega (arith, many)) h.1.1.sum_is
+    (rest ∙ ap (λ p. left p.1) same ∙ left_after h.1.1.size ((xor ∷ content) ++ (h.1.1.sum ++ h.0)) (start part) (whole part content h))
 
 -- a chunk has a length
 pub front_has_length : (part content : List ℕ) (e : WireRefusal) → uvarint_at (start part) ≡ Err e → IsFront part content → ⊥

@@ -24,10 +24,9 @@ use Rattle.block_writing.specs.Standing.{content_at}
 use Rattle.block_writing.specs.Writing.{plan_fields, part_of, chunk_in}
 use Rattle.block_writing.proofs.Placed.{read_there}
 use Rattle.block_merging.specs.declared.input_series.InputSeries.{InputSeries}
-use Rattle.block_merging.specs.Placed.{chunk_of}
 use Rattle.block_merging.specs.Inputs.{LiesWithin, HasContent, AreTaken, taken}
 use Rattle.block_merging.proofs.SameLists.{zip_member}
-use Rattle.block_merging.specs.MergeSteps.{series_of, have_lesser_labels, HasInputs, all_chunks}
+use Rattle.block_merging.specs.MergeSteps.{lent_chunks, series_of, have_lesser_labels, IsThere, HasInputs, all_chunks}
 
 pub index_once : (bytes : List ℕ) (one other : List IndexSeries) → IsBytes bytes → IsIndex bytes one → IsIndex bytes other → one ≡ other
 index_once bytes one other are is too = ok_is {E = IndexRefusal} one other (sym (index_again bytes one are is) ∙ index_again bytes other are too)
@@ -110,6 +109,10 @@ taken_stored plan replicas blocks all s c lie held bytes are among here =
 pub sorted_stored : (plan : BlockPlan) (replicas : List (List ℕ)) (blocks : List BlockFiles) (given sorted : List InputSeries) → AllByRecursion (LiesWithin plan) blocks → AllByRecursion HasContent blocks
     → HasInputs plan.labels replicas blocks given → sorted ≡ in_order have_lesser_labels given → AllByRecursion (IsStored (plan_fields plan)) (all_chunks sorted)
 sorted_stored plan replicas blocks given sorted lie held h is = all_members (IsStored (plan_fields plan)) (all_chunks sorted) (λ c among.
-    let x = of_flat_map (λ (s : InputSeries). map chunk_of s.chunks.items) sorted c among in
+    let x = of_flat_map lent_chunks sorted c among in
     let there : Contains given x.0 = of_in_order have_lesser_labels x.0 given (subst (λ l. Contains l x.0) is x.1) in
     taken_stored plan replicas blocks (map series_of given) (series_of x.0) c lie held h.bytes h.are (into_map series_of given x.0 there) x.2)
+
+-- series that are there are so in another order
+pub sorted_there : (given sorted : List InputSeries) → AllByRecursion IsThere given → sorted ≡ in_order have_lesser_labels given → AllByRecursion IsThere sorted
+sorted_there given sorted there is = all_members IsThere sorted (λ x among. each_member IsThere given x there (of_in_order have_lesser_labels x given (subst (λ l. Contains l x) is among)))

@@ -1,5 +1,5 @@
 -- The steps of a merge of blocks.
-use Rattle.std.specs.Prelude.{◌≡◌, ◌≢◌, ℕ, ◌<◌, ◌≤◌, List, [], ◌∷◌, ◌++◌, map, length, slice_index_or, Bool, Result, Err, IfOk, IfErr, ◌⊎◌}
+use Rattle.std.specs.Prelude.{◌≡◌, ◌≢◌, ℕ, ◌<◌, ◌≤◌, ◌*◌, ◌^◌, List, [], ◌∷◌, ◌++◌, map, length, slice_index_or, Bool, Result, Err, IfOk, IfErr, ◌⊎◌}
 use Rattle.std.specs.List.{flat_map, AllByRecursion}
 use Rattle.std.specs.Ordering.{is_lt}
 use Rattle.label_sets.specs.Counts.{sample_count}
@@ -8,6 +8,7 @@ use Rattle.label_sets.specs.declared.label.Label.{Label}
 use Rattle.label_sets.specs.declared.series.Series.{Series}
 use Rattle.reading_core.specs.Grammar.{IsBytes}
 use Rattle.index_parts.specs.declared.chunk_place.ChunkPlace.{ChunkPlace}
+use Rattle.index_parts.specs.SeriesEntry.{IsSeries}
 use Rattle.index_file.specs.declared.index_series.IndexSeries.{IndexSeries}
 use Rattle.index_file.specs.IndexFile.{IsIndex}
 use Rattle.block_files.specs.declared.block_files.BlockFiles.{BlockFiles}
@@ -17,6 +18,7 @@ use Rattle.block_content.specs.ContentRefusals.{RefusesContent}
 use Rattle.block_content.specs.declared.check_refusal.CheckRefusal.{CheckRefusal}
 use Rattle.block_content.specs.declared.check_refusal.CheckRefusal.TheVariants as check
 use Rattle.block_writing.specs.Put.{PutChunk, PutSeries, PlanFields, Put}
+use Rattle.block_writing.specs.Writing.{chunk_in}
 use Rattle.block_laws.specs.PutContent.{AreSeriesOf}
 use Rattle.block_merging.specs.declared.input_series.InputSeries.{InputSeries}
 use Rattle.block_merging.specs.declared.merge_refusal.MergeRefusal.{MergeRefusal}
@@ -24,7 +26,6 @@ use Rattle.block_merging.specs.declared.merge_refusal.MergeRefusal.TheVariants.{
 use Rattle.block_merging.specs.Inputs.{HasContent, IsFirstRefused, AreTaken, taken}
 use Rattle.block_merging.specs.MergedBlock.{AreMerges}
 use Rattle.block_merging.specs.MergedSeries.{HasMerged}
-use Rattle.block_merging.specs.Placed.{chunk_of}
 
 -- the chunk that a place names is there
 abbrev pub IsStanding : List (List ℕ) → ChunkPlace → Type 0
@@ -33,9 +34,24 @@ IsStanding segments place = (content : List ℕ) × StandsAt segments place cont
 abbrev pub HasStanding : List (List ℕ) → IndexSeries → Type 0
 HasStanding segments series = AllByRecursion (IsStanding segments) series.chunks
 
+-- Under this number stands the series in the block's index, whatever its labels, and its chunks are there.
+pub record StandsUnder (block : BlockFiles) (number : ℕ) (series : IndexSeries) : Type 0 where
+  pub small : number < 2 ^ 32
+  pub names : List ℕ
+  pub values : List ℕ
+  pub stands : IsSeries block.index (16 * number) (record { names = names; values = values; chunks = series.chunks })
+  pub chunks_stand : HasStanding block.segments series
+
+abbrev pub IsThere : InputSeries → Type 0
+IsThere series = StandsUnder series.block.now series.number series.indexed.value
+
+-- the chunks that the block lends to a series
+abbrev pub lent_chunks : InputSeries → List PutChunk
+lent_chunks series = map (chunk_in series.block.now.segments) series.indexed.value.chunks
+
 -- a series whose chunks are lent, as one that is put
 abbrev pub series_of : InputSeries → PutSeries
-series_of series = record { labels = series.labels; chunks = map chunk_of series.chunks.items }
+series_of series = record { labels = series.labels; chunks = lent_chunks series }
 
 abbrev pub have_lesser_labels : InputSeries → InputSeries → Bool
 have_lesser_labels one other = is_lt (compare_sets one.labels other.labels)
@@ -46,10 +62,12 @@ pub record HasTaken (external : List Label) (replicas : List (List ℕ)) (block 
   pub index_is : IsIndex block.index series
   pub bytes : IsBytes block.index
   pub added : map series_of new ≡ map series_of old ++ map (taken external replicas block.segments) series
+  pub there : AllByRecursion IsThere old → AllByRecursion IsThere new
 
 -- the series of all blocks were taken, one block after another
 pub record HasInputs (external : List Label) (replicas : List (List ℕ)) (blocks : List BlockFiles) (all : List InputSeries) : Type 0 where
   pub are : AreTaken external replicas blocks (map series_of all)
+  pub there : AllByRecursion IsThere all
   pub bytes : AllByRecursion (λ block. IsBytes block.index) blocks
 
 -- A test of a block tells that it holds something that can be read, or why it does not, or that memory ran out.
@@ -79,7 +97,7 @@ pub record IsFirstGroup (series : List InputSeries) (count : ℕ) : Type 0 where
 
 -- the chunks of series, one series after another
 abbrev pub all_chunks : List InputSeries → List PutChunk
-all_chunks series = flat_map (λ s. map chunk_of s.chunks.items) series
+all_chunks series = flat_map lent_chunks series
 
 -- the merge of chunks was put, where there are any
 abbrev pub HasGroup : Put → List Label → List PutChunk → Put → Type 0

@@ -12,13 +12,13 @@ ghost use Rattle.block_writing.specs.WrittenMeta.{IsWritten};
 ghost use Rattle.block_content.specs.ContentReading.{fitted};
 ghost use Rattle.block_content.specs.declared.check_refusal.CheckRefusal.{CheckRefusal};
 ghost use Rattle.block_merging.specs.declared.input_series.InputSeries.{InputSeries};
-ghost use Rattle.block_merging.specs.Placed.{chunk_of};
 ghost use Rattle.block_merging.specs.Inputs.{LiesWithin, IsFirstRefused};
 ghost use Rattle.block_merging.specs.MergedBlock.{IsMergeOf, HaveNoMerge};
-ghost use Rattle.block_merging.specs.MergeSteps.{series_of, have_lesser_labels, IsFirstGroup, all_chunks, HasGroup, HasAll};
+ghost use Rattle.block_merging.specs.MergeSteps.{series_of, have_lesser_labels, IsThere, IsFirstGroup, all_chunks, HasGroup, HasAll};
 
 use crate::input_series::{InputSeries, input_series, sort_by_labels};
-use crate::{InputChunk, MergeRefusal, merge_series};
+use crate::lent_chunks::group_chunks;
+use crate::{MergeRefusal, merge_series};
 use block_files::{BlockFiles, BuildRefusal};
 use block_meta::BlockPlan;
 use block_writing::BlockWriter;
@@ -27,9 +27,9 @@ use list_core::{NoMemory, TryCopy};
 use std::alloc::Global;
 
 /// Merges blocks into the one of a plan. Of two blocks that have a sample under the same labels at one time the earlier one's
-/// pattern stays. Each chunk of each block is tested before any is merged. Beside the blocks and the merge it takes memory in
-/// proportion to the blocks' indexes, for the labels of all series and the places of their chunks, and for the samples of one run
-/// of chunks at a time.
+/// pattern stays. Each chunk of each block is tested before any is merged. Beside the blocks and the merge it holds the
+/// reduced labels of their series, and the chunks of one series and the samples of one run of chunks at a time. While a block is
+/// tested it holds the series of its index.
 pub fn merge_blocks(
     alloc: Global,
     plan: &BlockPlan,
@@ -65,6 +65,7 @@ fn merged_writer(
     plan: &BlockPlan,
     sorted: &[InputSeries<'_>],
 ) -> Result<BlockWriter, NoMemory>
+    requires there { AllByRecursion IsThere sorted.now }
     requires stored { AllByRecursion (IsStored (plan_fields plan.now)) (all_chunks sorted.now) }
     requires by { (given : List InputSeries) × (sorted.now ≡ in_order have_lesser_labels given) }
     ensures { IfOk result (HasAll (plan_fields plan.now) (map series_of sorted.now)) }
@@ -80,6 +81,7 @@ fn put_groups(
     writer: &mut BlockWriter,
     sorted: &[InputSeries<'_>],
 ) -> Result<(), NoMemory>
+    requires there { AllByRecursion IsThere sorted.now }
     requires stored { AllByRecursion (IsStored writer.old.plan) (all_chunks sorted.now) }
     requires by { (given : List InputSeries) × (sorted.now ≡ in_order have_lesser_labels given) }
     requires times { AreLawfulTimes writer.old.plan.min_time writer.old.plan.max_time }
@@ -123,6 +125,7 @@ fn put_group(
     labels: &LabelSet,
     group: &[InputSeries<'_>],
 ) -> Result<(), NoMemory>
+    requires there { AllByRecursion IsThere group.now }
     requires stored { AllByRecursion (IsStored writer.old.plan) (all_chunks group.now) }
     requires times { AreLawfulTimes writer.old.plan.min_time writer.old.plan.max_time }
     requires nothing_left { writer.old.chunks ≡ [] }
@@ -135,20 +138,6 @@ fn put_group(
         return Ok(());
     }
     merge_series(alloc, writer, labels, chunks.as_slice())
-}
-
-/// The chunks of series, one series after another.
-fn group_chunks<'a>(
-    alloc: Global,
-    group: &[InputSeries<'a>],
-) -> Result<Vec<InputChunk<'a>>, NoMemory>
-    ensures { IfOk result (λ made. map chunk_of made.items ≡ all_chunks group.now) }
-{
-    let mut made = Vec::new(alloc);
-    for one in group {
-        made.extend_from_slice(one.chunks.as_slice())?;
-    }
-    Ok(made)
 }
 
 /// Ends a writer.

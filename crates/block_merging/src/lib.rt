@@ -6,6 +6,7 @@ mod block_merge;
 mod input_chunk;
 mod input_series;
 mod laws;
+mod lent_chunks;
 mod merge_refusal;
 mod mergeable;
 mod placed_chunk;

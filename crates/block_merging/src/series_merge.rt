@@ -105,7 +105,8 @@ fn put_run(
     ensures { OnOk result (HasRun writer.old labels.now (run_in run.now) writer.new) }
 {
     if run.len() == 1 {
-        put_alone(writer, &run[0].chunk)
+        let one = run[0];
+        put_alone(writer, &one.chunk)
     } else {
         put_merged(alloc, writer, labels, run)
     }
@@ -147,7 +148,7 @@ fn carry(writer: &mut BlockWriter, chunk: &InputChunk<'_>) -> Result<(), NoMemor
     ensures { (samples : List Sample) → IsText 8 chunk.now.bytes.now samples → OnOk result
         (writer.new ≡ with_chunk writer.old (chunk_of chunk.now) (length samples)) }
 {
-    writer.chunk(chunk.bytes, chunk.min, chunk.max)
+    writer.chunk_summed(chunk.bytes, chunk.sum, chunk.min, chunk.max)
 }
 
 /// The samples of chunks one after another, in the order in which the chunks were given.

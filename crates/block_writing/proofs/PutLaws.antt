@@ -1,6 +1,6 @@
 -- What is put as it may be leaves all that was put lawful.
-use Rattle.std.proofs.Common.{◌≡◌, ℕ, ◌-◌, List, [], ◌∷◌, ◌++◌, length, map, Option, None, Some, sym, subst, ap, ◌∙◌, inl, inr, ℤ}
-use Rattle.std.specs.Prelude.{slice_get}
+use Rattle.std.proofs.Common.{◌≡◌, ℕ, ◌-◌, List, [], ◌∷◌, ◌++◌, length, map, Option, None, Some, Result, sym, subst, ap, ◌∙◌, inl, inr, ℤ}
+use Rattle.std.specs.Prelude.{slice_get, OnOk}
 use Rattle.std.specs.Cmp.{IsTotalOrder}
 use Rattle.std.specs.Cmp.Lexicographic.{on_texts, lists_total}
 use Rattle.std.specs.List.Sorted.{IsStrictlySortedBy}
@@ -10,11 +10,21 @@ use Rattle.list_core.proofs.Lists.{AllByRecursion-push}
 use Rattle.list_core.proofs.Order.{sorted_nil, sorted_cons, sorted_push}
 use Rattle.label_sets.specs.Labels.{compare_sets}
 use Rattle.label_sets.specs.declared.label.Label.{Label}
+use Rattle.label_sets.specs.declared.sample.Sample.{Sample}
+use Rattle.xor_chunks.specs.Grammar.{IsText}
 use Rattle.block_writing.specs.Put.{PutChunk, PutSeries, PlanFields, Put, IsStored, IsAfter, IsAfterChunks, AreApart, IsAfterSeries, AreOfSeries, IsEnded, IsPut, nothing_put, with_chunk, with_series}
 use Rattle.block_writing.proofs.Runs.{ends, order_more}
 use Rattle.block_writing.proofs.Lists.{last_at}
 
 -- ---- chunks
+
+-- the same chunk, whose times were handed on
+pub carried : {U E : Type 0} (r : Result U E) (old new : Put) (content : List ℕ) (min max min' max' : ℤ) → min' ≡ min → max' ≡ max
+    → ((samples : List Sample) → IsText 8 content samples → OnOk r (new ≡ with_chunk old (record { content = content; min = min'; max = max' }) (length samples)))
+    → (samples : List Sample) → IsText 8 content samples → OnOk r (new ≡ with_chunk old (record { content = content; min = min; max = max }) (length samples))
+carried r old new content min max min' max' e f ok samples text =
+    subst (λ (t : ℤ). OnOk r (new ≡ with_chunk old (record { content = content; min = t; max = max }) (length samples))) e
+    (subst (λ (t : ℤ). OnOk r (new ≡ with_chunk old (record { content = content; min = min'; max = t }) (length samples))) f (ok samples text))
 
 pub after_last : (front : List PutChunk) (last : PutChunk) (time : ℤ) → IsAfterChunks (front ++ last ∷ []) time → IsAfter (Some last) time
 after_last front last time after = subst (λ (o : Option PutChunk). IsAfter o time) (last_at front last) after

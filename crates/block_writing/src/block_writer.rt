@@ -1,6 +1,8 @@
-ghost use Rattle.std.specs.Prelude.{◌≡◌, ◌≢◌, ◌⊎◌, [], List, length, Err, IfOk, OnOk, OnErr};
+ghost use Rattle.std.specs.Prelude.{◌≡◌, ◌≢◌, ◌⊎◌, [], ◌∷◌, List, length, Err, IfOk, IfSome, OnOk, OnErr};
 ghost use Rattle.label_sets.specs.declared.sample.Sample.{Sample};
+ghost use Rattle.wire_bytes.specs.Crc.{crc};
 ghost use Rattle.xor_chunks.specs.Grammar.{IsText};
+ghost use Rattle.chunk_files.specs.Layout.{xor};
 ghost use Rattle.block_writing.specs.Put.{IsStored, IsAfterChunks, IsAfterSeries, nothing_put, with_chunk, with_series};
 ghost use Rattle.block_writing.specs.Files.{HaveNoIndex};
 ghost use Rattle.block_writing.specs.Writing.{plan_fields};
@@ -78,8 +80,47 @@ impl BlockWriter {
             (length samples)) }
         ensures err { OnErr result (self.new ≡ self.old) }
     {
+        self.put_chunk(bytes, None, min, max)
+    }
+
+    /// Puts a chunk as `chunk` does, whose sum is known: that of its encoding and its data.
+    pub fn chunk_summed(
+        &mut self,
+        bytes: &[u8],
+        sum: u32,
+        min: i64,
+        max: i64,
+    ) -> Result<(), NoMemory>
+        requires sum { sum ≡ crc (xor ∷ bytes.now) }
+        requires stored { IsStored self.old.plan
+            (record { content = bytes.now; min = min; max = max }) }
+        requires after { IsAfterChunks self.old.chunks min }
+        ensures ok { (samples : List Sample) → IsText 8 bytes.now samples → OnOk result (self.new
+            ≡ with_chunk self.old (record { content = bytes.now; min = min; max = max })
+            (length samples)) }
+        ensures err { OnErr result (self.new ≡ self.old) }
+    {
+        self.put_chunk(bytes, Some(sum), min, max)
+    }
+
+    fn put_chunk(
+        &mut self,
+        bytes: &[u8],
+        sum: Option<u32>,
+        min: i64,
+        max: i64,
+    ) -> Result<(), NoMemory>
+        requires sum { IfSome sum (λ s. s ≡ crc (xor ∷ bytes.now)) }
+        requires stored { IsStored self.old.plan
+            (record { content = bytes.now; min = min; max = max }) }
+        requires after { IsAfterChunks self.old.chunks min }
+        ensures ok { (samples : List Sample) → IsText 8 bytes.now samples → OnOk result (self.new
+            ≡ with_chunk self.old (record { content = bytes.now; min = min; max = max })
+            (length samples)) }
+        ensures err { OnErr result (self.new ≡ self.old) }
+    {
         self.chunks.reserve(1)?;
-        let place = append_chunk(&mut self.segments, bytes)?;
+        let place = append_chunk(&mut self.segments, bytes, sum)?;
         self.chunks.push_reserved(ChunkPlace {
             min,
             max,

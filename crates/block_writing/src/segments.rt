@@ -1,7 +1,8 @@
 //! Segments with chunks, of which the last one may still grow.
-ghost use Rattle.std.specs.Prelude.{◌≡◌, ◌↔◌, ◌+◌, ◌-◌, ◌<◌, ◌≤◌, [], ◌∷◌, ◌++◌, ℕ, List, map, length, vec_len, IfOk, OnOk, OnErr, Err};
+ghost use Rattle.std.specs.Prelude.{◌≡◌, ◌↔◌, ◌+◌, ◌-◌, ◌<◌, ◌≤◌, [], ◌∷◌, ◌++◌, ℕ, List, map, length, vec_len, IfOk, IfSome, OnOk, OnErr, Err};
+ghost use Rattle.wire_bytes.specs.Crc.{crc};
 ghost use Rattle.chunk_files.specs.Chunk.{header, frame_text};
-ghost use Rattle.chunk_files.specs.Layout.{greatest, header_size};
+ghost use Rattle.chunk_files.specs.Layout.{greatest, header_size, xor};
 ghost use Rattle.block_writing.specs.declared.segment_place.SegmentPlace.{SegmentPlace as Place};
 ghost use Rattle.block_writing.specs.Segments.{AreRuns, AreSegments, segment_text, places_from};
 
@@ -12,9 +13,33 @@ use list_core::NoMemory;
 /// How many segments a block may have. So many hold more than 2^44 bytes, for which there is no memory.
 const MOST: usize = 999_999;
 
+/// Appends a chunk, whose sum may be known, to a segment.
+fn append_one(
+    writer: &mut SegmentWriter,
+    bytes: &[u8],
+    sum: Option<u32>,
+) -> Result<u64, SegmentRefusal>
+    requires { IfSome sum (λ s. s ≡ crc (xor ∷ bytes.now)) }
+    ensures offset { IfOk result (λ offset. offset ≡ length writer.old) }
+    ensures ok { OnOk result (writer.new ≡ writer.old ++ frame_text bytes.now) }
+    ensures full { (result ≡ Err SegmentRefusal.Full)
+        ↔ (greatest < length writer.old + length (frame_text bytes.now)) }
+    ensures err { OnErr result (writer.new ≡ writer.old) }
+{
+    match sum {
+        Some(sum) => writer.append_summed(bytes, sum),
+        None => writer.append(bytes),
+    }
+}
+
 /// Appends a chunk to the last segment, and gives where it begins in it.
-fn append_to_last(segments: &mut Vec<SegmentWriter>, bytes: &[u8]) -> Result<u64, SegmentRefusal>
-    requires { 0 < vec_len segments.old }
+fn append_to_last(
+    segments: &mut Vec<SegmentWriter>,
+    bytes: &[u8],
+    sum: Option<u32>,
+) -> Result<u64, SegmentRefusal>
+    requires some { 0 < vec_len segments.old }
+    requires sum { IfSome sum (λ s. s ≡ crc (xor ∷ bytes.now)) }
     ensures ok { (front : List (List ℕ)) (last : List ℕ) → segments.old.items ≡ front ++ last ∷ []
         → IfOk result (λ offset. (offset ≡ length last)
         × (segments.new.items ≡ front ++ (last ++ frame_text bytes.now) ∷ [])) }
@@ -26,14 +51,19 @@ fn append_to_last(segments: &mut Vec<SegmentWriter>, bytes: &[u8]) -> Result<u64
     ensures as_many { vec_len segments.new ≡ vec_len segments.old }
 {
     match segments.last_mut() {
-        Some(last) => last.append(bytes),
+        Some(last) => append_one(last, bytes, sum),
         None => Err(SegmentRefusal::Full),
     }
 }
 
 /// Begins a segment with a chunk.
-fn begin_segment(segments: &mut Vec<SegmentWriter>, bytes: &[u8]) -> Result<SegmentPlace, NoMemory>
+fn begin_segment(
+    segments: &mut Vec<SegmentWriter>,
+    bytes: &[u8],
+    sum: Option<u32>,
+) -> Result<SegmentPlace, NoMemory>
     requires few { vec_len segments.old ≤ 999_999 }
+    requires sum { IfSome sum (λ s. s ≡ crc (xor ∷ bytes.now)) }
     requires fits { header_size + length (frame_text bytes.now) ≤ greatest }
     ensures ok { IfOk result (λ place.
         (place ≡ record { segment = length segments.old.items; offset = header_size })
@@ -47,7 +77,7 @@ fn begin_segment(segments: &mut Vec<SegmentWriter>, bytes: &[u8]) -> Result<Segm
         return Err(NoMemory);
     }
     let mut writer = SegmentWriter::new(*segments.allocator())?;
-    let offset = match writer.append(bytes) {
+    let offset = match append_one(&mut writer, bytes, sum) {
         Ok(offset) => offset,
         Err(SegmentRefusal::NoMemory) => return Err(NoMemory),
         Err(SegmentRefusal::Full) => unreachable!(),
@@ -59,12 +89,14 @@ fn begin_segment(segments: &mut Vec<SegmentWriter>, bytes: &[u8]) -> Result<Segm
     })
 }
 
-/// Appends a chunk: to the last segment, and where that cannot hold it, to the next one.
+/// Appends a chunk, whose sum may be known: to the last segment, and where that cannot hold it, to the next one.
 pub(crate) fn append_chunk(
     segments: &mut Vec<SegmentWriter>,
     bytes: &[u8],
+    sum: Option<u32>,
 ) -> Result<SegmentPlace, NoMemory>
     requires few { vec_len segments.old ≤ 999_999 }
+    requires sum { IfSome sum (λ s. s ≡ crc (xor ∷ bytes.now)) }
     requires fits { header_size + length (frame_text bytes.now) ≤ greatest }
     ensures ok { (contents : List (List ℕ)) (places : List Place)
         → AreSegments contents places segments.old.items
@@ -76,14 +108,14 @@ pub(crate) fn append_chunk(
 {
     let count = segments.len();
     if count == 0 {
-        return begin_segment(segments, bytes);
+        return begin_segment(segments, bytes, sum);
     }
-    match append_to_last(segments, bytes) {
+    match append_to_last(segments, bytes, sum) {
         Ok(offset) => Ok(SegmentPlace {
             segment: (count - 1) as u32,
             offset: offset as u32,
         }),
         Err(SegmentRefusal::NoMemory) => Err(NoMemory),
-        Err(SegmentRefusal::Full) => begin_segment(segments, bytes),
+        Err(SegmentRefusal::Full) => begin_segment(segments, bytes, sum),
     }
 }

@@ -3,10 +3,14 @@ use Rattle.std.specs.List.{AllByRecursion}
 use Rattle.block_writing.specs.Put.{IsStored}
 use Rattle.block_writing.specs.Writing.{plan_fields}
 use Rattle.block_merging.specs.declared.input_series.InputSeries.{InputSeries}
-use Rattle.block_merging.specs.MergeSteps.{series_of, all_chunks, HasAll}
-use Rattle.block_merging.proofs.StoredInputs.{sorted_stored}
+use Rattle.block_merging.specs.MergeSteps.{series_of, IsThere, all_chunks, HasAll}
+use Rattle.block_merging.proofs.StoredInputs.{sorted_there, sorted_stored}
 use Rattle.block_merging.proofs.MergeAnswers.{test_stopped, memory_stopped, merge_ended}
 use Rattle.block_merging.proofs.block_merge.merge_blocks.Goals as goal
+
+pub merged_writer-requires-clause-there : goal.merged_writer-requires-clause-there
+merged_writer-requires-clause-there c =
+    subst (AllByRecursion IsThere) (sym c.as_slice.ensures.value) (sorted_there c.in_ok-series.series.items c.sort_by_labels.new.series.items c.in_ok-series.ensures.taken.there c.in_ok-sort_by_labels.ensures)
 
 pub merged_writer-requires-clause-stored : goal.merged_writer-requires-clause-stored
 merged_writer-requires-clause-stored c =

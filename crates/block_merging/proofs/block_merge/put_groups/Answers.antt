@@ -4,12 +4,17 @@ use Rattle.label_sets.specs.declared.label.Label.{Label}
 use Rattle.std.specs.List.{AllByRecursion}
 use Rattle.block_writing.specs.Put.{IsStored}
 use Rattle.block_merging.specs.declared.input_series.InputSeries.{InputSeries}
-use Rattle.block_merging.specs.MergeSteps.{IsFirstGroup, all_chunks, HasGroup}
-use Rattle.block_merging.proofs.GroupLoops.{whole_left, no_groups, groups_more, all_groups, group_stored, group_times, group_left, group_counted, group_greater}
+use Rattle.block_merging.specs.MergeSteps.{IsThere, IsFirstGroup, all_chunks, HasGroup}
+use Rattle.block_merging.proofs.GroupLoops.{whole_left, no_groups, groups_more, all_groups, group_there, group_stored, group_times, group_left, group_counted, group_greater}
 use Rattle.block_merging.proofs.block_merge.put_groups.Goals as goal
 
 pub loop-start-init : goal.loop-start-init
 loop-start-init c = no_groups c.args.sorted.now c.args.writer.now c.requires.nothing
+
+pub put_group-requires-clause-there : goal.put_group-requires-clause-there
+put_group-requires-clause-there c =
+    subst (λ (l : List InputSeries). AllByRecursion IsThere (take c.first_group-count.result l)) (sym (whole_left c.loop-start.start c.args.sorted.now))
+    (group_there c.args.sorted.now c.loop-start.start c.first_group-count.result c.requires.there)
 
 pub put_group-requires-clause-stored : goal.put_group-requires-clause-stored
 put_group-requires-clause-stored c =
