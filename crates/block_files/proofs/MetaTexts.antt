@@ -1,6 +1,7 @@
 -- The text of a meta is read as that meta, where its numbers fit and its texts are UTF-8.
-use Rattle.std.proofs.Common.{◌≡◌, ℕ, ℤ, pos, negsuc, ◌^◌, ◌<◌, true, nat_lt, List, [], ◌∷◌, get_or, All, Ok, Less, nat_cmp, FitsSigned, w64, IsUtf8, codes, rules, refl, sym, subst, arith}
-use Rattle.std.specs.Prelude.{IsTrue}
+use Rattle.std.proofs.Common.{◌≡◌, ℕ, ℤ, pos, negsuc, ◌^◌, ◌<◌, true, nat_lt, List, [], ◌∷◌, get_or, All, Ok, Less, nat_cmp, FitsSigned, w64, IsUtf8, codes, rules, refl, sym, ap, subst, arith}
+use Rattle.std.specs.Prelude.{◌||◌, IsTrue}
+use Rattle.std.specs.Char.{is_ascii_digit}
 use Rattle.std.specs.List.{AllByRecursion, list_all}
 use Rattle.std.specs.Cmp.Lexicographic.{slice_cmp}
 use Rattle.std.specs.List.Sorted.{IsStrictlyIncreasing, IsStrictlySortedBy}
@@ -15,7 +16,7 @@ use Rattle.serde_json.specs.Written.{compact_text}
 use Rattle.ulid_core.proofs.UlidLaws.{IsUlidText-text_of}
 use Rattle.label_sets.specs.declared.label.Label.{Label}
 use Rattle.label_sets.specs.Labels.{IsLabelSet, StandsBefore}
-use Rattle.label_sets.specs.Notation.{is_name, is_name_byte}
+use Rattle.label_sets.specs.Notation.{is_name, is_name_byte, is_name_start}
 use Rattle.label_sets.specs.SetText.{AreNamed}
 use Rattle.block_meta.specs.declared.file_size.FileSize.{FileSize}
 use Rattle.block_meta.specs.declared.parent.Parent.{Parent}
@@ -31,7 +32,6 @@ use Rattle.block_meta.proofs.Rising.{ascending_already, lawful_passes}
 use Rattle.block_meta.proofs.Texts.{meta_reads}
 use Rattle.ulid_core.proofs.AsciiTexts.{IsUtf8-text_of}
 use Rattle.block_files.proofs.JsonAgain.{FitsNumber, keys, Ascend, IsPlain, ArePlainItems, ArePlainMembers, plain_read, plain_utf8}
-use Rattle.block_files.proofs.Unbroken.{name_bytes}
 
 -- What a meta's text needs to be read as the meta. A built meta has no parents and drops no samples.
 pub record IsReadAgain (m : MetaFields) : Type 0 where
@@ -78,6 +78,13 @@ none_dropped : (m : MetaFields) → IsReadAgain m → FitsSigned w64 m.resolutio
 none_dropped m h = subst (FitsSigned w64) (sym h.resolution) (omega (arith, ints))
 
 -- ---- labels
+
+name_bytes : (name : List ℕ) → is_name name ≡ true → list_all is_name_byte name ≡ true
+unfolding is_name
+name_bytes [] is = refl
+name_bytes (b ∷ bs) is =
+    let p : _ = and_parts (is_name_start b) (list_all is_name_byte bs) is in
+    and_from (is_name_byte b) (list_all is_name_byte bs) (ap (λ s. s || is_ascii_digit b) p.0) p.1
 
 name_byte_ascii : (b : ℕ) → is_name_byte b ≡ true → nat_lt b 128 ≡ true
 name_byte_ascii b is = grind (arith, nat_tests)

@@ -1,6 +1,6 @@
 -- All that is guaranteed of a run, from what its entries tell, its views and its answers.
-use Rattle.list_core.proofs.Membership.{all_members, into_map}
-use Rattle.std.proofs.Common.{◌≡◌, ◌≢◌, ◌↔◌, inl, inr, ℕ, ℤ, Bool, List, [], ◌∷◌, ◌++◌, length, All, Contains, Option, Some, None, refl, sym, ◌∙◌, ap, subst, arith}
+use Rattle.list_core.proofs.Membership.{all_members, contains_place, into_map}
+use Rattle.std.proofs.Common.{◌≡◌, ◌≢◌, ◌↔◌, ◌⊎◌, inl, inr, ℕ, ℤ, Bool, List, [], ◌∷◌, ◌++◌, length, All, Contains, Option, Some, None, refl, sym, ◌∙◌, ap, subst, arith}
 use Rattle.std.specs.Prelude.{option_map, slice_get, count_by, get_or}
 use Rattle.std.specs.List.{AllZip, filter, flat_map}
 use Rattle.std.proofs.lemmas.List.{length-append}
@@ -12,7 +12,8 @@ use Rattle.matchers.specs.declared.matcher.Matcher.{Matcher}
 use Rattle.world_core.specs.Journals.{IsNumbered, entry_at}
 use Rattle.world_core.specs.Operations.{has_failed}
 use Rattle.world_core.specs.Standing.{IsHonest}
-use Rattle.world_core.specs.Worlds.{failed_count}
+use Rattle.world_core.specs.Worlds.{IsOfBytes, failed_count}
+use Rattle.matchers.specs.SelectorText.{named_replicas}
 use Rattle.world_core.specs.declared.entry.Entry.{Entry}
 use Rattle.shipper.specs.declared.upload_end.UploadEnd.{UploadEnd}
 use Rattle.shipper.specs.declared.upload_end.UploadEnd.TheVariants as shipped
@@ -21,11 +22,12 @@ use Rattle.meta_fetcher.specs.Syncs.{SyncRun}
 use Rattle.meta_fetcher.specs.declared.sync_end.SyncEnd.{SyncEnd}
 use Rattle.meta_fetcher.specs.declared.sync_end.SyncEnd.TheVariants as fetched
 use Rattle.meta_fetcher.specs.declared.view.View.{View}
-use Rattle.store_gateway.specs.SeriesRuns.{Query as Question, SeriesRun}
-use Rattle.store_gateway.specs.declared.series_end.SeriesEnd.{SeriesEnd}
-use Rattle.store_gateway.specs.declared.series_end.SeriesEnd.TheVariants as called
+use Rattle.block_ranges.specs.Reads.{Cache, Query as Question}
+use Rattle.series_calls.specs.SeriesCalls.{CallEnd, SeriesRun, asking}
+use Rattle.series_calls.specs.declared.series_end.SeriesEnd.{SeriesEnd}
+use Rattle.series_calls.specs.declared.series_end.SeriesEnd.TheVariants as called
 use Rattle.querier.specs.declared.ask.Ask.{Ask}
-use Rattle.script_core.specs.Lawful.{IsLawfulScript}
+use Rattle.script_core.specs.Lawful.{IsLawfulScript, IsLawfulSelector}
 use Rattle.script_workers.specs.declared.work.Work.{Work}
 use Rattle.script_workers.specs.declared.work.Work.TheVariants.{Upload, Sync, Query}
 use Rattle.lifecycle_core.specs.Causes.{AreFaultsShown, AreUndamaged, AreWell, IsDamaged, IsFault, IsWell, SomeCame}
@@ -36,28 +38,29 @@ use Rattle.lifecycle_core.specs.Held.{held}
 use Rattle.lifecycle_core.specs.Holdings.{Holding, Use}
 use Rattle.lifecycle_core.specs.Phases.{IsInTurn, IsRunOf}
 use Rattle.lifecycle_core.specs.Setting.{Setting}
-use Rattle.lifecycle_core.specs.SyncsAndCalls.{IsViewOf}
+use Rattle.lifecycle_core.specs.SyncsAndCalls.{IsCallIn, IsViewOf}
 use Rattle.lifecycle_core.specs.TimeRules.{IsSyncedInTime}
-use Rattle.lifecycle_core.specs.Tasks.{End, PartTask, QueryTask, TaskRun, answered, ask_to, asks_in, not_asked, question_of, stopped, sync_rules, synced, uploaded, without_view}
-use Rattle.lifecycle_core.proofs.misses.Explaining.{honest_misses_nothing, misses_explained, parted, the_entry}
+use Rattle.lifecycle_core.specs.Tasks.{End, PartTask, QueryTask, TaskRun, answered, ask_to, asks_in, not_asked, question_of, refused, stopped, sync_rules, synced, uploaded, without_view}
+use Rattle.lifecycle_core.proofs.journals.Standing.{parted, the_entry}
+use Rattle.lifecycle_core.proofs.answers.RunCalls.{calls_find, honest_misses_nothing, misses_explained, ordered, puts_known, readable, rising, told, view_is_true}
+use Rattle.lifecycle_core.proofs.answers.EndsAreCalls.{Called, called_in, task_called}
 use Rattle.lifecycle_core.proofs.answers.Joining.{joined}
-use Rattle.lifecycle_core.proofs.answers.ExactAnswers.{answer_is_exact, calls_undamaged, sources_are}
+use Rattle.lifecycle_core.proofs.answers.ExactAnswers.{answer_is_exact, sources_are}
 use Rattle.lifecycle_core.proofs.phases.FirstPhases.{none_run}
 use Rattle.lifecycle_core.proofs.misses.Faults.{ShowsFault, call_shows, sync_shows, upload_shows}
 use Rattle.lifecycle_core.proofs.journals.Positions.{filtered, zip_right}
 use Rattle.lifecycle_core.proofs.views.FewNames.{none_found_many}
 use Rattle.lifecycle_core.proofs.views.ViewsThere.{views_are_there}
-use Rattle.lifecycle_core.proofs.blocks.Readable.{is_readable}
 use Rattle.lifecycle_core.proofs.phases.TasksMade.{IsMadeBy, answers_are_made, ends_are_made}
-use Rattle.lifecycle_core.proofs.journals.Telling.{all_told, journal_rises}
-use Rattle.lifecycle_core.proofs.journals.TellingPuts.{PutsShipped, puts_are_shipped}
-use Rattle.lifecycle_core.proofs.journals.Told.{IsMade, IsOrigin, IsReadable, IsTold, IsTrueView, Rises}
+use Rattle.lifecycle_core.proofs.journals.Telling.{journal_rises}
+use Rattle.lifecycle_core.proofs.journals.Told.{IsMade, IsTrueView, Rises}
 use Rattle.lifecycle_core.proofs.phases.PhaseRuns.{all_zip}
-use Rattle.lifecycle_core.proofs.phases.GatewayParts.{one_ask, part_ends}
+use Rattle.lifecycle_core.proofs.phases.GatewayParts.{one_ask, part_ends, query_is}
+use Rattle.lifecycle_core.proofs.phases.ShipEnds.{ship_end}
 use Rattle.vertical_merge.specs.Merged.{IsDeduplication}
 use Rattle.label_sets.specs.Triples.{triples_of}
 use Rattle.script_core.specs.Workers.{workers_of}
-use Rattle.lifecycle_core.proofs.views.TrueViews.{origin_is_true, syncs_undamaged}
+use Rattle.lifecycle_core.proofs.views.TrueViews.{syncs_undamaged}
 
 -- ---- failed calls
 
@@ -78,32 +81,37 @@ call_fault used (called.Missing n) number is = absurd is
 call_fault used (called.Damaged n) number is = absurd is
 call_fault used (called.Fault n) number is = ap called.Fault is
 
-query_shows : (used : Option Use) (asked : Option Question) (entries : List Entry) (end : End) (number : ℕ) → QueryTask used asked entries (Some end) → IsFault end number → ShowsFault entries number
-query_shows None asked entries end number (nil, inl none) is = absurd (cc (none))
-query_shows None asked entries end number (nil, inr same) is = let e : end ≡ without_view = cc (same) in absurd (subst (λ (x : End). IsFault x number) e is)
-query_shows (Some used) None entries end number run is = absurd run
-query_shows (Some used) (Some asked) entries end number (None, run, same) is = absurd (cc (same))
-query_shows (Some used) (Some asked) entries end number (Some own, run, same) is =
-    let e : end ≡ answered used own = cc (same) in
-    call_shows used.view asked entries (Some own) run number (ap (λ x. Some x) (call_fault used own number (subst (λ (x : End). IsFault x number) e is)))
+call_end_shows : (from : Use) (question : Question) (cache : Cache) (entries : List Entry) (own : Option CallEnd) (end : End) (number : ℕ) → SeriesRun from.view question cache entries own → Some end ≡ option_map (λ (call : CallEnd). answered from call.end) own → IsFault end number
+    → ShowsFault entries number
+call_end_shows from question cache entries None end number run same is = absurd (cc (same))
+call_end_shows from question cache entries (Some own) end number run same is =
+    let e : end ≡ answered from own.end = cc (same) in
+    call_shows from.view question cache entries own run number (call_fault from own.end number (subst (λ (x : End). IsFault x number) e is))
 
-part_shows : (setting : Setting) (selector : ℕ) (ask : Option Ask) (used : Option Use) (entries : List Entry) (end : End) (number : ℕ) → PartTask setting selector ask used entries (Some end) → IsFault end number → ShowsFault entries number
-part_shows setting selector None used entries end number (nil, inl none) is = absurd (cc (none))
-part_shows setting selector None used entries end number (nil, inr same) is = let e : end ≡ not_asked = cc (same) in absurd (subst (λ (x : End). IsFault x number) e is)
-part_shows setting selector (Some ask) used entries end number run is = query_shows used (question_of setting selector ask) entries end number run is
+query_shows : (used : Option Use) (asked : Option Question) (before after : Holding) (entries : List Entry) (end : End) (number : ℕ) → QueryTask used asked before entries (Some end) after → IsFault end number → ShowsFault entries number
+query_shows used asked before after entries end number run is = elim (query_is used asked before entries (Some end) after run) [
+  | inl none ↦ not_faulty end without_view number none.0.1 (λ f. f) is
+  | inr call ↦ call_end_shows call.from call.question before.cache entries call.own end number call.run call.came is
+]
+  where
+    not_faulty : (end own : End) (number : ℕ) → (Some end ≡ None) ⊎ (Some end ≡ Some own) → ¬ IsFault own number → IsFault end number → ShowsFault entries number
+    not_faulty end own number (inl none) clear is = absurd (cc (none))
+    not_faulty end own number (inr same) clear is = let e : end ≡ own = cc (same) in absurd (clear (subst (λ (x : End). IsFault x number) e is))
+
+part_shows : (setting : Setting) (selector : ℕ) (ask : Option Ask) (before after : Holding) (entries : List Entry) (end : End) (number : ℕ) → PartTask setting selector ask before entries (Some end) after → IsFault end number → ShowsFault entries number
+part_shows setting selector None before after entries end number ((nil, inl none), left) is = absurd (cc (none))
+part_shows setting selector None before after entries end number ((nil, inr same), left) is = let e : end ≡ not_asked = cc (same) in absurd (subst (λ (x : End). IsFault x number) e is)
+part_shows setting selector (Some ask) before after entries end number run is = query_shows before.used (question_of setting selector ask) before after entries end number run is
 
 task_shows : (setting : Setting) (who : Who) (place : ℕ) (w : Work) (held after : Holding) (entries : List Entry) (end : End) (number : ℕ) → TaskRun setting who place w held entries (Some end) after → IsFault end number → ShowsFault entries number
-task_shows setting who place (Upload ulid stop) held after entries end number ((block, declared_is, (objects, None, ships, run, inl (same, early))), left) is = absurd (cc (same))
-task_shows setting who place (Upload ulid stop) held after entries end number ((block, declared_is, (objects, Some own, ships, run, inl (same, early))), left) is =
-    let e : end ≡ uploaded own = cc (same) in
-    upload_shows _ objects entries (Some own) run number (ap (λ x. Some x) (upload_fault own number (subst (λ (x : End). IsFault x number) e is)))
-task_shows setting who place (Upload ulid stop) held after entries end number ((block, declared_is, (objects, own, ships, run, inr (n, reached, same))), left) is =
-    let e : end ≡ stopped n = cc (same) in absurd (subst (λ (x : End). IsFault x number) e is)
+task_shows setting who place (Upload ulid stop) held after entries end number ((block, declared_is, ships), left) is =
+    ship_end (λ (x : End). IsFault x number → ShowsFault entries number) setting block stop entries end
+    (λ objects own run is. upload_shows block.ulid objects entries (Some own) run number (ap (λ (x : UploadEnd). Some x) (upload_fault own number is))) (λ cause is. absurd is) (λ n is. absurd is) ships is
 task_shows setting who place (Sync gateway) held after entries end number (None, run, same, left) is = absurd (cc (same))
 task_shows setting who place (Sync gateway) held after entries end number (Some own, run, same, left) is =
     let e : end ≡ synced own = cc (same) in
     sync_shows (sync_rules setting gateway) entries (Some own) run number (ap (λ x. Some x) (sync_fault own number (subst (λ (x : End). IsFault x number) e is)))
-task_shows setting who place (Query low high selector) held after entries end number (run, left) is = part_shows setting selector (ask_to setting who.gateway low high) held.used entries end number run is
+task_shows setting who place (Query low high selector) held after entries end number run is = part_shows setting selector (ask_to setting who.gateway low high) held after entries end number run is
 
 shown_at : (journal : List Entry) (number : ℕ) → IsNumbered journal → (e : Entry) → Contains journal e → e.seq ≡ number → entry_at journal number ≡ Some e
 shown_at journal number numbered e among is =
@@ -135,38 +143,38 @@ none_failed journal number none (e, among, is, failed) =
 
 -- ---- damage
 
-query_undamaged : (view : Option Use) (asked : Option Question) (entries : List Entry) (end : End)
-    → ((used : Use) → view ≡ Some used → (q : Question) (number : ℕ) → ¬ SeriesRun used.view q entries (Some (called.Damaged number)))
-    → QueryTask view asked entries (Some end) → ¬ IsDamaged end
-query_undamaged None asked entries end calls (nil, inl none) is = absurd (cc (none))
-query_undamaged None asked entries end calls (nil, inr same) is = let e : end ≡ without_view = cc (same) in subst IsDamaged e is
-query_undamaged (Some used) None entries end calls run is = absurd run
-query_undamaged (Some used) (Some asked) entries end calls (None, run, same) is = absurd (cc (same))
-query_undamaged (Some used) (Some asked) entries end calls (Some (called.Answer series sources), run, same) is = let e : end ≡ answered used (called.Answer series sources) = cc (same) in subst IsDamaged e is
-query_undamaged (Some used) (Some asked) entries end calls (Some (called.Missing n), run, same) is = let e : end ≡ answered used (called.Missing n) = cc (same) in subst IsDamaged e is
-query_undamaged (Some used) (Some asked) entries end calls (Some (called.Fault n), run, same) is = let e : end ≡ answered used (called.Fault n) = cc (same) in subst IsDamaged e is
-query_undamaged (Some used) (Some asked) entries end calls (Some (called.Damaged n), run, same) is = calls used refl asked n run
+-- a sync's end comes of a sync
+synced_by : (setting : Setting) (who : Who) (place : ℕ) (w : Work) (held after : Holding) (entries : List Entry) (own : SyncEnd) → TaskRun setting who place w held entries (Some (synced own)) after → (gateway : ℕ) × SyncRun (sync_rules setting gateway) entries (Some own)
+synced_by setting who place (Upload ulid stop) held after entries own ((block, is, ships), left) =
+    absurd (ship_end (λ (x : End). x ≡ synced own → ⊥) setting block stop entries (synced own) (λ objects end run same. cc (same)) (λ cause same. cc (same)) (λ n same. cc (same)) ships (λ i. synced own))
+synced_by setting who place (Sync gateway) held after entries own (None, run, same, left) = absurd (cc (same))
+synced_by setting who place (Sync gateway) held after entries own (Some e, run, same, left) =
+    let one : e ≡ own = cc (same) in (gateway, subst (λ (x : SyncEnd). SyncRun (sync_rules setting gateway) entries (Some x)) one run)
+synced_by setting who place (Query low high selector) held after entries own run =
+    let part = part_ends setting selector (ask_to setting who.gateway low high) held after entries (synced own) (λ off. cc (off)) run in
+    absurd (elim (query_is held.used (question_of setting selector part.0) held entries (Some (synced own)) after part.2) [
+      | inl none ↦ elim none.0.1 [ inl off ↦ cc (off) | inr same ↦ cc (same) ]
+      | inr call ↦ no_call call.from call.own call.came
+    ])
+  where
+    no_call : (from : Use) (call : Option CallEnd) → Some (synced own) ≡ option_map (λ (c : CallEnd). answered from c.end) call → ⊥
+    no_call from None is = cc (is)
+    no_call from (Some call) is = cc (is)
 
-part_undamaged : (setting : Setting) (selector : ℕ) (ask : Option Ask) (view : Option Use) (entries : List Entry) (end : End)
-    → ((used : Use) → view ≡ Some used → (q : Question) (number : ℕ) → ¬ SeriesRun used.view q entries (Some (called.Damaged number)))
-    → PartTask setting selector ask view entries (Some end) → ¬ IsDamaged end
-part_undamaged setting selector None view entries end calls (nil, inl none) is = absurd (cc (none))
-part_undamaged setting selector None view entries end calls (nil, inr same) is = let e : end ≡ not_asked = cc (same) in subst IsDamaged e is
-part_undamaged setting selector (Some ask) view entries end calls run is = query_undamaged view (question_of setting selector ask) entries end calls run is
-
-task_undamaged : (setting : Setting) (who : Who) (place : ℕ) (w : Work) (held after : Holding) (entries : List Entry) (end : End)
-    → ((gateway number : ℕ) → ¬ SyncRun (sync_rules setting gateway) entries (Some (fetched.Damaged number)))
-    → ((used : Use) → held.used ≡ Some used → (q : Question) (number : ℕ) → ¬ SeriesRun used.view q entries (Some (called.Damaged number)))
-    → TaskRun setting who place w held entries (Some end) after → ¬ IsDamaged end
-task_undamaged setting who place (Upload ulid stop) held after entries end syncs calls ((block, declared_is, (objects, None, ships, run, inl (same, early))), left) is = cc (same)
-task_undamaged setting who place (Upload ulid stop) held after entries end syncs calls ((block, declared_is, (objects, Some own, ships, run, inl (same, early))), left) is = let e : end ≡ uploaded own = cc (same) in subst IsDamaged e is
-task_undamaged setting who place (Upload ulid stop) held after entries end syncs calls ((block, declared_is, (objects, own, ships, run, inr (n, reached, same))), left) is = let e : end ≡ stopped n = cc (same) in subst IsDamaged e is
-task_undamaged setting who place (Sync gateway) held after entries end syncs calls (None, run, same, left) is = cc (same)
-task_undamaged setting who place (Sync gateway) held after entries end syncs calls (Some (fetched.View v), run, same, left) is = let e : end ≡ synced (fetched.View v) = cc (same) in subst IsDamaged e is
-task_undamaged setting who place (Sync gateway) held after entries end syncs calls (Some (fetched.Fault n), run, same, left) is = let e : end ≡ synced (fetched.Fault n) = cc (same) in subst IsDamaged e is
-task_undamaged setting who place (Sync gateway) held after entries end syncs calls (Some fetched.TooMany, run, same, left) is = let e : end ≡ synced fetched.TooMany = cc (same) in subst IsDamaged e is
-task_undamaged setting who place (Sync gateway) held after entries end syncs calls (Some (fetched.Damaged n), run, same, left) is = syncs gateway n run
-task_undamaged setting who place (Query low high selector) held after entries end syncs calls (run, left) is = part_undamaged setting selector (ask_to setting who.gateway low high) held.used entries end calls run is
+damaged_by : (end : End) → ((number : ℕ) → end ≢ synced (fetched.Damaged number)) → ((used : Use) (number : ℕ) → end ≢ answered used (called.Damaged number)) → ¬ IsDamaged end
+damaged_by (uploaded own) syncs calls is = is
+damaged_by (synced (fetched.View view)) syncs calls is = is
+damaged_by (synced (fetched.Fault entry)) syncs calls is = is
+damaged_by (synced (fetched.Damaged entry)) syncs calls is = syncs entry refl
+damaged_by (synced fetched.TooMany) syncs calls is = is
+damaged_by (answered used (called.Answer series sources)) syncs calls is = is
+damaged_by (answered used (called.Missing entry)) syncs calls is = is
+damaged_by (answered used (called.Damaged entry)) syncs calls is = calls used entry refl
+damaged_by (answered used (called.Fault entry)) syncs calls is = is
+damaged_by without_view syncs calls is = is
+damaged_by not_asked syncs calls is = is
+damaged_by (refused cause) syncs calls is = is
+damaged_by (stopped count) syncs calls is = is
 
 -- ---- every end is well
 
@@ -184,65 +192,24 @@ well (answered used (called.Damaged n)) faults damaged missing few there = absur
 well (answered used (called.Fault n)) faults damaged missing few there = absurd (faults n refl)
 well without_view faults damaged missing few there = absurd (there refl)
 well not_asked faults damaged missing few there = tt
+well (refused cause) faults damaged missing few there = tt
 well (stopped n) faults damaged missing few there = tt
-
--- ---- an answer
-
--- the series call behind an answer, and the selector that it was asked for
-pub record Called (setting : Setting) (view : Option Use) (entries : List Entry) (used : Use) (series : List Series) (sources : List ℕ) (low high : ℤ) (selector : List Matcher) : Type 0 where
-  pub is : view ≡ Some used
-  pub run : SeriesRun used.view (record { selector = selector; replicas = setting.script.rules.replicas; low = low; high = high }) entries (Some (called.Answer series sources))
-
-query_called : (setting : Setting) (view : Option Use) (low high : ℤ) (o : Option (List Matcher)) (entries : List Entry) (used : Use) (series : List Series) (sources : List ℕ) (selector : List Matcher) → o ≡ Some selector
-    → QueryTask view (option_map (λ matchers. record { selector = matchers; replicas = setting.script.rules.replicas; low = low; high = high }) o) entries (Some (answered used (called.Answer series sources)))
-    → Called setting view entries used series sources low high selector
-query_called setting None low high o entries used series sources selector selects (nil, inl none) = absurd (cc (none))
-query_called setting None low high o entries used series sources selector selects (nil, inr same) = absurd (cc (same))
-query_called setting (Some own) low high None entries used series sources selector selects run = absurd run
-query_called setting (Some own) low high (Some matchers) entries used series sources selector selects (None, run, same) = absurd (cc (same))
-query_called setting (Some own) low high (Some matchers) entries used series sources selector selects (Some ended, run, same) =
-    let one : own ≡ used = cc (same) in
-    let two : ended ≡ called.Answer series sources = cc (same) in
-    let three : matchers ≡ selector = cc (selects) in
-    record {
-      is = ap (λ x. Some x) one;
-      run = subst (λ (u : Use). SeriesRun u.view (record { selector = selector; replicas = setting.script.rules.replicas; low = low; high = high }) entries (Some (called.Answer series sources))) one
-          (subst (λ (m : List Matcher). SeriesRun own.view (record { selector = m; replicas = setting.script.rules.replicas; low = low; high = high }) entries (Some (called.Answer series sources))) three
-          (subst (λ (x : SeriesEnd). SeriesRun own.view (record { selector = matchers; replicas = setting.script.rules.replicas; low = low; high = high }) entries (Some x)) two run));
-    }
-
-pub task_called : (setting : Setting) (who : Who) (place : ℕ) (w : Work) (held after : Holding) (entries : List Entry) (used : Use) (series : List Series) (sources : List ℕ) (low high : ℤ) (number : ℕ) (selector : List Matcher)
-    → w ≡ Query low high number → slice_get setting.script.selectors number ≡ Some selector → TaskRun setting who place w held entries (Some (answered used (called.Answer series sources))) after
-    → (ask : Ask) × (ask_to setting who.gateway low high ≡ Some ask) × Called setting held.used entries used series sources ask.low ask.high selector
-task_called setting who place w held after entries used series sources low high number selector is selects run =
-    let by = (subst (λ (x : Work). TaskRun setting who place x held entries (Some (answered used (called.Answer series sources))) after) is run).0 in
-    let part = part_ends setting number (ask_to setting who.gateway low high) held.used entries (answered used (called.Answer series sources)) (λ no. cc (no)) by in
-    (part.0, part.1, query_called setting held.used part.0.low part.0.high (slice_get setting.script.selectors number) entries used series sources selector selects part.2)
 
 -- ---- an honest journal
 
 module _ (setting : Setting) (journal : List Entry) (ends : List (List (List End))) (lawful : IsLawfulScript setting.script) (run : IsRunOf setting journal ends) (honest : IsHonest journal) where
-  abbrev rising : Rises journal
-  rising = journal_rises setting.script.rules.tick.ms journal run.kept
-
-  readable : IsReadable setting
-  readable = is_readable setting lawful
-
-  told : All (IsTold setting journal) journal
-  told = all_told setting journal ends lawful readable run honest
-
-  puts_known : All (PutsShipped setting) journal
-  puts_known = puts_are_shipped setting journal ends run
-
-  view_is_true : (used : Use) (origin : IsOrigin setting journal used) → IsTrueView setting journal origin.gateway used
-  view_is_true used origin = origin_is_true setting journal used readable rising puts_known told origin
+  abbrev known_rises : Rises journal
+  known_rises = rising setting journal ends lawful run
 
   undamaged : AreUndamaged ends
   undamaged end came =
-      let made = ends_are_made setting journal ends rising run end came in
+      damaged_by end
+      (λ number is.
+      let made = ends_are_made setting journal ends known_rises run (synced (fetched.Damaged number)) (subst (SomeCame ends) is came) in
       let m = made.1 in
-      task_undamaged setting m.who m.place (made.0).work m.held m.after m.entries end (λ gateway number. syncs_undamaged setting gateway journal m.entries number lawful readable told m.part)
-      (λ used is q number. calls_undamaged setting journal m.entries used.view q number readable told m.part (view_is_true used (m.origin used is)).kept) m.run
+      let own = synced_by setting m.who m.place (made.0).work m.held m.after m.entries (fetched.Damaged number) m.run in
+      syncs_undamaged setting own.0 journal m.entries number lawful (readable setting journal ends lawful run) (told setting journal ends lawful run honest) m.part own.1)
+      (λ used number is. (calls_find setting journal ends lawful run honest used (called.Damaged number) number (subst (SomeCame ends) is came)).1 refl)
 
   module _ (query : Answered) (given : IsGiven setting ends query) where
     abbrev Part : Named → List Series → Type 0
@@ -251,7 +218,7 @@ module _ (setting : Setting) (journal : List Entry) (ends : List (List (List End
     -- one gateway's part
     module _ (named : Named) (series : List Series) (among : Contains query.named named) (part : Part named series) where
       made_by : IsMadeBy setting journal (who_of part.worker) given.task (answered named.used (called.Answer series named.sources))
-      made_by = answers_are_made setting journal ends rising run given.phase_number given.phase given.phase_ends (Some named.gateway) given.place given.task
+      made_by = answers_are_made setting journal ends known_rises run given.phase_number given.phase given.phase_ends (Some named.gateway) given.place given.task
           (answered named.used (called.Answer series named.sources)) given.in_phases given.in_tasks given.phase_came part
 
       abbrev made : IsMade setting journal given.task (answered named.used (called.Answer series named.sources))
@@ -261,23 +228,29 @@ module _ (setting : Setting) (journal : List Entry) (ends : List (List (List End
       by_gateway = ap (λ (who : Who). who.gateway) made_by.1 ∙ part.is
 
       -- the call is for the times that are named
-      the_call : Called setting made.held.used made.entries named.used series named.sources named.low named.high query.selector
+      the_call : Called setting made.held made.entries named.used (called.Answer series named.sources) named.low named.high query.selector
       the_call =
-          let call = task_called setting made.who made.place given.task.work made.held made.after made.entries named.used series named.sources given.low given.high given.selector_number query.selector given.asks given.selects made.run in
+          let end = called.Answer series named.sources in
+          let call = task_called setting made.who made.place given.task.work made.held made.after made.entries named.used end given.low given.high given.selector_number query.selector given.asks given.selects made.run in
           let asks : Contains (asks_in setting given.low given.high) (ask_by named) = subst (λ (l : List Ask). Contains l (ask_by named)) given.every (into_map ask_by query.named named among) in
           let found : ask_to setting (Some named.gateway) given.low given.high ≡ Some call.0 = ap (λ (o : Option ℕ). ask_to setting o given.low given.high) (sym by_gateway) ∙ call.1 in
           let same : call.0 ≡ ask_by named = one_ask setting named.gateway given.low given.high call.0 (ask_by named) found asks refl in
-          subst (λ (ask : Ask). Called setting made.held.used made.entries named.used series named.sources ask.low ask.high query.selector) same call.2
+          subst (λ (ask : Ask). Called setting made.held made.entries named.used end ask.low ask.high query.selector) same call.2
+
+      in_journal : IsCallIn journal named.used (asking query.selector setting.script.rules.replicas named.low named.high) made.entries (Some (called.Answer series named.sources))
+      in_journal = called_in setting journal named.used (called.Answer series named.sources) made named.low named.high query.selector the_call
 
       -- the view is of a sync by its own gateway's rules
       view : IsTrueView setting journal named.gateway named.used
-      view = subst (λ (gateway : ℕ). IsTrueView setting journal gateway named.used) (made.same named.used the_call.is named.gateway by_gateway) (view_is_true named.used (made.origin named.used the_call.is))
+      view = subst (λ (gateway : ℕ). IsTrueView setting journal gateway named.used) (made.same named.used the_call.is named.gateway by_gateway) (view_is_true setting journal ends lawful run honest named.used (made.origin named.used the_call.is))
 
-      part_exact : IsDeduplication (triples_of series) (asked_of setting query.selector named)
-      part_exact = answer_is_exact setting journal made.entries named.used.view query.selector named.low named.high series named.sources lawful readable told made.part view.kept the_call.run
+      part_exact : named_replicas setting.script.rules.replicas query.selector ≡ [] → IsDeduplication (triples_of series) (asked_of setting query.selector named)
+      part_exact unnamed =
+          answer_is_exact setting journal (readable setting journal ends lawful run) run.kept (puts_known setting journal ends lawful run) (ordered setting journal ends lawful run) honest lawful
+          named.used made.entries query.selector named.low named.high series named.sources unnamed in_journal view.kept view.uploaded
 
       named_by : (ulid : ℕ) → Contains named.sources ulid ↔ ((found : Found) × Contains named.used.view.kept found × (found.ulid ≡ ulid))
-      named_by = sources_are setting journal made.entries named.used.view (record { selector = query.selector; replicas = setting.script.rules.replicas; low = named.low; high = named.high }) series named.sources readable told made.part view.kept the_call.run
+      named_by = sources_are setting journal made.entries named.used (asking query.selector setting.script.rules.replicas named.low named.high) series named.sources view.kept in_journal
 
       part_names : All (λ ulid. IsUploadedBefore setting journal ulid named.used.last) named.sources
       part_names = λ k d below.
@@ -288,9 +261,14 @@ module _ (setting : Setting) (journal : List Entry) (ends : List (List (List End
       part_covers : NamesAll setting journal named
       part_covers ulid settled = (named_by ulid).1 (view.settled ulid settled)
 
+    of_selector : named_replicas setting.script.rules.replicas query.selector ≡ []
+    of_selector =
+        (All-contains (IsLawfulSelector setting.script.rules.replicas) setting.script.selectors query.selector lawful.selectors
+        (contains_place setting.script.selectors given.selector_number query.selector given.selects)).1.no_replica
+
     all_exact : AllZip (λ n series. IsDeduplication (triples_of series) (asked_of setting query.selector n)) query.named given.parts
     all_exact =
-        all_zip (Contains query.named) Part (λ n series. IsDeduplication (triples_of series) (asked_of setting query.selector n)) part_exact query.named given.parts
+        all_zip (Contains query.named) Part (λ n series. IsDeduplication (triples_of series) (asked_of setting query.selector n)) (λ n series among part. part_exact n series among part of_selector) query.named given.parts
         (all_members (Contains query.named) query.named (λ n among. among)) given.given
 
     exact : IsExact setting query
@@ -322,7 +300,7 @@ module _ (setting : Setting) (journal : List Entry) (ends : List (List (List End
     is_sound = record { exact = exact; named = names; covered = λ uploaded. in_time }
 
   few : ¬ SomeCame ends (synced fetched.TooMany)
-  few = none_found_many setting journal ends lawful readable rising told run
+  few = none_found_many setting journal ends lawful (readable setting journal ends lawful run) known_rises (told setting journal ends lawful run honest) run
 
   no_fault : failed_count journal ≡ 0 → (end : End) → SomeCame ends end → (number : ℕ) → ¬ IsFault end number
   no_fault none end came number fault = none_failed journal number none (fault_among setting journal ends run end number came fault)
@@ -333,7 +311,7 @@ module _ (setting : Setting) (journal : List Entry) (ends : List (List (List End
   views_given none (fetched.Damaged n) came = absurd (undamaged (synced (fetched.Damaged n)) came tt)
   views_given none fetched.TooMany came = absurd (few came)
 
-  complete : IsInTurn setting ends → failed_count journal ≡ 0 → AreWell ends
+  pub complete : IsInTurn setting ends → failed_count journal ≡ 0 → AreWell ends
   complete turns none end came =
       well end (no_fault none end came) (undamaged end came)
       (λ used number is. honest_misses_nothing setting journal ends lawful run honest (answered used (called.Missing number)) number (subst (SomeCame ends) is came) refl)
@@ -341,9 +319,9 @@ module _ (setting : Setting) (journal : List Entry) (ends : List (List (List End
       (λ is. views_are_there setting journal ends lawful turns run (views_given none) (subst (SomeCame ends) is came))
 
 -- in every run of a lawful script
-pub all_guaranteed : (setting : Setting) (journal : List Entry) (ends : List (List (List End))) → IsLawfulScript setting.script → IsRunOf setting journal ends → IsGuaranteed setting journal ends
-all_guaranteed setting journal ends lawful run = record {
-  explained = misses_explained setting journal ends lawful run;
+pub all_guaranteed : (setting : Setting) (journal : List Entry) (ends : List (List (List End))) → IsLawfulScript setting.script → IsRunOf setting journal ends → IsOfBytes journal → IsGuaranteed setting journal ends
+all_guaranteed setting journal ends lawful run of_bytes = record {
+  explained = misses_explained setting journal ends lawful run of_bytes;
   faults = faults_shown setting journal ends run;
   undamaged = λ honest. undamaged setting journal ends lawful run honest;
   sound = λ honest query given. is_sound setting journal ends lawful run honest query given;

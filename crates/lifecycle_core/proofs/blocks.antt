@@ -1,6 +1,6 @@
--- That the objects of a declared block are read as that block.
 pub mod Declared
 pub mod Objects
-pub mod SegmentsAgain
-pub mod MetasAgain
+pub mod Whole
+pub mod InlineBlocks
+pub mod OneShipped
 pub mod Readable

@@ -10,5 +10,7 @@ pub mod OneViewAt
 pub mod OneBreach
 pub mod Told
 pub mod RunEntries
+pub mod InOrder
+pub mod Standing
 pub mod TellingPuts
 pub mod Telling

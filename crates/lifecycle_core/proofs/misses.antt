@@ -1,5 +1,4 @@
 -- What gateways read, why a series call misses an object, and which entry shows a failed call.
 pub mod GatewayEntries
-pub mod Misses
-pub mod Explaining
 pub mod Faults
+pub mod Lying

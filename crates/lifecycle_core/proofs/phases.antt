@@ -5,6 +5,7 @@ pub mod Seats
 pub mod OneSeat
 pub mod Duties
 pub mod GatewayParts
+pub mod ShipEnds
 pub mod TaskRuns
 pub mod HandLists
 pub mod Places

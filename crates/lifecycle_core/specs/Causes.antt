@@ -8,10 +8,10 @@ use Rattle.world_core.specs.declared.entry.Entry.{Entry}
 use Rattle.world_core.specs.declared.reply.Reply.TheVariants.{Absent}
 use Rattle.shipper.specs.declared.upload_end.UploadEnd.TheVariants as shipped
 use Rattle.meta_fetcher.specs.declared.sync_end.SyncEnd.TheVariants as fetched
-use Rattle.store_gateway.specs.declared.series_end.SeriesEnd.TheVariants as called
+use Rattle.series_calls.specs.declared.series_end.SeriesEnd.TheVariants as called
 use Rattle.lifecycle_core.specs.Setting.{Setting}
 use Rattle.lifecycle_core.specs.Breaches.{Rule, honesty, upload_time, mark_time, sync_time, view_time, RefusesUnder, Watch, read_key, watched}
-use Rattle.lifecycle_core.specs.Tasks.{End, uploaded, synced, answered, not_asked, without_view, stopped}
+use Rattle.lifecycle_core.specs.Tasks.{End, uploaded, synced, answered, not_asked, refused, without_view, stopped}
 use Rattle.lifecycle_core.specs.TimeRules.{PutsMark, PutsObject}
 
 -- some worker came to this end
@@ -62,6 +62,7 @@ IsMissing (answered used (called.Damaged entry)) number = ⊥
 IsMissing (answered used (called.Fault entry)) number = ⊥
 IsMissing without_view number = ⊥
 IsMissing not_asked number = ⊥
+IsMissing (refused cause) number = ⊥
 IsMissing (stopped count) number = ⊥
 
 -- Where a worker says that an object was missing, the journal shows why.
@@ -87,6 +88,7 @@ IsDamaged (answered used (called.Damaged entry)) = Unit {0}
 IsDamaged (answered used (called.Fault entry)) = ⊥
 IsDamaged without_view = ⊥
 IsDamaged not_asked = ⊥
+IsDamaged (refused cause) = ⊥
 IsDamaged (stopped count) = ⊥
 
 -- no worker says that bytes or names were not of the form
@@ -108,6 +110,7 @@ IsFault (answered used (called.Damaged entry)) number = ⊥
 IsFault (answered used (called.Fault entry)) number = entry ≡ number
 IsFault without_view number = ⊥
 IsFault not_asked number = ⊥
+IsFault (refused cause) number = ⊥
 IsFault (stopped count) number = ⊥
 
 -- Where a worker says that a call failed, the entry that it names was answered so.
@@ -116,7 +119,7 @@ AreFaultsShown journal ends =
     (end : End) (number : ℕ) → SomeCame ends end → IsFault end number
     → (e : Entry) × (entry_at journal number ≡ Some e) × IsTrue (has_failed e.reply)
 
--- The task came to what it is for, or to the stop of its line.
+-- The task came to what it is for, or to the stop of its line, or its block is not shipped.
 abbrev pub IsWell : End → Type 0
 IsWell (uploaded (shipped.Done count)) = Unit {0}
 IsWell (uploaded shipped.Already) = Unit {0}
@@ -131,6 +134,7 @@ IsWell (answered used (called.Damaged entry)) = ⊥
 IsWell (answered used (called.Fault entry)) = ⊥
 IsWell without_view = ⊥
 IsWell not_asked = Unit {0}
+IsWell (refused cause) = Unit {0}
 IsWell (stopped count) = Unit {0}
 
 -- every task that came to its end came to such a one

@@ -1,5 +1,7 @@
 -- What gateways hold, as it goes from one of their tasks to the next.
-use Rattle.std.specs.Prelude.{ℕ, ◌==◌, Option, Some, None, if◌then◌else◌}
+use Rattle.std.specs.Prelude.{ℕ, ◌==◌, [], Option, Some, None, if◌then◌else◌}
+use Rattle.lru.specs.LruCache.{lru_cache}
+use Rattle.block_ranges.specs.Reads.{Cache}
 use Rattle.meta_fetcher.specs.declared.view.View.{View}
 
 -- a view, and the number of the last entry of the sync that gave it
@@ -11,9 +13,15 @@ pub record Use : Type 0 where
 pub record Holding : Type 0 where
   -- the view of its gateway's last sync that gave one
   pub used : Option Use
+  -- the ranges of objects that its gateway's calls kept
+  pub cache : Cache
+
+-- a cache has room for so many ranges
+abbrev pub empty_cache : Cache
+empty_cache = lru_cache [] 1024
 
 abbrev pub nothing_held : Holding
-nothing_held = record { used = None }
+nothing_held = record { used = None; cache = empty_cache }
 
 -- by a gateway's place
 abbrev pub Holdings : Type 0

@@ -1,13 +1,15 @@
 -- Which entries of a journal are a sync, and which are a gateway's call: by the journal alone, whoever made them.
-use Rattle.std.specs.Prelude.{◌≡◌, ◌<◌, ℕ, List, [], ◌++◌, All, Contains, Option, Some, None}
+use Rattle.std.specs.Prelude.{◌≡◌, ◌<◌, ℕ, List, [], ◌++◌, All, Contains, Option, Some, None, option_map}
 use Rattle.std.specs.List.{AllPairs}
 use Rattle.world_core.specs.declared.entry.Entry.{Entry}
 use Rattle.meta_fetcher.specs.Syncs.{SyncRun}
 use Rattle.meta_fetcher.specs.declared.rules.SyncRules.{SyncRules}
 use Rattle.meta_fetcher.specs.declared.sync_end.SyncEnd.{SyncEnd}
 use Rattle.meta_fetcher.specs.declared.sync_end.SyncEnd.TheVariants as fetched
-use Rattle.store_gateway.specs.SeriesRuns.{Query as Question, SeriesRun}
-use Rattle.store_gateway.specs.declared.series_end.SeriesEnd.{SeriesEnd}
+use Rattle.block_ranges.specs.Reads.{Cache, Query as Question}
+use Rattle.series_calls.specs.KeptRanges.{IsOfReads}
+use Rattle.series_calls.specs.SeriesCalls.{CallEnd, SeriesRun}
+use Rattle.series_calls.specs.declared.series_end.SeriesEnd.{SeriesEnd}
 use Rattle.lifecycle_core.specs.Conducts.{of_seat}
 use Rattle.lifecycle_core.specs.Holdings.{Use}
 use Rattle.lifecycle_core.specs.Tasks.{last_number}
@@ -29,10 +31,16 @@ pub record IsViewOf (rules : SyncRules) (journal : List Entry) (used : Use) (ent
   pub last : used.last ≡ last_number entries
 
 -- The entries are some of the journal's, in their order, all of them made after the sync that gave the view, and a call over that
--- view that came to this end.
+-- view that came to this end. What it had in its cache was read by entries that were made before all of them.
 pub record IsCallIn (journal : List Entry) (used : Use) (question : Question) (entries : List Entry)
     (end : Option SeriesEnd) : Type 0 where
   pub among : (e : Entry) → Contains entries e → Contains journal e
   pub rising : AllPairs (λ one other. one.seq < other.seq) entries
   pub later : All (λ e. used.last < e.seq) entries
-  pub run : SeriesRun used.view question entries end
+  pub cache : Cache
+  pub earlier : List Entry
+  pub known : All (λ one. Contains journal one × All (λ e. one.seq < e.seq) entries) earlier
+  pub cached : IsOfReads earlier cache
+  pub own : Option CallEnd
+  pub run : SeriesRun used.view question cache entries own
+  pub is : end ≡ option_map (λ call. call.end) own

@@ -12,9 +12,10 @@ use Rattle.meta_fetcher.specs.declared.rules.SyncRules.{SyncRules}
 use Rattle.meta_fetcher.specs.declared.sync_end.SyncEnd.{SyncEnd}
 use Rattle.meta_fetcher.specs.declared.sync_end.SyncEnd.TheVariants as sync
 use Rattle.meta_fetcher.specs.Syncs.{SyncRun}
-use Rattle.store_gateway.specs.declared.series_end.SeriesEnd.{SeriesEnd}
-use Rattle.store_gateway.specs.SeriesRuns.{Query as Question, SeriesRun, asking}
-use Rattle.lifecycle_core.specs.Shipped.{IsShipped}
+use Rattle.series_calls.specs.declared.series_end.SeriesEnd.{SeriesEnd}
+use Rattle.block_ranges.specs.Reads.{Query as Question}
+use Rattle.series_calls.specs.SeriesCalls.{CallEnd, SeriesRun, asking}
+use Rattle.lifecycle_core.specs.Shipped.{IsRefused, IsShipped}
 use Rattle.querier.specs.declared.ask.Ask.{Ask}
 use Rattle.querier.specs.Asks.{asks_of}
 use Rattle.script_core.specs.declared.block.Block.{Block}
@@ -35,6 +36,8 @@ pub data End : Type 0 where
   without_view : End
   -- a gateway's part of a query, where none of the query's times lie in its partition
   not_asked : End
+  -- an upload of a block that is not shipped, for a cause of this number
+  refused : ℕ → End
   -- stopped after so many operations, as the script asks
   stopped : ℕ → End
 
@@ -81,14 +84,25 @@ BlockUpload setting block stop entries end =
     × Runs (upload block.ulid objects) entries own
     × (((end ≡ option_map uploaded own) × IsBefore stop entries) ⊎ IsStop stop entries end)
 
+-- nothing is done, and a task comes to this end, unless it breaks off
+abbrev pub NothingDone : End → List Entry → Option End → Type 0
+NothingDone own entries end = (entries ≡ []) × ((end ≡ None) ⊎ (end ≡ Some own))
+
+-- A block that is not shipped is refused. One whose objects are not there yet is given up without an operation.
+abbrev pub ShipTask : Setting → Block → Option ℕ → List Entry → Option End → Type 0
+ShipTask setting block stop entries end =
+    BlockUpload setting block stop entries end
+    ⊎ (((cause : ℕ) × IsRefused setting block cause × NothingDone (refused cause) entries end)
+    ⊎ ((entries ≡ []) × (end ≡ None)))
+
 abbrev pub UploadTask : Setting → ℕ → Option ℕ → List Entry → Option End → Type 0
 UploadTask setting ulid stop entries end =
-    (block : Block) × (declared setting.script ulid ≡ Some block) × BlockUpload setting block stop entries end
+    (block : Block) × (declared setting.script ulid ≡ Some block) × ShipTask setting block stop entries end
 
 -- What a gateway holds after a sync: the view that the sync gave, and else what it held before.
 abbrev pub synced_with : Holding → List Entry → Option SyncEnd → Holding
 synced_with before entries (Some (sync.View view)) =
-    record { used = Some (record { view = view; last = last_number entries }) }
+    record { used = Some (record { view = view; last = last_number entries }); cache = before.cache }
 synced_with before entries (Some (sync.Fault entry)) = before
 synced_with before entries (Some (sync.Damaged entry)) = before
 synced_with before entries (Some sync.TooMany) = before
@@ -99,22 +113,28 @@ SyncTask setting gateway before entries end after =
     (own : Option SyncEnd) × SyncRun (sync_rules setting gateway) entries own
     × (end ≡ option_map synced own) × (after ≡ synced_with before entries own)
 
--- nothing is done, and a task comes to this end, unless it breaks off
-abbrev pub NothingDone : End → List Entry → Option End → Type 0
-NothingDone own entries end = (entries ≡ []) × ((end ≡ None) ⊎ (end ≡ Some own))
+-- What a gateway holds after a call: the cache as the call left it, and what it held before where the call was broken off.
+abbrev pub called_with : Holding → Option CallEnd → Holding
+called_with before (Some call) = record { used = before.used; cache = call.cache }
+called_with before None = before
+
+-- A call over a view, by the cache that the gateway holds.
+abbrev pub CallTask : Use → Question → Holding → List Entry → Option End → Holding → Type 0
+CallTask used asked before entries end after =
+    (own : Option CallEnd) × SeriesRun used.view asked before.cache entries own
+    × (end ≡ option_map (λ call. answered used call.end) own) × (after ≡ called_with before own)
 
 -- A gateway that has a view asks it; one that has none does nothing.
-abbrev pub QueryTask : Option Use → Option Question → List Entry → Option End → Type 0
-QueryTask None asked entries end = NothingDone without_view entries end
-QueryTask (Some used) None entries end = ⊥
-QueryTask (Some used) (Some asked) entries end =
-    (own : Option SeriesEnd) × SeriesRun used.view asked entries own
-    × (end ≡ option_map (answered used) own)
+abbrev pub QueryTask : Option Use → Option Question → Holding → List Entry → Option End → Holding → Type 0
+QueryTask None asked before entries end after = NothingDone without_view entries end × (after ≡ before)
+QueryTask (Some used) None before entries end after = ⊥
+QueryTask (Some used) (Some asked) before entries end after = CallTask used asked before entries end after
 
 -- A gateway's part of a query: every gateway has the task, also one that is not asked.
-abbrev pub PartTask : Setting → ℕ → Option Ask → Option Use → List Entry → Option End → Type 0
-PartTask setting selector None used entries end = NothingDone not_asked entries end
-PartTask setting selector (Some ask) used entries end = QueryTask used (question_of setting selector ask) entries end
+abbrev pub PartTask : Setting → ℕ → Option Ask → Holding → List Entry → Option End → Holding → Type 0
+PartTask setting selector None before entries end after = NothingDone not_asked entries end × (after ≡ before)
+PartTask setting selector (Some ask) before entries end after =
+    QueryTask before.used (question_of setting selector ask) before entries end after
 
 -- What a worker may do for the task at a place of its phase: from what it holds, its entries, its end, which is none where the
 -- run broke off, and what it holds then.
@@ -124,4 +144,4 @@ TaskRun setting who place (Upload ulid stop) before entries end after =
 TaskRun setting who place (Sync gateway) before entries end after =
     SyncTask setting gateway before entries end after
 TaskRun setting who place (Query low high selector) before entries end after =
-    PartTask setting selector (ask_to setting who.gateway low high) before.used entries end × (after ≡ before)
+    PartTask setting selector (ask_to setting who.gateway low high) before entries end after

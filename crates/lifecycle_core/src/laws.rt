@@ -1,6 +1,7 @@
-ghost use Rattle.std.specs.Prelude.{◌≡◌, ◌≢◌, ◌⊎◌, ◌↔◌, ◌<◌, ℕ, ℤ, List, [], ◌∷◌, ◌++◌, All, Contains, Option, Some, slice_get};
+ghost use Rattle.std.specs.Prelude.{◌≡◌, ◌≢◌, ◌↔◌, ◌<◌, ℕ, ℤ, List, [], ◌∷◌, ◌++◌, All, Contains, Option, Some, slice_get};
 ghost use Rattle.label_sets.specs.declared.series.Series.{Series};
 ghost use Rattle.matchers.specs.declared.matcher.Matcher.{Matcher};
+ghost use Rattle.matchers.specs.SelectorText.{named_replicas};
 ghost use Rattle.world_core.specs.Journals.{Each};
 ghost use Rattle.world_core.specs.Moments.{HasMoments};
 ghost use Rattle.world_core.specs.Standing.{IsHonest, Tells, stands};
@@ -14,13 +15,13 @@ ghost use Rattle.shipper.specs.Uploads.{upload};
 ghost use Rattle.shipper.specs.declared.upload_end.UploadEnd.{UploadEnd};
 ghost use Rattle.world_core.specs.Plans.{Runs};
 ghost use Rattle.block_keys.specs.declared.key.Key.{Key};
-ghost use Rattle.block_keys.specs.declared.key.Key.TheVariants.{Index, Segment};
 ghost use Rattle.block_keys.specs.declared.object.Object.{Object};
 ghost use Rattle.sync_filters.specs.declared.found.Found.{Found};
 ghost use Rattle.world_core.specs.declared.reply.Reply.TheVariants.{Absent};
-ghost use Rattle.store_gateway.specs.SeriesRuns.{Query as Question, SeriesRun, asking};
-ghost use Rattle.store_gateway.specs.declared.series_end.SeriesEnd.{SeriesEnd};
-ghost use Rattle.store_gateway.specs.declared.series_end.SeriesEnd.TheVariants as ended;
+ghost use Rattle.block_ranges.specs.Reads.{Cache, Query as Question};
+ghost use Rattle.series_calls.specs.SeriesCalls.{CallEnd, SeriesRun, asking};
+ghost use Rattle.series_calls.specs.declared.series_end.SeriesEnd.{SeriesEnd};
+ghost use Rattle.series_calls.specs.declared.series_end.SeriesEnd.TheVariants as ended;
 ghost use Rattle.script_workers.specs.declared.phase.Phase.{Phase};
 ghost use Rattle.querier.specs.declared.ask.Ask.{Ask};
 ghost use Rattle.lifecycle_core.specs.Setting.{Setting};
@@ -34,6 +35,7 @@ ghost use Rattle.lifecycle_core.specs.Completed.{IsSettled};
 ghost use Rattle.lifecycle_core.specs.Conducts.{CameTo};
 ghost use Rattle.lifecycle_core.specs.Guarantees.{Answered, IsGiven, IsGuaranteed, IsSoundCall, LeavesNoneOut};
 ghost use Rattle.lifecycle_core.specs.Holdings.{Use};
+ghost use Rattle.lifecycle_core.specs.Shipped.{IsShippedUnder};
 ghost use Rattle.lifecycle_core.specs.SyncsAndCalls.{IsCallIn, IsViewOf};
 ghost use Rattle.lifecycle_core.specs.InLine.{IsRunInLine};
 ghost use Rattle.lifecycle_core.specs.Phases.{IsFinished, IsInTurn, IsLawfulJournal, IsRunOf, by_workers};
@@ -70,11 +72,12 @@ pub fn lawful_journals_are_acting()
 {}
 
 /// A law: a call over the view of a sync that ended before it misses an object only where the journal shows why; and where the
-/// bucket is honest, the call is worth what is said. The journal is acting, and tells which entries are the sync and the call.
+/// bucket is honest, the call is worth what is said, for a selector that names no replica label. The journal is acting, and tells
+/// which entries are the sync and the call.
 pub fn calls_are_worth_it()
     ensures explained { (setting : Setting) (journal : List Entry) (gateway : ℕ) (used : Use)
         (sync entries : List Entry) (question : Question) (number : ℕ)
-        → IsLawfulScript setting.script → IsActing setting journal
+        → IsLawfulScript setting.script → IsActing setting journal → IsOfBytes journal
         → IsViewOf (sync_rules setting gateway) journal used sync
         → IsCallIn journal used question entries (Some (ended.Missing number))
         → IsExplainedUnder setting (watched_call used sync entries) journal number }
@@ -83,21 +86,21 @@ pub fn calls_are_worth_it()
         (end : Option SeriesEnd)
         → IsLawfulScript setting.script → IsActing setting journal
         → IsViewOf (sync_rules setting gateway) journal used sync → IsHonest journal
+        → named_replicas setting.script.rules.replicas selector ≡ []
         → IsCallIn journal used (asking selector setting.script.rules.replicas low high) entries end
         → IsSoundCall setting (watched_call used sync entries) journal (sync_rules setting gateway)
         used (asking selector setting.script.rules.replicas low high) end }
 {}
 
-/// A law: whoever reads the index or the first segment of a block that a view keeps, or a range of one, after the sync that gave the
+/// A law: whoever reads an object with which a block is shipped that a view keeps, or a range of one, after the sync that gave the
 /// view, and finds nothing, the journal shows why. It need not be a call's read.
 pub fn reads_of_kept_blocks_are_explained()
     ensures { (setting : Setting) (journal : List Entry) (gateway : ℕ) (used : Use)
         (sync : List Entry) (found : Found) (e : Entry) (key : Key)
-        → IsLawfulScript setting.script → IsActing setting journal
+        → IsLawfulScript setting.script → IsActing setting journal → IsOfBytes journal
         → IsViewOf (sync_rules setting gateway) journal used sync
         → Contains used.view.kept found → Contains journal e → used.last < e.seq
-        → read_key e.op ≡ Some key → (key ≡ Index found.ulid) ⊎ (key ≡ Segment found.ulid 1)
-        → e.reply ≡ Absent
+        → read_key e.op ≡ Some key → IsShippedUnder setting found.ulid key → e.reply ≡ Absent
         → IsExplainedUnder setting (watched_call used sync (e ∷ [])) journal e.seq }
 {}
 
@@ -115,8 +118,7 @@ pub fn calls_miss_nothing_while_nothing_deletes()
         → IsLawfulScript setting.script → IsActing setting journal
         → IsViewOf (sync_rules setting gateway) journal used sync → IsHonest journal
         → Contains used.view.kept found → Contains journal e → used.last < e.seq
-        → read_key e.op ≡ Some key → (key ≡ Index found.ulid) ⊎ (key ≡ Segment found.ulid 1)
-        → e.reply ≢ Absent }
+        → read_key e.op ≡ Some key → IsShippedUnder setting found.ulid key → e.reply ≢ Absent }
     ensures covered { (setting : Setting) (journal : List Entry) (gateway : ℕ) (used : Use)
         (sync entries : List Entry) (selector : List Matcher) (low high : ℤ)
         (series : List Series) (sources : List ℕ)
@@ -148,16 +150,17 @@ pub fn ends_are_calls()
         × All (λ e. e.seat ≡ came.worker.seat) entries }
 {}
 
-/// A law: the entries of an upload, of a sync or of a call tell its end, so that what is reported of it is told by the journal.
+/// A law: the entries of an upload or of a sync tell its end, and those of a call, with the cache before it, its end and the cache
+/// that it leaves. So what is reported of them is told by the journal.
 pub fn entries_tell_the_end()
     ensures upload { (ulid : ℕ) (objects : List Object) (entries : List Entry)
         (one other : UploadEnd) → Runs (upload ulid objects) entries (Some one)
         → Runs (upload ulid objects) entries (Some other) → one ≡ other }
     ensures sync { (rules : SyncRules) (entries : List Entry) (one other : SyncEnd)
         → SyncRun rules entries (Some one) → SyncRun rules entries (Some other) → one ≡ other }
-    ensures call { (view : View) (question : Question) (entries : List Entry)
-        (one other : SeriesEnd) → SeriesRun view question entries (Some one)
-        → SeriesRun view question entries (Some other) → one ≡ other }
+    ensures call { (view : View) (question : Question) (cache : Cache) (entries : List Entry)
+        (one other : CallEnd) → SeriesRun view question cache entries (Some one)
+        → SeriesRun view question cache entries (Some other) → one ≡ other }
 {}
 
 /// A law: a journal tells the ends of what was done. Two finished runs of one script that leave one journal came to the same ends;
@@ -194,7 +197,7 @@ pub fn fronts_are_lawful()
 /// A law: where a series call says that an object was missing, the journal shows why, whatever the bucket does.
 pub fn misses_are_explained()
     ensures { (setting : Setting) (journal : List Entry) (ends : List (List (List End)))
-        → IsLawfulScript setting.script → IsRunOf setting journal ends
+        → IsLawfulScript setting.script → IsRunOf setting journal ends → IsOfBytes journal
         → AreMissesExplained setting journal ends }
 {}
 
@@ -286,7 +289,7 @@ pub fn unbroken_journals_are_in_time()
 /// broken off.
 pub fn runs_are_guaranteed()
     ensures { (setting : Setting) (journal : List Entry) (ends : List (List (List End)))
-        → IsLawfulScript setting.script → IsRunOf setting journal ends
+        → IsLawfulScript setting.script → IsRunOf setting journal ends → IsOfBytes journal
         → IsGuaranteed setting journal ends }
 {}
 

@@ -1,6 +1,7 @@
 -- A calm call ends as asked, unless there is no memory.
-use Rattle.std.proofs.Common.{◌≡◌, ◌≢◌, ◌⊎◌, inl, inr, ℕ, Bool, true, List, [], ◌∷◌, Option, Some, None, Err, refl, sym, ap, subst}
+use Rattle.std.proofs.Common.{◌≡◌, ◌≢◌, ◌⊎◌, inl, inr, ℕ, true, false, List, [], ◌∷◌, Option, Some, None, Err, refl, sym, ap, subst}
 use Rattle.std.specs.Prelude.{IfSome, IsSomeAnd}
+use Rattle.std.proofs.lemmas.Bool.{true≢false}
 use Rattle.std.proofs.lemmas.List.Elements.{All-head}
 use Rattle.bucket_core.specs.Causes.{Rose}
 use Rattle.bucket_core.specs.Contents.{Contents, nothing}
@@ -17,7 +18,8 @@ use Rattle.lifecycle_core.specs.Setting.{Setting, setting_of}
 use Rattle.lifecycle_core.proofs.journals.UnbrokenHonest.{unbroken_is_honest}
 use Rattle.replay_cli.specs.Statuses.{number_of}
 use Rattle.replay_cli.specs.Kept.{IsHandedBack, IsTrueOfStore}
-use Rattle.replay_cli.specs.Verdicts.{Around, IsBegun, IsCalm, IsCaused, IsFullRun, IsSaid, IsTrusted, IsUnread, IsWholeRun, IsWorked, Saying, status_of}
+use Rattle.replay_cli.specs.Shippable.{RefusesNone}
+use Rattle.replay_cli.specs.Verdicts.{Around, IsAdded, IsBegun, IsCalm, IsCaused, IsFullRun, IsSaid, IsTrusted, IsUnread, IsWholeRun, IsWorked, Saying, TellsRefused, status_of, text_of}
 use Rattle.replay_cli.specs.declared.status.Status.{Status}
 use Rattle.replay_cli.specs.declared.verdict.Verdict.{Verdict}
 use Rattle.replay_cli.specs.declared.verdict.Verdict.TheVariants.{WordsRefused, SourceFault, ScriptRefused, SiteFault, NotEmpty, Full, Report, Checked, NoMemory}
@@ -27,11 +29,14 @@ use Rattle.replay_cli.proofs.CalmRuns.{calm_run}
 abbrev HasPatterns : Around → Type 0
 HasPatterns around = IsSomeAnd around.text (λ text. (number : ℕ) × HasPatternLine text number)
 
-abbrev IsGood : Around → Status → Type 0
-IsGood around status = (number_of status ≡ 0) ⊎ (number_of status ≡ 6) ⊎ ((number_of status ≡ 2) × HasPatterns around)
+abbrev IsGood : Around → Saying → Status → Type 0
+IsGood around saying status =
+    (number_of status ≡ 0) ⊎ (number_of status ≡ 6) ⊎ ((number_of status ≡ 2) × HasPatterns around)
+    ⊎ ((number_of status ≡ 5) × TellsRefused around saying)
 
-said_well : (around : Around) (verdict : Verdict) (saying : Saying) (status : Status) → ¬ Rose saying.faults_before saying.faults_after → IsGood around (status_of verdict) → IsSaid verdict saying status → IsGood around status
-said_well around verdict saying status sink good (inl (is, added)) = subst (IsGood around) (sym is) good
+said_well : (around : Around) (verdict : Verdict) (saying : Saying) (status : Status) → ¬ Rose saying.faults_before saying.faults_after
+    → (IsAdded (text_of verdict) saying → IsGood around saying (status_of verdict)) → IsSaid verdict saying status → IsGood around saying status
+said_well around verdict saying status sink good (inl (is, added)) = subst (IsGood around saying) (sym is) (good added)
 said_well around verdict saying status sink good (inr (inl (is, other, rose, part))) = absurd (sink rose)
 said_well around verdict saying status sink good (inr (inr (is, mute, kept, same))) = inr (inl (ap number_of is))
 
@@ -82,13 +87,13 @@ at_rest contents faults setting None store back rests = tt
 at_rest contents faults setting (Some entries) None back rests = absurd back
 at_rest contents faults setting (Some entries) (Some b) back rests = (rests.0, trusted_is_honest contents faults setting entries b back rests.1, rests.2)
 
-calm_worked : {setting : Setting} (around : Around) (saying : Saying) (verdict : Verdict) (status : Status) → IsCalm around saying setting → IfSome around.journal Rests → IsWorked around verdict → IsSaid verdict saying status → IsGood around status
+calm_worked : {setting : Setting} (around : Around) (saying : Saying) (verdict : Verdict) (status : Status) → IsCalm around saying setting → IfSome around.journal Rests → IsWorked around verdict → IsSaid verdict saying status → IsGood around saying status
 calm_worked around saying WordsRefused status calm rests (inl (unread, none, unasked)) said = absurd unread
 calm_worked around saying WordsRefused status calm rests (inr run) said = absurd run.run
 calm_worked around saying SourceFault status calm rests (inl (unread, none, unasked)) said = absurd (calm.source unread)
 calm_worked around saying SourceFault status calm rests (inr run) said = absurd run.run
 calm_worked around saying (ScriptRefused refusal) status calm rests (inl (unread, none, unasked)) said =
-    said_well around (ScriptRefused refusal) saying status calm.sink (inr (inr (refl, refused_for_size around refusal calm.begins unread none))) said
+    said_well around (ScriptRefused refusal) saying status calm.sink (λ added. inr (inr (inl (refl, refused_for_size around refusal calm.begins unread none)))) said
 calm_worked around saying (ScriptRefused refusal) status calm rests (inr run) said = absurd run.run
 calm_worked around saying SiteFault status calm rests (inl (unread, none, unasked)) said = absurd unread
 calm_worked around saying SiteFault status calm rests (inr run) said = absurd (calm.site run.run.0)
@@ -99,17 +104,18 @@ calm_worked around saying (Full lines) status calm rests (inr run) said =
     let both = joined around.journal Rests (λ entries. around.is_done (setting_of run.script) entries × IsFullRun (setting_of run.script) lines.items entries) rests run.run.1 in
     absurd ((both.1).0 (both.2).1.full)
 calm_worked around saying (Report lines as_asked) status calm rests (inl (unread, none, unasked)) said = absurd unread
-calm_worked around saying (Report lines as_asked) status calm rests (inr run) said =
-    let both = joined around.journal Rests (λ entries. around.is_done (setting_of run.script) entries × IsWholeRun (setting_of run.script) as_asked lines.items entries) rests run.run.1 in
+calm_worked around saying (Report lines true) status calm rests (inr run) said = said_well around (Report lines true) saying status calm.sink (λ added. inl refl) said
+calm_worked around saying (Report lines false) status calm rests (inr run) said =
+    let both = joined around.journal Rests (λ entries. around.is_done (setting_of run.script) entries × IsWholeRun (setting_of run.script) false lines.items entries) rests run.run.1 in
     let at = both.1 in
-    let well : as_asked ≡ true = calm_run (setting_of run.script) as_asked lines.items both.0 (both.2).1 at.1 at.2 in
-    let good : IsGood around (status_of (Report lines as_asked)) = subst (λ (b : Bool). IsGood around (status_of (Report lines b))) (sym well) (inl refl) in
-    said_well around (Report lines as_asked) saying status calm.sink good said
+    let refuses : ¬ RefusesNone (setting_of run.script) = λ none. true≢false (sym (calm_run (setting_of run.script) false lines.items both.0 (both.2).1 at.1 at.2 none)) in
+    said_well around (Report lines false) saying status calm.sink
+    (λ added. inr (inr (inr (refl, record { verdict = Report lines false; ran = run; fails = refl; refuses = refuses; written = added })))) said
 calm_worked around saying (Checked block outcome) status calm rests (inl (unread, none, unasked)) said = absurd unread
 calm_worked around saying (Checked block outcome) status calm rests (inr run) said = absurd run.run
-calm_worked around saying NoMemory status calm rests worked said = said_well around NoMemory saying status calm.sink (inr (inl refl)) said
+calm_worked around saying NoMemory status calm rests worked said = said_well around NoMemory saying status calm.sink (λ added. inr (inl refl)) said
 
-pub calm_end : {setting : Setting} (around : Around) (saying : Saying) (verdict : Verdict) (status : Status) → IsCalm around saying setting → IfSome around.journal Rests → IsCaused around verdict → IsSaid verdict saying status → IsGood around status
+pub calm_end : {setting : Setting} (around : Around) (saying : Saying) (verdict : Verdict) (status : Status) → IsCalm around saying setting → IfSome around.journal Rests → IsCaused around verdict → IsSaid verdict saying status → IsGood around saying status
 calm_end around saying verdict status calm rests (inl (run, none, worked), short) said = calm_worked around saying verdict status calm rests worked said
 calm_end around saying verdict status calm rests (inr (inl (no_run, checked, opened)), short) said = absurd (no_run.none calm.accepts)
 calm_end around saying verdict status calm rests (inr (inr (no_run, block, refused, unasked)), short) said = absurd (no_run.none calm.accepts)

@@ -1,5 +1,5 @@
 -- Where every task has ended well, every outcome is as asked.
-use Rattle.std.proofs.Common.{◌≡◌, inl, inr, ℕ, zero, suc, ◌+◌, Bool, true, List, [], ◌∷◌, Contains, Option, refl, ◌∙◌, ap, subst, arith, ℤ, None, map, sym}
+use Rattle.std.proofs.Common.{◌≡◌, inl, inr, ℕ, zero, suc, ◌+◌, Bool, true, List, [], ◌∷◌, Contains, Option, refl, ◌∙◌, ap, subst, arith, None, map, sym}
 use Rattle.std.specs.List.{AllZip, list_all, zip, AllByRecursion}
 use Rattle.std.proofs.lemmas.List.Folds.{list_all-append}
 use Rattle.std.proofs.lemmas.Bool.{and_from}
@@ -10,8 +10,8 @@ use Rattle.shipper.specs.declared.upload_end.UploadEnd.{UploadEnd}
 use Rattle.shipper.specs.declared.upload_end.UploadEnd.TheVariants as shipped
 use Rattle.meta_fetcher.specs.declared.sync_end.SyncEnd.{SyncEnd}
 use Rattle.meta_fetcher.specs.declared.sync_end.SyncEnd.TheVariants as fetched
-use Rattle.store_gateway.specs.declared.series_end.SeriesEnd.{SeriesEnd}
-use Rattle.store_gateway.specs.declared.series_end.SeriesEnd.TheVariants as called
+use Rattle.series_calls.specs.declared.series_end.SeriesEnd.{SeriesEnd}
+use Rattle.series_calls.specs.declared.series_end.SeriesEnd.TheVariants as called
 use Rattle.script_workers.specs.Hands.{gateway_count, gateway_of, hands_of_task}
 use Rattle.script_core.specs.Workers.{workers_of}
 use Rattle.script_workers.specs.declared.hand.Hand.{Hand}
@@ -26,12 +26,14 @@ use Rattle.lifecycle_core.specs.Conducts.{CameTo}
 use Rattle.lifecycle_core.specs.Holdings.{Use}
 use Rattle.lifecycle_core.specs.Phases.{by_workers}
 use Rattle.lifecycle_core.specs.Setting.{Setting}
-use Rattle.lifecycle_core.specs.Tasks.{End, answered, not_asked, stopped, synced, uploaded, without_view}
+use Rattle.lifecycle_core.specs.Tasks.{End, answered, not_asked, refused, stopped, synced, uploaded, without_view}
 use Rattle.lifecycle_core.specs.Ways.{AreFinished, AreInTurn, Way}
 use Rattle.list_core.proofs.Membership.{contains_first, contains_later, member_cases, no_member}
 use Rattle.script_running.specs.Outcomes.{IsOutcome, IsOutcomeOf, IsPart, IsQueryOutcome, PhasesCame, TasksCame, call_part, first_none, sync_outcome, upload_outcome, why_none}
 use Rattle.script_running.specs.Outcomes.{is_as_asked}
+use Rattle.replay_cli.specs.Shippable.{RefusesNone}
 use Rattle.replay_cli.specs.Verdicts.{IsWholeRun}
+use Rattle.replay_cli.proofs.Refusals.{none_refused}
 use Rattle.script_running.specs.declared.outcome.Outcome.{Outcome}
 use Rattle.script_running.specs.declared.outcome.Outcome.TheVariants as outcome
 use Rattle.script_running.specs.declared.outcome.QueryOutcome.{QueryOutcome}
@@ -43,6 +45,10 @@ use Rattle.script_running.specs.declared.part.QueryPart.{QueryPart}
 use Rattle.script_running.specs.declared.part.QueryPart.TheVariants as given
 
 -- ---- one task
+
+-- it came to what it is for, and its block is not refused
+abbrev Calm : End → Type 0
+Calm end = IsWell end × ((cause : ℕ) → ¬ (end ≡ refused cause))
 
 upload_asked : (end : UploadEnd) → IsWell (uploaded end) → is_as_asked (outcome.Upload (upload_outcome end)) ≡ true
 upload_asked (shipped.Done count) well = refl
@@ -70,17 +76,18 @@ call_fine used (called.Fault entry) well = absurd well
 fine_as : (one other : Part) → one ≡ other → IsFine other → IsFine one
 fine_as one other is fine = subst IsFine (sym is) fine
 
-part_fine : (w : Work) (end : End) (one : Part) → IsWell end → IsPart w end one → IsFine one
-part_fine (work.Upload ulid stop) (uploaded e) one well is = fine_as one (part.Upload (upload_outcome e)) is (upload_asked e well)
+part_fine : (w : Work) (end : End) (one : Part) → Calm end → IsPart w end one → IsFine one
+part_fine (work.Upload ulid stop) (uploaded e) one well is = fine_as one (part.Upload (upload_outcome e)) is (upload_asked e well.0)
+part_fine (work.Upload ulid stop) (refused cause) one well is = absurd (well.1 cause refl)
 part_fine (work.Upload ulid stop) (stopped count) one well is = fine_as one (part.Upload (upload.Stopped count)) is refl
-part_fine (work.Sync gateway) (synced e) one well is = fine_as one (part.Sync (sync_outcome e)) is (sync_asked e well)
-part_fine (work.Query low high n) (answered used e) one well is = fine_as one (part.Query (call_part e)) is (call_fine used e well)
-part_fine (work.Query low high n) without_view one well is = absurd well
+part_fine (work.Sync gateway) (synced e) one well is = fine_as one (part.Sync (sync_outcome e)) is (sync_asked e well.0)
+part_fine (work.Query low high n) (answered used e) one well is = fine_as one (part.Query (call_part e)) is (call_fine used e well.0)
+part_fine (work.Query low high n) without_view one well is = absurd well.0
 part_fine (work.Query low high n) not_asked one well is = fine_as one (part.Query given.NotAsked) is refl
 part_fine w end one well is = absurd is
 
 abbrev AreWell : List End → Type 0
-AreWell ends = (end : End) → Contains ends end → IsWell end
+AreWell ends = (end : End) → Contains ends end → Calm end
 
 parts_fine : (w : Work) (own : List End) (parts : List Part) → AreWell own → AllZip (IsPart w) own parts → AllByRecursion IsFine parts
 parts_fine w [] [] well all = tt
@@ -121,13 +128,13 @@ of_zip (a ∷ xs) (b ∷ ys) x y (suc k, below, at) = contains_later b y ys (of_
 pub end_came : (workers : List Worker) (ends : List (List End)) (gateway : Option ℕ) (place : ℕ) (end : End) → CameTo workers ends gateway place end → (own : List End) × Contains ends own × Contains own end
 end_came workers ends gateway place end c = (c.own, of_zip workers ends c.worker c.own c.among, of_zip (c.worker).tasks c.own place end c.came)
 
-module _ (workers : List Worker) (ends : List (List End)) (well : (own : List End) (end : End) → Contains ends own → Contains own end → IsWell end) where
+module _ (workers : List Worker) (ends : List (List End)) (well : (own : List End) (end : End) → Contains ends own → Contains own end → Calm end) where
   hands_well : (place : ℕ) (hs : List Hand) (own : List End) → AllZip (λ hand end. CameTo workers ends (gateway_of hand) place end) hs own → AreWell own
   hands_well place [] [] all end among = absurd (no_member end among)
   hands_well place [] (e ∷ own) all end among = absurd all
   hands_well place (h ∷ hs) [] all end among = absurd all
   hands_well place (h ∷ hs) (e ∷ own) all end among = elim (member_cases e end own among) [
-    | inl same ↦ let came = end_came workers ends (gateway_of h) place e all.0 in subst IsWell same (well came.0 e came.1 came.2)
+    | inl same ↦ let came = end_came workers ends (gateway_of h) place e all.0 in subst Calm same (well came.0 e came.1 came.2)
     | inr later ↦ hands_well place hs own all.1 end later
   ]
 
@@ -137,7 +144,7 @@ module _ (workers : List Worker) (ends : List (List End)) (well : (own : List En
   tasks_asked script place (task ∷ tasks) (o ∷ outcomes) came =
       and_from _ _ (outcome_asked task.work (came.0).own o (hands_well place (hands_of_task (gateway_count script.gateways) place task.work) (came.0).own (came.0).came) (came.0).is) (tasks_asked script (place + 1) tasks outcomes came.1)
 
-phases_asked : (script : Script) (number : ℕ) (phases : List Phase) (ends : List (List (List End))) (outcomes : List Outcome) → ((phase : List (List End)) (own : List End) (end : End) → Contains ends phase → Contains phase own → Contains own end → IsWell end)
+phases_asked : (script : Script) (number : ℕ) (phases : List Phase) (ends : List (List (List End))) (outcomes : List Outcome) → ((phase : List (List End)) (own : List End) (end : End) → Contains ends phase → Contains phase own → Contains own end → Calm end)
     → PhasesCame script number phases ends outcomes → list_all is_as_asked outcomes ≡ true
 phases_asked script number [] ends outcomes well came = ap (list_all is_as_asked) came.1
 phases_asked script number (phase ∷ phases) [] outcomes well came = absurd came
@@ -153,8 +160,10 @@ finished_turns way number [] (own ∷ ends) finished = absurd (cc (finished))
 finished_turns way number (phase ∷ phases) [] finished = tt
 finished_turns way number (phase ∷ phases) (own ∷ ends) finished = (λ more. finished.0, finished_turns way (number + 1) phases ends finished.1)
 
-pub calm_run : (setting : Setting) (as_asked : Bool) (text : List ℕ) (journal : List Entry) → IsWholeRun setting as_asked text journal → IsHonest journal → failed_count journal ≡ 0 → as_asked ≡ true
-calm_run setting as_asked text journal run honest none =
+pub calm_run : (setting : Setting) (as_asked : Bool) (text : List ℕ) (journal : List Entry) → IsWholeRun setting as_asked text journal → IsHonest journal → failed_count journal ≡ 0 → RefusesNone setting → as_asked ≡ true
+calm_run setting as_asked text journal run honest none ships =
     run.report.flag ∙ phases_asked setting.script 0 setting.script.phases run.ends run.report.outcomes
-    (λ phase own end in_ends in_phase in_own.
-    run.guaranteed.complete (finished_turns (by_workers setting) 0 setting.script.phases run.ends run.finished) honest none end (phase, own, in_ends, in_phase, in_own)) run.report.came
+    (λ phase own end in_ends in_phase in_own. (
+      run.guaranteed.complete (finished_turns (by_workers setting) 0 setting.script.phases run.ends run.finished) honest none end (phase, own, in_ends, in_phase, in_own),
+      none_refused setting journal run.ends ships run.run end (phase, own, in_ends, in_phase, in_own),
+    )) run.report.came

@@ -1,6 +1,6 @@
 -- A journal tells the report: two whole runs of one script that leave one journal print the same.
 use Rattle.list_core.proofs.Membership.{any_of_member, contains_first, contains_later, each_member, member_cases, no_member}
-use Rattle.std.proofs.Common.{◌≡◌, inl, inr, ℕ, ◌+◌, Bool, true, false, List, [], ◌∷◌, ◌++◌, Contains, Option, Some, None, refl, sym, ◌∙◌, ap, ap₂, subst, arith, map}
+use Rattle.std.proofs.Common.{◌≡◌, inl, inr, ℕ, ◌+◌, Bool, true, false, List, [], ◌∷◌, ◌++◌, Contains, Option, Some, None, refl, sym, ◌∙◌, ap, ap₂, subst, arith}
 use Rattle.std.specs.Prelude.{slice_get}
 use Rattle.std.specs.List.{AllZip, list_all, list_any, zip}
 use Rattle.std.specs.List.Sorted.{IsStrictlySortedBy}
@@ -25,7 +25,7 @@ use Rattle.script_core.specs.Workers.{seats_before, workers_after, workers_of}
 use Rattle.script_core.specs.declared.script.Script.{Script}
 use Rattle.lifecycle_core.specs.Conducts.{CameTo}
 use Rattle.lifecycle_core.specs.Setting.{Setting}
-use Rattle.lifecycle_core.specs.Tasks.{End, answered, not_asked, stopped, synced, uploaded, without_view}
+use Rattle.lifecycle_core.specs.Tasks.{End, answered, not_asked, refused, stopped, synced, uploaded, without_view}
 use Rattle.vertical_merge.proofs.OneMerge.{one_merge}
 use Rattle.lifecycle_core.proofs.phases.Duties.{same_self}
 use Rattle.lifecycle_core.proofs.phases.HandLists.{Apart, joins_from}
@@ -39,7 +39,6 @@ use Rattle.script_running.specs.declared.outcome.Outcome.TheVariants as outcome
 use Rattle.script_running.specs.declared.outcome.QueryOutcome.{QueryOutcome}
 use Rattle.script_running.specs.declared.outcome.QueryOutcome.TheVariants as query
 use Rattle.script_running.specs.declared.part.Part.{Part}
-use Rattle.script_running.specs.declared.part.Part.TheVariants as part
 use Rattle.script_running.specs.declared.part.QueryPart.{QueryPart}
 use Rattle.querier.specs.Gathered.{IsGathered, gathered_samples}
 use Rattle.querier.specs.declared.answer.Answer.{Answer}
@@ -158,6 +157,7 @@ module _ (gateways : ℕ) (tasks : List Task) where
 
 part_once : (w : Work) (end : End) (one other : Part) → IsPart w end one → IsPart w end other → one ≡ other
 part_once (work.Upload ulid stop) (uploaded end) one other is so = is ∙ sym so
+part_once (work.Upload ulid stop) (refused cause) one other is so = is ∙ sym so
 part_once (work.Upload ulid stop) (stopped count) one other is so = is ∙ sym so
 part_once (work.Sync gateway) (synced end) one other is so = is ∙ sym so
 part_once (work.Query low high selector) (answered used end) one other is so = is ∙ sym so

@@ -1,15 +1,14 @@
 -- Phases that were done one after another.
 use Rattle.std.proofs.Common.{◌≡◌, ℕ, zero, suc, ◌+◌, ◌-◌, ◌<◌, ◌≤◌, Bool, true, ◌&&◌, List, [], ◌∷◌, ◌++◌, length, take, drop, refl, sym, ◌∙◌, ap, subst, inl, inr, append_assoc, take-append-drop, arith}
 use Rattle.std.proofs.Math.Seq.{take-length}
-use Rattle.std.specs.Prelude.{◌≢◌, ◌^◌, min, Some, None, Result, Ok, Err, OnOk, slice_get}
+use Rattle.std.specs.Prelude.{◌≢◌, ◌^◌, min, Some, Result, Ok, Err, OnOk, slice_get}
 use Rattle.std.specs.List.{All, list_all}
 use Rattle.std.proofs.lemmas.List.{append-nil, length-append}
 use Rattle.std.proofs.lemmas.Option.{slice_get_within, get_or_from_slice_get}
 use Rattle.world_core.specs.Keeping.{IsFull}
 use Rattle.world_core.specs.Operations.{entry_of}
-use Rattle.world_core.specs.Worlds.{IsJournal}
+use Rattle.world_core.specs.Worlds.{IsJournal, IsOfBytes}
 use Rattle.world_core.specs.declared.entry.Entry.{Entry}
-use Rattle.store_gateway.specs.declared.gateway.Gateway.{Gateway}
 use Rattle.script_workers.specs.Hands.{gateway_count, gateway_of, hands_of, seats_after, seats_from, workers_from}
 use Rattle.script_core.specs.Workers.{seats_before, workers_of}
 use Rattle.script_core.specs.Lawful.{IsLawfulPhase, IsLawfulScript}
@@ -23,6 +22,8 @@ use Rattle.script_core.proofs.SeatLaws.{workers_at}
 use Rattle.lifecycle_core.proofs.phases.FirstPhases.{no_phase}
 use Rattle.lifecycle_core.proofs.phases.RunsInLine.{AreWhole, by_none, by_parts, ends_by_workers, finished, own_came, own_undone, run_by, runs, turns_by}
 use Rattle.script_running.specs.Outcomes.{PhasesCame}
+use Rattle.script_running.specs.Sights.{Sees, no_sight}
+use Rattle.script_running.specs.declared.sight.Sight.{Sight}
 use Rattle.replay_cli.specs.Progress.{HasRun, IsBrokenAt, IsDueInLine, PhaseStep, PhasesDone, Reached, Shows, RunCame, TasksBroken, TasksDone, TasksTold, duties_at}
 use Rattle.script_running.specs.Outcomes.{is_as_asked}
 use Rattle.replay_cli.specs.Verdicts.{IsFullRun, IsWholeRun, report_of, tasks_of}
@@ -32,7 +33,7 @@ use Rattle.script_running.specs.declared.outcome.Outcome.{Outcome}
 use Rattle.replay_cli.proofs.ReportLists.{all_append, report_append, tasks_append}
 use Rattle.replay_cli.proofs.Told.{tasks_came, told_length, told_outcomes}
 use Rattle.lifecycle_core.specs.Guarantees.{IsGuaranteedJournal}
-use Rattle.lifecycle_core.specs.Holdings.{Holdings, none_held, with_holding}
+use Rattle.lifecycle_core.specs.Holdings.{Holdings, none_held, nothing_held, with_holding}
 use Rattle.lifecycle_core.specs.InLine.{Duty, InLine, IsInLine, duties_from, in_line, seat_of}
 use Rattle.lifecycle_core.specs.Phases.{IsRunOf, by_workers}
 use Rattle.lifecycle_core.specs.Setting.{Setting}
@@ -134,9 +135,9 @@ too_few m n less same = absurd (omega (arith, less, same))
 
 -- ---- from one phase to the next
 
-module _ (setting : Setting) (place : ℕ) (phase : Phase) (shown : List Gateway) (journal : List Entry) (as_asked : Bool) (text : List ℕ) (at : slice_get setting.script.phases place ≡ Some phase) where
+module _ (setting : Setting) (place : ℕ) (phase : Phase) (shown : List Sight) (journal : List Entry) (as_asked : Bool) (text : List ℕ) (at : slice_get setting.script.phases place ≡ Some phase) where
   -- the phase was not begun
-  pub unbegun : (gateways : List Gateway) → Reached setting place shown journal as_asked text → IsBrokenAt setting place journal as_asked text
+  pub unbegun : (gateways : List Sight) → Reached setting place shown journal as_asked text → IsBrokenAt setting place journal as_asked text
   unbegun gateways r = record {
     ends = r.ends;
     unfinished = [];
@@ -209,7 +210,7 @@ module _ (setting : Setting) (place : ℕ) (phase : Phase) (shown : List Gateway
       )
 
   -- the phase was done to its end
-  pub reached_more : (clock : Entry) (new : List Entry) (gateways : List Gateway) (asked asked' : Bool) (own lines : List ℕ) → BeginsPhase phase clock → (r : Reached setting place shown journal as_asked text)
+  pub reached_more : (clock : Entry) (new : List Entry) (gateways : List Sight) (asked asked' : Bool) (own lines : List ℕ) → BeginsPhase phase clock → (r : Reached setting place shown journal as_asked text)
       → ((v : Holdings) → Shows v shown → TasksDone setting (seat_of (workers_of setting.script place)) phase.tasks v gateways (journal ++ clock ∷ []) new asked own)
       → lines ≡ text ++ own → asked' ≡ as_asked && asked → Reached setting (place + 1) gateways new asked' lines
   reached_more clock new gateways asked asked' own lines begins r tasks lines_are flag =
@@ -229,7 +230,7 @@ module _ (setting : Setting) (place : ℕ) (phase : Phase) (shown : List Gateway
         flag = flag ∙ ap (λ b. b && asked) r.flag ∙ ap (λ b. list_all is_as_asked r.outcomes && b) t.flag ∙ sym (all_append r.outcomes t.outcomes);
       }
 
-pub run_so_far : (setting : Setting) (place : ℕ) (shown : List Gateway) (journal : List Entry) (as_asked : Bool) (text : List ℕ) → Reached setting place shown journal as_asked text → HasRun setting journal
+pub run_so_far : (setting : Setting) (place : ℕ) (shown : List Sight) (journal : List Entry) (as_asked : Bool) (text : List ℕ) → Reached setting place shown journal as_asked text → HasRun setting journal
 run_so_far setting place shown journal as_asked text r = (
   r.ends ++ [],
   subst (λ (es : List Entry). PhasesRun (in_line setting) 0 none_held setting.script.phases es (r.ends ++ [])) (append-nil journal) (r.onward [] [] (no_phase (in_line setting) place r.views (drop place setting.script.phases))),
@@ -237,9 +238,9 @@ run_so_far setting place shown journal as_asked text r = (
       (turns_none setting 0 (take place setting.script.phases) (drop place setting.script.phases) r.ends (told_whole setting 0 (take place setting.script.phases) r.ends r.outcomes r.told)),
 )
 
-blind_at : (gateways : List Gateway) (place : ℕ) (gateway : Gateway) → All (λ (g : Gateway). g.view ≡ None) gateways → slice_get gateways place ≡ Some gateway → gateway.view ≡ None
+blind_at : (gateways : List Sight) (place : ℕ) (gateway : Sight) → All (λ (g : Sight). g ≡ no_sight) gateways → slice_get gateways place ≡ Some gateway → gateway ≡ no_sight
 blind_at gateways place gateway blind at =
-    subst (λ (g : Gateway). g.view ≡ None) (get_or_from_slice_get gateways place gateway gateway at) (blind place gateway (slice_get_within gateways place gateway at))
+    subst (λ (g : Sight). g ≡ no_sight) (get_or_from_slice_get gateways place gateway gateway at) (blind place gateway (slice_get_within gateways place gateway at))
 
 take_none : (phases : List Phase) → take 0 phases ≡ []
 take_none [] = refl
@@ -250,12 +251,12 @@ drop_none [] = refl
 drop_none (p ∷ ps) = refl
 
 -- before the first phase
-pub reached_none : (setting : Setting) (gateways : List Gateway) (journal : List Entry) (asked : Bool) (text : List ℕ) → All (λ (g : Gateway). g.view ≡ None) gateways → journal ≡ [] → asked ≡ true → text ≡ []
+pub reached_none : (setting : Setting) (gateways : List Sight) (journal : List Entry) (asked : Bool) (text : List ℕ) → All (λ (g : Sight). g ≡ no_sight) gateways → journal ≡ [] → asked ≡ true → text ≡ []
     → Reached setting 0 gateways journal asked text
 unfolding report_of
 reached_none setting gateways journal asked text blind none all empty = record {
   views = none_held;
-  shows = λ place gateway at. sym (blind_at gateways place gateway blind at);
+  shows = λ place gateway at. subst (Sees nothing_held) (sym (blind_at gateways place gateway blind at)) (record { view_is = refl; cache_is = refl });
   ends = [];
   onward = λ entries later run. subst (λ (ps : List Phase). PhasesRun (in_line setting) 0 none_held ps (journal ++ entries) later) (drop_none setting.script.phases)
       (subst (λ (es : List Entry). PhasesRun (in_line setting) 0 none_held (drop 0 setting.script.phases) (es ++ entries) later) (sym none) run);
@@ -267,9 +268,9 @@ reached_none setting gateways journal asked text blind none all empty = record {
 
 -- ---- whole runs
 
-pub whole_run : (setting : Setting) (gateways : List Gateway) (journal : List Entry) (as_asked : Bool) (text : List ℕ) → IsLawfulScript setting.script → IsJournal setting.script.rules.tick.ms journal
+pub whole_run : (setting : Setting) (gateways : List Sight) (journal : List Entry) (as_asked : Bool) (text : List ℕ) → IsLawfulScript setting.script → IsJournal setting.script.rules.tick.ms journal → IsOfBytes journal
     → Reached setting (length setting.script.phases) gateways journal as_asked text → IsWholeRun setting as_asked text journal
-whole_run setting gateways journal as_asked text lawful kept r =
+whole_run setting gateways journal as_asked text lawful kept bytes r =
     let run : PhasesRun (in_line setting) 0 none_held setting.script.phases journal r.ends =
     subst (λ (l : List (List End)). PhasesRun (in_line setting) 0 none_held setting.script.phases journal l) (append-nil r.ends)
     (subst (λ (es : List Entry). PhasesRun (in_line setting) 0 none_held setting.script.phases es (r.ends ++ [])) (append-nil journal) (r.onward [] [] (no_phase (in_line setting) (length setting.script.phases) r.views (drop (length setting.script.phases) setting.script.phases)))) in
@@ -278,7 +279,7 @@ whole_run setting gateways journal as_asked text lawful kept r =
     record {
       ends = ends_by_workers (gateway_count setting.script.gateways) setting.script.phases r.ends;
       run = run_by setting journal r.ends lawful kept run;
-      guaranteed = all_guaranteed setting journal (ends_by_workers (gateway_count setting.script.gateways) setting.script.phases r.ends) lawful (run_by setting journal r.ends lawful kept run);
+      guaranteed = all_guaranteed setting journal (ends_by_workers (gateway_count setting.script.gateways) setting.script.phases r.ends) lawful (run_by setting journal r.ends lawful kept run) bytes;
       finished = finished setting lawful 0 setting.script.phases r.ends same (told_whole setting 0 setting.script.phases r.ends r.outcomes told);
       report = record {
         outcomes = r.outcomes;
@@ -367,9 +368,9 @@ due_left setting lawful place journal ends [] (own ∷ more) are same short due 
 due_left setting lawful place journal ends (phase ∷ left) [] are same short due begun = absurd (begun (by_none (gateway_count setting.script.gateways) (phase ∷ left)))
 due_left setting lawful place journal ends (phase ∷ left) (own ∷ more) are same short due begun = due_run setting lawful place journal ends phase left are same (due (λ none. absurd (cc (none))))
 
-pub full_run : (setting : Setting) (place : ℕ) (journal : List Entry) (as_asked : Bool) (text : List ℕ) → IsLawfulScript setting.script → IsJournal setting.script.rules.tick.ms journal → IsFull journal → place < length setting.script.phases
+pub full_run : (setting : Setting) (place : ℕ) (journal : List Entry) (as_asked : Bool) (text : List ℕ) → IsLawfulScript setting.script → IsJournal setting.script.rules.tick.ms journal → IsOfBytes journal → IsFull journal → place < length setting.script.phases
     → IsBrokenAt setting place journal as_asked text → IsFullRun setting text journal
-full_run setting place journal as_asked text lawful kept full below b =
+full_run setting place journal as_asked text lawful kept bytes full below b =
     let gateways = gateway_count setting.script.gateways in
     let done = take place setting.script.phases in
     let left = drop place setting.script.phases in
@@ -397,11 +398,11 @@ full_run setting place journal as_asked text lawful kept full below b =
       full = full;
       as_asked = as_asked;
       report = record { outcomes = b.outcomes; came = phases_came setting lawful 0 done b.ends b.outcomes same b.told; lines = b.lines; flag = b.flag };
-      guaranteed = all_guaranteed setting journal (told ++ untold) lawful run;
+      guaranteed = all_guaranteed setting journal (told ++ untold) lawful run bytes;
     }
 
 -- what a run came to is a run in line
-pub run_in_line : (setting : Setting) (gateways : List Gateway) (journal : List Entry) (as_asked : Bool) (text : List ℕ) (r : Result (Unit {0}) Broken) → IsJournal setting.script.rules.tick.ms journal → RunCame setting gateways journal as_asked text r → IsInLine setting journal
+pub run_in_line : (setting : Setting) (gateways : List Sight) (journal : List Entry) (as_asked : Bool) (text : List ℕ) (r : Result (Unit {0}) Broken) → IsJournal setting.script.rules.tick.ms journal → RunCame setting gateways journal as_asked text r → IsInLine setting journal
 run_in_line setting gateways journal as_asked text (Ok done) kept came =
     let run = run_so_far setting (length setting.script.phases) gateways journal as_asked text came in
     (run.0, record { kept = kept; phases = run.1; turns = run.2 })
@@ -416,10 +417,10 @@ run_in_line setting gateways journal as_asked text (Err broken.Full) kept (place
 )
 run_in_line setting gateways journal as_asked text (Err broken.NoMemory) kept came = (came.0, record { kept = kept; phases = came.1; turns = came.2 })
 
-pub guaranteed_run : (setting : Setting) (journal : List Entry) → IsLawfulScript setting.script → IsJournal setting.script.rules.tick.ms journal → HasRun setting journal → IsGuaranteedJournal setting journal
-guaranteed_run setting journal lawful kept run =
+pub guaranteed_run : (setting : Setting) (journal : List Entry) → IsLawfulScript setting.script → IsJournal setting.script.rules.tick.ms journal → IsOfBytes journal → HasRun setting journal → IsGuaranteedJournal setting journal
+guaranteed_run setting journal lawful kept bytes run =
     let ends = ends_by_workers (gateway_count setting.script.gateways) setting.script.phases run.0 in
-    let whole = run_by setting journal run.0 lawful kept run.1 in (ends, whole, turns_by setting run.0 lawful run.2, all_guaranteed setting journal ends lawful whole)
+    let whole = run_by setting journal run.0 lawful kept run.1 in (ends, whole, turns_by setting run.0 lawful run.2, all_guaranteed setting journal ends lawful whole bytes)
 
 -- ---- what a phase's call leaves
 
@@ -427,12 +428,12 @@ pub lawful_phase : (setting : Setting) (place : ℕ) (phase : Phase) → IsLawfu
 lawful_phase setting place phase lawful at =
     subst (IsLawfulPhase setting.script.gateways setting.script.blocks (length setting.script.selectors)) (get_or_from_slice_get setting.script.phases place phase phase at) ((lawful.phases).each place phase (slice_get_within setting.script.phases place phase at))
 
-pub unbegun_step : (setting : Setting) (place : ℕ) (phase : Phase) (shown gateways : List Gateway) (journal new : List Entry) (as_asked : Bool) (text : List ℕ) (b : Broken) → slice_get setting.script.phases place ≡ Some phase → new ≡ journal
+pub unbegun_step : (setting : Setting) (place : ℕ) (phase : Phase) (shown gateways : List Sight) (journal new : List Entry) (as_asked : Bool) (text : List ℕ) (b : Broken) → slice_get setting.script.phases place ≡ Some phase → new ≡ journal
     → Reached setting place shown journal as_asked text → PhaseStep setting place gateways new as_asked text (Err b)
 unbegun_step setting place phase shown gateways journal new as_asked text broken.Full at same r = subst (λ (es : List Entry). IsBrokenAt setting place es as_asked text) (sym same) (unbegun setting place phase shown journal as_asked text at gateways r)
 unbegun_step setting place phase shown gateways journal new as_asked text broken.NoMemory at same r = subst (HasRun setting) (sym same) (run_so_far setting place shown journal as_asked text r)
 
-pub broken_step : (setting : Setting) (place : ℕ) (phase : Phase) (shown gateways : List Gateway) (journal new : List Entry) (as_asked as_asked' : Bool) (text text' : List ℕ) (b : Broken) (clock : Entry) → slice_get setting.script.phases place ≡ Some phase
+pub broken_step : (setting : Setting) (place : ℕ) (phase : Phase) (shown gateways : List Sight) (journal new : List Entry) (as_asked as_asked' : Bool) (text text' : List ℕ) (b : Broken) (clock : Entry) → slice_get setting.script.phases place ≡ Some phase
     → as_asked ≡ as_asked' → text ≡ text' → BeginsPhase phase clock → (r : Reached setting place shown journal as_asked text)
     → ((v : Holdings) → Shows v shown → TasksBroken setting (seat_of (workers_of setting.script place)) phase.tasks v (journal ++ clock ∷ []) new b) → PhaseStep setting place gateways new as_asked' text' (Err b)
 broken_step setting place phase shown gateways journal new as_asked as_asked' text text' broken.Full clock at one other begins r tasks =
@@ -440,7 +441,7 @@ broken_step setting place phase shown gateways journal new as_asked as_asked' te
 broken_step setting place phase shown gateways journal new as_asked as_asked' text text' broken.NoMemory clock at one other begins r tasks =
     broken_short setting place phase shown journal as_asked text at clock new begins r tasks
 
-pub taken_step : (setting : Setting) (place : ℕ) (gateways : List Gateway) (journal : List Entry) (as_asked asked asked' : Bool) (text own lines : List ℕ) (r : Result (Unit {0}) Broken) → r ≢ Err broken.Full
+pub taken_step : (setting : Setting) (place : ℕ) (gateways : List Sight) (journal : List Entry) (as_asked asked asked' : Bool) (text own lines : List ℕ) (r : Result (Unit {0}) Broken) → r ≢ Err broken.Full
     → ((a : Bool) (l : List ℕ) → l ≡ text ++ own → a ≡ as_asked && asked → Reached setting (place + 1) gateways journal a l)
     → OnOk r (lines ≡ text ++ own) → OnOk r (asked' ≡ as_asked && asked) → PhaseStep setting place gateways journal asked' lines r
 taken_step setting place gateways journal as_asked asked asked' text own lines (Ok done) never reached one other = reached asked' lines one other
@@ -469,7 +470,7 @@ seats_next setting place phase workers before count after at are is counted next
     let f : after ≡ seats_after (seats_before setting.script place) (length (hands_of gateways phase.tasks)) = omega (arith, n, is, counted, next) in
     f ∙ sym e
 
-pub done_from : (setting : Setting) (place : ℕ) (phase : Phase) (shown gateways : List Gateway) (journal mid new : List Entry) (asked : Bool) (own : List ℕ) (workers : List Worker) (tasks : List Task) (clock : Entry)
+pub done_from : (setting : Setting) (place : ℕ) (phase : Phase) (shown gateways : List Sight) (journal mid new : List Entry) (asked : Bool) (own : List ℕ) (workers : List Worker) (tasks : List Task) (clock : Entry)
     → workers ≡ workers_of setting.script place → tasks ≡ phase.tasks → mid ≡ journal ++ clock ∷ []
     → ((v : Holdings) → Shows v shown → TasksDone setting (seat_of workers) tasks v gateways mid new asked own)
     → (v : Holdings) → Shows v shown → TasksDone setting (seat_of (workers_of setting.script place)) phase.tasks v gateways (journal ++ clock ∷ []) new asked own
@@ -478,7 +479,7 @@ done_from setting place phase shown gateways journal mid new asked own workers t
     (subst (λ (ts : List Task). TasksDone setting (seat_of workers) ts v gateways (journal ++ clock ∷ []) new asked own) t
     (subst (λ (es : List Entry). TasksDone setting (seat_of workers) tasks v gateways es new asked own) m (done v shows)))
 
-pub broken_from : (setting : Setting) (place : ℕ) (phase : Phase) (shown : List Gateway) (journal mid new : List Entry) (why : Broken) (workers : List Worker) (tasks : List Task) (clock : Entry)
+pub broken_from : (setting : Setting) (place : ℕ) (phase : Phase) (shown : List Sight) (journal mid new : List Entry) (why : Broken) (workers : List Worker) (tasks : List Task) (clock : Entry)
     → workers ≡ workers_of setting.script place → tasks ≡ phase.tasks → mid ≡ journal ++ clock ∷ []
     → ((v : Holdings) → Shows v shown → TasksBroken setting (seat_of workers) tasks v mid new why)
     → (v : Holdings) → Shows v shown → TasksBroken setting (seat_of (workers_of setting.script place)) phase.tasks v (journal ++ clock ∷ []) new why

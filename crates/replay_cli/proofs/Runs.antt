@@ -7,11 +7,10 @@ use Rattle.bucket_core.specs.Pages.{IsPage}
 use Rattle.bucket_core.specs.declared.site_refusal.SiteRefusal.{SiteRefusal}
 use Rattle.bucket_core.specs.declared.site_refusal.SiteRefusal.TheVariants as site
 use Rattle.world_core.specs.Keeping.{IsFull}
-use Rattle.world_core.specs.Worlds.{IsJournal, WorldView}
+use Rattle.world_core.specs.Worlds.{IsJournal, IsOfBytes, WorldView}
 use Rattle.world_core.specs.declared.entry.Entry.{Entry}
 use Rattle.world_core.specs.declared.open_refusal.OpenRefusal.{OpenRefusal}
 use Rattle.world_core.specs.declared.open_refusal.OpenRefusal.TheVariants as unopened
-use Rattle.store_gateway.specs.declared.gateway.Gateway.{Gateway}
 use Rattle.script_workers.specs.Hands.{gateway_count, seats_from}
 use Rattle.script_core.specs.Workers.{seats_before}
 use Rattle.script_core.specs.Lawful.{IsLawfulScript}
@@ -22,6 +21,7 @@ use Rattle.lifecycle_core.specs.Setting.{Setting}
 use Rattle.lifecycle_core.proofs.phases.FirstPhases.{none_in_line}
 use Rattle.lifecycle_core.proofs.Assembling.{none_guaranteed}
 use Rattle.script_running.specs.Tasks.{is_full_came}
+use Rattle.script_running.specs.declared.sight.Sight.{Sight}
 use Rattle.replay_cli.specs.Progress.{RunCame, tells_full}
 use Rattle.replay_cli.specs.Verdicts.{IsRun}
 use Rattle.script_running.specs.declared.came.Broken.{Broken}
@@ -59,23 +59,23 @@ full_told report (Err broken.Full) v whole filled short = sym (ap tells_full (fi
 full_told report (Err broken.NoMemory) v whole filled short = sym (ap tells_full (short refl))
 
 -- what the run came to has its cause
-run_by : (setting : Setting) (gateways : List Gateway) (journal : List Entry) (report : Lines) (r : Result (Unit {0}) Broken) (v : Verdict) → IsLawfulScript setting.script → IsJournal setting.script.rules.tick.ms journal
+run_by : (setting : Setting) (gateways : List Sight) (journal : List Entry) (report : Lines) (r : Result (Unit {0}) Broken) (v : Verdict) → IsLawfulScript setting.script → IsJournal setting.script.rules.tick.ms journal → IsOfBytes journal
     → (r ≡ Err broken.Full → IsFull journal) → RunCame setting gateways journal report.as_asked report.text.items r
     → (r ≡ Ok tt → v ≡ verdict.Report report.text report.as_asked) → (r ≡ Err broken.Full → v ≡ verdict.Full report.text) → (r ≡ Err broken.NoMemory → v ≡ verdict.NoMemory)
     → IsRun IsInLine setting (Some nothing) ⊥ (Some journal) v
-run_by setting gateways journal report (Ok done) v lawful kept full came whole filled short =
-    subst (IsRun IsInLine setting (Some nothing) ⊥ (Some journal)) (sym (whole refl)) (refl, (run_in_line setting gateways journal report.as_asked report.text.items (Ok done) kept came, whole_run setting gateways journal report.as_asked report.text.items lawful kept came))
-run_by setting gateways journal report (Err broken.Full) v lawful kept full came whole filled short =
-    subst (IsRun IsInLine setting (Some nothing) ⊥ (Some journal)) (sym (filled refl)) (refl, (run_in_line setting gateways journal report.as_asked report.text.items (Err broken.Full) kept came, full_run setting came.0 journal report.as_asked report.text.items lawful kept (full refl) came.1 came.2))
-run_by setting gateways journal report (Err broken.NoMemory) v lawful kept full came whole filled short =
-    subst (IsRun IsInLine setting (Some nothing) ⊥ (Some journal)) (sym (short refl)) (run_in_line setting gateways journal report.as_asked report.text.items (Err broken.NoMemory) kept came, guaranteed_run setting journal lawful kept came)
+run_by setting gateways journal report (Ok done) v lawful kept bytes full came whole filled short =
+    subst (IsRun IsInLine setting (Some nothing) ⊥ (Some journal)) (sym (whole refl)) (refl, (run_in_line setting gateways journal report.as_asked report.text.items (Ok done) kept came, whole_run setting gateways journal report.as_asked report.text.items lawful kept bytes came))
+run_by setting gateways journal report (Err broken.Full) v lawful kept bytes full came whole filled short =
+    subst (IsRun IsInLine setting (Some nothing) ⊥ (Some journal)) (sym (filled refl)) (refl, (run_in_line setting gateways journal report.as_asked report.text.items (Err broken.Full) kept came, full_run setting came.0 journal report.as_asked report.text.items lawful kept bytes (full refl) came.1 came.2))
+run_by setting gateways journal report (Err broken.NoMemory) v lawful kept bytes full came whole filled short =
+    subst (IsRun IsInLine setting (Some nothing) ⊥ (Some journal)) (sym (short refl)) (run_in_line setting gateways journal report.as_asked report.text.items (Err broken.NoMemory) kept came, guaranteed_run setting journal lawful kept bytes came)
 
-pub run_told : (setting : Setting) (gateways : List Gateway) (journal : List Entry) (report : Lines) (r : Result (Unit {0}) Broken) (v : Verdict) (handed : Option (List Entry)) → handed ≡ Some journal → IsLawfulScript setting.script → IsJournal setting.script.rules.tick.ms journal
+pub run_told : (setting : Setting) (gateways : List Sight) (journal : List Entry) (report : Lines) (r : Result (Unit {0}) Broken) (v : Verdict) (handed : Option (List Entry)) → handed ≡ Some journal → IsLawfulScript setting.script → IsJournal setting.script.rules.tick.ms journal → IsOfBytes journal
     → (r ≡ Err broken.Full → IsFull journal) → RunCame setting gateways journal report.as_asked report.text.items r
     → (r ≡ Ok tt → v ≡ verdict.Report report.text report.as_asked) → (r ≡ Err broken.Full → v ≡ verdict.Full report.text) → (r ≡ Err broken.NoMemory → v ≡ verdict.NoMemory)
     → IsRun IsInLine setting (Some nothing) ⊥ handed v
-run_told setting gateways journal report r v handed is lawful kept full came whole filled short =
-    subst (λ (h : Option (List Entry)). IsRun IsInLine setting (Some nothing) ⊥ h v) (sym is) (run_by setting gateways journal report r v lawful kept full came whole filled short)
+run_told setting gateways journal report r v handed is lawful kept bytes full came whole filled short =
+    subst (λ (h : Option (List Entry)). IsRun IsInLine setting (Some nothing) ⊥ h v) (sym is) (run_by setting gateways journal report r v lawful kept bytes full came whole filled short)
 
 -- nothing was done, for want of memory
 pub none_told : (setting : Setting) (journal : List Entry) (v : Verdict) (handed : Option (List Entry)) → handed ≡ Some journal → journal ≡ [] → v ≡ verdict.NoMemory → IsRun IsInLine setting (Some nothing) ⊥ handed v

@@ -5,6 +5,7 @@ use Rattle.std.specs.List.{list_all}
 use Rattle.std.proofs.lemmas.List.{length-append}
 use Rattle.std.proofs.lemmas.List.Concat.{flat_map-append}
 use Rattle.bucket_core.specs.Contents.{nothing}
+use Rattle.world_core.specs.Worlds.{IsOfBytes}
 use Rattle.world_core.specs.declared.entry.Entry.{Entry}
 use Rattle.script_core.specs.Lawful.{IsLawfulScript}
 use Rattle.script_core.specs.Workers.{workers_of}
@@ -71,7 +72,7 @@ lines_told script lines outcomes (done, left, is, are) = (
   are.flag,
 )
 
-module _ (setting : Setting) (lawful : IsLawfulScript setting.script) (journal : List Entry) (outcomes : List Outcome) (report : Lines) (lines : report.text.items ≡ report_of setting.script (tasks_of setting.script.phases) outcomes) (flag : report.as_asked ≡ list_all is_as_asked outcomes) where
+module _ (setting : Setting) (lawful : IsLawfulScript setting.script) (journal : List Entry) (bytes : IsOfBytes journal) (outcomes : List Outcome) (report : Lines) (lines : report.text.items ≡ report_of setting.script (tasks_of setting.script.phases) outcomes) (flag : report.as_asked ≡ list_all is_as_asked outcomes) where
   -- the script was done to its end
   pub whole_beside : HasRunBeside setting journal outcomes (Ok tt) → IsRun IsInPhases setting (Some nothing) ⊥ (Some journal) (verdict.Report report.text report.as_asked)
   whole_beside r = (
@@ -83,7 +84,7 @@ module _ (setting : Setting) (lawful : IsLawfulScript setting.script) (journal :
         run = r.run;
         finished = r.far.0;
         report = record { outcomes = outcomes; came = r.far.1; lines = lines; flag = flag };
-        guaranteed = all_guaranteed setting journal r.ends lawful r.run;
+        guaranteed = all_guaranteed setting journal r.ends lawful r.run bytes;
       },
     ),
   )
@@ -101,27 +102,27 @@ module _ (setting : Setting) (lawful : IsLawfulScript setting.script) (journal :
         full = f.full;
         as_asked = report.as_asked;
         report = record { outcomes = outcomes; came = f.came; lines = lines ∙ lines_of_done setting.script f.done (f.cut).left f.told outcomes (f.cut).phases f.came; flag = flag };
-        guaranteed = all_guaranteed setting journal (f.told ++ (f.cut).untold) lawful (f.cut).run;
+        guaranteed = all_guaranteed setting journal (f.told ++ (f.cut).untold) lawful (f.cut).run bytes;
       },
     ),
   )
 
 -- memory ran out
-pub short_beside : (setting : Setting) → IsLawfulScript setting.script → (journal : List Entry) (outcomes : List Outcome) (came : Result (Unit {0}) Broken) → HasRunBeside setting journal outcomes came → IsRun IsInPhases setting (Some nothing) ⊥ (Some journal) verdict.NoMemory
-short_beside setting lawful journal outcomes came r = ((r.ends, r.run, r.turns), (r.ends, r.run, r.turns, all_guaranteed setting journal r.ends lawful r.run))
+pub short_beside : (setting : Setting) → IsLawfulScript setting.script → (journal : List Entry) → IsOfBytes journal → (outcomes : List Outcome) (came : Result (Unit {0}) Broken) → HasRunBeside setting journal outcomes came → IsRun IsInPhases setting (Some nothing) ⊥ (Some journal) verdict.NoMemory
+short_beside setting lawful journal bytes outcomes came r = ((r.ends, r.run, r.turns), (r.ends, r.run, r.turns, all_guaranteed setting journal r.ends lawful r.run bytes))
 
 -- what a run beside comes to has its cause
-pub beside_told : (setting : Setting) → IsLawfulScript setting.script → (journal : List Entry) (outcomes : List Outcome) (report : Lines) (came : Result (Unit {0}) Broken) (v : Verdict)
+pub beside_told : (setting : Setting) → IsLawfulScript setting.script → (journal : List Entry) → IsOfBytes journal → (outcomes : List Outcome) (report : Lines) (came : Result (Unit {0}) Broken) (v : Verdict)
     → (came ≢ Err broken.NoMemory → TellsFirst AreLinesOf setting.script report outcomes) → HasRunBeside setting journal outcomes came → (came ≡ Ok tt → v ≡ verdict.Report report.text report.as_asked) → (came ≡ Err broken.Full → v ≡ verdict.Full report.text) → (came ≡ Err broken.NoMemory → v ≡ verdict.NoMemory)
     → IsRun IsInPhases setting (Some nothing) ⊥ (Some journal) v
-beside_told setting lawful journal outcomes report (Ok done) v told ran whole full none =
+beside_told setting lawful journal bytes outcomes report (Ok done) v told ran whole full none =
     let t = lines_told setting.script report outcomes (told (λ e. absurd (cc (e)))) in
-    subst (IsRun IsInPhases setting (Some nothing) ⊥ (Some journal)) (sym (whole refl)) (whole_beside setting lawful journal outcomes report t.0 t.1 ran)
-beside_told setting lawful journal outcomes report (Err broken.Full) v told ran whole full none =
+    subst (IsRun IsInPhases setting (Some nothing) ⊥ (Some journal)) (sym (whole refl)) (whole_beside setting lawful journal bytes outcomes report t.0 t.1 ran)
+beside_told setting lawful journal bytes outcomes report (Err broken.Full) v told ran whole full none =
     let t = lines_told setting.script report outcomes (told (λ e. absurd (cc (e)))) in
-    subst (IsRun IsInPhases setting (Some nothing) ⊥ (Some journal)) (sym (full refl)) (full_beside setting lawful journal outcomes report t.0 t.1 ran)
-beside_told setting lawful journal outcomes report (Err broken.NoMemory) v told ran whole full none =
-    subst (IsRun IsInPhases setting (Some nothing) ⊥ (Some journal)) (sym (none refl)) (short_beside setting lawful journal outcomes (Err broken.NoMemory) ran)
+    subst (IsRun IsInPhases setting (Some nothing) ⊥ (Some journal)) (sym (full refl)) (full_beside setting lawful journal bytes outcomes report t.0 t.1 ran)
+beside_told setting lawful journal bytes outcomes report (Err broken.NoMemory) v told ran whole full none =
+    subst (IsRun IsInPhases setting (Some nothing) ⊥ (Some journal)) (sym (none refl)) (short_beside setting lawful journal bytes outcomes (Err broken.NoMemory) ran)
 
 -- nothing was begun
 pub none_beside : (setting : Setting) (journal : List Entry) → journal ≡ [] → IsRun IsInPhases setting (Some nothing) ⊥ (Some journal) verdict.NoMemory

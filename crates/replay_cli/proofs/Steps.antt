@@ -11,8 +11,6 @@ use Rattle.std.proofs.lemmas.Option.{slice_get_within}
 use Rattle.list_core.proofs.Lists.{drop_none, drop_place}
 use Rattle.world_core.specs.Operations.{entry_of}
 use Rattle.world_core.specs.declared.entry.Entry.{Entry}
-use Rattle.meta_fetcher.specs.declared.view.View.{View}
-use Rattle.store_gateway.specs.declared.gateway.Gateway.{Gateway}
 use Rattle.script_core.specs.Lawful.{IsLawfulScript, IsLawfulWork}
 use Rattle.script_core.specs.declared.script.Script.{Script}
 use Rattle.script_workers.specs.Hands.{gateway_count, gateway_of, hands_of_task}
@@ -29,19 +27,29 @@ use Rattle.lifecycle_core.proofs.phases.Joined.{MayAllBegin, duties_begin, nothi
 use Rattle.lifecycle_core.proofs.phases.RunsInLine.{may_begin}
 use Rattle.script_running.specs.Drives.{Came}
 use Rattle.script_running.specs.Outcomes.{IsOutcome, IsOutcomeOf, IsPart}
-use Rattle.script_running.specs.Tasks.{CameBy, Does, HasDone, IsDueAfter, Sees, WhenFull}
+use Rattle.script_running.specs.Sights.{Sees}
+use Rattle.script_running.specs.Tasks.{CameBy, Does, HasDone, IsDueAfter, WhenDone, WhenFull}
 use Rattle.script_running.specs.declared.came.Broken.{Broken}
 use Rattle.script_running.specs.declared.came.Broken.TheVariants as broken
 use Rattle.script_running.specs.declared.outcome.Outcome.{Outcome}
 use Rattle.script_running.specs.declared.part.Part.{Part}
+use Rattle.script_running.specs.declared.sight.Sight.{Sight}
 use Rattle.replay_cli.specs.Progress.{IsDueInLine, IsWhole, PartStep, Shows, TaskStep, duties_at}
 
 -- ---- one part
 
--- a worker's part that it did from its seat, with a view
-pub part_step : (setting : Setting) (seat : Hand → ℕ) (own : ℕ) (place : ℕ) (task : Task) (hand : Hand) (views : Holdings) (gateways : List Gateway) (old new : List Entry) (view : Option View) (came : Came) → own ≡ seat hand
-    → (d : HasDone setting (who_does seat hand) place task.work (holding_of views (gateway_of hand)) own old new view came) → Shows (with_holding views (gateway_of hand) d.after) gateways → PartStep setting seat place task hand views gateways old new came
-part_step setting seat own place task hand views gateways old new view came same d shows = record {
+when_done : {X : Type 0} (came : Result X Broken) (P : Type 0) → P → WhenDone came P
+when_done (Ok o) P holds = holds
+when_done (Err why) P holds = tt
+
+done_by : {X : Type 0} (came : Result X Broken) (P Q : Type 0) → (P → Q) → WhenDone came P → WhenDone came Q
+done_by (Ok o) P Q f holds = f holds
+done_by (Err why) P Q f holds = tt
+
+-- a worker's part that it did from its seat
+pub part_step : (setting : Setting) (seat : Hand → ℕ) (own : ℕ) (place : ℕ) (task : Task) (hand : Hand) (views : Holdings) (gateways : List Sight) (old new : List Entry) (sight : Sight) (came : Came) → own ≡ seat hand
+    → (d : HasDone setting (who_does seat hand) place task.work (holding_of views (gateway_of hand)) own old new sight came) → WhenDone came (Shows (with_holding views (gateway_of hand) d.after) gateways) → PartStep setting seat place task hand views gateways old new came
+part_step setting seat own place task hand views gateways old new sight came same d shows = record {
   made = d.made;
   entries = d.entries;
   seats = subst (λ (s : ℕ). All (λ (e : Entry). e.seat ≡ s) d.made) same d.seats;
@@ -53,11 +61,11 @@ part_step setting seat own place task hand views gateways old new view came same
   due = subst (λ (s : ℕ). WhenFull came (IsDueAfter (Does setting (who_does seat hand) place task.work (holding_of views (gateway_of hand))) s d.made)) same d.due;
 }
 
-pub upload_step : (setting : Setting) (seat : Hand → ℕ) (own : ℕ) (place number : ℕ) (task : Task) (hand : Hand) (views : Holdings) (gateways : List Gateway) (old new : List Entry) (view : Option View) (came : Came) → hand ≡ hands.Upload number → own ≡ seat hand
-    → HasDone setting (who_does seat (hands.Upload number)) place task.work nothing_held own old new view came → Shows views gateways → PartStep setting seat place task hand views gateways old new came
-upload_step setting seat own place number task hand views gateways old new view came is same d shows =
+pub upload_step : (setting : Setting) (seat : Hand → ℕ) (own : ℕ) (place number : ℕ) (task : Task) (hand : Hand) (views : Holdings) (gateways : List Sight) (old new : List Entry) (sight : Sight) (came : Came) → hand ≡ hands.Upload number → own ≡ seat hand
+    → HasDone setting (who_does seat (hands.Upload number)) place task.work nothing_held own old new sight came → Shows views gateways → PartStep setting seat place task hand views gateways old new came
+upload_step setting seat own place number task hand views gateways old new sight came is same d shows =
     subst (λ (h : Hand). PartStep setting seat place task h views gateways old new came) (sym is)
-    (part_step setting seat own place task (hands.Upload number) views gateways old new view came (same ∙ ap seat is) d shows)
+    (part_step setting seat own place task (hands.Upload number) views gateways old new sight came (same ∙ ap seat is) d (when_done came (Shows views gateways) shows))
 
 -- ---- a gateway's task
 
@@ -73,28 +81,29 @@ get_other (y ∷ ys) zero (suc j) a differ = refl
 get_other (y ∷ ys) (suc i) zero a differ = refl
 get_other (y ∷ ys) (suc i) (suc j) a differ = get_other ys i j a (λ e. differ (ap suc e))
 
-shows_at : (views : Holdings) (number : ℕ) (held : Holding) (gateways : List Gateway) (gateway : Gateway) (place : ℕ) (x : Gateway) (b : Bool) → (place == number) ≡ b → Shows views gateways
-    → Sees held gateway.view → slice_get (set gateways number gateway) place ≡ Some x → Sees (with_holding views (Some number) held place) x.view
+shows_at : (views : Holdings) (number : ℕ) (held : Holding) (gateways : List Sight) (gateway : Sight) (place : ℕ) (x : Sight) (b : Bool) → (place == number) ≡ b → Shows views gateways
+    → Sees held gateway → slice_get (set gateways number gateway) place ≡ Some x → Sees (with_holding views (Some number) held place) x
 shows_at views number held gateways gateway place x true e shows is at =
     let same : place ≡ number = grind (arith, nat_tests) in
     let own : gateway ≡ x = get_same gateways number gateway x (subst (λ (p : ℕ). slice_get (set gateways number gateway) p ≡ Some x) same at) in
-    rw e (is ∙ ap (λ (g : Gateway). g.view) own)
+    rw e (subst (Sees held) own is)
 shows_at views number held gateways gateway place x false e shows is at =
     let differ : place ≢ number = λ q. absurd (grind (arith, nat_tests, q, e)) in
     rw e (shows place x (sym (get_other gateways number place gateway differ) ∙ at))
 
--- a gateway that has a view from now on
-set_shows : (views : Holdings) (number : ℕ) (held : Holding) (gateways : List Gateway) (gateway : Gateway) → Shows views gateways → Sees held gateway.view → Shows (with_holding views (Some number) held) (set gateways number gateway)
+-- a gateway that sees by this from now on
+set_shows : (views : Holdings) (number : ℕ) (held : Holding) (gateways : List Sight) (gateway : Sight) → Shows views gateways → Sees held gateway → Shows (with_holding views (Some number) held) (set gateways number gateway)
 set_shows views number held gateways gateway shows is = λ place x at. shows_at views number held gateways gateway place x (place == number) refl shows is at
 
-pub gateway_step : (setting : Setting) (seat : Hand → ℕ) (own : ℕ) (place : ℕ) (task : Task) (hand : Hand) (views : Holdings) (gateways : List Gateway) (old new : List Entry) (came : Came) (number : ℕ) (before gateway : Gateway) → hand ≡ hands.Gateway number
+pub gateway_step : (setting : Setting) (seat : Hand → ℕ) (own : ℕ) (place : ℕ) (task : Task) (hand : Hand) (views : Holdings) (gateways : List Sight) (old new : List Entry) (came : Came) (number : ℕ) (before gateway : Sight) → hand ≡ hands.Gateway number
     → own ≡ seat hand → slice_get gateways number ≡ Some before
-    → ((held : Holding) → Sees held before.view → HasDone setting (who_does seat (hands.Gateway number)) place task.work held own old new gateway.view came)
+    → ((held : Holding) → Sees held before → HasDone setting (who_does seat (hands.Gateway number)) place task.work held own old new gateway came)
     → Shows views gateways → PartStep setting seat place task hand views (set gateways number gateway) old new came
 gateway_step setting seat own place task hand views gateways old new came number before gateway is same at done shows =
     let d = done (views number) (shows number before at) in
     subst (λ (h : Hand). PartStep setting seat place task h views (set gateways number gateway) old new came) (sym is)
-    (part_step setting seat own place task (hands.Gateway number) views (set gateways number gateway) old new gateway.view came (same ∙ ap seat is) d (set_shows views number d.after gateways gateway shows d.sees))
+    (part_step setting seat own place task (hands.Gateway number) views (set gateways number gateway) old new gateway came (same ∙ ap seat is) d
+    (done_by came (Sees d.after gateway) (Shows (with_holding views (Some number) d.after) (set gateways number gateway)) (set_shows views number d.after gateways gateway shows) d.sees))
 
 -- ---- who is next
 
@@ -154,7 +163,7 @@ hand_of_query gateways place number low high selector w is =
     (λ less. let long = length-map-range_with_len hands.Gateway 0 gateways in let same : 0 + number ≡ number = omega arith in the_gateway 0 gateways number (omega (arith, less, long)) ∙ ap (λ (n : ℕ). Some (hands.Gateway n)) same)
 
 -- as many as were counted do the task
-pub counted : (script : Script) → IsLawfulScript script → (w : Work) (place : ℕ) (gateways : List Gateway) (number count : ℕ) → length gateways ≡ length script.gateways → number ≡ length gateways → count ≡ length (hands_of_task number place w) → count ≡ length (hands_of_task (gateway_count script.gateways) place w)
+pub counted : (script : Script) → IsLawfulScript script → (w : Work) (place : ℕ) (gateways : List Sight) (number count : ℕ) → length gateways ≡ length script.gateways → number ≡ length gateways → count ≡ length (hands_of_task number place w) → count ≡ length (hands_of_task (gateway_count script.gateways) place w)
 counted script lawful w place gateways number count same long is =
     let all : number ≡ gateway_count script.gateways = omega (arith, same, long, lawful.few_gateways) in is ∙ ap (λ (n : ℕ). length (hands_of_task n place w)) all
 
@@ -162,13 +171,13 @@ sync_lawful : (script : Script) (w : Work) (gateway : ℕ) → w ≡ works.Sync 
 sync_lawful script w gateway is allowed = subst (λ (x : Work). IsLawfulWork script.gateways script.blocks (length script.selectors) x) is allowed
 
 pub sync_within : (script : Script) → IsLawfulScript script → (place number : ℕ) (w : Work) (hand : Hand) → IsLawfulWork script.gateways script.blocks (length script.selectors) w → slice_get (hands_of_task (gateway_count script.gateways) place w) number ≡ Some hand
-    → (gateways : List Gateway) → length gateways ≡ length script.gateways → IfSome (gateway_of hand) (λ gateway. gateway < length gateways)
+    → (gateways : List Sight) → length gateways ≡ length script.gateways → IfSome (gateway_of hand) (λ gateway. gateway < length gateways)
 sync_within script lawful place number w hand allowed at gateways same =
     let all : gateway_count script.gateways ≡ length gateways = omega (arith, same, lawful.few_gateways) in
     subst (λ (n : ℕ). IfSome (gateway_of hand) (λ gateway. gateway < n)) all
     (hand_within (gateway_count script.gateways) place number w hand at (λ gateway is. let less = sync_lawful script w gateway is allowed in omega (arith, less, lawful.few_gateways)))
 
-pub gateway_inside : (hand : Hand) (number : ℕ) (gateways : List Gateway) → hand ≡ hands.Gateway number → IfSome (gateway_of hand) (λ gateway. gateway < length gateways) → number < length gateways
+pub gateway_inside : (hand : Hand) (number : ℕ) (gateways : List Sight) → hand ≡ hands.Gateway number → IfSome (gateway_of hand) (λ gateway. gateway < length gateways) → number < length gateways
 gateway_inside hand number gateways is within = subst (λ (h : Hand). IfSome (gateway_of h) (λ gateway. gateway < length gateways)) is within
 
 -- what was gathered is the outcome
@@ -219,7 +228,7 @@ module _ (setting : Setting) (seat : Hand → ℕ) (place : ℕ) (task : Task) (
   own_duty hand = record { place = place; hand = hand; task = task }
 
   -- So many parts were done to their ends. What completes the rest completes them all.
-  pub record Front (number : ℕ) (gateways : List Gateway) (old new : List Entry) (parts : List Part) : Type 0 where
+  pub record Front (number : ℕ) (gateways : List Sight) (old new : List Entry) (parts : List Part) : Type 0 where
     pub made : List Entry
     pub entries : new ≡ old ++ made
     pub ends : List End
@@ -229,7 +238,7 @@ module _ (setting : Setting) (seat : Hand → ℕ) (place : ℕ) (task : Task) (
     pub shows : Shows after gateways
     pub all : AllZip (IsPart task.work) ends parts
 
-  pub none_done : (gateways : List Gateway) (journal : List Entry) (parts : List Part) → parts ≡ [] → Shows views gateways → Front 0 gateways journal journal parts
+  pub none_done : (gateways : List Sight) (journal : List Entry) (parts : List Part) → parts ≡ [] → Shows views gateways → Front 0 gateways journal journal parts
   none_done gateways journal parts none shows = subst (λ (l : List Part). Front 0 gateways journal journal l) (sym none) (record {
     made = [];
     entries = sym (append-nil journal);
@@ -244,7 +253,7 @@ module _ (setting : Setting) (seat : Hand → ℕ) (place : ℕ) (task : Task) (
   both : (one two : List Entry) (old mid new : List Entry) → mid ≡ old ++ one → new ≡ mid ++ two → new ≡ old ++ (one ++ two)
   both one two old mid new first then = then ∙ ap (λ (l : List Entry). l ++ two) first ∙ append_assoc old one two
 
-  module _ (number : ℕ) (hand : Hand) (shown gateways : List Gateway) (old mid new : List Entry) (parts : List Part) (f : Front number shown old mid parts) (at : slice_get duties number ≡ Some (own_duty hand)) where
+  module _ (number : ℕ) (hand : Hand) (shown gateways : List Sight) (old mid new : List Entry) (parts : List Part) (f : Front number shown old mid parts) (at : slice_get duties number ≡ Some (own_duty hand)) where
     next : drop number duties ≡ own_duty hand ∷ drop (number + 1) duties
     next = drop_place duties number (own_duty hand) at
 
@@ -309,7 +318,7 @@ module _ (setting : Setting) (seat : Hand → ℕ) (place : ℕ) (task : Task) (
           ends = f.ends ++ [];
           after = last;
           run = f.onward q.made [] last (subst (λ (ds : List Duty). InLine setting seat f.after ds q.made [] last) (sym next) (inr (q.after, q.seats, subst (λ (e : Option End). TaskRun setting (who_does seat hand) place task.work (holding_of f.after (gateway_of hand)) q.made e q.after) (none_by q.end why q.by) q.run, refl, refl)));
-          shows = q.shows;
+          shows = tt;
           whole = cut why (omega (arith, within, f.count, length-append f.ends []));
           due = broke why q;
         }
@@ -334,7 +343,7 @@ module _ (setting : Setting) (seat : Hand → ℕ) (place : ℕ) (task : Task) (
         )
 
   -- all parts were done, and what they came to was gathered, or memory was wanting for that
-  pub all_done : (number : ℕ) (gateways : List Gateway) (old new : List Entry) (parts : List Part) (o : Result Outcome Broken) → Front number gateways old new parts → number ≡ length duties → o ≢ Err broken.Full
+  pub all_done : (number : ℕ) (gateways : List Sight) (old new : List Entry) (parts : List Part) (o : Result Outcome Broken) → Front number gateways old new parts → number ≡ length duties → o ≢ Err broken.Full
       → ((outcome : Outcome) → o ≡ Ok outcome → IsOutcomeOf task.work parts outcome) → TaskStep setting seat place task views gateways old new o
   all_done number gateways old new parts o f all why is = record {
     made = f.made;
@@ -343,7 +352,7 @@ module _ (setting : Setting) (seat : Hand → ℕ) (place : ℕ) (task : Task) (
     after = f.after;
     run = subst (λ (es : List Entry). InLine setting seat views duties es f.ends f.after) (append-nil f.made) (subst (λ (l : List End). InLine setting seat views duties (f.made ++ []) l f.after) (append-nil f.ends)
         (f.onward [] [] f.after (subst (λ (ds : List Duty). InLine setting seat f.after ds [] [] f.after) (sym (drop_all number duties (omega (arith, all)))) (refl, refl, refl))));
-    shows = f.shows;
+    shows = when_done o (Shows f.after gateways) f.shows;
     whole = came o why (λ outcome same. (f.count ∙ all, (parts, f.all, is outcome same)));
     due = none_due o why;
   }
@@ -359,14 +368,14 @@ module _ (setting : Setting) (seat : Hand → ℕ) (place : ℕ) (task : Task) (
       none_due (Err broken.NoMemory) why = tt
 
   -- memory was wanting before the first part
-  pub none_begun : (gateways : List Gateway) (journal : List Entry) → MayAllBegin setting duties → Shows views gateways → TaskStep setting seat place task views gateways journal journal (Err broken.NoMemory)
-  none_begun gateways journal begin shows = record {
+  pub none_begun : (gateways : List Sight) (journal : List Entry) → MayAllBegin setting duties → TaskStep setting seat place task views gateways journal journal (Err broken.NoMemory)
+  none_begun gateways journal begin = record {
     made = [];
     entries = sym (append-nil journal);
     ends = [];
     after = views;
     run = nothing setting seat views duties begin;
-    shows = shows;
+    shows = tt;
     whole = tt;
     due = tt;
   }

@@ -5,7 +5,6 @@ use Rattle.std.specs.List.{All, AllZip, list_all}
 use Rattle.std.proofs.lemmas.List.{append-nil, length-append, length-map, take_more}
 use Rattle.world_core.specs.Operations.{entry_of}
 use Rattle.world_core.specs.declared.entry.Entry.{Entry}
-use Rattle.store_gateway.specs.declared.gateway.Gateway.{Gateway}
 use Rattle.script_workers.specs.Hands.{gateway_count, gateway_of, hands_of_task}
 use Rattle.script_core.specs.Lawful.{IsLawfulScript, IsLawfulWork}
 use Rattle.script_workers.specs.declared.hand.Hand.{Hand}
@@ -21,6 +20,7 @@ use Rattle.lifecycle_core.proofs.phases.RunsInLine.{may_begin}
 use Rattle.lifecycle_core.proofs.phases.TaskRuns.{MayBegin}
 use Rattle.std.proofs.lemmas.List.Elements.{All-drop}
 use Rattle.script_running.specs.Outcomes.{IsOutcome, TasksCame}
+use Rattle.script_running.specs.declared.sight.Sight.{Sight}
 use Rattle.replay_cli.specs.Progress.{IsDueInLine, Shows, TaskStep, TasksBroken, TasksDone, TasksTold, duties_at}
 use Rattle.replay_cli.specs.Reports.{activity_text}
 use Rattle.script_running.specs.Outcomes.{is_as_asked}
@@ -91,7 +91,7 @@ told_length setting place (task ∷ tasks) ends outcomes told =
 
 -- ---- from one task to the next
 
-module _ (setting : Setting) (seat : Hand → ℕ) (place : ℕ) (tasks : List Task) (task : Task) (views : Holdings) (shown gateways : List Gateway) (start mid new : List Entry) (as_asked : Bool) (text : List ℕ)
+module _ (setting : Setting) (seat : Hand → ℕ) (place : ℕ) (tasks : List Task) (task : Task) (views : Holdings) (shown gateways : List Sight) (start mid new : List Entry) (as_asked : Bool) (text : List ℕ)
     (within : place < length tasks) (is : task ≡ get_or tasks place task) where
   front_more : take (place + 1) tasks ≡ take place tasks ++ task ∷ []
   front_more = take_more tasks place task within ∙ ap (λ (t : Task). take place tasks ++ t ∷ []) (sym is)
@@ -206,7 +206,7 @@ take_none [] = refl
 take_none (t ∷ ts) = refl
 
 -- before the first task
-pub done_none : (setting : Setting) (seat : Hand → ℕ) (tasks : List Task) (views : Holdings) (gateways : List Gateway) (journal : List Entry) (asked : Bool) (text : List ℕ) → Shows views gateways → asked ≡ true → text ≡ []
+pub done_none : (setting : Setting) (seat : Hand → ℕ) (tasks : List Task) (views : Holdings) (gateways : List Sight) (journal : List Entry) (asked : Bool) (text : List ℕ) → Shows views gateways → asked ≡ true → text ≡ []
     → TasksDone setting seat (take 0 tasks) views gateways journal journal asked text
 unfolding duties_from report_of
 done_none setting seat tasks views gateways journal asked text shows all none = record {

@@ -7,8 +7,8 @@ use Rattle.label_sets.specs.Triples.{Triple, triples_of}
 use Rattle.vertical_merge.specs.Merged.{IsMerge}
 use Rattle.world_core.specs.Standing.{IsHonest}
 use Rattle.world_core.specs.declared.entry.Entry.{Entry}
-use Rattle.store_gateway.specs.declared.series_end.SeriesEnd.{SeriesEnd}
-use Rattle.store_gateway.specs.declared.series_end.SeriesEnd.TheVariants as called
+use Rattle.series_calls.specs.declared.series_end.SeriesEnd.{SeriesEnd}
+use Rattle.series_calls.specs.declared.series_end.SeriesEnd.TheVariants as called
 use Rattle.querier.specs.Gathered.{answer as whole_answer, gathered_samples, gathered_sources}
 use Rattle.querier.specs.declared.answer.Names.{Names}
 use Rattle.script_workers.specs.Hands.{gateway_count, hands_of_task}
@@ -26,7 +26,7 @@ use Rattle.lifecycle_core.specs.Phases.{IsRunOf}
 use Rattle.lifecycle_core.specs.Setting.{Setting}
 use Rattle.lifecycle_core.proofs.answers.SeveralGateways as Several
 use Rattle.lifecycle_core.proofs.answers.SeveralGateways.{AllAnswered, CameAll, end_of, given_by_all, named_by_all, names_from, names_of_all, series_of}
-use Rattle.lifecycle_core.specs.Tasks.{End, answered, not_asked, stopped, synced, uploaded, without_view}
+use Rattle.lifecycle_core.specs.Tasks.{End, answered, not_asked, refused, stopped, synced, uploaded, without_view}
 use Rattle.script_running.specs.Outcomes.{IsOutcome, IsPart, IsQueryOutcome, PhasesCame, TaskCame, TasksCame, answers_of, call_part, first_none, names_of, why_none}
 use Rattle.replay_cli.specs.ToldAnswers.{IsTold, IsWorth, ToldAnswer, answered_by}
 use Rattle.replay_cli.specs.Verdicts.{IsFullRun, IsWholeRun, tasks_of}
@@ -135,6 +135,7 @@ by_part low high n (synced e) own is none = absurd is
 by_part low high n (answered used e) own is none = by_call used e own (inner own (call_part e) is) none
 by_part low high n without_view own is none = absurd (let w = ap why_none (inner own (given.NoAnswer nothing.NoView) is) in cc (w, none))
 by_part low high n not_asked own is none = (None, refl, inner own given.NotAsked is)
+by_part low high n (refused cause) own is none = absurd is
 by_part low high n (stopped count) own is none = absurd is
 
 -- where none is told, none of them gave none

@@ -1,11 +1,11 @@
 -- A missing object that a report tells of is one that a call found missing.
 use Rattle.list_core.proofs.Membership.{contains_first, contains_later, member_cases, no_member}
-use Rattle.std.proofs.Common.{◌≡◌, ◌⊎◌, inl, inr, ℕ, zero, suc, ◌+◌, ℤ, Bool, List, [], ◌∷◌, ◌++◌, Contains, refl, sym, ap, subst, arith, Option, Some, map}
+use Rattle.std.proofs.Common.{◌≡◌, inl, inr, ℕ, zero, suc, ◌+◌, ℤ, Bool, List, [], ◌∷◌, ◌++◌, Contains, refl, sym, ap, subst, arith, Some, map}
 use Rattle.std.specs.List.{AllZip}
 use Rattle.std.proofs.lemmas.List.Elements.{Contains-append_cases, Contains-append_left}
 use Rattle.world_core.specs.declared.entry.Entry.{Entry}
-use Rattle.store_gateway.specs.declared.series_end.SeriesEnd.{SeriesEnd}
-use Rattle.store_gateway.specs.declared.series_end.SeriesEnd.TheVariants as called
+use Rattle.series_calls.specs.declared.series_end.SeriesEnd.{SeriesEnd}
+use Rattle.series_calls.specs.declared.series_end.SeriesEnd.TheVariants as called
 use Rattle.script_workers.specs.Hands.{gateway_count, gateway_of, hands_of_task}
 use Rattle.script_core.specs.Workers.{workers_of}
 use Rattle.script_core.specs.declared.script.Script.{Script}
@@ -19,7 +19,7 @@ use Rattle.lifecycle_core.specs.Causes.{IsExplained, SomeCame}
 use Rattle.lifecycle_core.specs.Conducts.{CameTo}
 use Rattle.lifecycle_core.specs.Holdings.{Use}
 use Rattle.lifecycle_core.specs.Setting.{Setting}
-use Rattle.lifecycle_core.specs.Tasks.{End, answered, not_asked, stopped, synced, uploaded, without_view}
+use Rattle.lifecycle_core.specs.Tasks.{End, answered, not_asked, refused, stopped, synced, uploaded, without_view}
 use Rattle.script_running.specs.Outcomes.{IsOutcome, IsPart, IsQueryOutcome, PhasesCame, TaskCame, TasksCame, call_part, first_none}
 use Rattle.replay_cli.specs.Verdicts.{IsFullRun, IsWholeRun}
 use Rattle.script_running.specs.declared.outcome.Outcome.{Outcome}
@@ -59,6 +59,7 @@ part_missed low high n number without_view is = absurd (let same = inner (given.
 part_missed low high n number not_asked is = absurd (let same = inner (given.NoAnswer (none.Missing number)) given.NotAsked is in cc (same))
 part_missed low high n number (uploaded e) is = absurd is
 part_missed low high n number (synced e) is = absurd is
+part_missed low high n number (refused cause) is = absurd is
 part_missed low high n number (stopped count) is = absurd is
 
 later_missed : (end : End) (ends : List End) (number : ℕ) → Missed ends number → Missed (end ∷ ends) number

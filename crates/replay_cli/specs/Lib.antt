@@ -11,6 +11,7 @@ pub mod Statuses
 pub mod Telling
 pub mod ToldAnswers
 pub mod Undone
+pub mod Shippable
 pub mod Verdicts
 pub mod Words
 pub use Rattle.world_core.specs.Worlds

@@ -2,7 +2,6 @@
 use Rattle.std.specs.Prelude.{◌≡◌, ◌≢◌, ℕ, ◌+◌, ◌<◌, Bool, true, false, List, [], ◌∷◌, ◌++◌, length, take, drop, All, Option, Some, slice_get, Result, Ok, Err}
 use Rattle.std.specs.List.{list_all}
 use Rattle.world_core.specs.declared.entry.Entry.{Entry}
-use Rattle.store_gateway.specs.declared.gateway.Gateway.{Gateway}
 use Rattle.script_workers.specs.Hands.{gateway_count, gateway_of}
 use Rattle.script_workers.specs.declared.hand.Hand.{Hand}
 use Rattle.script_workers.specs.declared.phase.Phase.{Phase}
@@ -13,7 +12,9 @@ use Rattle.lifecycle_core.specs.Setting.{Setting}
 use Rattle.lifecycle_core.specs.Tasks.{End, TaskRun}
 use Rattle.lifecycle_core.specs.Ways.{AreInTurn, AreUnfinished, IsOperationDue, PhasesRun}
 use Rattle.script_running.specs.Outcomes.{IsOutcome, PhasesTold, is_as_asked}
-use Rattle.script_running.specs.Tasks.{CameBy, Does, IsDueAfter, Sees, WhenFull}
+use Rattle.script_running.specs.Sights.{Sees}
+use Rattle.script_running.specs.Tasks.{CameBy, Does, IsDueAfter, WhenDone, WhenFull}
+use Rattle.script_running.specs.declared.sight.Sight.{Sight}
 use Rattle.replay_cli.specs.Verdicts.{report_of, tasks_of}
 use Rattle.script_running.specs.declared.came.Broken.{Broken}
 use Rattle.script_running.specs.declared.came.Broken.TheVariants as broken
@@ -24,23 +25,23 @@ use Rattle.replay_cli.specs.declared.verdict.Verdict.TheVariants as verdict
 
 -- ---- one task
 
--- gateways that have these views
-abbrev pub Shows : Holdings → List Gateway → Type 0
-Shows views gateways = (place : ℕ) (gateway : Gateway) → slice_get gateways place ≡ Some gateway → Sees (views place) gateway.view
+-- gateways that hold this see by these
+abbrev pub Shows : Holdings → List Sight → Type 0
+Shows views gateways = (place : ℕ) (gateway : Sight) → slice_get gateways place ≡ Some gateway → Sees (views place) gateway
 
 -- the duties of the task at a place
 abbrev pub duties_at : Setting → ℕ → List Task → List Duty
 duties_at setting place tasks = duties_from (gateway_count setting.script.gateways) place tasks
 
 -- a worker's part of the task at a place: its entries and what it came to
-pub record PartStep (setting : Setting) (seat : Hand → ℕ) (place : ℕ) (task : Task) (hand : Hand) (views : Holdings) (gateways : List Gateway) (old new : List Entry) (came : Came) : Type 0 where
+pub record PartStep (setting : Setting) (seat : Hand → ℕ) (place : ℕ) (task : Task) (hand : Hand) (views : Holdings) (gateways : List Sight) (old new : List Entry) (came : Came) : Type 0 where
   pub made : List Entry
   pub entries : new ≡ old ++ made
   pub seats : All (λ e. e.seat ≡ seat hand) made
   pub end : Option End
   pub after : Holding
   pub run : TaskRun setting (who_does seat hand) place task.work (holding_of views (gateway_of hand)) made end after
-  pub shows : Shows (with_holding views (gateway_of hand) after) gateways
+  pub shows : WhenDone came (Shows (with_holding views (gateway_of hand) after) gateways)
   pub by : CameBy task.work end came
   pub due : WhenFull came (IsDueAfter (Does setting (who_does seat hand) place task.work (holding_of views (gateway_of hand))) (seat hand) made)
 
@@ -55,13 +56,13 @@ abbrev pub IsDueInLine : Setting → (Hand → ℕ) → Holdings → List Duty �
 IsDueInLine setting seat views duties made = (at : ℕ) × IsDueAfter (λ entries (run : List End × Holdings). InLine setting seat views duties entries run.0 run.1) at made
 
 -- a task's entries and what it came to
-pub record TaskStep (setting : Setting) (seat : Hand → ℕ) (place : ℕ) (task : Task) (views : Holdings) (gateways : List Gateway) (old new : List Entry) (came : Result Outcome Broken) : Type 0 where
+pub record TaskStep (setting : Setting) (seat : Hand → ℕ) (place : ℕ) (task : Task) (views : Holdings) (gateways : List Sight) (old new : List Entry) (came : Result Outcome Broken) : Type 0 where
   pub made : List Entry
   pub entries : new ≡ old ++ made
   pub ends : List End
   pub after : Holdings
   pub run : InLine setting seat views (duties_at setting place (task ∷ [])) made ends after
-  pub shows : Shows after gateways
+  pub shows : WhenDone came (Shows after gateways)
   pub whole : IsWhole setting place task ends came
   pub due : WhenFull came (IsDueInLine setting seat views (duties_at setting place (task ∷ [])) made)
 
@@ -77,7 +78,7 @@ TasksTold setting place (task ∷ tasks) ends outcomes =
     × (outcomes ≡ o ∷ later) × TasksTold setting (place + 1) tasks others later
 
 -- tasks that were done to their ends, and their lines
-pub record TasksDone (setting : Setting) (seat : Hand → ℕ) (tasks : List Task) (views : Holdings) (gateways : List Gateway) (old new : List Entry) (as_asked : Bool) (text : List ℕ) : Type 0 where
+pub record TasksDone (setting : Setting) (seat : Hand → ℕ) (tasks : List Task) (views : Holdings) (gateways : List Sight) (old new : List Entry) (as_asked : Bool) (text : List ℕ) : Type 0 where
   pub made : List Entry
   pub entries : new ≡ old ++ made
   pub ends : List End
@@ -110,7 +111,7 @@ abbrev pub PhasesDone : Setting → ℕ → List Phase → List (List End) → L
 PhasesDone setting number phases ends outcomes = PhasesTold (λ number phase own first. TasksTold setting 0 phase.tasks own first) number phases ends outcomes
 
 -- The phases before a place were done to their ends, and these are their lines. What completes the rest completes the run.
-pub record Reached (setting : Setting) (place : ℕ) (gateways : List Gateway) (journal : List Entry) (as_asked : Bool) (text : List ℕ) : Type 0 where
+pub record Reached (setting : Setting) (place : ℕ) (gateways : List Sight) (journal : List Entry) (as_asked : Bool) (text : List ℕ) : Type 0 where
   pub views : Holdings
   pub shows : Shows views gateways
   pub ends : List (List End)
@@ -141,13 +142,13 @@ HasRun setting journal =
     × AreInTurn (in_line setting) 0 setting.script.phases ends
 
 -- what a phase leaves
-abbrev pub PhaseStep : Setting → ℕ → List Gateway → List Entry → Bool → List ℕ → Result (Unit {0}) Broken → Type 0
+abbrev pub PhaseStep : Setting → ℕ → List Sight → List Entry → Bool → List ℕ → Result (Unit {0}) Broken → Type 0
 PhaseStep setting place gateways journal as_asked text (Ok done) = Reached setting (place + 1) gateways journal as_asked text
 PhaseStep setting place gateways journal as_asked text (Err broken.Full) = IsBrokenAt setting place journal as_asked text
 PhaseStep setting place gateways journal as_asked text (Err broken.NoMemory) = HasRun setting journal
 
 -- what all phases leave
-abbrev pub RunCame : Setting → List Gateway → List Entry → Bool → List ℕ → Result (Unit {0}) Broken → Type 0
+abbrev pub RunCame : Setting → List Sight → List Entry → Bool → List ℕ → Result (Unit {0}) Broken → Type 0
 RunCame setting gateways journal as_asked text (Ok done) = Reached setting (length setting.script.phases) gateways journal as_asked text
 RunCame setting gateways journal as_asked text (Err broken.Full) = (place : ℕ) × (place < length setting.script.phases) × IsBrokenAt setting place journal as_asked text
 RunCame setting gateways journal as_asked text (Err broken.NoMemory) = HasRun setting journal

@@ -33,6 +33,7 @@ unfoldable pub upload_words : UploadOutcome → List ℕ
 upload_words (upload.Done count) = codes "ok " ++ decimal_text count ++ codes " objects"
 upload_words upload.Already = codes "already"
 upload_words (upload.Fault entry) = codes "fault " ++ decimal_text entry
+upload_words (upload.Refused cause) = codes "refused " ++ decimal_text cause
 upload_words (upload.Stopped count) = codes "stopped " ++ decimal_text count
 
 unfoldable pub sync_words : SyncOutcome → List ℕ

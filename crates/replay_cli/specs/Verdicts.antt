@@ -30,6 +30,7 @@ use Rattle.script_running.specs.Outcomes.{PhasesCame}
 use Rattle.replay_cli.specs.Output.{IsWrittenInPart}
 use Rattle.replay_cli.specs.Reports.{activity_text, newline}
 use Rattle.script_running.specs.Outcomes.{is_as_asked}
+use Rattle.replay_cli.specs.Shippable.{RefusesNone}
 use Rattle.replay_cli.specs.Statuses.{number_of}
 use Rattle.replay_cli.specs.declared.check_outcome.CheckOutcome.{CheckOutcome}
 use Rattle.script_running.specs.declared.outcome.Outcome.{Outcome}
@@ -354,9 +355,18 @@ pub record IsCalm (around : Around) (saying : Saying) (setting : Setting) : Type
   pub sink : ¬ Rose saying.faults_before saying.faults_after
   pub journal : IfSome around.journal (λ entries. (¬ IsFull entries) × IsTrusted setting entries × (failed_count entries ≡ 0))
 
--- A call that is calm by some setting ends as asked, unless there is no memory. Only where its text asks for patterns may its
--- script be refused for the size of one: of which sizes `regex` builds a pattern, no definition says.
+-- The call ran a script of which a block is refused, and wrote the report of that run, by which some activity failed.
+pub record TellsRefused (around : Around) (saying : Saying) : Type 0 where
+  pub verdict : Verdict
+  pub ran : IsRunOfText around verdict
+  pub fails : status_of verdict ≡ status.ActivityFailed
+  pub refuses : ¬ RefusesNone (setting_of ran.script)
+  pub written : IsAdded (text_of verdict) saying
+
+-- A call that is calm by some setting ends as asked, unless there is no memory, or a block of its script is refused. Only where its
+-- text asks for patterns may its script be refused for the size of one: of which sizes `regex` builds a pattern, no definition says.
 abbrev pub EndsCalmly : Around → Saying → ℕ → Type 0
 EndsCalmly around saying status =
     (setting : Setting) → IsCalm around saying setting
     → (status ≡ 0) ⊎ (status ≡ 6) ⊎ ((status ≡ 2) × IsSomeAnd around.text (λ text. (number : ℕ) × HasPatternLine text number))
+    ⊎ ((status ≡ 5) × TellsRefused around saying)

@@ -6,6 +6,7 @@ ghost use Rattle.script_core.specs.Lawful.{IsLawfulScript};
 ghost use Rattle.lifecycle_core.specs.Causes.{IsExplained};
 ghost use Rattle.lifecycle_core.specs.Setting.{Setting};
 ghost use Rattle.replay_cli.specs.ToldAnswers.{IsTold, IsWorth, ToldAnswer};
+ghost use Rattle.replay_cli.specs.Shippable.{RefusesNone};
 ghost use Rattle.replay_cli.specs.Verdicts.{IsFullRun, IsWholeRun};
 ghost use Rattle.script_running.specs.declared.outcome.Outcome.TheVariants as outcome;
 ghost use Rattle.script_running.specs.declared.outcome.QueryOutcome.TheVariants as query;
@@ -56,10 +57,10 @@ pub fn told_misses_are_explained()
         → IsExplained setting journal number }
 {}
 
-/// A law: where the bucket is honest and no call to it failed, a whole run ends as asked: no line tells of a fault, of something
-/// missing, damaged or too many, or of a view that is not there.
+/// A law: where the bucket is honest and no call to it failed, a whole run ends as asked, if no block of its script is refused: no
+/// line tells of a fault, of something missing, damaged or too many, or of a view that is not there.
 pub fn calm_runs_end_as_asked()
     ensures { (setting : Setting) (as_asked : Bool) (text : List ℕ) (journal : List Entry)
         → IsWholeRun setting as_asked text journal → IsHonest journal → failed_count journal ≡ 0
-        → as_asked ≡ true }
+        → RefusesNone setting → as_asked ≡ true }
 {}

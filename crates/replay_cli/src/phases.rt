@@ -1,14 +1,14 @@
-ghost use Rattle.std.specs.Prelude.{◌≡◌, ◌≢◌, ◌++◌, ◌+◌, ◌<◌, ◌^◌, ◌&&◌, [], ◌∷◌, true, false, length, take, List, Ok, Err, Some, None, IsTrue, IfOk, OnErr, OnOk, MatchResult, slice_get};
+ghost use Rattle.std.specs.Prelude.{◌≡◌, ◌≢◌, ◌++◌, ◌+◌, ◌<◌, ◌^◌, ◌&&◌, [], ◌∷◌, true, false, length, take, List, Ok, Err, Some, IsTrue, IfOk, OnErr, OnOk, MatchResult, slice_get};
 ghost use Rattle.std.specs.List.{All};
 ghost use Rattle.world_core.specs.Keeping.{IsFull};
 ghost use Rattle.world_core.specs.declared.entry.Entry.{Entry};
-ghost use Rattle.store_gateway.specs.declared.gateway.Gateway.{Gateway};
 ghost use Rattle.script_core.specs.Workers.{seats_before};
 ghost use Rattle.script_core.specs.Lawful.{IsLawfulScript};
 ghost use Rattle.lifecycle_core.specs.InLine.{seat_of};
 ghost use Rattle.lifecycle_core.specs.Ways.{BeginsPhase};
 ghost use Rattle.lifecycle_core.specs.Holdings.{Holdings};
 ghost use Rattle.replay_cli.specs.Progress.{PhaseStep, Reached, RunCame, Shows, TasksBroken, TasksDone};
+ghost use Rattle.script_running.specs.Sights.{no_sight};
 ghost use Rattle.script_running.specs.Tasks.{Allows, is_full_came};
 ghost use Rattle.run_notes.specs.LineHands.{KeepsRun};
 ghost use Rattle.replay_cli.specs.Reports.{activity_text};
@@ -19,12 +19,11 @@ use crate::report::put_activity;
 use crate::seats::Seats;
 use crate::tasks::do_task;
 use bucket_core::Bucket;
-use list_core::{NoMemory, TryCopy};
+use list_core::NoMemory;
 use run_notes::LineHand;
 use script_core::{Phase, Script, Task};
-use script_running::{Broken, Outcome, Report};
+use script_running::{Broken, Outcome, Report, Sight};
 use std::alloc::Global;
-use store_gateway::Gateway;
 use world_core::{Acted, Hand, Op};
 
 /// The lines of some tasks, and whether all of them ended as asked.
@@ -37,7 +36,8 @@ pub(crate) struct Lines {
 /// What stays from one phase to the next.
 #[derive(Drop)]
 pub(crate) struct Progress {
-    pub gateways: Vec<Gateway>,
+    /// By what each gateway sees.
+    pub gateways: Vec<Sight>,
     /// How many workers the phases so far have had.
     pub workers: u32,
     /// The report of the finished phases.
@@ -48,7 +48,7 @@ impl Progress {
     /// Nothing was done yet.
     pub(crate) fn new(alloc: Global, script: &Script) -> Result<Progress, NoMemory>
         ensures unseen { IfOk result
-            (λ progress. All (λ (gateway : Gateway). gateway.view ≡ None) progress.gateways.items) }
+            (λ progress. All (λ sight. sight ≡ no_sight) progress.gateways.items) }
         ensures ready { IfOk result
             (λ progress. length progress.gateways.items ≡ length script.now.gateways) }
         ensures workers { IfOk result (λ progress. progress.workers ≡ 0) }
@@ -56,11 +56,8 @@ impl Progress {
         ensures asked { IfOk result (λ progress. progress.report.as_asked ≡ true) }
     {
         let mut gateways = Vec::new(alloc);
-        for name in script.gateways.members() {
-            gateways.push(Gateway {
-                name: name.copy()?,
-                view: None,
-            })?;
+        for _ in 0..script.gateways.len() {
+            gateways.push(Sight::new())?;
         }
         Ok(Progress {
             gateways,

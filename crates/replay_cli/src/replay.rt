@@ -55,7 +55,7 @@ where
     ensures full { IfSome result.note (λ note. IsFullSaid note.full
         (saying_to K.faults K.written out.old out.new) result.status) }
 
-    // A calm call ends as asked, unless there is no memory, or a pattern of its script is too large.
+    // A calm call ends as asked, unless there is no memory, a pattern of its script is too large, or a block of it is refused.
     ensures calm { EndsCalmly
         (around_call IsInPhases R.left R.faults script.old script.new
         S.buckets S.next_bucket S.shelves S.next_shelf S.faults

@@ -97,6 +97,7 @@ fn put_upload(out: &mut Vec<u8>, ulid: Ulid, end: &UploadOutcome) -> Result<(), 
         UploadOutcome::Done(count) => put_numbered(out, "ok ", u64::from(*count), " objects")?,
         UploadOutcome::Already => put_text(out, "already")?,
         UploadOutcome::Fault(entry) => put_numbered(out, "fault ", *entry, "")?,
+        UploadOutcome::Refused(cause) => put_numbered(out, "refused ", u64::from(*cause), "")?,
         UploadOutcome::Stopped(count) => put_numbered(out, "stopped ", u64::from(*count), "")?,
     }
     put_text(out, "\n")

@@ -92,6 +92,9 @@ pub(crate) fn run_with_threads<B: Bucket + Send, G: Gate + Sync, T: Threads + Wa
     let mut report = Lines::new(alloc);
     match run_beside(rt, alloc, script, text, world, gate, &mut report) {
         Ok((end, closed)) => {
+            // what every world keeps, as this one does
+            let kept = closed.world();
+            let _after = kept.journal();
             let finished = Finished::of_closed(closed, is_full(end.came));
             (verdict_of(end.came, report), finished)
         }

@@ -10,7 +10,8 @@ ghost use Rattle.lifecycle_core.specs.Holdings.{Holding, Holdings};
 ghost use Rattle.lifecycle_core.specs.InLine.{seat_of};
 ghost use Rattle.lifecycle_core.specs.Setting.{setting_of};
 ghost use Rattle.script_running.specs.Outcomes.{AreAllParts, IsOutcomeOf};
-ghost use Rattle.script_running.specs.Tasks.{Allows, HasDone, Sees, is_full_came};
+ghost use Rattle.script_running.specs.Sights.{Sees};
+ghost use Rattle.script_running.specs.Tasks.{Allows, HasDone, is_full_came};
 ghost use Rattle.run_notes.specs.LineHands.{KeepsRun};
 ghost use Rattle.replay_cli.specs.Progress.{PartStep, Shows, TaskStep};
 
@@ -18,10 +19,9 @@ use crate::phases::Progress;
 use crate::seats::Seats;
 use bucket_core::Bucket;
 use list_core::NoMemory;
-use meta_fetcher::View;
 use run_notes::LineHand;
 use script_core::{Hand, Script, Task, Work};
-use script_running::{Broken, Came, Outcome, Part, outcome_of, run_task};
+use script_running::{Broken, Came, Outcome, Part, Sight, outcome_of, run_task};
 use std::alloc::Global;
 
 /// Does one task, before the next one begins: those who do it come one after another, and what they came to is gathered.
@@ -128,21 +128,13 @@ fn do_part<B: Bucket>(
     let seat = seats.seat_of(who);
     match who {
         Hand::Upload(_) => {
-            let mut unseen = None;
+            let mut unseen = Sight::new();
             do_over(alloc, script, None, &task.work, &mut unseen, hand, seat)
         }
         Hand::Gateway(number) => {
             let gateway = &mut progress.gateways[number as usize];
             let own = Some(number);
-            do_over(
-                alloc,
-                script,
-                own,
-                &task.work,
-                &mut gateway.view,
-                hand,
-                seat,
-            )
+            do_over(alloc, script, own, &task.work, gateway, hand, seat)
         }
     }
 }
@@ -167,7 +159,7 @@ fn do_over<B: Bucket>(
     script: &Script,
     gateway: Option<u32>,
     work: &Work,
-    view: &mut Option<View>,
+    sight: &mut Sight,
     hand: LineHand<B>,
     seat: u32,
 ) -> (Came, LineHand<B>)
@@ -181,11 +173,11 @@ fn do_over<B: Bucket>(
     ensures keeps { KeepsRun B.faults B.quiet B.asked hand.opened.value hand.wanted hand.world
         result.1.opened.value result.1.wanted result.1.world }
     ensures done { (who : Who) (place : ℕ) (held : Holding) → who.gateway ≡ gateway
-        → Sees held view.old
+        → Sees held sight.old
         → HasDone (setting_of script.now) who place work.now held seat
-        hand.world.journal result.1.world.journal view.new result.0 }
+        hand.world.journal result.1.world.journal sight.new result.0 }
 {
     let mut hand = hand.at_seat(seat);
-    let came = run_task(alloc, script, gateway, work, view, &mut hand);
+    let came = run_task(alloc, script, gateway, work, sight, &mut hand);
     (came, hand)
 }

@@ -1,12 +1,12 @@
 -- The parts of all who do a task, by their ends.
-use Rattle.std.proofs.Common.{◌≡◌, ℕ, ℤ, Option, zero, suc, ◌+◌, ◌<◌, ◌≤◌, List, [], ◌∷◌, length, map, refl, sym, ◌∙◌, ap, subst, arith}
-use Rattle.std.specs.List.{AllZip, range_with_len}
+use Rattle.std.proofs.Common.{◌≡◌, ℕ, ℤ, Option, suc, ◌≤◌, List, [], ◌∷◌, length, map, refl, ◌∙◌, ap, arith}
+use Rattle.std.specs.List.{AllZip}
 use Rattle.std.proofs.lemmas.List.FromFn.{length-map-range_with_len}
 use Rattle.script_workers.specs.Hands.{hands_of_task}
 use Rattle.script_workers.specs.declared.hand.Hand.TheVariants as hands
 use Rattle.script_workers.specs.declared.work.Work.{Work}
 use Rattle.script_workers.specs.declared.work.Work.TheVariants as work
-use Rattle.lifecycle_core.specs.Tasks.{End, answered, not_asked, stopped, synced, uploaded, without_view}
+use Rattle.lifecycle_core.specs.Tasks.{End, answered, not_asked, refused, stopped, synced, uploaded, without_view}
 use Rattle.script_running.specs.Outcomes.{AreAllParts, IsPart, call_part, sync_outcome, upload_outcome}
 use Rattle.script_running.specs.declared.outcome.NoAnswer.TheVariants as none
 use Rattle.script_running.specs.declared.outcome.UploadOutcome.TheVariants as upload
@@ -21,6 +21,7 @@ one_query low high selector (synced e) one is = absurd is
 one_query low high selector (answered used e) one is = (call_part e, is)
 one_query low high selector without_view one is = (given.NoAnswer none.NoView, is)
 one_query low high selector not_asked one is = (given.NotAsked, is)
+one_query low high selector (refused cause) one is = absurd is
 one_query low high selector (stopped count) one is = absurd is
 
 pub query_parts : (low high : ℤ) (selector : ℕ) (ends : List End) (parts : List Part) → AllZip (IsPart (work.Query low high selector)) ends parts → (own : List QueryPart) × (parts ≡ map part.Query own)
@@ -38,6 +39,7 @@ one_upload ulid stop (synced e) one is = absurd is
 one_upload ulid stop (answered used e) one is = absurd is
 one_upload ulid stop without_view one is = absurd is
 one_upload ulid stop not_asked one is = absurd is
+one_upload ulid stop (refused cause) one is = (upload.Refused cause, ap (λ (p : Part). p ∷ []) is)
 one_upload ulid stop (stopped count) one is = (upload.Stopped count, ap (λ (p : Part). p ∷ []) is)
 
 one_sync : (gateway : ℕ) (end : End) (one : Part) → IsPart (work.Sync gateway) end one → AreAllParts (work.Sync gateway) (one ∷ [])
@@ -46,6 +48,7 @@ one_sync gateway (synced e) one is = (sync_outcome e, ap (λ (p : Part). p ∷ [
 one_sync gateway (answered used e) one is = absurd is
 one_sync gateway without_view one is = absurd is
 one_sync gateway not_asked one is = absurd is
+one_sync gateway (refused cause) one is = absurd is
 one_sync gateway (stopped count) one is = absurd is
 
 -- the parts of as many as do the task are those of all who do it

@@ -1,5 +1,5 @@
 -- A run beside whose world came out again is a run of the script.
-use Rattle.std.proofs.Common.{◌≡◌, inl, inr, ℕ, ◌+◌, ◌<◌, List, [], ◌∷◌, ◌++◌, length, map, Contains, Option, Some, refl, sym, ◌∙◌, ap, subst, append_assoc, append-nil, arith}
+use Rattle.std.proofs.Common.{◌≡◌, inl, inr, ℕ, ◌+◌, ◌<◌, List, [], ◌∷◌, ◌++◌, length, map, Contains, Some, refl, sym, ◌∙◌, ap, subst, append_assoc, append-nil, arith}
 use Rattle.std.specs.Prelude.{Ok, Err, slice_get}
 use Rattle.std.proofs.lemmas.List.Sums.{sum_by-append}
 use mathlib.Core.List.{IsPrefix}
@@ -11,7 +11,6 @@ use Rattle.world_core.specs.declared.entry.Entry.{Entry}
 use Rattle.world_turn.specs.Closing.{AllJoined, Closes}
 use Rattle.world_turn.specs.declared.view.View.{View as Known}
 use Rattle.world_turn.proofs.Fronts.{front_length, front_more}
-use Rattle.meta_fetcher.specs.declared.view.View.{View}
 use Rattle.script_core.specs.Lawful.{IsLawfulScript}
 use Rattle.script_core.specs.Workers.{workers_of}
 use Rattle.script_workers.specs.declared.phase.Phase.{Phase}
@@ -34,6 +33,7 @@ use Rattle.script_running.specs.Workers.{IsBrokenOff}
 use Rattle.script_running.specs.declared.came.Broken.{Broken}
 use Rattle.script_running.specs.declared.came.Broken.TheVariants as broken
 use Rattle.script_running.specs.declared.outcome.Outcome.{Outcome}
+use Rattle.script_running.specs.declared.sight.Sight.{Sight}
 use Rattle.script_running.specs.declared.worker.WorkerEnd.{WorkerEnd}
 use Rattle.script_running.proofs.Begun.{begun_more, phases_run}
 use Rattle.script_running.proofs.Cutting.{parts}
@@ -130,8 +130,8 @@ module _ (setting : Setting) (well : IsCutWell (by_script setting)) (root : Know
   turns_of : (done left : List Phase) (told : List (List (List End))) → setting.script.phases ≡ done ++ left → AreFinished (by_workers setting) 0 done told → IsInTurn setting told
   turns_of done left told is finished = subst (λ (ps : List Phase). AreInTurn (by_workers setting) 0 ps told) (sym is) (turns_none (by_workers setting) 0 done left told finished)
 
-  pub all_ran : (views : List (Option View)) (outcomes : List Outcome) → HasGone setting root setting.script.phases views outcomes → HasRunBeside setting journal outcomes (Ok tt)
-  all_ran views outcomes gone =
+  pub all_ran : (sights : List Sight) (outcomes : List Outcome) → HasGone setting root setting.script.phases sights outcomes → HasRunBeside setting journal outcomes (Ok tt)
+  all_ran sights outcomes gone =
       let f = gone.so_far in
       let is : setting.script.phases ≡ setting.script.phases ++ [] = sym (append-nil setting.script.phases) in
       record {

@@ -1,6 +1,6 @@
 -- The ends of a phase's workers, laid together, are what its tasks came to.
-use Rattle.std.proofs.Common.{◌≡◌, inl, inr, ℕ, ℤ, zero, suc, ◌+◌, ◌<◌, ◌≤◌, List, [], ◌∷◌, ◌++◌, length, map, Contains, Option, Some, None, refl, sym, ◌∙◌, ap, subst, arith}
-use Rattle.std.specs.Prelude.{Ok, slice_get}
+use Rattle.std.proofs.Common.{◌≡◌, inl, inr, ℕ, ℤ, zero, suc, ◌+◌, ◌≤◌, List, [], ◌∷◌, ◌++◌, length, map, Contains, Option, Some, refl, sym, ◌∙◌, ap, subst, arith}
+use Rattle.std.specs.Prelude.{Ok, Result, slice_get}
 use Rattle.std.specs.List.{All, AllByRecursion, AllZip, flat_map, range_with_len, zip}
 use Rattle.std.proofs.lemmas.List.Elements.{All-contains, All-head, All-tail}
 use Rattle.std.proofs.lemmas.Option.{slice_get_within}
@@ -27,12 +27,14 @@ use Rattle.script_running.specs.Ended.{HasEnded, HaveEnded}
 use Rattle.script_running.specs.Gathering.{AreSeenBeside, AreTakenIn, AreTold, IsFilled, IsToldBy, laid_in, parts_at, slot_at}
 use Rattle.script_running.specs.Outcomes.{IsPart, TaskCame, TasksCame}
 use Rattle.script_running.proofs.AllParts.{all_parts, zip_long}
-use Rattle.script_running.specs.Tasks.{Sees}
+use Rattle.script_running.specs.Sights.{Sees}
+use Rattle.script_running.specs.Tasks.{WhenDone}
+use Rattle.script_running.specs.declared.came.Broken.{Broken}
 use Rattle.script_running.specs.Workers.{AreParts, IsBrokenOff}
-use Rattle.meta_fetcher.specs.declared.view.View.{View}
 use Rattle.script_running.specs.declared.gathering.Slots.{Slots}
 use Rattle.script_running.specs.declared.outcome.Outcome.{Outcome}
 use Rattle.script_running.specs.declared.part.Part.{Part}
+use Rattle.script_running.specs.declared.sight.Sight.{Sight}
 use Rattle.script_running.specs.declared.worker.WorkerEnd.{WorkerEnd}
 
 -- ---- lists beside each other
@@ -185,12 +187,24 @@ all_fors gateways place (works.Query low high selector) = asked_fors gateways pl
 
 -- ---- all tasks
 
+zip_second : {A B : Type 0} (xs : List A) (ys : List B) (x : A) (y : B) → Contains (zip xs ys) (x, y) → Contains ys y
+zip_second [] ys x y among = absurd (no_member (x, y) among)
+zip_second (a ∷ xs) [] x y among = absurd (no_member (x, y) among)
+zip_second {A} {B} (a ∷ xs) (b ∷ ys) x y among = elim (member_cases (a, b) (x, y) (zip xs ys) among) [
+  | inl same ↦ subst (Contains (b ∷ ys)) (ap (λ (r : A × B). r.1) same) (contains_first b ys)
+  | inr later ↦ contains_later b y ys (zip_second xs ys x y later)
+]
+
+-- a worker that was not broken off sees by what it holds
+seen_by : (last : Holding) (end : WorkerEnd) → end.came ≡ Ok tt → WhenDone end.came (Sees last end.sight) → Sees last end.sight
+seen_by last end done sees = subst (λ (r : Result (Unit {0}) Broken). WhenDone r (Sees last end.sight)) done sees
+
 module _ (setting : Setting) (number : ℕ) (phase : Phase) (taken : ℕ)
     (staff : IsStaff (gateway_count setting.script.gateways) phase.tasks (hands_of (gateway_count setting.script.gateways) phase.tasks))
     (workers : List Worker) (seated : AreSeated (gateway_count setting.script.gateways) phase.tasks (hands_of (gateway_count setting.script.gateways) phase.tasks) taken workers)
     (before after : Holdings) (front : List Entry) (kept : List (ℕ × List Entry)) (others : List WorkerEnd) (ends : List (List End)) (lasts : List Holding)
     (have : HaveEnded setting phase.tasks before front workers kept others ends lasts) (left : AreLeft before workers lasts after)
-    (views seen : List (Option View)) (old new : Slots) (all : All (λ (e : WorkerEnd). e.came ≡ Ok tt) others) (taken_in : AreTakenIn workers others views seen old new)
+    (sights seen : List Sight) (old new : Slots) (all : All (λ (e : WorkerEnd). e.came ≡ Ok tt) others) (taken_in : AreTakenIn workers others sights seen old new)
     (empty : (gateway : Option ℕ) (place : ℕ) (o : Part) → slot_at old gateway place ≡ Some (Some o) → ⊥) (counted : length new.gateways.items ≡ gateway_count setting.script.gateways) where
   abbrev gateways : ℕ
   gateways = gateway_count setting.script.gateways
@@ -231,14 +245,6 @@ module _ (setting : Setting) (number : ℕ) (phase : Phase) (taken : ℕ)
       let whole = one_done setting phase.tasks before front after w.0 c.kept e.0 c.own c.last c.has (All-contains (λ (x : WorkerEnd). x.came ≡ Ok tt) others e.0 all (zip_second workers others w.0 e.0 e.1)) in
       let o = zip_partner (w.0).tasks (e.0).parts.items place whole.1 ((of.places).each place t) in
       subst (λ (g : Option ℕ). IsFilled new g place) of.gateway (taken_in.laid w.0 e.0 place o.0 e.1 o.1)
-    where
-      zip_second : {A B : Type 0} (xs : List A) (ys : List B) (x : A) (y : B) → Contains (zip xs ys) (x, y) → Contains ys y
-      zip_second [] ys x y among = absurd (no_member (x, y) among)
-      zip_second (a ∷ xs) [] x y among = absurd (no_member (x, y) among)
-      zip_second {A} {B} (a ∷ xs) (b ∷ ys) x y among = elim (member_cases (a, b) (x, y) (zip xs ys) among) [
-        | inl same ↦ subst (Contains (b ∷ ys)) (ap (λ (r : A × B). r.1) same) (contains_first b ys)
-        | inr later ↦ contains_later b y ys (zip_second xs ys x y later)
-      ]
 
   -- the ends of those who do a task, and their parts
   record ByHands (place : ℕ) (task : Task) (hs : List Hand) : Type 0 where
@@ -282,15 +288,15 @@ module _ (setting : Setting) (number : ℕ) (phase : Phase) (taken : ℕ)
             subst (λ (n : ℕ). slice_get phase.tasks n ≡ Some task) same (each (suc k) task at)),
       )
 
-  sees : AreSeenBeside before workers views → AreSeen after seen
-  sees beside place view is = elim (taken_in.views_are place view is) [
+  sees : AreSeenBeside before workers sights → AreSeen after seen
+  sees beside place sight is = elim (taken_in.sights_are place sight is) [
     | inl (w, e, among, gateway, same) ↦
         let c = comes setting phase.tasks before front after workers kept others ends lasts w e have left.own among in
-        subst (λ (held : Holding). Sees held view) (sym (c.left place gateway)) (subst (Sees c.last) same (c.has).sees)
-    | inr (older, none) ↦ subst (λ (held : Holding). Sees held view) (sym (left.others place none)) (beside place view older none)
+        subst (λ (held : Holding). Sees held sight) (sym (c.left place gateway)) (subst (Sees c.last) same (seen_by c.last e (All-contains (λ (x : WorkerEnd). x.came ≡ Ok tt) others e all (zip_second workers others w e among)) (c.has).sees))
+    | inr (older, none) ↦ subst (λ (held : Holding). Sees held sight) (sym (left.others place none)) (beside place sight older none)
   ]
 
-  pub gathered : (outcomes : List Outcome) → AreTold new 0 phase.tasks outcomes → AreSeenBeside before workers views
+  pub gathered : (outcomes : List Outcome) → AreTold new 0 phase.tasks outcomes → AreSeenBeside before workers sights
       → AreDone workers ends × AreSeen after seen × TasksCame setting.script workers ends 0 phase.tasks outcomes
   gathered outcomes told beside = (
     done.0,

@@ -4,7 +4,6 @@ use Rattle.std.specs.Prelude.{IfSome, IsSome, MatchBool, Ok, Err, OnOk, Result, 
 use Rattle.std.specs.List.{All}
 use Rattle.std.proofs.lemmas.List.Elements.{All-head, All-tail, All-weaker}
 use Rattle.world_core.specs.declared.entry.Entry.{Entry}
-use Rattle.meta_fetcher.specs.declared.view.View.{View}
 use Rattle.script_workers.specs.Hands.{gateway_count, hands_of}
 use Rattle.script_workers.specs.Staff.{AreSeated}
 use Rattle.script_workers.specs.declared.phase.Phase.{Phase}
@@ -28,6 +27,7 @@ use Rattle.script_running.specs.declared.gathering.Column.{Column}
 use Rattle.script_running.specs.declared.gathering.Slots.{Slots}
 use Rattle.script_running.specs.declared.outcome.Outcome.{Outcome}
 use Rattle.script_running.specs.declared.part.Part.{Part}
+use Rattle.script_running.specs.declared.sight.Sight.{Sight}
 use Rattle.script_running.specs.declared.worker.WorkerEnd.{WorkerEnd}
 use Rattle.script_running.proofs.Gathered.{gathered}
 use Rattle.script_running.proofs.Taking.{at_place}
@@ -77,23 +77,23 @@ slots_there tasks gateways slots empty workers within places = λ k w below. of_
     of_worker : (w : Worker) → IfSome w.gateway (λ gateway. gateway < gateways) → All (λ place. place < tasks) w.tasks → All (HasSlot slots w.gateway) w.tasks
     of_worker w inside places = All-weaker (λ place. place < tasks) (HasSlot slots w.gateway) (λ place less. of_gateway w.gateway inside place less) w.tasks places
 
-module _ (setting : Setting) (number : ℕ) (phase : Phase) (before after : Holdings) (front : List Entry) (workers : List Worker) (kept : List (ℕ × List Entry)) (own : List (List End)) (lasts : List Holding) (others : List WorkerEnd) (views : List (Option View)) where
+module _ (setting : Setting) (number : ℕ) (phase : Phase) (before after : Holdings) (front : List Entry) (workers : List Worker) (kept : List (ℕ × List Entry)) (own : List (List End)) (lasts : List Holding) (others : List WorkerEnd) (sights : List Sight) where
   -- a worker was broken off
-  pub broken_off : (why : Broken) (outcomes : List Outcome) → HaveCome others (Err why) → Gathers setting phase workers own others after views outcomes outcomes (Err why)
+  pub broken_off : (why : Broken) (outcomes : List Outcome) → HaveCome others (Err why) → Gathers setting phase workers own others after sights outcomes outcomes (Err why)
   broken_off broken.Full outcomes have = (refl, have)
   broken_off broken.NoMemory outcomes have = (tt, have)
 
   -- all came to their ends
-  pub came_whole : IsLawfulScript setting.script → length views ≡ gateway_count setting.script.gateways → slice_get setting.script.phases number ≡ Some phase → workers ≡ workers_of setting.script number → HaveEnded setting phase.tasks before front workers kept others own lasts → AreLeft before workers lasts after
-      → (seen : List (Option View)) → AreSeenBeside before workers views → (old new : Slots) → HaveCome others (Ok tt) → AreTakenIn workers others views seen old new → AreAllEmpty (length phase.tasks) (length views) old
+  pub came_whole : IsLawfulScript setting.script → length sights ≡ gateway_count setting.script.gateways → slice_get setting.script.phases number ≡ Some phase → workers ≡ workers_of setting.script number → HaveEnded setting phase.tasks before front workers kept others own lasts → AreLeft before workers lasts after
+      → (seen : List Sight) → AreSeenBeside before workers sights → (old new : Slots) → HaveCome others (Ok tt) → AreTakenIn workers others sights seen old new → AreAllEmpty (length phase.tasks) (length sights) old
       → (outcomes later : List Outcome) (result : Result (Unit {0}) Broken) → result ≢ Err broken.Full → OnOk result ((own : List Outcome) × (later ≡ outcomes ++ own) × AreTold new 0 phase.tasks own) → Gathers setting phase workers own others after seen outcomes later result
   came_whole lawful counted at are have left seen beside old new all taken empty outcomes later (Err broken.Full) why tells = absurd (why refl)
   came_whole lawful counted at are have left seen beside old new all taken empty outcomes later (Err broken.NoMemory) why tells = (tt, none_full others all)
   came_whole lawful counted at are have left seen beside old new all taken empty outcomes later (Ok done) why tells =
       let gateways = gateway_count setting.script.gateways in
       let seated = subst (AreSeated gateways phase.tasks (hands_of gateways phase.tasks) (length (workers_before setting.script number))) (sym are) (are_seated setting.script number phase lawful at) in
-      let g = gathered setting number phase (length (workers_before setting.script number)) (is_staff gateways phase.tasks) workers seated before after front kept others own lasts have left views seen old new all taken
-      (none_filled (length phase.tasks) (length views) old empty) ((taken.same).wide ∙ empty.wide ∙ counted) tells.0 tells.2 beside in
+      let g = gathered setting number phase (length (workers_before setting.script number)) (is_staff gateways phase.tasks) workers seated before after front kept others own lasts have left sights seen old new all taken
+      (none_filled (length phase.tasks) (length sights) old empty) ((taken.same).wide ∙ empty.wide ∙ counted) tells.0 tells.2 beside in
       (g.0, g.1, (tells.0, tells.1, g.2))
 
 -- so many gateways
@@ -101,8 +101,8 @@ pub as_many : (tasks n m : ℕ) (slots : Slots) → n ≡ m → AreAllEmpty task
 as_many tasks n m slots same empty = subst (λ (k : ℕ). AreAllEmpty tasks k slots) same empty
 
 -- the tasks and the gateways are those that were counted
-pub empty_of : (tasks own : List Task) (gateways : ℕ) (views : List (Option View)) (slots : Slots) → tasks ≡ own → length views ≡ gateways → AreAllEmpty (length tasks) gateways slots → AreAllEmpty (length own) (length views) slots
-empty_of tasks own gateways views slots same long empty =
+pub empty_of : (tasks own : List Task) (gateways : ℕ) (sights : List Sight) (slots : Slots) → tasks ≡ own → length sights ≡ gateways → AreAllEmpty (length tasks) gateways slots → AreAllEmpty (length own) (length sights) slots
+empty_of tasks own gateways sights slots same long empty =
     subst (λ (n : ℕ). AreAllEmpty (length own) n slots) (sym long) (subst (λ (l : List Task). AreAllEmpty (length l) gateways slots) same empty)
 
 pub told_of : (tasks own : List Task) (slots : Slots) (outcomes later : List Outcome) (result : Result (Unit {0}) Broken) → tasks ≡ own → OnOk result ((all : List Outcome) × (later ≡ outcomes ++ all) × AreTold slots 0 tasks all)
@@ -110,5 +110,5 @@ pub told_of : (tasks own : List Task) (slots : Slots) (outcomes later : List Out
 told_of tasks own slots outcomes later result same told = subst (λ (l : List Task). OnOk result ((all : List Outcome) × (later ≡ outcomes ++ all) × AreTold slots 0 l all)) same told
 
 -- as many gateways see something as are counted
-pub gateways_counted : (script : Script) → IsLawfulScript script → (views : List (Option View)) → length views ≡ length script.gateways → length views ≡ gateway_count script.gateways
-gateways_counted script lawful views each = omega (arith, each, lawful.few_gateways)
+pub gateways_counted : (script : Script) → IsLawfulScript script → (sights : List Sight) → length sights ≡ length script.gateways → length sights ≡ gateway_count script.gateways
+gateways_counted script lawful sights each = omega (arith, each, lawful.few_gateways)

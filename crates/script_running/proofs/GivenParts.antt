@@ -1,5 +1,5 @@
 -- What gateways gave to a query, one after another.
-use Rattle.std.proofs.Common.{◌≡◌, ◌≢◌, ℕ, zero, suc, ◌+◌, ◌<◌, get_or, take, drop, Bool, true, false, List, [], ◌∷◌, ◌++◌, length, map, Option, Some, None, refl, sym, ◌∙◌, ap, subst, arith, append-nil}
+use Rattle.std.proofs.Common.{◌≡◌, ◌≢◌, ℕ, suc, ◌+◌, ◌<◌, get_or, take, drop, Bool, true, false, List, [], ◌∷◌, ◌++◌, length, map, Option, Some, None, refl, sym, ◌∙◌, ap, subst, arith, append-nil}
 use Rattle.std.specs.Prelude.{Ok, Err, OnOk, Result, is_some, not}
 use Rattle.std.proofs.lemmas.List.{map-id, take-append-drop}
 use Rattle.list_core.proofs.Lists.{drop_place}
@@ -11,7 +11,6 @@ use Rattle.script_workers.specs.declared.work.Work.TheVariants as work
 use Rattle.script_running.specs.Given.{HasGiven}
 use Rattle.script_running.specs.Outcomes.{AreAllParts, IsOutcomeOf, IsQueryOutcome, answers_of, first_none, names_of, or_first, why_none}
 use Rattle.script_running.specs.declared.outcome.NoAnswer.{NoAnswer}
-use Rattle.script_running.specs.declared.outcome.Outcome.{Outcome}
 use Rattle.script_running.specs.declared.outcome.Outcome.TheVariants as outcome
 use Rattle.script_running.specs.declared.outcome.QueryOutcome.{QueryOutcome}
 use Rattle.script_running.specs.declared.outcome.QueryOutcome.TheVariants as query

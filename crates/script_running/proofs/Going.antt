@@ -1,17 +1,16 @@
 -- A run beside before its first phase, and after one more.
-use Rattle.std.proofs.Common.{◌≡◌, ℕ, ◌+◌, ◌<◌, List, [], ◌∷◌, ◌++◌, length, Option, Some, None, refl, sym, ◌∙◌, ap, subst, append_assoc, append-nil, arith}
+use Rattle.std.proofs.Common.{◌≡◌, ℕ, ◌+◌, ◌<◌, List, [], ◌∷◌, ◌++◌, length, Some, refl, sym, ◌∙◌, ap, subst, append_assoc, append-nil, arith}
 use Rattle.std.specs.Prelude.{slice_get}
 use Rattle.std.specs.List.{All}
 use Rattle.std.proofs.lemmas.List.Elements.{All-nil}
 use Rattle.world_core.specs.declared.entry.Entry.{Entry}
 use Rattle.world_turn.specs.Rule.{Opened, root}
 use Rattle.world_turn.specs.declared.view.View.{View as Known}
-use Rattle.meta_fetcher.specs.declared.view.View.{View}
 use Rattle.script_core.specs.Workers.{workers_of}
 use Rattle.script_core.specs.declared.script.Script.{Script}
 use Rattle.script_workers.specs.declared.phase.Phase.{Phase}
 use Rattle.lifecycle_core.specs.Conducts.{AreDone}
-use Rattle.lifecycle_core.specs.Holdings.{Holdings, none_held}
+use Rattle.lifecycle_core.specs.Holdings.{Holdings, none_held, nothing_held}
 use Rattle.lifecycle_core.specs.Phases.{by_workers}
 use Rattle.lifecycle_core.specs.Setting.{Setting}
 use Rattle.lifecycle_core.specs.Tasks.{End}
@@ -23,6 +22,8 @@ use Rattle.script_running.specs.Going.{HasGone}
 use Rattle.script_running.specs.Outcomes.{PhasesCame, TasksCame}
 use Rattle.script_running.specs.declared.outcome.Outcome.{Outcome}
 use Rattle.script_running.proofs.Begun.{begun_more}
+use Rattle.script_running.specs.Sights.{Sees, no_sight}
+use Rattle.script_running.specs.declared.sight.Sight.{Sight}
 
 finished_more : {State Ends : Type 0} (way : Way State Ends) (number : ℕ) (done : List Phase) (told : List Ends) (phase : Phase) (own : Ends) → AreFinished way number done told → way.is_done (number + length done) phase own → AreFinished way number (done ++ phase ∷ []) (told ++ own ∷ [])
 finished_more way number [] [] phase own finished is = let same : number + 0 ≡ number = omega arith in (subst (λ (n : ℕ). way.is_done n phase own) same is, refl)
@@ -49,10 +50,10 @@ came_more script number (p ∷ done) (x ∷ told) outcomes phase ends own (first
     )
 
 -- one phase more was finished
-pub gone_more : (setting : Setting) (before after : Known) (done : List Phase) (views seen : List (Option View)) (outcomes own : List Outcome) (phase : Phase) (one : Passed) (ends : List (List End)) (next : Holdings) (g : HasGone setting before done views outcomes)
+pub gone_more : (setting : Setting) (before after : Known) (done : List Phase) (sights seen : List Sight) (outcomes own : List Outcome) (phase : Phase) (one : Passed) (ends : List (List End)) (next : Holdings) (g : HasGone setting before done sights outcomes)
     → WasBegun setting (length done) phase g.held one ends next → AreDone (workers_of setting.script (length done)) ends → TasksCame setting.script (workers_of setting.script (length done)) ends 0 phase.tasks own
-    → KnowsPhases after (g.passed ++ one ∷ []) → length seen ≡ length views → AreSeen next seen → HasGone setting after (done ++ phase ∷ []) seen (outcomes ++ own)
-gone_more setting before after done views seen outcomes own phase one ends next g was all came knows same sees =
+    → KnowsPhases after (g.passed ++ one ∷ []) → length seen ≡ length sights → AreSeen next seen → HasGone setting after (done ++ phase ∷ []) seen (outcomes ++ own)
+gone_more setting before after done sights seen outcomes own phase one ends next g was all came knows same sees =
     let first : length done ≡ 0 + length done = omega arith in
     let f = g.so_far in
     record {
@@ -69,9 +70,9 @@ gone_more setting before after done views seen outcomes own phase one ends next 
       seen = sees;
     }
 
--- before the first phase no gateway has a view
-pub gone_none : (setting : Setting) (opened : Opened) (known : Known) (views : List (Option View)) → known ≡ root opened → length views ≡ length setting.script.gateways → ((place : ℕ) (view : Option View) → slice_get views place ≡ Some view → view ≡ None) → HasGone setting known [] views []
-gone_none setting opened known views is each none = record {
+-- before the first phase no gateway has done anything
+pub gone_none : (setting : Setting) (opened : Opened) (known : Known) (sights : List Sight) → known ≡ root opened → length sights ≡ length setting.script.gateways → ((place : ℕ) (sight : Sight) → slice_get sights place ≡ Some sight → sight ≡ no_sight) → HasGone setting known [] sights []
+gone_none setting opened known sights is each none = record {
   passed = [];
   held = none_held;
   so_far = record { told = []; begun = refl; finished = refl };
@@ -83,5 +84,5 @@ gone_none setting opened known views is each none = record {
   };
   came = (refl, refl);
   each = each;
-  seen = λ place view at. sym (none place view at);
+  seen = λ place sight at. subst (Sees nothing_held) (sym (none place sight at)) (record { view_is = refl; cache_is = refl });
 }

@@ -1,6 +1,6 @@
 -- A worker's job, from its tasks.
 use Rattle.std.proofs.Common.{◌≡◌, ℕ, ◌<◌, true, List, [], ◌∷◌, ◌++◌, length, drop, refl, sym, ◌∙◌, ap, subst}
-use Rattle.std.specs.Prelude.{Option, Some, None, Ok, Err, IfSome, IsTrue, slice_get}
+use Rattle.std.specs.Prelude.{Option, Some, None, Ok, Err, IfSome, option_map, IsTrue, slice_get}
 use Rattle.std.specs.List.{All}
 use Rattle.std.proofs.lemmas.List.Elements.{All-weaker}
 use Rattle.world_core.specs.Keeping.{IsFull}
@@ -14,26 +14,33 @@ use Rattle.script_workers.specs.declared.phase.Phase.{Phase}
 use Rattle.script_workers.specs.declared.task.Task.{Task}
 use Rattle.script_workers.specs.declared.worker.Worker.{Worker}
 use Rattle.lifecycle_core.specs.Conducts.{Who, who_of}
-use Rattle.lifecycle_core.specs.Holdings.{Holding, nothing_held}
+use Rattle.lifecycle_core.specs.Holdings.{Holding, Use}
 use Rattle.lifecycle_core.specs.Setting.{Setting, setting_of}
 use Rattle.script_running.proofs.WorkerSteps.{member}
-use Rattle.script_running.specs.Tasks.{Sees}
+use Rattle.script_running.specs.Sights.{Sees, cache_of}
 use Rattle.script_running.specs.Workers.{AreUploads, HasWorked, IsAtWork, IsLent, MayWork, Post, is_upload}
 use Rattle.script_running.specs.declared.came.Broken.TheVariants as broken
+use Rattle.script_running.specs.declared.sight.Sight.{Sight}
 use Rattle.script_running.specs.declared.worker.WorkerEnd.{WorkerEnd}
 
 rest : {X : Type 0} (xs ys : List X) → drop (length xs) (xs ++ ys) ≡ ys
 rest [] ys = refl
 rest (x ∷ xs) ys = rest xs ys
 
--- something that a worker with this view may hold
-abbrev holds : Option View → Holding
-holds None = nothing_held
-holds (Some view) = record { used = Some (record { view = view; last = 0 }) }
+-- something that a worker that sees by this may hold
+abbrev uses : Option View → Option Use
+uses None = None
+uses (Some view) = Some (record { view = view; last = 0 })
 
-holds_it : (view : Option View) → Sees (holds view) view
-holds_it None = refl
-holds_it (Some view) = refl
+uses_it : (view : Option View) → option_map (λ (used : Use). used.view) (uses view) ≡ view
+uses_it None = refl
+uses_it (Some view) = refl
+
+abbrev holds : Sight → Holding
+holds sight = record { used = uses sight.view; cache = cache_of sight.cache }
+
+holds_it : (sight : Sight) → Sees (holds sight) sight
+holds_it sight = record { view_is = uses_it sight.view; cache_is = refl }
 
 -- the entries alone, without those of before
 alone : (setting : Setting) (tasks : List Task) (who : Who) (places : List ℕ) (before : Holding) (seat : ℕ) (old new : List Entry) (end : WorkerEnd) → HasWorked setting tasks who places before seat old new end
@@ -69,12 +76,12 @@ module _ (post : Post) (script : Script) (phase : Phase) (spelled : script_of po
       (subst (λ (s : Script). HasWorked (setting_of s) phase.tasks (who_of post.worker) post.worker.tasks held seat [] made end) same h)
 
   pub may_work : (seat : ℕ) (old new : List Entry) (front : Option (List Entry)) (end : WorkerEnd)
-      → ((who : Who) (held : Holding) → who.gateway ≡ post.worker.gateway → Sees held post.view → HasWorked (setting_of script) phase.tasks who post.worker.tasks held seat old new end) → (end.came ≡ Err broken.Full → IfSome front IsFull)
+      → ((who : Who) (held : Holding) → who.gateway ≡ post.worker.gateway → Sees held post.sight → HasWorked (setting_of script) phase.tasks who post.worker.tasks held seat old new end) → (end.came ≡ Err broken.Full → IfSome front IsFull)
       → (made : List Entry) × (new ≡ old ++ made) × MayWork post seat made front end
   may_work seat old new front end worked full =
-      let first = worked (who_of post.worker) (holds post.view) refl (holds_it post.view) in (
+      let first = worked (who_of post.worker) (holds post.sight) refl (holds_it post.sight) in (
         drop (length old) new,
-        gains (setting_of script) phase.tasks (who_of post.worker) post.worker.tasks (holds post.view) seat old new end first,
+        gains (setting_of script) phase.tasks (who_of post.worker) post.worker.tasks (holds post.sight) seat old new end first,
         record {
           worked = λ other one held is found sees.
               by_text held seat (drop (length old) new) end (alone (setting_of script) phase.tasks (who_of post.worker) post.worker.tasks held seat old new end (worked (who_of post.worker) held refl sees)) other one is found;

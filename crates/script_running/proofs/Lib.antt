@@ -1,6 +1,8 @@
 pub mod Blocks
+pub mod Planned
 pub mod Uploads
 pub mod Syncs
+pub mod Calls
 pub mod TaskSteps
 pub mod WorkerSteps
 pub mod JobSteps

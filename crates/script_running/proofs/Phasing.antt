@@ -18,7 +18,6 @@ use Rattle.world_turn.specs.Turns.{Acts, IsLater, IsSame}
 use Rattle.world_turn.specs.declared.pass.Pass.{Pass}
 use Rattle.world_turn.specs.declared.view.View.{View as Known}
 use Rattle.phase_runner.specs.Phases.{HasRun, Runs}
-use Rattle.meta_fetcher.specs.declared.view.View.{View}
 use Rattle.script_workers.specs.Hands.{gateway_count, gateway_of, hands_of, places_from}
 use Rattle.script_workers.specs.Staff.{IsWorkerOf}
 use Rattle.script_workers.specs.Whose.{IsFor, IsTaskOf, asks, ships, syncs}
@@ -50,6 +49,7 @@ use Rattle.script_running.specs.Workers.{AreUploads, IsAtWork, MayWork, Post, is
 use Rattle.script_running.specs.declared.came.Broken.{Broken}
 use Rattle.script_running.specs.declared.came.Broken.TheVariants as broken
 use Rattle.script_running.specs.declared.outcome.Outcome.{Outcome}
+use Rattle.script_running.specs.declared.sight.Sight.{Sight}
 use Rattle.script_running.specs.declared.worker.WorkerEnd.{WorkerEnd}
 use Rattle.script_running.proofs.Ending.{have_ended, was_begun, were_kept}
 use Rattle.script_running.proofs.Gathered.{same_place}
@@ -164,7 +164,7 @@ module _ (script : Script) (place : ℕ) (phase : Phase) (at : slice_get script.
   parts : script.phases ≡ front_phases ++ phase ∷ drop (place + 1) script.phases
   parts = sym (take-append-drop place script.phases) ∙ ap (λ (l : List Phase). front_phases ++ l) (drop_place script.phases place phase at)
 
-  module _ (before : Known) (views : List (Option View)) (outcomes : List Outcome) (g : HasGone own before front_phases views outcomes) where
+  module _ (before : Known) (sights : List Sight) (outcomes : List Outcome) (g : HasGone own before front_phases sights outcomes) where
     -- the phase was not begun
     unbegun : (now : Known) (why : Broken) → KnowsPhases now g.passed → IfFull why (HasSeenFull now) → HasStopped own now outcomes why
     unbegun now why knows full = record {
@@ -194,7 +194,7 @@ module _ (script : Script) (place : ℕ) (phase : Phase) (at : slice_get script.
     clock_refused after broken.Full set later = clock_full after set later
     clock_refused after broken.NoMemory set later = clock_wanting after set later
 
-  module _ (root : Pass) (views : List (Option View)) (outcomes : List Outcome) (g : HasGone own (view_of root) front_phases views outcomes) (first : root.seat ≡ 0) (set : Pass) (seen : Seen) (acts : Acts (view_of root) (Clock phase.moment) (Done seen) (view_of set)) where
+  module _ (root : Pass) (sights : List Sight) (outcomes : List Outcome) (g : HasGone own (view_of root) front_phases sights outcomes) (first : root.seat ≡ 0) (set : Pass) (seen : Seen) (acts : Acts (view_of root) (Clock phase.moment) (Done seen) (view_of set)) where
     begins : BeginsPhase phase (entry_of (view_of root).seat (Clock phase.moment) seen)
     begins = record { seat = root.rests.sits ∙ first; sets = refl }
 
@@ -283,16 +283,16 @@ module _ (script : Script) (place : ℕ) (phase : Phase) (at : slice_get script.
       }
 
       -- what the phase comes to, by what its workers' ends come to together
-      phase_came : (seen_then : List (Option View)) (later : List Outcome) (came : Result (Unit {0}) Broken) → length seen_then ≡ length views → Gathers own phase workers ended.0 others next.0 seen_then outcomes later came
+      phase_came : (seen_then : List Sight) (later : List Outcome) (came : Result (Unit {0}) Broken) → length seen_then ≡ length sights → Gathers own phase workers ended.0 others next.0 seen_then outcomes later came
           → HasCome own (view_of after) (take (place + 1) script.phases) seen_then later came
       phase_came seen_then later (Err why) each gathers = broke why later gathers
       phase_came seen_then later (Ok done) each (all, sees, (own_outcomes, are, tasks)) =
           let same : workers ≡ workers_of script (length front_phases) = workers_are ∙ ap (workers_of script) (sym long) in
           subst (λ (ps : List Phase). HasGone own (view_of after) ps seen_then later) (sym (take_place script.phases place phase at))
           (subst (λ (os : List Outcome). HasGone own (view_of after) (front_phases ++ phase ∷ []) seen_then os) (sym are)
-          (gone_more own (view_of root) (view_of after) front_phases views seen_then outcomes own_outcomes phase one ended.0 next.0 g next.2 (subst (λ (ws : List Worker). AreDone ws ended.0) same all) (subst (λ (ws : List Worker). TasksCame script ws ended.0 0 phase.tasks own_outcomes) same tasks) knows each sees))
+          (gone_more own (view_of root) (view_of after) front_phases sights seen_then outcomes own_outcomes phase one ended.0 next.0 g next.2 (subst (λ (ws : List Worker). AreDone ws ended.0) same all) (subst (λ (ws : List Worker). TasksCame script ws ended.0 0 phase.tasks own_outcomes) same tasks) knows each sees))
 
-      pub phase_comes : (seen_then : List (Option View)) (later : List Outcome) (came : Result (Unit {0}) Broken) → length seen_then ≡ length views
+      pub phase_comes : (seen_then : List Sight) (later : List Outcome) (came : Result (Unit {0}) Broken) → length seen_then ≡ length sights
           → ((holdings : Holdings) (each : List (List End)) (lasts : List Holding) → HaveEnded own phase.tasks g.held (view_of after).front workers kept others each lasts → AreLeft g.held workers lasts holdings → Gathers own phase workers each others holdings seen_then outcomes later came)
           → HasCome own (view_of after) (take (place + 1) script.phases) seen_then later came
       phase_comes seen_then later came each gathers = phase_came seen_then later came each (gathers next.0 ended.0 ended.1 ended.2 left)

@@ -1,5 +1,5 @@
 -- A run beside, from an empty journal to the world that comes out again.
-use Rattle.std.proofs.Common.{◌≡◌, ℕ, List, [], length, Option, None, sym, ap, subst, arith}
+use Rattle.std.proofs.Common.{◌≡◌, ℕ, List, [], length, sym, ap, subst, arith}
 use Rattle.std.specs.Prelude.{Ok, Err, Result}
 use Rattle.std.specs.List.{All}
 use Rattle.list_core.proofs.Lists.{take_none}
@@ -8,25 +8,21 @@ use Rattle.world_core.specs.declared.entry.Entry.{Entry}
 use Rattle.world_turn.specs.Closing.{AllJoined, Closes}
 use Rattle.world_turn.specs.Rule.{Opened, root}
 use Rattle.world_turn.specs.declared.view.View.{View as Known}
-use Rattle.meta_fetcher.specs.declared.view.View.{View}
 use Rattle.script_workers.specs.Hands.{gateway_count, seats_from}
 use Rattle.script_core.specs.Lawful.{IsLawfulScript}
 use Rattle.script_core.specs.Workers.{seats_before}
 use Rattle.script_core.specs.declared.script.Script.{Script}
-use Rattle.lifecycle_core.specs.Holdings.{none_held}
-use Rattle.lifecycle_core.specs.Phases.{by_workers}
 use Rattle.lifecycle_core.specs.Setting.{Setting}
-use Rattle.lifecycle_core.specs.Ways.{PhasesRun}
-use Rattle.lifecycle_core.proofs.phases.FirstPhases.{no_phase}
 use Rattle.lifecycle_core.proofs.phases.Fronts.{script_is_cut_well}
 use Rattle.script_running.specs.Beside.{HasRunBeside}
 use Rattle.script_running.specs.Going.{HasCome, HasGone}
 use Rattle.script_running.specs.declared.came.Broken.{Broken}
-use Rattle.script_running.specs.declared.came.Broken.TheVariants as broken
 use Rattle.script_running.specs.declared.outcome.Outcome.{Outcome}
 use Rattle.script_running.proofs.Closing.{all_ran, all_stopped}
 use Rattle.script_running.proofs.Going.{gone_none}
 use Rattle.script_running.proofs.Taking.{at_place}
+use Rattle.script_running.specs.Sights.{no_sight}
+use Rattle.script_running.specs.declared.sight.Sight.{Sight}
 
 -- no phase takes a seat
 pub none_before : (script : Script) → seats_before script 0 ≡ 0
@@ -36,15 +32,15 @@ none_before script = ap (seats_from (gateway_count script.gateways) 0) (take_non
 pub fresh_joined : (opened : Opened) (known : Known) → known ≡ root opened → AllJoined known
 fresh_joined opened known is = subst AllJoined (sym is) (λ seat some less. absurd (omega (arith, some, less)))
 
-pub first_gone : (setting : Setting) (opened : Opened) (known : Known) (views : List (Option View)) (outcomes : List Outcome) → known ≡ root opened → length views ≡ length setting.script.gateways → All (λ (view : Option View). view ≡ None) views → outcomes ≡ [] → HasGone setting known [] views outcomes
-first_gone setting opened known views outcomes is each none empty =
-    subst (HasGone setting known [] views) (sym empty) (gone_none setting opened known views is each (λ place view at. at_place (λ (view : Option View). view ≡ None) views place view none at))
+pub first_gone : (setting : Setting) (opened : Opened) (known : Known) (sights : List Sight) (outcomes : List Outcome) → known ≡ root opened → length sights ≡ length setting.script.gateways → All (λ (sight : Sight). sight ≡ no_sight) sights → outcomes ≡ [] → HasGone setting known [] sights outcomes
+first_gone setting opened known sights outcomes is each none empty =
+    subst (HasGone setting known [] sights) (sym empty) (gone_none setting opened known sights is each (λ place sight at. at_place (λ (sight : Sight). sight ≡ no_sight) sights place sight none at))
 
-pub run_came : (setting : Setting) (root : Known) (tick : ℕ) (journal : List Entry) (views : List (Option View)) (outcomes : List Outcome) (came : Result (Unit {0}) Broken) → IsLawfulScript setting.script → Closes root tick journal → AllJoined root → IsJournal tick journal → tick ≡ setting.script.rules.tick.ms
-    → HasCome setting root setting.script.phases views outcomes came → HasRunBeside setting journal outcomes came
-run_came setting root tick journal views outcomes (Ok done) lawful closes joined kept same come =
-    all_ran setting (script_is_cut_well setting) root tick journal closes joined (subst (λ (t : ℕ). IsJournal t journal) same kept) views outcomes come
-run_came setting root tick journal views outcomes (Err why) lawful closes joined kept same come =
+pub run_came : (setting : Setting) (root : Known) (tick : ℕ) (journal : List Entry) (sights : List Sight) (outcomes : List Outcome) (came : Result (Unit {0}) Broken) → IsLawfulScript setting.script → Closes root tick journal → AllJoined root → IsJournal tick journal → tick ≡ setting.script.rules.tick.ms
+    → HasCome setting root setting.script.phases sights outcomes came → HasRunBeside setting journal outcomes came
+run_came setting root tick journal sights outcomes (Ok done) lawful closes joined kept same come =
+    all_ran setting (script_is_cut_well setting) root tick journal closes joined (subst (λ (t : ℕ). IsJournal t journal) same kept) sights outcomes come
+run_came setting root tick journal sights outcomes (Err why) lawful closes joined kept same come =
     all_stopped setting (script_is_cut_well setting) root tick journal closes joined (subst (λ (t : ℕ). IsJournal t journal) same kept) lawful outcomes why come
 
 -- what is known of a shared world that was closed is known of the world

@@ -5,14 +5,14 @@ use Rattle.std.specs.List.{All, AllZip}
 use Rattle.std.proofs.lemmas.List.Elements.{All-cons, All-contains, All-head, All-nil}
 use Rattle.list_core.proofs.Lists.{All-append_left, All-append_right, take_none, take_place}
 use Rattle.list_core.proofs.Membership.{contains_place}
-use Rattle.meta_fetcher.specs.declared.view.View.{View}
 use Rattle.script_workers.specs.declared.worker.Worker.{Worker}
-use Rattle.lifecycle_core.specs.Holdings.{Holdings, holding_of}
+use Rattle.lifecycle_core.specs.Holdings.{Holdings, holding_of, nothing_held}
 use Rattle.script_running.specs.Beside.{AreSeen}
 use Rattle.script_running.specs.Ended.{IsPostOf}
 use Rattle.script_running.specs.Gathering.{HaveOwnGateways, AreSeenBeside, IsTaken}
-use Rattle.script_running.specs.Tasks.{Sees}
+use Rattle.script_running.specs.Sights.{Sees, no_sight}
 use Rattle.script_running.specs.Workers.{Post}
+use Rattle.script_running.specs.declared.sight.Sight.{Sight}
 
 abbrev NotOf : ℕ → Worker → Type 0
 NotOf place w = w.gateway ≢ Some place
@@ -30,34 +30,34 @@ zip_more R [] (b ∷ ys) x y all is = absurd all
 zip_more R (a ∷ xs) [] x y all is = absurd all
 zip_more R (a ∷ xs) (b ∷ ys) x y all is = (all.0, zip_more R xs ys x y all.1 is)
 
--- so many workers were sent, and the views of the other gateways are there
-pub record AreSent (bytes : List ℕ) (number : ℕ) (workers : List Worker) (before views : List (Option View)) (posts : List Post) : Type 0 where
+-- so many workers were sent, and what the other gateways see by is there
+pub record AreSent (bytes : List ℕ) (number : ℕ) (workers : List Worker) (before sights : List Sight) (posts : List Post) : Type 0 where
   pub sent : (held : Holdings) → AreSeen held before → AllZip (IsPostOf bytes number held) workers posts
-  pub left : (place : ℕ) (view : Option View) → slice_get views place ≡ Some view → All (NotOf place) workers → slice_get before place ≡ Some view
+  pub left : (place : ℕ) (sight : Sight) → slice_get sights place ≡ Some sight → All (NotOf place) workers → slice_get before place ≡ Some sight
 
-pub none_sent : (bytes : List ℕ) (number : ℕ) (workers : List Worker) (views : List (Option View)) (posts : List Post) → posts ≡ [] → AreSent bytes number (take 0 workers) views views posts
-none_sent bytes number workers views posts none = subst (λ (ps : List Post). AreSent bytes number (take 0 workers) views views ps) (sym none)
-    (subst (λ (ws : List Worker). AreSent bytes number ws views views []) (sym (take_none workers)) (record { sent = λ held seen. tt; left = λ place view is none. is }))
+pub none_sent : (bytes : List ℕ) (number : ℕ) (workers : List Worker) (sights : List Sight) (posts : List Post) → posts ≡ [] → AreSent bytes number (take 0 workers) sights sights posts
+none_sent bytes number workers sights posts none = subst (λ (ps : List Post). AreSent bytes number (take 0 workers) sights sights ps) (sym none)
+    (subst (λ (ws : List Worker). AreSent bytes number ws sights sights []) (sym (take_none workers)) (record { sent = λ held seen. tt; left = λ place sight is none. is }))
 
-sees_own : (held : Holdings) (before : List (Option View)) (gateway : Option ℕ) (own : Option View) → AreSeen held before → (gateway ≡ None → own ≡ None) → ((place : ℕ) → gateway ≡ Some place → slice_get before place ≡ Some own) → Sees (holding_of held gateway) own
-sees_own held before None own seen none named = sym (none refl)
+sees_own : (held : Holdings) (before : List Sight) (gateway : Option ℕ) (own : Sight) → AreSeen held before → (gateway ≡ None → own ≡ no_sight) → ((place : ℕ) → gateway ≡ Some place → slice_get before place ≡ Some own) → Sees (holding_of held gateway) own
+sees_own held before None own seen none named = subst (Sees nothing_held) (sym (none refl)) (record { view_is = refl; cache_is = refl })
 sees_own held before (Some place) own seen none named = seen place own (named place refl)
 
-pub one_sent : (bytes : List ℕ) (number k : ℕ) (workers : List Worker) (w : Worker) (before views next : List (Option View)) (posts more : List Post) (post : Post) → HaveOwnGateways workers → slice_get workers k ≡ Some w → AreSent bytes number (take k workers) before views posts
-    → post.text ≡ bytes → post.phase ≡ number → post.worker ≡ w → IsTaken w.gateway post.view views next → more ≡ posts ++ post ∷ [] → AreSent bytes number (take (k + 1) workers) before next more
-one_sent bytes number k workers w before views next posts more post apart at s text phase worker taken is =
+pub one_sent : (bytes : List ℕ) (number k : ℕ) (workers : List Worker) (w : Worker) (before sights next : List Sight) (posts more : List Post) (post : Post) → HaveOwnGateways workers → slice_get workers k ≡ Some w → AreSent bytes number (take k workers) before sights posts
+    → post.text ≡ bytes → post.phase ≡ number → post.worker ≡ w → IsTaken w.gateway post.sight sights next → more ≡ posts ++ post ∷ [] → AreSent bytes number (take (k + 1) workers) before next more
+one_sent bytes number k workers w before sights next posts more post apart at s text phase worker taken is =
     subst (λ (ws : List Worker). AreSent bytes number ws before next more) (sym (take_place workers k w at))
     (subst (λ (ps : List Post). AreSent bytes number (take k workers ++ w ∷ []) before next ps) (sym is) (record {
       sent = λ held seen. zip_more (IsPostOf bytes number held) (take k workers) posts w post (s.sent held seen) (record {
         text_is = text;
         phase_is = phase;
         worker_is = worker;
-        sees = sees_own held before w.gateway post.view seen taken.none (λ place named. s.left place post.view (taken.named place named) (apart_before workers k w place apart at named));
+        sees = sees_own held before w.gateway post.sight seen taken.none (λ place named. s.left place post.sight (taken.named place named) (apart_before workers k w place apart at named));
       });
-      left = λ place view there none.
-          s.left place view (taken.left place view there (All-head (NotOf place) w [] (All-append_right (NotOf place) (take k workers) (w ∷ []) none))) (All-append_left (NotOf place) (take k workers) (w ∷ []) none);
+      left = λ place sight there none.
+          s.left place sight (taken.left place sight there (All-head (NotOf place) w [] (All-append_right (NotOf place) (take k workers) (w ∷ []) none))) (All-append_left (NotOf place) (take k workers) (w ∷ []) none);
     }))
 
--- gateways without a worker have the views of what they hold
-pub seen_beside : (bytes : List ℕ) (number : ℕ) (workers : List Worker) (before views : List (Option View)) (posts : List Post) → AreSent bytes number workers before views posts → (held : Holdings) → AreSeen held before → AreSeenBeside held workers views
-seen_beside bytes number workers before views posts s held seen place view is none = seen place view (s.left place view is none)
+-- gateways without a worker have the sights of what they hold
+pub seen_beside : (bytes : List ℕ) (number : ℕ) (workers : List Worker) (before sights : List Sight) (posts : List Post) → AreSent bytes number workers before sights posts → (held : Holdings) → AreSeen held before → AreSeenBeside held workers sights
+seen_beside bytes number workers before sights posts s held seen place sight is none = seen place sight (s.left place sight is none)

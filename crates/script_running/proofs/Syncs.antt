@@ -1,5 +1,5 @@
--- What drives of a sync and of a gateway's call leave.
-use Rattle.std.proofs.Common.{◌≡◌, ◌⊎◌, inl, inr, ℕ, ℤ, List, [], ◌∷◌, ◌++◌, refl, sym, ◌∙◌, ap, subst}
+-- What a drive of a sync leaves.
+use Rattle.std.proofs.Common.{◌≡◌, ◌⊎◌, inl, inr, ℕ, List, [], ◌∷◌, ◌++◌, refl, sym, ◌∙◌, ap, subst}
 use Rattle.std.specs.Prelude.{Option, None, option_map, Err}
 use Rattle.std.proofs.lemmas.List.{append-nil}
 use Rattle.std.proofs.lemmas.List.Elements.{All-nil}
@@ -11,15 +11,10 @@ use Rattle.world_core.specs.declared.entry.Entry.{Entry}
 use Rattle.meta_fetcher.specs.Syncs.{SyncRun}
 use Rattle.meta_fetcher.specs.declared.sync_end.SyncEnd.{SyncEnd}
 use Rattle.meta_fetcher.specs.declared.view.View.{View}
-use Rattle.matchers.specs.declared.matcher.Matcher.{Matcher}
-use Rattle.store_gateway.specs.SeriesRuns.{Query as Question, SeriesRun, asking, series_call}
-use Rattle.world_core.proofs.PlanLaws.{breaks_off}
-use Rattle.store_gateway.specs.declared.series_end.SeriesEnd.{SeriesEnd}
 use Rattle.script_workers.specs.declared.work.Work.{Work}
 use Rattle.script_workers.specs.declared.work.Work.TheVariants as works
-use Rattle.lifecycle_core.specs.Holdings.{Use}
 use Rattle.lifecycle_core.specs.Setting.{Setting}
-use Rattle.lifecycle_core.specs.Tasks.{End, answered, sync_rules, synced}
+use Rattle.lifecycle_core.specs.Tasks.{End, sync_rules, synced}
 use Rattle.script_running.specs.Drives.{Came, came_by, driven_end}
 use Rattle.script_running.specs.Outcomes.{IsPart}
 use Rattle.script_running.specs.Tasks.{Adds, CameBy, IsDueAfter, WhenFull, view_by}
@@ -65,17 +60,6 @@ pub nothing_synced : (setting : Setting) (seat : ℕ) (journal : List Entry) (vi
     → (end : Option SyncEnd) × Adds (SyncRun (sync_rules setting place)) seat journal journal end (Err broken.NoMemory) × CameBy (works.Sync place) (option_map synced end) (Err broken.NoMemory) × (view ≡ view_by view end)
 nothing_synced setting seat journal view place =
     (None, record { made = []; entries = sym (append-nil journal); seats = All-nil (λ e. e.seat ≡ seat); run = refl; due = tt }, tt, refl)
-
-pub nothing_asked : (view : View) (asked : Question) (seat : ℕ) (journal : List Entry) (used : Use) (low high : ℤ) (selector : ℕ)
-    → (end : Option SeriesEnd) × Adds (SeriesRun view asked) seat journal journal end (Err broken.NoMemory) × CameBy (works.Query low high selector) (option_map (answered used) end) (Err broken.NoMemory)
-nothing_asked view asked seat journal used low high selector =
-    (None, record { made = []; entries = sym (append-nil journal); seats = All-nil (λ e. e.seat ≡ seat); run = breaks_off (series_call view asked); due = tt }, tt)
-
--- numbers that were passed on are the same
-pub asked_same : (view : View) (matchers : List Matcher) (replicas : List (List ℕ)) (low low' high high' : ℤ) (made : List Entry) (end : Option SeriesEnd) → low ≡ low' → high ≡ high'
-    → SeriesRun view (asking matchers replicas low high) made end → SeriesRun view (asking matchers replicas low' high') made end
-asked_same view matchers replicas low low' high high' made end l h run =
-    subst (λ (x : ℤ). SeriesRun view (asking matchers replicas x high') made end) l (subst (λ (y : ℤ). SeriesRun view (asking matchers replicas low y) made end) h run)
 
 -- memory that a drive wanted is told
 pub wanted_by : {E P Q : Type 0} (comes : Driven E → Came) (driven : Driven E) (came : Came) → comes NoMemory ≡ Err broken.NoMemory → came ≡ comes driven → (P → Q ⊎ (driven ≡ NoMemory)) → P → Q ⊎ (came ≡ Err broken.NoMemory)

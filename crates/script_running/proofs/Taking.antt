@@ -8,11 +8,11 @@ use Rattle.std.proofs.lemmas.List.{drop_all}
 use Rattle.std.proofs.lemmas.Option.{slice_get-get_or, slice_get_within}
 use Rattle.list_core.proofs.Lists.{drop_none, drop_place}
 use Rattle.list_core.proofs.Membership.{contains_first, contains_later, contains_place, member_cases, no_member}
-use Rattle.meta_fetcher.specs.declared.view.View.{View}
 use Rattle.script_workers.specs.declared.worker.Worker.{Worker}
 use Rattle.script_running.specs.declared.gathering.Column.{Column}
 use Rattle.script_running.specs.declared.gathering.Slots.{Slots}
 use Rattle.script_running.specs.declared.part.Part.{Part}
+use Rattle.script_running.specs.declared.sight.Sight.{Sight}
 use Rattle.script_running.specs.declared.worker.WorkerEnd.{WorkerEnd}
 use Rattle.script_running.specs.declared.came.Broken.{Broken}
 use Rattle.script_running.specs.declared.came.Broken.TheVariants as broken
@@ -197,11 +197,11 @@ within_gateway own gateway slots is inside = subst (λ (o : Option ℕ). IfSome 
 
 -- ---- workers
 
-pub takes_none : (views : List (Option View)) (slots : Slots) → AreTakenIn [] [] views views slots slots
-takes_none views slots = record {
+pub takes_none : (sights : List Sight) (slots : Slots) → AreTakenIn [] [] sights sights slots slots
+takes_none sights slots = record {
   long = refl;
   same = record { wide = refl; each = λ gateway place has. has };
-  views_are = λ place view is. inr (is, All-nil (λ (w : Worker). w.gateway ≢ Some place));
+  sights_are = λ place sight is. inr (is, All-nil (λ (w : Worker). w.gateway ≢ Some place));
   origin = λ gateway place o is. inl is;
   kept = λ gateway place filled. filled;
   laid = λ w e place o among. absurd (no_member (w, e) among);
@@ -227,15 +227,15 @@ come_more ends e one (Err broken.Full) worse have = elim (worse.full refl) [
 worker_parts : (w x : Worker) (e y : WorkerEnd) → ◌≡◌ {A = Worker × WorkerEnd} (w, e) (x, y) → (w ≡ x) × (e ≡ y)
 worker_parts w x e y same = (ap (λ (r : Worker × WorkerEnd). r.0) same, ap (λ (r : Worker × WorkerEnd). r.1) same)
 
-pub takes_one : (w : Worker) (workers : List Worker) (e : WorkerEnd) (ends : List WorkerEnd) (views mid seen : List (Option View)) (old laid new : Slots)
-    → length mid ≡ length views → IsSeen w.gateway e.view views mid → IsLaid w.gateway w.tasks e.parts.items old laid → AreTakenIn workers ends mid seen laid new
-    → AreTakenIn (w ∷ workers) (e ∷ ends) views seen old new
-takes_one w workers e ends views mid seen old laid new long sees l t = record {
+pub takes_one : (w : Worker) (workers : List Worker) (e : WorkerEnd) (ends : List WorkerEnd) (sights mid seen : List Sight) (old laid new : Slots)
+    → length mid ≡ length sights → IsSeen w.gateway e.sight sights mid → IsLaid w.gateway w.tasks e.parts.items old laid → AreTakenIn workers ends mid seen laid new
+    → AreTakenIn (w ∷ workers) (e ∷ ends) sights seen old new
+takes_one w workers e ends sights mid seen old laid new long sees l t = record {
   long = t.long ∙ long;
   same = record { wide = (t.same).wide ∙ (l.same).wide; each = λ gateway place has. (t.same).each gateway place ((l.same).each gateway place has) };
-  views_are = λ place view is. elim (t.views_are place view is) [
+  sights_are = λ place sight is. elim (t.sights_are place sight is) [
     | inl there ↦ inl (there.0, there.1, contains_later (w, e) (there.0, there.1) (zip workers ends) there.2, there.3, there.4)
-    | inr before ↦ elim (sees place view before.0) [
+    | inr before ↦ elim (sees place sight before.0) [
       | inl here ↦ inl (w, e, contains_first (w, e) (zip workers ends), here.0, here.1)
       | inr older ↦ inr (older.0, All-cons (λ (x : Worker). x.gateway ≢ Some place) w workers older.1 before.1)
     ]
@@ -275,21 +275,21 @@ lay_step number places parts p x slots mid new at is within mid_is l =
     (subst (λ (os : List Part). AreLaid (p ∷ drop (number + 1) places) os slots new) (sym (drop_place parts number x is))
     (lays_one p (drop (number + 1) places) x (drop (number + 1) parts) slots new within (subst (λ (m : List (Option Part)). AreLaid (drop (number + 1) places) (drop (number + 1) parts) m new) mid_is l)))
 
-pub take_start : (workers : List Worker) (ends : List WorkerEnd) (views seen : List (Option View)) (old new : Slots) → AreTakenIn (drop 0 workers) (drop 0 ends) views seen old new → AreTakenIn workers ends views seen old new
-take_start workers ends views seen old new t = subst (λ (ws : List Worker). AreTakenIn ws ends views seen old new) (drop_none workers) (subst (λ (es : List WorkerEnd). AreTakenIn (drop 0 workers) es views seen old new) (drop_none ends) t)
+pub take_start : (workers : List Worker) (ends : List WorkerEnd) (sights seen : List Sight) (old new : Slots) → AreTakenIn (drop 0 workers) (drop 0 ends) sights seen old new → AreTakenIn workers ends sights seen old new
+take_start workers ends sights seen old new t = subst (λ (ws : List Worker). AreTakenIn ws ends sights seen old new) (drop_none workers) (subst (λ (es : List WorkerEnd). AreTakenIn (drop 0 workers) es sights seen old new) (drop_none ends) t)
 
-pub take_end : (number : ℕ) (workers : List Worker) (ends : List WorkerEnd) (views : List (Option View)) (slots : Slots) → length workers ≤ number → length ends ≤ number → AreTakenIn (drop number workers) (drop number ends) views views slots slots
-take_end number workers ends views slots past all =
-    subst (λ (ws : List Worker). AreTakenIn ws (drop number ends) views views slots slots) (sym (drop_all number workers past))
-    (subst (λ (es : List WorkerEnd). AreTakenIn [] es views views slots slots) (sym (drop_all number ends all)) (takes_none views slots))
+pub take_end : (number : ℕ) (workers : List Worker) (ends : List WorkerEnd) (sights : List Sight) (slots : Slots) → length workers ≤ number → length ends ≤ number → AreTakenIn (drop number workers) (drop number ends) sights sights slots slots
+take_end number workers ends sights slots past all =
+    subst (λ (ws : List Worker). AreTakenIn ws (drop number ends) sights sights slots slots) (sym (drop_all number workers past))
+    (subst (λ (es : List WorkerEnd). AreTakenIn [] es sights sights slots slots) (sym (drop_all number ends all)) (takes_none sights slots))
 
-pub take_step : (number : ℕ) (workers : List Worker) (ends : List WorkerEnd) (w : Worker) (e : WorkerEnd) (views mid seen : List (Option View)) (old laid new : Slots) → slice_get workers number ≡ Some w → slice_get ends number ≡ Some e
-    → length mid ≡ length views → IsSeen w.gateway e.view views mid → IsLaid w.gateway w.tasks e.parts.items old laid → AreTakenIn (drop (number + 1) workers) (drop (number + 1) ends) mid seen laid new
-    → AreTakenIn (drop number workers) (drop number ends) views seen old new
-take_step number workers ends w e views mid seen old laid new at is long sees l t =
-    subst (λ (ws : List Worker). AreTakenIn ws (drop number ends) views seen old new) (sym (drop_place workers number w at))
-    (subst (λ (es : List WorkerEnd). AreTakenIn (w ∷ drop (number + 1) workers) es views seen old new) (sym (drop_place ends number e is))
-    (takes_one w (drop (number + 1) workers) e (drop (number + 1) ends) views mid seen old laid new long sees l t))
+pub take_step : (number : ℕ) (workers : List Worker) (ends : List WorkerEnd) (w : Worker) (e : WorkerEnd) (sights mid seen : List Sight) (old laid new : Slots) → slice_get workers number ≡ Some w → slice_get ends number ≡ Some e
+    → length mid ≡ length sights → IsSeen w.gateway e.sight sights mid → IsLaid w.gateway w.tasks e.parts.items old laid → AreTakenIn (drop (number + 1) workers) (drop (number + 1) ends) mid seen laid new
+    → AreTakenIn (drop number workers) (drop number ends) sights seen old new
+take_step number workers ends w e sights mid seen old laid new at is long sees l t =
+    subst (λ (ws : List Worker). AreTakenIn ws (drop number ends) sights seen old new) (sym (drop_place workers number w at))
+    (subst (λ (es : List WorkerEnd). AreTakenIn (w ∷ drop (number + 1) workers) es sights seen old new) (sym (drop_place ends number e is))
+    (takes_one w (drop (number + 1) workers) e (drop (number + 1) ends) sights mid seen old laid new long sees l t))
 
 -- what holds of a whole list holds at a place
 pub at_place : {X : Type 0} (P : X → Type 0) (xs : List X) (place : ℕ) (x : X) → All P xs → slice_get xs place ≡ Some x → P x

@@ -1,6 +1,6 @@
 -- One task of a worker: from the runs of its activity to a run of the task.
 use Rattle.std.proofs.Common.{◌≡◌, ℕ, ℤ, Bool, true, false, cond, int_lt, List, [], ◌∷◌, ◌++◌, refl, sym, ◌∙◌, ap, subst, inl, inr, arith, pos, ◌≤ℤ◌, ◌^◌}
-use Rattle.std.specs.Prelude.{◌==◌, find, neg_ℤ, Option, Some, None, option_map, slice_get, Result, Ok, Err}
+use Rattle.std.specs.Prelude.{◌==◌, find, neg_ℤ, Option, Some, None, IfSome, option_map, slice_get, Result, Ok, Err}
 use Rattle.std.specs.Int.{w64}
 use Rattle.std.proofs.lemmas.Int.{ints}
 use mir.Val.{SFits}
@@ -13,9 +13,10 @@ use Rattle.meta_fetcher.specs.declared.sync_end.SyncEnd.TheVariants as fetched
 use Rattle.meta_fetcher.specs.declared.view.View.{View}
 use Rattle.meta_fetcher.specs.Syncs.{SyncRun}
 use Rattle.matchers.specs.declared.matcher.Matcher.{Matcher}
-use Rattle.store_gateway.specs.SeriesRuns.{Query as Question, SeriesRun, asking, series_call}
+use Rattle.block_ranges.specs.Reads.{Cache, Query as Question}
+use Rattle.index_cache.specs.declared.cache.IndexCache.{IndexCache}
+use Rattle.series_calls.specs.SeriesCalls.{CallEnd, SeriesRun, asking, series_call}
 use Rattle.world_core.proofs.PlanLaws.{breaks_off}
-use Rattle.store_gateway.specs.declared.series_end.SeriesEnd.{SeriesEnd}
 use Rattle.moment_core.specs.declared.partition.Partition.{Partition}
 use Rattle.querier.specs.Asks.{asks_of}
 use Rattle.querier.specs.declared.ask.Ask.{Ask}
@@ -27,20 +28,27 @@ use Rattle.lifecycle_core.specs.Conducts.{Who}
 use Rattle.lifecycle_core.specs.Held.{declared}
 use Rattle.lifecycle_core.specs.Holdings.{Holding, Use}
 use Rattle.lifecycle_core.specs.Setting.{Setting}
-use Rattle.lifecycle_core.specs.Tasks.{BlockUpload, End, PartTask, QueryTask, TaskRun, answered, ask_to, not_asked, question_of, sync_rules, synced, synced_with, without_view}
+use Rattle.lifecycle_core.specs.Tasks.{End, PartTask, QueryTask, ShipTask, TaskRun, answered, ask_to, called_with, not_asked, question_of, sync_rules, synced, synced_with, without_view}
 use Rattle.lifecycle_core.proofs.phases.GatewayParts.{ask_partition}
 use Rattle.script_running.specs.Drives.{Came}
-use Rattle.script_running.specs.Tasks.{Adds, CameBy, Does, HasAsked, HasDone, IsDueAfter, Sees, WhenFull, view_by}
+use Rattle.script_running.proofs.Calls.{Called}
+use Rattle.script_running.specs.Sights.{Sees, cache_of}
+use Rattle.script_running.specs.Tasks.{Adds, Answers, CameBy, Does, HasAsked, HasDone, IsDueAfter, WhenDone, WhenFull, view_by}
 use Rattle.script_running.specs.declared.came.Broken.{Broken}
 use Rattle.script_running.specs.declared.came.Broken.TheVariants as broken
 use Rattle.script_running.specs.declared.outcome.NoAnswer.TheVariants as none
 use Rattle.script_running.specs.declared.part.Part.TheVariants as part
 use Rattle.script_running.specs.declared.part.QueryPart.TheVariants as given
+use Rattle.script_running.specs.declared.sight.Sight.{Sight}
 
 pub when_full : {X : Type 0} (came : Result X Broken) (P Q : Type 0) → (P → Q) → WhenFull came P → WhenFull came Q
 when_full (Ok o) P Q f holds = tt
 when_full (Err broken.Full) P Q f holds = f holds
 when_full (Err broken.NoMemory) P Q f holds = tt
+
+when_done : {X : Type 0} (came : Result X Broken) (P : Type 0) → P → WhenDone came P
+when_done (Ok o) P holds = holds
+when_done (Err why) P holds = tt
 
 pub due_by : {E F : Type 0} (one : List Entry → E → Type 0) (other : List Entry → F → Type 0) (seat : ℕ) (made : List Entry) → ((es : List Entry) (e : E) → one es e → (f : F) × other es f)
     → IsDueAfter one seat made → IsDueAfter other seat made
@@ -48,10 +56,10 @@ due_by one other seat made runs d = (d.0, d.1, λ seen answer. let next = d.2 se
 
 module _ (setting : Setting) (who : Who) (place : ℕ) (held : Holding) (seat : ℕ) (old new : List Entry) (came : Came) where
   -- a run of an activity, with the end that it is for the task
-  by_run : {E : Type 0} (work : Work) (is_run : List Entry → E → Type 0) (as_end : E → Option End) (end : E) (after : Holding) (view : Option View) → (a : Adds is_run seat old new end came)
-      → ((made : List Entry) (e : E) → is_run made e → Does setting who place work held made (as_end e)) → TaskRun setting who place work held a.made (as_end end) after → Sees after view → CameBy work (as_end end) came
-      → HasDone setting who place work held seat old new view came
-  by_run {E} work is_run as_end end after view a runs run sees by = record {
+  by_run : {E : Type 0} (work : Work) (is_run : List Entry → E → Type 0) (as_end : E → Option End) (end : E) (after : Holding) (sight : Sight) → (a : Adds is_run seat old new end came)
+      → ((made : List Entry) (e : E) → is_run made e → Does setting who place work held made (as_end e)) → TaskRun setting who place work held a.made (as_end end) after → WhenDone came (Sees after sight) → CameBy work (as_end end) came
+      → HasDone setting who place work held seat old new sight came
+  by_run {E} work is_run as_end end after sight a runs run sees by = record {
     made = a.made;
     entries = a.entries;
     seats = a.seats;
@@ -64,30 +72,33 @@ module _ (setting : Setting) (who : Who) (place : ℕ) (held : Holding) (seat : 
         (due_by is_run (Does setting who place work held) seat a.made (λ es e one. (as_end e, runs es e one))) a.due;
   }
 
-  pub upload_done : (work : Work) (view : Option View) (ulid : ℕ) (stop : Option ℕ) (block : Block) → work ≡ works.Upload ulid stop → declared setting.script ulid ≡ Some block
-      → (end : Option End) × Adds (BlockUpload setting block stop) seat old new end came × CameBy (works.Upload ulid stop) end came → Sees held view → HasDone setting who place work held seat old new view came
-  upload_done work view ulid stop block w is ran sees =
-      let runs : (made : List Entry) (e : Option End) → BlockUpload setting block stop made e → TaskRun setting who place work held made e held =
+  pub upload_done : (work : Work) (sight : Sight) (ulid : ℕ) (stop : Option ℕ) (block : Block) → work ≡ works.Upload ulid stop → declared setting.script ulid ≡ Some block
+      → (end : Option End) × Adds (ShipTask setting block stop) seat old new end came × CameBy (works.Upload ulid stop) end came → Sees held sight → HasDone setting who place work held seat old new sight came
+  upload_done work sight ulid stop block w is ran sees =
+      let runs : (made : List Entry) (e : Option End) → ShipTask setting block stop made e → TaskRun setting who place work held made e held =
       λ made e run. subst (λ (x : Work). TaskRun setting who place x held made e held) (sym w) ((block, is, run), refl) in
-      by_run work (BlockUpload setting block stop) (λ e. e) ran.0 held view ran.1 (λ made e run. (held, runs made e run)) (runs (ran.1).made ran.0 (ran.1).run) sees
+      by_run work (ShipTask setting block stop) (λ e. e) ran.0 held sight ran.1 (λ made e run. (held, runs made e run)) (runs (ran.1).made ran.0 (ran.1).run) (when_done came (Sees held sight) sees)
       (subst (λ (x : Work). CameBy x ran.0 came) (sym w) ran.2)
 
-  view_told : (made : List Entry) (end : Option SyncEnd) (before : Option View) → Sees held before → Sees (synced_with held made end) (view_by before end)
-  view_told made (Some (fetched.View view)) before is = refl
-  view_told made (Some (fetched.Fault entry)) before is = is
-  view_told made (Some (fetched.Damaged entry)) before is = is
-  view_told made (Some fetched.TooMany) before is = is
-  view_told made None before is = is
+  sight_told : (made : List Entry) (end : Option SyncEnd) (before : Sight) → Sees held before → Sees (synced_with held made end) (record { view = view_by before.view end; cache = before.cache })
+  sight_told made (Some (fetched.View view)) before is = record { view_is = refl; cache_is = is.cache_is }
+  sight_told made (Some (fetched.Fault entry)) before is = record { view_is = is.view_is; cache_is = is.cache_is }
+  sight_told made (Some (fetched.Damaged entry)) before is = record { view_is = is.view_is; cache_is = is.cache_is }
+  sight_told made (Some fetched.TooMany) before is = record { view_is = is.view_is; cache_is = is.cache_is }
+  sight_told made None before is = record { view_is = is.view_is; cache_is = is.cache_is }
 
-  pub sync_done : (work : Work) (before view : Option View) (number : ℕ) → work ≡ works.Sync number
-      → (end : Option SyncEnd) × Adds (SyncRun (sync_rules setting number)) seat old new end came × CameBy (works.Sync number) (option_map synced end) came × (view ≡ view_by before end)
-      → Sees held before → HasDone setting who place work held seat old new view came
+  pub sync_done : (work : Work) (before : Sight) (view : Option View) (number : ℕ) → work ≡ works.Sync number
+      → (end : Option SyncEnd) × Adds (SyncRun (sync_rules setting number)) seat old new end came × CameBy (works.Sync number) (option_map synced end) came × (view ≡ view_by before.view end)
+      → Sees held before → HasDone setting who place work held seat old new (record { view = view; cache = before.cache }) came
   sync_done work before view number w ran sees =
       let runs : (made : List Entry) (e : Option SyncEnd) → SyncRun (sync_rules setting number) made e → TaskRun setting who place work held made (option_map synced e) (synced_with held made e) =
       λ made e run. subst (λ (x : Work). TaskRun setting who place x held made (option_map synced e) (synced_with held made e)) (sym w) (e, run, refl, refl) in
-      by_run work (SyncRun (sync_rules setting number)) (option_map synced) ran.0 (synced_with held (ran.1).made ran.0) view ran.1
+      let after = synced_with held (ran.1).made ran.0 in
+      let sight : Sight = record { view = view; cache = before.cache } in
+      by_run work (SyncRun (sync_rules setting number)) (option_map synced) ran.0 after sight ran.1
       (λ made e run. (synced_with held made e, runs made e run)) (runs (ran.1).made ran.0 (ran.1).run)
-      (view_told (ran.1).made ran.0 before sees ∙ sym ran.3) (subst (λ (x : Work). CameBy x (option_map synced ran.0) came) (sym w) ran.2)
+      (when_done came (Sees after sight) (subst (λ (v : Option View). Sees after (record { view = v; cache = before.cache })) (sym ran.3) (sight_told (ran.1).made ran.0 before sees)))
+      (subst (λ (x : Work). CameBy x (option_map synced ran.0) came) (sym w) ran.2)
 
 no_view : (used : Option Use) → option_map (λ (u : Use). u.view) used ≡ None → used ≡ None
 no_view None is = refl
@@ -100,28 +111,31 @@ a_view (Some used) view is = (used, refl, cc (is))
 -- ---- a gateway that is asked
 
 -- one without a view answers so
-pub blind_asked : (held : Holding) (asked : Question) (seat : ℕ) (journal : List Entry) (view : Option View) → view ≡ None → Sees held view
-    → HasAsked held.used asked seat journal journal (Ok (part.Query (given.NoAnswer none.NoView)))
-blind_asked held asked seat journal view blind sees = record {
+pub blind_asked : (held : Holding) (asked : Question) (seat : ℕ) (journal : List Entry) (sight : Sight) → sight.view ≡ None → Sees held sight
+    → HasAsked held asked seat journal journal sight (Ok (part.Query (given.NoAnswer none.NoView)))
+blind_asked held asked seat journal sight blind sees = record {
   end = Some without_view;
+  after = held;
   adds = record {
     made = [];
     entries = sym (append-nil journal);
     seats = All-nil (λ e. e.seat ≡ seat);
-    run = subst (λ (v : Option Use). QueryTask v (Some asked) [] (Some without_view)) (sym (no_view held.used (sees ∙ blind))) (refl, inr refl);
+    run = subst (λ (v : Option Use). QueryTask v (Some asked) held [] (Some without_view) held) (sym (no_view held.used (sees.view_is ∙ blind))) ((refl, inr refl), refl);
     due = tt;
   };
+  sees = sees;
   by = λ low high selector. refl;
 }
 
-call_run : (used : Use) (held : Option Use) (view : View) (asked : Question) (made : List Entry) (end : Option SeriesEnd) → held ≡ Some used → used.view ≡ view → SeriesRun view asked made end
-    → QueryTask held (Some asked) made (option_map (answered used) end)
-call_run used held view asked made end is same run =
-    subst (λ (v : Option Use). QueryTask v (Some asked) made (option_map (answered used) end)) (sym is)
-    (end, subst (λ (v : View). SeriesRun v asked made end) (sym same) run, refl)
+call_run : (used : Use) (held : Holding) (view : View) (asked : Question) (cache : Cache) (made : List Entry) (own : Option CallEnd) → held.used ≡ Some used → used.view ≡ view → held.cache ≡ cache → SeriesRun view asked cache made own
+    → QueryTask held.used (Some asked) held made (option_map (λ (call : CallEnd). answered used call.end) own) (called_with held own)
+call_run used held view asked cache made own is same kept run =
+    subst (λ (v : Option Use). QueryTask v (Some asked) held made (option_map (λ (call : CallEnd). answered used call.end) own) (called_with held own)) (sym is)
+    (own, subst (λ (v : View). SeriesRun v asked held.cache made own) (sym same) (subst (λ (x : Cache). SeriesRun view asked x made own) (sym kept) run), refl, refl)
 
 -- a call's end is that of any query
-any_query : (used : Use) (end : Option SeriesEnd) (came : Came) → CameBy (works.Query (pos 0) (pos 0) 0) (option_map (answered used) end) came → (low high : ℤ) (selector : ℕ) → CameBy (works.Query low high selector) (option_map (answered used) end) came
+any_query : (used : Use) (end : Option CallEnd) (came : Came) → CameBy (works.Query (pos 0) (pos 0) 0) (option_map (λ (call : CallEnd). answered used call.end) end) came → (low high : ℤ) (selector : ℕ)
+    → CameBy (works.Query low high selector) (option_map (λ (call : CallEnd). answered used call.end) end) came
 any_query used (Some end) (Ok own) is low high selector = is
 any_query used (Some end) (Err broken.Full) is low high selector = absurd is
 any_query used (Some end) (Err broken.NoMemory) is low high selector = absurd is
@@ -129,35 +143,65 @@ any_query used None (Ok own) is low high selector = absurd is
 any_query used None (Err broken.Full) is low high selector = tt
 any_query used None (Err broken.NoMemory) is low high selector = tt
 
+-- by what a gateway sees after its call
+sight_left : (held : Holding) (before after : Sight) (used : Use) (own : Option CallEnd) (came : Came) → CameBy (works.Query (pos 0) (pos 0) 0) (option_map (λ (call : CallEnd). answered used call.end) own) came
+    → IfSome own (λ (call : CallEnd). call.cache ≡ cache_of after.cache) → Sees held before → after.view ≡ before.view → WhenDone came (Sees (called_with held own) after)
+sight_left held before after used (Some call) (Ok o) by left sees same = record { view_is = sees.view_is ∙ sym same; cache_is = left }
+sight_left held before after used None (Ok o) by left sees same = absurd by
+sight_left held before after used own (Err why) by left sees same = tt
+
 -- one with a view answers by a call over it
-pub call_asked : (held : Holding) (asked : Question) (seat : ℕ) (old new : List Entry) (came : Came) (shown : Option View) (view : View) → shown ≡ Some view
-    → ((used : Use) (low high : ℤ) (selector : ℕ) → (end : Option SeriesEnd) × Adds (SeriesRun view asked) seat old new end came × CameBy (works.Query low high selector) (option_map (answered used) end) came)
-    → Sees held shown → HasAsked held.used asked seat old new came
-call_asked held asked seat old new came shown view is ran sees =
-    let seen = a_view held.used view (sees ∙ is) in
+pub call_asked : (held : Holding) (asked : Question) (seat : ℕ) (old new : List Entry) (came : Came) (before after : Sight) (view : View) (cache : Cache) → before.view ≡ Some view → after.view ≡ before.view → cache ≡ cache_of before.cache
+    → ((used : Use) (low high : ℤ) (selector : ℕ) → Called view asked cache seat old new used low high selector after.cache came)
+    → Sees held before → HasAsked held asked seat old new after came
+call_asked held asked seat old new came before after view cache is same kept ran sees =
+    let seen = a_view held.used view (sees.view_is ∙ is) in
     let r = ran seen.0 (pos 0) (pos 0) 0 in
     let a = r.1 in
-    let runs : (made : List Entry) (e : Option SeriesEnd) → SeriesRun view asked made e → QueryTask held.used (Some asked) made (option_map (answered seen.0) e) =
-    λ made e run. call_run seen.0 held.used view asked made e seen.1 seen.2 run in
+    let end : Option CallEnd → Option End = option_map (λ (call : CallEnd). answered seen.0 call.end) in
+    let runs : (made : List Entry) (e : Option CallEnd) → SeriesRun view asked cache made e → Answers asked held made (end e, called_with held e) =
+    λ made e run. call_run seen.0 held view asked cache made e seen.1 seen.2 (sees.cache_is ∙ sym kept) run in
     record {
-      end = option_map (answered seen.0) r.0;
+      end = end r.0;
+      after = called_with held r.0;
       adds = record {
         made = a.made;
         entries = a.entries;
         seats = a.seats;
         run = runs a.made r.0 a.run;
-        due = when_full came (IsDueAfter (SeriesRun view asked) seat a.made) (IsDueAfter (QueryTask held.used (Some asked)) seat a.made)
-            (due_by (SeriesRun view asked) (QueryTask held.used (Some asked)) seat a.made (λ es e one. (option_map (answered seen.0) e, runs es e one))) a.due;
+        due = when_full came (IsDueAfter (SeriesRun view asked cache) seat a.made) (IsDueAfter (Answers asked held) seat a.made)
+            (due_by (SeriesRun view asked cache) (Answers asked held) seat a.made (λ es e one. ((end e, called_with held e), runs es e one))) a.due;
       };
+      sees = sight_left held before after seen.0 r.0 came r.2 r.3 sees same;
       by = any_query seen.0 r.0 came r.2;
     }
+
+-- for want of memory nothing was asked
+none_query : (used : Option Use) (asked : Question) (held : Holding) → QueryTask used (Some asked) held [] None held
+none_query None asked held = ((refl, inl refl), refl)
+none_query (Some used) asked held = (None, breaks_off (series_call used.view asked held.cache), refl, refl)
+
+pub short_asked : (held : Holding) (asked : Question) (seat : ℕ) (journal : List Entry) (sight : Sight) → HasAsked held asked seat journal journal sight (Err broken.NoMemory)
+short_asked held asked seat journal sight = record {
+  end = None;
+  after = held;
+  adds = record {
+    made = [];
+    entries = sym (append-nil journal);
+    seats = All-nil (λ e. e.seat ≡ seat);
+    run = none_query held.used asked held;
+    due = tt;
+  };
+  sees = tt;
+  by = λ low high selector. tt;
+}
 
 -- ---- a worker's part of a query
 
 -- its gateway is not asked
-pub unasked_done : (setting : Setting) (who : Who) (place : ℕ) (held : Holding) (seat : ℕ) (journal : List Entry) (view : Option View) (low high : ℤ) (selector : ℕ) (gateway : Option ℕ) → who.gateway ≡ gateway
-    → ask_to setting gateway low high ≡ None → Sees held view → HasDone setting who place (works.Query low high selector) held seat journal journal view (Ok (part.Query given.NotAsked))
-unasked_done setting who place held seat journal view low high selector gateway by none sees =
+pub unasked_done : (setting : Setting) (who : Who) (place : ℕ) (held : Holding) (seat : ℕ) (journal : List Entry) (sight : Sight) (low high : ℤ) (selector : ℕ) (gateway : Option ℕ) → who.gateway ≡ gateway
+    → ask_to setting gateway low high ≡ None → Sees held sight → HasDone setting who place (works.Query low high selector) held seat journal journal sight (Ok (part.Query given.NotAsked))
+unasked_done setting who place held seat journal sight low high selector gateway by none sees =
     let own : ask_to setting who.gateway low high ≡ None = ap (λ (g : Option ℕ). ask_to setting g low high) by ∙ none in
     record {
       made = [];
@@ -165,7 +209,7 @@ unasked_done setting who place held seat journal view low high selector gateway 
       seats = All-nil (λ e. e.seat ≡ seat);
       end = Some not_asked;
       after = held;
-      run = (subst (λ (o : Option Ask). PartTask setting selector o held.used [] (Some not_asked)) (sym own) (refl, inr refl), refl);
+      run = subst (λ (o : Option Ask). PartTask setting selector o held [] (Some not_asked) held) (sym own) ((refl, inr refl), refl);
       sees = sees;
       by = refl;
       due = tt;
@@ -176,40 +220,36 @@ question_is : (setting : Setting) (selector : ℕ) (ask : Ask) (matchers : List 
     → question_of setting selector ask ≡ Some (asking matchers setting.script.rules.replicas ask.low ask.high)
 question_is setting selector ask matchers at = ap (λ o. option_map (λ (m : List Matcher). asking m setting.script.rules.replicas ask.low ask.high) o) at
 
-pub asked_done : (setting : Setting) (who : Who) (place : ℕ) (held : Holding) (seat : ℕ) (old new : List Entry) (came : Came) (shown : Option View) (low high : ℤ) (selector : ℕ) (gateway : Option ℕ) (ask : Ask) (matchers : List Matcher)
+pub asked_done : (setting : Setting) (who : Who) (place : ℕ) (held : Holding) (seat : ℕ) (old new : List Entry) (came : Came) (sight : Sight) (low high : ℤ) (selector : ℕ) (gateway : Option ℕ) (ask : Ask) (matchers : List Matcher)
     → who.gateway ≡ gateway → ask_to setting gateway low high ≡ Some ask → slice_get setting.script.selectors selector ≡ Some matchers
-    → HasAsked held.used (asking matchers setting.script.rules.replicas ask.low ask.high) seat old new came
-    → Sees held shown → HasDone setting who place (works.Query low high selector) held seat old new shown came
-asked_done setting who place held seat old new came shown low high selector gateway ask matchers by some at h sees =
+    → HasAsked held (asking matchers setting.script.rules.replicas ask.low ask.high) seat old new sight came
+    → HasDone setting who place (works.Query low high selector) held seat old new sight came
+asked_done setting who place held seat old new came sight low high selector gateway ask matchers by some at h =
     let question : Question = asking matchers setting.script.rules.replicas ask.low ask.high in
     let own : ask_to setting who.gateway low high ≡ Some ask = ap (λ (g : Option ℕ). ask_to setting g low high) by ∙ some in
     let asks = question_is setting selector ask matchers at in
-    let runs : (made : List Entry) (e : Option End) → QueryTask held.used (Some question) made e → TaskRun setting who place (works.Query low high selector) held made e held =
-    λ made e run. (
-      subst (λ (o : Option Ask). PartTask setting selector o held.used made e) (sym own) (subst (λ (q : Option Question). QueryTask held.used q made e) (sym asks) run),
-      refl,
-    ) in
-    by_run setting who place held seat old new came (works.Query low high selector) (QueryTask held.used (Some question)) (λ e. e) h.end held shown h.adds
-    (λ made e run. (held, runs made e run)) (runs (h.adds).made h.end (h.adds).run) sees (h.by low high selector)
+    let runs : (made : List Entry) (one : Option End × Holding) → Answers question held made one → TaskRun setting who place (works.Query low high selector) held made one.0 one.1 =
+    λ made one run. subst (λ (o : Option Ask). PartTask setting selector o held made one.0 one.1) (sym own) (subst (λ (q : Option Question). QueryTask held.used q held made one.0 one.1) (sym asks) run) in
+    by_run setting who place held seat old new came (works.Query low high selector) (Answers question held) (λ one. one.0) (h.end, h.after) h.after sight h.adds
+    (λ made one run. (one.1, runs made one run)) (runs (h.adds).made (h.end, h.after) (h.adds).run) h.sees (h.by low high selector)
 
-none_part : (setting : Setting) (selector : ℕ) (ask : Option Ask) (used : Option Use) (matchers : List Matcher) → slice_get setting.script.selectors selector ≡ Some matchers → PartTask setting selector ask used [] None
-none_part setting selector None used matchers at = (refl, inl refl)
-none_part setting selector (Some ask) None matchers at = (refl, inl refl)
-none_part setting selector (Some ask) (Some used) matchers at =
-    subst (λ (q : Option Question). QueryTask (Some used) q [] None) (sym (question_is setting selector ask matchers at))
-    (None, breaks_off (series_call used.view (asking matchers setting.script.rules.replicas ask.low ask.high)), refl)
+none_part : (setting : Setting) (selector : ℕ) (ask : Option Ask) (held : Holding) (matchers : List Matcher) → slice_get setting.script.selectors selector ≡ Some matchers → PartTask setting selector ask held [] None held
+none_part setting selector None held matchers at = ((refl, inl refl), refl)
+none_part setting selector (Some ask) held matchers at =
+    subst (λ (q : Option Question). QueryTask held.used q held [] None held) (sym (question_is setting selector ask matchers at))
+    (none_query held.used (asking matchers setting.script.rules.replicas ask.low ask.high) held)
 
 -- for want of memory nothing was done
-pub short_done : (setting : Setting) (who : Who) (place : ℕ) (held : Holding) (seat : ℕ) (journal : List Entry) (view : Option View) (low high : ℤ) (selector : ℕ) (matchers : List Matcher) → slice_get setting.script.selectors selector ≡ Some matchers → Sees held view
-    → HasDone setting who place (works.Query low high selector) held seat journal journal view (Err broken.NoMemory)
-short_done setting who place held seat journal view low high selector matchers at sees = record {
+pub short_done : (setting : Setting) (who : Who) (place : ℕ) (held : Holding) (seat : ℕ) (journal : List Entry) (sight : Sight) (low high : ℤ) (selector : ℕ) (matchers : List Matcher) → slice_get setting.script.selectors selector ≡ Some matchers
+    → HasDone setting who place (works.Query low high selector) held seat journal journal sight (Err broken.NoMemory)
+short_done setting who place held seat journal sight low high selector matchers at = record {
   made = [];
   entries = sym (append-nil journal);
   seats = All-nil (λ e. e.seat ≡ seat);
   end = None;
   after = held;
-  run = (none_part setting selector (ask_to setting who.gateway low high) held.used matchers at, refl);
-  sees = sees;
+  run = none_part setting selector (ask_to setting who.gateway low high) held matchers at;
+  sees = tt;
   by = tt;
   due = tt;
 }
@@ -232,17 +272,16 @@ asked_where setting gateway low low' high high' asked own l h is so =
     subst (λ (x : ℤ). ask_to setting gateway x high' ≡ own) l (subst (λ (y : ℤ). ask_to setting gateway low y ≡ own) h (sym is ∙ so))
 
 -- numbers that were passed on are the same
-pub asked_told : (view : View) (matchers : List Matcher) (replicas : List (List ℕ)) (low low' high high' : ℤ) (seat : ℕ) (old new : List Entry) (used : Use) (line_low line_high : ℤ) (number : ℕ) (came : Came) → low ≡ low' → high ≡ high'
-    → (end : Option SeriesEnd) × Adds (SeriesRun view (asking matchers replicas low high)) seat old new end came × CameBy (works.Query line_low line_high number) (option_map (answered used) end) came
-    → (end : Option SeriesEnd) × Adds (SeriesRun view (asking matchers replicas low' high')) seat old new end came × CameBy (works.Query line_low line_high number) (option_map (answered used) end) came
-asked_told view matchers replicas low low' high high' seat old new used line_low line_high number came l h ran =
-    subst (λ (x : ℤ). (end : Option SeriesEnd) × Adds (SeriesRun view (asking matchers replicas x high')) seat old new end came × CameBy (works.Query line_low line_high number) (option_map (answered used) end) came) l
-    (subst (λ (x : ℤ). (end : Option SeriesEnd) × Adds (SeriesRun view (asking matchers replicas low x)) seat old new end came × CameBy (works.Query line_low line_high number) (option_map (answered used) end) came) h ran)
+pub asked_told : (view : View) (matchers : List Matcher) (replicas : List (List ℕ)) (cache : Cache) (low low' high high' : ℤ) (seat : ℕ) (old new : List Entry) (used : Use) (line_low line_high : ℤ) (number : ℕ) (left : Option IndexCache) (came : Came) → low ≡ low' → high ≡ high'
+    → Called view (asking matchers replicas low high) cache seat old new used line_low line_high number left came → Called view (asking matchers replicas low' high') cache seat old new used line_low line_high number left came
+asked_told view matchers replicas cache low low' high high' seat old new used line_low line_high number left came l h ran =
+    subst (λ (x : ℤ). Called view (asking matchers replicas x high') cache seat old new used line_low line_high number left came) l
+    (subst (λ (y : ℤ). Called view (asking matchers replicas low y) cache seat old new used line_low line_high number left came) h ran)
 
-pub asked_so : (used : Option Use) (matchers : List Matcher) (replicas : List (List ℕ)) (low low' high high' : ℤ) (seat : ℕ) (old new : List Entry) (came : Came) → low ≡ low' → high ≡ high'
-    → HasAsked used (asking matchers replicas low high) seat old new came → HasAsked used (asking matchers replicas low' high') seat old new came
-asked_so used matchers replicas low low' high high' seat old new came l h asked =
-    subst (λ (x : ℤ). HasAsked used (asking matchers replicas x high') seat old new came) l (subst (λ (x : ℤ). HasAsked used (asking matchers replicas low x) seat old new came) h asked)
+pub asked_so : (held : Holding) (matchers : List Matcher) (replicas : List (List ℕ)) (low low' high high' : ℤ) (seat : ℕ) (old new : List Entry) (sight : Sight) (came : Came) → low ≡ low' → high ≡ high'
+    → HasAsked held (asking matchers replicas low high) seat old new sight came → HasAsked held (asking matchers replicas low' high') seat old new sight came
+asked_so held matchers replicas low low' high high' seat old new sight came l h asked =
+    subst (λ (x : ℤ). HasAsked held (asking matchers replicas x high') seat old new sight came) l (subst (λ (y : ℤ). HasAsked held (asking matchers replicas low y) seat old new sight came) h asked)
 
 -- the range of a lawful query fits its numbers
 pub fits_range : (z : ℤ) → neg_ℤ (pos (2 ^ 62)) ≤ℤ z → z ≤ℤ pos (2 ^ 62) → SFits w64 z
@@ -254,11 +293,11 @@ upto_range low high one other = omega (arith, ints, one, other)
 pub from_range : (low high : ℤ) → neg_ℤ (pos (2 ^ 62)) ≤ℤ low → low ≤ℤ high → neg_ℤ (pos (2 ^ 62)) ≤ℤ high
 from_range low high one other = omega (arith, ints, one, other)
 
-pub query_done : (setting : Setting) (who : Who) (place : ℕ) (held : Holding) (work : Work) (seat : ℕ) (old new : List Entry) (view : Option View) (came : Came) (low low' high high' : ℤ) (number : ℕ) → low ≡ low' → high ≡ high'
-    → work ≡ works.Query low' high' number → HasDone setting who place (works.Query low high number) held seat old new view came → HasDone setting who place work held seat old new view came
-query_done setting who place held work seat old new view came low low' high high' number l h w done =
+pub query_done : (setting : Setting) (who : Who) (place : ℕ) (held : Holding) (work : Work) (seat : ℕ) (old new : List Entry) (sight : Sight) (came : Came) (low low' high high' : ℤ) (number : ℕ) → low ≡ low' → high ≡ high'
+    → work ≡ works.Query low' high' number → HasDone setting who place (works.Query low high number) held seat old new sight came → HasDone setting who place work held seat old new sight came
+query_done setting who place held work seat old new sight came low low' high high' number l h w done =
     let is : works.Query low high number ≡ work = ap (λ x. works.Query x high number) l ∙ ap (λ y. works.Query low' y number) h ∙ sym w in
-    subst (λ (x : Work). HasDone setting who place x held seat old new view came) is done
+    subst (λ (x : Work). HasDone setting who place x held seat old new sight came) is done
 
 -- ---- the times that a gateway is asked fit their numbers
 

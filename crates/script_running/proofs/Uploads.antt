@@ -1,6 +1,6 @@
 -- What a drive of an upload leaves.
 use Rattle.std.proofs.Common.{◌≡◌, ◌≢◌, ◌⊎◌, ℕ, ◌+◌, ◌<◌, ◌≤◌, Bool, true, false, List, [], ◌∷◌, ◌++◌, length, length-append, refl, sym, subst, inl, inr, arith}
-use Rattle.std.specs.Prelude.{◌↔◌, ◌==◌, Option, Some, None, option_map, Err}
+use Rattle.std.specs.Prelude.{◌↔◌, ◌==◌, Option, Some, None, option_map, Ok, Err}
 use Rattle.std.proofs.lemmas.Bool.Decides.{nat_tests}
 use Rattle.std.proofs.lemmas.List.{append-nil}
 use Rattle.std.proofs.lemmas.List.Elements.{All-nil}
@@ -14,13 +14,13 @@ use Rattle.shipper.specs.declared.upload_end.UploadEnd.{UploadEnd}
 use Rattle.world_core.specs.Stops.{IsBefore, IsStopped}
 use Rattle.world_core.specs.Plans.{Runs}
 use Rattle.shipper.specs.Uploads.{upload}
-use Rattle.script_core.specs.Lawful.{IsLawfulBlock}
 use Rattle.script_core.specs.declared.block.Block.{Block}
 use Rattle.script_workers.specs.declared.work.Work.TheVariants as works
 use Rattle.lifecycle_core.specs.Setting.{Setting}
-use Rattle.lifecycle_core.specs.Shipped.{IsShipped}
-use Rattle.lifecycle_core.specs.Tasks.{BlockUpload, End, IsStop, stopped, uploaded}
-use Rattle.lifecycle_core.proofs.phases.TaskRuns.{built_by}
+use Rattle.lifecycle_core.specs.Shipped.{IsRefused, IsShipped}
+use Rattle.script_running.specs.declared.outcome.UploadOutcome.TheVariants as upload_outcomes
+use Rattle.script_running.specs.declared.part.Part.TheVariants as part
+use Rattle.lifecycle_core.specs.Tasks.{End, IsStop, ShipTask, refused, stopped, uploaded}
 use Rattle.script_running.specs.Drives.{Came, upload_came}
 use Rattle.script_running.specs.Tasks.{Adds, CameBy, IsDueAfter, WhenFull}
 use Rattle.script_running.specs.declared.came.Broken.TheVariants as broken
@@ -74,7 +74,7 @@ goes_on (Some n) made e before = goes_to n made e (length made + 1 == n) refl (b
 
 upload_due : (setting : Setting) (is_run : List Entry → Option UploadEnd → Type 0) (block : Block) (objects : List Object) (stop : Option ℕ) (seat : ℕ) (driven : Driven UploadEnd) (made : List Entry)
     → IsShipped setting block objects → ((es : List Entry) (end : Option UploadEnd) → is_run es end → Runs (upload block.ulid objects) es end) → (driven ≡ Full → Awaits is_run seat made) → (driven ≡ Full → IsBefore stop made)
-    → WhenFull (upload_came driven) (IsDueAfter (BlockUpload setting block stop) seat made)
+    → WhenFull (upload_came driven) (IsDueAfter (ShipTask setting block stop) seat made)
 upload_due setting is_run block objects stop seat (Ended end) made shipped runs due before = tt
 upload_due setting is_run block objects stop seat (Stopped n) made shipped runs due before = tt
 upload_due setting is_run block objects stop seat Full made shipped runs due before =
@@ -82,7 +82,7 @@ upload_due setting is_run block objects stop seat Full made shipped runs due bef
       d.op,
       d.lawful,
       λ seen answer. let on = goes_on stop made (entry_of seat d.op seen) (before refl) in
-          (on.0, (objects, None, shipped, runs (made ++ entry_of seat d.op seen ∷ []) None (d.more seen answer), on.1)),
+          (on.0, inl (objects, None, shipped, runs (made ++ entry_of seat d.op seen ∷ []) None (d.more seen answer), on.1)),
     )
 upload_due setting is_run block objects stop seat NoMemory made shipped runs due before = tt
 
@@ -93,23 +93,32 @@ full_before stop driven made stops within full = before_stop stop driven made (�
 -- An upload of a block's objects that was driven is a run of the block's upload.
 pub upload_told : (setting : Setting) (is_run : List Entry → Option UploadEnd → Type 0) (block : Block) (objects : List Object) (stop : Option ℕ) (seat : ℕ) (driven : Driven UploadEnd) (old new : List Entry) (came : Came) (ulid : ℕ)
     → came ≡ upload_came driven → IsShipped setting block objects → ((made : List Entry) (end : Option UploadEnd) → is_run made end → Runs (upload block.ulid objects) made end) → Drives is_run seat stop driven old new
-    → (end : Option End) × Adds (BlockUpload setting block stop) seat old new end came × CameBy (works.Upload ulid stop) end came
+    → (end : Option End) × Adds (ShipTask setting block stop) seat old new end came × CameBy (works.Upload ulid stop) end came
 upload_told setting is_run block objects stop seat driven old new came ulid c shipped runs d =
-    subst (λ (x : Came). (end : Option End) × Adds (BlockUpload setting block stop) seat old new end x × CameBy (works.Upload ulid stop) end x) (sym c) (
+    subst (λ (x : Came). (end : Option End) × Adds (ShipTask setting block stop) seat old new end x × CameBy (works.Upload ulid stop) end x) (sym c) (
       upload_end driven,
       record {
         made = d.made;
         entries = d.entries;
         seats = d.seats;
-        run = (objects, end_of driven, shipped, runs d.made (end_of driven) d.run, stops_at stop driven d.made d.stopped d.within);
+        run = inl (objects, end_of driven, shipped, runs d.made (end_of driven) d.run, stops_at stop driven d.made d.stopped d.within);
         due = upload_due setting is_run block objects stop seat driven d.made shipped runs d.waits (full_before stop driven d.made d.stopped d.within);
       },
       came_by ulid stop driven,
     )
 
 -- where nothing was done
-pub nothing_shipped : (setting : Setting) (block : Block) (stop : Option ℕ) (seat : ℕ) (journal : List Entry) (ulid : ℕ) → IsLawfulBlock block
-    → (end : Option End) × Adds (BlockUpload setting block stop) seat journal journal end (Err broken.NoMemory) × CameBy (works.Upload ulid stop) end (Err broken.NoMemory)
-nothing_shipped setting block stop seat journal ulid lawful =
-    let b = built_by setting block block.body lawful.body in
-    (None, record { made = []; entries = sym (append-nil journal); seats = All-nil (λ e. e.seat ≡ seat); run = (b.0, None, b.1, refl, inl (refl, λ n s above. above)); due = tt }, tt)
+pub nothing_shipped : (setting : Setting) (block : Block) (stop : Option ℕ) (seat : ℕ) (journal : List Entry) (ulid : ℕ)
+    → (end : Option End) × Adds (ShipTask setting block stop) seat journal journal end (Err broken.NoMemory) × CameBy (works.Upload ulid stop) end (Err broken.NoMemory)
+nothing_shipped setting block stop seat journal ulid =
+    (None, record { made = []; entries = sym (append-nil journal); seats = All-nil (λ e. e.seat ≡ seat); run = inr (inr (refl, refl)); due = tt }, tt)
+
+-- where the block is not shipped
+pub refused_told : (setting : Setting) (block : Block) (stop : Option ℕ) (seat : ℕ) (journal : List Entry) (ulid cause : ℕ) → IsRefused setting block cause
+    → (end : Option End) × Adds (ShipTask setting block stop) seat journal journal end (Ok (part.Upload (upload_outcomes.Refused cause)))
+    × CameBy (works.Upload ulid stop) end (Ok (part.Upload (upload_outcomes.Refused cause)))
+refused_told setting block stop seat journal ulid cause is = (
+  Some (refused cause),
+  record { made = []; entries = sym (append-nil journal); seats = All-nil (λ e. e.seat ≡ seat); run = inr (inl (cause, is, (refl, inr refl))); due = tt },
+  refl,
+)

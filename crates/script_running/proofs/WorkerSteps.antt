@@ -7,7 +7,6 @@ use Rattle.std.proofs.lemmas.Option.{slice_get-get_or}
 use Rattle.std.proofs.lemmas.List.Elements.{All-append, All-cons, All-drop, All-head, All-nil, All-tail}
 use Rattle.world_core.specs.Operations.{entry_of}
 use Rattle.world_core.specs.declared.entry.Entry.{Entry}
-use Rattle.meta_fetcher.specs.declared.view.View.{View}
 use Rattle.script_core.specs.Lawful.{IsLawfulScript, IsLawfulWork}
 use Rattle.script_workers.specs.declared.task.Task.{Task}
 use Rattle.script_workers.specs.declared.work.Work.{Work}
@@ -19,11 +18,13 @@ use Rattle.lifecycle_core.proofs.phases.RunsInLine.{may_begin}
 use Rattle.lifecycle_core.proofs.phases.TaskRuns.{MayBegin}
 use Rattle.script_running.specs.Drives.{Came}
 use Rattle.script_running.specs.Outcomes.{IsPart}
-use Rattle.script_running.specs.Tasks.{CameBy, HasDone, Sees, is_full_came}
+use Rattle.script_running.specs.Sights.{Sees}
+use Rattle.script_running.specs.Tasks.{CameBy, HasDone, WhenDone, is_full_came}
 use Rattle.script_running.specs.Workers.{AreParts, HasWorked, IsBrokenOff, OwnRun}
 use Rattle.script_running.specs.declared.came.Broken.{Broken}
 use Rattle.script_running.specs.declared.came.Broken.TheVariants as broken
 use Rattle.script_running.specs.declared.part.Part.{Part}
+use Rattle.script_running.specs.declared.sight.Sight.{Sight}
 use Rattle.script_running.specs.declared.worker.WorkerEnd.{WorkerEnd}
 
 -- ---- the tasks at places
@@ -102,7 +103,7 @@ full_end (Err broken.NoMemory) is = absurd (cc (is))
 -- ---- from one task to the next
 
 -- The tasks at these places were done to their ends. What completes the rest completes them all.
-pub record Worked (setting : Setting) (tasks : List Task) (who : Who) (places : List ℕ) (before : Holding) (seat : ℕ) (old new : List Entry) (view : Option View) (parts : List Part) : Type 0 where
+pub record Worked (setting : Setting) (tasks : List Task) (who : Who) (places : List ℕ) (before : Holding) (seat : ℕ) (old new : List Entry) (sight : Sight) (parts : List Part) : Type 0 where
   pub made : List Entry
   pub entries : new ≡ old ++ made
   pub seats : All (λ e. e.seat ≡ seat) made
@@ -113,12 +114,12 @@ pub record Worked (setting : Setting) (tasks : List Task) (who : Who) (places : 
   pub next : Holding
   pub onward : (more : List Assigned) (entries : List Entry) (later : List End) (last : Holding) → OwnRun setting who next more entries later last → OwnRun setting who before (own ++ more) (made ++ entries) (ends ++ later) last
   pub told : AreParts own ends parts
-  pub sees : Sees next view
+  pub sees : Sees next sight
 
 -- before the first task
-pub none_worked : (setting : Setting) (tasks : List Task) (who : Who) (before : Holding) (seat : ℕ) (journal : List Entry) (view : Option View) (places : List ℕ) (parts : List Part) → places ≡ [] → parts ≡ [] → Sees before view
-    → Worked setting tasks who places before seat journal journal view parts
-none_worked setting tasks who before seat journal view places parts none none_told sees = record {
+pub none_worked : (setting : Setting) (tasks : List Task) (who : Who) (before : Holding) (seat : ℕ) (journal : List Entry) (sight : Sight) (places : List ℕ) (parts : List Part) → places ≡ [] → parts ≡ [] → Sees before sight
+    → Worked setting tasks who places before seat journal journal sight parts
+none_worked setting tasks who before seat journal sight places parts none none_told sees = record {
   made = [];
   entries = sym (append-nil journal);
   seats = All-nil (λ e. e.seat ≡ seat);
@@ -132,7 +133,7 @@ none_worked setting tasks who before seat journal view places parts none none_to
   sees = sees;
 }
 
-module _ (setting : Setting) (tasks : List Task) (who : Who) (places : List ℕ) (before : Holding) (seat : ℕ) (old mid new : List Entry) (shown view : Option View) (parts : List Part) (place : ℕ) (task : Task)
+module _ (setting : Setting) (tasks : List Task) (who : Who) (places : List ℕ) (before : Holding) (seat : ℕ) (old mid new : List Entry) (shown sight : Sight) (parts : List Part) (place : ℕ) (task : Task)
     (at : slice_get tasks place ≡ Some task) (w : Worked setting tasks who places before seat old mid shown parts) where
   abbrev this : Assigned
   this = record { place = place; task = task }
@@ -150,8 +151,8 @@ module _ (setting : Setting) (tasks : List Task) (who : Who) (places : List ℕ)
       (subst (λ (ends : List End). OwnRun setting who before (w.own ++ this ∷ more) (w.made ++ (made ++ entries)) ends last) (sym (append_assoc w.ends (end ∷ []) later))
       (w.onward (this ∷ more) (made ++ entries) (end ∷ later) last (λ all. inl (made, entries, end, later, after, refl, run, refl, rest all)))))
 
-  more_from : (o : Part) (end : End) (made : List Entry) (after : Holding) → new ≡ mid ++ made → All (λ e. e.seat ≡ seat) made → TaskRun setting who place task.work w.next made (Some end) after → Sees after view → IsPart task.work end o
-      → Worked setting tasks who (places ++ place ∷ []) before seat old new view (parts ++ o ∷ [])
+  more_from : (o : Part) (end : End) (made : List Entry) (after : Holding) → new ≡ mid ++ made → All (λ e. e.seat ≡ seat) made → TaskRun setting who place task.work w.next made (Some end) after → Sees after sight → IsPart task.work end o
+      → Worked setting tasks who (places ++ place ∷ []) before seat old new sight (parts ++ o ∷ [])
   more_from o end made after is seats run sees by = record {
     made = w.made ++ made;
     entries = both_entries made is;
@@ -166,12 +167,12 @@ module _ (setting : Setting) (tasks : List Task) (who : Who) (places : List ℕ)
     sees = sees;
   }
 
-  more_by : (o : Part) (end : Option End) (made : List Entry) (after : Holding) → new ≡ mid ++ made → All (λ e. e.seat ≡ seat) made → TaskRun setting who place task.work w.next made end after → Sees after view → CameBy task.work end (Ok o)
-      → Worked setting tasks who (places ++ place ∷ []) before seat old new view (parts ++ o ∷ [])
+  more_by : (o : Part) (end : Option End) (made : List Entry) (after : Holding) → new ≡ mid ++ made → All (λ e. e.seat ≡ seat) made → TaskRun setting who place task.work w.next made end after → Sees after sight → CameBy task.work end (Ok o)
+      → Worked setting tasks who (places ++ place ∷ []) before seat old new sight (parts ++ o ∷ [])
   more_by o (Some end) made after is seats run sees by = more_from o end made after is seats run sees by
   more_by o None made after is seats run sees by = absurd by
 
-  pub more_worked : (o : Part) → HasDone setting who place task.work w.next seat mid new view (Ok o) → Worked setting tasks who (places ++ place ∷ []) before seat old new view (parts ++ o ∷ [])
+  pub more_worked : (o : Part) → HasDone setting who place task.work w.next seat mid new sight (Ok o) → Worked setting tasks who (places ++ place ∷ []) before seat old new sight (parts ++ o ∷ [])
   more_worked o d = more_by o d.end d.made d.after d.entries d.seats d.run d.sees d.by
 
   -- ---- the task that was broken off
@@ -193,7 +194,7 @@ module _ (setting : Setting) (tasks : List Task) (who : Who) (places : List ℕ)
   none_by work (Some end) broken.Full by = absurd by
   none_by work (Some end) broken.NoMemory by = absurd by
 
-  cut_off : (more : List Assigned) (why : Broken) → All (λ (a : Assigned). MayBegin setting a.task.work) more → (d : HasDone setting who place task.work w.next seat mid new view (Err why))
+  cut_off : (more : List Assigned) (why : Broken) → All (λ (a : Assigned). MayBegin setting a.task.work) more → (d : HasDone setting who place task.work w.next seat mid new sight (Err why))
       → IsBrokenOff setting who seat before (w.own ++ this ∷ more) (w.made ++ d.made) (w.ends ++ []) (Err why)
   cut_off more broken.NoMemory begin d = tt
   cut_off more broken.Full begin d = (
@@ -210,8 +211,8 @@ module _ (setting : Setting) (tasks : List Task) (who : Who) (places : List ℕ)
   )
 
   pub broken_worked : (all : List ℕ) (others : List ℕ) (more : List Assigned) (why : Broken) (end : WorkerEnd) → all ≡ places ++ place ∷ others → TasksAt tasks others more → All (λ (a : Assigned). MayBegin setting a.task.work) more
-      → end.parts.items ≡ parts → end.came ≡ Err why → end.view ≡ view → HasDone setting who place task.work w.next seat mid new view (Err why) → HasWorked setting tasks who all before seat old new end
-  broken_worked all others more why end split are begin told came sight d = record {
+      → end.parts.items ≡ parts → end.came ≡ Err why → HasDone setting who place task.work w.next seat mid new sight (Err why) → HasWorked setting tasks who all before seat old new end
+  broken_worked all others more why end split are begin told came d = record {
     made = w.made ++ d.made;
     entries = both_entries d.made d.entries;
     seats = All-append (λ (e : Entry). e.seat ≡ seat) w.made d.made w.seats d.seats;
@@ -221,14 +222,14 @@ module _ (setting : Setting) (tasks : List Task) (who : Who) (places : List ℕ)
     last = d.after;
     run = cut_run more d.made d.end d.after d.run (none_by task.work d.end why d.by);
     parts = subst (AreParts (w.own ++ this ∷ more) (w.ends ++ [])) (sym told) (subst (λ (es : List End). AreParts (w.own ++ this ∷ more) es parts) (sym (append-nil w.ends)) (parts_on w.own (this ∷ more) w.ends parts w.told));
-    sees = d.sees ∙ sym sight;
+    sees = subst (λ (r : Result (Unit {0}) Broken). WhenDone r (Sees d.after end.sight)) (sym came) tt;
     broken = subst (IsBrokenOff setting who seat before (w.own ++ this ∷ more) (w.made ++ d.made) (w.ends ++ [])) (sym came) (cut_off more why begin d);
   }
 
 -- all tasks were done
-pub all_worked : (setting : Setting) (tasks : List Task) (who : Who) (places all : List ℕ) (before : Holding) (seat : ℕ) (old new : List Entry) (view : Option View) (parts : List Part) (end : WorkerEnd) → places ≡ all
-    → end.parts.items ≡ parts → end.came ≡ Ok tt → end.view ≡ view → Worked setting tasks who places before seat old new view parts → HasWorked setting tasks who all before seat old new end
-all_worked setting tasks who places all before seat old new view parts end is told came sight w = record {
+pub all_worked : (setting : Setting) (tasks : List Task) (who : Who) (places all : List ℕ) (before : Holding) (seat : ℕ) (old new : List Entry) (sight : Sight) (parts : List Part) (end : WorkerEnd) → places ≡ all
+    → end.parts.items ≡ parts → end.came ≡ Ok tt → end.sight ≡ sight → Worked setting tasks who places before seat old new sight parts → HasWorked setting tasks who all before seat old new end
+all_worked setting tasks who places all before seat old new sight parts end is told came same w = record {
   made = w.made;
   entries = w.entries;
   seats = w.seats;
@@ -241,7 +242,7 @@ all_worked setting tasks who places all before seat old new view parts end is to
       (subst (λ (ends : List End). OwnRun setting who before (w.own ++ []) (w.made ++ []) ends w.next) (append-nil w.ends)
       (w.onward [] [] [] w.next (λ all. (refl, refl, refl)))));
   parts = subst (AreParts w.own w.ends) (sym told) w.told;
-  sees = w.sees ∙ sym sight;
+  sees = subst (λ (r : Result (Unit {0}) Broken). WhenDone r (Sees w.next end.sight)) (sym came) (subst (Sees w.next) (sym same) w.sees);
   broken = subst (IsBrokenOff setting who seat before w.own w.made w.ends) (sym came) w.whole;
 }
 
@@ -263,10 +264,10 @@ none_run setting who before [] begin = λ all. (refl, refl, refl)
 none_run setting who before (a ∷ own) begin = λ all. inr (begin 0 a (omega arith) who a.place before, refl)
 
 -- for want of memory
-pub none_done : (setting : Setting) (tasks : List Task) (who : Who) (places : List ℕ) (before : Holding) (seat : ℕ) (journal : List Entry) (view : Option View) (end : WorkerEnd) → IsLawfulScript setting.script
-    → All (λ t. IsLawfulWork setting.script.gateways setting.script.blocks (length setting.script.selectors) t.work) tasks → All (λ place. place < length tasks) places → Sees before view
-    → end.parts.items ≡ [] → end.came ≡ Err broken.NoMemory → end.view ≡ view → HasWorked setting tasks who places before seat journal journal end
-none_done setting tasks who places before seat journal view end lawful allowed within sees told came sight =
+pub none_done : (setting : Setting) (tasks : List Task) (who : Who) (places : List ℕ) (before : Holding) (seat : ℕ) (journal : List Entry) (end : WorkerEnd) → IsLawfulScript setting.script
+    → All (λ t. IsLawfulWork setting.script.gateways setting.script.blocks (length setting.script.selectors) t.work) tasks → All (λ place. place < length tasks) places
+    → end.parts.items ≡ [] → end.came ≡ Err broken.NoMemory → HasWorked setting tasks who places before seat journal journal end
+none_done setting tasks who places before seat journal end lawful allowed within told came =
     let own = assigned tasks places within in
     let begin = tasks_begin setting tasks (may_begin setting tasks lawful allowed) places own.0 own.1 in
     record {
@@ -279,7 +280,7 @@ none_done setting tasks who places before seat journal view end lawful allowed w
       last = before;
       run = none_run setting who before own.0 begin;
       parts = told;
-      sees = sees ∙ sym sight;
+      sees = subst (λ (r : Result (Unit {0}) Broken). WhenDone r (Sees before end.sight)) (sym came) tt;
       broken = subst (IsBrokenOff setting who seat before own.0 [] []) (sym came) tt;
     }
 
@@ -311,26 +312,26 @@ parts_at (p ∷ places) (suc number) place below is = let e : suc number + 1 ≡
 pub place_within : (tasks : List Task) (places : List ℕ) (number place : ℕ) → number < length places → place ≡ get_or places number place → All (λ p. p < length tasks) places → place < length tasks
 place_within tasks places number place below is within = subst (λ (p : ℕ). p < length tasks) (sym is) (within number place below)
 
-module _ (setting : Setting) (tasks : List Task) (who : Who) (places : List ℕ) (before : Holding) (seat own_seat : ℕ) (old mid new : List Entry) (shown view : Option View) (parts : List Part) (number place : ℕ) (task : Task)
+module _ (setting : Setting) (tasks : List Task) (who : Who) (places : List ℕ) (before : Holding) (seat own_seat : ℕ) (old mid new : List Entry) (shown sight : Sight) (parts : List Part) (number place : ℕ) (task : Task)
     (below : number < length places) (is : place ≡ get_or places number place) (within : All (λ p. p < length tasks) places) (at : task ≡ get_or tasks place task) (same : own_seat ≡ seat)
     (w : Worked setting tasks who (take number places) before seat old mid shown parts) where
   found : slice_get tasks place ≡ Some task
   found = at_place tasks place task (place_within tasks places number place below is within) at
 
-  pub step_worked : (outs : List Part) (o : Part) (came : Came) → came ≡ Ok o → outs ≡ parts ++ o ∷ [] → ((held : Holding) → Sees held shown → HasDone setting who place task.work held own_seat mid new view came)
-      → Worked setting tasks who (take (number + 1) places) before seat old new view outs
+  pub step_worked : (outs : List Part) (o : Part) (came : Came) → came ≡ Ok o → outs ≡ parts ++ o ∷ [] → ((held : Holding) → Sees held shown → HasDone setting who place task.work held own_seat mid new sight came)
+      → Worked setting tasks who (take (number + 1) places) before seat old new sight outs
   step_worked outs o came ok told done =
-      let d = subst (λ (s : ℕ). HasDone setting who place task.work w.next s mid new view (Ok o)) same (subst (λ (x : Came). HasDone setting who place task.work w.next own_seat mid new view x) ok (done w.next w.sees)) in
-      subst (λ (os : List Part). Worked setting tasks who (take (number + 1) places) before seat old new view os) (sym told)
-      (subst (λ (ps : List ℕ). Worked setting tasks who ps before seat old new view (parts ++ o ∷ [])) (sym (front_more places number place below is))
-      (more_worked setting tasks who (take number places) before seat old mid new shown view parts place task found w o d))
+      let d = subst (λ (s : ℕ). HasDone setting who place task.work w.next s mid new sight (Ok o)) same (subst (λ (x : Came). HasDone setting who place task.work w.next own_seat mid new sight x) ok (done w.next w.sees)) in
+      subst (λ (os : List Part). Worked setting tasks who (take (number + 1) places) before seat old new sight os) (sym told)
+      (subst (λ (ps : List ℕ). Worked setting tasks who ps before seat old new sight (parts ++ o ∷ [])) (sym (front_more places number place below is))
+      (more_worked setting tasks who (take number places) before seat old mid new shown sight parts place task found w o d))
 
   pub step_broken : (why : Broken) (came : Came) (end : WorkerEnd) → IsLawfulScript setting.script → All (λ t. IsLawfulWork setting.script.gateways setting.script.blocks (length setting.script.selectors) t.work) tasks
-      → came ≡ Err why → end.parts.items ≡ parts → end.came ≡ Err why → end.view ≡ view → ((held : Holding) → Sees held shown → HasDone setting who place task.work held own_seat mid new view came)
+      → came ≡ Err why → end.parts.items ≡ parts → end.came ≡ Err why → ((held : Holding) → Sees held shown → HasDone setting who place task.work held own_seat mid new sight came)
       → HasWorked setting tasks who places before seat old new end
-  step_broken why came end lawful allowed err told broke sight done =
-      let d = subst (λ (s : ℕ). HasDone setting who place task.work w.next s mid new view (Err why)) same (subst (λ (x : Came). HasDone setting who place task.work w.next own_seat mid new view x) err (done w.next w.sees)) in
+  step_broken why came end lawful allowed err told broke done =
+      let d = subst (λ (s : ℕ). HasDone setting who place task.work w.next s mid new sight (Err why)) same (subst (λ (x : Came). HasDone setting who place task.work w.next own_seat mid new sight x) err (done w.next w.sees)) in
       let more = assigned tasks (drop (number + 1) places) (All-drop (λ p. p < length tasks) (number + 1) places within) in
       let begin = tasks_begin setting tasks (may_begin setting tasks lawful allowed) (drop (number + 1) places) more.0 more.1 in
-      broken_worked setting tasks who (take number places) before seat old mid new shown view parts place task found w places (drop (number + 1) places) more.0 why end
-      (parts_at places number place below is) more.1 begin told broke sight d
+      broken_worked setting tasks who (take number places) before seat old mid new shown sight parts place task found w places (drop (number + 1) places) more.0 why end
+      (parts_at places number place below is) more.1 begin told broke d

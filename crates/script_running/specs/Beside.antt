@@ -1,8 +1,7 @@
 -- What a run leaves whose phases' workers are beside each other.
-use Rattle.std.specs.Prelude.{◌≡◌, ℕ, List, [], ◌∷◌, ◌++◌, Option, Some, Result, Ok, Err, slice_get}
+use Rattle.std.specs.Prelude.{◌≡◌, ℕ, List, ◌++◌, Some, Result, Ok, Err, slice_get}
 use Rattle.world_core.specs.Keeping.{IsFull}
 use Rattle.world_core.specs.declared.entry.Entry.{Entry}
-use Rattle.meta_fetcher.specs.declared.view.View.{View}
 use Rattle.script_workers.specs.declared.phase.Phase.{Phase}
 use Rattle.lifecycle_core.specs.Cuts.{IsCutBehind}
 use Rattle.lifecycle_core.specs.Holdings.{Holdings}
@@ -10,14 +9,15 @@ use Rattle.lifecycle_core.specs.Phases.{IsFinished, IsInTurn, IsRunOf}
 use Rattle.lifecycle_core.specs.Setting.{Setting}
 use Rattle.lifecycle_core.specs.Tasks.{End}
 use Rattle.script_running.specs.Outcomes.{PhasesCame}
-use Rattle.script_running.specs.Tasks.{Sees}
+use Rattle.script_running.specs.Sights.{Sees}
 use Rattle.script_running.specs.declared.came.Broken.{Broken}
 use Rattle.script_running.specs.declared.came.Broken.TheVariants as broken
 use Rattle.script_running.specs.declared.outcome.Outcome.{Outcome}
+use Rattle.script_running.specs.declared.sight.Sight.{Sight}
 
--- gateways that hold what these views show
-abbrev pub AreSeen : Holdings → List (Option View) → Type 0
-AreSeen held views = (place : ℕ) (view : Option View) → slice_get views place ≡ Some view → Sees (held place) view
+-- gateways that hold this see by these
+abbrev pub AreSeen : Holdings → List Sight → Type 0
+AreSeen held sights = (place : ℕ) (sight : Sight) → slice_get sights place ≡ Some sight → Sees (held place) sight
 
 -- The full journal broke the run off behind some first phases, and these are their outcomes.
 pub record IsCutShort (setting : Setting) (journal : List Entry) (ends : List (List (List End))) (outcomes : List Outcome) : Type 0 where

@@ -4,8 +4,7 @@ use Rattle.world_core.specs.declared.driven.Driven.{Driven}
 use Rattle.world_core.specs.declared.driven.Driven.TheVariants as driven
 use Rattle.shipper.specs.declared.upload_end.UploadEnd.{UploadEnd}
 use Rattle.meta_fetcher.specs.declared.sync_end.SyncEnd.{SyncEnd}
-use Rattle.store_gateway.specs.declared.series_end.SeriesEnd.{SeriesEnd}
-use Rattle.script_running.specs.Outcomes.{call_part, sync_outcome, upload_outcome}
+use Rattle.script_running.specs.Outcomes.{sync_outcome, upload_outcome}
 use Rattle.script_running.specs.declared.came.Broken.{Broken}
 use Rattle.script_running.specs.declared.came.Broken.TheVariants as broken
 use Rattle.script_running.specs.declared.outcome.UploadOutcome.TheVariants as upload
@@ -36,6 +35,3 @@ upload_came driven.NoMemory = Err broken.NoMemory
 
 abbrev pub sync_came : Driven SyncEnd → Came
 sync_came driven = came_by (λ end. part.Sync (sync_outcome end)) (driven_end driven)
-
-abbrev pub call_came : Driven SeriesEnd → Came
-call_came driven = came_by (λ end. part.Query (call_part end)) (driven_end driven)

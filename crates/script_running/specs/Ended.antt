@@ -10,17 +10,18 @@ use Rattle.lifecycle_core.specs.Holdings.{Holding, Holdings, holding_of}
 use Rattle.lifecycle_core.specs.Setting.{Setting}
 use Rattle.lifecycle_core.specs.Tasks.{End}
 use Rattle.script_running.specs.Begun.{WasKept}
-use Rattle.script_running.specs.Tasks.{Sees}
+use Rattle.script_running.specs.Sights.{Sees}
+use Rattle.script_running.specs.Tasks.{WhenDone}
 use Rattle.script_running.specs.Workers.{AreParts, IsBrokenOff, Post}
 use Rattle.script_running.specs.declared.came.Broken.TheVariants as broken
 use Rattle.script_running.specs.declared.worker.WorkerEnd.{WorkerEnd}
 
--- a worker's job, by the script that these bytes spell, with the view of what its gateway holds
+-- a worker's job, by the script that these bytes spell, with what its gateway sees by, by what that holds
 pub record IsPostOf (bytes : List ℕ) (number : ℕ) (before : Holdings) (worker : Worker) (post : Post) : Type 0 where
   pub text_is : post.text ≡ bytes
   pub phase_is : post.phase ≡ number
   pub worker_is : post.worker ≡ worker
-  pub sees : Sees (holding_of before worker.gateway) post.view
+  pub sees : Sees (holding_of before worker.gateway) post.sight
 
 -- the workers have the seats from one on
 abbrev pub AreInRow : ℕ → List Worker → Type 0
@@ -32,7 +33,7 @@ AreInRow seat (worker ∷ workers) = (worker.seat ≡ seat) × AreInRow (seat + 
 pub record HasEnded (setting : Setting) (tasks : List Task) (before : Holdings) (front : List Entry) (worker : Worker) (kept : ℕ × List Entry) (end : WorkerEnd) (ends : List End) (last : Holding) : Type 0 where
   pub was : WasKept setting tasks before worker kept ends last
   pub parts : AreParts was.own ends end.parts.items
-  pub sees : Sees last end.view
+  pub sees : WhenDone end.came (Sees last end.sight)
   pub cut : IsBrokenOff setting (who_of worker) worker.seat (holding_of before worker.gateway) was.own kept.1 ends end.came
   pub full : end.came ≡ Err broken.Full → (seen : List Entry) × IsPrefix seen front × IsFull seen
 

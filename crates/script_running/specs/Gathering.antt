@@ -1,7 +1,6 @@
 -- What a phase comes to, once the ends of its workers are laid together.
 use Rattle.std.specs.Prelude.{◌≡◌, ◌≢◌, ◌⊎◌, ℕ, ◌+◌, ◌<◌, List, [], ◌∷◌, ◌++◌, length, All, Contains, Option, Some, None, IsSome, Result, Ok, Err, slice_get}
 use Rattle.std.specs.List.{flat_map, zip}
-use Rattle.meta_fetcher.specs.declared.view.View.{View}
 use Rattle.script_workers.specs.Hands.{gateway_of, hands_of_task}
 use Rattle.script_workers.specs.declared.phase.Phase.{Phase}
 use Rattle.script_workers.specs.declared.task.Task.{Task}
@@ -14,25 +13,26 @@ use Rattle.lifecycle_core.specs.Tasks.{End}
 use Rattle.script_running.specs.Beside.{AreSeen}
 use Rattle.script_running.specs.Going.{IfFull, Met}
 use Rattle.script_running.specs.Outcomes.{AreAllParts, IsOutcomeOf, TasksCame}
-use Rattle.script_running.specs.Tasks.{Sees}
+use Rattle.script_running.specs.Sights.{Sees, no_sight}
 use Rattle.script_running.specs.declared.came.Broken.{Broken}
 use Rattle.script_running.specs.declared.came.Broken.TheVariants as broken
 use Rattle.script_running.specs.declared.outcome.Outcome.{Outcome}
 use Rattle.script_running.specs.declared.gathering.Column.{Column}
 use Rattle.script_running.specs.declared.gathering.Slots.{Slots}
 use Rattle.script_running.specs.declared.part.Part.{Part}
+use Rattle.script_running.specs.declared.sight.Sight.{Sight}
 use Rattle.script_running.specs.declared.worker.WorkerEnd.{WorkerEnd}
 
--- gateways without a worker in the phase have the views of what they hold
-abbrev pub AreSeenBeside : Holdings → List Worker → List (Option View) → Type 0
-AreSeenBeside held workers views = (place : ℕ) (view : Option View) → slice_get views place ≡ Some view → All (λ (w : Worker). w.gateway ≢ Some place) workers → Sees (held place) view
+-- gateways without a worker in the phase see by what they hold
+abbrev pub AreSeenBeside : Holdings → List Worker → List Sight → Type 0
+AreSeenBeside held workers sights = (place : ℕ) (sight : Sight) → slice_get sights place ≡ Some sight → All (λ (w : Worker). w.gateway ≢ Some place) workers → Sees (held place) sight
 
 -- All workers came to all their ends: gateways see what they hold after the phase, and the outcomes of its tasks were added in the order
 -- of the lines. Or a worker met the full journal, and nothing was added; or memory was wanting, and none of them met it.
-abbrev pub Gathers : Setting → Phase → List Worker → List (List End) → List WorkerEnd → Holdings → List (Option View) → List Outcome → List Outcome → Result (Unit {0}) Broken → Type 0
-Gathers setting phase workers ends others after views old new (Ok done) =
-    AreDone workers ends × AreSeen after views × ((own : List Outcome) × (new ≡ old ++ own) × TasksCame setting.script workers ends 0 phase.tasks own)
-Gathers setting phase workers ends others after views old new (Err why) =
+abbrev pub Gathers : Setting → Phase → List Worker → List (List End) → List WorkerEnd → Holdings → List Sight → List Outcome → List Outcome → Result (Unit {0}) Broken → Type 0
+Gathers setting phase workers ends others after sights old new (Ok done) =
+    AreDone workers ends × AreSeen after sights × ((own : List Outcome) × (new ≡ old ++ own) × TasksCame setting.script workers ends 0 phase.tasks own)
+Gathers setting phase workers ends others after sights old new (Err why) =
     IfFull why (new ≡ old) × Met why others
 
 -- ---- before the phase
@@ -47,11 +47,11 @@ abbrev pub HasPlace : ℕ → Worker → Type 0
 HasPlace count w = (gateway : ℕ) → w.gateway ≡ Some gateway → gateway < count
 
 -- what a gateway has seen was taken from its place, and nothing else
-pub record IsTaken (gateway : Option ℕ) (own : Option View) (old new : List (Option View)) : Type 0 where
+pub record IsTaken (gateway : Option ℕ) (own : Sight) (old new : List Sight) : Type 0 where
   pub each : length new ≡ length old
   pub named : (place : ℕ) → gateway ≡ Some place → slice_get old place ≡ Some own
-  pub none : gateway ≡ None → own ≡ None
-  pub left : (place : ℕ) (view : Option View) → slice_get new place ≡ Some view → gateway ≢ Some place → slice_get old place ≡ Some view
+  pub none : gateway ≡ None → own ≡ no_sight
+  pub left : (place : ℕ) (sight : Sight) → slice_get new place ≡ Some sight → gateway ≢ Some place → slice_get old place ≡ Some sight
 
 -- ---- behind it
 
@@ -119,19 +119,19 @@ pub record IsWorse (one other both : Result (Unit {0}) Broken) : Type 0 where
   pub first : one ≡ Err broken.Full → both ≡ Err broken.Full
   pub second : other ≡ Err broken.Full → both ≡ Err broken.Full
 
--- a gateway, if one is named, has this view, and the others have what they had
-abbrev pub IsSeen : Option ℕ → Option View → List (Option View) → List (Option View) → Type 0
-IsSeen gateway own old new = (place : ℕ) (view : Option View) → slice_get new place ≡ Some view
-    → ((gateway ≡ Some place) × (own ≡ view)) ⊎ ((slice_get old place ≡ Some view) × (gateway ≢ Some place))
+-- a gateway, if one is named, sees by this, and the others by what they did
+abbrev pub IsSeen : Option ℕ → Sight → List Sight → List Sight → Type 0
+IsSeen gateway own old new = (place : ℕ) (sight : Sight) → slice_get new place ≡ Some sight
+    → ((gateway ≡ Some place) × (own ≡ sight)) ⊎ ((slice_get old place ≡ Some sight) × (gateway ≢ Some place))
 
--- Workers were taken in. A gateway has the view with which a worker of its own came back, or what it had, if it has none; and each
+-- Workers were taken in. A gateway sees by that with which a worker of its own came back, or as before, if it has none; and each
 -- part lies at the place of its task.
-pub record AreTakenIn (workers : List Worker) (ends : List WorkerEnd) (views seen : List (Option View)) (old new : Slots) : Type 0 where
-  pub long : length seen ≡ length views
+pub record AreTakenIn (workers : List Worker) (ends : List WorkerEnd) (sights seen : List Sight) (old new : Slots) : Type 0 where
+  pub long : length seen ≡ length sights
   pub same : HaveSameSlots old new
-  pub views_are : (place : ℕ) (view : Option View) → slice_get seen place ≡ Some view
-      → ((w : Worker) × (e : WorkerEnd) × Contains (zip workers ends) (w, e) × (w.gateway ≡ Some place) × (e.view ≡ view))
-      ⊎ ((slice_get views place ≡ Some view) × All (λ (w : Worker). w.gateway ≢ Some place) workers)
+  pub sights_are : (place : ℕ) (sight : Sight) → slice_get seen place ≡ Some sight
+      → ((w : Worker) × (e : WorkerEnd) × Contains (zip workers ends) (w, e) × (w.gateway ≡ Some place) × (e.sight ≡ sight))
+      ⊎ ((slice_get sights place ≡ Some sight) × All (λ (w : Worker). w.gateway ≢ Some place) workers)
   pub origin : (gateway : Option ℕ) (place : ℕ) (one : Part) → slot_at new gateway place ≡ Some (Some one)
       → (slot_at old gateway place ≡ Some (Some one)) ⊎ ((w : Worker) × (e : WorkerEnd) × Contains (zip workers ends) (w, e) × (gateway ≡ w.gateway) × Contains (zip w.tasks e.parts.items) (place, one))
   pub kept : (gateway : Option ℕ) (place : ℕ) → IsFilled old gateway place → IsFilled new gateway place

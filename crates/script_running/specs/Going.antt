@@ -1,5 +1,5 @@
 -- How far a run beside has come, by what its root knows: between two phases, and where it broke off.
-use Rattle.std.specs.Prelude.{◌≡◌, ◌≢◌, ◌⊎◌, ℕ, List, [], ◌∷◌, ◌++◌, length, All, Contains, Option, Result, Ok, Err}
+use Rattle.std.specs.Prelude.{◌≡◌, ◌≢◌, ◌⊎◌, ℕ, List, [], ◌∷◌, ◌++◌, length, All, Contains, Result, Ok, Err}
 use mathlib.Core.List.{IsPrefix}
 use Rattle.world_core.specs.Keeping.{IsFull}
 use Rattle.world_core.specs.declared.entry.Entry.{Entry}
@@ -8,7 +8,6 @@ use Rattle.world_core.specs.declared.op.Op.TheVariants.{Clock}
 use Rattle.world_core.specs.declared.seen.Seen.{Seen}
 use Rattle.world_turn.specs.Turns.{Acts}
 use Rattle.world_turn.specs.declared.view.View.{View as Known}
-use Rattle.meta_fetcher.specs.declared.view.View.{View}
 use Rattle.script_core.specs.Workers.{workers_of}
 use Rattle.script_workers.specs.declared.phase.Phase.{Phase}
 use Rattle.lifecycle_core.specs.Holdings.{Holding, Holdings, none_held}
@@ -24,6 +23,7 @@ use Rattle.script_running.specs.Outcomes.{PhasesCame}
 use Rattle.script_running.specs.declared.came.Broken.{Broken}
 use Rattle.script_running.specs.declared.came.Broken.TheVariants as broken
 use Rattle.script_running.specs.declared.outcome.Outcome.{Outcome}
+use Rattle.script_running.specs.declared.sight.Sight.{Sight}
 use Rattle.script_running.specs.declared.worker.WorkerEnd.{WorkerEnd}
 
 -- the clock was set to a phase's moment, or why it was not
@@ -38,16 +38,16 @@ pub record HasFinished (setting : Setting) (done : List Phase) (passed : List Pa
   pub begun : WereBegun setting 0 none_held done passed told held
   pub finished : AreFinished (by_workers setting) 0 done told
 
--- Between two phases: the root knows the finished ones, and no other was begun. These are their outcomes, and each gateway's view
--- is that of what it holds.
-pub record HasGone (setting : Setting) (root : Known) (done : List Phase) (views : List (Option View)) (outcomes : List Outcome) : Type 0 where
+-- Between two phases: the root knows the finished ones, and no other was begun. These are their outcomes, and each gateway
+-- sees by what it holds.
+pub record HasGone (setting : Setting) (root : Known) (done : List Phase) (sights : List Sight) (outcomes : List Outcome) : Type 0 where
   pub passed : List Passed
   pub held : Holdings
   pub so_far : HasFinished setting done passed held
   pub knows : KnowsPhases root passed
   pub came : PhasesCame setting.script 0 done so_far.told outcomes
-  pub each : length views ≡ length setting.script.gateways
-  pub seen : AreSeen held views
+  pub each : length sights ≡ length setting.script.gateways
+  pub seen : AreSeen held sights
 
 -- a front that the root has seen is full
 abbrev pub HasSeenFull : Known → Type 0
@@ -98,6 +98,6 @@ pub record HasStopped (setting : Setting) (root : Known) (outcomes : List Outcom
       ⊎ (HasBrokenOff setting root done passed held phase why ⊎ ((why ≡ broken.NoMemory) × HasIdled setting root passed phase))
 
 -- what a run of these phases comes to, by what broke it off
-abbrev pub HasCome : Setting → Known → List Phase → List (Option View) → List Outcome → Result (Unit {0}) Broken → Type 0
-HasCome setting root done views outcomes (Ok none) = HasGone setting root done views outcomes
-HasCome setting root done views outcomes (Err why) = HasStopped setting root outcomes why
+abbrev pub HasCome : Setting → Known → List Phase → List Sight → List Outcome → Result (Unit {0}) Broken → Type 0
+HasCome setting root done sights outcomes (Ok none) = HasGone setting root done sights outcomes
+HasCome setting root done sights outcomes (Err why) = HasStopped setting root outcomes why

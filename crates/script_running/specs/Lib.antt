@@ -1,6 +1,7 @@
 pub mod Outcomes
 pub mod Given
 pub mod Drives
+pub mod Sights
 pub mod Tasks
 pub mod Workers
 pub mod Cutting

@@ -8,8 +8,8 @@ use Rattle.shipper.specs.declared.upload_end.UploadEnd.{UploadEnd}
 use Rattle.shipper.specs.declared.upload_end.UploadEnd.TheVariants as shipped
 use Rattle.meta_fetcher.specs.declared.sync_end.SyncEnd.{SyncEnd}
 use Rattle.meta_fetcher.specs.declared.sync_end.SyncEnd.TheVariants as fetched
-use Rattle.store_gateway.specs.declared.series_end.SeriesEnd.{SeriesEnd}
-use Rattle.store_gateway.specs.declared.series_end.SeriesEnd.TheVariants as called
+use Rattle.series_calls.specs.declared.series_end.SeriesEnd.{SeriesEnd}
+use Rattle.series_calls.specs.declared.series_end.SeriesEnd.TheVariants as called
 use Rattle.script_workers.specs.Hands.{gateway_count, gateway_of, hands_of_task}
 use Rattle.script_core.specs.Workers.{workers_of}
 use Rattle.script_workers.specs.declared.phase.Phase.{Phase}
@@ -19,7 +19,7 @@ use Rattle.script_workers.specs.declared.work.Work.{Work}
 use Rattle.script_workers.specs.declared.work.Work.TheVariants as work
 use Rattle.script_workers.specs.declared.worker.Worker.{Worker}
 use Rattle.lifecycle_core.specs.Conducts.{CameTo}
-use Rattle.lifecycle_core.specs.Tasks.{End, uploaded, synced, answered, not_asked, without_view, stopped}
+use Rattle.lifecycle_core.specs.Tasks.{End, uploaded, synced, answered, not_asked, refused, without_view, stopped}
 use Rattle.script_running.specs.declared.outcome.Outcome.{Outcome}
 use Rattle.script_running.specs.declared.outcome.Outcome.TheVariants as outcome
 use Rattle.script_running.specs.declared.outcome.UploadOutcome.{UploadOutcome}
@@ -56,6 +56,7 @@ call_part (called.Fault entry) = given.NoAnswer (none.Fault entry)
 -- A worker's part of a task, by the end to which it came.
 abbrev pub IsPart : Work → End → Part → Type 0
 IsPart (work.Upload ulid stop) (uploaded end) p = p ≡ part.Upload (upload_outcome end)
+IsPart (work.Upload ulid stop) (refused cause) p = p ≡ part.Upload (upload.Refused cause)
 IsPart (work.Upload ulid stop) (stopped count) p = p ≡ part.Upload (upload.Stopped count)
 IsPart (work.Sync gateway) (synced end) p = p ≡ part.Sync (sync_outcome end)
 IsPart (work.Query low high selector) (answered used end) p = p ≡ part.Query (call_part end)
@@ -151,6 +152,7 @@ abbrev pub is_as_asked : Outcome → Bool
 is_as_asked (outcome.Upload (upload.Done count)) = true
 is_as_asked (outcome.Upload upload.Already) = true
 is_as_asked (outcome.Upload (upload.Fault entry)) = false
+is_as_asked (outcome.Upload (upload.Refused cause)) = false
 is_as_asked (outcome.Upload (upload.Stopped count)) = true
 is_as_asked (outcome.Sync (sync.Blocks count)) = true
 is_as_asked (outcome.Sync (sync.Fault entry)) = false

@@ -1,5 +1,5 @@
 -- What a worker's hand gains by one task, and what the task came to.
-use Rattle.std.specs.Prelude.{◌≡◌, ℕ, ℤ, Bool, true, false, List, [], ◌∷◌, ◌++◌, length, All, Option, Some, None, option_map, Result, Ok, Err}
+use Rattle.std.specs.Prelude.{◌≡◌, ℕ, ℤ, Bool, true, false, List, [], ◌∷◌, ◌++◌, length, All, Option, Some, None, Result, Ok, Err}
 use Rattle.world_core.specs.Operations.{IsAnswer, IsLawful, entry_of}
 use Rattle.world_core.specs.declared.entry.Entry.{Entry}
 use Rattle.world_core.specs.declared.op.Op.{Op}
@@ -7,19 +7,21 @@ use Rattle.world_core.specs.declared.seen.Seen.{Seen}
 use Rattle.meta_fetcher.specs.declared.sync_end.SyncEnd.{SyncEnd}
 use Rattle.meta_fetcher.specs.declared.sync_end.SyncEnd.TheVariants as fetched
 use Rattle.meta_fetcher.specs.declared.view.View.{View}
-use Rattle.store_gateway.specs.SeriesRuns.{Query as Question}
+use Rattle.block_ranges.specs.Reads.{Query as Question}
 use Rattle.script_core.specs.Lawful.{IsLawfulWork}
 use Rattle.script_core.specs.declared.script.Script.{Script}
 use Rattle.script_workers.specs.declared.work.Work.{Work}
 use Rattle.script_workers.specs.declared.work.Work.TheVariants.{Query}
 use Rattle.lifecycle_core.specs.Conducts.{Who}
-use Rattle.lifecycle_core.specs.Holdings.{Holding, Use}
+use Rattle.lifecycle_core.specs.Holdings.{Holding}
 use Rattle.lifecycle_core.specs.Setting.{Setting}
 use Rattle.lifecycle_core.specs.Tasks.{End, QueryTask, TaskRun}
 use Rattle.script_running.specs.Drives.{Came}
 use Rattle.script_running.specs.Outcomes.{IsPart}
+use Rattle.script_running.specs.Sights.{Sees}
 use Rattle.script_running.specs.declared.came.Broken.{Broken}
 use Rattle.script_running.specs.declared.came.Broken.TheVariants as broken
+use Rattle.script_running.specs.declared.sight.Sight.{Sight}
 
 -- the script allows the work
 abbrev pub Allows : Script → Work → Type 0
@@ -30,6 +32,11 @@ abbrev pub WhenFull : {X : Type 0} → Result X Broken → Type 0 → Type 0
 WhenFull (Ok own) P = Unit {0}
 WhenFull (Err broken.Full) P = P
 WhenFull (Err broken.NoMemory) P = Unit {0}
+
+-- what holds where it came to its end
+abbrev pub WhenDone : {X : Type 0} → Result X Broken → Type 0 → Type 0
+WhenDone (Ok own) P = P
+WhenDone (Err why) P = Unit {0}
 
 -- whether an operation was answered that the journal is full, by what it broke off
 abbrev pub is_full_came : {X : Type 0} → Result X Broken → Bool
@@ -66,30 +73,32 @@ view_by before (Some (fetched.Damaged number)) = before
 view_by before (Some fetched.TooMany) = before
 view_by before None = before
 
--- a worker that holds this sees by this view
-abbrev pub Sees : Holding → Option View → Type 0
-Sees held view = option_map (λ (used : Use). used.view) held.used ≡ view
-
 -- an end of a worker's run of a task, and what the worker holds then
 abbrev pub Does : Setting → Who → ℕ → Work → Holding → List Entry → Option End → Type 0
 Does setting who place work before made end = (after : Holding) × TaskRun setting who place work before made end after
 
 -- A worker that held this did a task: what its hand's list gained is a run of the task, with the end by which it came out. It
--- holds what the run leaves, and sees by this view.
-pub record HasDone (setting : Setting) (who : Who) (place : ℕ) (work : Work) (before : Holding) (seat : ℕ) (old new : List Entry) (view : Option View) (came : Came) : Type 0 where
+-- holds what the run leaves, and where the run came to its end, it sees by this.
+pub record HasDone (setting : Setting) (who : Who) (place : ℕ) (work : Work) (before : Holding) (seat : ℕ) (old new : List Entry) (sight : Sight) (came : Came) : Type 0 where
   pub made : List Entry
   pub entries : new ≡ old ++ made
   pub seats : All (λ e. e.seat ≡ seat) made
   pub end : Option End
   pub after : Holding
   pub run : TaskRun setting who place work before made end after
-  pub sees : Sees after view
+  pub sees : WhenDone came (Sees after sight)
   pub by : CameBy work end came
   pub due : WhenFull came (IsDueAfter (Does setting who place work before) seat made)
 
--- A gateway was asked a question: with the view of what it holds, if it has one. What its hand's list gained is a run of its answer, with
--- the end by which it came out.
-pub record HasAsked (used : Option Use) (asked : Question) (seat : ℕ) (old new : List Entry) (came : Came) : Type 0 where
+-- An end of a gateway's answer to a question by what it holds, and what it holds then.
+abbrev pub Answers : Question → Holding → List Entry → Option End × Holding → Type 0
+Answers asked before made one = QueryTask before.used (Some asked) before made one.0 one.1
+
+-- A gateway that held this was asked a question: with the view of what it holds, if it has one. What its hand's list gained is a run of
+-- its answer, with the end by which it came out. Where that came to its end, it sees by this.
+pub record HasAsked (before : Holding) (asked : Question) (seat : ℕ) (old new : List Entry) (sight : Sight) (came : Came) : Type 0 where
   pub end : Option End
-  pub adds : Adds (QueryTask used (Some asked)) seat old new end came
+  pub after : Holding
+  pub adds : Adds (Answers asked before) seat old new (end, after) came
+  pub sees : WhenDone came (Sees after sight)
   pub by : (low high : ℤ) (selector : ℕ) → CameBy (Query low high selector) end came

@@ -2,7 +2,6 @@
 use Rattle.std.specs.Prelude.{◌≡◌, ℕ, ◌<◌, Bool, true, false, List, [], ◌∷◌, ◌++◌, length, All, Option, Some, None, Result, Ok, Err, IfSome, slice_get}
 use Rattle.world_core.specs.Keeping.{IsFull}
 use Rattle.world_core.specs.declared.entry.Entry.{Entry}
-use Rattle.meta_fetcher.specs.declared.view.View.{View}
 use Rattle.script_core.specs.Lawful.{IsLawfulScript}
 use Rattle.script_core.specs.Reading.{script_of}
 use Rattle.script_core.specs.declared.block.Block.{Block}
@@ -18,18 +17,20 @@ use Rattle.lifecycle_core.specs.Phases.{by_script}
 use Rattle.lifecycle_core.specs.Setting.{Setting, setting_of}
 use Rattle.lifecycle_core.specs.Tasks.{End}
 use Rattle.script_running.specs.Outcomes.{IsPart}
-use Rattle.script_running.specs.Tasks.{IsDueAfter, Sees}
+use Rattle.script_running.specs.Sights.{Sees}
+use Rattle.script_running.specs.Tasks.{IsDueAfter, WhenDone}
 use Rattle.script_running.specs.declared.came.Broken.{Broken}
 use Rattle.script_running.specs.declared.came.Broken.TheVariants as broken
 use Rattle.script_running.specs.declared.part.Part.{Part}
+use Rattle.script_running.specs.declared.sight.Sight.{Sight}
 use Rattle.script_running.specs.declared.worker.WorkerEnd.{WorkerEnd}
 
--- what a worker is sent to do: by the script that a text spells, in the phase at a place, with the view that its gateway has
+-- what a worker is sent to do: by the script that a text spells, in the phase at a place, with what its gateway sees by
 pub record Post : Type 0 where
   pub text : List ℕ
   pub phase : ℕ
   pub worker : Worker
-  pub view : Option View
+  pub sight : Sight
 
 abbrev pub is_upload : Work → Bool
 is_upload (works.Upload ulid stop) = true
@@ -85,7 +86,7 @@ is_short_end (Err broken.Full) = false
 is_short_end (Err broken.NoMemory) = true
 
 -- A worker that held this did its tasks, those at these places of the phase, one after another, with these entries of its seat.
--- Its parts are those of the tasks that came to their ends.
+-- Its parts are those of the tasks that came to their ends, and if they all did, it sees by what it holds last.
 pub record HasWorked (setting : Setting) (tasks : List Task) (who : Who) (places : List ℕ) (before : Holding) (seat : ℕ)
     (old new : List Entry) (end : WorkerEnd) : Type 0 where
   pub made : List Entry
@@ -97,13 +98,13 @@ pub record HasWorked (setting : Setting) (tasks : List Task) (who : Who) (places
   pub last : Holding
   pub run : OwnRun setting who before own made ends last
   pub parts : AreParts own ends end.parts.items
-  pub sees : Sees last end.view
+  pub sees : WhenDone end.came (Sees last end.sight)
   pub broken : IsBrokenOff setting who seat before own made ends end.came
 
 -- What the job of a worker may do, by the script that its text spells. Where the full journal broke it off, it has seen that the
 -- journal is full.
 pub record MayWork (post : Post) (seat : ℕ) (made : List Entry) (front : Option (List Entry)) (end : WorkerEnd) : Type 0 where
   pub worked : (script : Script) (phase : Phase) (held : Holding) → script_of post.text ≡ Ok script
-      → slice_get script.phases post.phase ≡ Some phase → Sees held post.view
+      → slice_get script.phases post.phase ≡ Some phase → Sees held post.sight
       → HasWorked (setting_of script) phase.tasks (who_of post.worker) post.worker.tasks held seat [] made end
   pub full : end.came ≡ Err broken.Full → IfSome front IsFull

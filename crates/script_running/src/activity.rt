@@ -3,35 +3,38 @@ ghost use Rattle.world_core.specs.Machines.{end_of};
 ghost use Rattle.world_core.specs.Keeping.{IsFull};
 ghost use Rattle.meta_fetcher.specs.declared.sync_end.SyncEnd.{SyncEnd};
 ghost use Rattle.meta_fetcher.specs.Syncs.{SyncRun};
-ghost use Rattle.store_gateway.specs.declared.series_end.SeriesEnd.{SeriesEnd};
-ghost use Rattle.store_gateway.specs.SeriesRuns.{SeriesRun, asking};
+ghost use Rattle.index_cache.specs.Caches.{held};
+ghost use Rattle.series_calls.specs.SeriesCalls.{CallEnd, SeriesRun, asking};
 ghost use Rattle.script_core.specs.Lawful.{IsLawfulBlock};
 ghost use Rattle.script_workers.specs.declared.work.Work.TheVariants as works;
-ghost use Rattle.lifecycle_core.specs.Tasks.{End, BlockUpload, answered, partition_of, sync_rules, synced};
+ghost use Rattle.lifecycle_core.specs.Tasks.{End, ShipTask, answered, partition_of, sync_rules, synced};
 ghost use Rattle.lifecycle_core.specs.Holdings.{Use};
 ghost use Rattle.lifecycle_core.specs.Setting.{Setting, setting_of};
 ghost use Rattle.script_running.specs.Outcomes.{call_part, sync_outcome, upload_outcome};
-ghost use Rattle.script_running.specs.Drives.{call_came, driven_end, sync_came, upload_came};
+ghost use Rattle.script_running.specs.Drives.{driven_end, sync_came, upload_came};
+ghost use Rattle.script_running.specs.Sights.{cache_of};
 ghost use Rattle.script_running.specs.Tasks.{Adds, CameBy, is_full_came, view_by};
 
 use crate::plan::objects_of;
 use crate::{Broken, Came, NoAnswer, Part, QueryPart, SyncOutcome, UploadOutcome};
+use block_files::BuildRefusal;
+use index_cache::IndexCache;
 use matchers::Selector;
 use meta_fetcher::{Sync, SyncEnd, SyncRules, View};
 use moment_core::{Partition, Rules};
 use querier::Answer;
 use script_core::{Block, Script};
+use series_calls::{SeriesCall, SeriesEnd};
 use shipper::{Upload, UploadEnd};
 use std::alloc::Global;
-use store_gateway::{SeriesCall, SeriesEnd};
 use world_core::{Driven, Hand, drive};
 
 /// Ships a declared block, and stops after so many operations where the script says so.
-#[tactic(auto, using(crate::proofs::Uploads::nothing_shipped))]
+#[tactic(auto, using(crate::proofs::Uploads::nothing_shipped, crate::proofs::Uploads::refused_told))]
 pub(crate) fn upload<H: Hand>(alloc: Global, block: &Block, stop: Option<u32>, hand: &mut H) -> Came
     requires { IsLawfulBlock block.now }
     ensures ran { (setting : Setting) (ulid : ℕ) → (end : Option End)
-        × Adds (BlockUpload setting block.now stop) (H.seat hand.old) (H.entries hand.old)
+        × Adds (ShipTask setting block.now stop) (H.seat hand.old) (H.entries hand.old)
         (H.entries hand.new) end result
         × CameBy (works.Upload ulid stop) end result }
     ensures seat { H.seat hand.new ≡ H.seat hand.old }
@@ -41,8 +44,10 @@ pub(crate) fn upload<H: Hand>(alloc: Global, block: &Block, stop: Option<u32>, h
     ensures wanted { IsTrue (H.wanted hand.new)
         → IsTrue (H.wanted hand.old) ⊎ (result ≡ Err Broken.NoMemory) }
 {
-    let Ok(objects) = objects_of(alloc, block) else {
-        return Err(Broken::NoMemory);
+    let objects = match objects_of(alloc, block) {
+        Ok(objects) => objects,
+        Err(BuildRefusal::TooLarge) => return Ok(Part::Upload(UploadOutcome::Refused(7))),
+        Err(BuildRefusal::NoMemory) => return Err(Broken::NoMemory),
     };
     let Ok(mut machine) = Upload::start(objects) else {
         return Err(Broken::NoMemory);
@@ -147,7 +152,8 @@ fn sync_outcome(end: SyncEnd, view: &mut Option<View>) -> SyncOutcome
     }
 }
 
-/// A gateway's call over a view, for the series that the selector matches, with their samples from `low` to `high`.
+/// A gateway's call over a view, for the series that the selector matches, with their samples from `low` to `high`, by the
+/// ranges that it kept. It leaves what it keeps then, unless it was broken off.
 pub(crate) fn call<H: Hand>(
     alloc: Global,
     rules: &Rules,
@@ -155,31 +161,34 @@ pub(crate) fn call<H: Hand>(
     selector: &Selector,
     low: i64,
     high: i64,
+    cache: IndexCache,
     hand: &mut H,
-) -> Came
-    ensures ran { (used : Use) (line_low line_high : ℤ) (number : ℕ) → (end : Option SeriesEnd)
-        × Adds (SeriesRun view.now (asking selector.now rules.now.replicas low high))
-        (H.seat hand.old) (H.entries hand.old) (H.entries hand.new) end result
-        × CameBy (works.Query line_low line_high number) (option_map (answered used) end) result }
+) -> (Came, Option<IndexCache>)
+    ensures ran { (used : Use) (line_low line_high : ℤ) (number : ℕ) → (end : Option CallEnd)
+        × Adds (SeriesRun view.now (asking selector.now rules.now.replicas low high) (held cache))
+        (H.seat hand.old) (H.entries hand.old) (H.entries hand.new) end result.0
+        × CameBy (works.Query line_low line_high number)
+        (option_map (λ call. answered used call.end) end) result.0
+        × IfSome end (λ call. call.cache ≡ cache_of result.1) }
     ensures seat { H.seat hand.new ≡ H.seat hand.old }
     ensures keeps { H.keeps hand.old hand.new }
-    ensures refused { H.refused hand.new ≡ (H.refused hand.old || is_full_came result) }
-    ensures full { result ≡ Err Broken.Full → IfSome (H.front hand.new) IsFull }
+    ensures refused { H.refused hand.new ≡ (H.refused hand.old || is_full_came result.0) }
+    ensures full { result.0 ≡ Err Broken.Full → IfSome (H.front hand.new) IsFull }
     ensures wanted { IsTrue (H.wanted hand.new)
-        → IsTrue (H.wanted hand.old) ⊎ (result ≡ Err Broken.NoMemory) }
+        → IsTrue (H.wanted hand.old) ⊎ (result.0 ≡ Err Broken.NoMemory) }
 {
-    let Ok(mut machine) = SeriesCall::start(alloc, view, selector, &rules.replicas, low, high)
-    else {
-        return Err(Broken::NoMemory);
+    let begun = SeriesCall::start(alloc, view, selector, &rules.replicas, low, high, cache);
+    let Ok(mut machine) = begun else {
+        return (Err(Broken::NoMemory), None);
     };
-    call_came(drive(&mut machine, hand, None))
-}
-
-/// What a drive of a gateway's call came to.
-fn call_came(driven: Driven<SeriesEnd>) -> Came
-    ensures { result ≡ call_came driven }
-{
-    Ok(Part::Query(call_part(driven_end(driven)?)))
+    match drive(&mut machine, hand, None) {
+        Driven::Ended(end) => {
+            let left = machine.into_cache();
+            (Ok(Part::Query(call_part(end))), Some(left))
+        }
+        Driven::Full => (Err(Broken::Full), None),
+        Driven::Stopped(_) | Driven::NoMemory => (Err(Broken::NoMemory), None),
+    }
 }
 
 fn call_part(end: SeriesEnd) -> QueryPart

@@ -1,6 +1,6 @@
 //! A script's phases one after another, each with a thread for each of its workers.
 
-ghost use Rattle.std.specs.Prelude.{◌≡◌, ◌≢◌, ◌+◌, ◌++◌, ◌<◌, ◌^◌, ◌||◌, List, [], None, Ok, Err, Some, IfOk, IfErr, OnOk, false, length, slice_get, take};
+ghost use Rattle.std.specs.Prelude.{◌≡◌, ◌≢◌, ◌+◌, ◌++◌, ◌<◌, ◌^◌, ◌||◌, List, [], Ok, Err, Some, IfOk, IfErr, OnOk, false, length, slice_get, take};
 ghost use Rattle.std.specs.List.{All};
 ghost use Rattle.bucket_core.specs.Asking.{Call};
 ghost use Rattle.world_core.specs.Asking.{IsAllAsked};
@@ -13,16 +13,16 @@ ghost use Rattle.lifecycle_core.specs.Setting.{setting_of};
 ghost use Rattle.script_running.specs.Beside.{HasRunBeside};
 ghost use Rattle.script_running.specs.Reporting.{TellsFirst};
 ghost use Rattle.script_running.specs.Going.{HasCome, HasGone, IsClockSet};
+ghost use Rattle.script_running.specs.Sights.{no_sight};
 ghost use Rattle.script_running.specs.Tasks.{is_full_came};
 ghost use Rattle.world_turn.specs.Closing.{AllJoined};
 ghost use Rattle.world_turn.specs.Passes.{table_of, view_of};
 ghost use Rattle.world_turn.specs.Turns.{IsLater, IsSame};
 
 use crate::gathering::{gather, jobs_of};
-use crate::{Broken, OutcomeList, Report};
+use crate::{Broken, OutcomeList, Report, Sight};
 use bucket_core::Bucket;
 use list_core::NoMemory;
-use meta_fetcher::View;
 use phase_runner::{Gate, run_phase};
 use script_core::{Phase, Script};
 use std::alloc::Global;
@@ -43,8 +43,8 @@ pub struct RunEnd {
 /// What stays from one phase to the next.
 #[derive(Drop)]
 struct Standing {
-    /// What each gateway sees.
-    views: Vec<Option<View>>,
+    /// By what each gateway sees.
+    sights: Vec<Sight>,
     outcomes: OutcomeList,
 }
 
@@ -120,17 +120,17 @@ impl Standing {
     /// No gateway has synced, and nothing was done.
     fn new(alloc: Global, script: &Script) -> Result<Standing, NoMemory>
         ensures each { IfOk result
-            (λ standing. length standing.views.items ≡ length script.now.gateways) }
+            (λ standing. length standing.sights.items ≡ length script.now.gateways) }
         ensures unseen { IfOk result
-            (λ standing. All (λ view. view ≡ None) standing.views.items) }
+            (λ standing. All (λ sight. sight ≡ no_sight) standing.sights.items) }
         ensures empty { IfOk result (λ standing. standing.outcomes ≡ []) }
     {
-        let mut views = Vec::new(alloc);
+        let mut sights = Vec::new(alloc);
         for _ in 0..script.gateways.len() {
-            views.push(None)?;
+            sights.push(Sight::new())?;
         }
         Ok(Standing {
-            views,
+            sights,
             outcomes: OutcomeList::new(alloc),
         })
     }
@@ -155,7 +155,7 @@ fn run_phases<B: Bucket + Send, G: Gate + Sync, P: Report, R: Threads + Wait + S
     requires seats { root.splits ≡ seats_before script.now 0 }
     requires unwanted { (view_of root).wanted ≡ false }
     requires all { AllJoined (view_of root) }
-    requires gone { HasGone (setting_of script.now) (view_of root) [] standing.old.views.items
+    requires gone { HasGone (setting_of script.now) (view_of root) [] standing.old.sights.items
         standing.old.outcomes }
     requires untold { P.tells report.old script.now [] standing.old.outcomes }
     ensures pass { (table_of result.1 ≡ table_of root) × (result.1.seat ≡ 0) }
@@ -165,7 +165,7 @@ fn run_phases<B: Bucket + Send, G: Gate + Sync, P: Report, R: Threads + Wait + S
     ensures unwanted { result.0 ≡ Ok tt → (view_of result.1).wanted ≡ false }
     ensures all { AllJoined (view_of result.1) }
     ensures came { HasCome (setting_of script.now) (view_of result.1) script.now.phases
-        standing.new.views.items standing.new.outcomes result.0 }
+        standing.new.sights.items standing.new.outcomes result.0 }
     ensures reported { result.0 ≢ Err Broken.NoMemory
         → TellsFirst P.tells script.now report.new standing.new.outcomes }
 {
@@ -204,7 +204,7 @@ fn phase_beside<B: Bucket + Send, G: Gate + Sync, P: Report, R: Threads + Wait +
     requires unwanted { (view_of root).wanted ≡ false }
     requires all { AllJoined (view_of root) }
     requires gone { HasGone (setting_of script.now) (view_of root) (take place script.now.phases)
-        standing.old.views.items standing.old.outcomes }
+        standing.old.sights.items standing.old.outcomes }
     ensures pass { (table_of result.1 ≡ table_of root) × (result.1.seat ≡ 0) }
     ensures tick { (view_of result.1).tick ≡ (view_of root).tick }
     ensures refused { (view_of result.1).refused
@@ -213,7 +213,7 @@ fn phase_beside<B: Bucket + Send, G: Gate + Sync, P: Report, R: Threads + Wait +
     ensures seats { OnOk result.0 (result.1.splits ≡ seats_before script.now (place + 1)) }
     ensures all { AllJoined (view_of result.1) }
     ensures came { HasCome (setting_of script.now) (view_of result.1)
-        (take (place + 1) script.now.phases) standing.new.views.items standing.new.outcomes
+        (take (place + 1) script.now.phases) standing.new.sights.items standing.new.outcomes
         result.0 }
     ensures reported { (before : List Task)
         → P.tells report.old script.now before standing.old.outcomes
@@ -226,8 +226,8 @@ fn phase_beside<B: Bucket + Send, G: Gate + Sync, P: Report, R: Threads + Wait +
         return (Err(Broken::NoMemory), root);
     };
     let workers = staff.members();
-    let views = &mut standing.views;
-    let Ok(jobs) = jobs_of(alloc, script, text, place, phase, workers, views) else {
+    let sights = &mut standing.sights;
+    let Ok(jobs) = jobs_of(alloc, script, text, place, phase, workers, sights) else {
         return (Err(Broken::NoMemory), root);
     };
     let (begun, root) = begin_phase(rt, shared, root, phase);
@@ -244,7 +244,7 @@ fn phase_beside<B: Bucket + Send, G: Gate + Sync, P: Report, R: Threads + Wait +
         phase.tasks.members(),
         workers,
         end.ends,
-        &mut standing.views,
+        &mut standing.sights,
         &mut standing.outcomes,
         report,
     );

@@ -21,11 +21,11 @@ ghost use Rattle.script_running.specs.Workers.{IsAtWork};
 ghost use Rattle.script_running.specs.Tasks.{is_full_came};
 ghost use Rattle.script_running.specs.declared.outcome.Outcome.{Outcome};
 
-use crate::{Broken, OutcomeList, Part, Report, WorkerEnd, WorkerJob, outcome_of};
+use crate::{Broken, OutcomeList, Part, Report, Sight, WorkerEnd, WorkerJob, outcome_of};
 use list_core::{NoMemory, TryCopy};
-use meta_fetcher::View;
 use script_core::{Phase, Script, Task, Work, Worker};
 use std::alloc::Global;
+use std::mem;
 
 /// A job for each worker of the phase, which takes what its gateway sees.
 pub(crate) fn jobs_of<'a>(
@@ -35,38 +35,38 @@ pub(crate) fn jobs_of<'a>(
     place: usize,
     phase: &'a Phase,
     workers: &[Worker],
-    views: &mut Vec<Option<View>>,
+    sights: &mut Vec<Sight>,
 ) -> Result<Vec<WorkerJob<'a>>, NoMemory>
     requires spelled { script_of text.now ≡ Ok script.now }
     requires at { slice_get script.now.phases place ≡ Some phase.now }
     requires work { All (IsAtWork text.now place) workers.now }
     requires gateways { All
-        (λ worker. IfSome worker.gateway (λ gateway. gateway < length views.old.items))
+        (λ worker. IfSome worker.gateway (λ gateway. gateway < length sights.old.items))
         workers.now }
     requires apart { HaveOwnGateways workers.now }
-    ensures each { length views.new.items ≡ length views.old.items }
-    ensures sent { (held : Holdings) → AreSeen held views.old.items
+    ensures each { length sights.new.items ≡ length sights.old.items }
+    ensures sent { (held : Holdings) → AreSeen held sights.old.items
         → IfOk result (λ jobs. AllZip (IsPostOf text.now place held) workers.now jobs.items) }
-    ensures left { (held : Holdings) → AreSeen held views.old.items
-        → OnOk result (AreSeenBeside held workers.now views.new.items) }
+    ensures left { (held : Holdings) → AreSeen held sights.old.items
+        → OnOk result (AreSeenBeside held workers.now sights.new.items) }
 {
     let mut jobs = Vec::with_capacity(alloc, workers.len())?;
     for worker in workers {
         let own = worker.copy()?;
-        let view = take_view(worker.gateway, views);
-        jobs.push_reserved(WorkerJob::new(alloc, script, text, place, phase, own, view));
+        let sight = take_sight(worker.gateway, sights);
+        jobs.push_reserved(WorkerJob::new(alloc, script, text, place, phase, own, sight));
     }
     Ok(jobs)
 }
 
 /// Takes what a worker's gateway sees.
-fn take_view(gateway: Option<u32>, views: &mut Vec<Option<View>>) -> Option<View>
-    requires { IfSome gateway (λ gateway. gateway < length views.old.items) }
-    ensures { IsTaken gateway result views.old.items views.new.items }
+fn take_sight(gateway: Option<u32>, sights: &mut Vec<Sight>) -> Sight
+    requires { IfSome gateway (λ gateway. gateway < length sights.old.items) }
+    ensures { IsTaken gateway result sights.old.items sights.new.items }
 {
     match gateway {
-        Some(gateway) => views[gateway as usize].take(),
-        None => None,
+        Some(gateway) => mem::replace(&mut sights[gateway as usize], Sight::new()),
+        None => Sight::new(),
     }
 }
 
@@ -80,28 +80,28 @@ pub(crate) fn gather<P: Report>(
     tasks: &[Task],
     workers: &[Worker],
     ends: Vec<WorkerEnd>,
-    views: &mut Vec<Option<View>>,
+    sights: &mut Vec<Sight>,
     outcomes: &mut OutcomeList,
     report: &mut P,
 ) -> Result<(), Broken>
     requires many { length workers.now ≡ length ends.items }
     requires gateways { All
-        (λ worker. IfSome worker.gateway (λ gateway. gateway < length views.old.items))
+        (λ worker. IfSome worker.gateway (λ gateway. gateway < length sights.old.items))
         workers.now }
-    requires few { length views.old.items ≤ 16 }
+    requires few { length sights.old.items ≤ 16 }
     requires places { All (λ worker. All (λ place. place < length tasks.now) worker.tasks)
         workers.now }
-    ensures each { length views.new.items ≡ length views.old.items }
+    ensures each { length sights.new.items ≡ length sights.old.items }
     ensures came { HaveCome ends.items result }
     ensures gathers { (setting : Setting) (number : ℕ) (phase : Phase) (before after : Holdings)
         (front : List Entry) (kept : List (ℕ × List Entry)) (own : List (List End))
         (lasts : List Holding) → IsLawfulScript setting.script
-        → length views.old.items ≡ gateway_count setting.script.gateways
+        → length sights.old.items ≡ gateway_count setting.script.gateways
         → slice_get setting.script.phases number ≡ Some phase → tasks.now ≡ phase.tasks
         → workers.now ≡ workers_of setting.script number
         → HaveEnded setting phase.tasks before front workers.now kept ends.items own lasts
-        → AreLeft before workers.now lasts after → AreSeenBeside before workers.now views.old.items
-        → Gathers setting phase workers.now own ends.items after views.new.items outcomes.old
+        → AreLeft before workers.now lasts after → AreSeenBeside before workers.now sights.old.items
+        → Gathers setting phase workers.now own ends.items after sights.new.items outcomes.old
         outcomes.new result }
     ensures reported { (before : List Task) → P.tells report.old script.now before outcomes.old
         → OnOk result (P.tells report.new script.now (before ++ tasks.now) outcomes.new) }
@@ -111,10 +111,10 @@ pub(crate) fn gather<P: Report>(
     if any_full(&ends) {
         return Err(Broken::Full);
     }
-    let Ok(mut slots) = slots_for(alloc, tasks.len(), views.len()) else {
+    let Ok(mut slots) = slots_for(alloc, tasks.len(), sights.len()) else {
         return Err(Broken::NoMemory);
     };
-    match take_in(workers, ends, views, &mut slots) {
+    match take_in(workers, ends, sights, &mut slots) {
         Ok(()) => tell(alloc, script, tasks, slots, outcomes, report),
         Err(broken) => Err(broken),
     }
@@ -158,24 +158,24 @@ pub(crate) struct Column {
 fn take_in(
     workers: &[Worker],
     ends: Vec<WorkerEnd>,
-    views: &mut Vec<Option<View>>,
+    sights: &mut Vec<Sight>,
     slots: &mut Slots,
 ) -> Result<(), Broken>
     requires many { length workers.now ≡ length ends.items }
     requires gateways { All
-        (λ worker. IfSome worker.gateway (λ gateway. gateway < length views.old.items))
+        (λ worker. IfSome worker.gateway (λ gateway. gateway < length sights.old.items))
         workers.now }
-    requires wide { length slots.old.gateways.items ≡ length views.old.items }
+    requires wide { length slots.old.gateways.items ≡ length sights.old.items }
     requires places { All (λ worker. All (HasSlot slots.old worker.gateway) worker.tasks)
         workers.now }
     ensures came { HaveCome ends.items result }
-    ensures taken { AreTakenIn workers.now ends.items views.old.items views.new.items slots.old
+    ensures taken { AreTakenIn workers.now ends.items sights.old.items sights.new.items slots.old
         slots.new }
 {
     let mut came = Ok(());
     let mut number = 0;
     for end in ends {
-        let other = take_one(&workers[number], end, views, slots);
+        let other = take_one(&workers[number], end, sights, slots);
         came = worse(came, other);
         number += 1;
     }
@@ -186,20 +186,20 @@ fn take_in(
 fn take_one(
     worker: &Worker,
     end: WorkerEnd,
-    views: &mut Vec<Option<View>>,
+    sights: &mut Vec<Sight>,
     slots: &mut Slots,
 ) -> Result<(), Broken>
-    requires gateway { IfSome worker.now.gateway (λ gateway. gateway < length views.old.items) }
-    requires wide { length slots.old.gateways.items ≡ length views.old.items }
+    requires gateway { IfSome worker.now.gateway (λ gateway. gateway < length sights.old.items) }
+    requires wide { length slots.old.gateways.items ≡ length sights.old.items }
     requires places { All (HasSlot slots.old worker.now.gateway) worker.now.tasks }
     ensures came { result ≡ end.came }
-    ensures each { length views.new.items ≡ length views.old.items }
-    ensures sees { IsSeen worker.now.gateway end.view views.old.items views.new.items }
+    ensures each { length sights.new.items ≡ length sights.old.items }
+    ensures sees { IsSeen worker.now.gateway end.sight sights.old.items sights.new.items }
     ensures laid { IsLaid worker.now.gateway worker.now.tasks end.parts.items slots.old slots.new }
 {
-    let WorkerEnd { parts, came, view } = end;
+    let WorkerEnd { parts, came, sight } = end;
     lay_all(worker.gateway, worker.tasks.members(), parts, slots);
-    see(worker.gateway, view, views);
+    see(worker.gateway, sight, sights);
     came
 }
 
@@ -217,13 +217,13 @@ fn lay_all(gateway: Option<u32>, places: &[u64], parts: Vec<Part>, slots: &mut S
 }
 
 /// Keeps what a worker's gateway sees.
-fn see(gateway: Option<u32>, view: Option<View>, views: &mut Vec<Option<View>>)
-    requires { IfSome gateway (λ gateway. gateway < length views.old.items) }
-    ensures each { length views.new.items ≡ length views.old.items }
-    ensures sees { IsSeen gateway view views.old.items views.new.items }
+fn see(gateway: Option<u32>, sight: Sight, sights: &mut Vec<Sight>)
+    requires { IfSome gateway (λ gateway. gateway < length sights.old.items) }
+    ensures each { length sights.new.items ≡ length sights.old.items }
+    ensures sees { IsSeen gateway sight sights.old.items sights.new.items }
 {
     if let Some(gateway) = gateway {
-        views[gateway as usize] = view;
+        sights[gateway as usize] = sight;
     }
 }
 

@@ -11,6 +11,7 @@ mod part;
 mod plan;
 mod query_parts;
 mod report;
+mod sight;
 mod task;
 mod worker;
 
@@ -20,5 +21,6 @@ pub use outcome::{NoAnswer, Outcome, OutcomeList, QueryOutcome, SyncOutcome, Upl
 pub use part::{Part, QueryPart};
 pub use query_parts::outcome_of;
 pub use report::Report;
+pub use sight::Sight;
 pub use task::run_task;
 pub use worker::{WorkerEnd, WorkerJob};

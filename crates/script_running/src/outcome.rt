@@ -23,6 +23,8 @@ pub enum UploadOutcome {
     Already,
     /// A call to the bucket failed.
     Fault(u64),
+    /// Its block is not shipped, for the cause of this number.
+    Refused(u32),
     /// It was stopped after so many operations, as the script asked.
     Stopped(u32),
 }
@@ -73,7 +75,7 @@ impl Outcome {
             Outcome::Upload(
                 UploadOutcome::Done(_) | UploadOutcome::Already | UploadOutcome::Stopped(_),
             ) => true,
-            Outcome::Upload(UploadOutcome::Fault(_)) => false,
+            Outcome::Upload(UploadOutcome::Fault(_) | UploadOutcome::Refused(_)) => false,
             Outcome::Sync(SyncOutcome::Blocks(_)) => true,
             Outcome::Sync(_) => false,
             Outcome::Query(QueryOutcome::Answer(..)) => true,

@@ -1,25 +1,35 @@
-ghost use Rattle.std.specs.Prelude.{◌≡◌, IfOk};
+ghost use Rattle.std.specs.Prelude.{◌≡◌, ◌≢◌, Err, IfOk};
+ghost use Rattle.std.specs.List.{AllByRecursion};
+ghost use Rattle.reading_core.specs.Grammar.{IsBytes};
 ghost use Rattle.block_keys.specs.Blocks.{IsBlock};
+ghost use Rattle.block_files.specs.Built.{objects_of};
+ghost use Rattle.block_meta.specs.MetaFields.{fields_of};
+ghost use Rattle.block_meta.specs.MetaValue.{meta_text};
+ghost use Rattle.block_laws.specs.PutContent.{AreBytes};
 ghost use Rattle.block_meta.specs.Lawful.{AreLawfulTimes};
 ghost use Rattle.script_core.specs.Lawful.{IsLawfulBlock};
 ghost use Rattle.script_core.specs.declared.body.Body.TheVariants.{Inline};
 ghost use Rattle.lifecycle_core.specs.Setting.{Setting};
-ghost use Rattle.lifecycle_core.specs.Shipped.{IsPlanOf, IsShipped};
+ghost use Rattle.lifecycle_core.specs.Shipped.{IsPlanOf, IsRefused, IsShipped};
 
-use block_files::{BuildRefusal, build, files_objects};
+use block_files::{BlockFiles, BuildRefusal, files_objects};
 use block_keys::ObjectList;
 use block_meta::{BlockPlan, ParentList, own_sources};
+use block_writing::build;
 use label_sets::{SeriesList, Text};
 use list_core::{NoMemory, TryCopy};
 use script_core::{Block, Body};
 use std::alloc::Global;
+use wire_bytes::Blob;
 
-/// The objects of a declared block, in the order of their upload.
-pub(crate) fn objects_of(alloc: Global, block: &Block) -> Result<ObjectList, NoMemory>
+/// The objects of a declared block, in the order of their upload. It is not shipped where its index would be too large.
+pub(crate) fn objects_of(alloc: Global, block: &Block) -> Result<ObjectList, BuildRefusal>
     requires { IsLawfulBlock block.now }
     ensures block { IfOk result (λ objects. IsBlock block.now.ulid objects) }
     ensures shipped { (setting : Setting)
         → IfOk result (λ objects. IsShipped setting block.now objects) }
+    ensures refused { (setting : Setting) → result ≡ Err BuildRefusal.TooLarge
+        → IsRefused setting block.now 7 }
 {
     let Body::Inline {
         min_time,
@@ -30,25 +40,63 @@ pub(crate) fn objects_of(alloc: Global, block: &Block) -> Result<ObjectList, NoM
 }
 
 /// The objects of an inline block with these times and series.
+#[tactic(auto, using(crate::proofs::Planned::buildable))]
 fn inline_objects(
     alloc: Global,
     block: &Block,
     min_time: i64,
     max_time: i64,
     series: &SeriesList,
-) -> Result<ObjectList, NoMemory>
+) -> Result<ObjectList, BuildRefusal>
     requires lawful { IsLawfulBlock block.now }
     requires body { block.now.body ≡ Inline min_time max_time series.now }
     ensures block { IfOk result (λ objects. IsBlock block.now.ulid objects) }
     ensures shipped { (setting : Setting)
         → IfOk result (λ objects. IsShipped setting block.now objects) }
+    ensures refused { (setting : Setting) → result ≡ Err BuildRefusal.TooLarge
+        → IsRefused setting block.now 7 }
 {
     let plan = plan_of(alloc, block, min_time, max_time)?;
     match build(alloc, &plan, series) {
-        Ok(files) => files_objects(alloc, files),
-        Err(BuildRefusal::NoMemory) => Err(NoMemory),
-        // the plain form has no limit of its own
-        Err(BuildRefusal::TooLarge) => unreachable!(),
+        Ok(files) => built_objects(alloc, files),
+        Err(refusal) => Err(refusal),
+    }
+}
+
+/// The objects of files that were built.
+fn built_objects(alloc: Global, files: BlockFiles) -> Result<ObjectList, BuildRefusal>
+    ensures bytes { AreBytes files }
+    ensures block { IfOk result (IsBlock files.meta.ulid) }
+    ensures objects { IfOk result (λ objects. objects ≡ objects_of files.meta.ulid
+        files.segments files.index (meta_text (fields_of files.meta))) }
+    ensures small { result ≢ Err BuildRefusal.TooLarge }
+{
+    are_bytes(&files);
+    match files_objects(alloc, files) {
+        Ok(objects) => Ok(objects),
+        Err(NoMemory) => Err(BuildRefusal::NoMemory),
+    }
+}
+
+/// The files of a block are bytes.
+fn are_bytes(files: &BlockFiles)
+    ensures { AreBytes files.now }
+{
+    is_bytes(files.index.bytes());
+    all_bytes(files.segments.members());
+}
+
+fn is_bytes(bytes: &[u8])
+    ensures { IsBytes bytes.now }
+{
+    let _bytes = bytes;
+}
+
+fn all_bytes(segments: &[Blob])
+    ensures { AllByRecursion IsBytes segments.now }
+{
+    for segment in segments {
+        is_bytes(segment.bytes());
     }
 }
 

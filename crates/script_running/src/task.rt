@@ -2,18 +2,21 @@
 
 ghost use Rattle.std.specs.Prelude.{◌≡◌, ◌==◌, ◌||◌, ◌⊎◌, ℕ, Err, Some, IfOk, IfSome, IsTrue, find, option_map, slice_get};
 ghost use Rattle.world_core.specs.Keeping.{IsFull};
-ghost use Rattle.store_gateway.specs.SeriesRuns.{asking};
+ghost use Rattle.series_calls.specs.SeriesCalls.{asking};
 ghost use Rattle.script_core.specs.Lawful.{IsLawfulScript};
 ghost use Rattle.script_workers.specs.declared.work.Work.TheVariants as works;
 ghost use Rattle.lifecycle_core.specs.Conducts.{Who};
 ghost use Rattle.lifecycle_core.specs.Holdings.{Holding};
 ghost use Rattle.lifecycle_core.specs.Setting.{setting_of};
 ghost use Rattle.lifecycle_core.specs.Tasks.{ask_to};
-ghost use Rattle.script_running.specs.Tasks.{Allows, HasAsked, HasDone, Sees, is_full_came};
+ghost use Rattle.script_running.specs.Sights.{Sees};
+ghost use Rattle.script_running.specs.Tasks.{Allows, HasAsked, HasDone, is_full_came};
 
 use crate::activity::{call, sync, upload};
 use crate::declared::{block_among, declared_block};
-use crate::{Broken, Came, NoAnswer, Part, QueryPart};
+use crate::sight::own_cache;
+use crate::{Broken, Came, NoAnswer, Part, QueryPart, Sight};
+use index_cache::IndexCache;
 use list_core::NoMemory;
 use matchers::Selector;
 use meta_fetcher::View;
@@ -25,25 +28,25 @@ use std::snapshot::Snapshot;
 use world_core::Hand;
 
 /// Does what one worker has to do for a task, through a hand of the worker's seat: its upload, its gateway's sync, or its
-/// gateway's part of a query. `gateway` is the place of the worker's gateway, if it is one's, and `view` what that gateway sees;
-/// an upload leaves the view alone.
+/// gateway's part of a query. `gateway` is the place of the worker's gateway, if it is one's, and `sight` by what that gateway
+/// sees; an upload leaves it alone.
 pub fn run_task<H: Hand>(
     alloc: Global,
     script: &Script,
     gateway: Option<u32>,
     work: &Work,
-    view: &mut Option<View>,
+    sight: &mut Sight,
     hand: &mut H,
 ) -> Came
     requires lawful { IsLawfulScript script.now }
     requires work { Allows script.now work.now }
 
     // Whatever seat the worker has, and wherever the task stands in its phase: what is done is a run of the task, from what
-    // the worker held.
+    // the worker held. If it came to its end, the worker sees by what it holds then.
     ensures done { (who : Who) (place : ℕ) (held : Holding) → who.gateway ≡ gateway
-        → Sees held view.old
+        → Sees held sight.old
         → HasDone (setting_of script.now) who place work.now held (H.seat hand.old)
-        (H.entries hand.old) (H.entries hand.new) view.new result }
+        (H.entries hand.old) (H.entries hand.new) sight.new result }
 
     ensures seat { H.seat hand.new ≡ H.seat hand.old }
     ensures keeps { H.keeps hand.old hand.new }
@@ -58,14 +61,14 @@ pub fn run_task<H: Hand>(
 {
     match work {
         Work::Upload(ulid, stop) => upload(alloc, declared_block(script, *ulid), *stop, hand),
-        Work::Sync(place) => sync(alloc, script, *place, view, hand),
+        Work::Sync(place) => sync(alloc, script, *place, &mut sight.view, hand),
         Work::Query {
             low,
             high,
             selector,
         } => {
             let selector = &script.selectors.members()[*selector as usize];
-            part_of_query(alloc, script, gateway, view, selector, *low, *high, hand)
+            part_of_query(alloc, script, gateway, sight, selector, *low, *high, hand)
         }
     }
 }
@@ -75,7 +78,7 @@ fn part_of_query<H: Hand>(
     alloc: Global,
     script: &Script,
     gateway: Option<u32>,
-    view: &Option<View>,
+    sight: &mut Sight,
     selector: &Selector,
     low: i64,
     high: i64,
@@ -83,9 +86,9 @@ fn part_of_query<H: Hand>(
 ) -> Came
     requires lawful { IsLawfulScript script.now }
     ensures done { (who : Who) (place : ℕ) (held : Holding) (number : ℕ) → who.gateway ≡ gateway
-        → Sees held view.now → slice_get script.now.selectors number ≡ Some selector.now
+        → Sees held sight.old → slice_get script.now.selectors number ≡ Some selector.now
         → HasDone (setting_of script.now) who place (works.Query low high number) held
-        (H.seat hand.old) (H.entries hand.old) (H.entries hand.new) view.now result }
+        (H.seat hand.old) (H.entries hand.old) (H.entries hand.new) sight.new result }
     ensures seat { H.seat hand.new ≡ H.seat hand.old }
     ensures keeps { H.keeps hand.old hand.new }
     ensures refused { H.refused hand.new ≡ (H.refused hand.old || is_full_came result) }
@@ -100,7 +103,8 @@ fn part_of_query<H: Hand>(
         Some(ask) => ask_view(
             alloc,
             &script.rules,
-            view,
+            &sight.view,
+            &mut sight.cache,
             selector,
             ask.low,
             ask.high,
@@ -135,19 +139,21 @@ fn find_ask(asks: &[Ask], gateway: u32) -> Option<&Ask>
     asks.iter().find(|ask| ask.gateway == gateway)
 }
 
-/// A gateway's answer for the times from `low` to `high`: its call over its view, if it has one.
+/// A gateway's answer for the times from `low` to `high`: its call over its view, if it has one, by the ranges that it kept.
 fn ask_view<H: Hand>(
     alloc: Global,
     rules: &Rules,
     view: &Option<View>,
+    cache: &mut Option<IndexCache>,
     selector: &Selector,
     low: i64,
     high: i64,
     hand: &mut H,
 ) -> Came
-    ensures asked { (held : Holding) → Sees held view.now
-        → HasAsked held.used (asking selector.now rules.now.replicas low high) (H.seat hand.old)
-        (H.entries hand.old) (H.entries hand.new) result }
+    ensures asked { (held : Holding) → Sees held (record { view = view.now; cache = cache.old })
+        → HasAsked held (asking selector.now rules.now.replicas low high) (H.seat hand.old)
+        (H.entries hand.old) (H.entries hand.new)
+        (record { view = view.now; cache = cache.new }) result }
     ensures seat { H.seat hand.new ≡ H.seat hand.old }
     ensures keeps { H.keeps hand.old hand.new }
     ensures refused { H.refused hand.new ≡ (H.refused hand.old || is_full_came result) }
@@ -156,7 +162,14 @@ fn ask_view<H: Hand>(
         → IsTrue (H.wanted hand.old) ⊎ (result ≡ Err Broken.NoMemory) }
 {
     match view {
-        Some(view) => call(alloc, rules, view, selector, low, high, hand),
+        Some(view) => {
+            let Ok(own) = own_cache(alloc, cache.take()) else {
+                return Err(Broken::NoMemory);
+            };
+            let (came, left) = call(alloc, rules, view, selector, low, high, own, hand);
+            *cache = left;
+            came
+        }
         None => Ok(Part::Query(QueryPart::NoAnswer(NoAnswer::NoView))),
     }
 }
@@ -178,16 +191,16 @@ pub(crate) trait Means {
         alloc: Global,
         gateway: Option<u32>,
         work: &Work,
-        view: &mut Option<View>,
+        sight: &mut Sight,
         hand: &mut H,
     ) -> Came
         requires lawful { IsLawfulScript (script self.now) }
         requires work { Allows (script self.now) work.now }
         requires serves { serves self.now work.now }
         ensures done { (who : Who) (place : ℕ) (held : Holding) → who.gateway ≡ gateway
-            → Sees held view.old
+            → Sees held sight.old
             → HasDone (setting_of (script self.now)) who place work.now held (H.seat hand.old)
-            (H.entries hand.old) (H.entries hand.new) view.new result }
+            (H.entries hand.old) (H.entries hand.new) sight.new result }
         ensures seat { H.seat hand.new ≡ H.seat hand.old }
         ensures keeps { H.keeps hand.old hand.new }
         ensures refused { H.refused hand.new ≡ (H.refused hand.old || is_full_came result) }
@@ -207,10 +220,10 @@ impl Means for Script {
         alloc: Global,
         gateway: Option<u32>,
         work: &Work,
-        view: &mut Option<View>,
+        sight: &mut Sight,
         hand: &mut H,
     ) -> Came {
-        run_task(alloc, self, gateway, work, view, hand)
+        run_task(alloc, self, gateway, work, sight, hand)
     }
 }
 
@@ -235,11 +248,11 @@ impl<'a> Means for Shipping<'a> {
         alloc: Global,
         gateway: Option<u32>,
         work: &Work,
-        view: &mut Option<View>,
+        sight: &mut Sight,
         hand: &mut H,
     ) -> Came {
         let _gateway = gateway;
-        let _view = view;
+        let _sight = sight;
         match work {
             Work::Upload(ulid, stop) => {
                 let block = block_among(&self.script, self.blocks, *ulid);

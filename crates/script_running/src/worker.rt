@@ -8,12 +8,12 @@ ghost use Rattle.script_core.specs.Reading.{script_of};
 ghost use Rattle.lifecycle_core.specs.Conducts.{Who};
 ghost use Rattle.lifecycle_core.specs.Holdings.{Holding};
 ghost use Rattle.lifecycle_core.specs.Setting.{setting_of};
-ghost use Rattle.script_running.specs.Tasks.{Allows, Sees, is_full_came};
+ghost use Rattle.script_running.specs.Sights.{Sees};
+ghost use Rattle.script_running.specs.Tasks.{Allows, is_full_came};
 ghost use Rattle.script_running.specs.Workers.{IsAtWork, HasWorked};
 
 use crate::task::{Means, Shipping};
-use crate::{Broken, Part};
-use meta_fetcher::View;
+use crate::{Broken, Part, Sight};
 use phase_runner::Job;
 use script_core::{Block, Phase, Script, Task, Worker};
 use std::alloc::Global;
@@ -31,7 +31,7 @@ pub struct WorkerJob<'a> {
     tasks: &'a [Task],
     phase: usize,
     worker: Worker,
-    view: Option<View>,
+    sight: Sight,
     script: Snapshot<Script>,
 }
 
@@ -44,7 +44,7 @@ impl<'a> Model for WorkerJob<'a> {
       text = job.text.now;
       phase = job.phase;
       worker = job.worker;
-      view = job.view;
+      sight = job.sight;
     } };
 
     ghost invariant = { λ job. IsAtWork job.text.now job.phase job.worker
@@ -59,7 +59,7 @@ pub struct WorkerEnd {
     /// What broke it off, if anything did.
     pub came: Result<(), Broken>,
     /// What its gateway sees from now on.
-    pub view: Option<View>,
+    pub sight: Sight,
 }
 
 impl<'a> WorkerJob<'a> {
@@ -71,13 +71,13 @@ impl<'a> WorkerJob<'a> {
         place: usize,
         phase: &'a Phase,
         worker: Worker,
-        view: Option<View>,
+        sight: Sight,
     ) -> WorkerJob<'a>
         requires work { IsAtWork text.now place worker }
         requires spelled { script_of text.now ≡ Ok script.now }
         requires at { slice_get script.now.phases place ≡ Some phase.now }
         ensures { (result.text ≡ text.now) × (result.phase ≡ place) × (result.worker ≡ worker)
-            × (result.view ≡ view) }
+            × (result.sight ≡ sight) }
     {
         WorkerJob {
             alloc,
@@ -86,7 +86,7 @@ impl<'a> WorkerJob<'a> {
             tasks: phase.tasks.members(),
             phase: place,
             worker,
-            view,
+            sight,
             script: Snapshot::of(script),
         }
     }
@@ -112,32 +112,32 @@ impl<'a> Job for WorkerJob<'a> {
             tasks,
             phase: _,
             worker,
-            view,
+            sight,
             script,
         } = self;
         let places = worker.tasks.members();
         match worker.gateway {
             None => {
                 let shipping = Shipping { blocks, script };
-                do_tasks(alloc, &shipping, None, tasks, places, view, hand)
+                do_tasks(alloc, &shipping, None, tasks, places, sight, hand)
             }
             Some(gateway) => match Script::read(alloc, text) {
-                Ok(script) => do_tasks(alloc, &script, Some(gateway), tasks, places, view, hand),
-                Err(_) => wanting(alloc, view),
+                Ok(script) => do_tasks(alloc, &script, Some(gateway), tasks, places, sight, hand),
+                Err(_) => wanting(alloc, sight),
             },
         }
     }
 }
 
 /// Nothing was done, for want of memory.
-fn wanting(alloc: Global, view: Option<View>) -> WorkerEnd
+fn wanting(alloc: Global, sight: Sight) -> WorkerEnd
     ensures { (result.parts.items ≡ []) × (result.came ≡ Err Broken.NoMemory)
-        × (result.view ≡ view) }
+        × (result.sight ≡ sight) }
 {
     WorkerEnd {
         parts: Vec::new(alloc),
         came: Err(Broken::NoMemory),
-        view,
+        sight,
     }
 }
 
@@ -149,7 +149,7 @@ fn do_tasks<M: Means, H: Hand>(
     gateway: Option<u32>,
     tasks: &[Task],
     places: &[u64],
-    view: Option<View>,
+    sight: Sight,
     hand: &mut H,
 ) -> WorkerEnd
     requires lawful { IsLawfulScript (M.script means.now) }
@@ -157,7 +157,7 @@ fn do_tasks<M: Means, H: Hand>(
     requires places { All (λ place. place < length tasks.now) places.now }
     requires serves { All (λ place.
         IfSome (slice_get tasks.now place) (λ task. M.serves means.now task.work)) places.now }
-    ensures worked { (who : Who) (held : Holding) → who.gateway ≡ gateway → Sees held view
+    ensures worked { (who : Who) (held : Holding) → who.gateway ≡ gateway → Sees held sight
         → HasWorked (setting_of (M.script means.now)) tasks.now who places.now held
         (H.seat hand.old) (H.entries hand.old) (H.entries hand.new) result }
     ensures seat { H.seat hand.new ≡ H.seat hand.old }
@@ -169,19 +169,19 @@ fn do_tasks<M: Means, H: Hand>(
     ensures wanted { IsTrue (H.wanted hand.new)
         → IsTrue (H.wanted hand.old) ⊎ (result.came ≡ Err Broken.NoMemory) }
 {
-    let mut view = view;
+    let mut sight = sight;
     let Ok(mut parts) = Vec::with_capacity(alloc, places.len()) else {
-        return wanting(alloc, view);
+        return wanting(alloc, sight);
     };
     for number in 0..places.len() {
         let task = &tasks[places[number] as usize];
-        match means.do_task(alloc, gateway, &task.work, &mut view, hand) {
+        match means.do_task(alloc, gateway, &task.work, &mut sight, hand) {
             Ok(part) => parts.push_reserved(part),
             Err(broken) => {
                 return WorkerEnd {
                     parts,
                     came: Err(broken),
-                    view,
+                    sight,
                 };
             }
         }
@@ -189,6 +189,6 @@ fn do_tasks<M: Means, H: Hand>(
     WorkerEnd {
         parts,
         came: Ok(()),
-        view,
+        sight,
     }
 }

@@ -7,7 +7,7 @@ mod series;
 mod sets;
 
 use crate::labels::merges::print_merged;
-pub(crate) use crate::labels::series::{samples_of, series_of};
+pub(crate) use crate::labels::series::samples_of;
 use crate::labels::series::{print_sample, print_series};
 use crate::labels::sets::{print_added, print_final, print_set};
 use crate::says::say;

@@ -4,7 +4,6 @@
 #![tactic(auto)]
 
 mod base;
-mod blocks;
 mod labels;
 mod metas;
 mod says;
@@ -37,7 +36,6 @@ fn print_call(rt: &HostRuntime, table: &str, call: &str) {
     let (word, text) = cut(call);
     match table {
         "base" => base::print_call(rt, word, text),
-        "blocks" => blocks::print_block(rt),
         "labels" => labels::print_call(rt, word, text),
         "metas" => metas::print_call(rt, word, text),
         "scripts" => {

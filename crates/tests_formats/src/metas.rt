@@ -7,5 +7,4 @@ mod copies;
 mod rows;
 mod server_metas;
 
-pub(crate) use crate::metas::copies::plan_of;
 pub(crate) use crate::metas::rows::print_call;

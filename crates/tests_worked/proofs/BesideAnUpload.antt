@@ -25,7 +25,7 @@ use Rattle.tests_worked.specs.SmallBlock as small
 use Rattle.tests_worked.specs.Strangers as strange
 use Rattle.tests_worked.proofs.Each.{each_of}
 use Rattle.tests_worked.proofs.OneBlock.{uploader}
-use Rattle.tests_worked.proofs.Bytes.{meta_is}
+use Rattle.tests_worked.proofs.SmallMeta.{meta_is}
 use Rattle.tests_worked.proofs.SmallTasks.{upload_task_by}
 
 -- ---- the workers

@@ -1,15 +1,20 @@
 -- What a bucket that holds the small block shows.
-use Rattle.std.proofs.Common.{◌≡◌, ◌⊎◌, inl, inr, ℕ, Bool, true, false, cond, List, [], ◌∷◌, Some, None, is_some, bytes_eq, codes, refl, sym, ap, ◌∙◌, ◌==◌, lit<, lit≤}
-use Rattle.std.specs.List.{before_first}
+use Rattle.std.proofs.Common.{◌≡◌, ◌⊎◌, inl, inr, ℕ, Bool, true, false, cond, List, [], ◌∷◌, Option, Some, None, is_some, bytes_eq, codes, refl, sym, ap, ◌∙◌, ◌==◌, lit<, lit≤}
+use Rattle.std.specs.Prelude.{option_map}
+use Rattle.std.specs.List.{AllByRecursion, before_first}
 use Rattle.std.proofs.lemmas.List.Elements.{All-nil, All-cons}
 use Rattle.std.proofs.lemmas.Slice.Eq.{bytes_eq-Decides}
 use Rattle.ulid_core.specs.FixedDigits.{fixed_digits}
 use Rattle.ulid_core.specs.UlidText.{text_of, character, alphabet}
 use Rattle.block_keys.specs.KeyText.{key_text, name_of, six_digits}
 use Rattle.block_keys.specs.declared.key.Key.TheVariants as key
-use Rattle.bucket_core.specs.Contents.{Contents, nothing, with_object}
+use Rattle.bucket_core.specs.Contents.{Contents, nothing, range_of, with_object}
 use Rattle.bucket_core.specs.Pages.{IsPage, IsName}
+use Rattle.world_core.specs.Standing.{Tells}
+use Rattle.world_core.specs.declared.entry.Entry.{Entry}
 use Rattle.tests_worked.specs.SmallBlock as small
+use Rattle.tests_worked.specs.SmallFiles as files
+use Rattle.tests_worked.specs.SmallRuns as runs
 
 -- ---- the texts of its keys
 
@@ -100,3 +105,56 @@ shows_segment = rw (meta_key, index_key, segment_key) refl
 
 pub shows_no_mark : full (key_text (key.Mark small.a)) ≡ None
 shows_no_mark = rw (meta_key, index_key, segment_key, mark_key) refl
+
+-- ---- the ranges that a query reads
+
+contents_shown : range_of 153 52 small.index ≡ files.contents
+unfolding small.index files.symbols files.series files.label_index files.lists files.label_offsets files.table files.contents
+contents_shown = refl
+
+symbols_shown : range_of 5 27 small.index ≡ files.symbols
+unfolding small.index files.symbols files.series files.label_index files.lists files.label_offsets files.table files.contents
+symbols_shown = refl
+
+table_shown : range_of 123 30 small.index ≡ files.table
+unfolding small.index files.symbols files.series files.label_index files.lists files.label_offsets files.table files.contents
+table_shown = refl
+
+lists_shown : range_of 68 32 small.index ≡ files.lists
+unfolding small.index files.symbols files.series files.label_index files.lists files.label_offsets files.table files.contents
+lists_shown = refl
+
+series_shown : range_of 32 16 small.index ≡ files.series
+unfolding small.index files.symbols files.series files.label_index files.lists files.label_offsets files.table files.contents
+series_shown = refl
+
+chunk_shown : range_of 8 4096 small.segment ≡ files.chunk
+unfolding small.segment files.chunk files.content
+chunk_shown = refl
+
+-- bytes of an object that stands
+part_shown : (object : Option (List ℕ)) (bytes part : List ℕ) (from len : ℕ) → object ≡ Some bytes → range_of from len bytes ≡ part → option_map (range_of from len) object ≡ Some part
+part_shown object bytes part from len stands is = rw stands (ap Some is)
+
+pub contents_told : (contents : Contents) → contents (key_text (key.Index small.a)) ≡ Some small.index → option_map (range_of 153 52) (contents (key_text (key.Index small.a))) ≡ Some files.contents
+contents_told contents index = part_shown _ small.index files.contents 153 52 index contents_shown
+
+pub chunk_told : (contents : Contents) → contents (key_text (key.Segment small.a 1)) ≡ Some small.segment → option_map (range_of 8 4096) (contents (key_text (key.Segment small.a 1))) ≡ Some files.chunk
+chunk_told contents segment = part_shown _ small.segment files.chunk 8 4096 segment chunk_shown
+
+-- a query's reads show what stands where the two objects do
+pub query_told : (contents : Contents) → contents (key_text (key.Index small.a)) ≡ Some small.index → contents (key_text (key.Segment small.a 1)) ≡ Some small.segment → (seq seat moment : ℕ)
+    → AllByRecursion (λ (e : Entry). Tells contents e.op e.reply) (runs.query seq seat moment)
+query_told contents index segment seq seat moment = (
+  contents_told contents index,
+  (
+    part_shown _ small.index files.symbols 5 27 index symbols_shown,
+    (
+      part_shown _ small.index files.table 123 30 index table_shown,
+      (
+        part_shown _ small.index files.lists 68 32 index lists_shown,
+        (part_shown _ small.index files.series 32 16 index series_shown, (chunk_told contents segment, tt)),
+      ),
+    ),
+  ),
+)

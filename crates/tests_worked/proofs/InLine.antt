@@ -10,7 +10,7 @@ use Rattle.meta_fetcher.specs.declared.rules.SyncRules.{SyncRules}
 use Rattle.meta_fetcher.specs.declared.sync_end.SyncEnd.{SyncEnd}
 use Rattle.meta_fetcher.specs.declared.sync_end.SyncEnd.TheVariants as fetched
 use Rattle.shipper.specs.declared.upload_end.UploadEnd.TheVariants as shipped
-use Rattle.store_gateway.specs.declared.series_end.SeriesEnd.TheVariants as called
+use Rattle.series_calls.specs.declared.series_end.SeriesEnd.TheVariants as called
 use Rattle.script_workers.specs.Hands.{hands_of_task, with_hands, hands_from, places_from, workers_from, seats_from}
 use Rattle.script_workers.specs.declared.hand.Hand.{Hand}
 use Rattle.script_workers.specs.declared.hand.Hand.TheVariants as hands
@@ -26,6 +26,7 @@ use Rattle.tests_worked.specs.Entries.{absent, clock}
 use Rattle.tests_worked.specs.OneBlock as one
 use Rattle.tests_worked.specs.SideBySide as side
 use Rattle.tests_worked.specs.SmallBlock as small
+use Rattle.tests_worked.proofs.SmallCalls.{called_by}
 use Rattle.tests_worked.proofs.OneBlock.{first_tasks, holding, kept, query_end, second_tasks, sync_end, upload_end}
 
 abbrev duty_at : ℕ → Hand → Task → Duty
@@ -81,7 +82,7 @@ abbrev after_sync : Holdings
 after_sync = with_holding none_held (Some 0) holding
 
 abbrev after_query : Holdings
-after_query = with_holding after_sync (Some 0) holding
+after_query = with_holding after_sync (Some 0) (called_by one.used)
 
 first_run : InLine one.setting first_seats none_held first_duties one.upload first_ends none_held
 first_run = inl (
@@ -113,10 +114,10 @@ second_run = inl (
     [],
     answered one.used (called.Answer (small.up ∷ []) (small.a ∷ [])),
     [],
-    holding,
+    called_by one.used,
     refl,
-    All-from_recursion (λ (e : Entry). e.seat ≡ second_seats (hands.Gateway 0)) one.query (sym gateway_seat, (sym gateway_seat, tt)),
-    (query_end, refl),
+    All-from_recursion (λ (e : Entry). e.seat ≡ second_seats (hands.Gateway 0)) one.query (sym gateway_seat, (sym gateway_seat, (sym gateway_seat, (sym gateway_seat, (sym gateway_seat, (sym gateway_seat, tt)))))),
+    query_end,
     refl,
     (refl, refl, refl),
   ),

@@ -27,9 +27,9 @@ use Rattle.lifecycle_core.proofs.journals.Positions.{stands_in}
 use Rattle.tests_worked.specs.SmallBlock as small
 use Rattle.tests_worked.specs.LandedFault as fault
 use Rattle.tests_worked.proofs.Bucket.{shows_meta}
-use Rattle.tests_worked.proofs.Bytes.{is_meta_text, meta_is}
+use Rattle.tests_worked.proofs.SmallMeta.{is_meta_text, meta_is}
 use Rattle.tests_worked.proofs.Each.{each_of, by_workers_alone}
-use Rattle.tests_worked.proofs.SmallTasks.{shipped_objects}
+use Rattle.tests_worked.proofs.BuiltBlock.{shipped_objects}
 
 -- ---- the workers
 
@@ -51,7 +51,7 @@ task_at line = record { line = line; work = works.Upload small.a None }
 
 -- an upload's end, by its entries
 uploads : (entries : List Entry) (end : UploadEnd) → Runs (upload small.a (small.objects_with small.a small.meta)) entries (Some end) → UploadTask fault.setting small.a None entries (Some (uploaded end))
-uploads entries end run = (small.block, refl, (small.objects_with small.a small.meta, Some end, shipped_objects fault.setting small.a small.meta meta_is, run, inl (refl, λ n no. absurd (cc))))
+uploads entries end run = (small.block, refl, inl (small.objects_with small.a small.meta, Some end, shipped_objects fault.setting small.a small.meta meta_is, run, inl (refl, λ n no. absurd (cc))))
 
 abbrev ends_of : UploadEnd → List (List End)
 ends_of end = (uploaded end ∷ []) ∷ []

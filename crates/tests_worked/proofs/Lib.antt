@@ -1,4 +1,8 @@
-pub mod Bytes
+pub mod SmallBytes
+pub mod SmallIndex
+pub mod SmallMeta
+pub mod BuiltBlock
+pub mod SmallCalls
 pub mod Each
 pub mod SmallTasks
 pub mod Bucket
@@ -10,6 +14,7 @@ pub mod OneAnswer
 pub mod YoungBlock
 pub mod YoungReport
 pub mod YoungAnswers
+pub mod OneShipped
 pub mod OneUpload
 pub mod SideBySide
 pub mod OneOutcomes
@@ -33,3 +38,4 @@ pub mod SpoiledMeta
 pub mod SecondPage
 pub mod TwoReplicas
 pub mod TwoGateways
+pub mod QueryAgain

@@ -12,7 +12,7 @@ use Rattle.matchers.specs.Selected.{is_selected, selected}
 use Rattle.matchers.specs.Selectors.{is_match, accepts, is_accepted, value_or_empty}
 use Rattle.block_keys.specs.declared.key.Key.TheVariants as key
 use Rattle.world_core.specs.declared.entry.Entry.{Entry}
-use Rattle.store_gateway.specs.declared.series_end.SeriesEnd.TheVariants as called
+use Rattle.series_calls.specs.declared.series_end.SeriesEnd.TheVariants as called
 use Rattle.script_workers.specs.declared.worker.Worker.{Worker}
 use Rattle.script_workers.specs.declared.work.Work.TheVariants as works
 use Rattle.lifecycle_core.specs.Completed.{IsCompletedAt, IsSettled, IsUploadedBefore, PutsMeta}
@@ -24,8 +24,8 @@ use Rattle.meta_fetcher.specs.declared.sync_end.SyncEnd.TheVariants as fetched
 use Rattle.tests_worked.specs.Entries.{clock, stored, absent}
 use Rattle.tests_worked.specs.SmallBlock as small
 use Rattle.tests_worked.specs.OneBlock as one
-use Rattle.tests_worked.proofs.Bytes.{is_meta_text}
-use Rattle.tests_worked.proofs.SmallTasks.{merge_given}
+use Rattle.tests_worked.proofs.SmallMeta.{is_meta_text}
+use Rattle.tests_worked.proofs.SmallCalls.{merge_given}
 use Rattle.block_meta.specs.MetaFields.{fields_of}
 use Rattle.tests_worked.proofs.OneBlock.{gateway, second_workers, second_tasks, second_ends}
 

@@ -19,21 +19,22 @@ use Rattle.world_core.specs.declared.entry.Entry.{Entry}
 use Rattle.shipper.specs.declared.upload_end.UploadEnd.TheVariants as shipped
 use Rattle.meta_fetcher.specs.declared.sync_end.SyncEnd.TheVariants as fetched
 use Rattle.script_workers.specs.declared.work.Work.TheVariants as works
-use Rattle.store_gateway.specs.declared.series_end.SeriesEnd.{SeriesEnd}
-use Rattle.store_gateway.specs.declared.series_end.SeriesEnd.TheVariants as called
+use Rattle.series_calls.specs.declared.series_end.SeriesEnd.{SeriesEnd}
+use Rattle.series_calls.specs.declared.series_end.SeriesEnd.TheVariants as called
 use Rattle.tests_worked.specs.SmallBlock as small
 use Rattle.tests_worked.specs.OneBlock as one
 use Rattle.tests_worked.specs.Entries.{clock}
 use Rattle.tests_worked.proofs.Each.{each_of, by_workers_alone}
-use Rattle.tests_worked.proofs.Bucket.{page, shows_meta, shows_index, shows_segment, shows_no_mark}
+use Rattle.tests_worked.proofs.Bucket.{full, page, query_told, shows_meta, shows_index, shows_segment, shows_no_mark}
 use Rattle.tests_worked.specs.SmallRuns as runs
-use Rattle.tests_worked.proofs.SmallTasks.{upload_task, sync_run, question, merge_up, query_run}
+use Rattle.tests_worked.proofs.SmallCalls.{called_by, query_task, question, synced_by, up_asked}
+use Rattle.tests_worked.proofs.SmallTasks.{upload_task, sync_run}
 
 -- ---- the tasks
 
 -- what the gateway holds after its sync
 abbrev pub holding : Holding
-holding = record { used = Some one.used }
+holding = synced_by one.used
 
 pub upload_end : UploadTask one.setting small.a None one.upload (Some (uploaded (shipped.Done 3)))
 upload_end = upload_task one.setting refl 2 1 1
@@ -41,8 +42,8 @@ upload_end = upload_task one.setting refl 2 1 1
 pub sync_end : SyncTask one.setting 0 nothing_held one.sync (Some (synced (fetched.View one.view))) holding
 sync_end = (Some (fetched.View one.view), sync_run 7 2 1_800_001 (Some (runs.seen 1_800_001)) refl, refl, refl)
 
-pub query_end : QueryTask (Some one.used) (Some (question one.selector)) one.query (Some (answered one.used (called.Answer (small.up ∷ []) (small.a ∷ []))))
-query_end = (Some (called.Answer (small.up ∷ []) (small.a ∷ [])), query_run one.selector merge_up 7 1_800_001 1_800_003 1_800_002 1_800_003 10 2 1_800_004, refl)
+pub query_end : QueryTask (Some one.used) (Some (question one.selector)) holding one.query (Some (answered one.used (called.Answer (small.up ∷ []) (small.a ∷ [])))) (called_by one.used)
+query_end = query_task one.selector up_asked 7 1_800_001 1_800_003 1_800_002 1_800_003 9 10 2 1_800_004
 
 -- ---- the phases
 
@@ -82,14 +83,14 @@ second_ends_by came = (synced (fetched.View one.view) ∷ answered one.used came
 abbrev pub second_ends : List (List End)
 second_ends = second_ends_by (called.Answer (small.up ∷ []) (small.a ∷ []))
 
--- the views after the sync
-abbrev views : Holdings
-views zero = holding
-views (suc other) = nothing_held
+-- what gateways hold where the first one holds this
+abbrev held_by : Holding → Holdings
+held_by held zero = held
+held_by held (suc other) = nothing_held
 
-kept_else : (other : ℕ) → Some 0 ≢ Some other → views other ≡ nothing_held
-kept_else zero differ = absurd (differ refl)
-kept_else (suc other) differ = refl
+kept_else : (held : Holding) (other : ℕ) → Some 0 ≢ Some other → held_by held other ≡ nothing_held
+kept_else held zero differ = absurd (differ refl)
+kept_else held (suc other) differ = refl
 
 pub first_phase : PhaseRun (by_script one.setting) first_tasks (uploader ∷ []) none_held one.upload first_ends none_held
 first_phase = record {
@@ -110,11 +111,11 @@ first_phase = record {
 pub first_done : AreDone (workers_of one.script 0) first_ends
 first_done = ap (map (λ (w : Worker). length w.tasks)) first_workers
 
--- with these entries of the query, and this end of it
-module _ (made : List Entry) (came : SeriesEnd) (seats : All (λ (e : Entry). Contains (2 ∷ []) e.seat) made) (own : of_seat 2 made ≡ made)
-    (asked : QueryTask (Some one.used) (Some (question one.selector)) made (Some (answered one.used came))) where
-  tasks_run : TasksRun (by_script one.setting) (who_of gateway) (one.sync ++ made) nothing_held second_own (of_seat 2 (one.sync ++ made)) (synced (fetched.View one.view) ∷ answered one.used came ∷ []) holding
-  tasks_run = subst (λ (es : List Entry). TasksRun (by_script one.setting) (who_of gateway) (one.sync ++ made) nothing_held second_own (one.sync ++ es) (synced (fetched.View one.view) ∷ answered one.used came ∷ []) holding) (sym own) (inl (
+-- with these entries of the query, this end of it, and what the gateway holds then
+module _ (made : List Entry) (came : SeriesEnd) (held : Holding) (seats : All (λ (e : Entry). Contains (2 ∷ []) e.seat) made) (own : of_seat 2 made ≡ made)
+    (asked : QueryTask (Some one.used) (Some (question one.selector)) holding made (Some (answered one.used came)) held) where
+  tasks_run : TasksRun (by_script one.setting) (who_of gateway) (one.sync ++ made) nothing_held second_own (of_seat 2 (one.sync ++ made)) (synced (fetched.View one.view) ∷ answered one.used came ∷ []) held
+  tasks_run = subst (λ (es : List Entry). TasksRun (by_script one.setting) (who_of gateway) (one.sync ++ made) nothing_held second_own (one.sync ++ es) (synced (fetched.View one.view) ∷ answered one.used came ∷ []) held) (sym own) (inl (
     one.sync,
     made,
     synced (fetched.View one.view),
@@ -123,10 +124,10 @@ module _ (made : List Entry) (came : SeriesEnd) (seats : All (λ (e : Entry). Co
     refl,
     sync_end,
     refl,
-    inl (made, [], answered one.used came, [], holding, sym (append-nil made), (asked, refl), refl, (refl, refl, refl)),
+    inl (made, [], answered one.used came, [], held, sym (append-nil made), asked, refl, (refl, refl, refl)),
   ))
 
-  second_phase : PhaseRun (by_script one.setting) second_tasks (gateway ∷ []) none_held (one.sync ++ made) (second_ends_by came) views
+  second_phase : PhaseRun (by_script one.setting) second_tasks (gateway ∷ []) none_held (one.sync ++ made) (second_ends_by came) (held_by held)
   second_phase = record {
     seats = by_workers_alone (2 ∷ []) (one.sync ++ made) (All-append (λ (e : Entry). Contains (2 ∷ []) e.seat) one.sync made
         (All-from_recursion (λ (e : Entry). Contains (2 ∷ []) e.seat) one.sync ((0, lit< tt, refl), ((0, lit< tt, refl), ((0, lit< tt, refl), tt)))) seats);
@@ -134,13 +135,13 @@ module _ (made : List Entry) (came : SeriesEnd) (seats : All (λ (e : Entry). Co
       record {
         own = second_own;
         are = ((refl, refl), ((refl, refl), refl));
-        last = holding;
+        last = held;
         runs = tasks_run;
-        leaves = λ other is. let same : 0 ≡ other = cc in subst (λ (x : ℕ). views x ≡ holding) same refl;
+        leaves = λ other is. let same : 0 ≡ other = cc in subst (λ (x : ℕ). held_by held x ≡ held) same refl;
       },
       tt,
     );
-    kept = λ other differ. kept_else other (All-head (λ (w : Worker). w.gateway ≢ Some other) gateway [] differ);
+    kept = λ other differ. kept_else held other (All-head (λ (w : Worker). w.gateway ≢ Some other) gateway [] differ);
   }
 
   second_done : AreDone (workers_of one.script 1) (second_ends_by came)
@@ -164,10 +165,10 @@ module _ (made : List Entry) (came : SeriesEnd) (seats : All (λ (e : Entry). Co
       [],
       second_ends_by came,
       [],
-      views,
+      held_by held,
       ap (λ (es : List Entry). clock 6 1_800_000 ∷ one.sync ++ es) (sym (append-nil made)),
       record { seat = refl; sets = refl },
-      subst (λ (ws : List Worker). PhaseRun (by_script one.setting) second_tasks ws none_held (one.sync ++ made) (second_ends_by came) views) (sym second_workers) second_phase,
+      subst (λ (ws : List Worker). PhaseRun (by_script one.setting) second_tasks ws none_held (one.sync ++ made) (second_ends_by came) (held_by held)) (sym second_workers) second_phase,
       refl,
       (refl, refl),
     ),
@@ -184,21 +185,21 @@ module _ (made : List Entry) (came : SeriesEnd) (seats : All (λ (e : Entry). Co
 pub kept : IsJournal 1 one.journal
 kept = record {
   few = lit≤ tt;
-  numbered = each_of (λ before e. e.seq ≡ length before + 1) one.journal (refl, (refl, (refl, (refl, (refl, (refl, (refl, (refl, (refl, (refl, (refl, tt)))))))))));
-  lawful = each_of (λ before e. IsLawful e.op) one.journal (lit< tt, (tt, ((lit≤ tt, lit≤ tt), (tt, (tt, (lit< tt, (lit≤ tt, (tt, (tt, (tt, ((lit≤ tt, lit≤ tt), tt)))))))))));
-  kinds = each_of (λ before e. IsReplyTo e.op e.reply) one.journal (tt, (tt, (tt, (tt, (tt, (tt, (tt, (tt, (tt, (tt, (tt, tt)))))))))));
-  moments = each_of (λ before e. e.moment.ms ≡ moment_after 1 (last_moment before) e.op) one.journal (refl, (refl, (refl, (refl, (refl, (refl, (refl, (refl, (refl, (refl, (refl, tt)))))))))));
-  small = each_of (λ before e. e.moment.ms < 2 ^ 48) one.journal (lit< tt, (lit< tt, (lit< tt, (lit< tt, (lit< tt, (lit< tt, (lit< tt, (lit< tt, (lit< tt, (lit< tt, (lit< tt, tt)))))))))));
+  numbered = each_of (λ before e. e.seq ≡ length before + 1) one.journal (refl, (refl, (refl, (refl, (refl, (refl, (refl, (refl, (refl, (refl, (refl, (refl, (refl, (refl, (refl, tt)))))))))))))));
+  lawful = each_of (λ before e. IsLawful e.op) one.journal (lit< tt, (tt, ((lit≤ tt, lit≤ tt), (tt, (tt, (lit< tt, (lit≤ tt, (tt, (tt, (tt, (tt, (tt, (tt, (tt, ((lit≤ tt, lit≤ tt), tt)))))))))))))));
+  kinds = each_of (λ before e. IsReplyTo e.op e.reply) one.journal (tt, (tt, (tt, (tt, (tt, (tt, (tt, (tt, (tt, (tt, (tt, (tt, (tt, (tt, (tt, tt)))))))))))))));
+  moments = each_of (λ before e. e.moment.ms ≡ moment_after 1 (last_moment before) e.op) one.journal (refl, (refl, (refl, (refl, (refl, (refl, (refl, (refl, (refl, (refl, (refl, (refl, (refl, (refl, (refl, tt)))))))))))))));
+  small = each_of (λ before e. e.moment.ms < 2 ^ 48) one.journal (lit< tt, (lit< tt, (lit< tt, (lit< tt, (lit< tt, (lit< tt, (lit< tt, (lit< tt, (lit< tt, (lit< tt, (lit< tt, (lit< tt, (lit< tt, (lit< tt, (lit< tt, tt)))))))))))))));
 }
 
 query_seats : All (λ (e : Entry). Contains (2 ∷ []) e.seat) one.query
-query_seats = All-from_recursion (λ (e : Entry). Contains (2 ∷ []) e.seat) one.query ((0, lit< tt, refl), ((0, lit< tt, refl), tt))
+query_seats = All-from_recursion (λ (e : Entry). Contains (2 ∷ []) e.seat) one.query ((0, lit< tt, refl), ((0, lit< tt, refl), ((0, lit< tt, refl), ((0, lit< tt, refl), ((0, lit< tt, refl), ((0, lit< tt, refl), tt))))))
 
 pub run : IsRunOf one.setting one.journal one.ends
-run = run_by one.query (called.Answer (small.up ∷ []) (small.a ∷ [])) query_seats refl query_end kept
+run = run_by one.query (called.Answer (small.up ∷ []) (small.a ∷ [])) (called_by one.used) query_seats refl query_end kept
 
 pub finished : IsFinished one.setting one.ends
-finished = finished_by one.query (called.Answer (small.up ∷ []) (small.a ∷ [])) query_seats refl query_end
+finished = finished_by one.query (called.Answer (small.up ∷ []) (small.a ∷ [])) (called_by one.used) query_seats refl query_end
 
 pub honest : IsHonest one.journal
-honest = each_of (λ before e. Tells (stands before) e.op e.reply) one.journal (tt, (refl, (tt, (tt, (tt, (tt, (page, (shows_no_mark, (shows_meta, (shows_index, (shows_segment, tt)))))))))))
+honest = each_of (λ before e. Tells (stands before) e.op e.reply) one.journal (tt, (refl, (tt, (tt, (tt, (tt, (page, (shows_no_mark, (shows_meta, query_told full shows_index shows_segment 10 2 1_800_004)))))))))

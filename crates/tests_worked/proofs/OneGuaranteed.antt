@@ -14,13 +14,14 @@ use Rattle.vertical_merge.proofs.Laws.{deduplicates, only_one}
 use Rattle.world_core.specs.declared.entry.Entry.{Entry}
 use Rattle.lifecycle_core.specs.SyncsAndCalls.{IsViewOf}
 use Rattle.lifecycle_core.specs.TimeRules.{IsSyncedInTime}
-use Rattle.tests_worked.proofs.SmallTasks.{merge_given}
+use Rattle.tests_worked.proofs.SmallCalls.{merge_given, question}
 use Rattle.block_keys.specs.declared.key.Key.TheVariants as key
 use Rattle.label_sets.specs.Triples.{Triple, triples_of, triples_under}
 use Rattle.matchers.specs.declared.matcher.Matcher.{Matcher}
 use Rattle.meta_fetcher.specs.declared.sync_end.SyncEnd.TheVariants as fetched
-use Rattle.store_gateway.specs.SeriesRuns as reads
-use Rattle.store_gateway.specs.declared.series_end.SeriesEnd.TheVariants as called
+use Rattle.block_ranges.specs.Reads.{missing}
+use Rattle.series_calls.specs.SeriesCalls.{broke}
+use Rattle.series_calls.specs.declared.series_end.SeriesEnd.TheVariants as called
 use Rattle.block_keys.specs.KeyText.{key_text}
 use Rattle.world_core.specs.Standing.{IsHonest}
 use Rattle.script_core.specs.Workers.{workers_of}
@@ -32,7 +33,7 @@ use Rattle.lifecycle_core.specs.Breaches.{honesty}
 use Rattle.lifecycle_core.specs.Causes.{IsDamaged, IsExplained, IsFault, IsMissing, IsWell}
 use Rattle.lifecycle_core.specs.Conducts.{CameTo}
 use Rattle.lifecycle_core.specs.Guarantees.{Answered, IsGiven, IsGuaranteed, IsPartGiven, IsSound, Named, NamesAll, ask_by}
-use Rattle.lifecycle_core.specs.Holdings.{Use}
+use Rattle.lifecycle_core.specs.Holdings.{Use, empty_cache}
 use Rattle.lifecycle_core.specs.Phases.{IsFinished, IsRunOf}
 use Rattle.lifecycle_core.specs.Tasks.{End, QueryTask, answered, asks_in, sync_rules, synced}
 use Rattle.tests_worked.specs.LostIndex as lost
@@ -41,9 +42,8 @@ use Rattle.tests_worked.specs.SmallBlock as small
 use Rattle.tests_worked.proofs.Ends.{of_each}
 use Rattle.tests_worked.proofs.OneAnswer.{exact, names, one_named}
 use Rattle.tests_worked.proofs.Bucket.{full, shows_index}
-use Rattle.tests_worked.proofs.SmallTasks.{question}
-use Rattle.tests_worked.proofs.OneBlock.{first_tasks, gateway, second_ends, second_tasks, second_workers}
-use Rattle.tests_worked.proofs.OtherReads.{finished_with, run_with}
+use Rattle.tests_worked.proofs.OneBlock.{first_tasks, gateway, holding, second_ends, second_tasks, second_workers}
+use Rattle.tests_worked.proofs.OtherReads.{broken, finished_with, run_with}
 use Rattle.world_core.specs.declared.reply.Reply.TheVariants.{Absent}
 use Rattle.tests_worked.proofs.OneInTime.{leaves_none_out}
 use Rattle.tests_worked.proofs.OneOutcomes.{came_among, one_of_two}
@@ -191,7 +191,7 @@ sound = record { exact = exact; named = names; covered = λ uploaded. in_time }
 
 pub guaranteed : IsGuaranteed one.setting one.journal one.ends
 guaranteed = record {
-  explained = λ end number came missing. absurd (of_each (λ end. (n : ℕ) → ¬ IsMissing end n) one.ends end (all_ends (λ end. (n : ℕ) → ¬ IsMissing end n) _ _ _ (λ n f. f) (λ n f. f) (λ n f. f)) came number missing);
+  explained = λ end number came none. absurd (of_each (λ end. (n : ℕ) → ¬ IsMissing end n) one.ends end (all_ends (λ end. (n : ℕ) → ¬ IsMissing end n) _ _ _ (λ n f. f) (λ n f. f) (λ n f. f)) came number none);
   faults = λ end number came fault. absurd (of_each (λ end. (n : ℕ) → ¬ IsFault end n) one.ends end (all_ends (λ end. (n : ℕ) → ¬ IsFault end n) _ _ _ (λ n f. f) (λ n f. f) (λ n f. f)) came number fault);
   undamaged = λ honest end came. of_each (λ end. ¬ IsDamaged end) one.ends end (all_ends (λ end. ¬ IsDamaged end) _ _ _ (λ d. d) (λ d. d) (λ d. d)) came;
   sound = λ honest query given. subst (IsSound one.setting one.journal) (given_is query given) sound;
@@ -200,8 +200,8 @@ guaranteed = record {
 
 -- ---- where the index is lost
 
-missing_run : QueryTask (Some one.used) (Some (question one.selector)) (lost.lost ∷ []) (Some lost.missing)
-missing_run = (Some (called.Missing 10), (reads.missing 10, (refl, (refl, inr refl)), refl), refl)
+missing_run : QueryTask (Some one.used) (Some (question one.selector)) holding (lost.lost ∷ []) (Some lost.missing) holding
+missing_run = (Some (broken (called.Missing 10)), (broke (missing 10) empty_cache, (refl, (refl, inr refl)), (refl, refl)), refl, refl)
 
 pub lost_run : IsRunOf one.setting lost.journal lost.ends
 lost_run = run_with Absent (called.Missing 10) tt missing_run
@@ -233,9 +233,9 @@ lost_is_dishonest honest = let told : full (key_text (key.Index small.a)) ≡ No
 
 pub lost_guaranteed : IsGuaranteed one.setting lost.journal lost.ends
 lost_guaranteed = record {
-  explained = λ end number came missing. of_each (λ end. (n : ℕ) → IsMissing end n → IsExplained one.setting lost.journal n) lost.ends end
+  explained = λ end number came misses. of_each (λ end. (n : ℕ) → IsMissing end n → IsExplained one.setting lost.journal n) lost.ends end
       (all_ends (λ end. (n : ℕ) → IsMissing end n → IsExplained one.setting lost.journal n) _ _ _ (λ n f. absurd f) (λ n f. absurd f)
-      (λ n same. subst (IsExplained one.setting lost.journal) same lost_explained)) came number missing;
+      (λ n same. subst (IsExplained one.setting lost.journal) same lost_explained)) came number misses;
   faults = λ end number came fault. absurd (of_each (λ end. (n : ℕ) → ¬ IsFault end n) lost.ends end (all_ends (λ end. (n : ℕ) → ¬ IsFault end n) _ _ _ (λ n f. f) (λ n f. f) (λ n f. f)) came number fault);
   undamaged = λ honest end came. absurd (lost_is_dishonest honest);
   sound = λ honest query given. absurd (lost_is_dishonest honest);

@@ -24,25 +24,7 @@ pub in_time : (ulid moment : ℕ) → moment ≤ 1_800_000 → small.a ≡ ulid 
 in_time ulid moment early same = subst (λ u. (time_of u ≤ moment) × (moment ≤ time_of u + 1_800_000)) same (omega arith, omega (arith, early))
 
 pub uploaded_in_time : (ulid : ℕ) → IsUploadedInTime one.script.rules ulid one.journal
-uploaded_in_time ulid = All-from_recursion (InTime ulid) one.journal (
-  λ p. cc (p.2),
-  (
-    λ p. cc (p.2),
-    (
-      λ p. in_time ulid 2 (lit≤ tt) (cc (p.2, p.3)),
-      (
-        λ p. in_time ulid 3 (lit≤ tt) (cc (p.2, p.3)),
-        (
-          λ p. in_time ulid 4 (lit≤ tt) (cc (p.2, p.3)),
-          (
-            λ p. cc (p.2),
-            (λ p. cc (p.2), (λ p. cc (p.2), (λ p. cc (p.2), (λ p. cc (p.2), (λ p. cc (p.2), tt))))),
-          ),
-        ),
-      ),
-    ),
-  ),
-)
+uploaded_in_time ulid = All-from_recursion (InTime ulid) one.journal (λ p. cc (p.2), (λ p. cc (p.2), (λ p. in_time ulid 2 (lit≤ tt) (cc (p.2, p.3)), (λ p. in_time ulid 3 (lit≤ tt) (cc (p.2, p.3)), (λ p. in_time ulid 4 (lit≤ tt) (cc (p.2, p.3)), (λ p. cc (p.2), (λ p. cc (p.2), (λ p. cc (p.2), (λ p. cc (p.2), (λ p. cc (p.2), (λ p. cc (p.2), (λ p. cc (p.2), (λ p. cc (p.2), (λ p. cc (p.2), (λ p. cc (p.2), tt)))))))))))))))
 
 -- ---- the sync
 
@@ -63,22 +45,10 @@ synced_in_time first last others is among =
 -- ---- marks and reads
 
 pub marked_in_time : (ulid : ℕ) → IsMarkedInTime one.script.rules ulid one.journal
-marked_in_time ulid = All-from_recursion (λ (e : Entry). (second : ℕ) → PutsMark ulid second e → e.moment.ms ≤ 1000 * second + 86_400_000) one.journal (
-  λ second p. cc (p.2),
-  (
-    λ second p. cc (p.2),
-    (
-      λ second p. cc (p.2),
-      (
-        λ second p. cc (p.2),
-        (λ second p. cc (p.2), (λ second p. cc (p.2), (λ second p. cc (p.2), (λ second p. cc (p.2), (λ second p. cc (p.2), (λ second p. cc (p.2), (λ second p. cc (p.2), tt))))))),
-      ),
-    ),
-  ),
-)
+marked_in_time ulid = All-from_recursion (λ (e : Entry). (second : ℕ) → PutsMark ulid second e → e.moment.ms ≤ 1000 * second + 86_400_000) one.journal (λ second p. cc (p.2), (λ second p. cc (p.2), (λ second p. cc (p.2), (λ second p. cc (p.2), (λ second p. cc (p.2), (λ second p. cc (p.2), (λ second p. cc (p.2), (λ second p. cc (p.2), (λ second p. cc (p.2), (λ second p. cc (p.2), (λ second p. cc (p.2), (λ second p. cc (p.2), (λ second p. cc (p.2), (λ second p. cc (p.2), (λ second p. cc (p.2), tt)))))))))))))))
 
 pub read_in_time : All (IsReadInTime one.script.rules one.used.view) one.query
-read_in_time = All-from_recursion (IsReadInTime one.script.rules one.used.view) one.query (lit≤ tt, (lit≤ tt, tt))
+read_in_time = All-from_recursion (IsReadInTime one.script.rules one.used.view) one.query (lit≤ tt, (lit≤ tt, (lit≤ tt, (lit≤ tt, (lit≤ tt, (lit≤ tt, tt))))))
 
 -- ---- what has to be named
 

@@ -11,20 +11,22 @@ use Rattle.world_core.specs.Plans.{Runs, noting}
 use Rattle.meta_fetcher.specs.declared.view.View.{View}
 use Rattle.meta_fetcher.specs.declared.sync_end.SyncEnd.{SyncEnd}
 use Rattle.meta_fetcher.specs.declared.sync_end.SyncEnd.TheVariants as fetched
-use Rattle.store_gateway.specs.SeriesRuns.{Query, SeriesRun, reading, to_read}
-use Rattle.store_gateway.specs.declared.series_end.SeriesEnd.{SeriesEnd}
+use Rattle.block_ranges.specs.Reads.{Cache, Query}
+use Rattle.series_calls.specs.SeriesCalls.{CallEnd, SeriesRun, reading, to_read}
 use Rattle.script_workers.specs.declared.task.Task.{Task}
 use Rattle.script_workers.specs.declared.work.Work.TheVariants as works
 use Rattle.script_workers.specs.declared.worker.Worker.{Worker}
 use Rattle.lifecycle_core.specs.Conducts.{Assigned, PhaseRun, TasksAt, TasksRun, WorkerRun, of_seat, who_of}
-use Rattle.lifecycle_core.specs.Holdings.{Holding, Holdings, Use, nothing_held}
+use Rattle.lifecycle_core.specs.Holdings.{Holding, Holdings, Use, empty_cache, nothing_held}
 use Rattle.lifecycle_core.specs.Phases.{by_script, by_workers}
 use Rattle.lifecycle_core.specs.Tasks.{End, last_number, synced, synced_with}
 use Rattle.lifecycle_core.specs.Ways.{PhasesRun}
 use Rattle.tests_worked.specs.SmallBlock as small
-use Rattle.tests_worked.specs.Entries.{absent, found, listed}
+use Rattle.tests_worked.specs.SmallRuns as runs
+use Rattle.tests_worked.specs.Entries.{absent, listed}
 use Rattle.tests_worked.specs.OneBlock as one
-use Rattle.tests_worked.proofs.SmallTasks.{rules, question}
+use Rattle.tests_worked.proofs.SmallCalls.{question, synced_by}
+use Rattle.tests_worked.proofs.SmallTasks.{rules}
 use Rattle.tests_worked.proofs.OneBlock.{gateway, second_tasks, second_workers, second_own}
 use Rattle.tests_worked.proofs.OneUpload.{second}
 
@@ -87,19 +89,19 @@ whole_sync more (Some end) run =
 abbrev query : Assigned
 query = record { place = 1; task = record { line = 9; work = works.Query (pos 0) (pos 5000) 0 } }
 
-nothing_read : (view : View) → view.kept ≡ [] → (question : Query) (entries : List Entry) (end : Option SeriesEnd) → SeriesRun view question entries end → entries ≡ []
-nothing_read view none question entries None run =
-    (subst (λ (kept : List Found). Runs (reading question [] (to_read question kept)) entries None) none run).0
-nothing_read view none question entries (Some end) (told, run, is) =
-    (subst (λ (kept : List Found). Runs (reading question [] (to_read question kept)) entries (Some told)) none run).0
+nothing_read : (view : View) → view.kept ≡ [] → (question : Query) (cache : Cache) (entries : List Entry) (end : Option CallEnd) → SeriesRun view question cache entries end → entries ≡ []
+nothing_read view none question cache entries None run =
+    (subst (λ (kept : List Found). Runs (reading question (to_read question kept) [] cache) entries None) none run).0
+nothing_read view none question cache entries (Some end) (told, run, is) =
+    (subst (λ (kept : List Found). Runs (reading question (to_read question kept) [] cache) entries (Some told)) none run).0
 
-no_query : (all : List Entry) (used : Use) → used.view.kept ≡ [] → (read : Entry) (rest : List Entry) (ends : List End) (last : Holding) → TasksRun (by_script one.setting) (who_of gateway) all (record { used = Some used }) (query ∷ []) (read ∷ rest) ends last → ⊥
+no_query : (all : List Entry) (used : Use) → used.view.kept ≡ [] → (read : Entry) (rest : List Entry) (ends : List End) (last : Holding) → TasksRun (by_script one.setting) (who_of gateway) all (synced_by used) (query ∷ []) (read ∷ rest) ends last → ⊥
 no_query all used none read rest ends last (inl r) =
     let made : r.0 ≡ read ∷ rest = sym (r.5 ∙ ap (λ es. r.0 ++ es) r.8.0 ∙ append-nil r.0) in
-    let nothing : r.0 ≡ [] = nothing_read used.view none (question one.selector) r.0 r.6.0.0 r.6.0.1 in
+    let nothing : r.0 ≡ [] = nothing_read used.view none (question one.selector) empty_cache r.0 r.6.0 r.6.1 in
     cc (made, nothing)
 no_query all used none read rest ends last (inr r) =
-    let nothing : read ∷ rest ≡ [] = nothing_read used.view none (question one.selector) (read ∷ rest) r.0.0.0 r.0.0.1 in
+    let nothing : read ∷ rest ≡ [] = nothing_read used.view none (question one.selector) empty_cache (read ∷ rest) r.0.0 r.0.1 in
     cc (nothing)
 
 module _ (all : List Entry) (read : Entry) (rest : List Entry) (later : List End) (last next : Holding) (end : End) where
@@ -119,9 +121,9 @@ module _ (all : List Entry) (read : Entry) (rest : List Entry) (later : List End
         | inl none ↦ cc (ended, ap (option_map synced) none)
         | inr some ↦
             let others_are : others ≡ read ∷ rest = cc (is, whole.0) in
-            let held : next ≡ record { used = Some (record { view = some.0; last = last_number (a ∷ b ∷ c ∷ left) }) } = left_is ∙ ap (synced_with nothing_held (a ∷ b ∷ c ∷ left)) some.1 in
+            let held : next ≡ synced_by (record { view = some.0; last = last_number (a ∷ b ∷ c ∷ left) }) = left_is ∙ ap (synced_with nothing_held (a ∷ b ∷ c ∷ left)) some.1 in
             no_query all (record { view = some.0; last = last_number (a ∷ b ∷ c ∷ left) }) some.2 read rest later last
-            (subst (λ (es : List Entry). TasksRun (by_script one.setting) (who_of gateway) all (record { used = Some (record { view = some.0; last = last_number (a ∷ b ∷ c ∷ left) }) }) (query ∷ []) es later last) others_are
+            (subst (λ (es : List Entry). TasksRun (by_script one.setting) (who_of gateway) all (synced_by (record { view = some.0; last = last_number (a ∷ b ∷ c ∷ left) })) (query ∷ []) es later last) others_are
             (subst (λ (h : Holding). TasksRun (by_script one.setting) (who_of gateway) all h (query ∷ []) others later last) held more))
       ]
 
@@ -167,7 +169,7 @@ second_made views first entries ends (inr r) =
     (run.0, run.1, subst (λ (es : List Entry). Gateways (views 0) es (of_seat 2 es) run.0 run.1) same run.2)
 
 abbrev index_read : Entry
-index_read = found 10 2 1_800_004 (key.Index small.a) small.index
+index_read = runs.contents_read 10 2 1_800_004
 
 pub no_read_after_absent : (views : Holdings) → views 0 ≡ nothing_held → (first : Entry) (rest : List Entry) (ends : List (List (List End)))
     → PhasesRun (by_workers one.setting) 1 views (second ∷ []) (first ∷ page ∷ mark ∷ no_meta ∷ index_read ∷ rest) ends → ⊥

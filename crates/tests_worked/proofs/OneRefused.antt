@@ -1,5 +1,5 @@
 -- Journals that are no run of the script of one block.
-use Rattle.std.proofs.Common.{◌≡◌, ◌≢◌, ℕ, List, [], ◌∷◌, ◌++◌, All, Contains, Some, refl, sym, ap, subst, ◌∙◌, arith}
+use Rattle.std.proofs.Common.{◌≡◌, ◌≢◌, ℕ, List, [], ◌∷◌, ◌++◌, All, Contains, Some, None, refl, sym, ap, subst, ◌∙◌, arith}
 use Rattle.std.proofs.lemmas.List.Elements.{All-nil, All-cons, All-head, All-tail}
 use Rattle.block_keys.specs.declared.key.Key.TheVariants as key
 use Rattle.world_core.specs.declared.entry.Entry.{Entry}
@@ -11,41 +11,40 @@ use Rattle.script_workers.specs.declared.worker.Worker.{Worker}
 use Rattle.lifecycle_core.specs.Conducts.{of_seat}
 use Rattle.lifecycle_core.specs.Holdings.{Holdings, nothing_held}
 use Rattle.lifecycle_core.specs.Phases.{IsLawfulJournal, by_workers}
-use Rattle.lifecycle_core.specs.Tasks.{End}
+use Rattle.lifecycle_core.specs.Tasks.{End, UploadTask}
 use Rattle.lifecycle_core.specs.Ways.{PhasesRun}
 use Rattle.tests_worked.proofs.Bucket.{shows_meta}
 use Rattle.tests_worked.proofs.OneBlock.{uploader}
 use Rattle.tests_worked.specs.SmallBlock as small
+use Rattle.tests_worked.specs.SmallRuns as runs
 use Rattle.tests_worked.specs.Entries.{clock, stored, absent, found, listed}
 use Rattle.tests_worked.specs.OneBlock as one
 use Rattle.tests_worked.specs.OneBlockChanged as changed
 use Rattle.tests_worked.proofs.OneLater.{no_read_after_absent}
 use Rattle.list_core.proofs.Membership.{only_member}
-use Rattle.tests_worked.proofs.OneUpload.{BeginsAnew, FirstPhase, second, first_phase_of, stays, upload_of, uploads_of, Uploads, first_is_look, second_is_put}
+use Rattle.tests_worked.proofs.OneUpload.{BeginsAnew, FirstPhase, second, first_phase_of, stays, upload_of, uploads_of, first_is_look, second_is_put}
 use Rattle.tests_worked.proofs.Each.{workers_seats}
 
 pub no_look_refused : (rest : List Entry) → ¬ IsLawfulJournal one.setting (changed.no_look ++ rest)
 no_look_refused rest lawful =
     let put : Entry = stored 2 1 1 (key.Segment small.a 1) small.segment in
     let phase = first_phase_of (clock 1 0) (put ∷ rest) lawful in
-    let one = stays phase.1 phase.0 put rest phase.3.parts phase.3.anew (λ moment is. cc (is)) in
+    let own = stays phase.1 phase.0 put rest phase.3.parts phase.3.anew (λ moment is. cc (is)) in
     let upload = upload_of phase.1 phase.3.ends phase.2 phase.3.run in
-    let uploads = uploads_of (of_seat 1 phase.1) upload.0 upload.1 in
-    let look = first_is_look put (of_seat 1 one.0) (subst (λ es. Uploads (of_seat 1 es)) one.1 uploads) in
-    cc (look)
+    let uploads = uploads_of put (of_seat 1 own.0) upload.0 (subst (λ es. UploadTask one.setting small.a None (of_seat 1 es) upload.0) {y = put ∷ own.0} own.1 upload.1) in
+    cc (first_is_look put (of_seat 1 own.0) uploads)
 
 pub index_first_refused : (rest : List Entry) → ¬ IsLawfulJournal one.setting (changed.index_first ++ rest)
 index_first_refused rest lawful =
     let look : Entry = absent 2 1 1 (key.Meta small.a) in
     let put : Entry = stored 3 1 2 (key.Index small.a) small.index in
     let phase = first_phase_of (clock 1 0) (look ∷ put ∷ rest) lawful in
-    let one = stays phase.1 phase.0 look (put ∷ rest) phase.3.parts phase.3.anew (λ moment is. cc (is)) in
-    let two = stays one.0 phase.0 put rest one.2 phase.3.anew (λ moment is. cc (is)) in
+    let own = stays phase.1 phase.0 look (put ∷ rest) phase.3.parts phase.3.anew (λ moment is. cc (is)) in
+    let two = stays own.0 phase.0 put rest own.2 phase.3.anew (λ moment is. cc (is)) in
     let upload = upload_of phase.1 phase.3.ends phase.2 phase.3.run in
-    let uploads = uploads_of (of_seat 1 phase.1) upload.0 upload.1 in
-    let made : phase.1 ≡ look ∷ put ∷ two.0 = cc (one.1, two.1) in
-    let segment = second_is_put look put (of_seat 1 two.0) refl (subst (λ es. Uploads (of_seat 1 es)) {y = look ∷ put ∷ two.0} made uploads) in
-    cc (segment.1)
+    let made : phase.1 ≡ look ∷ put ∷ two.0 = cc (own.1, two.1) in
+    let uploads = uploads_of look (put ∷ of_seat 1 two.0) upload.0 (subst (λ es. UploadTask one.setting small.a None (of_seat 1 es) upload.0) {y = look ∷ put ∷ two.0} made upload.1) in
+    cc (second_is_put look put (of_seat 1 two.0) refl uploads)
 
 pub seat_refused : (rest : List Entry) → ¬ IsLawfulJournal one.setting (changed.at_gateways_seat ++ rest)
 seat_refused rest lawful =
@@ -101,7 +100,7 @@ second_begins entries others made after tail phase is =
 
 abbrev after_clock : List Entry → List Entry
 after_clock rest =
-    listed 7 2 1_800_001 (small.a_text ∷ []) ∷ absent 8 2 1_800_002 (key.Mark small.a) ∷ absent 9 2 1_800_003 (key.Meta small.a) ∷ found 10 2 1_800_004 (key.Index small.a) small.index ∷ rest
+    listed 7 2 1_800_001 (small.a_text ∷ []) ∷ absent 8 2 1_800_002 (key.Mark small.a) ∷ absent 9 2 1_800_003 (key.Meta small.a) ∷ runs.contents_read 10 2 1_800_004 ∷ rest
 
 pub meta_absent_refused : (rest : List Entry) → ¬ IsLawfulJournal one.setting (changed.meta_absent ++ rest)
 meta_absent_refused rest lawful =
@@ -113,5 +112,5 @@ meta_absent_refused rest lawful =
 
 pub meta_absent_is_a_lie : (rest : List Entry) → ¬ IsHonest (changed.meta_absent ++ rest)
 meta_absent_is_a_lie rest honest =
-    let told = honest (clock 1 0 ∷ one.upload ++ clock 6 1_800_000 ∷ listed 7 2 1_800_001 (small.a_text ∷ []) ∷ absent 8 2 1_800_002 (key.Mark small.a) ∷ []) (found 10 2 1_800_004 (key.Index small.a) small.index ∷ rest) (absent 9 2 1_800_003 (key.Meta small.a)) refl in
+    let told = honest (clock 1 0 ∷ one.upload ++ clock 6 1_800_000 ∷ listed 7 2 1_800_001 (small.a_text ∷ []) ∷ absent 8 2 1_800_002 (key.Mark small.a) ∷ []) (runs.contents_read 10 2 1_800_004 ∷ rest) (absent 9 2 1_800_003 (key.Meta small.a)) refl in
     cc (told, shows_meta)

@@ -15,20 +15,21 @@ use Rattle.lifecycle_core.specs.Setting.{Setting}
 use Rattle.lifecycle_core.specs.TimeRules.{PutsMark}
 use Rattle.world_core.specs.declared.op.Op.TheVariants as op
 use Rattle.world_core.specs.declared.reply.Reply.TheVariants.{Found}
-use Rattle.tests_worked.specs.Entries.{absent, clock, stored, listed}
+use Rattle.tests_worked.specs.Entries.{absent, clock, in_range, stored, listed}
 use Rattle.tests_worked.specs.SmallBlock as small
+use Rattle.tests_worked.specs.SmallFiles as files
 use Rattle.tests_worked.specs.OneBlock as one
 use Rattle.tests_worked.specs.LostIndex as lost
 use Rattle.tests_worked.specs.LateUpload as late
 use Rattle.moment_core.specs.StandardRules.{standard_rules}
 use Rattle.moment_core.specs.declared.rules.Rules.{Rules}
-use Rattle.tests_worked.proofs.Bucket.{full, page, shows_meta, shows_index, shows_segment, shows_no_mark}
+use Rattle.tests_worked.proofs.Bucket.{contents_told, full, page, query_told, shows_meta, shows_index, shows_segment, shows_no_mark}
 use Rattle.tests_worked.proofs.Each.{EachAfter, each_after, each_of}
 use Rattle.lifecycle_core.proofs.journals.Honesty.{no_lie}
 use Rattle.tests_worked.proofs.OneInTime.{InTime, in_time}
 
 -- An entry of the first half hour can only be a lie, where it puts objects in time, and no mark.
-only_lies : (setting : Setting) → setting.script.rules ≡ standard_rules → (journal before : List Entry) (e : Entry) → e.moment.ms ≤ 1_800_005 → ((ulid : ℕ) → InTime ulid e) → ((ulid second : ℕ) → ¬ PutsMark ulid second e)
+only_lies : (setting : Setting) → setting.script.rules ≡ standard_rules → (journal before : List Entry) (e : Entry) → e.moment.ms ≤ 1_800_010 → ((ulid : ℕ) → InTime ulid e) → ((ulid second : ℕ) → ¬ PutsMark ulid second e)
     → (rule : Rule) (x y : ℕ) → Refuses setting journal rule before e x y → rule ≡ honesty
 only_lies setting standard journal before e early timely unmarked honesty x y lie = refl
 only_lies setting standard journal before e early timely unmarked upload_time x y (ulid, puts, inl (is, most, over)) = let limits = timely ulid puts in absurd (omega (arith, limits.0, over))
@@ -41,28 +42,32 @@ only_lies setting standard journal before e early timely unmarked view_time x y 
     absurd (omega (arith, early, over, ap (λ (r : Rules). r.ignore.ms) standard, ap (λ (r : Rules). r.delete.ms) standard))
 
 -- so it breaks no rule where it is no lie
-keeps : (setting : Setting) → setting.script.rules ≡ standard_rules → (journal before : List Entry) (e : Entry) → e.moment.ms ≤ 1_800_005 → ((x y : ℕ) → ¬ IsLie before e x y) → ((ulid : ℕ) → InTime ulid e) → ((ulid second : ℕ) → ¬ PutsMark ulid second e)
+keeps : (setting : Setting) → setting.script.rules ≡ standard_rules → (journal before : List Entry) (e : Entry) → e.moment.ms ≤ 1_800_010 → ((x y : ℕ) → ¬ IsLie before e x y) → ((ulid : ℕ) → InTime ulid e) → ((ulid second : ℕ) → ¬ PutsMark ulid second e)
     → IsKept setting journal before e
 keeps setting standard journal before e early true_is timely unmarked rule x y refused =
     let lies = only_lies setting standard journal before e early timely unmarked rule x y refused in
     true_is x y (subst (λ (r : Rule). Refuses setting journal r before e x y) lies refused)
 
 -- where it shows what stands
-true_keeps : (setting : Setting) → setting.script.rules ≡ standard_rules → (journal before : List Entry) (e : Entry) → e.moment.ms ≤ 1_800_005 → IsReplyTo e.op e.reply → Tells (stands before) e.op e.reply → ((ulid : ℕ) → InTime ulid e)
+true_keeps : (setting : Setting) → setting.script.rules ≡ standard_rules → (journal before : List Entry) (e : Entry) → e.moment.ms ≤ 1_800_010 → IsReplyTo e.op e.reply → Tells (stands before) e.op e.reply → ((ulid : ℕ) → InTime ulid e)
     → ((ulid second : ℕ) → ¬ PutsMark ulid second e) → IsKept setting journal before e
 true_keeps setting standard journal before e early kind tells timely unmarked = keeps setting standard journal before e early (λ x y. no_lie before e x y kind tells) timely unmarked
 
-clock_keeps : (setting : Setting) → setting.script.rules ≡ standard_rules → (journal before : List Entry) (seq moment : ℕ) → moment ≤ 1_800_005 → IsKept setting journal before (clock seq moment)
+clock_keeps : (setting : Setting) → setting.script.rules ≡ standard_rules → (journal before : List Entry) (seq moment : ℕ) → moment ≤ 1_800_010 → IsKept setting journal before (clock seq moment)
 clock_keeps setting standard journal before seq moment early = true_keeps setting standard journal before (clock seq moment) early tt tt (λ ulid p. cc (p.2)) (λ ulid second p. cc (p.2))
 
-get_keeps : (setting : Setting) → setting.script.rules ≡ standard_rules → (journal before : List Entry) (e : Entry) (k : Key) → e.moment.ms ≤ 1_800_005 → e.op ≡ op.Get k → IsReplyTo e.op e.reply → Tells (stands before) e.op e.reply → IsKept setting journal before e
+get_keeps : (setting : Setting) → setting.script.rules ≡ standard_rules → (journal before : List Entry) (e : Entry) (k : Key) → e.moment.ms ≤ 1_800_010 → e.op ≡ op.Get k → IsReplyTo e.op e.reply → Tells (stands before) e.op e.reply → IsKept setting journal before e
 get_keeps setting standard journal before e k early is kind tells = true_keeps setting standard journal before e early kind tells (λ ulid p. cc (is, p.2)) (λ ulid second p. cc (is, p.2))
+
+range_keeps : (journal before : List Entry) (seq seat moment : ℕ) (k : Key) (from len : ℕ) (bytes : List ℕ) → moment ≤ 1_800_010 → Tells (stands before) (op.GetRange k from len) (Found bytes) → IsKept one.setting journal before (in_range seq seat moment k from len bytes)
+range_keeps journal before seq seat moment k from len bytes early tells =
+    true_keeps one.setting refl journal before (in_range seq seat moment k from len bytes) early tt tells (λ ulid p. cc (p.2)) (λ ulid second p. cc (p.2))
 
 put_keeps : (journal before : List Entry) (seq seat moment : ℕ) (k : Key) (bytes : List ℕ) → moment ≤ 1_800_000 → ((ulid : ℕ) → InTime ulid (stored seq seat moment k bytes)) → ((ulid second : ℕ) → ¬ PutsMark ulid second (stored seq seat moment k bytes))
     → IsKept one.setting journal before (stored seq seat moment k bytes)
 put_keeps journal before seq seat moment k bytes early timely unmarked = true_keeps one.setting refl journal before (stored seq seat moment k bytes) (omega (arith, early)) tt tt timely unmarked
 
-page_keeps : (journal before : List Entry) (seq seat moment : ℕ) → moment ≤ 1_800_005 → stands before ≡ full → IsKept one.setting journal before (listed seq seat moment (small.a_text ∷ []))
+page_keeps : (journal before : List Entry) (seq seat moment : ℕ) → moment ≤ 1_800_010 → stands before ≡ full → IsKept one.setting journal before (listed seq seat moment (small.a_text ∷ []))
 page_keeps journal before seq seat moment early stood =
     true_keeps one.setting refl journal before (listed seq seat moment (small.a_text ∷ [])) early tt (subst (λ (c : Contents). IsPage c [] [] 1_000 (small.a_text ∷ [])) (sym stood) page) (λ ulid p. cc (p.2)) (λ ulid second p. cc (p.2))
 
@@ -71,9 +76,9 @@ page_keeps journal before seq seat moment early stood =
 abbrev pub front : List Entry
 front = clock 1 0 ∷ one.upload ++ clock 6 1_800_000 ∷ one.sync
 
--- the index stands, and its first letter is not that of an absent object
+-- the index stands, and the first letter of what is owed is not that of an absent object
 pub lost_is_lie : IsLie front lost.lost 65 70
-lost_is_lie = (Found small.index, codes "A", codes "F" ++ small.index, tt, shows_index, refl, refl, ([], codes "A", codes "F" ++ small.index, refl, refl, refl, refl, λ same. omega (arith, same)))
+lost_is_lie = (Found files.contents, codes "A", codes "F" ++ files.contents, tt, contents_told full shows_index, refl, refl, ([], codes "A", codes "F" ++ files.contents, refl, refl, refl, refl, λ same. omega (arith, same)))
 
 module _ (journal : List Entry) where
   abbrev Keeps : List Entry → Entry → Type 0
@@ -111,7 +116,23 @@ module _ (journal : List Entry) where
   front_is_kept = each_of Keeps front front_keeps
 
   query_keeps : EachAfter Keeps front one.query
-  query_keeps = (get_keeps one.setting refl journal _ _ (key.Index small.a) (lit≤ tt) refl tt shows_index, (get_keeps one.setting refl journal _ _ (key.Segment small.a 1) (lit≤ tt) refl tt shows_segment, tt))
+  query_keeps =
+      let told = query_told full shows_index shows_segment 10 2 1_800_004 in (
+        range_keeps journal _ 10 2 1_800_004 (key.Index small.a) 153 52 files.contents (lit≤ tt) told.0,
+        (
+          range_keeps journal _ 11 2 1_800_005 (key.Index small.a) 5 27 files.symbols (lit≤ tt) told.1.0,
+          (
+            range_keeps journal _ 12 2 1_800_006 (key.Index small.a) 123 30 files.table (lit≤ tt) told.1.1.0,
+            (
+              range_keeps journal _ 13 2 1_800_007 (key.Index small.a) 68 32 files.lists (lit≤ tt) told.1.1.1.0,
+              (
+                range_keeps journal _ 14 2 1_800_008 (key.Index small.a) 32 16 files.series (lit≤ tt) told.1.1.1.1.0,
+                (range_keeps journal _ 15 2 1_800_009 (key.Segment small.a 1) 8 4096 files.chunk (lit≤ tt) told.1.1.1.1.1.0, tt),
+              ),
+            ),
+          ),
+        ),
+      )
 
 pub unbroken : IsUnbroken one.setting one.journal
 unbroken = each_of (IsKept one.setting one.journal) one.journal (each_after (IsKept one.setting one.journal) [] front one.query (front_keeps one.journal) (query_keeps one.journal))

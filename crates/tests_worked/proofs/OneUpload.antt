@@ -4,7 +4,6 @@ use Rattle.std.specs.List.{AllZip}
 use Rattle.moment_core.specs.declared.moment.Moment.{Moment}
 use Rattle.block_keys.specs.declared.key.Key.TheVariants as key
 use Rattle.block_keys.specs.declared.object.Object.{Object}
-use Rattle.block_files.specs.Built.{segment_text, segments_of, segment_objects, objects_of}
 use Rattle.world_core.specs.declared.entry.Entry.{Entry}
 use Rattle.world_core.specs.declared.op.Op.TheVariants as op
 use Rattle.world_core.specs.declared.reply.Reply.TheVariants as reply
@@ -20,11 +19,12 @@ use Rattle.lifecycle_core.specs.Conducts.{Assigned, PhaseRun, TasksAt, TasksRun,
 use Rattle.lifecycle_core.specs.Holdings.{Holding, Holdings, none_held, nothing_held}
 use Rattle.lifecycle_core.specs.Phases.{IsLawfulJournal, by_script, by_workers}
 use Rattle.lifecycle_core.specs.Setting.{Setting}
-use Rattle.lifecycle_core.specs.Shipped.{IsShipped}
 use Rattle.lifecycle_core.specs.Tasks.{End, UploadTask}
 use Rattle.lifecycle_core.specs.Ways.{PhasesRun}
+use Rattle.lifecycle_core.proofs.blocks.OneShipped.{one_shipped}
 use Rattle.tests_worked.specs.SmallBlock as small
 use Rattle.tests_worked.specs.OneBlock as one
+use Rattle.tests_worked.proofs.OneShipped.{is_shipped}
 use Rattle.tests_worked.proofs.OneBlock.{uploader, first_workers, first_tasks, second_tasks, first_own}
 
 -- ---- the phases of a journal
@@ -101,44 +101,26 @@ upload_of made ends after run = go ends run.runs
         one_task one.setting (who_of uploader) made (of_seat 1 made) own worker.last
         (subst (λ (ts : List Assigned). TasksRun (by_script one.setting) (who_of uploader) made nothing_held ts (of_seat 1 made) own worker.last) (own_task worker.own worker.are) worker.runs)
 
+-- the entries are those of an upload of the small block's objects
 pub record Uploads (entries : List Entry) : Type 0 where
-  pub objects : List Object
   pub end : Option UploadEnd
-  pub segment : List ℕ
-  pub index : List ℕ
-  pub meta : List ℕ
-  pub are : objects ≡ objects_of small.a (segment ∷ []) index meta
-  pub run : Runs (upload small.a objects) entries end
+  pub run : Runs (upload small.a (small.objects_with small.a small.meta)) entries end
 
-pub uploads_of : (entries : List Entry) (end : Option End) → UploadTask one.setting small.a None entries end → Uploads entries
-unfolding segments_of
-uploads_of entries end task =
-    let same : task.0 ≡ small.block = cc (task.1) in
-    let shipped = subst (λ (b : Block). IsShipped one.setting b task.2.0) same task.2.2 in
-    record {
-      objects = task.2.0;
-      end = task.2.1;
-      segment = segment_text (small.up ∷ []);
-      index = _;
-      meta = _;
-      are = shipped.2;
-      run = subst (λ (b : Block). Runs (upload b.ulid task.2.0) entries task.2.1) same task.2.3;
-    }
+-- an upload's entries, if there are any, are those
+pub uploads_of : (e : Entry) (entries : List Entry) (end : Option End) → UploadTask one.setting small.a None (e ∷ entries) end → Uploads (e ∷ entries)
+uploads_of e entries end (block, declares, inl (objects, own, shipped, run, ended)) =
+    let same : small.block ≡ block = cc (declares) in
+    let are : objects ≡ small.objects_with small.a small.meta = one_shipped one.setting block block.body objects (small.objects_with small.a small.meta) shipped (is_shipped block same) in
+    record { end = own; run = subst (λ (os : List Object). Runs (upload small.a os) (e ∷ entries) own) are (subst (λ (b : Block). Runs (upload b.ulid objects) (e ∷ entries) own) (sym same) run) }
+uploads_of e entries end (block, declares, inr (inl (cause, refused, (none, ended)))) = absurd (cc (none))
+uploads_of e entries end (block, declares, inr (inr (none, ended))) = absurd (cc (none))
 
 -- ---- what it begins with
 
 pub first_is_look : (e : Entry) (more : List Entry) → Uploads (e ∷ more) → e.op ≡ op.Get (key.Meta small.a)
 first_is_look e more uploads = uploads.run.0
 
-second_is_segment : (e : Entry) (more : List Entry) (objects : List Object) (end : Option UploadEnd) (s i m : List ℕ) → objects ≡ objects_of small.a (s ∷ []) i m
-    → (total : ℕ) → Runs (putting total objects) (e ∷ more) end → e.op ≡ op.Put (key.Segment small.a 1) s
-unfolding objects_of segment_objects
-second_is_segment e more objects end s i m are total run =
-    (subst (λ (os : List Object). Runs (putting total os) (e ∷ more) end) are run).0
-
-pub second_is_put : (look e : Entry) (more : List Entry) → look.reply ≡ reply.Absent → Uploads (look ∷ e ∷ more) → (bytes : List ℕ) × (e.op ≡ op.Put (key.Segment small.a 1) bytes)
-second_is_put look e more is uploads = (
-  uploads.segment,
-  second_is_segment e more uploads.objects uploads.end uploads.segment uploads.index uploads.meta uploads.are (length uploads.objects)
-      (subst (λ r. Runs (after_get r (λ bytes. comes_to Already) (putting (length uploads.objects) uploads.objects) (comes_to (Fault look.seq))) (e ∷ more) uploads.end) is uploads.run.1),
-)
+pub second_is_put : (look e : Entry) (more : List Entry) → look.reply ≡ reply.Absent → Uploads (look ∷ e ∷ more) → e.op ≡ op.Put (key.Segment small.a 1) small.segment
+second_is_put look e more is uploads =
+    let objects = small.objects_with small.a small.meta in
+    (subst (λ r. Runs (after_get r (λ bytes. comes_to Already) (putting (length objects) objects) (comes_to (Fault look.seq))) (e ∷ more) uploads.end) is uploads.run.1).0

@@ -1,8 +1,9 @@
 -- The run of the script of one block, where somebody else asks the query.
-use Rattle.std.proofs.Common.{◌≡◌, ◌≢◌, ◌⊎◌, inl, inr, ℕ, zero, suc, ◌+◌, ◌^◌, ◌<◌, List, [], ◌∷◌, ◌++◌, length, map, Contains, Some, refl, sym, ap, subst, arith, lit<, lit≤}
+use Rattle.std.proofs.Common.{◌≡◌, ◌≢◌, ◌⊎◌, inl, inr, ℕ, zero, suc, ◌+◌, ◌^◌, ◌<◌, pos, List, [], ◌∷◌, ◌++◌, length, map, Contains, Some, refl, sym, ap, subst, arith, lit<, lit≤}
 use Rattle.list_core.proofs.Membership.{no_member, only_member}
 use Rattle.std.specs.List.{All, AllPairs}
-use Rattle.std.proofs.lemmas.List.Elements.{All-contains, All-from_recursion, All-weaker, Contains-append_right}
+use Rattle.std.proofs.lemmas.List.Kept.{AllPairs-cons}
+use Rattle.std.proofs.lemmas.List.Elements.{All-contains, All-cons, All-from_recursion, All-nil, All-weaker, Contains-append_right}
 use Rattle.block_keys.specs.declared.key.Key.TheVariants as key
 use Rattle.world_core.specs.Operations.{IsLawful, IsReplyTo}
 use Rattle.world_core.specs.Moments.{moment_after, last_moment}
@@ -15,21 +16,25 @@ use Rattle.script_workers.specs.declared.worker.Worker.{Worker}
 use Rattle.lifecycle_core.specs.Acting.{IsActing, IsReading, acting, uploaders}
 use Rattle.lifecycle_core.specs.Breaches.{IsSeatOf, Refuses, RefusesUnder, view_time, watched_call}
 use Rattle.lifecycle_core.specs.Conducts.{PhaseRun, working}
-use Rattle.lifecycle_core.specs.Holdings.{none_held, nothing_held}
+use Rattle.index_cache.specs.declared.range.Range.{Range}
+use Rattle.series_calls.specs.KeptRanges.{IsReadIn}
+use Rattle.lifecycle_core.specs.Holdings.{empty_cache, none_held, nothing_held}
 use Rattle.lifecycle_core.specs.Phases.{IsLawfulJournal, by_workers}
 use Rattle.lifecycle_core.specs.SyncsAndCalls.{IsCallIn, IsViewOf}
 use Rattle.lifecycle_core.specs.Tasks.{End, sync_rules, uploaded}
 use Rattle.lifecycle_core.specs.Ways.{PhasesRun}
 use Rattle.lifecycle_core.proofs.phases.EachEntry.{phases_each}
 use Rattle.tests_worked.specs.SmallRuns as runs
-use Rattle.tests_worked.specs.Entries.{absent, clock, found, listed}
+use Rattle.tests_worked.specs.Entries.{absent, clock, found, in_range, listed}
 use Rattle.tests_worked.specs.OneBlock as one
 use Rattle.tests_worked.specs.OneStrict.{idle}
 use Rattle.tests_worked.specs.OtherSeat as other
 use Rattle.tests_worked.specs.SmallBlock as small
+use Rattle.tests_worked.specs.SmallFiles as files
 use Rattle.tests_worked.proofs.Each.{each_of, workers_seats}
 use Rattle.tests_worked.proofs.OneBlock.{first_ends, first_own, first_tasks, first_workers, gateway, second_tasks, second_workers, uploader}
-use Rattle.tests_worked.proofs.SmallTasks.{merge_up, query_run, sync_run, upload_task}
+use Rattle.tests_worked.proofs.SmallCalls.{answer, call_run, left, up_asked}
+use Rattle.tests_worked.proofs.SmallTasks.{sync_run, upload_task}
 
 -- ---- the workers
 
@@ -99,7 +104,22 @@ second_phase = record {
       reads (absent 8 2 1_800_002 (key.Mark small.a)) (lit< tt) tt,
       (
         reads (found 9 2 1_800_003 (key.Meta small.a) small.meta) (lit< tt) tt,
-        (reads other.first_read (lit< tt) tt, (reads (found 11 9 1_800_005 (key.Segment small.a 1) small.segment) (lit< tt) tt, tt)),
+        (
+          reads other.first_read (lit< tt) tt,
+          (
+            reads (in_range 11 9 1_800_005 (key.Index small.a) 5 27 files.symbols) (lit< tt) tt,
+            (
+              reads (in_range 12 9 1_800_006 (key.Index small.a) 123 30 files.table) (lit< tt) tt,
+              (
+                reads (in_range 13 9 1_800_007 (key.Index small.a) 68 32 files.lists) (lit< tt) tt,
+                (
+                  reads (in_range 14 9 1_800_008 (key.Index small.a) 32 16 files.series) (lit< tt) tt,
+                  (reads (in_range 15 9 1_800_009 (key.Segment small.a 1) 8 4096 files.chunk) (lit< tt) tt, tt),
+                ),
+              ),
+            ),
+          ),
+        ),
       ),
     ),
   );
@@ -137,11 +157,11 @@ phases = inr (
 kept : IsJournal 1 other.journal
 kept = record {
   few = lit≤ tt;
-  numbered = each_of (λ before e. e.seq ≡ length before + 1) other.journal (refl, (refl, (refl, (refl, (refl, (refl, (refl, (refl, (refl, (refl, (refl, tt)))))))))));
-  lawful = each_of (λ before e. IsLawful e.op) other.journal (lit< tt, (tt, ((lit≤ tt, lit≤ tt), (tt, (tt, (lit< tt, (lit≤ tt, (tt, (tt, (tt, ((lit≤ tt, lit≤ tt), tt)))))))))));
-  kinds = each_of (λ before e. IsReplyTo e.op e.reply) other.journal (tt, (tt, (tt, (tt, (tt, (tt, (tt, (tt, (tt, (tt, (tt, tt)))))))))));
-  moments = each_of (λ before e. e.moment.ms ≡ moment_after 1 (last_moment before) e.op) other.journal (refl, (refl, (refl, (refl, (refl, (refl, (refl, (refl, (refl, (refl, (refl, tt)))))))))));
-  small = each_of (λ before e. e.moment.ms < 2 ^ 48) other.journal (lit< tt, (lit< tt, (lit< tt, (lit< tt, (lit< tt, (lit< tt, (lit< tt, (lit< tt, (lit< tt, (lit< tt, (lit< tt, tt)))))))))));
+  numbered = each_of (λ before e. e.seq ≡ length before + 1) other.journal (refl, (refl, (refl, (refl, (refl, (refl, (refl, (refl, (refl, (refl, (refl, (refl, (refl, (refl, (refl, tt)))))))))))))));
+  lawful = each_of (λ before e. IsLawful e.op) other.journal (lit< tt, (tt, ((lit≤ tt, lit≤ tt), (tt, (tt, (lit< tt, (lit≤ tt, (tt, (tt, (tt, (tt, (tt, (tt, (tt, ((lit≤ tt, lit≤ tt), tt)))))))))))))));
+  kinds = each_of (λ before e. IsReplyTo e.op e.reply) other.journal (tt, (tt, (tt, (tt, (tt, (tt, (tt, (tt, (tt, (tt, (tt, (tt, (tt, (tt, (tt, tt)))))))))))))));
+  moments = each_of (λ before e. e.moment.ms ≡ moment_after 1 (last_moment before) e.op) other.journal (refl, (refl, (refl, (refl, (refl, (refl, (refl, (refl, (refl, (refl, (refl, (refl, (refl, (refl, (refl, tt)))))))))))))));
+  small = each_of (λ before e. e.moment.ms < 2 ^ 48) other.journal (lit< tt, (lit< tt, (lit< tt, (lit< tt, (lit< tt, (lit< tt, (lit< tt, (lit< tt, (lit< tt, (lit< tt, (lit< tt, (lit< tt, (lit< tt, (lit< tt, (lit< tt, tt)))))))))))))));
 }
 
 pub acts : IsActing one.setting other.journal
@@ -174,20 +194,37 @@ view_is = record {
   last = refl;
 }
 
-rising : AllPairs (λ (e x : Entry). e.seq < x.seq) other.query
-rising zero zero d less inside = absurd (omega (arith, less))
-rising zero (suc zero) d less inside = lit< tt
-rising zero (suc (suc j)) d less inside = absurd (omega (arith, inside))
-rising (suc i) zero d less inside = absurd (omega (arith, less))
-rising (suc i) (suc zero) d less inside = absurd (omega (arith, less))
-rising (suc i) (suc (suc j)) d less inside = absurd (omega (arith, inside))
+-- the numbers rise, from above this one on
+abbrev RiseFrom : ℕ → List Entry → Type 0
+RiseFrom least [] = Unit {0}
+RiseFrom least (e ∷ entries) = (least < e.seq) × RiseFrom e.seq entries
+
+abbrev IsBefore : Entry → Entry → Type 0
+IsBefore e x = e.seq < x.seq
+
+rises : (least : ℕ) (entries : List Entry) → RiseFrom least entries → All (λ (e : Entry). least < e.seq) entries × AllPairs IsBefore entries
+rises least [] rise = (All-nil (λ (e : Entry). least < e.seq), λ i j d less inside. absurd (omega (arith, inside)))
+rises least (e ∷ entries) rise =
+    let later = rises e.seq entries rise.1 in (
+      All-cons (λ (x : Entry). least < x.seq) e entries rise.0 (All-weaker (λ (x : Entry). e.seq < x.seq) (λ (x : Entry). least < x.seq) (λ x above. omega (arith, rise.0, above)) entries later.0),
+      AllPairs-cons IsBefore e entries later.0 later.1,
+    )
+
+made_later : RiseFrom 9 other.query
+made_later = (lit< tt, (lit< tt, (lit< tt, (lit< tt, (lit< tt, (lit< tt, tt))))))
 
 pub call_is : IsCallIn other.journal one.used other.question other.query (Some other.answer)
 call_is = record {
   among = λ e own. Contains-append_right (clock 1 0 ∷ one.upload ++ clock 6 1_800_000 ∷ one.sync) other.query e own;
-  rising = rising;
-  later = All-from_recursion (λ (e : Entry). 9 < e.seq) other.query (lit< tt, (lit< tt, tt));
-  run = query_run one.selector merge_up 7 1_800_001 1_800_003 1_800_002 1_800_003 10 9 1_800_004;
+  rising = (rises 9 other.query made_later).1;
+  later = (rises 9 other.query made_later).0;
+  cache = empty_cache;
+  earlier = [];
+  known = All-nil (λ (one : Entry). Contains other.journal one × All (λ (e : Entry). one.seq < e.seq) other.query);
+  cached = All-nil (λ (kept : Range × List ℕ). IsReadIn [] kept.0 kept.1);
+  own = Some (answer left);
+  run = call_run one.selector (pos 5000) refl refl up_asked 7 1_800_001 1_800_003 1_800_002 1_800_003 10 9 1_800_004;
+  is = refl;
 }
 
 -- ---- the rule on views
@@ -207,9 +244,9 @@ only_seat : (own worker : Worker) (seat : ℕ) → own.seat < seat → Contains 
 only_seat own worker seat above among is = omega (arith, ap (λ (w : Worker). w.seat) (only_member own worker among), is, above)
 
 not_seated : (gateway : ℕ) → ¬ IsSeatOf idle gateway 9
-not_seated gateway (zero, worker, among, own, is) = only_seat uploader worker 9 (lit< tt) (subst (λ (ws : List Worker). Contains ws worker) idle_first among) is
+not_seated _ (zero, worker, among, own, is) = only_seat uploader worker 9 (lit< tt) (subst (λ (ws : List Worker). Contains ws worker) idle_first among) is
 not_seated own (suc zero, worker, among, is_own, is) = only_seat gateway worker 9 (lit< tt) (subst (λ (ws : List Worker). Contains ws worker) idle_second among) is
-not_seated gateway (suc (suc number), worker, among, own, is) = no_member worker among
+not_seated _ (suc (suc number), worker, among, own, is) = no_member worker among
 
 pub unwatched_keeps : (before : List Entry) (x y : ℕ) → ¬ Refuses idle other.journal view_time before other.first_read x y
 unwatched_keeps before x y (view, (gateway, (sits, reads), has), over) = not_seated gateway sits

@@ -30,7 +30,7 @@ use Rattle.world_core.specs.Worlds.{IsJournal}
 use Rattle.world_core.specs.declared.entry.Entry.{Entry}
 use Rattle.shipper.specs.declared.upload_end.UploadEnd.TheVariants as shipped
 use Rattle.meta_fetcher.specs.declared.sync_end.SyncEnd.TheVariants as fetched
-use Rattle.store_gateway.specs.declared.series_end.SeriesEnd.TheVariants as called
+use Rattle.series_calls.specs.declared.series_end.SeriesEnd.TheVariants as called
 use Rattle.script_workers.specs.Hands.{hands_of_task, with_hands, hands_from, places_from, workers_from, seats_from}
 use Rattle.script_core.specs.Workers.{workers_of}
 use Rattle.script_workers.specs.declared.work.Work.TheVariants as works
@@ -45,12 +45,13 @@ use Rattle.lifecycle_core.specs.Ways.{PhasesRun}
 use Rattle.tests_worked.specs.Entries.{clock, stored, found, absent, listed}
 use Rattle.tests_worked.specs.SmallBlock as small
 use Rattle.tests_worked.specs.SideBySide as side
-use Rattle.tests_worked.proofs.Bucket.{segment_key, index_key, meta_key, mark_key, one_folder, page_of, segment_folder}
-use Rattle.tests_worked.proofs.Bytes.{meta_is}
+use Rattle.tests_worked.proofs.Bucket.{segment_key, index_key, meta_key, mark_key, one_folder, page_of, query_told, segment_folder}
+use Rattle.tests_worked.proofs.SmallMeta.{meta_is}
 use Rattle.tests_worked.proofs.Each.{each_of, by_workers_alone}
 use Rattle.list_core.proofs.Membership.{only_member}
-use Rattle.tests_worked.proofs.SmallTasks.{upload_task_by, sync_run_by, merge_all, merge_given, query_run}
-use Rattle.tests_worked.proofs.YoungBlock.{with, kept_else, holding}
+use Rattle.tests_worked.proofs.SmallCalls.{all_asked, called_by, merge_given, query_task, synced_by}
+use Rattle.tests_worked.proofs.SmallTasks.{upload_task_by, sync_run_by}
+use Rattle.tests_worked.proofs.YoungBlock.{with_held, kept_else}
 
 -- ---- the workers and their tasks
 
@@ -93,26 +94,26 @@ upload =
     ∷ stored 10 2 9 (key.Meta small.a) small.meta
     ∷ []
 
-gateway_run : WorkerRun (by_script side.setting) side.tasks none_held side.made (with side.used) gateway gateway_ends
+gateway_run : WorkerRun (by_script side.setting) side.tasks none_held side.made (with_held (called_by side.used)) gateway gateway_ends
 gateway_run = record {
   own = record { place = 0; task = record { line = 8; work = works.Sync 0 } } ∷ record { place = 1; task = record { line = 9; work = works.Query (pos 0) (pos 5000) 0 } } ∷ [];
   are = ((refl, refl), ((refl, refl), refl));
-  last = holding side.used;
+  last = called_by side.used;
   runs = inl (
     sync,
     side.query,
     synced (fetched.View side.view),
     answer ∷ [],
-    holding side.used,
+    synced_by side.used,
     refl,
     (Some (fetched.View side.view), sync_run_by (minutes 0) (hours 24) 1 4 3 11 10 12 11 (Some (small.found 10 11)) refl, refl, refl),
     refl,
-    inl (side.query, [], answer, [], holding side.used, refl, ((Some (called.Answer (small.up ∷ []) (small.a ∷ [])), query_run [] merge_all 4 3 11 10 11 13 1 12, refl), refl), refl, (refl, refl, refl)),
+    inl (side.query, [], answer, [], called_by side.used, refl, query_task [] all_asked 4 3 11 10 11 12 13 1 12, refl, (refl, refl, refl)),
   );
-  leaves = λ other is. let same : 0 ≡ other = cc in subst (λ (x : ℕ). with side.used x ≡ holding side.used) same refl;
+  leaves = λ other is. let same : 0 ≡ other = cc in subst (λ (x : ℕ). with_held (called_by side.used) x ≡ called_by side.used) same refl;
 }
 
-upload_run : WorkerRun (by_script side.setting) side.tasks none_held side.made (with side.used) uploader upload_ends
+upload_run : WorkerRun (by_script side.setting) side.tasks none_held side.made (with_held (called_by side.used)) uploader upload_ends
 upload_run = record {
   own = record { place = 2; task = record { line = 10; work = works.Upload small.a None } } ∷ [];
   are = ((refl, refl), refl);
@@ -125,7 +126,7 @@ other_text : meta_text (fields_of (small.said_of side.b)) ≡ side.other_meta
 unfolding side.other_meta
 other_text = refl
 
-other_run : WorkerRun (by_script side.setting) side.tasks none_held side.made (with side.used) other_uploader upload_ends
+other_run : WorkerRun (by_script side.setting) side.tasks none_held side.made (with_held (called_by side.used)) other_uploader upload_ends
 other_run = record {
   own = record { place = 3; task = record { line = 11; work = works.Upload side.b None } } ∷ [];
   are = ((refl, refl), refl);
@@ -151,12 +152,12 @@ by_upload = (1, lit< tt, refl)
 by_other : Contains all_seats 3
 by_other = (2, lit< tt, refl)
 
-phase : PhaseRun (by_script side.setting) side.tasks workers none_held side.made phase_ends (with side.used)
+phase : PhaseRun (by_script side.setting) side.tasks workers none_held side.made phase_ends (with_held (called_by side.used))
 phase = record {
   seats = by_workers_alone all_seats side.made (All-from_recursion IsSeat side.made
-      (by_upload, (by_upload, (by_gateway, (by_other, (by_other, (by_other, (by_other, (by_upload, (by_upload, (by_gateway, (by_gateway, (by_gateway, (by_gateway, tt))))))))))))));
+      (by_upload, (by_upload, (by_gateway, (by_other, (by_other, (by_other, (by_other, (by_upload, (by_upload, (by_gateway, (by_gateway, (by_gateway, (by_gateway, (by_gateway, (by_gateway, (by_gateway, (by_gateway, tt))))))))))))))))));
   runs = (gateway_run, (upload_run, (other_run, tt)));
-  kept = λ other differ. kept_else side.used none_held (λ o. refl) other (All-head (λ (w : Worker). w.gateway ≢ Some other) gateway (uploader ∷ other_uploader ∷ []) differ);
+  kept = λ other differ. kept_else (called_by side.used) none_held (λ o. refl) other (All-head (λ (w : Worker). w.gateway ≢ Some other) gateway (uploader ∷ other_uploader ∷ []) differ);
 }
 
 phases : PhasesRun (by_workers side.setting) 0 none_held side.script.phases side.journal side.ends
@@ -166,10 +167,10 @@ phases = inr (
   [],
   phase_ends,
   [],
-  with side.used,
+  with_held (called_by side.used),
   refl,
   record { seat = refl; sets = refl },
-  subst (λ (ws : List Worker). PhaseRun (by_script side.setting) side.tasks ws none_held side.made phase_ends (with side.used)) (sym workers_are) phase,
+  subst (λ (ws : List Worker). PhaseRun (by_script side.setting) side.tasks ws none_held side.made phase_ends (with_held (called_by side.used))) (sym workers_are) phase,
   refl,
   (refl, refl),
 )
@@ -177,11 +178,11 @@ phases = inr (
 kept : IsJournal 1 side.journal
 kept = record {
   few = lit≤ tt;
-  numbered = each_of (λ before e. e.seq ≡ length before + 1) side.journal (refl, (refl, (refl, (refl, (refl, (refl, (refl, (refl, (refl, (refl, (refl, (refl, (refl, (refl, tt))))))))))))));
-  lawful = each_of (λ before e. IsLawful e.op) side.journal (lit< tt, (tt, ((lit≤ tt, lit≤ tt), (lit≤ tt, (tt, ((lit≤ tt, lit≤ tt), (tt, (tt, (tt, (tt, (tt, (tt, (tt, ((lit≤ tt, lit≤ tt), tt))))))))))))));
-  kinds = each_of (λ before e. IsReplyTo e.op e.reply) side.journal (tt, (tt, (tt, (tt, (tt, (tt, (tt, (tt, (tt, (tt, (tt, (tt, (tt, (tt, tt))))))))))))));
-  moments = each_of (λ before e. e.moment.ms ≡ moment_after 1 (last_moment before) e.op) side.journal (refl, (refl, (refl, (refl, (refl, (refl, (refl, (refl, (refl, (refl, (refl, (refl, (refl, (refl, tt))))))))))))));
-  small = each_of (λ before e. e.moment.ms < 2 ^ 48) side.journal (lit< tt, (lit< tt, (lit< tt, (lit< tt, (lit< tt, (lit< tt, (lit< tt, (lit< tt, (lit< tt, (lit< tt, (lit< tt, (lit< tt, (lit< tt, (lit< tt, tt))))))))))))));
+  numbered = each_of (λ before e. e.seq ≡ length before + 1) side.journal (refl, (refl, (refl, (refl, (refl, (refl, (refl, (refl, (refl, (refl, (refl, (refl, (refl, (refl, (refl, (refl, (refl, (refl, tt))))))))))))))))));
+  lawful = each_of (λ before e. IsLawful e.op) side.journal (lit< tt, (tt, ((lit≤ tt, lit≤ tt), (lit≤ tt, (tt, ((lit≤ tt, lit≤ tt), (tt, (tt, (tt, (tt, (tt, (tt, (tt, (tt, (tt, (tt, (tt, ((lit≤ tt, lit≤ tt), tt))))))))))))))))));
+  kinds = each_of (λ before e. IsReplyTo e.op e.reply) side.journal (tt, (tt, (tt, (tt, (tt, (tt, (tt, (tt, (tt, (tt, (tt, (tt, (tt, (tt, (tt, (tt, (tt, (tt, tt))))))))))))))))));
+  moments = each_of (λ before e. e.moment.ms ≡ moment_after 1 (last_moment before) e.op) side.journal (refl, (refl, (refl, (refl, (refl, (refl, (refl, (refl, (refl, (refl, (refl, (refl, (refl, (refl, (refl, (refl, (refl, (refl, tt))))))))))))))))));
+  small = each_of (λ before e. e.moment.ms < 2 ^ 48) side.journal (lit< tt, (lit< tt, (lit< tt, (lit< tt, (lit< tt, (lit< tt, (lit< tt, (lit< tt, (lit< tt, (lit< tt, (lit< tt, (lit< tt, (lit< tt, (lit< tt, (lit< tt, (lit< tt, (lit< tt, (lit< tt, tt))))))))))))))))));
 }
 
 pub run : IsRunOf side.setting side.journal side.ends
@@ -241,7 +242,7 @@ both_segment = rw (meta_key, index_key, segment_key, other_meta_key, other_index
 
 pub honest : IsHonest side.journal
 honest = each_of (λ before e. Tells (stands before) e.op e.reply) side.journal
-    (tt, (refl, (tt, (segment_page, (no_other, (tt, (tt, (tt, (tt, (tt, (both_mark, (both_meta, (both_index, (both_segment, tt))))))))))))))
+    (tt, (refl, (tt, (segment_page, (no_other, (tt, (tt, (tt, (tt, (tt, (both_mark, (both_meta, query_told both both_index both_segment 13 1 12))))))))))))
 
 -- ---- the query
 
@@ -278,31 +279,7 @@ abbrev IsLate : Entry → Type 0
 IsLate e = PutsMeta small.a e → 10 ≤ e.seq
 
 all_late : All IsLate side.journal
-all_late = All-from_recursion IsLate side.journal (
-  λ p. absurd (cc (p.1)),
-  (
-    λ p. absurd (cc (p.1)),
-    (
-      λ p. absurd (cc (p.1)),
-      (
-        λ p. absurd (cc (p.1)),
-        (
-          λ p. absurd (cc (p.1)),
-          (
-            λ p. absurd (cc (p.1)),
-            (
-              λ p. absurd (cc (p.1)),
-              (
-                λ p. let same : key.Meta side.b ≡ key.Meta small.a = cc (p.1) in absurd (omega (arith, ap key_ulid same)),
-                (λ p. absurd (cc (p.1)), (λ p. lit≤ tt, (λ p. absurd (cc (p.1)), (λ p. absurd (cc (p.1)), (λ p. absurd (cc (p.1)), (λ p. absurd (cc (p.1)), tt)))))),
-              ),
-            ),
-          ),
-        ),
-      ),
-    ),
-  ),
-)
+all_late = All-from_recursion IsLate side.journal (λ p. absurd (cc (p.1)), (λ p. absurd (cc (p.1)), (λ p. absurd (cc (p.1)), (λ p. absurd (cc (p.1)), (λ p. absurd (cc (p.1)), (λ p. absurd (cc (p.1)), (λ p. absurd (cc (p.1)), (λ p. let same : key.Meta side.b ≡ key.Meta small.a = cc (p.1) in absurd (omega (arith, ap key_ulid same)), (λ p. absurd (cc (p.1)), (λ p. lit≤ tt, (λ p. absurd (cc (p.1)), (λ p. absurd (cc (p.1)), (λ p. absurd (cc (p.1)), (λ p. absurd (cc (p.1)), (λ p. absurd (cc (p.1)), (λ p. absurd (cc (p.1)), (λ p. absurd (cc (p.1)), (λ p. absurd (cc (p.1)), tt))))))))))))))))))
 
 completed_late : (seq : ℕ) (meta : MetaFields) → IsCompletedAt side.journal small.a seq meta → 10 ≤ seq
 completed_late seq meta done =

@@ -1,12 +1,11 @@
 -- How the tasks of small scripts come out, by their ends.
-use Rattle.std.proofs.Common.{◌≡◌, ℕ, ℤ, List, [], ◌∷◌, length, Option, refl, sym, ap}
+use Rattle.std.proofs.Common.{◌≡◌, ℕ, ℤ, [], ◌∷◌, length, Option, refl, sym, ap}
 use Rattle.label_sets.specs.Triples.{triples_of}
 use Rattle.shipper.specs.declared.upload_end.UploadEnd.TheVariants as shipped
 use Rattle.meta_fetcher.specs.declared.sync_end.SyncEnd.TheVariants as fetched
 use Rattle.meta_fetcher.specs.declared.view.View.{View}
-use Rattle.store_gateway.specs.declared.series_end.SeriesEnd.TheVariants as called
+use Rattle.series_calls.specs.declared.series_end.SeriesEnd.TheVariants as called
 use Rattle.querier.specs.declared.answer.Answer.{Answer}
-use Rattle.querier.specs.declared.answer.Names.{Names}
 use Rattle.script_workers.specs.declared.work.Work.TheVariants as works
 use Rattle.lifecycle_core.specs.Holdings.{Use}
 use Rattle.lifecycle_core.specs.Tasks.{answered, synced, uploaded}
@@ -20,7 +19,7 @@ use Rattle.script_running.specs.declared.outcome.UploadOutcome.TheVariants as up
 use Rattle.script_running.specs.declared.part.Part.TheVariants as part
 use Rattle.script_running.specs.declared.part.QueryPart.TheVariants as given
 use Rattle.tests_worked.specs.SmallBlock as small
-use Rattle.tests_worked.proofs.SmallTasks.{merge_given}
+use Rattle.tests_worked.proofs.SmallCalls.{merge_given}
 
 -- the answer of one gateway that shows the small block, and of one that shows none
 abbrev pub small_answer : Answer

@@ -29,7 +29,7 @@ use Rattle.tests_worked.specs.SmallBlock as small
 use Rattle.tests_worked.specs.OneBlock as one
 use Rattle.tests_worked.specs.SpoiledMeta as spoilt
 use Rattle.tests_worked.proofs.Bucket.{shows_meta}
-use Rattle.tests_worked.proofs.Bytes.{a_reads}
+use Rattle.tests_worked.proofs.SmallMeta.{a_reads}
 use Rattle.tests_worked.proofs.Each.{each_of, by_workers_alone}
 use Rattle.tests_worked.proofs.OneBlock.{first_done, first_ends, first_phase, first_tasks, first_workers, gateway, second_own, second_tasks, second_workers}
 use Rattle.tests_worked.proofs.OneUnbroken.{front, front_is_kept}

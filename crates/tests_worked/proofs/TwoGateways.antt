@@ -9,19 +9,13 @@ use Rattle.reading_core.specs.Decimal.{decimal_text, signed_text}
 use Rattle.ulid_core.specs.FixedDigits.{fixed_digits}
 use Rattle.ulid_core.specs.UlidText.{text_of, character, alphabet}
 use Rattle.label_sets.specs.Counts.{sample_count}
-use Rattle.label_sets.specs.Finals.{is_among, without, final_of}
-use Rattle.label_sets.specs.Labels.{value_of}
 use Rattle.label_sets.specs.Notation.{quoted_byte, quoted, pair_text, comma_pair_text, pairs_text, set_text}
-use Rattle.label_sets.specs.Ordered.{in_order, placed}
 use Rattle.label_sets.specs.SampleText.{hex_sign, hex_text, pattern_text, timed_text, sample_text, spaced_sample_text, series_text}
 use Rattle.label_sets.specs.Triples.{triples_under, triples_of, has_same_key}
 use Rattle.label_sets.specs.declared.series.Series.{Series}
-use Rattle.block_keys.specs.declared.key.Key.TheVariants as key
 use Rattle.block_meta.specs.MetaFields.{fields_of}
 use Rattle.block_meta.specs.OfBlocks.{block_meta}
 use Rattle.moment_core.specs.StandardRules.{minutes, hours}
-use Rattle.matchers.specs.Selected.{is_selected, selected}
-use Rattle.matchers.specs.Selectors.{is_match, accepts, is_accepted, value_or_empty}
 use Rattle.vertical_merge.specs.Merged.{IsMerge}
 use Rattle.sync_filters.specs.declared.found.Found.{Found}
 use Rattle.meta_fetcher.specs.Sightings.{sighting_of}
@@ -30,8 +24,7 @@ use Rattle.meta_fetcher.specs.declared.rules.SyncRules.{SyncRules}
 use Rattle.meta_fetcher.proofs.Ascending.{kept_ascend}
 use Rattle.meta_fetcher.specs.declared.sync_end.SyncEnd.TheVariants as fetched
 use Rattle.shipper.specs.declared.upload_end.UploadEnd.TheVariants as shipped
-use Rattle.store_gateway.specs.SeriesRuns.{Query, took, wanted, seen_under, IsSetOf, SeriesRun}
-use Rattle.store_gateway.specs.declared.series_end.SeriesEnd.TheVariants as called
+use Rattle.series_calls.specs.SeriesCalls.{asking}
 use Rattle.querier.specs.declared.ask.Ask.{Ask}
 use Rattle.world_core.specs.Moments.{moment_after, last_moment}
 use Rattle.world_core.specs.Operations.{IsLawful, IsReplyTo}
@@ -45,12 +38,11 @@ use Rattle.script_workers.specs.declared.phase.Phase.{Phase}
 use Rattle.script_workers.specs.declared.task.Task.{Task}
 use Rattle.script_workers.specs.declared.work.Work.TheVariants as works
 use Rattle.script_workers.specs.declared.worker.Worker.{Worker}
-use Rattle.lifecycle_core.proofs.blocks.SegmentsAgain.{segment_once}
 use Rattle.lifecycle_core.specs.Conducts.{Assigned, CameTo, PhaseRun, WorkerRun}
 use Rattle.lifecycle_core.specs.Guarantees.{IsGiven}
-use Rattle.lifecycle_core.specs.Holdings.{Holding, Holdings, Use, none_held, nothing_held}
+use Rattle.lifecycle_core.specs.Holdings.{Holdings, none_held, nothing_held}
 use Rattle.lifecycle_core.specs.Phases.{IsRunOf, by_script, by_workers}
-use Rattle.lifecycle_core.specs.Tasks.{End, asks_in, synced, uploaded}
+use Rattle.lifecycle_core.specs.Tasks.{End, QueryTask, asks_in, synced, uploaded}
 use Rattle.lifecycle_core.specs.Ways.{PhasesRun}
 use Rattle.script_running.specs.Outcomes.{IsOutcome, PhasesCame, TasksCame}
 use Rattle.script_running.specs.declared.outcome.Outcome.{Outcome}
@@ -67,11 +59,12 @@ use Rattle.tests_worked.specs.OneBlock as one
 use Rattle.tests_worked.specs.SmallBlock as small
 use Rattle.tests_worked.specs.SmallRuns as runs
 use Rattle.tests_worked.specs.TwoGateways as two
-use Rattle.tests_worked.proofs.Bucket.{page, shows_index, shows_meta, shows_no_mark, shows_segment}
-use Rattle.tests_worked.proofs.Bytes.{a_reads, meta_reads, segment_reads}
-use Rattle.tests_worked.proofs.Each.{each_of, by_workers_alone}
+use Rattle.tests_worked.proofs.Bucket.{full, page, query_told, shows_index, shows_meta, shows_no_mark, shows_segment}
+use Rattle.tests_worked.proofs.SmallMeta.{a_reads, meta_reads}
+use Rattle.tests_worked.proofs.Each.{each_after, each_of, by_workers_alone}
 use Rattle.tests_worked.proofs.SmallOutcomes.{small_answer, sync_out, upload_out}
-use Rattle.tests_worked.proofs.SmallTasks.{merge_up, query_run, sync_run, upload_task}
+use Rattle.tests_worked.proofs.SmallCalls.{answer, call_run, called_by, left, query_task as query_by, synced_by, up_asked}
+use Rattle.tests_worked.proofs.SmallTasks.{sync_run, upload_task}
 
 -- ---- the tasks of the gateway that has a partition
 
@@ -110,29 +103,9 @@ sync_by_h = (
   ),
 )
 
--- what it is asked
-abbrev question : Query
-question = record { selector = one.selector; replicas = []; low = pos 0; high = pos 1500 }
-
-merge_early : IsMerge (wanted question [] (small.up ∷ [])) (small.up ∷ [])
-unfolding wanted seen_under selected is_selected is_match accepts is_accepted value_or_empty value_of final_of without is_among in_order placed triples_of triples_under IsStrictlySortedBy
-merge_early = record {
-  ascending = (tt, tt);
-  inhabited = All-cons (λ s. s.samples ≢ []) small.up [] (λ none. cc) (All-nil (λ (s : Series). s.samples ≢ []));
-  first = record {
-    ascending = (tt, tt);
-    first = All-from_recursion (λ u. find (has_same_key u) (small.triple ∷ []) ≡ Some u) (small.triple ∷ []) (refl, tt);
-    complete = All-from_recursion (λ u. list_any (has_same_key u) (small.triple ∷ []) ≡ true) (small.triple ∷ []) (refl, tt);
-  };
-}
-
-one_source : IsSetOf (small.a ∷ []) (small.a ∷ [])
-one_source = record { increasing = λ k more. omega (arith, more); members = λ x. (λ h. h, λ h. h) }
-
-query_by_h : SeriesRun two.used_by_h.view question (runs.query 15 3 1_800_009) (Some (called.Answer (small.up ∷ []) (small.a ∷ [])))
-unfolding small.index
-query_by_h =
-    (took _, (refl, (refl, inr (Some (small.up ∷ []), (segment_reads, λ other is. segment_once _ other (small.up ∷ []) is segment_reads), (refl, inr refl)))), (small.up ∷ [], small.a ∷ [], refl, merge_early, one_source))
+-- its query, for the times that lie in its partition
+query_by_h : QueryTask (Some two.used_by_h) (Some (asking one.selector [] (pos 0) (pos 1500))) (synced_by two.used_by_h) (runs.query 19 3 1_800_013) (Some (two.answer_by two.used_by_h)) (called_by two.used_by_h)
+query_by_h = (Some (answer left), call_run one.selector (pos 1500) refl refl up_asked 10 1_800_004 1_800_006 1_800_005 1_800_006 19 3 1_800_013, refl, refl)
 
 -- ---- the workers
 
@@ -159,13 +132,10 @@ first_ends = (uploaded (shipped.Done 3) ∷ []) ∷ []
 abbrev second_ends : List (List End)
 second_ends = two.ends_by two.used_by_g ∷ two.ends_by two.used_by_h ∷ []
 
-abbrev holding : Use → Holding
-holding used = record { used = Some used }
-
--- the views after the syncs
+-- what the gateways hold after their queries
 abbrev views : Holdings
-views zero = holding two.used_by_g
-views (suc zero) = holding two.used_by_h
+views zero = called_by two.used_by_g
+views (suc zero) = called_by two.used_by_h
 views (suc (suc other)) = nothing_held
 
 kept_else : (other : ℕ) → Some 0 ≢ Some other → Some 1 ≢ Some other → views other ≡ nothing_held
@@ -199,13 +169,13 @@ run_of_g : WorkerRun (by_script two.setting) two.second_tasks none_held two.made
 run_of_g = record {
   own = at 0 (record { line = 8; work = works.Sync 0 }) ∷ at 2 query_task ∷ [];
   are = ((refl, refl), ((refl, refl), refl));
-  last = holding two.used_by_g;
+  last = called_by two.used_by_g;
   runs = inl (
     runs.sync 7 2 1_800_001,
     runs.query 13 2 1_800_007,
     synced (fetched.View two.used_by_g.view),
     two.answer_by two.used_by_g ∷ [],
-    holding two.used_by_g,
+    synced_by two.used_by_g,
     refl,
     (Some (fetched.View two.used_by_g.view), sync_run 7 2 1_800_001 (Some (runs.seen 1_800_001)) refl, refl, refl),
     refl,
@@ -214,49 +184,49 @@ run_of_g = record {
       [],
       two.answer_by two.used_by_g,
       [],
-      holding two.used_by_g,
+      called_by two.used_by_g,
       refl,
-      ((Some (called.Answer (small.up ∷ []) (small.a ∷ [])), query_run one.selector merge_up 7 1_800_001 1_800_003 1_800_002 1_800_003 13 2 1_800_007, refl), refl),
+      query_by one.selector up_asked 7 1_800_001 1_800_003 1_800_002 1_800_003 9 13 2 1_800_007,
       refl,
       (refl, refl, refl),
     ),
   );
-  leaves = λ other is. let same : 0 ≡ other = cc in subst (λ (x : ℕ). views x ≡ holding two.used_by_g) same refl;
+  leaves = λ other is. let same : 0 ≡ other = cc in subst (λ (x : ℕ). views x ≡ called_by two.used_by_g) same refl;
 }
 
 run_of_h : WorkerRun (by_script two.setting) two.second_tasks none_held two.made views h (two.ends_by two.used_by_h)
 run_of_h = record {
   own = at 1 (record { line = 9; work = works.Sync 1 }) ∷ at 2 query_task ∷ [];
   are = ((refl, refl), ((refl, refl), refl));
-  last = holding two.used_by_h;
+  last = called_by two.used_by_h;
   runs = inl (
     runs.sync 10 3 1_800_004,
-    runs.query 15 3 1_800_009,
+    runs.query 19 3 1_800_013,
     synced (fetched.View two.used_by_h.view),
     two.answer_by two.used_by_h ∷ [],
-    holding two.used_by_h,
+    synced_by two.used_by_h,
     refl,
     (Some (fetched.View two.used_by_h.view), sync_by_h, refl, refl),
     refl,
     inl (
-      runs.query 15 3 1_800_009,
+      runs.query 19 3 1_800_013,
       [],
       two.answer_by two.used_by_h,
       [],
-      holding two.used_by_h,
+      called_by two.used_by_h,
       refl,
-      ((Some (called.Answer (small.up ∷ []) (small.a ∷ [])), query_by_h, refl), refl),
+      query_by_h,
       refl,
       (refl, refl, refl),
     ),
   );
-  leaves = λ other is. let same : 1 ≡ other = cc in subst (λ (x : ℕ). views x ≡ holding two.used_by_h) same refl;
+  leaves = λ other is. let same : 1 ≡ other = cc in subst (λ (x : ℕ). views x ≡ called_by two.used_by_h) same refl;
 }
 
 second_phase : PhaseRun (by_script two.setting) two.second_tasks (g ∷ h ∷ []) none_held two.made second_ends views
 second_phase = record {
   seats = by_workers_alone (2 ∷ 3 ∷ []) two.made (All-from_recursion (λ (e : Entry). Contains (2 ∷ 3 ∷ []) e.seat) two.made
-      ((0, lit< tt, refl), ((0, lit< tt, refl), ((0, lit< tt, refl), ((1, lit< tt, refl), ((1, lit< tt, refl), ((1, lit< tt, refl), ((0, lit< tt, refl), ((0, lit< tt, refl), ((1, lit< tt, refl), ((1, lit< tt, refl), tt)))))))))));
+      ((0, lit< tt, refl), ((0, lit< tt, refl), ((0, lit< tt, refl), ((1, lit< tt, refl), ((1, lit< tt, refl), ((1, lit< tt, refl), ((0, lit< tt, refl), ((0, lit< tt, refl), ((0, lit< tt, refl), ((0, lit< tt, refl), ((0, lit< tt, refl), ((0, lit< tt, refl), ((1, lit< tt, refl), ((1, lit< tt, refl), ((1, lit< tt, refl), ((1, lit< tt, refl), ((1, lit< tt, refl), ((1, lit< tt, refl), tt)))))))))))))))))));
   runs = (run_of_g, (run_of_h, tt));
   kept = λ other differ.
       kept_else other (All-head (λ (w : Worker). w.gateway ≢ Some other) g (h ∷ []) differ)
@@ -293,18 +263,21 @@ phases = inr (
 kept : IsJournal 1 two.journal
 kept = record {
   few = lit≤ tt;
-  numbered = each_of (λ before e. e.seq ≡ length before + 1) two.journal (refl, (refl, (refl, (refl, (refl, (refl, (refl, (refl, (refl, (refl, (refl, (refl, (refl, (refl, (refl, (refl, tt))))))))))))))));
-  lawful = each_of (λ before e. IsLawful e.op) two.journal (lit< tt, (tt, ((lit≤ tt, lit≤ tt), (tt, (tt, (lit< tt, (lit≤ tt, (tt, (tt, (lit≤ tt, (tt, (tt, (tt, ((lit≤ tt, lit≤ tt), (tt, ((lit≤ tt, lit≤ tt), tt))))))))))))))));
-  kinds = each_of (λ before e. IsReplyTo e.op e.reply) two.journal (tt, (tt, (tt, (tt, (tt, (tt, (tt, (tt, (tt, (tt, (tt, (tt, (tt, (tt, (tt, (tt, tt))))))))))))))));
-  moments = each_of (λ before e. e.moment.ms ≡ moment_after 1 (last_moment before) e.op) two.journal (refl, (refl, (refl, (refl, (refl, (refl, (refl, (refl, (refl, (refl, (refl, (refl, (refl, (refl, (refl, (refl, tt))))))))))))))));
-  small = each_of (λ before e. e.moment.ms < 2 ^ 48) two.journal (lit< tt, (lit< tt, (lit< tt, (lit< tt, (lit< tt, (lit< tt, (lit< tt, (lit< tt, (lit< tt, (lit< tt, (lit< tt, (lit< tt, (lit< tt, (lit< tt, (lit< tt, (lit< tt, tt))))))))))))))));
+  numbered = each_of (λ before e. e.seq ≡ length before + 1) two.journal (refl, (refl, (refl, (refl, (refl, (refl, (refl, (refl, (refl, (refl, (refl, (refl, (refl, (refl, (refl, (refl, (refl, (refl, (refl, (refl, (refl, (refl, (refl, (refl, tt))))))))))))))))))))))));
+  lawful = each_of (λ before e. IsLawful e.op) two.journal (lit< tt, (tt, ((lit≤ tt, lit≤ tt), (tt, (tt, (lit< tt, (lit≤ tt, (tt, (tt, (lit≤ tt, (tt, (tt, (tt, (tt, (tt, (tt, (tt, ((lit≤ tt, lit≤ tt), (tt, (tt, (tt, (tt, (tt, ((lit≤ tt, lit≤ tt), tt))))))))))))))))))))))));
+  kinds = each_of (λ before e. IsReplyTo e.op e.reply) two.journal (tt, (tt, (tt, (tt, (tt, (tt, (tt, (tt, (tt, (tt, (tt, (tt, (tt, (tt, (tt, (tt, (tt, (tt, (tt, (tt, (tt, (tt, (tt, (tt, tt))))))))))))))))))))))));
+  moments = each_of (λ before e. e.moment.ms ≡ moment_after 1 (last_moment before) e.op) two.journal (refl, (refl, (refl, (refl, (refl, (refl, (refl, (refl, (refl, (refl, (refl, (refl, (refl, (refl, (refl, (refl, (refl, (refl, (refl, (refl, (refl, (refl, (refl, (refl, tt))))))))))))))))))))))));
+  small = each_of (λ before e. e.moment.ms < 2 ^ 48) two.journal (lit< tt, (lit< tt, (lit< tt, (lit< tt, (lit< tt, (lit< tt, (lit< tt, (lit< tt, (lit< tt, (lit< tt, (lit< tt, (lit< tt, (lit< tt, (lit< tt, (lit< tt, (lit< tt, (lit< tt, (lit< tt, (lit< tt, (lit< tt, (lit< tt, (lit< tt, (lit< tt, (lit< tt, tt))))))))))))))))))))))));
 }
 
 pub run : IsRunOf two.setting two.journal two.ends
 run = record { kept = kept; phases = phases }
 
+abbrev before_queries : List Entry
+before_queries = clock 1 0 ∷ two.upload ++ clock 6 1_800_000 ∷ runs.sync 7 2 1_800_001 ++ runs.sync 10 3 1_800_004
+
 pub honest : IsHonest two.journal
-honest = each_of (λ before e. Tells (stands before) e.op e.reply) two.journal (tt, (refl, (tt, (tt, (tt, (tt, (page, (shows_no_mark, (shows_meta, (page, (shows_no_mark, (shows_meta, (shows_index, (shows_segment, (shows_index, (shows_segment, tt))))))))))))))))
+honest = each_of (λ before e. Tells (stands before) e.op e.reply) two.journal (tt, (refl, (tt, (tt, (tt, (tt, (page, (shows_no_mark, (shows_meta, (page, (shows_no_mark, (shows_meta, each_after (λ before e. Tells (stands before) e.op e.reply) before_queries (runs.query 13 2 1_800_007) (runs.query 19 3 1_800_013) (query_told full shows_index shows_segment 13 2 1_800_007) (query_told full shows_index shows_segment 19 3 1_800_013)))))))))))))
 
 -- ---- the answer
 

@@ -24,8 +24,8 @@ use Rattle.tests_worked.specs.SmallRuns as runs
 use Rattle.tests_worked.specs.Entries.{clock, stored, absent}
 use Rattle.tests_worked.specs.YoungBlock as young
 use Rattle.block_meta.specs.MetaFields.{fields_of}
-use Rattle.tests_worked.proofs.Bytes.{is_meta_text}
-use Rattle.tests_worked.proofs.SmallTasks.{merge_given}
+use Rattle.tests_worked.proofs.SmallMeta.{is_meta_text}
+use Rattle.tests_worked.proofs.SmallCalls.{merge_given}
 use Rattle.lifecycle_core.proofs.answers.Joining.{none_merged}
 use Rattle.tests_worked.proofs.YoungBlock.{first_gateway, uploader, second_gateway, first_workers, second_workers, first_tasks, second_tasks, first_ends, second_ends}
 

@@ -8,7 +8,6 @@ use Rattle.world_core.specs.Worlds.{IsJournal}
 use Rattle.world_core.specs.declared.entry.Entry.{Entry}
 use Rattle.shipper.specs.declared.upload_end.UploadEnd.TheVariants as shipped
 use Rattle.meta_fetcher.specs.declared.sync_end.SyncEnd.TheVariants as fetched
-use Rattle.store_gateway.specs.declared.series_end.SeriesEnd.TheVariants as called
 use Rattle.script_workers.specs.Hands.{hands_of_task, with_hands, hands_from, places_from, workers_from, seats_from}
 use Rattle.script_core.specs.Workers.{workers_of}
 use Rattle.script_workers.specs.declared.task.Task.{Task}
@@ -24,8 +23,9 @@ use Rattle.tests_worked.specs.SmallRuns as runs
 use Rattle.tests_worked.specs.Entries.{clock, listed}
 use Rattle.tests_worked.specs.YoungBlock as young
 use Rattle.tests_worked.proofs.Each.{each_of, by_workers_alone}
-use Rattle.tests_worked.proofs.Bucket.{page, nothing_listed, shows_meta, shows_index, shows_segment, shows_no_mark}
-use Rattle.tests_worked.proofs.SmallTasks.{upload_task, sync_run, empty_sync_run, question, merge_all, query_run, empty_query_run}
+use Rattle.tests_worked.proofs.Bucket.{full, page, nothing_listed, query_told, shows_meta, shows_index, shows_segment, shows_no_mark}
+use Rattle.tests_worked.proofs.SmallCalls.{all_asked, called_by, empty_query_task, query_task, question, synced_by}
+use Rattle.tests_worked.proofs.SmallTasks.{upload_task, sync_run, empty_sync_run}
 
 -- ---- the workers
 
@@ -77,31 +77,28 @@ first_ends used = (synced (fetched.View used.view) ∷ young.no_answer used ∷ 
 abbrev pub second_ends : Use → List (List End)
 second_ends used = (synced (fetched.View used.view) ∷ young.block_answer used ∷ []) ∷ []
 
--- the views after a phase
-abbrev pub holding : Use → Holding
-holding used = record { used = Some used }
-
-abbrev pub with : Use → Holdings
-with used zero = holding used
-with used (suc other) = nothing_held
+-- what gateways hold where the first one holds this
+abbrev pub with_held : Holding → Holdings
+with_held held zero = held
+with_held held (suc other) = nothing_held
 
 -- ---- a phase, by its gateway's run and its upload
 
 abbrev IsSeat : List ℕ → Entry → Type 0
 IsSeat seats e = Contains seats e.seat
 
-pub kept_else : (used : Use) (views : Holdings) → ((other : ℕ) → views (suc other) ≡ nothing_held) → (other : ℕ) → Some 0 ≢ Some other → with used other ≡ views other
-kept_else used views none zero differ = absurd (differ refl)
-kept_else used views none (suc other) differ = sym (none other)
+pub kept_else : (held : Holding) (views : Holdings) → ((other : ℕ) → views (suc other) ≡ nothing_held) → (other : ℕ) → Some 0 ≢ Some other → with_held held other ≡ views other
+kept_else held views none zero differ = absurd (differ refl)
+kept_else held views none (suc other) differ = sym (none other)
 
 first_phase : (made uploads : List Entry) (used : Use) → All (IsSeat (1 ∷ 2 ∷ [])) made
-    → TasksRun (by_script young.setting) (who_of first_gateway) made nothing_held (at 0 sync ∷ at 2 query ∷ []) (of_seat 1 made) (synced (fetched.View used.view) ∷ young.no_answer used ∷ []) (holding used)
+    → TasksRun (by_script young.setting) (who_of first_gateway) made nothing_held (at 0 sync ∷ at 2 query ∷ []) (of_seat 1 made) (synced (fetched.View used.view) ∷ young.no_answer used ∷ []) (synced_by used)
     → of_seat 2 made ≡ uploads → UploadTask young.setting small.a None uploads (Some (uploaded (shipped.Done 3)))
-    → PhaseRun (by_script young.setting) first_tasks (first_gateway ∷ uploader ∷ []) none_held made (first_ends used) (with used)
+    → PhaseRun (by_script young.setting) first_tasks (first_gateway ∷ uploader ∷ []) none_held made (first_ends used) (with_held (synced_by used))
 first_phase made uploads used seats run is own = record {
   seats = by_workers_alone (1 ∷ 2 ∷ []) made seats;
   runs = (
-    record { own = at 0 sync ∷ at 2 query ∷ []; are = ((refl, refl), ((refl, refl), refl)); last = holding used; runs = run; leaves = λ other is. let same : 0 ≡ other = cc in subst (λ (x : ℕ). with used x ≡ holding used) same refl },
+    record { own = at 0 sync ∷ at 2 query ∷ []; are = ((refl, refl), ((refl, refl), refl)); last = synced_by used; runs = run; leaves = λ other is. let same : 0 ≡ other = cc in subst (λ (x : ℕ). with_held (synced_by used) x ≡ synced_by used) same refl },
     (
       record {
         own = at 1 upload ∷ [];
@@ -114,16 +111,16 @@ first_phase made uploads used seats run is own = record {
       tt,
     ),
   );
-  kept = λ other differ. kept_else used none_held (λ o. refl) other (All-head (λ (w : Worker). w.gateway ≢ Some other) first_gateway (uploader ∷ []) differ);
+  kept = λ other differ. kept_else (synced_by used) none_held (λ o. refl) other (All-head (λ (w : Worker). w.gateway ≢ Some other) first_gateway (uploader ∷ []) differ);
 }
 
 second_phase : (made : List Entry) (before used : Use) → All (IsSeat (3 ∷ [])) made
-    → TasksRun (by_script young.setting) (who_of second_gateway) made (holding before) (at 0 second_sync ∷ at 1 second_query ∷ []) (of_seat 3 made) (synced (fetched.View used.view) ∷ young.block_answer used ∷ []) (holding used)
-    → PhaseRun (by_script young.setting) second_tasks (second_gateway ∷ []) (with before) made (second_ends used) (with used)
+    → TasksRun (by_script young.setting) (who_of second_gateway) made (synced_by before) (at 0 second_sync ∷ at 1 second_query ∷ []) (of_seat 3 made) (synced (fetched.View used.view) ∷ young.block_answer used ∷ []) (called_by used)
+    → PhaseRun (by_script young.setting) second_tasks (second_gateway ∷ []) (with_held (synced_by before)) made (second_ends used) (with_held (called_by used))
 second_phase made before used seats run = record {
   seats = by_workers_alone (3 ∷ []) made seats;
-  runs = (record { own = at 0 second_sync ∷ at 1 second_query ∷ []; are = ((refl, refl), ((refl, refl), refl)); last = holding used; runs = run; leaves = λ other is. let same : 0 ≡ other = cc in subst (λ (x : ℕ). with used x ≡ holding used) same refl }, tt);
-  kept = λ other differ. kept_else used (with before) (λ o. refl) other (All-head (λ (w : Worker). w.gateway ≢ Some other) second_gateway [] differ);
+  runs = (record { own = at 0 second_sync ∷ at 1 second_query ∷ []; are = ((refl, refl), ((refl, refl), refl)); last = called_by used; runs = run; leaves = λ other is. let same : 0 ≡ other = cc in subst (λ (x : ℕ). with_held (called_by used) x ≡ called_by used) same refl }, tt);
+  kept = λ other differ. kept_else (called_by used) (with_held (synced_by before)) (λ o. refl) other (All-head (λ (w : Worker). w.gateway ≢ Some other) second_gateway [] differ);
 }
 
 first_done : (used : Use) → AreDone (workers_of young.script 0) (first_ends used)
@@ -133,8 +130,8 @@ second_done : (used : Use) → AreDone (workers_of young.script 1) (second_ends 
 second_done used = ap (map (λ (w : Worker). length w.tasks)) second_workers
 
 both_phases : (seq : ℕ) (first second : List Entry) (early late : Use)
-    → PhaseRun (by_script young.setting) first_tasks (first_gateway ∷ uploader ∷ []) none_held first (first_ends early) (with early)
-    → PhaseRun (by_script young.setting) second_tasks (second_gateway ∷ []) (with early) second (second_ends late) (with late)
+    → PhaseRun (by_script young.setting) first_tasks (first_gateway ∷ uploader ∷ []) none_held first (first_ends early) (with_held (synced_by early))
+    → PhaseRun (by_script young.setting) second_tasks (second_gateway ∷ []) (with_held (synced_by early)) second (second_ends late) (with_held (called_by late))
     → PhasesRun (by_workers young.setting) 0 none_held young.script.phases (clock 1 0 ∷ first ++ clock seq 1_800_000 ∷ second) (young.ends_by early late)
 both_phases seq first second early late one other = inr (
   clock 1 0,
@@ -142,10 +139,10 @@ both_phases seq first second early late one other = inr (
   clock seq 1_800_000 ∷ second,
   first_ends early,
   second_ends late ∷ [],
-  with early,
+  with_held (synced_by early),
   refl,
   record { seat = refl; sets = refl },
-  subst (λ (ws : List Worker). PhaseRun (by_script young.setting) first_tasks ws none_held first (first_ends early) (with early)) (sym first_workers) one,
+  subst (λ (ws : List Worker). PhaseRun (by_script young.setting) first_tasks ws none_held first (first_ends early) (with_held (synced_by early))) (sym first_workers) one,
   refl,
   inr (
     clock seq 1_800_000,
@@ -153,10 +150,10 @@ both_phases seq first second early late one other = inr (
     [],
     second_ends late,
     [],
-    with late,
+    with_held (called_by late),
     ap (λ es. clock seq 1_800_000 ∷ es) (sym (append-nil second)),
     record { seat = refl; sets = refl },
-    subst (λ (ws : List Worker). PhaseRun (by_script young.setting) second_tasks ws (with early) second (second_ends late) (with late)) (sym second_workers) other,
+    subst (λ (ws : List Worker). PhaseRun (by_script young.setting) second_tasks ws (with_held (synced_by early)) second (second_ends late) (with_held (called_by late))) (sym second_workers) other,
     refl,
     (refl, refl),
   ),
@@ -167,7 +164,7 @@ finished early late = (first_done early, (second_done late, refl))
 
 -- ---- in the order of the lines
 
-first_lines : PhaseRun (by_script young.setting) first_tasks (first_gateway ∷ uploader ∷ []) none_held young.first_journal (first_ends young.early) (with young.early)
+first_lines : PhaseRun (by_script young.setting) first_tasks (first_gateway ∷ uploader ∷ []) none_held young.first_journal (first_ends young.early) (with_held (synced_by young.early))
 first_lines = first_phase young.first_journal (runs.upload 3 2 2) young.early
     (All-from_recursion (IsSeat (1 ∷ 2 ∷ [])) young.first_journal ((0, lit< tt, refl), ((1, lit< tt, refl), ((1, lit< tt, refl), ((1, lit< tt, refl), ((1, lit< tt, refl), tt))))))
     (inl (
@@ -175,49 +172,49 @@ first_lines = first_phase young.first_journal (runs.upload 3 2 2) young.early
       [],
       synced (fetched.View young.early.view),
       young.no_answer young.early ∷ [],
-      holding young.early,
+      synced_by young.early,
       refl,
       (Some (fetched.View young.early.view), empty_sync_run 2 1 1, refl, refl),
       refl,
-      inl ([], [], young.no_answer young.early, [], holding young.early, refl, ((Some (called.Answer [] []), empty_query_run young.early.view refl (question []), refl), refl), refl, (refl, refl, refl)),
+      inl ([], [], young.no_answer young.early, [], synced_by young.early, refl, empty_query_task young.early refl (question []), refl, (refl, refl, refl)),
     ))
     refl
     (upload_task young.setting refl 3 2 2)
 
-second_lines : PhaseRun (by_script young.setting) second_tasks (second_gateway ∷ []) (with young.early) young.second_journal (second_ends young.late) (with young.late)
+second_lines : PhaseRun (by_script young.setting) second_tasks (second_gateway ∷ []) (with_held (synced_by young.early)) young.second_journal (second_ends young.late) (with_held (called_by young.late))
 second_lines = second_phase young.second_journal young.early young.late
-    (All-from_recursion (IsSeat (3 ∷ [])) young.second_journal ((0, lit< tt, refl), ((0, lit< tt, refl), ((0, lit< tt, refl), ((0, lit< tt, refl), ((0, lit< tt, refl), tt))))))
+    (All-from_recursion (IsSeat (3 ∷ [])) young.second_journal ((0, lit< tt, refl), ((0, lit< tt, refl), ((0, lit< tt, refl), ((0, lit< tt, refl), ((0, lit< tt, refl), ((0, lit< tt, refl), ((0, lit< tt, refl), ((0, lit< tt, refl), ((0, lit< tt, refl), tt))))))))))
     (inl (
       runs.sync 8 3 1_800_001,
       runs.query 11 3 1_800_004,
       synced (fetched.View young.late.view),
       young.block_answer young.late ∷ [],
-      holding young.late,
+      synced_by young.late,
       refl,
       (Some (fetched.View young.late.view), sync_run 8 3 1_800_001 (Some (runs.seen 1_800_001)) refl, refl, refl),
       refl,
-      inl (runs.query 11 3 1_800_004, [], young.block_answer young.late, [], holding young.late, refl, ((Some (called.Answer (small.up ∷ []) (small.a ∷ [])), query_run [] merge_all 8 1_800_001 1_800_003 1_800_002 1_800_003 11 3 1_800_004, refl), refl), refl, (refl, refl, refl)),
+      inl (runs.query 11 3 1_800_004, [], young.block_answer young.late, [], called_by young.late, refl, query_task [] all_asked 8 1_800_001 1_800_003 1_800_002 1_800_003 10 11 3 1_800_004, refl, (refl, refl, refl)),
     ))
 
 kept : IsJournal 1 young.journal
 kept = record {
   few = lit≤ tt;
-  numbered = each_of (λ before e. e.seq ≡ length before + 1) young.journal (refl, (refl, (refl, (refl, (refl, (refl, (refl, (refl, (refl, (refl, (refl, (refl, tt))))))))))));
-  lawful = each_of (λ before e. IsLawful e.op) young.journal (lit< tt, (lit≤ tt, (tt, ((lit≤ tt, lit≤ tt), (tt, (tt, (lit< tt, (lit≤ tt, (tt, (tt, (tt, ((lit≤ tt, lit≤ tt), tt))))))))))));
-  kinds = each_of (λ before e. IsReplyTo e.op e.reply) young.journal (tt, (tt, (tt, (tt, (tt, (tt, (tt, (tt, (tt, (tt, (tt, (tt, tt))))))))))));
-  moments = each_of (λ before e. e.moment.ms ≡ moment_after 1 (last_moment before) e.op) young.journal (refl, (refl, (refl, (refl, (refl, (refl, (refl, (refl, (refl, (refl, (refl, (refl, tt))))))))))));
-  small = each_of (λ before e. e.moment.ms < 2 ^ 48) young.journal (lit< tt, (lit< tt, (lit< tt, (lit< tt, (lit< tt, (lit< tt, (lit< tt, (lit< tt, (lit< tt, (lit< tt, (lit< tt, (lit< tt, tt))))))))))));
+  numbered = each_of (λ before e. e.seq ≡ length before + 1) young.journal (refl, (refl, (refl, (refl, (refl, (refl, (refl, (refl, (refl, (refl, (refl, (refl, (refl, (refl, (refl, (refl, tt))))))))))))))));
+  lawful = each_of (λ before e. IsLawful e.op) young.journal (lit< tt, (lit≤ tt, (tt, ((lit≤ tt, lit≤ tt), (tt, (tt, (lit< tt, (lit≤ tt, (tt, (tt, (tt, (tt, (tt, (tt, (tt, ((lit≤ tt, lit≤ tt), tt))))))))))))))));
+  kinds = each_of (λ before e. IsReplyTo e.op e.reply) young.journal (tt, (tt, (tt, (tt, (tt, (tt, (tt, (tt, (tt, (tt, (tt, (tt, (tt, (tt, (tt, (tt, tt))))))))))))))));
+  moments = each_of (λ before e. e.moment.ms ≡ moment_after 1 (last_moment before) e.op) young.journal (refl, (refl, (refl, (refl, (refl, (refl, (refl, (refl, (refl, (refl, (refl, (refl, (refl, (refl, (refl, (refl, tt))))))))))))))));
+  small = each_of (λ before e. e.moment.ms < 2 ^ 48) young.journal (lit< tt, (lit< tt, (lit< tt, (lit< tt, (lit< tt, (lit< tt, (lit< tt, (lit< tt, (lit< tt, (lit< tt, (lit< tt, (lit< tt, (lit< tt, (lit< tt, (lit< tt, (lit< tt, tt))))))))))))))));
 }
 
 pub run : IsRunOf young.setting young.journal young.ends
 run = record { kept = kept; phases = both_phases 7 young.first_journal young.second_journal young.early young.late first_lines second_lines }
 
 pub honest : IsHonest young.journal
-honest = each_of (λ before e. Tells (stands before) e.op e.reply) young.journal (tt, (nothing_listed, (refl, (tt, (tt, (tt, (tt, (page, (shows_no_mark, (shows_meta, (shows_index, (shows_segment, tt))))))))))))
+honest = each_of (λ before e. Tells (stands before) e.op e.reply) young.journal (tt, (nothing_listed, (refl, (tt, (tt, (tt, (tt, (page, (shows_no_mark, (shows_meta, query_told full shows_index shows_segment 11 3 1_800_004))))))))))
 
 -- ---- with the upload first
 
-first_turned : PhaseRun (by_script young.setting) first_tasks (first_gateway ∷ uploader ∷ []) none_held young.first_journal_turned (first_ends young.early_turned) (with young.early_turned)
+first_turned : PhaseRun (by_script young.setting) first_tasks (first_gateway ∷ uploader ∷ []) none_held young.first_journal_turned (first_ends young.early_turned) (with_held (synced_by young.early_turned))
 first_turned = first_phase young.first_journal_turned (runs.upload 2 2 1) young.early_turned
     (All-from_recursion (IsSeat (1 ∷ 2 ∷ [])) young.first_journal_turned ((1, lit< tt, refl), ((1, lit< tt, refl), ((1, lit< tt, refl), ((1, lit< tt, refl), ((0, lit< tt, refl), ((0, lit< tt, refl), ((0, lit< tt, refl), tt))))))))
     (inl (
@@ -225,42 +222,42 @@ first_turned = first_phase young.first_journal_turned (runs.upload 2 2 1) young.
       [],
       synced (fetched.View young.early_turned.view),
       young.no_answer young.early_turned ∷ [],
-      holding young.early_turned,
+      synced_by young.early_turned,
       refl,
       (Some (fetched.View young.early_turned.view), sync_run 6 1 5 None refl, refl, refl),
       refl,
-      inl ([], [], young.no_answer young.early_turned, [], holding young.early_turned, refl, ((Some (called.Answer [] []), empty_query_run young.early_turned.view refl (question []), refl), refl), refl, (refl, refl, refl)),
+      inl ([], [], young.no_answer young.early_turned, [], synced_by young.early_turned, refl, empty_query_task young.early_turned refl (question []), refl, (refl, refl, refl)),
     ))
     refl
     (upload_task young.setting refl 2 2 1)
 
-second_turned : PhaseRun (by_script young.setting) second_tasks (second_gateway ∷ []) (with young.early_turned) young.second_journal_turned (second_ends young.late_turned) (with young.late_turned)
+second_turned : PhaseRun (by_script young.setting) second_tasks (second_gateway ∷ []) (with_held (synced_by young.early_turned)) young.second_journal_turned (second_ends young.late_turned) (with_held (called_by young.late_turned))
 second_turned = second_phase young.second_journal_turned young.early_turned young.late_turned
-    (All-from_recursion (IsSeat (3 ∷ [])) young.second_journal_turned ((0, lit< tt, refl), ((0, lit< tt, refl), ((0, lit< tt, refl), ((0, lit< tt, refl), ((0, lit< tt, refl), tt))))))
+    (All-from_recursion (IsSeat (3 ∷ [])) young.second_journal_turned ((0, lit< tt, refl), ((0, lit< tt, refl), ((0, lit< tt, refl), ((0, lit< tt, refl), ((0, lit< tt, refl), ((0, lit< tt, refl), ((0, lit< tt, refl), ((0, lit< tt, refl), ((0, lit< tt, refl), tt))))))))))
     (inl (
       runs.sync 10 3 1_800_001,
       runs.query 13 3 1_800_004,
       synced (fetched.View young.late_turned.view),
       young.block_answer young.late_turned ∷ [],
-      holding young.late_turned,
+      synced_by young.late_turned,
       refl,
       (Some (fetched.View young.late_turned.view), sync_run 10 3 1_800_001 (Some (runs.seen 1_800_001)) refl, refl, refl),
       refl,
-      inl (runs.query 13 3 1_800_004, [], young.block_answer young.late_turned, [], holding young.late_turned, refl, ((Some (called.Answer (small.up ∷ []) (small.a ∷ [])), query_run [] merge_all 10 1_800_001 1_800_003 1_800_002 1_800_003 13 3 1_800_004, refl), refl), refl, (refl, refl, refl)),
+      inl (runs.query 13 3 1_800_004, [], young.block_answer young.late_turned, [], called_by young.late_turned, refl, query_task [] all_asked 10 1_800_001 1_800_003 1_800_002 1_800_003 12 13 3 1_800_004, refl, (refl, refl, refl)),
     ))
 
 kept_turned : IsJournal 1 young.journal_turned
 kept_turned = record {
   few = lit≤ tt;
-  numbered = each_of (λ before e. e.seq ≡ length before + 1) young.journal_turned (refl, (refl, (refl, (refl, (refl, (refl, (refl, (refl, (refl, (refl, (refl, (refl, (refl, (refl, tt))))))))))))));
-  lawful = each_of (λ before e. IsLawful e.op) young.journal_turned (lit< tt, (tt, ((lit≤ tt, lit≤ tt), (tt, (tt, (lit≤ tt, (tt, (tt, (lit< tt, (lit≤ tt, (tt, (tt, (tt, ((lit≤ tt, lit≤ tt), tt))))))))))))));
-  kinds = each_of (λ before e. IsReplyTo e.op e.reply) young.journal_turned (tt, (tt, (tt, (tt, (tt, (tt, (tt, (tt, (tt, (tt, (tt, (tt, (tt, (tt, tt))))))))))))));
-  moments = each_of (λ before e. e.moment.ms ≡ moment_after 1 (last_moment before) e.op) young.journal_turned (refl, (refl, (refl, (refl, (refl, (refl, (refl, (refl, (refl, (refl, (refl, (refl, (refl, (refl, tt))))))))))))));
-  small = each_of (λ before e. e.moment.ms < 2 ^ 48) young.journal_turned (lit< tt, (lit< tt, (lit< tt, (lit< tt, (lit< tt, (lit< tt, (lit< tt, (lit< tt, (lit< tt, (lit< tt, (lit< tt, (lit< tt, (lit< tt, (lit< tt, tt))))))))))))));
+  numbered = each_of (λ before e. e.seq ≡ length before + 1) young.journal_turned (refl, (refl, (refl, (refl, (refl, (refl, (refl, (refl, (refl, (refl, (refl, (refl, (refl, (refl, (refl, (refl, (refl, (refl, tt))))))))))))))))));
+  lawful = each_of (λ before e. IsLawful e.op) young.journal_turned (lit< tt, (tt, ((lit≤ tt, lit≤ tt), (tt, (tt, (lit≤ tt, (tt, (tt, (lit< tt, (lit≤ tt, (tt, (tt, (tt, (tt, (tt, (tt, (tt, ((lit≤ tt, lit≤ tt), tt))))))))))))))))));
+  kinds = each_of (λ before e. IsReplyTo e.op e.reply) young.journal_turned (tt, (tt, (tt, (tt, (tt, (tt, (tt, (tt, (tt, (tt, (tt, (tt, (tt, (tt, (tt, (tt, (tt, (tt, tt))))))))))))))))));
+  moments = each_of (λ before e. e.moment.ms ≡ moment_after 1 (last_moment before) e.op) young.journal_turned (refl, (refl, (refl, (refl, (refl, (refl, (refl, (refl, (refl, (refl, (refl, (refl, (refl, (refl, (refl, (refl, (refl, (refl, tt))))))))))))))))));
+  small = each_of (λ before e. e.moment.ms < 2 ^ 48) young.journal_turned (lit< tt, (lit< tt, (lit< tt, (lit< tt, (lit< tt, (lit< tt, (lit< tt, (lit< tt, (lit< tt, (lit< tt, (lit< tt, (lit< tt, (lit< tt, (lit< tt, (lit< tt, (lit< tt, (lit< tt, (lit< tt, tt))))))))))))))))));
 }
 
 pub run_turned : IsRunOf young.setting young.journal_turned young.ends_turned
 run_turned = record { kept = kept_turned; phases = both_phases 9 young.first_journal_turned young.second_journal_turned young.early_turned young.late_turned first_turned second_turned }
 
 pub honest_turned : IsHonest young.journal_turned
-honest_turned = each_of (λ before e. Tells (stands before) e.op e.reply) young.journal_turned (tt, (refl, (tt, (tt, (tt, (page, (shows_no_mark, (shows_meta, (tt, (page, (shows_no_mark, (shows_meta, (shows_index, (shows_segment, tt))))))))))))))
+honest_turned = each_of (λ before e. Tells (stands before) e.op e.reply) young.journal_turned (tt, (refl, (tt, (tt, (tt, (page, (shows_no_mark, (shows_meta, (tt, (page, (shows_no_mark, (shows_meta, query_told full shows_index shows_segment 13 3 1_800_004))))))))))))

@@ -27,6 +27,10 @@ stored seq seat moment key bytes = entry seq seat moment (op.Put key bytes) repl
 abbrev pub found : ℕ → ℕ → ℕ → Key → List ℕ → Entry
 found seq seat moment key bytes = entry seq seat moment (op.Get key) (reply.Found bytes)
 
+-- a range of an object: its place, how many bytes were asked for, and those that were shown
+abbrev pub in_range : ℕ → ℕ → ℕ → Key → ℕ → ℕ → List ℕ → Entry
+in_range seq seat moment key from len bytes = entry seq seat moment (op.GetRange key from len) (reply.Found bytes)
+
 abbrev pub absent : ℕ → ℕ → ℕ → Key → Entry
 absent seq seat moment key = entry seq seat moment (op.Get key) reply.Absent
 

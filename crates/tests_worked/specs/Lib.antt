@@ -1,3 +1,4 @@
+pub mod SmallFiles
 pub mod SmallBlock
 pub mod Entries
 pub mod SmallRuns
@@ -17,3 +18,4 @@ pub mod SpoiledMeta
 pub mod SecondPage
 pub mod TwoGateways
 pub mod TwoReplicas
+pub mod QueryAgain

@@ -1,8 +1,8 @@
 -- The script of one block over a bucket that loses the block's index after the sync: the query finds it absent.
-use Rattle.std.specs.Prelude.{List}
+use Rattle.std.specs.Prelude.{List, [], ◌∷◌}
 use Rattle.world_core.specs.declared.entry.Entry.{Entry}
 use Rattle.world_core.specs.declared.reply.Reply.TheVariants.{Absent}
-use Rattle.store_gateway.specs.declared.series_end.SeriesEnd.TheVariants as called
+use Rattle.series_calls.specs.declared.series_end.SeriesEnd.TheVariants as called
 use Rattle.lifecycle_core.specs.Tasks.{End, answered}
 use Rattle.tests_worked.specs.OneBlock as one
 use Rattle.tests_worked.specs.OtherReads.{index_read, journal_with, ends_with}
@@ -12,7 +12,7 @@ abbrev pub lost : Entry
 lost = index_read Absent
 
 abbrev pub journal : List Entry
-journal = journal_with Absent
+journal = journal_with (lost ∷ [])
 
 abbrev pub missing : End
 missing = answered one.used (called.Missing 10)

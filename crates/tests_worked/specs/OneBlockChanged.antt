@@ -8,7 +8,7 @@ use Rattle.lifecycle_core.specs.Guarantees.{Answered}
 use Rattle.tests_worked.specs.SmallBlock as small
 use Rattle.tests_worked.specs.SmallRuns as runs
 use Rattle.tests_worked.specs.OneBlock as one
-use Rattle.tests_worked.specs.Entries.{clock, stored, found, absent, listed}
+use Rattle.tests_worked.specs.Entries.{clock, stored, absent, listed}
 
 -- the index is put before the segment
 abbrev pub index_first : List Entry
@@ -35,7 +35,7 @@ meta_absent =
     ∷ listed 7 2 1_800_001 (small.a_text ∷ [])
     ∷ absent 8 2 1_800_002 (key.Mark small.a)
     ∷ absent 9 2 1_800_003 (key.Meta small.a)
-    ∷ found 10 2 1_800_004 (key.Index small.a) small.index
+    ∷ runs.contents_read 10 2 1_800_004
     ∷ []
 
 -- the answer's source is not printed

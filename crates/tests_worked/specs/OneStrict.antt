@@ -10,6 +10,7 @@ use Rattle.lifecycle_core.specs.Setting.{Setting, setting_of}
 use Rattle.tests_worked.specs.Entries.{found, stored}
 use Rattle.tests_worked.specs.OneBlock as one
 use Rattle.tests_worked.specs.SmallBlock as small
+use Rattle.tests_worked.specs.SmallRuns as runs
 
 -- the standard rules with this ignore delay
 abbrev pub rules_with : Span → Rules
@@ -48,7 +49,7 @@ abbrev pub last_read : Entry
 last_read = found 9 2 1_800_003 (key.Meta small.a) small.meta
 
 abbrev pub first_call : Entry
-first_call = found 10 2 1_800_004 (key.Index small.a) small.index
+first_call = runs.contents_read 10 2 1_800_004
 
 -- a mark of these bytes is put a millisecond after the ignore delay
 abbrev pub late_mark : List ℕ → Entry

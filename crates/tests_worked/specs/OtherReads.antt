@@ -1,4 +1,4 @@
--- The script of one block, where the query's read of the index is answered otherwise.
+-- The script of one block, where the query's reads of the index are answered otherwise.
 use Rattle.std.specs.Prelude.{List, [], ◌∷◌, ◌++◌, false}
 use Rattle.block_keys.specs.declared.key.Key.TheVariants as key
 use Rattle.world_core.specs.declared.entry.Entry.{Entry}
@@ -7,19 +7,20 @@ use Rattle.world_core.specs.declared.reply.Reply.{Reply}
 use Rattle.world_core.specs.declared.reply.Reply.TheVariants as reply
 use Rattle.shipper.specs.declared.upload_end.UploadEnd.TheVariants as shipped
 use Rattle.meta_fetcher.specs.declared.sync_end.SyncEnd.TheVariants as fetched
-use Rattle.store_gateway.specs.declared.series_end.SeriesEnd.{SeriesEnd}
-use Rattle.store_gateway.specs.declared.series_end.SeriesEnd.TheVariants as called
+use Rattle.series_calls.specs.declared.series_end.SeriesEnd.{SeriesEnd}
+use Rattle.series_calls.specs.declared.series_end.SeriesEnd.TheVariants as called
 use Rattle.lifecycle_core.specs.Tasks.{End, uploaded, synced, answered}
 use Rattle.tests_worked.specs.SmallBlock as small
 use Rattle.tests_worked.specs.OneBlock as one
-use Rattle.tests_worked.specs.Entries.{clock, entry}
+use Rattle.tests_worked.specs.Entries.{clock, entry, found}
 
+-- the first read of the index, which is of its table of contents
 abbrev pub index_read : Reply → Entry
-index_read reply = entry 10 2 1_800_004 (op.Get (key.Index small.a)) reply
+index_read reply = entry 10 2 1_800_004 (op.GetRange (key.Index small.a) 153 52) reply
 
--- nothing follows it
-abbrev pub journal_with : Reply → List Entry
-journal_with reply = clock 1 0 ∷ one.upload ++ clock 6 1_800_000 ∷ one.sync ++ index_read reply ∷ []
+-- with these reads of the query
+abbrev pub journal_with : List Entry → List Entry
+journal_with reads = clock 1 0 ∷ one.upload ++ clock 6 1_800_000 ∷ one.sync ++ reads
 
 -- where the query came to this end
 abbrev pub ends_with : SeriesEnd → List (List (List End))
@@ -28,16 +29,19 @@ ends_with came =
     ∷ ((synced (fetched.View one.view) ∷ answered one.used came ∷ []) ∷ [])
     ∷ []
 
--- the bucket shows an index that is empty
+-- the bucket shows no bytes, and so the whole index is read, which has none either
+abbrev pub spoiled_reads : List Entry
+spoiled_reads = index_read (reply.Found []) ∷ found 11 2 1_800_005 (key.Index small.a) [] ∷ []
+
 abbrev pub spoiled : List Entry
-spoiled = journal_with (reply.Found [])
+spoiled = journal_with spoiled_reads
 
 abbrev pub spoiled_ends : List (List (List End))
-spoiled_ends = ends_with (called.Damaged 10)
+spoiled_ends = ends_with (called.Damaged 11)
 
 -- the call fails
 abbrev pub failed : List Entry
-failed = journal_with (reply.Failed false)
+failed = journal_with (index_read (reply.Failed false) ∷ [])
 
 abbrev pub failed_ends : List (List (List End))
 failed_ends = ends_with (called.Fault 10)

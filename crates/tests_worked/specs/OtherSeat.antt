@@ -1,12 +1,12 @@
 -- The run of the script of one block, where somebody else asks the query: at seat 9, which the script gives to nobody, and over the
 -- view of the gateway's sync.
 use Rattle.std.specs.Prelude.{pos, List, [], ◌∷◌, ◌++◌}
-use Rattle.block_keys.specs.declared.key.Key.TheVariants as key
 use Rattle.world_core.specs.declared.entry.Entry.{Entry}
-use Rattle.store_gateway.specs.SeriesRuns.{Query, asking}
-use Rattle.store_gateway.specs.declared.series_end.SeriesEnd.{SeriesEnd}
-use Rattle.store_gateway.specs.declared.series_end.SeriesEnd.TheVariants as called
-use Rattle.tests_worked.specs.Entries.{clock, found}
+use Rattle.block_ranges.specs.Reads.{Query}
+use Rattle.series_calls.specs.SeriesCalls.{asking}
+use Rattle.series_calls.specs.declared.series_end.SeriesEnd.{SeriesEnd}
+use Rattle.series_calls.specs.declared.series_end.SeriesEnd.TheVariants as called
+use Rattle.tests_worked.specs.Entries.{clock}
 use Rattle.tests_worked.specs.OneBlock as one
 use Rattle.tests_worked.specs.SmallBlock as small
 use Rattle.tests_worked.specs.SmallRuns as runs
@@ -23,7 +23,7 @@ journal = clock 1 0 ∷ one.upload ++ clock 6 1_800_000 ∷ made
 
 -- the query's first read
 abbrev pub first_read : Entry
-first_read = found 10 9 1_800_004 (key.Index small.a) small.index
+first_read = runs.contents_read 10 9 1_800_004
 
 abbrev pub question : Query
 question = asking one.selector [] (pos 0) (pos 5000)

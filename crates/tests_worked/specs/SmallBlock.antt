@@ -1,8 +1,7 @@
--- A block of one series with one sample, the objects that an upload ships of it, and what a sync and a query see of it.
+-- A block of the small files, the objects that an upload ships of it, and what a sync and a query see of it.
 use Rattle.std.specs.Prelude.{ℕ, pos, List, [], ◌∷◌, codes, None}
 use Rattle.std.proofs.Common.{arith}
 use Rattle.std.proofs.lemmas.Int.{ints}
-use Rattle.label_sets.specs.declared.series.Series.{Series}
 use Rattle.label_sets.specs.Triples.{Triple}
 use Rattle.block_keys.specs.declared.key.Key.TheVariants as key
 use Rattle.block_keys.specs.declared.object.Object.{Object}
@@ -10,6 +9,8 @@ use Rattle.block_meta.specs.declared.meta.Meta.{Meta}
 use Rattle.sync_filters.specs.declared.found.Found.{Found}
 use Rattle.script_core.specs.declared.block.Block.{Block}
 use Rattle.script_core.specs.declared.body.Body.TheVariants.{Inline}
+pub use Rattle.tests_worked.specs.SmallFiles.{up}
+unfoldable pub use Rattle.tests_worked.specs.SmallFiles.{segment, index}
 
 -- the ULID, and its text
 abbrev pub a : ℕ
@@ -18,14 +19,7 @@ a = 10
 abbrev pub a_text : List ℕ
 a_text = codes "0000000000000000000000000A"
 
--- {__name__="up"} 1000:3ff0000000000000
-abbrev pub up : Series
-up = record {
-  labels = record { name = codes "__name__"; value = codes "up" } ∷ [];
-  samples = record { time = pos 1000; pattern = 0x3ff0_0000_0000_0000 } ∷ [];
-}
-
--- such a block under a ULID
+-- a block of the one series under a ULID
 abbrev pub block_of : ℕ → Block
 block_of ulid = record { ulid = ulid; labels = []; body = Inline (pos 1000) (pos 2000) (up ∷ []) }
 
@@ -35,14 +29,8 @@ block = block_of a
 
 -- ---- its objects
 
-unfoldable pub segment : List ℕ
-segment = codes "{__name__=\"up\"} 1000:3ff0000000000000\n"
-
-unfoldable pub index : List ℕ
-index = codes "plain\n"
-
 unfoldable pub meta : List ℕ
-meta = codes "{\"compaction\":{\"level\":1,\"sources\":[\"0000000000000000000000000A\"]},\"maxTime\":2000,\"minTime\":1000,\"stats\":{\"numChunks\":1,\"numSamples\":1,\"numSeries\":1},\"thanos\":{\"downsample\":{\"resolution\":0},\"files\":[{\"rel_path\":\"chunks/000001\",\"size_bytes\":38},{\"rel_path\":\"index\",\"size_bytes\":6}],\"labels\":{},\"segment_files\":[\"000001\"],\"source\":\"sidecar\",\"version\":1},\"ulid\":\"0000000000000000000000000A\",\"version\":1}"
+meta = codes "{\"compaction\":{\"level\":1,\"sources\":[\"0000000000000000000000000A\"]},\"maxTime\":2000,\"minTime\":1000,\"stats\":{\"numChunks\":1,\"numSamples\":1,\"numSeries\":1},\"thanos\":{\"downsample\":{\"resolution\":0},\"files\":[{\"rel_path\":\"chunks/000001\",\"size_bytes\":26},{\"rel_path\":\"index\",\"size_bytes\":205}],\"labels\":{},\"segment_files\":[\"000001\"],\"source\":\"sidecar\",\"version\":1},\"ulid\":\"0000000000000000000000000A\",\"version\":1}"
 
 -- in the order of their puts, with this text of the meta
 abbrev pub objects_with : ℕ → List ℕ → List Object
@@ -70,8 +58,8 @@ said_of ulid = record {
   resolution = pos 0;
   source = codes "sidecar";
   files =
-      record { path = codes "chunks/000001"; bytes = 38 }
-      ∷ record { path = codes "index"; bytes = 6 }
+      record { path = codes "chunks/000001"; bytes = 26 }
+      ∷ record { path = codes "index"; bytes = 205 }
       ∷ [];
   segment_files = codes "000001" ∷ [];
   times = record {

@@ -9,7 +9,8 @@ use Rattle.world_core.specs.declared.entry.Entry.{Entry}
 use Rattle.meta_fetcher.specs.declared.view.View.{View}
 use Rattle.sync_filters.specs.declared.found.Found.{Found}
 use Rattle.tests_worked.specs.SmallBlock as small
-use Rattle.tests_worked.specs.Entries.{stored, found, absent, listed}
+use Rattle.tests_worked.specs.SmallFiles as files
+use Rattle.tests_worked.specs.Entries.{stored, found, in_range, absent, listed}
 
 -- an upload of such a block into a bucket that does not have it, with this text of the meta
 abbrev pub upload_of : ℕ → List ℕ → ℕ → ℕ → ℕ → List Entry
@@ -56,9 +57,23 @@ view_of seq begin end kept = record {
 abbrev pub view : ℕ → ℕ → Option Found → View
 view seq moment kept = view_of seq moment (moment + 2) kept
 
--- a query over a view that keeps it
+-- what a query over a view that keeps it reads: the table of contents and four more ranges of its index, and then its chunk
+abbrev pub contents_read : ℕ → ℕ → ℕ → Entry
+contents_read seq seat moment = in_range seq seat moment (key.Index small.a) 153 52 files.contents
+
+abbrev pub chunk_read : ℕ → ℕ → ℕ → Entry
+chunk_read seq seat moment = in_range seq seat moment (key.Segment small.a 1) 8 4096 files.chunk
+
 abbrev pub query : ℕ → ℕ → ℕ → List Entry
 query seq seat moment =
-    found seq seat moment (key.Index small.a) small.index
-    ∷ found (seq + 1) seat (moment + 1) (key.Segment small.a 1) small.segment
+    contents_read seq seat moment
+    ∷ in_range (seq + 1) seat (moment + 1) (key.Index small.a) 5 27 files.symbols
+    ∷ in_range (seq + 2) seat (moment + 2) (key.Index small.a) 123 30 files.table
+    ∷ in_range (seq + 3) seat (moment + 3) (key.Index small.a) 68 32 files.lists
+    ∷ in_range (seq + 4) seat (moment + 4) (key.Index small.a) 32 16 files.series
+    ∷ chunk_read (seq + 5) seat (moment + 5)
     ∷ []
+
+-- the same, by a gateway that has kept the four ranges
+abbrev pub query_again : ℕ → ℕ → ℕ → List Entry
+query_again seq seat moment = contents_read seq seat moment ∷ chunk_read (seq + 1) seat (moment + 1) ∷ []

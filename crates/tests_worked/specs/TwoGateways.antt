@@ -19,7 +19,7 @@ use Rattle.world_core.specs.declared.entry.Entry.{Entry}
 use Rattle.shipper.specs.declared.upload_end.UploadEnd.TheVariants as shipped
 use Rattle.meta_fetcher.specs.declared.view.View.{View}
 use Rattle.meta_fetcher.specs.declared.sync_end.SyncEnd.TheVariants as fetched
-use Rattle.store_gateway.specs.declared.series_end.SeriesEnd.TheVariants as called
+use Rattle.series_calls.specs.declared.series_end.SeriesEnd.TheVariants as called
 use Rattle.script_core.specs.declared.script.Script.{Script}
 use Rattle.script_workers.specs.declared.task.Task.{Task}
 use Rattle.script_workers.specs.declared.work.Work.TheVariants.{Upload, Sync, Query}
@@ -68,7 +68,7 @@ abbrev pub upload : List Entry
 upload = runs.upload 2 1 1
 
 abbrev pub made : List Entry
-made = runs.sync 7 2 1_800_001 ++ runs.sync 10 3 1_800_004 ++ runs.query 13 2 1_800_007 ++ runs.query 15 3 1_800_009
+made = runs.sync 7 2 1_800_001 ++ runs.sync 10 3 1_800_004 ++ runs.query 13 2 1_800_007 ++ runs.query 19 3 1_800_013
 
 abbrev pub journal : List Entry
 journal = clock 1 0 ∷ upload ++ clock 6 1_800_000 ∷ made

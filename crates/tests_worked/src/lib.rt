@@ -12,6 +12,7 @@ mod one_block_changed;
 mod one_strict;
 mod other_reads;
 mod other_seat;
+mod query_again;
 mod second_page;
 mod side_by_side;
 mod spoiled_meta;
@@ -30,7 +31,8 @@ pub use lost_index::{
 };
 pub use one_block::{
     one_block_breaks_no_rule, one_block_is_answered, one_block_is_guaranteed, one_block_is_honest,
-    one_block_is_in_time, one_block_is_reported, one_block_is_spelled, one_block_runs,
+    one_block_is_in_time, one_block_is_reported, one_block_is_shipped, one_block_is_spelled,
+    one_block_runs,
 };
 pub use one_block_changed::{
     absent_meta_is_a_lie, answer_of_nothing_leaves_one_out, answer_without_sample_is_not_exact,
@@ -42,6 +44,7 @@ pub use one_block_changed::{
 pub use one_strict::{late_mark_is_refused, strict_rules_are_broken};
 pub use other_reads::{failed_read_ends_no_query, spoiled_index_is_damaged};
 pub use other_seat::{call_at_another_seat_acts, late_read_at_another_seat_is_refused};
+pub use query_again::second_query_reads_two_ranges;
 pub use second_page::second_page_begins_no_sync;
 pub use side_by_side::{
     block_completed_during_the_sync_is_left_out, named_block_was_completed_during_the_sync,

@@ -6,17 +6,26 @@ ghost use Rattle.lifecycle_core.specs.Breaches.{IsUnbroken};
 ghost use Rattle.lifecycle_core.specs.Completed.{IsSettled};
 ghost use Rattle.lifecycle_core.specs.Guarantees.{IsExact, IsGiven, IsGuaranteed, LeavesNoneOut, NamesUploads};
 ghost use Rattle.lifecycle_core.specs.Phases.{IsFinished, IsRunOf};
+ghost use Rattle.lifecycle_core.specs.Shipped.{IsShipped};
 ghost use Rattle.lifecycle_core.specs.SyncsAndCalls.{IsViewOf};
 ghost use Rattle.lifecycle_core.specs.Tasks.{sync_rules};
 ghost use Rattle.lifecycle_core.specs.TimeRules.{IsMarkedInTime, IsReadInTime, IsSyncedInTime, IsUploadedInTime};
+ghost use Rattle.replay_cli.specs.Shippable.{RefusesNone};
 ghost use Rattle.replay_cli.specs.Verdicts.{IsReport, IsWholeRun};
 ghost use Rattle.tests_worked.specs.OneBlock.{text, setting, script, journal, ends, report, sync, query, used, asked};
-ghost use Rattle.tests_worked.specs.SmallBlock.{a};
+ghost use Rattle.tests_worked.specs.SmallBlock.{a, block, meta, objects_with};
 
 /// A law: the script is what its text spells, and lawful.
 pub fn one_block_is_spelled()
     ensures spelled { Spells text script }
     ensures lawful { IsLawfulScript script }
+{}
+
+/// A law: these objects are those with which the block is shipped: the files that are built of its series, and its meta. So the script
+/// has no block that is refused.
+pub fn one_block_is_shipped()
+    ensures shipped { IsShipped setting block (objects_with a meta) }
+    ensures none_refused { RefusesNone setting }
 {}
 
 /// A law: the journal is that of a run of the script that comes to these ends.

@@ -9,13 +9,16 @@ use Rattle.label_sets.specs.declared.series.Series.{Series}
 use Rattle.matchers.specs.declared.matcher.Matcher.{Matcher}
 use Rattle.block_keys.specs.declared.key.Key.{Key}
 use Rattle.world_core.specs.Standing.{IsHonest}
+use Rattle.world_core.specs.Worlds.{IsOfBytes}
+use Rattle.matchers.specs.SelectorText.{named_replicas}
+use Rattle.lifecycle_core.specs.Shipped.{IsShippedUnder}
 use Rattle.world_core.specs.declared.reply.Reply.TheVariants as reply
 use Rattle.world_core.specs.declared.entry.Entry.{Entry}
 use Rattle.sync_filters.specs.declared.found.Found.{Found}
-use Rattle.meta_fetcher.specs.declared.sync_end.SyncEnd.TheVariants as fetched
-use Rattle.store_gateway.specs.SeriesRuns.{Query as Question, asking}
-use Rattle.store_gateway.specs.declared.series_end.SeriesEnd.{SeriesEnd}
-use Rattle.store_gateway.specs.declared.series_end.SeriesEnd.TheVariants as called
+use Rattle.block_ranges.specs.Reads.{Query as Question}
+use Rattle.series_calls.specs.SeriesCalls.{asking}
+use Rattle.series_calls.specs.declared.series_end.SeriesEnd.{SeriesEnd}
+use Rattle.series_calls.specs.declared.series_end.SeriesEnd.TheVariants as called
 use Rattle.script_core.specs.Lawful.{IsLawfulScript}
 use Rattle.lifecycle_core.specs.Acting.{IsActing, acting, uploaders}
 use Rattle.lifecycle_core.specs.Breaches.{read_key, watched_call}
@@ -26,29 +29,27 @@ use Rattle.lifecycle_core.specs.Guarantees.{IsSoundCall}
 use Rattle.lifecycle_core.specs.Holdings.{Use, none_held}
 use Rattle.lifecycle_core.specs.Setting.{Setting}
 use Rattle.lifecycle_core.specs.SyncsAndCalls.{IsCallIn, IsViewOf}
-use Rattle.lifecycle_core.specs.Tasks.{last_number, sync_rules}
-use Rattle.lifecycle_core.proofs.answers.ExactAnswers.{answer_is_exact, calls_undamaged, sources_are}
+use Rattle.lifecycle_core.specs.Tasks.{sync_rules}
+use Rattle.lifecycle_core.proofs.answers.ExactAnswers.{answer_is_exact, own_end, sources_are}
+use Rattle.lifecycle_core.proofs.answers.HonestCalls.{call_finds, reads_find}
 use Rattle.lifecycle_core.proofs.blocks.Readable.{is_readable}
-use Rattle.lifecycle_core.proofs.journals.Positions.{split, stands_in}
-use Rattle.lifecycle_core.proofs.journals.RunEntries.{PrecedesMeta}
+use Rattle.lifecycle_core.proofs.journals.InOrder.{AllInOrder, phase_in_order, phases_in_order, task_in_order}
+use Rattle.lifecycle_core.proofs.journals.Standing.{parted}
 use Rattle.lifecycle_core.proofs.journals.Telling.{all_told_by, journal_rises}
 use Rattle.lifecycle_core.proofs.journals.TellingPuts.{PutsShipped, reads_put, task_puts}
-use Rattle.lifecycle_core.proofs.journals.Told.{IsOrigin, IsPart, IsReadable, IsTold, IsTrueView, Rises}
-use Rattle.lifecycle_core.proofs.misses.Explaining.{AllInOrder, explained, honest_finds, parted, phase_in_order, phases_in_order}
-use Rattle.lifecycle_core.proofs.misses.GatewayEntries.{IsSeen, calls, syncs}
-use Rattle.lifecycle_core.proofs.misses.Misses.{MissesAt, task_in_order}
+use Rattle.lifecycle_core.proofs.journals.Told.{IsPart, IsReadable, IsTold, IsTrueView, Rises}
+use Rattle.lifecycle_core.proofs.misses.Lying.{call_miss, read_miss}
 use Rattle.lifecycle_core.proofs.phases.EachEntry.{phase_each, phases_each}
 use Rattle.lifecycle_core.proofs.phases.TasksMade.{part_filter, part_middle, part_whole}
-use Rattle.lifecycle_core.proofs.views.Puts.{within_last}
-use Rattle.lifecycle_core.proofs.views.TrueViews.{origin_is_true}
+use Rattle.lifecycle_core.proofs.views.TrueViews.{true_from}
 
 -- ---- an acting journal
 
-acting_in_order : (setting : Setting) (journal : List Entry) → IsLawfulScript setting.script → IsActing setting journal → AllInOrder journal
-acting_in_order setting journal lawful acts =
-    phases_in_order (working (acting setting acts.seats))
+acting_in_order : (setting : Setting) (journal : List Entry) → IsActing setting journal → AllInOrder setting journal
+acting_in_order setting journal acts =
+    phases_in_order setting (working (acting setting acts.seats))
     (λ number phase before made own after works.
-    phase_in_order (acting setting acts.seats) (λ who place w all held es end left does. task_in_order setting lawful who place w held left es end does) (λ e stands. stands.1)
+    phase_in_order setting (acting setting acts.seats) (λ who place w all held es end left does. task_in_order setting who place w held left es end does) (λ e stands. stands.1)
     phase.tasks (uploaders setting acts.seats number) before made own after works)
     0 none_held setting.script.phases journal acts.ends acts.phases
 
@@ -95,6 +96,9 @@ module _ (setting : Setting) (journal : List Entry) (lawful : IsLawfulScript set
   abbrev rising : Rises journal
   rising = journal_rises setting.script.rules.tick.ms journal acts.kept
 
+  readable : IsReadable setting
+  readable = is_readable setting lawful
+
   call_part : (used : Use) (question : Question) (entries : List Entry) (end : Option SeriesEnd) → IsCallIn journal used question entries end → IsPart journal entries
   call_part used question entries end call = record { among = call.among; rises = rises_by journal rising entries call.rising call.among }
 
@@ -105,123 +109,74 @@ module _ (setting : Setting) (journal : List Entry) (lawful : IsLawfulScript set
         let own : IsPart journal (of_seat gave.seat journal) = part_filter journal (λ (e : Entry). e.seat == gave.seat) journal (part_whole journal rising) in
         part_middle journal s.before sync s.after (subst (IsPart journal) (s.parts ∙ append_assoc s.before sync s.after) own)
 
-    abbrev origin : IsOrigin setting journal used
-    origin = record { gateway = gateway; entries = sync; run = gave.sync.run; last = gave.last; part = sync_part; seat = gave.seat; stretch = record { before = gave.sync.before; after = gave.sync.after; parts = gave.sync.parts } }
-
     -- ---- a missing object
 
-    before_call : (front back : List Entry) (e x : Entry) → journal ≡ front ++ e ∷ back → Contains journal x → x.seq < e.seq → Contains front x
-    before_call front back e x parts among lower =
-        let at = parted journal x among in
-        let own : x.seq ≡ length at.0 + 1 = acts.kept.numbered at.0 at.1 x at.2 in
-        let number : e.seq ≡ length front + 1 = acts.kept.numbered front back e parts in
-        elim (split front (e ∷ back) at.0 at.1 x (sym parts ∙ at.2)) [
-          | inl (rest, here, two) ↦ subst (λ es. Contains es x) (sym here) (stands_in at.0 rest x)
-          | inr (more, here, two) ↦ absurd (omega (arith, own, number, lower, ap (length {A = Entry}) here, length-append front more))
-        ]
-
-    seen_in : (front back : List Entry) (e : Entry) (ulid : ℕ) → journal ≡ front ++ e ∷ back → used.last < e.seq → IsSeen sync ulid → IsSeen front ulid
-    seen_in front back e ulid parts later (s, among, seen) =
-        let most : s.seq ≤ last_number sync = within_last s sync sync_part.rises among in
-        (s, before_call front back e s parts (sync_part.among s among) (omega (arith, most, later, gave.last)), seen)
-
-    misses_at : (question : Question) (entries : List Entry) (number : ℕ) → IsCallIn journal used question entries (Some (called.Missing number)) → MissesAt [] journal number
-    misses_at question entries number call =
-        let kept : All (λ (b : Found). IsSeen sync b.ulid) used.view.kept = (syncs (sync_rules setting gateway) [] sync (Some (fetched.View used.view)) gave.sync.run).sees used.view refl in
-        let m = (calls (IsSeen sync) used.view question entries (Some (called.Missing number)) kept call.run).misses number refl in
-        let among : Contains entries m.entry = subst (λ es. Contains es m.entry) (sym m.last) (stands_in m.front [] m.entry) in
-        let at = parted journal m.entry (call.among m.entry among) in
-        record {
-          front = at.0;
-          back = at.1;
-          entry = m.entry;
-          ulid = m.ulid;
-          key_is = m.key_is;
-          parts = at.2;
-          is = m.is;
-          reads = ap read_key m.reads;
-          absent = m.absent;
-          own = m.own;
-          seen = seen_in at.0 at.1 m.entry m.ulid at.2 (All-contains (λ (e : Entry). used.last < e.seq) entries m.entry call.later among) m.holds;
-        }
-
-    -- so does any read of a kept block's index or segment that finds nothing
-    read_misses_at : (found : Found) (e : Entry) (k : Key) → Contains used.view.kept found → Contains journal e → used.last < e.seq → read_key e.op ≡ Some k → PrecedesMeta found.ulid k → e.reply ≡ reply.Absent → MissesAt [] journal e.seq
-    read_misses_at found e k inside among later reads own absent =
-        let kept : All (λ (b : Found). IsSeen sync b.ulid) used.view.kept = (syncs (sync_rules setting gateway) [] sync (Some (fetched.View used.view)) gave.sync.run).sees used.view refl in
-        let at = parted journal e among in
-        record {
-          front = at.0;
-          back = at.1;
-          entry = e;
-          ulid = found.ulid;
-          key_is = k;
-          parts = at.2;
-          is = refl;
-          reads = reads;
-          absent = absent;
-          own = own;
-          seen = seen_in at.0 at.1 e found.ulid at.2 later (All-contains (λ (b : Found). IsSeen sync b.ulid) used.view.kept found kept inside);
-        }
-
-    pub read_is_explained : (found : Found) (e : Entry) (k : Key) → Contains used.view.kept found → Contains journal e → used.last < e.seq → read_key e.op ≡ Some k → PrecedesMeta found.ulid k → e.reply ≡ reply.Absent → IsExplainedUnder setting (watched_call used sync (e ∷ [])) journal e.seq
-    read_is_explained found e k inside among later reads own absent =
-        explained setting journal acts.kept.numbered (acting_in_order setting journal lawful acts) e.seq (read_misses_at found e k inside among later reads own absent) (watched_call used sync (e ∷ []))
-
-    pub read_finds : IsHonest journal → (found : Found) (e : Entry) (k : Key) → Contains used.view.kept found → Contains journal e → used.last < e.seq → read_key e.op ≡ Some k → PrecedesMeta found.ulid k → e.reply ≢ reply.Absent
-    read_finds honest found e k inside among later reads own absent =
-        honest_finds setting journal acts.kept.numbered (acting_in_order setting journal lawful acts) e.seq (read_misses_at found e k inside among later reads own absent) (watched_call used sync (e ∷ [])) honest
+    pub read_is_explained : IsOfBytes journal → (found : Found) (e : Entry) (k : Key) → Contains used.view.kept found → Contains journal e → used.last < e.seq → read_key e.op ≡ Some k → IsShippedUnder setting found.ulid k → e.reply ≡ reply.Absent
+        → IsExplainedUnder setting (watched_call used sync (e ∷ [])) journal e.seq
+    read_is_explained of_bytes found e k inside among later reads under absent =
+        read_miss setting journal readable acts.kept of_bytes (acting_puts setting journal acts) (acting_in_order setting journal acts) gateway used sync gave.sync.run gave.last sync_part (watched_call used sync (e ∷ []))
+        found e k inside among later reads under absent
 
     -- a call's miss is explained
-    pub miss_is_explained : (question : Question) (entries : List Entry) (number : ℕ) → IsCallIn journal used question entries (Some (called.Missing number)) → IsExplainedUnder setting (watched_call used sync entries) journal number
-    miss_is_explained question entries number call =
-        explained setting journal acts.kept.numbered (acting_in_order setting journal lawful acts) number (misses_at question entries number call) (watched_call used sync entries)
-
-    -- and where the bucket is honest, there is none
-    pub nothing_missed : IsHonest journal → (question : Question) (entries : List Entry) (number : ℕ) → ¬ IsCallIn journal used question entries (Some (called.Missing number))
-    nothing_missed honest question entries number call =
-        honest_finds setting journal acts.kept.numbered (acting_in_order setting journal lawful acts) number (misses_at question entries number call) (watched_call used sync entries) honest
+    pub miss_is_explained : IsOfBytes journal → (question : Question) (entries : List Entry) (number : ℕ) → IsCallIn journal used question entries (Some (called.Missing number))
+        → IsExplainedUnder setting (watched_call used sync entries) journal number
+    miss_is_explained of_bytes question entries number call =
+        call_miss setting journal readable acts.kept of_bytes (acting_puts setting journal acts) (acting_in_order setting journal acts) gateway used sync gave.sync.run gave.last sync_part (watched_call used sync entries)
+        question entries number (call_part used question entries (Some (called.Missing number)) call) call
 
     -- ---- where the bucket is honest
 
-    module _ (honest : IsHonest journal) (selector : List Matcher) (low high : ℤ) (entries : List Entry) where
-      abbrev question : Question
-      question = asking selector setting.script.rules.replicas low high
-
-      readable : IsReadable setting
-      readable = is_readable setting lawful
-
+    module _ (honest : IsHonest journal) where
       told : All (IsTold setting journal) journal
-      told = all_told_by setting journal readable acts.kept (acting_puts setting journal acts) (acting_in_order setting journal lawful acts) honest
+      told = all_told_by setting journal readable acts.kept (acting_puts setting journal acts) (acting_in_order setting journal acts) honest
 
       view : IsTrueView setting journal gateway used
-      view = origin_is_true setting journal used readable rising (acting_puts setting journal acts) told origin
+      view = true_from setting journal used readable rising (acting_puts setting journal acts) told gateway sync gave.sync.run gave.last sync_part
 
-      named_by : (series : List Series) (sources : List ℕ) → IsCallIn journal used question entries (Some (called.Answer series sources)) → (ulid : ℕ)
-          → Contains sources ulid ↔ ((found : Found) × Contains used.view.kept found × (found.ulid ≡ ulid))
-      named_by series sources call = sources_are setting journal entries used.view question series sources readable told (call_part used question entries (Some (called.Answer series sources)) call) view.kept call.run
+      pub read_finds : (found : Found) (e : Entry) (k : Key) → Contains used.view.kept found → Contains journal e → used.last < e.seq → read_key e.op ≡ Some k → IsShippedUnder setting found.ulid k → e.reply ≢ reply.Absent
+      read_finds found e k inside among later reads under absent =
+          let at = parted journal e among in
+          let complete = All-contains (λ (f : Found). IsUploadedBefore setting journal f.ulid used.last) used.view.kept found view.uploaded inside in
+          reads_find setting journal readable acts.kept (acting_puts setting journal acts) (acting_in_order setting journal acts) honest at.0 at.1 e at.2 found.ulid used.last complete later k under reads absent
 
-      names : (series : List Series) (sources : List ℕ) → IsCallIn journal used question entries (Some (called.Answer series sources)) → All (λ ulid. IsUploadedBefore setting journal ulid used.last) sources
-      names series sources call = λ k d below.
-          let ulid = get_or sources k d in
-          let found = (named_by series sources call ulid).0 (All-contains_itself sources k d below) in
-          subst (λ (u : ℕ). IsUploadedBefore setting journal u used.last) found.2 (All-contains (λ (f : Found). IsUploadedBefore setting journal f.ulid used.last) used.view.kept found.0 view.uploaded found.1)
+      finds : (question : Question) (entries : List Entry) (end : SeriesEnd) (number : ℕ) → IsCallIn journal used question entries (Some end) → (end ≢ called.Missing number) × (end ≢ called.Damaged number)
+      finds question entries end number call =
+          let own = own_end call.own end call.is in
+          let both = call_finds setting journal readable acts.kept (acting_puts setting journal acts) (acting_in_order setting journal acts) honest used question entries (Some end) call view.kept view.uploaded own.0 own.1 number in
+          ((λ is. both.0 (own.2 ∙ is)), (λ is. both.1 (own.2 ∙ is)))
 
-      same_end : (one other : Option SeriesEnd) → one ≡ other → IsCallIn journal used question entries one → IsCallIn journal used question entries other
-      same_end one other is call = subst (IsCallIn journal used question entries) is call
+      -- nothing is missed
+      pub nothing_missed : (question : Question) (entries : List Entry) (number : ℕ) → ¬ IsCallIn journal used question entries (Some (called.Missing number))
+      nothing_missed question entries number call = (finds question entries (called.Missing number) number call).0 refl
 
-      pub names_all : (series : List Series) (sources : List ℕ) → IsCallIn journal used question entries (Some (called.Answer series sources)) → (ulid : ℕ) → IsSettled setting journal (sync_rules setting gateway) used ulid → Contains sources ulid
-      names_all series sources call ulid settled = (named_by series sources call ulid).1 (view.settled ulid settled)
+      module _ (selector : List Matcher) (low high : ℤ) (entries : List Entry) where
+        abbrev question : Question
+        question = asking selector setting.script.rules.replicas low high
 
-      pub call_is_worth : (end : Option SeriesEnd) → IsCallIn journal used question entries end → IsSoundCall setting (watched_call used sync entries) journal (sync_rules setting gateway) used question end
-      call_is_worth end call = record {
-        found = λ number is. miss_is_explained question entries number (same_end end (Some (called.Missing number)) is call);
-        undamaged = λ number is.
-            let own = same_end end (Some (called.Damaged number)) is call in
-            calls_undamaged setting journal entries used.view question number readable told (call_part used question entries (Some (called.Damaged number)) own) view.kept own.run;
-        exact = λ series sources is.
-            let own = same_end end (Some (called.Answer series sources)) is call in
-            answer_is_exact setting journal entries used.view selector low high series sources lawful readable told (call_part used question entries (Some (called.Answer series sources)) own) view.kept own.run;
-        named = λ series sources is. names series sources (same_end end (Some (called.Answer series sources)) is call);
-        covered = λ timely quick series sources is. names_all series sources (same_end end (Some (called.Answer series sources)) is call);
-      }
+        named_by : (series : List Series) (sources : List ℕ) → IsCallIn journal used question entries (Some (called.Answer series sources)) → (ulid : ℕ)
+            → Contains sources ulid ↔ ((found : Found) × Contains used.view.kept found × (found.ulid ≡ ulid))
+        named_by series sources call = sources_are setting journal entries used question series sources view.kept call
+
+        names : (series : List Series) (sources : List ℕ) → IsCallIn journal used question entries (Some (called.Answer series sources)) → All (λ ulid. IsUploadedBefore setting journal ulid used.last) sources
+        names series sources call = λ k d below.
+            let ulid = get_or sources k d in
+            let found = (named_by series sources call ulid).0 (All-contains_itself sources k d below) in
+            subst (λ (u : ℕ). IsUploadedBefore setting journal u used.last) found.2 (All-contains (λ (f : Found). IsUploadedBefore setting journal f.ulid used.last) used.view.kept found.0 view.uploaded found.1)
+
+        same_end : (one other : Option SeriesEnd) → one ≡ other → IsCallIn journal used question entries one → IsCallIn journal used question entries other
+        same_end one other is call = subst (IsCallIn journal used question entries) is call
+
+        pub names_all : (series : List Series) (sources : List ℕ) → IsCallIn journal used question entries (Some (called.Answer series sources)) → (ulid : ℕ) → IsSettled setting journal (sync_rules setting gateway) used ulid → Contains sources ulid
+        names_all series sources call ulid settled = (named_by series sources call ulid).1 (view.settled ulid settled)
+
+        pub call_is_worth : named_replicas setting.script.rules.replicas selector ≡ [] → (end : Option SeriesEnd) → IsCallIn journal used question entries end
+            → IsSoundCall setting (watched_call used sync entries) journal (sync_rules setting gateway) used question end
+        call_is_worth unnamed end call = record {
+          found = λ number is. absurd (nothing_missed question entries number (same_end end (Some (called.Missing number)) is call));
+          undamaged = λ number is. (finds question entries (called.Damaged number) number (same_end end (Some (called.Damaged number)) is call)).1 refl;
+          exact = λ series sources is.
+              answer_is_exact setting journal readable acts.kept (acting_puts setting journal acts) (acting_in_order setting journal acts) honest lawful used entries selector low high series sources unnamed
+              (same_end end (Some (called.Answer series sources)) is call) view.kept view.uploaded;
+          named = λ series sources is. names series sources (same_end end (Some (called.Answer series sources)) is call);
+          covered = λ timely quick series sources is. names_all series sources (same_end end (Some (called.Answer series sources)) is call);
+        }

@@ -1,10 +1,11 @@
 -- An answer over a view of true blocks is exact: it is the deduplication of the samples of the blocks that it names which the query
--- asks for. No object of such a call is damaged, and the answer names the blocks of the view.
+-- asks for. And the answer names the blocks of the view.
 use Rattle.list_core.proofs.Membership.{contains_first, into_filter, into_flat_map, into_map, member_cases, member_passes, no_member, of_filter, of_flat_map, of_map}
 use Rattle.lifecycle_core.proofs.blocks.Declared.{declared_lawful}
-use Rattle.std.proofs.Common.{◌≡◌, inl, inr, ℕ, ℤ, ◌≤ℤ◌, ◌<ℤ◌, Bool, true, false, ◌&&◌, List, [], ◌∷◌, map, Contains, Option, Some, refl, sym, ap, subst, arith, is_le, is_lt, int_cmp, ◌↔◌}
+use Rattle.std.proofs.Common.{◌≡◌, inl, inr, ℕ, ℤ, ◌≤ℤ◌, ◌<ℤ◌, Bool, true, false, ◌&&◌, List, [], ◌∷◌, map, Contains, Option, Some, None, refl, sym, ◌∙◌, ◌++◌, ap, subst, arith, is_le, int_cmp, ◌↔◌}
 use Rattle.std.specs.List.{All, AllByRecursion, filter, flat_map, list_any}
 use Rattle.std.specs.Option.{option_map_or}
+use Rattle.std.specs.Prelude.{int_le, int_lt, option_map}
 use Rattle.std.proofs.lemmas.Int.{ints}
 use Rattle.std.proofs.lemmas.List.Elements.{All-contains, All-contains_itself, All-filter, All-weaker, recursion_from_All}
 use Rattle.label_sets.specs.declared.label.Label.{Label}
@@ -19,20 +20,32 @@ use Rattle.vertical_merge.specs.Merged.{IsDeduplication}
 use Rattle.vertical_merge.proofs.Laws.{deduplicates}
 use Rattle.world_core.specs.declared.entry.Entry.{Entry}
 use Rattle.sync_filters.specs.declared.found.Found.{Found}
-use Rattle.meta_fetcher.specs.declared.view.View.{View}
-use Rattle.store_gateway.specs.SeriesRuns.{Query as Question, SeriesRun, ToRead, IsSetOf, meets, sources_of, to_read}
-use Rattle.store_gateway.specs.declared.series_end.SeriesEnd.{SeriesEnd}
-use Rattle.store_gateway.specs.declared.series_end.SeriesEnd.TheVariants as called
+use Rattle.matchers.specs.SelectorText.{named_replicas}
+use Rattle.vertical_merge.specs.Merged.{IsMerge}
+use Rattle.block_ranges.specs.ChunkRanges.{IsSetOf}
+use Rattle.block_ranges.specs.Reads.{Block as ToRead, Cache, Query as Question, block_of, damaged, fault, missing}
+use Rattle.series_calls.specs.Exact.{asked_of, asked_of_all}
+use Rattle.series_calls.specs.SeriesCalls.{CallEnd, Called, Gives, asking, SeriesRun, broke, end_of_break, meets, sources_of, to_read, took}
+use Rattle.series_calls.specs.declared.series_end.SeriesEnd.{SeriesEnd}
+use Rattle.series_calls.specs.declared.series_end.SeriesEnd.TheVariants as called
 use Rattle.script_core.specs.Lawful.{HasLawfulSamples, IsLawfulBlock, IsLawfulBody, IsLawfulScript}
 use Rattle.script_core.specs.Spelling.{IsWithin}
 use Rattle.script_core.specs.declared.block.Block.{Block}
 use Rattle.script_core.specs.declared.body.Body.{Body}
 use Rattle.script_core.specs.declared.body.Body.TheVariants.{Inline}
 use Rattle.script_core.proofs.SpelledValues.{within_spelled}
-use Rattle.lifecycle_core.specs.Held.{given_by, held, held_by}
+use Rattle.lifecycle_core.specs.Held.{declared, given, given_by, held, held_by}
 use Rattle.lifecycle_core.specs.Setting.{Setting}
-use Rattle.lifecycle_core.proofs.answers.Calls.{IsDeclared, IsTrueEnd, asked_of, held_under, true_end}
-use Rattle.lifecycle_core.proofs.journals.Told.{IsPart, IsReadable, IsTold, IsTrueFound, Spans}
+use Rattle.lifecycle_core.specs.Completed.{IsUploadedBefore}
+use Rattle.lifecycle_core.specs.Holdings.{Use}
+use Rattle.lifecycle_core.specs.SyncsAndCalls.{IsCallIn}
+use Rattle.lifecycle_core.proofs.answers.HonestCalls.{call_merges, lists_of, true_met}
+use Rattle.lifecycle_core.proofs.blocks.Whole.{Spans}
+use Rattle.lifecycle_core.proofs.journals.InOrder.{AllInOrder}
+use Rattle.lifecycle_core.proofs.journals.TellingPuts.{PutsShipped}
+use Rattle.lifecycle_core.proofs.journals.Told.{IsReadable, IsTrueFound}
+use Rattle.world_core.specs.Standing.{IsHonest}
+use Rattle.world_core.specs.Worlds.{IsJournal}
 
 -- ---- deduplications
 
@@ -76,42 +89,36 @@ unfolding is_selected
 range_holds matchers low high t passes = right_holds (is_match matchers t.labels) (is_between low high t.time) passes
 
 -- a block meets the range where a sample of it is within both
-meets_range : (low high first last time : ℤ) → is_between low high time ≡ true → first ≤ℤ time → time <ℤ last → (is_le (int_cmp first high) && is_lt (int_cmp low last)) ≡ true
+meets_range : (low high first last time : ℤ) → is_between low high time ≡ true → first ≤ℤ time → time <ℤ last → (int_le first high && int_lt low last) ≡ true
 meets_range low high first last time within from below = grind (arith, ints)
 
 -- ---- members
 
--- what a call needs to know of a block
-abbrev known : Found → ToRead
-known block = record { ulid = block.ulid; external = block.meta.labels }
+-- what a block holds that may be declared
+abbrev held_under : Setting → List (List ℕ) → ℕ → List Triple
+held_under setting replicas ulid = option_map_or (held_by setting replicas) (declared setting.script ulid) []
 
 module _ (p : Triple → Bool) (h : ℕ → List Triple) (m : Found → Bool) (kept : List Found) (sources : List ℕ) where
-  abbrev reads : List ToRead
-  reads = map known (filter m kept)
+  abbrev reads : List Found
+  reads = filter m kept
 
   taken_held : ((found : Found) → Contains kept found → Contains sources found.ulid) → (t : Triple)
-      → Contains (flat_map (λ (b : ToRead). filter p (h b.ulid)) reads) t → Contains (filter p (flat_map h sources)) t
+      → Contains (flat_map (λ (f : Found). filter p (h f.ulid)) reads) t → Contains (filter p (flat_map h sources)) t
   taken_held named t among =
-      let b = of_flat_map (λ (b : ToRead). filter p (h b.ulid)) reads t among in
-      let f = of_map known (filter m kept) b.0 b.1 in
-      let found : Found = f.0 in
-      let same : found.ulid ≡ b.0.ulid = ap (λ (x : ToRead). x.ulid) f.2 in
-      let own : Contains (h b.0.ulid) t = of_filter p (h b.0.ulid) t b.2 in
-      let name : Contains sources b.0.ulid = subst (Contains sources) same (named found (of_filter m kept found f.1)) in
-      into_filter p (flat_map h sources) t (into_flat_map h sources b.0.ulid t name own) (member_passes p (h b.0.ulid) t b.2)
+      let f = of_flat_map (λ (f : Found). filter p (h f.ulid)) reads t among in
+      let own : Contains (h f.0.ulid) t = of_filter p (h f.0.ulid) t f.2 in
+      into_filter p (flat_map h sources) t (into_flat_map h sources f.0.ulid t (named f.0 (of_filter m kept f.0 f.1)) own) (member_passes p (h f.0.ulid) t f.2)
 
   held_taken : ((ulid : ℕ) → Contains sources ulid → (found : Found) × Contains kept found × (found.ulid ≡ ulid))
       → ((found : Found) → Contains kept found → (t : Triple) → Contains (h found.ulid) t → p t ≡ true → m found ≡ true) → (t : Triple)
-      → Contains (filter p (flat_map h sources)) t → Contains (flat_map (λ (b : ToRead). filter p (h b.ulid)) reads) t
+      → Contains (filter p (flat_map h sources)) t → Contains (flat_map (λ (f : Found). filter p (h f.ulid)) reads) t
   held_taken names meet t among =
       let passes : p t ≡ true = member_passes p (flat_map h sources) t among in
       let u = of_flat_map h sources t (of_filter p (flat_map h sources) t among) in
       let n = names u.0 u.1 in
       let found : Found = n.0 in
       let own : Contains (h found.ulid) t = subst (λ z. Contains (h z) t) (sym n.2) u.2 in
-      let b : ToRead = known found in
-      let read : Contains reads b = into_map known (filter m kept) found (into_filter m kept found n.1 (meet found n.1 t own passes)) in
-      into_flat_map (λ (x : ToRead). filter p (h x.ulid)) reads b t read (into_filter p (h found.ulid) t own passes)
+      into_flat_map (λ (f : Found). filter p (h f.ulid)) reads found t (into_filter m kept found n.1 (meet found n.1 t own passes)) (into_filter p (h found.ulid) t own passes)
 
 -- ---- sources
 
@@ -135,42 +142,42 @@ found_source setting kept sources all set found among =
 
 -- ---- calls
 
-to_declared : (setting : Setting) (kept : List Found) → AllByRecursion (IsTrueFound setting) kept
-    → AllByRecursion (IsDeclared setting) (map known kept)
-to_declared setting [] all = tt
-to_declared setting (b ∷ kept) all =
-    let f : IsTrueFound setting b = all.0 in (record { block = f.block; is = f.is; small = f.small; labels = f.labels }, to_declared setting kept all.1)
-
-told_part : (setting : Setting) (journal entries : List Entry) → All (IsTold setting journal) journal → IsPart journal entries → AllByRecursion (IsTold setting journal) entries
-told_part setting journal entries told part =
-    recursion_from_All (IsTold setting journal) entries
-    (All-weaker (Contains entries) (IsTold setting journal) (λ e among. All-contains (IsTold setting journal) journal e told (part.among e among)) entries (All-contains_itself entries))
-
 -- what is taken in a call over these blocks
 abbrev taken_of : Setting → Question → List Found → List Triple
-taken_of setting query kept = flat_map (λ (b : ToRead). asked_of setting query b.ulid) (to_read query kept)
+taken_of setting query kept = flat_map (λ (f : Found). selected query.selector query.low query.high (held_under setting query.replicas f.ulid)) (filter (meets query) kept)
 
-pub end_of_call : (setting : Setting) (journal entries : List Entry) (view : View) (query : Question) (end : Option SeriesEnd) → IsReadable setting → All (IsTold setting journal) journal → IsPart journal entries
-    → All (IsTrueFound setting) view.kept → SeriesRun view query entries end → IsTrueEnd (taken_of setting query view.kept) (sources_of view.kept) end
-end_of_call setting journal entries view query end readable told part kept run =
-    let those : All (IsTrueFound setting) (filter (meets query) view.kept) = All-filter (meets query) (IsTrueFound setting) view.kept kept in
-    true_end setting journal readable query (sources_of view.kept) (to_read query view.kept) [] (taken_of setting query view.kept) entries end refl
-    (to_declared setting (filter (meets query) view.kept) (recursion_from_All (IsTrueFound setting) (filter (meets query) view.kept) those)) (told_part setting journal entries told part) run
+taken_one : (setting : Setting) (query : Question) (found : Found) (t : IsTrueFound setting found)
+    → asked_of query (block_of found.ulid found.meta) (given setting t.block) ≡ selected query.selector query.low query.high (held_under setting query.replicas found.ulid)
+unfolding held_by
+taken_one setting query found t =
+    let pick : List Triple → List Triple = selected query.selector query.low query.high in
+    ap (λ (ls : List Label). pick (flat_map (λ (s : Series). triples_under (final_of s.labels ls query.replicas) s.samples) (given setting t.block))) t.labels
+    ∙ ap (λ (o : Option Block). pick (option_map_or (held_by setting query.replicas) o [])) (sym t.is)
 
--- no object of such a call is damaged
-pub calls_undamaged : (setting : Setting) (journal entries : List Entry) (view : View) (query : Question) (number : ℕ) → IsReadable setting → All (IsTold setting journal) journal → IsPart journal entries
-    → All (IsTrueFound setting) view.kept → ¬ SeriesRun view query entries (Some (called.Damaged number))
-calls_undamaged setting journal entries view query number readable told part kept run =
-    (end_of_call setting journal entries view query (Some (called.Damaged number)) readable told part kept run).undamaged number refl
+-- an answer names the sources of the view
+given_sources : (sources : List ℕ) (told : Called) (call : CallEnd) (series : List Series) (set : List ℕ) → Gives sources told call → call.end ≡ called.Answer series set → IsSetOf sources set
+given_sources sources (took taken cache) call series set ((one, own, is, merge, of), left) same = let here : own ≡ set = cc (is, same) in subst (IsSetOf sources) here of
+given_sources sources (broke (missing number) cache) call series set (is, left) same = absurd (cc (is, same))
+given_sources sources (broke (damaged number) cache) call series set (is, left) same = absurd (cc (is, same))
+given_sources sources (broke (fault number) cache) call series set (is, left) same = absurd (cc (is, same))
+
+-- the end of a call that came to one
+pub own_end : (own : Option CallEnd) (end : SeriesEnd) → Some end ≡ option_map (λ (call : CallEnd). call.end) own → (call : CallEnd) × (own ≡ Some call) × (call.end ≡ end)
+own_end None end is = absurd (cc (is))
+own_end (Some call) end is = (call, refl, cc (is))
+
+pub call_sources : (journal entries : List Entry) (used : Use) (query : Question) (series : List Series) (sources : List ℕ) → IsCallIn journal used query entries (Some (called.Answer series sources)) → IsSetOf (sources_of used.view.kept) sources
+call_sources journal entries used query series sources call =
+    let own = own_end call.own (called.Answer series sources) call.is in
+    let run : SeriesRun used.view query call.cache entries (Some own.0) = subst (SeriesRun used.view query call.cache entries) own.1 call.run in
+    given_sources (sources_of used.view.kept) run.0 own.0 series sources run.2 own.2
 
 -- it names the blocks of its view
-pub sources_are : (setting : Setting) (journal entries : List Entry) (view : View) (query : Question) (series : List Series) (sources : List ℕ) → IsReadable setting → All (IsTold setting journal) journal
-    → IsPart journal entries → All (IsTrueFound setting) view.kept → SeriesRun view query entries (Some (called.Answer series sources))
-    → (ulid : ℕ) → Contains sources ulid ↔ ((found : Found) × Contains view.kept found × (found.ulid ≡ ulid))
-sources_are setting journal entries view query series sources readable told part kept run ulid =
-    let end = end_of_call setting journal entries view query (Some (called.Answer series sources)) readable told part kept run in
-    let set : IsSetOf (sources_of view.kept) sources = (end.answer series sources refl).1 in
-    (source_found setting view.kept sources kept set ulid, λ f. subst (Contains sources) f.2 (found_source setting view.kept sources kept set f.0 f.1))
+pub sources_are : (setting : Setting) (journal entries : List Entry) (used : Use) (query : Question) (series : List Series) (sources : List ℕ) → All (IsTrueFound setting) used.view.kept
+    → IsCallIn journal used query entries (Some (called.Answer series sources)) → (ulid : ℕ) → Contains sources ulid ↔ ((found : Found) × Contains used.view.kept found × (found.ulid ≡ ulid))
+sources_are setting journal entries used query series sources kept call ulid =
+    let set : IsSetOf (sources_of used.view.kept) sources = call_sources journal entries used query series sources call in
+    (source_found setting used.view.kept sources kept set ulid, λ f. subst (Contains sources) f.2 (found_source setting used.view.kept sources kept set f.0 f.1))
 
 -- ---- exact answers
 
@@ -199,19 +206,35 @@ module _ (setting : Setting) (lawful : IsLawfulScript setting.script) (matchers 
       held_taken (is_selected matchers low high) (held_under setting setting.script.rules.replicas) (meets asked) kept sources (source_found setting kept sources all set)
       (λ found c. meets_asked found (All-contains (IsTrueFound setting) kept found all c)) t among
 
--- a call's answer is exact
-pub answer_is_exact : (setting : Setting) (journal entries : List Entry) (view : View) (matchers : List Matcher) (low high : ℤ) (series : List Series) (sources : List ℕ)
-    → IsLawfulScript setting.script → IsReadable setting → All (IsTold setting journal) journal → IsPart journal entries → All (IsTrueFound setting) view.kept
-    → SeriesRun view (record { selector = matchers; replicas = setting.script.rules.replicas; low = low; high = high }) entries (Some (called.Answer series sources))
-    → IsQueryAnswer matchers low high (triples_of series) (held setting sources)
-answer_is_exact setting journal entries view matchers low high series sources lawful readable told part kept run =
-    let query : Question = record { selector = matchers; replicas = setting.script.rules.replicas; low = low; high = high } in
-    let end = end_of_call setting journal entries view query (Some (called.Answer series sources)) readable told part kept run in
-    let answer = end.answer series sources refl in
-    let total : List Triple = taken_of setting query view.kept in
-    let dedup : IsDeduplication (triples_of series) total = deduplicates total total series refl answer.0 in
-    record {
-      ascending = dedup.ascending;
-      one_to_one = same_one_to_one (triples_of series) total (selected matchers low high (held setting sources))
-          (into_held setting lawful matchers low high view.kept sources kept answer.1) (from_held setting lawful matchers low high view.kept sources kept answer.1) dedup.one_to_one;
-    }
+-- ---- calls of an honest journal
+
+module _ (setting : Setting) (journal : List Entry) (readable : IsReadable setting) (kept : IsJournal setting.script.rules.tick.ms journal) (puts : All (PutsShipped setting) journal) (ordered : AllInOrder setting journal) (honest : IsHonest journal) where
+  taken_all : (query : Question) (blocks : List Found) (all : AllByRecursion (IsTrueFound setting) blocks)
+      → asked_of_all query (map (λ (b : Found). block_of b.ulid b.meta) blocks) (lists_of setting journal readable kept puts ordered honest blocks all)
+      ≡ flat_map (λ (f : Found). selected query.selector query.low query.high (held_under setting query.replicas f.ulid)) blocks
+  taken_all query [] all = refl
+  taken_all query (b ∷ blocks) all = λ i. taken_one setting query b all.0 i ++ taken_all query blocks all.1 i
+
+  -- a call's answer is exact
+  pub answer_is_exact : IsLawfulScript setting.script → (used : Use) (entries : List Entry) (matchers : List Matcher) (low high : ℤ) (series : List Series) (sources : List ℕ)
+      → named_replicas setting.script.rules.replicas matchers ≡ []
+      → (call : IsCallIn journal used (asking matchers setting.script.rules.replicas low high) entries (Some (called.Answer series sources))) (true_ones : All (IsTrueFound setting) used.view.kept)
+      → All (λ (f : Found). IsUploadedBefore setting journal f.ulid used.last) used.view.kept → IsQueryAnswer matchers low high (triples_of series) (held setting sources)
+  answer_is_exact lawful used entries matchers low high series sources unnamed call true_ones complete =
+      let query : Question = asking matchers setting.script.rules.replicas low high in
+      let end : Option SeriesEnd = Some (called.Answer series sources) in
+      let own = own_end call.own (called.Answer series sources) call.is in
+      let met = true_met setting journal readable kept puts ordered honest used query entries end call true_ones complete in
+      let lists = lists_of setting journal readable kept puts ordered honest (filter (meets query) used.view.kept) met in
+      let total : List Triple = asked_of_all query (to_read query used.view.kept) lists in
+      let same : total ≡ taken_of setting query used.view.kept = taken_all query (filter (meets query) used.view.kept) met in
+      let merge : IsMerge total series = call_merges setting journal readable kept puts ordered honest used query entries end call true_ones complete unnamed series sources own.0.cache
+      (own.1 ∙ ap (λ (e : SeriesEnd). Some (record { end = e; cache = own.0.cache })) own.2) in
+      let set : IsSetOf (sources_of used.view.kept) sources = call_sources journal entries used query series sources call in
+      let dedup : IsDeduplication (triples_of series) total = deduplicates total total series refl merge in
+      record {
+        ascending = dedup.ascending;
+        one_to_one = same_one_to_one (triples_of series) total (selected matchers low high (held setting sources))
+            (λ t among. into_held setting lawful matchers low high used.view.kept sources true_ones set t (subst (λ ts. Contains ts t) same among))
+            (λ t among. subst (λ ts. Contains ts t) (sym same) (from_held setting lawful matchers low high used.view.kept sources true_ones set t among)) dedup.one_to_one;
+      }

@@ -1,14 +1,15 @@
 -- What the asked gateways answered to a query is the query's answer: the merge of their series, with what each of them names.
 use Rattle.std.proofs.Common.{◌≡◌, inl, inr, ℕ, ℤ, zero, suc, ◌+◌, List, [], ◌∷◌, length, map, Option, Some, None, refl, sym, ◌∙◌, ap, subst}
-use Rattle.std.specs.Prelude.{slice_get}
+use Rattle.std.specs.Prelude.{option_map, slice_get}
 use Rattle.std.specs.List.{AllZip, flat_map, range_with_len}
 use Rattle.label_sets.specs.Triples.{triples_of}
 use Rattle.label_sets.specs.declared.series.Series.{Series}
 use Rattle.matchers.specs.declared.matcher.Matcher.{Matcher}
 use Rattle.vertical_merge.specs.Merged.{IsMerge}
 use Rattle.world_core.specs.declared.entry.Entry.{Entry}
-use Rattle.store_gateway.specs.SeriesRuns.{Query as Question}
-use Rattle.store_gateway.specs.declared.series_end.SeriesEnd.TheVariants as called
+use Rattle.block_ranges.specs.Reads.{Query as Question}
+use Rattle.series_calls.specs.SeriesCalls.{CallEnd}
+use Rattle.series_calls.specs.declared.series_end.SeriesEnd.TheVariants as called
 use Rattle.querier.specs.declared.answer.Names.{Names}
 use Rattle.querier.specs.declared.ask.Ask.{Ask}
 use Rattle.script_core.specs.Workers.{workers_of}
@@ -22,13 +23,13 @@ use Rattle.script_workers.specs.declared.work.Work.TheVariants.{Query}
 use Rattle.script_workers.specs.declared.worker.Worker.{Worker}
 use Rattle.lifecycle_core.specs.Conducts.{CameTo, Who, who_of}
 use Rattle.lifecycle_core.specs.Guarantees.{IsGiven, IsPartGiven, Named, ask_by, names_by}
-use Rattle.lifecycle_core.specs.Holdings.{Use}
+use Rattle.lifecycle_core.specs.Holdings.{Holding, Use}
 use Rattle.lifecycle_core.specs.Phases.{IsRunOf}
 use Rattle.lifecycle_core.specs.Setting.{Setting}
 use Rattle.lifecycle_core.specs.Tasks.{End, PartTask, QueryTask, TaskRun, answered, ask_to, not_asked, question_of}
-use Rattle.lifecycle_core.proofs.Assembling.{task_called}
+use Rattle.lifecycle_core.proofs.answers.EndsAreCalls.{task_called}
 use Rattle.lifecycle_core.proofs.journals.Telling.{journal_rises}
-use Rattle.lifecycle_core.proofs.phases.GatewayParts.{ask_gateway, asked_each, asks_on, asks_with}
+use Rattle.lifecycle_core.proofs.phases.GatewayParts.{ask_gateway, asked_each, asks_on, asks_with, query_is}
 use Rattle.lifecycle_core.proofs.phases.TasksMade.{IsMadeBy, answers_are_made}
 
 -- a gateway's answer, with the view that it used
@@ -83,16 +84,19 @@ unfolding hands_of_task
 hands_asked gateways place low high selector = refl
 
 -- an asked gateway does not end as one that is not
-no_query_unasked : (used : Option Use) (asked : Option Question) (entries : List Entry) → ¬ QueryTask used asked entries (Some not_asked)
-no_query_unasked None asked entries (nil, inl none) = cc (none)
-no_query_unasked None asked entries (nil, inr same) = cc (same)
-no_query_unasked (Some used) None entries run = run
-no_query_unasked (Some used) (Some asked) entries (None, run, same) = cc (same)
-no_query_unasked (Some used) (Some asked) entries (Some own, run, same) = cc (same)
+no_query_unasked : (used : Option Use) (asked : Option Question) (before after : Holding) (entries : List Entry) → ¬ QueryTask used asked before entries (Some not_asked) after
+no_query_unasked used asked before after entries run = elim (query_is used asked before entries (Some not_asked) after run) [
+  | inl none ↦ elim none.0.1 [ inl off ↦ cc (off) | inr same ↦ cc (same) ]
+  | inr call ↦ no_call call.from call.own call.came
+]
+  where
+    no_call : (from : Use) (own : Option CallEnd) → Some not_asked ≡ option_map (λ (c : CallEnd). answered from c.end) own → ⊥
+    no_call from None is = cc (is)
+    no_call from (Some own) is = cc (is)
 
-unasked : (setting : Setting) (selector : ℕ) (ask : Option Ask) (used : Option Use) (entries : List Entry) → PartTask setting selector ask used entries (Some not_asked) → ask ≡ None
-unasked setting selector None used entries run = refl
-unasked setting selector (Some ask) used entries run = absurd (no_query_unasked used (question_of setting selector ask) entries run)
+unasked : (setting : Setting) (selector : ℕ) (ask : Option Ask) (before after : Holding) (entries : List Entry) → PartTask setting selector ask before entries (Some not_asked) after → ask ≡ None
+unasked setting selector None before after entries run = refl
+unasked setting selector (Some ask) before after entries run = absurd (no_query_unasked before.used (question_of setting selector ask) before after entries run)
 
 module _ (setting : Setting) (journal : List Entry) (ends : List (List (List End))) (run : IsRunOf setting journal ends) (low high : ℤ) (selector : List Matcher) (parts : List (Option Part)) (all : AllAnswered setting ends low high selector parts) where
   abbrev gateways : ℕ
@@ -123,8 +127,8 @@ module _ (setting : Setting) (journal : List Entry) (ends : List (List (List End
         let made = came_by not_asked came in
         let m = made.0 in
         let by : m.who.gateway ≡ Some gateway = ap (λ (who : Who). who.gateway) made.1 ∙ came.is in
-        let own = (subst (λ (w : Work). TaskRun setting m.who m.place w m.held m.entries (Some not_asked) m.after) all.asks m.run).0 in
-        ap (λ (o : Option ℕ). ask_to setting o low high) (sym by) ∙ unasked setting all.selector_number (ask_to setting m.who.gateway low high) m.held.used m.entries own
+        let own = subst (λ (w : Work). TaskRun setting m.who m.place w m.held m.entries (Some not_asked) m.after) all.asks m.run in
+        ap (λ (o : Option ℕ). ask_to setting o low high) (sym by) ∙ unasked setting all.selector_number (ask_to setting m.who.gateway low high) m.held m.after m.entries own
 
     -- one that came to an answer was asked
     is_asked : (part : Part) → CameTo workers all.phase_ends (Some gateway) all.place (end_of (Some part)) → (own : Ask) × (ask gateway ≡ Some own)
@@ -132,7 +136,7 @@ module _ (setting : Setting) (journal : List Entry) (ends : List (List (List End
         let made = came_by (end_of (Some part)) came in
         let m = made.0 in
         let by : m.who.gateway ≡ Some gateway = ap (λ (who : Who). who.gateway) made.1 ∙ came.is in
-        let call = task_called setting m.who m.place all.task.work m.held m.after m.entries part.used part.series part.sources low high all.selector_number selector all.asks all.selects m.run in (
+        let call = task_called setting m.who m.place all.task.work m.held m.after m.entries part.used (called.Answer part.series part.sources) low high all.selector_number selector all.asks all.selects m.run in (
           call.0,
           ap (λ (o : Option ℕ). ask_to setting o low high) (sym by) ∙ call.1,
         )

@@ -1,17 +1,25 @@
--- What the blocks of a lawful script are shipped with is read again.
-use Rattle.script_core.specs.Lawful.{IsLawfulScript}
-use Rattle.lifecycle_core.proofs.blocks.MetasAgain.{metas_again}
-use Rattle.lifecycle_core.proofs.blocks.Declared.{blocks_are_small, declared_lawful}
-use Rattle.lifecycle_core.proofs.blocks.SegmentsAgain.{segments_again, segments_once}
-use Rattle.lifecycle_core.proofs.journals.Told.{IsReadable}
+-- The blocks of a lawful script are whole where they are shipped.
+use Rattle.std.proofs.Common.{◌≡◌, List, refl}
+use Rattle.block_keys.specs.declared.object.Object.{Object}
+use Rattle.script_core.specs.Lawful.{IsLawfulBlock, IsLawfulScript}
+use Rattle.script_core.specs.declared.block.Block.{Block}
+use Rattle.script_core.specs.declared.body.Body.{Body}
+use Rattle.script_core.specs.declared.body.Body.TheVariants.{Inline}
 use Rattle.lifecycle_core.specs.Setting.{Setting}
+use Rattle.lifecycle_core.specs.Shipped.{AreBuilt}
+use Rattle.lifecycle_core.proofs.blocks.Declared.{blocks_are_small, declared_lawful}
+use Rattle.lifecycle_core.proofs.blocks.InlineBlocks.{whole_inline}
+use Rattle.lifecycle_core.proofs.blocks.OneShipped.{one_shipped}
+use Rattle.lifecycle_core.proofs.blocks.Whole.{IsWholeBlock}
+use Rattle.lifecycle_core.proofs.journals.Told.{IsReadable}
+
+whole_block : (setting : Setting) (block : Block) (body : Body) (objects : List Object) → IsLawfulBlock block → block.body ≡ body → AreBuilt setting block body objects → IsWholeBlock setting block objects
+whole_block setting block (Inline low high series) objects own body is =
+    whole_inline setting block low high series objects body own.ulid own.labels.set own.labels.named own.labels.texts is
 
 pub is_readable : (setting : Setting) → IsLawfulScript setting.script → IsReadable setting
 is_readable setting lawful = record {
   small = λ ulid block is. blocks_are_small setting ulid block is lawful;
-  metas = λ ulid block is low high series body plan of_block.
-      let own = declared_lawful setting ulid block is lawful in
-      metas_again block low high series plan own.ulid own.labels.set own.labels.named own.labels.texts body of_block;
-  segments = segments_again setting lawful;
-  once = segments_once setting lawful;
+  whole = λ ulid block is objects shipped. whole_block setting block block.body objects (declared_lawful setting ulid block is lawful) refl shipped;
+  once = λ ulid block is objects others shipped also. one_shipped setting block block.body objects others shipped also;
 }

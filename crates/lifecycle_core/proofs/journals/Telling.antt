@@ -29,11 +29,11 @@ use Rattle.world_core.specs.declared.op.Op.{Op}
 use Rattle.world_core.specs.declared.op.Op.TheVariants as op
 use Rattle.world_core.specs.declared.reply.Reply.{Reply}
 use Rattle.world_core.specs.declared.reply.Reply.TheVariants as reply
-use Rattle.script_core.specs.Lawful.{IsLawfulScript}
 use Rattle.lifecycle_core.specs.Phases.{IsRunOf}
 use Rattle.lifecycle_core.specs.Setting.{Setting}
 use Rattle.lifecycle_core.specs.Tasks.{End}
-use Rattle.lifecycle_core.proofs.misses.Explaining.{AllInOrder, WasPut, parted, run_in_order, put_stays, was_put}
+use Rattle.lifecycle_core.proofs.journals.InOrder.{AllInOrder, run_in_order}
+use Rattle.lifecycle_core.proofs.journals.Standing.{WasPut, parted, put_stays, was_put}
 use Rattle.lifecycle_core.proofs.journals.Positions.{split, stands_in}
 use Rattle.lifecycle_core.proofs.journals.TellingPuts.{PutsShipped, puts_are_shipped}
 use Rattle.lifecycle_core.proofs.journals.Told.{IsDeclaredName, IsReadable, IsShippedObject, IsTold, Rises, WasPutBefore}
@@ -90,7 +90,7 @@ root_name k =
     sym (ap (before_first (λ byte. byte == 47)) (append_assoc (map character digits) (47 ∷ []) name) ∙ to_slash digits name (below-fixed_digits 32 26 (key_ulid k) (omega arith)))
 
 -- keys that can be written have one text only where they are one
-one_key : (k other : Key) → IsLawfulKey k → IsLawfulKey other → key_ulid k < 2 ^ 128 → key_ulid other < 2 ^ 128 → key_text k ≡ key_text other → k ≡ other
+pub one_key : (k other : Key) → IsLawfulKey k → IsLawfulKey other → key_ulid k < 2 ^ 128 → key_ulid other < 2 ^ 128 → key_text k ≡ key_text other → k ≡ other
 one_key k other lawful also small little same =
     key_text-distinct k other (IsKeyText-key_text k lawful (IsUlidText-text_of (key_ulid k) small)) (IsKeyText-key_text other also (IsUlidText-text_of (key_ulid other) little)) same
 
@@ -176,14 +176,14 @@ module _ (setting : Setting) (journal : List Entry) (readable : IsReadable setti
   }
 
 -- each entry of an honest journal tells of the script's blocks, where puts are of shipped objects and nothing is deleted
-pub all_told_by : (setting : Setting) (journal : List Entry) → IsReadable setting → IsJournal setting.script.rules.tick.ms journal → All (PutsShipped setting) journal → AllInOrder journal → IsHonest journal → All (IsTold setting journal) journal
+pub all_told_by : (setting : Setting) (journal : List Entry) → IsReadable setting → IsJournal setting.script.rules.tick.ms journal → All (PutsShipped setting) journal → AllInOrder setting journal → IsHonest journal → All (IsTold setting journal) journal
 all_told_by setting journal readable kept puts ordered honest =
     let keeps : (x : Entry) → Contains journal x → (k : Key) → x.op ≢ op.Delete k = λ x among.
     let at = parted journal x among in (ordered at.0 at.1 x at.2).keeps in
     All-weaker (Contains journal) (IsTold setting journal) (λ e among. let at = parted journal e among in entry_told setting journal readable kept puts keeps honest at.0 at.1 e at.2)
     journal (All-contains_itself journal)
 
--- as in a run of a lawful script
-pub all_told : (setting : Setting) (journal : List Entry) (ends : List (List (List End))) → IsLawfulScript setting.script → IsReadable setting → IsRunOf setting journal ends → IsHonest journal → All (IsTold setting journal) journal
-all_told setting journal ends lawful readable run honest =
-    all_told_by setting journal readable run.kept (puts_are_shipped setting journal ends run) (run_in_order setting journal ends lawful run) honest
+-- as in a run of a script
+pub all_told : (setting : Setting) (journal : List Entry) (ends : List (List (List End))) → IsReadable setting → IsRunOf setting journal ends → IsHonest journal → All (IsTold setting journal) journal
+all_told setting journal ends readable run honest =
+    all_told_by setting journal readable run.kept (puts_are_shipped setting journal ends run) (run_in_order setting journal ends run) honest

@@ -1,8 +1,8 @@
 -- The runs of a script put nothing but objects with which the script's blocks are shipped.
 use Rattle.list_core.proofs.Membership.{contains_first, contains_later}
 use Rattle.lifecycle_core.proofs.blocks.Declared.{declared_ulid}
-use Rattle.lifecycle_core.proofs.blocks.Objects.{built_ulid}
-use Rattle.std.proofs.Common.{◌≡◌, ℕ, List, [], ◌∷◌, ◌++◌, length, Contains, Option, Some, None, sym, ◌∙◌, ap, subst}
+use Rattle.lifecycle_core.proofs.blocks.OneShipped.{ends_with_meta}
+use Rattle.std.proofs.Common.{◌≡◌, ℕ, List, [], ◌∷◌, ◌++◌, length, Contains, Option, Some, None, sym, ◌∙◌, ap, subst, inl, inr}
 use Rattle.std.specs.List.{All, AllByRecursion}
 use Rattle.std.proofs.lemmas.List.Elements.{All-from_recursion, All-nil, All-weaker}
 use Rattle.block_keys.specs.Keys.{key_ulid}
@@ -18,7 +18,7 @@ use Rattle.world_core.proofs.PlanWords.{gets_ask, puts_ask}
 use Rattle.shipper.specs.Uploads.{putting, upload}
 use Rattle.shipper.specs.declared.upload_end.UploadEnd.{UploadEnd}
 use Rattle.shipper.specs.declared.upload_end.UploadEnd.TheVariants.{Already, Fault}
-use Rattle.store_gateway.specs.SeriesRuns.{Query as Question}
+use Rattle.block_ranges.specs.Reads.{Query as Question}
 use Rattle.script_core.specs.Workers.{workers_of}
 use Rattle.script_core.specs.declared.block.Block.{Block}
 use Rattle.script_workers.specs.declared.work.Work.{Work}
@@ -29,10 +29,10 @@ use Rattle.lifecycle_core.specs.Holdings.{Holding, Use, none_held}
 use Rattle.lifecycle_core.specs.Phases.{IsRunOf, by_script, by_workers}
 use Rattle.lifecycle_core.specs.Setting.{Setting}
 use Rattle.lifecycle_core.specs.Shipped.{IsShipped}
-use Rattle.lifecycle_core.specs.Tasks.{End, QueryTask, TaskRun, ask_to, sync_rules}
-use Rattle.lifecycle_core.proofs.phases.GatewayParts.{part_entries}
+use Rattle.lifecycle_core.specs.Tasks.{End, QueryTask, ShipTask, TaskRun, ask_to, sync_rules}
+use Rattle.lifecycle_core.proofs.phases.GatewayParts.{part_entries, query_is}
 use Rattle.lifecycle_core.proofs.phases.EachEntry.{phase_each, phases_each}
-use Rattle.lifecycle_core.proofs.misses.GatewayEntries.{calls, syncs}
+use Rattle.lifecycle_core.proofs.misses.GatewayEntries.{call_reads, sync_reads}
 use Rattle.lifecycle_core.specs.Acting.{IsReading}
 use Rattle.lifecycle_core.proofs.journals.Told.{IsShippedObject}
 
@@ -70,7 +70,7 @@ upload_own ulid objects entries end run =
 -- an object that is shipped for a declared block
 shipped_object : (setting : Setting) (ulid : ℕ) (block : Block) (objects : List Object) (k : Key) (bytes : List ℕ) → declared setting.script ulid ≡ Some block → IsShipped setting block objects → Contains objects (record { key = k; bytes = bytes }) → IsShippedObject setting k bytes
 shipped_object setting ulid block objects k bytes is shipped among =
-    let under : key_ulid k ≡ block.ulid = built_ulid setting block block.body objects k bytes shipped among in
+    let under : key_ulid k ≡ block.ulid = (ends_with_meta setting block block.body objects shipped).under (record { key = k; bytes = bytes }) among in
     record { block = block; is = ap (declared setting.script) (under ∙ declared_ulid setting ulid block is) ∙ is; objects = objects; shipped = shipped; among = among }
 
 -- ---- tasks and phases
@@ -86,18 +86,27 @@ reads_put setting e read k bytes is = absurd (subst IsReading is read)
 reads_put_none : (setting : Setting) (entries : List Entry) → AllByRecursion (λ (e : Entry). IsReading e.op) entries → All (PutsShipped setting) entries
 reads_put_none setting entries reads = All-weaker (λ (e : Entry). IsReading e.op) (PutsShipped setting) (λ e read k bytes is. absurd (subst IsReading is read)) entries (All-from_recursion (λ (e : Entry). IsReading e.op) entries reads)
 
-query_puts : (setting : Setting) (used : Option Use) (asked : Option Question) (entries : List Entry) (end : Option End) → QueryTask used asked entries end → All (PutsShipped setting) entries
-query_puts setting None asked entries end (nil, how) = subst (All (PutsShipped setting)) (sym nil) (All-nil (PutsShipped setting))
-query_puts setting (Some used) None entries end run = absurd run
-query_puts setting (Some used) (Some q) entries end (own, run, is) = reads_put_none setting entries (calls (λ u. Unit {0}) used.view q entries own (λ k d below. tt) run).reads
+none_put : (setting : Setting) (entries : List Entry) → entries ≡ [] → All (PutsShipped setting) entries
+none_put setting entries nil = subst (All (PutsShipped setting)) (sym nil) (All-nil (PutsShipped setting))
 
-pub task_puts : (setting : Setting) (who : Who) (place : ℕ) (w : Work) (held after : Holding) (entries : List Entry) (end : Option End) → TaskRun setting who place w held entries end after → All (PutsShipped setting) entries
-task_puts setting who place (Upload ulid stop) held after entries end ((block, is, (objects, own, shipped, run, how)), left) =
+query_puts : (setting : Setting) (used : Option Use) (asked : Option Question) (before after : Holding) (entries : List Entry) (end : Option End) → QueryTask used asked before entries end after → All (PutsShipped setting) entries
+query_puts setting used asked before after entries end run = elim (query_is used asked before entries end after run) [
+  | inl none ↦ none_put setting entries none.0.0
+  | inr call ↦ reads_put_none setting entries (call_reads call.from.view call.question before.cache entries call.own call.run)
+]
+
+ship_puts : (setting : Setting) (ulid : ℕ) (block : Block) (stop : Option ℕ) (entries : List Entry) (end : Option End) → declared setting.script ulid ≡ Some block → ShipTask setting block stop entries end → All (PutsShipped setting) entries
+ship_puts setting ulid block stop entries end is (inl (objects, own, shipped, run, how)) =
     All-weaker (λ (e : Entry). PutsOne objects e.op) (PutsShipped setting) (λ e one k bytes puts. shipped_object setting ulid block objects k bytes is shipped (one k bytes puts)) entries
     (All-from_recursion (λ (e : Entry). PutsOne objects e.op) entries (upload_own block.ulid objects entries own run))
-task_puts setting who place (Sync gateway) held after entries end (own, run, is, left) = reads_put_none setting entries (syncs (sync_rules setting gateway) [] entries own run).reads
-task_puts setting who place (Query low high selector) held after entries end (run, left) =
-    part_entries setting selector (All (PutsShipped setting)) (ask_to setting who.gateway low high) held.used entries end (All-nil (PutsShipped setting)) (λ asked own. query_puts setting held.used asked entries end own) run
+ship_puts setting ulid block stop entries end is (inr (inl (cause, none, (nil, how)))) = none_put setting entries nil
+ship_puts setting ulid block stop entries end is (inr (inr (nil, none))) = none_put setting entries nil
+
+pub task_puts : (setting : Setting) (who : Who) (place : ℕ) (w : Work) (held after : Holding) (entries : List Entry) (end : Option End) → TaskRun setting who place w held entries end after → All (PutsShipped setting) entries
+task_puts setting who place (Upload ulid stop) held after entries end ((block, is, ships), left) = ship_puts setting ulid block stop entries end is ships
+task_puts setting who place (Sync gateway) held after entries end (own, run, is, left) = reads_put_none setting entries (sync_reads (sync_rules setting gateway) entries own run)
+task_puts setting who place (Query low high selector) held after entries end run =
+    part_entries setting selector (All (PutsShipped setting)) (ask_to setting who.gateway low high) held after entries end (All-nil (PutsShipped setting)) (λ asked own. query_puts setting held.used asked held after entries end own) run
 
 -- every put of a run is that of a shipped object
 pub puts_are_shipped : (setting : Setting) (journal : List Entry) (ends : List (List (List End))) → IsRunOf setting journal ends → All (PutsShipped setting) journal

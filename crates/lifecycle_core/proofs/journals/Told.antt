@@ -1,19 +1,13 @@
 -- The words of the proofs about answers: what the entries of an honest journal tell of the blocks that a script declares, from
 -- which runs a view and an end come, and when a view is true of the script.
-use Rattle.std.specs.Prelude.{◌≡◌, ◌⊎◌, ℕ, ◌<◌, ◌≤◌, ◌^◌, ℤ, IsTrue, List, [], ◌∷◌, ◌++◌, length, All, Contains, Some, Ok}
+use Rattle.std.specs.Prelude.{◌≡◌, ◌⊎◌, ℕ, ◌<◌, ◌≤◌, ◌^◌, IsTrue, List, [], ◌∷◌, ◌++◌, length, All, Contains, Some}
 use Rattle.ulid_core.specs.UlidText.{text_of}
-use Rattle.label_sets.specs.declared.series.Series.{Series}
 use Rattle.block_keys.specs.Keys.{key_ulid}
 use Rattle.block_keys.specs.declared.key.Key.{Key}
 use Rattle.block_keys.specs.declared.key.Key.TheVariants as key
 use Rattle.block_keys.specs.declared.object.Object.{Object}
-use Rattle.block_meta.specs.declared.block_plan.BlockPlan.{BlockPlan}
-use Rattle.block_meta.specs.MetaFields.{MetaFields}
+use Rattle.block_meta.specs.MetaFields.{MetaFields, fields_of}
 use Rattle.block_meta.specs.MetaText.{IsMetaText}
-use Rattle.block_meta.specs.MetaReading.{meta_of_text}
-use Rattle.block_meta.specs.MetaValue.{meta_text}
-use Rattle.block_files.specs.Built.{built_meta, segment_text}
-use Rattle.block_files.specs.PlainForm.{IsPlainSegment}
 use Rattle.bucket_core.specs.Pages.{Ascends, Before}
 use Rattle.world_core.specs.Standing.{has_landed}
 use Rattle.world_core.specs.declared.entry.Entry.{Entry}
@@ -22,17 +16,17 @@ use Rattle.world_core.specs.declared.reply.Reply.TheVariants as reply
 use Rattle.sync_filters.specs.declared.found.Found.{Found}
 use Rattle.meta_fetcher.specs.Syncs.{SyncRun}
 use Rattle.meta_fetcher.specs.declared.sync_end.SyncEnd.TheVariants as fetched
+use Rattle.series_calls.specs.KeptRanges.{IsOfReads}
 use Rattle.script_core.specs.declared.block.Block.{Block}
-use Rattle.script_core.specs.declared.body.Body.{Body}
-use Rattle.script_core.specs.declared.body.Body.TheVariants.{Inline}
 use Rattle.script_workers.specs.declared.task.Task.{Task}
 use Rattle.lifecycle_core.specs.Breaches.{IsSeatOf}
 use Rattle.lifecycle_core.specs.Completed.{IsSettled, IsUploadedBefore}
 use Rattle.lifecycle_core.specs.Conducts.{Who, of_seat}
-use Rattle.lifecycle_core.specs.Held.{declared, given}
+use Rattle.lifecycle_core.specs.Held.{declared}
 use Rattle.lifecycle_core.specs.Holdings.{Holding, Use}
 use Rattle.lifecycle_core.specs.Setting.{Setting}
-use Rattle.lifecycle_core.specs.Shipped.{IsPlanOf, IsShipped}
+use Rattle.lifecycle_core.specs.Shipped.{IsShipped}
+use Rattle.lifecycle_core.proofs.blocks.Whole.{IsWholeBlock, Spans}
 use Rattle.lifecycle_core.specs.Tasks.{End, TaskRun, last_number, sync_rules}
 
 -- ---- what entries tell
@@ -119,24 +113,20 @@ pub record IsMade (setting : Setting) (journal : List Entry) (task : Task) (end 
   pub same : (used : Use) (is : held.used ≡ Some used) (gateway : ℕ) → who.gateway ≡ Some gateway → (origin used is).gateway ≡ gateway
   -- it was made after the sync of the view that it used
   pub later : (used : Use) → held.used ≡ Some used → All (λ e. used.last < e.seq) entries
+  -- what was in its cache was read before
+  pub earlier : List Entry
+  pub known : All (λ one. Contains journal one × All (λ e. one.seq < e.seq) entries) earlier
+  pub cached : IsOfReads earlier held.cache
 
 -- ---- what is read again
 
--- The texts with which the script's blocks are shipped are read as what they were written of, and as nothing else.
+-- The objects with which the script's blocks are shipped are whole blocks, and each is shipped in one way.
 pub record IsReadable (setting : Setting) : Type 0 where
   pub small : (ulid : ℕ) (block : Block) → declared setting.script ulid ≡ Some block → ulid < 2 ^ 128
-  pub metas : (ulid : ℕ) (block : Block) → declared setting.script ulid ≡ Some block
-      → (low high : ℤ) (series : List Series) → block.body ≡ Inline low high series → (plan : BlockPlan) → IsPlanOf block low high plan
-      → meta_of_text (meta_text (built_meta plan series)) ≡ Ok (built_meta plan series)
-  pub segments : (ulid : ℕ) (block : Block) → declared setting.script ulid ≡ Some block → IsPlainSegment (segment_text (given setting block)) (given setting block)
-  pub once : (ulid : ℕ) (block : Block) → declared setting.script ulid ≡ Some block
-      → (series : List Series) → IsPlainSegment (segment_text (given setting block)) series → series ≡ given setting block
+  pub whole : (ulid : ℕ) (block : Block) → declared setting.script ulid ≡ Some block → (objects : List Object) → IsShipped setting block objects → IsWholeBlock setting block objects
+  pub once : (ulid : ℕ) (block : Block) → declared setting.script ulid ≡ Some block → (objects others : List Object) → IsShipped setting block objects → IsShipped setting block others → objects ≡ others
 
 -- ---- true views
-
--- a body has these times
-abbrev pub Spans : Body → ℤ → ℤ → Type 0
-Spans (Inline min_time max_time series) low high = (low ≡ min_time) × (high ≡ max_time)
 
 -- the block that was found is one that the script declares, with what was shipped of it
 pub record IsTrueFound (setting : Setting) (found : Found) : Type 0 where
@@ -147,6 +137,10 @@ pub record IsTrueFound (setting : Setting) (found : Found) : Type 0 where
   pub sources : found.meta.sources ≡ found.ulid ∷ []
   pub labels : found.meta.labels ≡ block.labels
   pub times : Spans block.body found.meta.min_time found.meta.max_time
+  pub objects : List Object
+  pub shipped : IsShipped setting block objects
+  pub whole : IsWholeBlock setting block objects
+  pub meta_is : fields_of found.meta ≡ whole.meta
 
 -- The view of a gateway keeps such blocks, which were complete before its sync's last entry, and each that was settled for that sync.
 pub record IsTrueView (setting : Setting) (journal : List Entry) (gateway : ℕ) (used : Use) : Type 0 where

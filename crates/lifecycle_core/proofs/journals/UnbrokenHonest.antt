@@ -1,6 +1,7 @@
--- A journal without a lie is honest: there is a reply that shows what stands, and it differs from any other one in its text.
+-- A journal without a lie is honest: there is a reply that shows what stands, and it differs from any other one in its text. So each
+-- reply tells, or is a lie.
 use Rattle.list_core.proofs.Membership.{contains_first}
-use Rattle.std.proofs.Common.{◌≡◌, ◌↔◌, inl, inr, ℕ, zero, suc, true, List, [], ◌∷◌, ◌++◌, codes, take, drop, Contains, Option, Some, None, refl, sym, ◌∙◌, ap, subst, arith, append_assoc}
+use Rattle.std.proofs.Common.{◌≡◌, ◌↔◌, ◌⊎◌, inl, inr, ℕ, zero, suc, true, List, [], ◌∷◌, ◌++◌, codes, take, drop, Contains, Option, Some, None, refl, sym, ◌∙◌, ap, subst, arith, append_assoc}
 use Rattle.std.specs.Prelude.{IsSome, is_some, option_map, ltb}
 use Rattle.std.specs.List.{list_all}
 use Rattle.std.specs.Str.{IsAscii}
@@ -31,7 +32,7 @@ use Rattle.lifecycle_core.specs.Setting.{Setting}
 use Rattle.lifecycle_core.proofs.journals.Differing.{AreBelow, AreNames, below_both, ended, ended_below, names_low, same_behind, same_names, same_or_differ}
 use Rattle.lifecycle_core.proofs.journals.Honesty.{no_lie}
 use Rattle.lifecycle_core.proofs.journals.OwedPages.{page_there}
-use Rattle.lifecycle_core.proofs.misses.Explaining.{WasPut, was_put}
+use Rattle.lifecycle_core.proofs.journals.Standing.{WasPut, was_put}
 
 -- ---- parts of texts
 
@@ -132,9 +133,21 @@ module _ (tick : ℕ) (journal : List Entry) (kept : IsJournal tick journal) (of
 
 -- ---- one reply
 
--- no reply of the operation's kind that shows what stands differs from this one
-abbrev NoLie : Contents → Op → Reply → Type 0
-NoLie c o r = (reply : Reply) (one other : List ℕ) (x y : ℕ) → IsReplyTo o reply → Tells c o reply → shown_by r ≡ Some one → shown_by reply ≡ Some other → ¬ FirstDiffer one other x y
+-- some reply of the operation's kind that shows what stands differs from this one
+pub record Lies (c : Contents) (o : Op) (r : Reply) : Type 0 where
+  pub reply : Reply
+  pub one : List ℕ
+  pub other : List ℕ
+  pub x : ℕ
+  pub y : ℕ
+  pub kind : IsReplyTo o reply
+  pub tells : Tells c o reply
+  pub shown : shown_by r ≡ Some one
+  pub owed : shown_by reply ≡ Some other
+  pub differ : FirstDiffer one other x y
+
+lies : (c : Contents) (o : Op) (r reply : Reply) (one other : List ℕ) (x y : ℕ) → IsReplyTo o reply → Tells c o reply → shown_by r ≡ Some one → shown_by reply ≡ Some other → FirstDiffer one other x y → Lies c o r
+lies c o r reply one other x y kind tells shown owed differ = record { reply = reply; one = one; other = other; x = x; y = y; kind = kind; tells = tells; shown = shown; owed = owed; differ = differ }
 
 -- what an operation shows of an object: its bytes, or that there is none
 record ShowsObject (c : Contents) (o : Op) (object : Option (List ℕ)) : Type 0 where
@@ -151,18 +164,18 @@ absent_or_found : (bytes : List ℕ) → FirstDiffer (codes "A") (codes "F" ++ b
 absent_or_found bytes = ([], codes "A", codes "F" ++ bytes, refl, refl, refl, refl, λ e. omega (arith, e))
 
 module _ (c : Contents) (o : Op) (object : Option (List ℕ)) (shows : ShowsObject c o object) where
-  found_told : (bytes : List ℕ) → AreBelow 256 bytes → NoLie c o (Found bytes) → (it : Option (List ℕ)) → object ≡ it → Tells c o (Found bytes)
-  found_told bytes low honest None is = absurd (honest Absent (codes "F" ++ bytes) (codes "A") 70 65 shows.absent_kind (shows.absent is) refl refl (found_or_absent bytes))
-  found_told bytes low honest (Some own) is = elim (same_or_differ bytes own low (shows.low own is)) [
-    | inl same ↦ shows.found bytes (is ∙ ap (λ (b : List ℕ). Some b) (sym same))
+  found_told : (bytes : List ℕ) → AreBelow 256 bytes → (it : Option (List ℕ)) → object ≡ it → Tells c o (Found bytes) ⊎ Lies c o (Found bytes)
+  found_told bytes low None is = inr (lies c o (Found bytes) Absent (codes "F" ++ bytes) (codes "A") 70 65 shows.absent_kind (shows.absent is) refl refl (found_or_absent bytes))
+  found_told bytes low (Some own) is = elim (same_or_differ bytes own low (shows.low own is)) [
+    | inl same ↦ inl (shows.found bytes (is ∙ ap (λ (b : List ℕ). Some b) (sym same)))
     | inr apart ↦
         let d = same_behind (codes "F") bytes own apart in
-        absurd (honest (Found own) (codes "F" ++ bytes) (codes "F" ++ own) d.0 d.1 (shows.found_kind own) (shows.found own is) refl refl d.2)
+        inr (lies c o (Found bytes) (Found own) (codes "F" ++ bytes) (codes "F" ++ own) d.0 d.1 (shows.found_kind own) (shows.found own is) refl refl d.2)
   ]
 
-  absent_told : NoLie c o Absent → (it : Option (List ℕ)) → object ≡ it → Tells c o Absent
-  absent_told honest None is = shows.absent is
-  absent_told honest (Some own) is = absurd (honest (Found own) (codes "A") (codes "F" ++ own) 65 70 (shows.found_kind own) (shows.found own is) refl refl (absent_or_found own))
+  absent_told : (it : Option (List ℕ)) → object ≡ it → Tells c o Absent ⊎ Lies c o Absent
+  absent_told None is = inl (shows.absent is)
+  absent_told (Some own) is = inr (lies c o Absent (Found own) (codes "A") (codes "F" ++ own) 65 70 (shows.found_kind own) (shows.found own is) refl refl (absent_or_found own))
 
 range_of_none : (start len : ℕ) (object : Option (List ℕ)) → option_map (range_of start len) object ≡ None → object ≡ None
 range_of_none start len None is = refl
@@ -193,66 +206,72 @@ module _ (c : Contents) (low : (text bytes : List ℕ) → c text ≡ Some bytes
   are_names within (name ∷ names) more stand =
       (names_below within name (stand name (contains_first name names)), are_names within names more (λ other among. stand other (Contains-append_right (name ∷ []) names other among)))
 
-  page_told : (o : Op) (within after : List ℕ) (limit : ℕ) (names : List (List ℕ)) → AreNames names → NoLie c o (Names names)
-      → ((other : List (List ℕ)) → IsReplyTo o (Names other)) → ((other : List (List ℕ)) → IsPage c within after limit other → Tells c o (Names other)) → Tells c o (Names names)
-  page_told o within after limit names are honest kind tells =
+  page_told : (o : Op) (within after : List ℕ) (limit : ℕ) (names : List (List ℕ)) → AreNames names
+      → ((other : List (List ℕ)) → IsReplyTo o (Names other)) → ((other : List (List ℕ)) → IsPage c within after limit other → Tells c o (Names other)) → Tells c o (Names names) ⊎ Lies c o (Names names)
+  page_told o within after limit names are kind tells =
       let page = owed within after limit in
       let so : AreNames page.0 = are_names within page.0 [] (λ name among. All-contains (IsName c within) page.0 name (page.1).stand among) in
       elim (same_or_differ (ended names) (ended page.0) (ended_below names are) (ended_below page.0 so)) [
-        | inl same ↦ tells names (subst (IsPage c within after limit) (sym (same_names names page.0 are so same)) page.1)
+        | inl same ↦ inl (tells names (subst (IsPage c within after limit) (sym (same_names names page.0 are so same)) page.1))
         | inr apart ↦
             let d = same_behind (codes "N") (ended names) (ended page.0) apart in
-            absurd (honest (Names page.0) (codes "N" ++ ended names) (codes "N" ++ ended page.0) d.0 d.1 (kind page.0) (tells page.0 page.1) refl refl d.2)
+            inr (lies c o (Names names) (Names page.0) (codes "N" ++ ended names) (codes "N" ++ ended page.0) d.0 d.1 (kind page.0) (tells page.0 page.1) refl refl d.2)
       ]
 
-  reply_told : (o : Op) (r : Reply) → ShowsBytes r → NoLie c o r → Tells c o r
-  reply_told (Clock moment) r shows honest = tt
-  reply_told (Put k bytes) r shows honest = tt
-  reply_told (Delete k) r shows honest = tt
-  reply_told (Get k) Clocked shows honest = tt
-  reply_told (Get k) Stored shows honest = tt
-  reply_told (Get k) (Found bytes) shows honest = found_told c (Get k) (c (key_text k)) (get_shows k) bytes (bytes_small bytes shows) honest (c (key_text k)) refl
-  reply_told (Get k) Absent shows honest = absent_told c (Get k) (c (key_text k)) (get_shows k) honest (c (key_text k)) refl
-  reply_told (Get k) Deleted shows honest = tt
-  reply_told (Get k) (Names names) shows honest = tt
-  reply_told (Get k) (Failed landed) shows honest = tt
-  reply_told (GetRange k start len) Clocked shows honest = tt
-  reply_told (GetRange k start len) Stored shows honest = tt
-  reply_told (GetRange k start len) (Found bytes) shows honest =
+  reply_told : (o : Op) (r : Reply) → ShowsBytes r → Tells c o r ⊎ Lies c o r
+  reply_told (Clock moment) r shows = inl tt
+  reply_told (Put k bytes) r shows = inl tt
+  reply_told (Delete k) r shows = inl tt
+  reply_told (Get k) Clocked shows = inl tt
+  reply_told (Get k) Stored shows = inl tt
+  reply_told (Get k) (Found bytes) shows = found_told c (Get k) (c (key_text k)) (get_shows k) bytes (bytes_small bytes shows) (c (key_text k)) refl
+  reply_told (Get k) Absent shows = absent_told c (Get k) (c (key_text k)) (get_shows k) (c (key_text k)) refl
+  reply_told (Get k) Deleted shows = inl tt
+  reply_told (Get k) (Names names) shows = inl tt
+  reply_told (Get k) (Failed landed) shows = inl tt
+  reply_told (GetRange k start len) Clocked shows = inl tt
+  reply_told (GetRange k start len) Stored shows = inl tt
+  reply_told (GetRange k start len) (Found bytes) shows =
       let part : Option (List ℕ) = option_map (range_of start len) (c (key_text k)) in
-      found_told c (GetRange k start len) part (range_shows k start len) bytes (bytes_small bytes shows) honest part refl
-  reply_told (GetRange k start len) Absent shows honest =
+      found_told c (GetRange k start len) part (range_shows k start len) bytes (bytes_small bytes shows) part refl
+  reply_told (GetRange k start len) Absent shows =
       let part : Option (List ℕ) = option_map (range_of start len) (c (key_text k)) in
-      absent_told c (GetRange k start len) part (range_shows k start len) honest part refl
-  reply_told (GetRange k start len) Deleted shows honest = tt
-  reply_told (GetRange k start len) (Names names) shows honest = tt
-  reply_told (GetRange k start len) (Failed landed) shows honest = tt
-  reply_told (RootPage after limit) Clocked shows honest = tt
-  reply_told (RootPage after limit) Stored shows honest = tt
-  reply_told (RootPage after limit) (Found bytes) shows honest = tt
-  reply_told (RootPage after limit) Absent shows honest = tt
-  reply_told (RootPage after limit) Deleted shows honest = tt
-  reply_told (RootPage after limit) (Names names) shows honest = page_told (RootPage after limit) [] after limit names (names_low names shows) honest (λ other. tt) (λ other page. page)
-  reply_told (RootPage after limit) (Failed landed) shows honest = tt
-  reply_told (BlockPage ulid after limit) Clocked shows honest = tt
-  reply_told (BlockPage ulid after limit) Stored shows honest = tt
-  reply_told (BlockPage ulid after limit) (Found bytes) shows honest = tt
-  reply_told (BlockPage ulid after limit) Absent shows honest = tt
-  reply_told (BlockPage ulid after limit) Deleted shows honest = tt
-  reply_told (BlockPage ulid after limit) (Names names) shows honest =
-      page_told (BlockPage ulid after limit) (text_of ulid) after limit names (names_low names shows) honest (λ other. tt) (λ other page. page)
-  reply_told (BlockPage ulid after limit) (Failed landed) shows honest = tt
+      absent_told c (GetRange k start len) part (range_shows k start len) part refl
+  reply_told (GetRange k start len) Deleted shows = inl tt
+  reply_told (GetRange k start len) (Names names) shows = inl tt
+  reply_told (GetRange k start len) (Failed landed) shows = inl tt
+  reply_told (RootPage after limit) Clocked shows = inl tt
+  reply_told (RootPage after limit) Stored shows = inl tt
+  reply_told (RootPage after limit) (Found bytes) shows = inl tt
+  reply_told (RootPage after limit) Absent shows = inl tt
+  reply_told (RootPage after limit) Deleted shows = inl tt
+  reply_told (RootPage after limit) (Names names) shows = page_told (RootPage after limit) [] after limit names (names_low names shows) (λ other. tt) (λ other page. page)
+  reply_told (RootPage after limit) (Failed landed) shows = inl tt
+  reply_told (BlockPage ulid after limit) Clocked shows = inl tt
+  reply_told (BlockPage ulid after limit) Stored shows = inl tt
+  reply_told (BlockPage ulid after limit) (Found bytes) shows = inl tt
+  reply_told (BlockPage ulid after limit) Absent shows = inl tt
+  reply_told (BlockPage ulid after limit) Deleted shows = inl tt
+  reply_told (BlockPage ulid after limit) (Names names) shows =
+      page_told (BlockPage ulid after limit) (text_of ulid) after limit names (names_low names shows) (λ other. tt) (λ other page. page)
+  reply_told (BlockPage ulid after limit) (Failed landed) shows = inl tt
 
 -- ---- the journal
 
--- a reply tells exactly where it is no lie
+-- a reply tells, or it is a lie
+pub tells_or_lies : (tick : ℕ) (journal : List Entry) → IsJournal tick journal → IsOfBytes journal → Each (λ before e. Tells (stands before) e.op e.reply ⊎ ((x : ℕ) × (y : ℕ) × IsLie before e x y)) journal
+tells_or_lies tick journal kept of_bytes before after e parts =
+    elim (reply_told (stands before) (object_below tick journal kept of_bytes before after e parts) (stands_below tick journal kept of_bytes before after e parts)
+    (λ within cursor limit. page_there (stands before) within (texts_put before) (all_put before) cursor limit)
+    e.op e.reply (of_bytes before after e parts).1) [
+      | inl tells ↦ inl tells
+      | inr l ↦ inr (l.x, l.y, (l.reply, l.one, l.other, l.kind, l.tells, l.shown, l.owed, l.differ))
+    ]
+
+-- it tells exactly where it is no lie
 pub told_or_lies : (tick : ℕ) (journal : List Entry) → IsJournal tick journal → IsOfBytes journal → Each (λ before e. ((x y : ℕ) → ¬ IsLie before e x y) ↔ Tells (stands before) e.op e.reply) journal
 told_or_lies tick journal kept of_bytes before after e parts = (
-  λ none.
-      reply_told (stands before) (object_below tick journal kept of_bytes before after e parts) (stands_below tick journal kept of_bytes before after e parts)
-      (λ within cursor limit. page_there (stands before) within (texts_put before) (all_put before) cursor limit)
-      e.op e.reply (of_bytes before after e parts).1
-      (λ reply one other x y kind tells shown owed differ. none x y (reply, one, other, kind, tells, shown, owed, differ)),
+  λ none. elim (tells_or_lies tick journal kept of_bytes before after e parts) [ inl tells ↦ tells | inr lie ↦ absurd (none lie.0 lie.1 lie.2) ],
   λ tells x y. no_lie before e x y (kept.kinds before after e parts) tells,
 )
 

@@ -1,5 +1,5 @@
 -- A run that ended with a failed call has an entry of that number which was answered so.
-use Rattle.std.proofs.Common.{◌≡◌, ℕ, Bool, IsTrue, List, [], ◌∷◌, ◌++◌, length, Contains, Option, Some, None, refl, ap, subst}
+use Rattle.std.proofs.Common.{◌≡◌, ℕ, Bool, IsTrue, List, [], ◌∷◌, ◌++◌, length, Contains, Option, Some, None, refl, sym, ap, subst}
 use Rattle.std.specs.Prelude.{fold}
 use Rattle.block_keys.specs.declared.key.Key.TheVariants as key
 use Rattle.block_keys.specs.declared.object.Object.{Object}
@@ -20,11 +20,10 @@ use Rattle.meta_fetcher.specs.declared.rules.SyncRules.{SyncRules}
 use Rattle.meta_fetcher.specs.declared.sync_end.SyncEnd.{SyncEnd}
 use Rattle.meta_fetcher.specs.declared.sync_end.SyncEnd.TheVariants as fetched
 use Rattle.meta_fetcher.specs.declared.view.View.{View}
-use Rattle.store_gateway.specs.SeriesRuns.{Query as Question, Called, IsEnd as IsCallEnd, SeriesRun, ToRead, reading, series_call, sources_of, to_read}
-use Rattle.store_gateway.specs.SeriesRuns as call_told
-use Rattle.store_gateway.proofs.CallLaws.{reading_are}
-use Rattle.store_gateway.specs.declared.series_end.SeriesEnd.{SeriesEnd}
-use Rattle.store_gateway.specs.declared.series_end.SeriesEnd.TheVariants as called
+use Rattle.block_ranges.specs.Reads.{Cache, Query as Question}
+use Rattle.series_calls.specs.SeriesCalls.{CallEnd, SeriesRun}
+use Rattle.series_calls.proofs.ShownEnds.{shows_failed}
+use Rattle.series_calls.specs.declared.series_end.SeriesEnd.TheVariants as called
 use Rattle.lifecycle_core.proofs.journals.Positions.{stands_in}
 
 -- an entry of this number was answered that its call failed
@@ -110,28 +109,7 @@ sync_shows rules entries (Some last) run number is =
 
 -- ---- series calls
 
-abbrev CallShows : List Entry → Called → Type 0
-CallShows made told = (number : ℕ) → told ≡ call_told.fault number → ShowsFault made number
-
-call_fault_told : (sources : List ℕ) (told : Called) (end : SeriesEnd) (number : ℕ) → IsCallEnd sources told end → end ≡ called.Fault number → told ≡ call_told.fault number
-call_fault_told sources (call_told.took taken) end number (series, set, is, merge, set_is) same = absurd (cc (is, same))
-call_fault_told sources (call_told.missing n) end number is same = absurd (cc (is, same))
-call_fault_told sources (call_told.damaged n) end number is same = absurd (cc (is, same))
-call_fault_told sources (call_told.fault n) end number is same = let one : n ≡ number = cc (is, same) in ap call_told.fault one
-
-calls_show : (query : Question) (blocks : List ToRead) → EndsAre (λ e. Unit {0}) CallShows [] (reading query [] blocks)
-calls_show query blocks =
-    reading_are (λ e. Unit {0}) CallShows query (λ taken left. Unit {0})
-    (λ made e failed number same. (e, stands_in made [] e, cc (same), failed))
-    (λ made e taken b bs k own of is absent number same. absurd (cc (same)))
-    (λ made e bytes taken b bs own given is found wrong number same. absurd (cc (same)))
-    (λ made e bytes taken b bs own given is found none number same. absurd (cc (same)))
-    (λ e bytes series taken b bs own given is found read. tt)
-    (λ made taken own number same. absurd (cc (same)))
-    [] [] blocks tt
-
-pub call_shows : (view : View) (query : Question) (entries : List Entry) (end : Option SeriesEnd) → SeriesRun view query entries end → (number : ℕ) → end ≡ Some (called.Fault number) → ShowsFault entries number
-call_shows view query entries None run number is = absurd (cc (is))
-call_shows view query entries (Some last) (told, run, gives) number is =
-    end_is (λ e. Unit {0}) CallShows (series_call view query) [] entries told (calls_show query (to_read query view.kept)) (nothing_given entries) run number
-    (call_fault_told (sources_of view.kept) told last number gives (cc (is)))
+pub call_shows : (view : View) (query : Question) (cache : Cache) (entries : List Entry) (call : CallEnd) → SeriesRun view query cache entries (Some call) → (number : ℕ) → call.end ≡ called.Fault number → ShowsFault entries number
+call_shows view query cache entries call run number is =
+    let e = shows_failed view query cache entries call number run is in
+    (e.last, subst (λ es. Contains es e.last) (sym e.parts) (stands_in e.front [] e.last), e.is, e.replied)

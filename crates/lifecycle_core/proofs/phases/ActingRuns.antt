@@ -8,7 +8,7 @@ use Rattle.std.proofs.lemmas.List.Elements.{All-append, All-contains, All-contai
 use Rattle.std.proofs.lemmas.Option.{slice_get_within}
 use Rattle.list_core.proofs.Membership.{into_filter, into_map, member_passes, of_filter, of_map}
 use Rattle.world_core.specs.declared.entry.Entry.{Entry}
-use Rattle.store_gateway.specs.SeriesRuns.{Query as Question}
+use Rattle.block_ranges.specs.Reads.{Query as Question}
 use Rattle.script_core.proofs.SeatLaws.{are_seated}
 use Rattle.script_core.specs.Lawful.{IsLawfulScript}
 use Rattle.script_core.specs.Workers.{workers_before, workers_of}
@@ -29,10 +29,10 @@ use Rattle.lifecycle_core.specs.Holdings.{Holding, Holdings, Use, holding_of, no
 use Rattle.lifecycle_core.specs.Phases.{IsRunOf, by_script, by_workers}
 use Rattle.lifecycle_core.specs.Setting.{Setting}
 use Rattle.lifecycle_core.specs.Tasks.{End, QueryTask, TaskRun, ask_to, sync_rules}
-use Rattle.lifecycle_core.proofs.phases.GatewayParts.{part_entries}
+use Rattle.lifecycle_core.proofs.phases.GatewayParts.{part_entries, query_is}
 use Rattle.lifecycle_core.specs.Ways.{PhasesRun}
 use Rattle.lifecycle_core.proofs.journals.Positions.{zip_right}
-use Rattle.lifecycle_core.proofs.misses.GatewayEntries.{calls, syncs as sync_entries}
+use Rattle.lifecycle_core.proofs.misses.GatewayEntries.{call_reads, sync_reads}
 use Rattle.lifecycle_core.proofs.phases.TaskRuns.{got}
 
 -- ---- seats
@@ -129,18 +129,18 @@ AllRead entries = All (λ (e : Entry). IsReading e.op) entries
 none_read : (entries : List Entry) → entries ≡ [] → AllRead entries
 none_read entries nil = subst AllRead (sym nil) (All-nil (λ (e : Entry). IsReading e.op))
 
-query_reads : (used : Option Use) (asked : Option Question) (entries : List Entry) (end : Option End) → QueryTask used asked entries end → AllRead entries
-query_reads None asked entries end (nil, how) = none_read entries nil
-query_reads (Some used) None entries end run = absurd run
-query_reads (Some used) (Some q) entries end (own, run, is) =
-    All-from_recursion (λ (e : Entry). IsReading e.op) entries (calls (λ u. Unit {0}) used.view q entries own (λ k d below. tt) run).reads
+query_reads : (used : Option Use) (asked : Option Question) (before after : Holding) (entries : List Entry) (end : Option End) → QueryTask used asked before entries end after → AllRead entries
+query_reads used asked before after entries end run = elim (query_is used asked before entries end after run) [
+  | inl none ↦ none_read entries none.0.0
+  | inr call ↦ All-from_recursion (λ (e : Entry). IsReading e.op) entries (call_reads call.from.view call.question before.cache entries call.own call.run)
+]
 
 task_reads : (setting : Setting) (who : Who) (place : ℕ) (w : Work) (held after : Holding) (entries : List Entry) (end : Option End) → IsOther w → TaskRun setting who place w held entries end after → AllRead entries
 task_reads setting who place (Upload ulid stop) held after entries end other run = absurd other
 task_reads setting who place (Sync gateway) held after entries end other (own, run, is, left) =
-    All-from_recursion (λ (e : Entry). IsReading e.op) entries (sync_entries (sync_rules setting gateway) [] entries own run).reads
-task_reads setting who place (Query low high selector) held after entries end other (run, left) =
-    part_entries setting selector AllRead (ask_to setting who.gateway low high) held.used entries end (none_read [] refl) (λ asked own. query_reads held.used asked entries end own) run
+    All-from_recursion (λ (e : Entry). IsReading e.op) entries (sync_reads (sync_rules setting gateway) entries own run)
+task_reads setting who place (Query low high selector) held after entries end other run =
+    part_entries setting selector AllRead (ask_to setting who.gateway low high) held after entries end (none_read [] refl) (λ asked own. query_reads held.used asked held after entries end own) run
 
 abbrev NoUploads : List Assigned → Type 0
 NoUploads own = AllByRecursion (λ (a : Assigned). IsOther a.task.work) own

@@ -1,7 +1,7 @@
 -- A gateway's part of a query: nothing is done where it is not asked, and else its view is.
 use Rattle.list_core.proofs.Membership.{contains_place, member_cases, of_filter}
 use Rattle.std.proofs.Common.{◌≡◌, inl, inr, ℕ, ℤ, zero, suc, ◌+◌, ◌<◌, ◌≤◌, ◌==◌, Bool, true, false, cond, List, [], ◌∷◌, map, length, Contains, Option, Some, None, refl, sym, ◌∙◌, ap, subst, arith}
-use Rattle.std.specs.Prelude.{find, slice_get}
+use Rattle.std.specs.Prelude.{find, option_map, slice_get, ◌⊎◌}
 use Rattle.std.specs.List.{enumerate_from}
 use Rattle.std.proofs.lemmas.Bool.Decides.{nat_tests}
 use Rattle.std.proofs.lemmas.List.Elements.{All-contains_itself}
@@ -10,24 +10,44 @@ use Rattle.moment_core.specs.declared.partition.Partition.{Partition}
 use Rattle.querier.specs.declared.ask.Ask.{Ask}
 use Rattle.querier.specs.Asks.{ask_of, asks_from, has_times}
 use Rattle.world_core.specs.declared.entry.Entry.{Entry}
-use Rattle.store_gateway.specs.SeriesRuns.{Query as Question}
-use Rattle.lifecycle_core.specs.Holdings.{Use}
+use Rattle.block_ranges.specs.Reads.{Query as Question}
+use Rattle.lifecycle_core.specs.Holdings.{Holding, Use}
 use Rattle.lifecycle_core.specs.Setting.{Setting}
-use Rattle.lifecycle_core.specs.Tasks.{End, PartTask, QueryTask, ask_to, asks_in, not_asked, question_of}
+use Rattle.series_calls.specs.SeriesCalls.{CallEnd, SeriesRun}
+use Rattle.lifecycle_core.specs.Tasks.{End, NothingDone, PartTask, QueryTask, answered, ask_to, asks_in, called_with, not_asked, question_of, without_view}
 
 module _ (setting : Setting) (selector : ℕ) where
   -- what holds of no entries, and of those of a query of the view, holds of the part's
-  pub part_entries : (P : List Entry → Type 0) (ask : Option Ask) (used : Option Use) (entries : List Entry) (end : Option End) → P []
-      → ((asked : Option Question) → QueryTask used asked entries end → P entries) → PartTask setting selector ask used entries end → P entries
-  part_entries P None used entries end none by (nil, how) = subst P (sym nil) none
-  part_entries P (Some ask) used entries end none by run = by (question_of setting selector ask) run
+  pub part_entries : (P : List Entry → Type 0) (ask : Option Ask) (before after : Holding) (entries : List Entry) (end : Option End) → P []
+      → ((asked : Option Question) → QueryTask before.used asked before entries end after → P entries) → PartTask setting selector ask before entries end after → P entries
+  part_entries P None before after entries end none by ((nil, how), same) = subst P (sym nil) none
+  part_entries P (Some ask) before after entries end none by run = by (question_of setting selector ask) run
 
   -- the part of one that came to another end is a query of the view
-  pub part_ends : (ask : Option Ask) (used : Option Use) (entries : List Entry) (end : End) → (end ≡ not_asked → ⊥) → PartTask setting selector ask used entries (Some end)
-      → (own : Ask) × (ask ≡ Some own) × QueryTask used (question_of setting selector own) entries (Some end)
-  part_ends None used entries end differ (nil, inl none) = absurd (cc (none))
-  part_ends None used entries end differ (nil, inr same) = absurd (differ (cc (same)))
-  part_ends (Some own) used entries end differ run = (own, refl, run)
+  pub part_ends : (ask : Option Ask) (before after : Holding) (entries : List Entry) (end : End) → (end ≡ not_asked → ⊥) → PartTask setting selector ask before entries (Some end) after
+      → (own : Ask) × (ask ≡ Some own) × QueryTask before.used (question_of setting selector own) before entries (Some end) after
+  part_ends None before after entries end differ ((nil, inl none), kept) = absurd (cc (none))
+  part_ends None before after entries end differ ((nil, inr same), kept) = absurd (differ (cc (same)))
+  part_ends (Some own) before after entries end differ run = (own, refl, run)
+
+-- what is asked of a view
+pub record Asks (used : Option Use) (asked : Option Question) (before : Holding) (entries : List Entry) (end : Option End) (after : Holding) : Type 0 where
+  pub from : Use
+  pub view : used ≡ Some from
+  pub question : Question
+  pub is : asked ≡ Some question
+  pub own : Option CallEnd
+  pub run : SeriesRun from.view question before.cache entries own
+  pub came : end ≡ option_map (λ call. answered from call.end) own
+  pub left : after ≡ called_with before own
+
+-- a query of a gateway without a view does nothing, and any other is a call
+pub query_is : (used : Option Use) (asked : Option Question) (before : Holding) (entries : List Entry) (end : Option End) (after : Holding) → QueryTask used asked before entries end after
+    → (NothingDone without_view entries end × (used ≡ None) × (after ≡ before)) ⊎ Asks used asked before entries end after
+query_is None asked before entries end after run = inl (run.0, refl, run.1)
+query_is (Some used) None before entries end after run = absurd run
+query_is (Some used) (Some asked) before entries end after (own, run, is, same) =
+    inr (record { from = used; view = refl; question = asked; is = refl; own = own; run = run; came = is; left = same })
 
 -- ---- what is asked
 

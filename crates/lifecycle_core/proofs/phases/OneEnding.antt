@@ -7,12 +7,6 @@ use Rattle.std.proofs.lemmas.Bool.Decides.{nat_tests}
 use Rattle.std.proofs.lemmas.List.{length-append}
 use Rattle.std.proofs.lemmas.List.Elements.{All-cons, All-contains, All-nil, All-weaker, Contains-append_right}
 use Rattle.block_keys.specs.declared.object.Object.{Object}
-use Rattle.block_meta.specs.declared.block_plan.BlockPlan.{BlockPlan}
-use Rattle.block_meta.specs.MetaFields.{MetaFields}
-use Rattle.block_meta.specs.MetaValue.{meta_text}
-use Rattle.block_files.specs.Built.{built_meta, objects_of, segments_of}
-use Rattle.block_files.specs.PlainForm.{plain_index}
-use Rattle.label_sets.specs.declared.series.Series.{Series}
 use Rattle.world_core.specs.Plans.{ComesTo, Plan, Runs}
 use Rattle.world_core.specs.Stops.{IsBefore}
 use Rattle.world_core.specs.declared.entry.Entry.{Entry}
@@ -21,7 +15,9 @@ use Rattle.shipper.specs.Uploads.{upload}
 use Rattle.shipper.specs.declared.upload_end.UploadEnd.{UploadEnd}
 use Rattle.meta_fetcher.specs.Syncs.{IsEnd, SyncRun, sync}
 use Rattle.meta_fetcher.specs.declared.sync_end.SyncEnd.{SyncEnd}
-use Rattle.store_gateway.specs.SeriesRuns.{Query as Question, IsEnd as IsCallEnd, SeriesRun, series_call, sources_of}
+use Rattle.block_ranges.specs.Reads.{Query as Question}
+use Rattle.series_calls.specs.SeriesCalls.{CallEnd, Gives, SeriesRun, series_call, sources_of}
+use Rattle.series_calls.proofs.OneCall.{call_tells}
 use Rattle.script_workers.specs.Hands.{gateway_count, hands_of, seats_after, workers_from}
 use Rattle.script_workers.specs.declared.hand.Hand.{Hand}
 use Rattle.script_workers.specs.declared.phase.Phase.{Phase}
@@ -31,17 +27,15 @@ use Rattle.script_workers.specs.declared.work.Work.TheVariants.{Upload, Sync, Qu
 use Rattle.script_workers.specs.declared.worker.Worker.{Worker}
 use Rattle.script_core.specs.Workers.{seats_before, workers_after, workers_of}
 use Rattle.script_core.specs.declared.block.Block.{Block}
-use Rattle.script_core.specs.declared.body.Body.{Body}
-use Rattle.script_core.specs.declared.body.Body.TheVariants.{Inline}
 use Rattle.lifecycle_core.specs.Conducts.{AreDone, Assigned, PhaseRun, TasksAt, TasksRun, Who, WorkerRun, of_seat, who_of}
 use Rattle.lifecycle_core.specs.Holdings.{Holding, Holdings, Use, holding_of, none_held}
 use Rattle.lifecycle_core.specs.Phases.{IsFinished, IsRunOf, by_script, by_workers}
 use Rattle.lifecycle_core.specs.Setting.{Setting}
 use Rattle.querier.specs.declared.ask.Ask.{Ask}
-use Rattle.lifecycle_core.specs.Shipped.{AreBuilt, IsPlanOf, IsShipped}
-use Rattle.lifecycle_core.specs.Tasks.{End, IsStop, PartTask, QueryTask, TaskRun, answered, ask_to, question_of, sync_rules, synced, synced_with, uploaded}
+use Rattle.lifecycle_core.specs.Shipped.{IsShipped}
+use Rattle.lifecycle_core.specs.Tasks.{End, IsStop, PartTask, QueryTask, ShipTask, TaskRun, answered, ask_to, called_with, question_of, refused, sync_rules, synced, synced_with, uploaded}
 use Rattle.lifecycle_core.specs.Ways.{AreFinished, PhasesRun}
-use Rattle.lifecycle_core.proofs.answers.OneCall.{call_tells}
+use Rattle.lifecycle_core.proofs.blocks.OneShipped.{not_refused, one_cause, one_shipped}
 use Rattle.lifecycle_core.proofs.phases.RunFronts.{not_nil}
 use Rattle.lifecycle_core.proofs.views.SyncEnds.{sync_tells}
 
@@ -82,25 +76,6 @@ comes_once : {T E : Type 0} (plan : Plan T) (Gives : T → E → Type 0) (xs : L
 comes_once plan Gives xs last y rest None (told, run, is) more = once plan xs told y rest None run more
 comes_once plan Gives xs last y rest (Some end) (told, run, is) (also, more, so) = once plan xs told y rest (Some also) run more
 
-one_meta : (block : Block) (low high : ℤ) (series : List Series) (one other : BlockPlan) → IsPlanOf block low high one → IsPlanOf block low high other → built_meta one series ≡ built_meta other series
-unfolding built_meta
-one_meta block low high series one other is so =
-    let ulid : one.ulid ≡ other.ulid = is.ulid ∙ sym so.ulid in
-    let early : one.min_time ≡ other.min_time = is.early ∙ sym so.early in
-    let late : one.max_time ≡ other.max_time = is.late ∙ sym so.late in
-    let level : one.level ≡ other.level = is.level ∙ sym so.level in
-    let sources : one.sources ≡ other.sources = is.sources ∙ sym so.sources in
-    let parents : one.parents ≡ other.parents = is.parents ∙ sym so.parents in
-    let labels : one.labels ≡ other.labels = is.labels ∙ sym so.labels in
-    let source : one.source ≡ other.source = is.source ∙ sym so.source in
-    let made : MetaFields = built_meta one series in
-    λ i. record made { ulid = ulid i; min_time = early i; max_time = late i; level = level i; sources = sources i; parents = parents i; labels = labels i; source = source i }
-
--- there are only these objects that a declared block is shipped with
-one_shipped : (setting : Setting) (block : Block) (body : Body) (objects others : List Object) → AreBuilt setting block body objects → AreBuilt setting block body others → objects ≡ others
-one_shipped setting block (Inline low high series) objects others (plan, is, built) (other, so, also) =
-    built ∙ ap (λ (m : MetaFields). objects_of block.ulid (segments_of series) plain_index (meta_text m)) (one_meta block low high series plan other is so) ∙ sym also
-
 same_upload : (setting : Setting) (block other : Block) (objects others : List Object) (entries : List Entry) (own : Option UploadEnd) → block ≡ other → IsShipped setting block objects → IsShipped setting other others
     → Runs (upload other.ulid others) entries own → Runs (upload block.ulid objects) entries own
 same_upload setting block other objects others entries own same ships also run =
@@ -130,55 +105,86 @@ upload_tells plan stop xs one other own more run (inr (n, (stops, above, count),
 upload_tells plan stop xs one other own more run (inr (n, (stops, above, count), is)) on (inr (m, (also, over, many), so)) =
     let same : n ≡ m = cc (stops, also) in cc (is, so, same)
 
-query_once : (used : Option Use) (asked : Option Question) (xs : List Entry) (y : Entry) (rest : List Entry) (last : End) (end : Option End) → QueryTask used asked xs (Some last) → QueryTask used asked (xs ++ y ∷ rest) end → ⊥
-query_once None asked xs y rest last end run more = not_nil xs y rest more.0
-query_once (Some used) None xs y rest last end run more = run
-query_once (Some used) (Some asked) xs y rest last end (own, run, is) (also, more, so) =
-    let made = some_of (answered used) own last is in
-    comes_once (series_call used.view asked) (IsCallEnd (sources_of used.view.kept)) xs made.0 y rest also (subst (SeriesRun used.view asked xs) made.1 run) more
+-- ---- uploads
 
-query_tells : (used : Option Use) (asked : Option Question) (xs : List Entry) (one other : End) → QueryTask used asked xs (Some one) → QueryTask used asked xs (Some other) → one ≡ other
-query_tells None asked xs one other (nil, inl none) more = absurd (cc (none))
-query_tells None asked xs one other (nil, inr is) (nil', inl none) = absurd (cc (none))
-query_tells None asked xs one other (nil, inr is) (nil', inr so) = cc (is, so)
-query_tells (Some used) None xs one other run more = absurd run
-query_tells (Some used) (Some asked) xs one other (own, run, is) (also, more, so) =
-    let first = some_of (answered used) own one is in
-    let second = some_of (answered used) also other so in
-    let same = call_tells used.view asked xs first.0 second.0 (subst (SeriesRun used.view asked xs) first.1 run) (subst (SeriesRun used.view asked xs) second.1 more) in
-    first.2 ∙ ap (answered used) same ∙ sym second.2
+ship_once : (setting : Setting) (block : Block) (stop : Option ℕ) (xs : List Entry) (y : Entry) (rest : List Entry) (last : End) (end : Option End) → ShipTask setting block stop xs (Some last) → ShipTask setting block stop (xs ++ y ∷ rest) end → ⊥
+ship_once setting block stop xs y rest last end (inl (objects, own, ships, run, how)) (inl (others, also, also_ships, more, on)) =
+    upload_once (upload block.ulid objects) stop xs y rest last end own also run how (same_upload setting block block objects others (xs ++ y ∷ rest) also refl ships also_ships more) on
+ship_once setting block stop xs y rest last end (inr (inl (cause, none, (nil, how)))) (inl (others, also, ships, more, on)) = not_refused setting block block.body others cause ships none
+ship_once setting block stop xs y rest last end (inr (inr (nil, off))) more = absurd (cc (off))
+ship_once setting block stop xs y rest last end run (inr (inl (cause, none, (nil, how)))) = not_nil xs y rest nil
+ship_once setting block stop xs y rest last end run (inr (inr (nil, off))) = not_nil xs y rest nil
 
-part_once : (setting : Setting) (selector : ℕ) (ask : Option Ask) (used : Option Use) (xs : List Entry) (y : Entry) (rest : List Entry) (last : End) (end : Option End)
-    → PartTask setting selector ask used xs (Some last) → PartTask setting selector ask used (xs ++ y ∷ rest) end → ⊥
-part_once setting selector None used xs y rest last end run more = not_nil xs y rest more.0
-part_once setting selector (Some ask) used xs y rest last end run more = query_once used (question_of setting selector ask) xs y rest last end run more
+refused_is : (cause : ℕ) (one : End) → (Some one ≡ None) ⊎ (Some one ≡ Some (refused cause)) → one ≡ refused cause
+refused_is cause one (inl off) = absurd (cc (off))
+refused_is cause one (inr is) = cc (is)
 
-part_tells : (setting : Setting) (selector : ℕ) (ask : Option Ask) (used : Option Use) (xs : List Entry) (one other : End) → PartTask setting selector ask used xs (Some one) → PartTask setting selector ask used xs (Some other) → one ≡ other
-part_tells setting selector None used xs one other (nil, inl none) more = absurd (cc (none))
-part_tells setting selector None used xs one other (nil, inr is) (nil', inl none) = absurd (cc (none))
-part_tells setting selector None used xs one other (nil, inr is) (nil', inr so) = cc (is, so)
-part_tells setting selector (Some ask) used xs one other run more = query_tells used (question_of setting selector ask) xs one other run more
+ship_tells : (setting : Setting) (block : Block) (stop : Option ℕ) (xs : List Entry) (one other : End) → ShipTask setting block stop xs (Some one) → ShipTask setting block stop xs (Some other) → one ≡ other
+ship_tells setting block stop xs one other (inl (objects, own, ships, run, how)) (inl (others, also, also_ships, more, on)) =
+    upload_tells (upload block.ulid objects) stop xs one other own also run how (same_upload setting block block objects others xs also refl ships also_ships more) on
+ship_tells setting block stop xs one other (inl (objects, own, ships, run, how)) (inr (inl (cause, none, (nil, on)))) = absurd (not_refused setting block block.body objects cause ships none)
+ship_tells setting block stop xs one other (inr (inl (cause, none, (nil, how)))) (inl (others, also, ships, more, on)) = absurd (not_refused setting block block.body others cause ships none)
+ship_tells setting block stop xs one other (inr (inl (cause, none, (nil, how)))) (inr (inl (also, too, (nil', on)))) =
+    refused_is cause one how ∙ ap refused (one_cause setting block block.body cause also none too) ∙ sym (refused_is also other on)
+ship_tells setting block stop xs one other (inr (inr (nil, off))) more = absurd (cc (off))
+ship_tells setting block stop xs one other run (inr (inr (nil, off))) = absurd (cc (off))
+
+-- ---- queries
+
+query_once : (used : Option Use) (asked : Option Question) (before after later : Holding) (xs : List Entry) (y : Entry) (rest : List Entry) (last : End) (end : Option End)
+    → QueryTask used asked before xs (Some last) after → QueryTask used asked before (xs ++ y ∷ rest) end later → ⊥
+query_once None asked before after later xs y rest last end run ((nil, how), same) = not_nil xs y rest nil
+query_once (Some used) None before after later xs y rest last end run more = run
+query_once (Some used) (Some asked) before after later xs y rest last end (own, run, is, left) (also, more, so, right) =
+    let made = some_of (λ (call : CallEnd). answered used call.end) own last is in
+    comes_once (series_call used.view asked before.cache) (Gives (sources_of used.view.kept)) xs made.0 y rest also (subst (SeriesRun used.view asked before.cache xs) made.1 run) more
+
+query_tells : (used : Option Use) (asked : Option Question) (before after later : Holding) (xs : List Entry) (one other : End)
+    → QueryTask used asked before xs (Some one) after → QueryTask used asked before xs (Some other) later → (one ≡ other) × (after ≡ later)
+query_tells None asked before after later xs one other ((nil, inl none), left) more = absurd (cc (none))
+query_tells None asked before after later xs one other ((nil, inr is), left) ((nil', inl none), right) = absurd (cc (none))
+query_tells None asked before after later xs one other ((nil, inr is), left) ((nil', inr so), right) = (cc (is, so), left ∙ sym right)
+query_tells (Some used) None before after later xs one other run more = absurd run
+query_tells (Some used) (Some asked) before after later xs one other (own, run, is, left) (also, more, so, right) =
+    let first = some_of (λ (call : CallEnd). answered used call.end) own one is in
+    let second = some_of (λ (call : CallEnd). answered used call.end) also other so in
+    let same : first.0 ≡ second.0 =
+    call_tells used.view asked before.cache xs first.0 second.0 (subst (SeriesRun used.view asked before.cache xs) first.1 run) (subst (SeriesRun used.view asked before.cache xs) second.1 more) in
+    let owns : own ≡ also = first.1 ∙ ap (λ (c : CallEnd). Some c) same ∙ sym second.1 in
+    (first.2 ∙ ap (λ (c : CallEnd). answered used c.end) same ∙ sym second.2, left ∙ ap (called_with before) owns ∙ sym right)
+
+part_once : (setting : Setting) (selector : ℕ) (ask : Option Ask) (before after later : Holding) (xs : List Entry) (y : Entry) (rest : List Entry) (last : End) (end : Option End)
+    → PartTask setting selector ask before xs (Some last) after → PartTask setting selector ask before (xs ++ y ∷ rest) end later → ⊥
+part_once setting selector None before after later xs y rest last end run ((nil, how), same) = not_nil xs y rest nil
+part_once setting selector (Some ask) before after later xs y rest last end run more = query_once before.used (question_of setting selector ask) before after later xs y rest last end run more
+
+part_tells : (setting : Setting) (selector : ℕ) (ask : Option Ask) (before after later : Holding) (xs : List Entry) (one other : End)
+    → PartTask setting selector ask before xs (Some one) after → PartTask setting selector ask before xs (Some other) later → (one ≡ other) × (after ≡ later)
+part_tells setting selector None before after later xs one other ((nil, inl none), left) more = absurd (cc (none))
+part_tells setting selector None before after later xs one other ((nil, inr is), left) ((nil', inl none), right) = absurd (cc (none))
+part_tells setting selector None before after later xs one other ((nil, inr is), left) ((nil', inr so), right) = (cc (is, so), left ∙ sym right)
+part_tells setting selector (Some ask) before after later xs one other run more = query_tells before.used (question_of setting selector ask) before after later xs one other run more
 
 module _ (setting : Setting) where
   -- a task that has come to its end makes no entry more
   pub task_once : (who : Who) (place : ℕ) (w : Work) (held after later : Holding) (xs : List Entry) (y : Entry) (rest : List Entry) (last : End) (end : Option End)
       → TaskRun setting who place w held xs (Some last) after → TaskRun setting who place w held (xs ++ y ∷ rest) end later → ⊥
-  task_once who place (Upload ulid stop) held after later xs y rest last end ((block, is, (objects, own, ships, run, how)), kept) ((other, so, (others, also, also_ships, more, on)), keeps) =
-      let same : block ≡ other = cc (is, so) in
-      upload_once (upload block.ulid objects) stop xs y rest last end own also run how (same_upload setting block other objects others (xs ++ y ∷ rest) also same ships also_ships more) on
+  task_once who place (Upload ulid stop) held after later xs y rest last end ((block, is, ships), kept) ((other, so, more), keeps) =
+      let same : other ≡ block = cc (is, so) in
+      ship_once setting block stop xs y rest last end ships (subst (λ (b : Block). ShipTask setting b stop (xs ++ y ∷ rest) end) same more)
   task_once who place (Sync gateway) held after later xs y rest last end (own, run, is, kept) (also, more, so, keeps) =
       let rules = sync_rules setting gateway in
       let made = some_of synced own last is in
       comes_once (sync rules) (IsEnd rules) xs made.0 y rest also (subst (SyncRun rules xs) made.1 run) more
-  task_once who place (Query low high selector) held after later xs y rest last end (run, kept) (more, keeps) =
-      part_once setting selector (ask_to setting who.gateway low high) held.used xs y rest last end run more
+  task_once who place (Query low high selector) held after later xs y rest last end run more =
+      part_once setting selector (ask_to setting who.gateway low high) held after later xs y rest last end run more
 
   -- the entries of a task tell its end, and what its worker then holds
   pub task_tells : (who : Who) (place : ℕ) (w : Work) (held after later : Holding) (xs : List Entry) (one other : End)
       → TaskRun setting who place w held xs (Some one) after → TaskRun setting who place w held xs (Some other) later → (one ≡ other) × (after ≡ later)
-  task_tells who place (Upload ulid stop) held after later xs one other ((block, is, (objects, own, ships, run, how)), kept) ((block', so, (others, also, also_ships, more, on)), keeps) =
-      let same : block ≡ block' = cc (is, so) in
-      (upload_tells (upload block.ulid objects) stop xs one other own also run how (same_upload setting block block' objects others xs also same ships also_ships more) on, kept ∙ sym keeps)
+  task_tells who place (Upload ulid stop) held after later xs one other ((block, is, ships), kept) ((block', so, more), keeps) =
+      let same : block' ≡ block = cc (is, so) in
+      (ship_tells setting block stop xs one other ships (subst (λ (b : Block). ShipTask setting b stop xs (Some other)) same more), kept ∙ sym keeps)
   task_tells who place (Sync gateway) held after later xs one other (own, run, is, kept) (also, more, so, keeps) =
       let rules = sync_rules setting gateway in
       let first = some_of synced own one is in
@@ -186,8 +192,7 @@ module _ (setting : Setting) where
       let same = sync_tells rules xs first.0 second.0 (subst (SyncRun rules xs) first.1 run) (subst (SyncRun rules xs) second.1 more) in
       let owns : own ≡ also = first.1 ∙ ap (λ (s : SyncEnd). Some s) same ∙ sym second.1 in
       (first.2 ∙ ap synced same ∙ sym second.2, kept ∙ ap (synced_with held xs) owns ∙ sym keeps)
-  task_tells who place (Query low high selector) held after later xs one other (run, kept) (more, keeps) =
-      (part_tells setting selector (ask_to setting who.gateway low high) held.used xs one other run more, kept ∙ sym keeps)
+  task_tells who place (Query low high selector) held after later xs one other run more = part_tells setting selector (ask_to setting who.gateway low high) held after later xs one other run more
 
   -- ---- workers
 

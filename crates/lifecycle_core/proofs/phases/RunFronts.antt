@@ -8,14 +8,16 @@ use Rattle.shipper.specs.Uploads.{upload}
 use Rattle.meta_fetcher.specs.Syncs.{IsEnd, SyncRun, sync}
 use Rattle.meta_fetcher.specs.declared.rules.SyncRules.{SyncRules}
 use Rattle.meta_fetcher.specs.declared.sync_end.SyncEnd.{SyncEnd}
-use Rattle.store_gateway.specs.SeriesRuns.{Query as Question, IsEnd as IsCallEnd, series_call, sources_of}
+use Rattle.block_ranges.specs.Reads.{Query as Question}
+use Rattle.series_calls.specs.SeriesCalls.{Gives, series_call, sources_of}
+use Rattle.script_core.specs.declared.block.Block.{Block}
 use Rattle.script_workers.specs.declared.work.Work.{Work}
 use Rattle.script_workers.specs.declared.work.Work.TheVariants.{Upload, Sync, Query}
 use Rattle.lifecycle_core.specs.Conducts.{Who}
 use Rattle.lifecycle_core.specs.Holdings.{Holding, Use}
 use Rattle.lifecycle_core.specs.Setting.{Setting}
 use Rattle.querier.specs.declared.ask.Ask.{Ask}
-use Rattle.lifecycle_core.specs.Tasks.{End, IsStop, PartTask, QueryTask, TaskRun, ask_to, question_of, sync_rules}
+use Rattle.lifecycle_core.specs.Tasks.{End, IsStop, PartTask, QueryTask, ShipTask, TaskRun, ask_to, question_of, sync_rules}
 
 pub not_nil : {X : Type 0} (xs : List X) (y : X) (rest : List X) → xs ++ y ∷ rest ≡ [] → ⊥
 not_nil [] y rest is = cc (is)
@@ -34,20 +36,26 @@ before_stop stop xs y rest own end (inl (is, early)) = λ n same above. let belo
 before_stop stop xs y rest own end (inr (n, (is, above, count), same)) = λ m other above'.
     let equal : n ≡ m = cc (is, other) in omega (arith, equal, count, length-append xs (y ∷ rest))
 
-query_cut : (used : Option Use) (asked : Option Question) (xs : List Entry) (y : Entry) (rest : List Entry) (end : Option End) → QueryTask used asked (xs ++ y ∷ rest) end → QueryTask used asked xs None
-query_cut None asked xs y rest end (nil, how) = absurd (not_nil xs y rest nil)
-query_cut (Some used) None xs y rest end run = run
-query_cut (Some used) (Some asked) xs y rest end (own, run, is) = (None, comes_front (series_call used.view asked) (IsCallEnd (sources_of used.view.kept)) xs y rest own run, refl)
+query_cut : (used : Option Use) (asked : Option Question) (before after : Holding) (xs : List Entry) (y : Entry) (rest : List Entry) (end : Option End) → QueryTask used asked before (xs ++ y ∷ rest) end after → QueryTask used asked before xs None before
+query_cut None asked before after xs y rest end ((nil, how), same) = absurd (not_nil xs y rest nil)
+query_cut (Some used) None before after xs y rest end run = run
+query_cut (Some used) (Some asked) before after xs y rest end (own, run, is, same) =
+    (None, comes_front (series_call used.view asked before.cache) (Gives (sources_of used.view.kept)) xs y rest own run, refl, refl)
 
-part_cut : (setting : Setting) (selector : ℕ) (ask : Option Ask) (used : Option Use) (xs : List Entry) (y : Entry) (rest : List Entry) (end : Option End)
-    → PartTask setting selector ask used (xs ++ y ∷ rest) end → PartTask setting selector ask used xs None
-part_cut setting selector None used xs y rest end (nil, how) = absurd (not_nil xs y rest nil)
-part_cut setting selector (Some ask) used xs y rest end run = query_cut used (question_of setting selector ask) xs y rest end run
+part_cut : (setting : Setting) (selector : ℕ) (ask : Option Ask) (before after : Holding) (xs : List Entry) (y : Entry) (rest : List Entry) (end : Option End)
+    → PartTask setting selector ask before (xs ++ y ∷ rest) end after → PartTask setting selector ask before xs None before
+part_cut setting selector None before after xs y rest end ((nil, how), same) = absurd (not_nil xs y rest nil)
+part_cut setting selector (Some ask) before after xs y rest end run = query_cut before.used (question_of setting selector ask) before after xs y rest end run
+
+ship_cut : (setting : Setting) (block : Block) (stop : Option ℕ) (xs : List Entry) (y : Entry) (rest : List Entry) (end : Option End) → ShipTask setting block stop (xs ++ y ∷ rest) end → ShipTask setting block stop xs None
+ship_cut setting block stop xs y rest end (inl (objects, own, ships, run, how)) =
+    inl (objects, None, ships, front (upload block.ulid objects) xs y rest own run, inl (refl, before_stop stop xs y rest _ end how))
+ship_cut setting block stop xs y rest end (inr (inl (cause, none, (nil, how)))) = absurd (not_nil xs y rest nil)
+ship_cut setting block stop xs y rest end (inr (inr (nil, off))) = absurd (not_nil xs y rest nil)
 
 -- entries of a task's run before its last are a run without an end
 pub task_cut : (setting : Setting) (who : Who) (place : ℕ) (w : Work) (before after : Holding) (xs : List Entry) (y : Entry) (rest : List Entry) (end : Option End)
     → TaskRun setting who place w before (xs ++ y ∷ rest) end after → TaskRun setting who place w before xs None before
-task_cut setting who place (Upload ulid stop) before after xs y rest end ((block, is, (objects, own, ships, run, how)), same) =
-    ((block, is, (objects, None, ships, front (upload block.ulid objects) xs y rest own run, inl (refl, before_stop stop xs y rest _ end how))), refl)
+task_cut setting who place (Upload ulid stop) before after xs y rest end ((block, is, ships), same) = ((block, is, ship_cut setting block stop xs y rest end ships), refl)
 task_cut setting who place (Sync gateway) before after xs y rest end (own, run, is, same) = (None, sync_cut (sync_rules setting gateway) xs y rest own run, refl, refl)
-task_cut setting who place (Query low high selector) before after xs y rest end (run, same) = (part_cut setting selector (ask_to setting who.gateway low high) before.used xs y rest end run, refl)
+task_cut setting who place (Query low high selector) before after xs y rest end run = part_cut setting selector (ask_to setting who.gateway low high) before after xs y rest end run

@@ -4,7 +4,7 @@ use Rattle.std.proofs.Common.{◌≡◌, inl, inr, ℕ, zero, suc, ◌+◌, ◌<
 use Rattle.std.specs.Prelude.{fold, slice_get}
 use Rattle.std.specs.List.{All, AllByRecursion, AllZip, filter, zip}
 use Rattle.std.proofs.lemmas.Bool.Decides.{nat_tests}
-use Rattle.std.proofs.lemmas.List.Elements.{All-append, All-contains, All-contains_itself, All-filter, All-weaker, Contains-append_left, Contains-append_right, filter-append, filter_passes}
+use Rattle.std.proofs.lemmas.List.Elements.{All-append, All-cons, All-contains, All-contains_itself, All-filter, All-nil, All-weaker, Contains-append_left, Contains-append_right, filter-append, filter_passes}
 use Rattle.world_core.specs.declared.entry.Entry.{Entry}
 use Rattle.world_core.specs.Plans.{Runs, noting}
 use Rattle.meta_fetcher.specs.Syncs.{Course, SyncRun, Synced, listing, with_entry}
@@ -26,7 +26,12 @@ use Rattle.script_workers.specs.declared.worker.Worker.{Worker}
 use Rattle.lifecycle_core.specs.Breaches.{IsSeatOf}
 use Rattle.lifecycle_core.specs.Causes.{SomeCame}
 use Rattle.lifecycle_core.specs.Conducts.{Assigned, CameTo, PhaseRun, TasksAt, TasksRun, Who, WorkerRun, of_seat, who_of}
-use Rattle.lifecycle_core.specs.Holdings.{Holding, Holdings, Use, holding_of, none_held}
+use Rattle.index_cache.specs.declared.range.Range.{Range}
+use Rattle.block_ranges.specs.Reads.{Cache, Query as Question}
+use Rattle.series_calls.specs.KeptRanges.{IsOfReads, IsReadIn}
+use Rattle.series_calls.specs.SeriesCalls.{CallEnd, SeriesRun}
+use Rattle.series_calls.proofs.CallLaws.{call_keeps}
+use Rattle.lifecycle_core.specs.Holdings.{Holding, Holdings, Use, holding_of, none_held, nothing_held}
 use Rattle.lifecycle_core.specs.Phases.{IsRunOf, by_script, by_workers}
 use Rattle.lifecycle_core.specs.Setting.{Setting}
 use Rattle.lifecycle_core.specs.Tasks.{End, TaskRun, last_number, sync_rules}
@@ -202,31 +207,80 @@ module _ (setting : Setting) (journal : List Entry) where
   abbrev IsGivenBy : Option ℕ → Use → Type 0
   IsGivenBy gateway used = (o : IsOrigin setting journal used) × Sits gateway o.seat × IsRuledBy gateway o.gateway
 
-  -- The view that is held is that of such a sync, which ended before these entries.
-  abbrev IsKnown : List Entry → Option ℕ → Holding → Type 0
-  IsKnown rest gateway held = (used : Use) → held.used ≡ Some used → IsGivenBy gateway used × All (λ (e : Entry). used.last < e.seq) rest
+  -- an entry of the journal that was made before these
+  abbrev WasBefore : List Entry → Entry → Type 0
+  WasBefore rest one = Contains journal one × All (λ (e : Entry). one.seq < e.seq) rest
+
+  -- The view that is held is that of such a sync, which ended before these entries; and the cache was read by entries before them.
+  record IsKnown (rest : List Entry) (gateway : Option ℕ) (held : Holding) : Type 0 where
+    views : (used : Use) → held.used ≡ Some used → IsGivenBy gateway used × All (λ (e : Entry). used.last < e.seq) rest
+    earlier : List Entry
+    known : All (WasBefore rest) earlier
+    cached : IsOfReads earlier held.cache
+
+  -- where what holds of all of these entries holds of all of those
+  known_in : (xs ys : List Entry) → ((P : Entry → Type 0) → All P xs → All P ys) → (gateway : Option ℕ) (held : Holding) → IsKnown xs gateway held → IsKnown ys gateway held
+  known_in xs ys less gateway held is = record {
+    views = λ used same. ((is.views used same).0, less (λ (e : Entry). used.last < e.seq) (is.views used same).1);
+    earlier = is.earlier;
+    known = All-weaker (WasBefore xs) (WasBefore ys) (λ one own. (own.0, less (λ (e : Entry). one.seq < e.seq) own.1)) is.earlier is.known;
+    cached = is.cached;
+  }
 
   same_held : (rest : List Entry) (gateway : Option ℕ) (one other : Holding) → one ≡ other → IsKnown rest gateway other → IsKnown rest gateway one
   same_held rest gateway one other is known = subst (IsKnown rest gateway) (sym is) known
 
   known_after : (xs ys : List Entry) (gateway : Option ℕ) (held : Holding) → IsKnown (xs ++ ys) gateway held → IsKnown ys gateway held
-  known_after xs ys gateway held known = λ used is. ((known used is).0, all_right (λ (e : Entry). used.last < e.seq) xs ys (known used is).1)
+  known_after xs ys gateway held known = known_in (xs ++ ys) ys (λ P. all_right P xs ys) gateway held known
 
-  view_given : (made rest : List Entry) (by : Option ℕ) (seat : ℕ) → Sits by seat → IsPart journal made → IsStretch journal seat made → Rises (made ++ rest) → (gateway : ℕ) (own : Option SyncEnd) → IsRuledBy by gateway → SyncRun (sync_rules setting gateway) made own → (v : View) → own ≡ Some (fetched.View v)
-      → IsKnown rest by (record { used = Some (record { view = v; last = last_number made }) })
-  view_given made rest by seat sits part stretch rises gateway own ruled run v is = λ used same.
-      let one : record { view = v; last = last_number made } ≡ used = cc (same) in
-      let mine : SyncRun (sync_rules setting gateway) made (Some (fetched.View v)) = subst (SyncRun (sync_rules setting gateway) made) is run in
-      subst (λ (u : Use). IsGivenBy by u × All (λ (e : Entry). u.last < e.seq) rest) one (
-        (record { gateway = gateway; entries = made; run = mine; last = refl; part = part; seat = seat; stretch = stretch }, sits, ruled),
-        after_last (sync_rules setting gateway) made rest v mine rises,
-      )
+  -- those of a front were made before those behind it
+  front_before : (made rest : List Entry) → Rises (made ++ rest) → ((e : Entry) → Contains made e → Contains journal e) → All (WasBefore rest) made
+  front_before [] rest rises among = All-nil (WasBefore rest)
+  front_before (e ∷ made) rest rises among =
+      All-cons (WasBefore rest) e made
+      (among e (contains_first e made), All-weaker (λ (x : Entry). (e.seq < x.seq) × (e.moment.ms ≤ x.moment.ms)) (λ (x : Entry). e.seq < x.seq) (λ x p. p.0) rest (all_right (λ (x : Entry). (e.seq < x.seq) × (e.moment.ms ≤ x.moment.ms)) made rest rises.0))
+      (front_before made rest rises.1 (λ x own. among x (contains_later e x made own)))
+
+  more_reads : (one other : List Entry) (cache : Cache) → IsOfReads one cache → IsOfReads (one ++ other) cache
+  more_reads one other cache of =
+      All-weaker (λ (kept : Range × List ℕ). IsReadIn one kept.0 kept.1) (λ (kept : Range × List ℕ). IsReadIn (one ++ other) kept.0 kept.1)
+      (λ kept read. (read.0, Contains-append_left one other read.0 read.1, read.2, read.3)) cache.entries of
+
+  -- what a call leaves in the cache was read before, or by the call
+  call_given : (made rest : List Entry) (by : Option ℕ) (held : Holding) → IsKnown (made ++ rest) by held → IsPart journal made → Rises (made ++ rest) → (used : Use) (asked : Question) (call : CallEnd)
+      → held.used ≡ Some used → SeriesRun used.view asked held.cache made (Some call) → IsKnown rest by (record { used = held.used; cache = call.cache })
+  call_given made rest by held is part rises used asked call same run =
+      let after = known_after made rest by held is in
+      record {
+        views = after.views;
+        earlier = after.earlier ++ made;
+        known = All-append (WasBefore rest) after.earlier made after.known (front_before made rest rises part.among);
+        cached = call_keeps used.view asked held.cache made (after.earlier ++ made) call run
+            (All-weaker (Contains made) (Contains (after.earlier ++ made)) (λ e among. Contains-append_right after.earlier made e among) made (All-contains_itself made))
+            (more_reads after.earlier made held.cache after.cached);
+      }
+
+  view_given : (made rest : List Entry) (by : Option ℕ) (seat : ℕ) (held : Holding) → IsKnown rest by held → Sits by seat → IsPart journal made → IsStretch journal seat made → Rises (made ++ rest) → (gateway : ℕ) (own : Option SyncEnd) → IsRuledBy by gateway → SyncRun (sync_rules setting gateway) made own → (v : View) → own ≡ Some (fetched.View v)
+      → IsKnown rest by (record { used = Some (record { view = v; last = last_number made }); cache = held.cache })
+  view_given made rest by seat held known sits part stretch rises gateway own ruled run v is = record {
+    views = λ used same.
+        let one : record { view = v; last = last_number made } ≡ used = cc (same) in
+        let mine : SyncRun (sync_rules setting gateway) made (Some (fetched.View v)) = subst (SyncRun (sync_rules setting gateway) made) is run in
+        subst (λ (u : Use). IsGivenBy by u × All (λ (e : Entry). u.last < e.seq) rest) one (
+          (record { gateway = gateway; entries = made; run = mine; last = refl; part = part; seat = seat; stretch = stretch }, sits, ruled),
+          after_last (sync_rules setting gateway) made rest v mine rises,
+        );
+    earlier = known.earlier;
+    known = known.known;
+    cached = known.cached;
+  }
 
   after_task : (who : Who) (place : ℕ) (made rest : List Entry) (held after : Holding) (w : Work) (end : Option End) → IsFitFor who.gateway w → Sits who.gateway who.seat → IsKnown (made ++ rest) who.gateway held → IsPart journal made → IsStretch journal who.seat made → Rises (made ++ rest)
       → TaskRun setting who place w held made end after → IsKnown rest who.gateway after
   after_task who place made rest held after w end fit sits known part stretch rises run =
       task_leaves (IsKnown rest who.gateway) setting who place held (known_after made rest who.gateway held known) made w end after
-      (λ gateway own is. view_given made rest who.gateway who.seat sits part stretch rises gateway own (fit_ruled who.gateway w gateway fit is)) run
+      (λ gateway own is. view_given made rest who.gateway who.seat held (known_after made rest who.gateway held known) sits part stretch rises gateway own (fit_ruled who.gateway w gateway fit is))
+      (call_given made rest who.gateway held known part rises) run
 
   -- the task came to its end in a run that this worker made
   abbrev pub IsMadeBy : Who → Task → End → Type 0
@@ -266,10 +320,13 @@ module _ (setting : Setting) (journal : List Entry) where
         run = run;
         part = mine;
         own = all_left (λ (e : Entry). e.seat ≡ who.seat) made others seats;
-        origin = λ used same. ((had used same).0).0;
-        sits = λ used same gateway is. ((had used same).0).1 gateway is;
-        same = λ used same gateway is. ((had used same).0).2 gateway is;
-        later = λ used same. all_left (λ (e : Entry). used.last < e.seq) made (others ++ beyond) (had used same).1;
+        origin = λ used same. ((had.views used same).0).0;
+        sits = λ used same gateway is. ((had.views used same).0).1 gateway is;
+        same = λ used same gateway is. ((had.views used same).0).2 gateway is;
+        later = λ used same. all_left (λ (e : Entry). used.last < e.seq) made (others ++ beyond) (had.views used same).1;
+        earlier = had.earlier;
+        known = All-weaker (WasBefore (made ++ (others ++ beyond))) (WasBefore made) (λ one own. (own.0, all_left (λ (e : Entry). one.seq < e.seq) made (others ++ beyond) own.1)) had.earlier had.known;
+        cached = had.cached;
       } in
       (subst (AreMade who (own ∷ tasks)) (sym is) ((one, refl), tail.0), tail.1)
   tasks_made who all held last (own ∷ tasks) entries beyond ends fits sits known part stretch seat rises (inr (run, none)) =
@@ -311,7 +368,7 @@ module _ (setting : Setting) (journal : List Entry) where
     worker_made worker own w among =
         let p : Entry → Bool = λ x. x.seat == worker.seat in
         tasks_made (who_of worker) made (holding_of views worker.gateway) w.last w.own (of_seat worker.seat made) beyond own (all_fitting worker.gateway tasks worker.tasks w.own (fits worker among) w.are) (λ gateway same. (number, worker, staff worker among, same, refl))
-        (λ used same. ((known worker.gateway used same).0, all_before p (λ (e : Entry). used.last < e.seq) made beyond (known worker.gateway used same).1))
+        (known_in (made ++ beyond) (of_seat worker.seat made ++ beyond) (λ P. all_before p P made beyond) worker.gateway (holding_of views worker.gateway) (known worker.gateway))
         (part_filter journal p made part) (stretch_within journal worker.seat front made beyond is) (all_of_seat worker.seat made) (rises_before p made beyond rises) w.runs
 
     phase_made : PhaseMade tasks workers ends
@@ -359,9 +416,17 @@ module _ (setting : Setting) (journal : List Entry) where
         phases_made (number + 1) after phases (front ++ clock ∷ made) others later onward next rest ended go,
       )
 
+  nothing_known : (gateway : Option ℕ) → IsKnown journal gateway nothing_held
+  nothing_known gateway = record {
+    views = λ used is. absurd (cc (is));
+    earlier = [];
+    known = All-nil (WasBefore journal);
+    cached = All-nil (λ (kept : Range × List ℕ). IsReadIn [] kept.0 kept.1);
+  }
+
   no_view_yet : (gateway : Option ℕ) → IsKnown journal gateway (holding_of none_held gateway)
-  no_view_yet None = λ used is. absurd (cc (is))
-  no_view_yet (Some gateway) = λ used is. absurd (cc (is))
+  no_view_yet None = nothing_known None
+  no_view_yet (Some gateway) = nothing_known (Some gateway)
 
   run_made : (ends : List (List (List End))) → Rises journal → IsRunOf setting journal ends → PhasesMade 0 setting.script.phases ends
   run_made ends rises run = phases_made 0 none_held setting.script.phases [] journal ends (λ k p own. ap (slice_get setting.script.phases) (omega arith) ∙ own) no_view_yet (part_whole journal rises) refl run.phases

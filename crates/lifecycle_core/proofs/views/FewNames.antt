@@ -3,7 +3,7 @@
 use Rattle.list_core.proofs.Membership.{contains_first, contains_later, into_map}
 use Rattle.lifecycle_core.proofs.blocks.Declared.{declared_among, declared_ulid}
 use Rattle.std.proofs.Common.{◌≡◌, inl, inr, ℕ, suc, zero, ◌≤◌, true, List, [], ◌∷◌, ◌++◌, map, length, Contains, Option, Some, None, sym, ◌∙◌, ap, subst, arith}
-use Rattle.std.specs.Prelude.{fold, nat_le, unwrap_or}
+use Rattle.std.specs.Prelude.{fold, nat_le, option_map, unwrap_or}
 use Rattle.std.specs.List.{All, last_or}
 use Rattle.std.proofs.lemmas.Bool.{leb-true}
 use Rattle.std.proofs.lemmas.Cmp.{nat_list_cmp_total, tied_itself}
@@ -19,7 +19,7 @@ use Rattle.meta_fetcher.specs.declared.rules.SyncRules.{SyncRules}
 use Rattle.meta_fetcher.proofs.SyncLaws.{Comes, KeptByPages, KeptByReads, page_after, synced as walked}
 use Rattle.meta_fetcher.specs.declared.sync_end.SyncEnd.{SyncEnd}
 use Rattle.meta_fetcher.specs.declared.sync_end.SyncEnd.TheVariants as fetched
-use Rattle.store_gateway.specs.SeriesRuns.{Query as Question}
+use Rattle.block_ranges.specs.Reads.{Query as Question}
 use Rattle.script_core.specs.Lawful.{IsLawfulScript}
 use Rattle.script_core.specs.declared.block.Block.{Block}
 use Rattle.script_workers.specs.declared.work.Work.{Work}
@@ -29,9 +29,11 @@ use Rattle.lifecycle_core.specs.Conducts.{Who}
 use Rattle.lifecycle_core.specs.Holdings.{Holding, Use}
 use Rattle.lifecycle_core.specs.Phases.{IsRunOf}
 use Rattle.lifecycle_core.specs.Setting.{Setting}
-use Rattle.lifecycle_core.specs.Tasks.{End, QueryTask, TaskRun, ask_to, question_of, sync_rules, synced}
-use Rattle.lifecycle_core.proofs.phases.GatewayParts.{part_ends}
-use Rattle.lifecycle_core.proofs.misses.Explaining.{parted}
+use Rattle.lifecycle_core.specs.Tasks.{End, QueryTask, TaskRun, answered, ask_to, question_of, sync_rules, synced}
+use Rattle.lifecycle_core.proofs.phases.GatewayParts.{part_ends, query_is}
+use Rattle.lifecycle_core.proofs.phases.ShipEnds.{ship_end}
+use Rattle.series_calls.specs.SeriesCalls.{CallEnd}
+use Rattle.lifecycle_core.proofs.journals.Standing.{parted}
 use Rattle.lifecycle_core.proofs.phases.TasksMade.{ends_are_made}
 use Rattle.lifecycle_core.proofs.journals.Told.{IsDeclaredName, IsPart, IsReadable, IsTold, Rises}
 use Rattle.lifecycle_core.proofs.views.TrueViews.{own_entries}
@@ -157,25 +159,27 @@ syncs_find_few setting gateway journal (first ∷ entries) lawful readable told 
 
 -- ---- the ends
 
-query_finds_few : (used : Option Use) (asked : Option Question) (entries : List Entry) → ¬ QueryTask used asked entries (Some (synced fetched.TooMany))
-query_finds_few None asked entries (nil, inl none) = cc (none)
-query_finds_few None asked entries (nil, inr same) = cc (same)
-query_finds_few (Some used) None entries run = run
-query_finds_few (Some used) (Some asked) entries (None, run, same) = cc (same)
-query_finds_few (Some used) (Some asked) entries (Some own, run, same) = cc (same)
+query_finds_few : (used : Option Use) (asked : Option Question) (before after : Holding) (entries : List Entry) → ¬ QueryTask used asked before entries (Some (synced fetched.TooMany)) after
+query_finds_few used asked before after entries run = elim (query_is used asked before entries (Some (synced fetched.TooMany)) after run) [
+  | inl none ↦ elim none.0.1 [ inl off ↦ cc (off) | inr same ↦ cc (same) ]
+  | inr call ↦ no_call call.from call.own call.came
+]
+  where
+    no_call : (from : Use) (own : Option CallEnd) → Some (synced fetched.TooMany) ≡ option_map (λ (c : CallEnd). answered from c.end) own → ⊥
+    no_call from None is = cc (is)
+    no_call from (Some own) is = cc (is)
 
 task_finds_few : (setting : Setting) (who : Who) (place : ℕ) (w : Work) (held after : Holding) (entries : List Entry) → ((gateway : ℕ) → ¬ SyncRun (sync_rules setting gateway) entries (Some fetched.TooMany))
     → ¬ TaskRun setting who place w held entries (Some (synced fetched.TooMany)) after
-task_finds_few setting who place (Upload ulid stop) held after entries few ((block, is, (objects, None, shipped, run, inl (same, early))), left) = cc (same)
-task_finds_few setting who place (Upload ulid stop) held after entries few ((block, is, (objects, Some own, shipped, run, inl (same, early))), left) = cc (same)
-task_finds_few setting who place (Upload ulid stop) held after entries few ((block, is, (objects, own, shipped, run, inr (n, reached, same))), left) = cc (same)
+task_finds_few setting who place (Upload ulid stop) held after entries few ((block, is, ships), left) =
+    ship_end (λ (x : End). x ≡ synced fetched.TooMany → ⊥) setting block stop entries (synced fetched.TooMany) (λ objects own run same. cc (same)) (λ cause same. cc (same)) (λ n same. cc (same)) ships (λ i. synced fetched.TooMany)
 task_finds_few setting who place (Sync gateway) held after entries few (None, run, same, left) = cc (same)
 task_finds_few setting who place (Sync gateway) held after entries few (Some own, run, same, left) =
     let one : own ≡ fetched.TooMany = cc (same) in
     few gateway (subst (λ (x : SyncEnd). SyncRun (sync_rules setting gateway) entries (Some x)) one run)
-task_finds_few setting who place (Query low high selector) held after entries few (run, left) =
-    let part = part_ends setting selector (ask_to setting who.gateway low high) held.used entries (synced fetched.TooMany) (λ no. cc (no)) run in
-    query_finds_few held.used (question_of setting selector part.0) entries part.2
+task_finds_few setting who place (Query low high selector) held after entries few run =
+    let part = part_ends setting selector (ask_to setting who.gateway low high) held after entries (synced fetched.TooMany) (λ off. cc (off)) run in
+    query_finds_few held.used (question_of setting selector part.0) held after entries part.2
 
 -- no worker says that a sync found too many names
 pub none_found_many : (setting : Setting) (journal : List Entry) (ends : List (List (List End))) → IsLawfulScript setting.script → IsReadable setting → Rises journal → All (IsTold setting journal) journal → IsRunOf setting journal ends

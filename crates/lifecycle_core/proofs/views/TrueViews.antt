@@ -35,7 +35,8 @@ use Rattle.lifecycle_core.specs.Held.{declared}
 use Rattle.lifecycle_core.specs.Holdings.{Use}
 use Rattle.lifecycle_core.specs.Setting.{Setting}
 use Rattle.lifecycle_core.specs.Tasks.{last_number, sync_rules}
-use Rattle.lifecycle_core.proofs.journals.Told.{IsOrigin, IsPart, IsReadable, IsTold, PutsTexts, IsTrueFound, IsTrueView, Rises, Spans}
+use Rattle.lifecycle_core.proofs.journals.Told.{IsOrigin, IsPart, IsReadable, IsTold, PutsTexts, IsTrueFound, IsTrueView, Rises}
+use Rattle.lifecycle_core.proofs.blocks.Whole.{Spans}
 use Rattle.lifecycle_core.proofs.journals.Positions.{stands_in}
 use Rattle.lifecycle_core.proofs.journals.TellingPuts.{PutsShipped}
 use Rattle.lifecycle_core.proofs.views.Finds.{FindsPast, IsOwn, IsPast, IsSighted, finds_past}
@@ -100,6 +101,10 @@ meta_true setting f meta same small m = record {
   sources = subst (λ (x : MetaFields). x.sources ≡ f.ulid ∷ []) same m.sources;
   labels = subst (λ (x : MetaFields). x.labels ≡ m.block.labels) same m.labels;
   times = subst (λ (x : MetaFields). Spans m.block.body x.min_time x.max_time) same m.times;
+  objects = m.objects;
+  shipped = m.shipped;
+  whole = m.whole;
+  meta_is = sym same ∙ m.meta_is;
 }
 
 same_meta : (one other : MetaFields) (o : Option MetaFields) → o ≡ Some one → o ≡ Some other → one ≡ other
@@ -176,7 +181,7 @@ module _ (setting : Setting) (readable : IsReadable setting) (journal : List Ent
 
 -- ---- true views
 
-true_from : (setting : Setting) (journal : List Entry) (used : Use) → IsReadable setting → Rises journal → All (PutsShipped setting) journal → All (IsTold setting journal) journal → (gateway : ℕ) (entries : List Entry)
+pub true_from : (setting : Setting) (journal : List Entry) (used : Use) → IsReadable setting → Rises journal → All (PutsShipped setting) journal → All (IsTold setting journal) journal → (gateway : ℕ) (entries : List Entry)
     → SyncRun (sync_rules setting gateway) entries (Some (fetched.View used.view)) → used.last ≡ last_number entries → IsPart journal entries → IsTrueView setting journal gateway used
 true_from setting journal used readable rises shipped told gateway [] run last part = absurd ((let none = run.1 in cc (none)))
 true_from setting journal used readable rises shipped told gateway (first ∷ entries) run last part =

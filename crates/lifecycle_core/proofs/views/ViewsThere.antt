@@ -10,11 +10,10 @@ use Rattle.std.proofs.lemmas.Bool.{or_cases}
 use Rattle.std.proofs.lemmas.Bool.Decides.{nat_tests}
 use Rattle.std.proofs.lemmas.List.Elements.{All-cons, All-head, All-nil, All-tail}
 use Rattle.world_core.specs.declared.entry.Entry.{Entry}
-use Rattle.shipper.specs.declared.upload_end.UploadEnd.{UploadEnd}
 use Rattle.meta_fetcher.specs.declared.view.View.{View}
 use Rattle.meta_fetcher.specs.declared.sync_end.SyncEnd.{SyncEnd}
 use Rattle.meta_fetcher.specs.declared.sync_end.SyncEnd.TheVariants as fetched
-use Rattle.store_gateway.specs.SeriesRuns.{Query as Question}
+use Rattle.block_ranges.specs.Reads.{Query as Question}
 use Rattle.script_workers.specs.Hands.{does, gateway_count, gateway_of, greatest, hands_of, places_from, same_hand, seats_after, worker_of, workers_from}
 use Rattle.script_core.specs.Workers.{seats_before, workers_after, workers_of}
 use Rattle.script_core.specs.Lawful.{IsLawfulScript}
@@ -35,9 +34,13 @@ use Rattle.lifecycle_core.specs.Holdings.{Holding, Holdings, Use, holding_of, no
 use Rattle.lifecycle_core.specs.Phases.{IsInTurn, IsRunOf, by_script, by_workers}
 use Rattle.lifecycle_core.specs.Setting.{Setting}
 use Rattle.querier.specs.declared.ask.Ask.{Ask}
-use Rattle.lifecycle_core.specs.Tasks.{End, PartTask, QueryTask, TaskRun, ask_to, question_of, stopped, synced, synced_with, uploaded, without_view}
+use Rattle.series_calls.specs.SeriesCalls.{CallEnd}
+use Rattle.lifecycle_core.specs.Tasks.{End, PartTask, QueryTask, TaskRun, answered, ask_to, question_of, synced, synced_with, without_view}
 use Rattle.lifecycle_core.specs.Ways.{AreInTurn, PhasesRun}
 use Rattle.lifecycle_core.proofs.phases.Duties.{same_is}
+use Rattle.lifecycle_core.proofs.phases.GatewayParts.{query_is}
+use Rattle.lifecycle_core.proofs.phases.ShipEnds.{ship_end}
+use Rattle.lifecycle_core.proofs.phases.TaskRuns.{task_leaves}
 use Rattle.lifecycle_core.proofs.journals.Positions.{zip_left, zip_right}
 
 -- there is a view
@@ -103,34 +106,36 @@ sync_end held after made end (Some e) good is left =
     let all : after ≡ synced_with held made (Some (fetched.View v.0)) = left ∙ ap (λ (x : SyncEnd). synced_with held made (Some x)) v.1 in
     (subst HasView (sym all) tt, λ no. absurd (cc (same, no)))
 
-uploaded_end : (end : End) (own : Option UploadEnd) → Some end ≡ option_map uploaded own → end ≢ without_view
-uploaded_end end None is = absurd (cc (is))
-uploaded_end end (Some e) is = λ no. absurd (cc (is, no))
+call_end : (from : Use) (end : End) (own : Option CallEnd) → Some end ≡ option_map (λ (call : CallEnd). answered from call.end) own → end ≢ without_view
+call_end from end None is = absurd (cc (is))
+call_end from end (Some call) is = λ no. cc (is, no)
 
-query_end : (used : Option Use) (asked : Option Question) (made : List Entry) (end : End) → IsThere used → QueryTask used asked made (Some end) → end ≢ without_view
-query_end None asked made end has run = absurd has
-query_end (Some used) None made end has run = absurd run
-query_end (Some used) (Some q) made end has (None, run, is) = absurd (cc (is))
-query_end (Some used) (Some q) made end has (Some own, run, is) = λ no. absurd (cc (is, no))
+query_end : (used : Option Use) (asked : Option Question) (before after : Holding) (made : List Entry) (end : End) → IsThere used → QueryTask used asked before made (Some end) after → end ≢ without_view
+query_end used asked before after made end has run = elim (query_is used asked before made (Some end) after run) [
+  | inl none ↦ absurd (subst IsThere none.1 has)
+  | inr call ↦ call_end call.from end call.own call.came
+]
 
-part_end : (setting : Setting) (selector : ℕ) (ask : Option Ask) (used : Option Use) (made : List Entry) (end : End) → IsThere used → PartTask setting selector ask used made (Some end) → end ≢ without_view
-part_end setting selector None used made end has (nil, inl none) = absurd (cc (none))
-part_end setting selector None used made end has (nil, inr same) = λ no. absurd (cc (same, no))
-part_end setting selector (Some ask) used made end has run = query_end used (question_of setting selector ask) made end has run
+part_end : (setting : Setting) (selector : ℕ) (ask : Option Ask) (before after : Holding) (made : List Entry) (end : End) → IsThere before.used → PartTask setting selector ask before made (Some end) after → end ≢ without_view
+part_end setting selector None before after made end has ((nil, inl none), left) = absurd (cc (none))
+part_end setting selector None before after made end has ((nil, inr same), left) = λ no. cc (same, no)
+part_end setting selector (Some ask) before after made end has run = query_end before.used (question_of setting selector ask) before after made end has run
 
 -- with a view where one is needed, no task ends for want of one
 ends_well : (setting : Setting) (who : Who) (place : ℕ) (w : Work) (held after : Holding) (made : List Entry) (end : End) → GivesView end → (IsQuery w → HasView held) → TaskRun setting who place w held made (Some end) after → end ≢ without_view
-ends_well setting who place (Upload ulid stop) held after made end good known ((block, is, (objects, own, shipped, run, how)), left) =
-    elim how [ inl went ↦ uploaded_end end own went.0 | inr went ↦ λ no. let same : end ≡ stopped went.0 = cc (went.2) in absurd (cc (same, no)) ]
+ends_well setting who place (Upload ulid stop) held after made end good known ((block, is, shipped), left) =
+    ship_end (λ (x : End). x ≢ without_view) setting block stop made end (λ objects own run no. cc (no)) (λ cause no. cc (no)) (λ n no. cc (no)) shipped
 ends_well setting who place (Sync gateway) held after made end good known (own, run, is, left) = (sync_end held after made end own good is left).1
-ends_well setting who place (Query low high selector) held after made end good known (run, left) = part_end setting selector (ask_to setting who.gateway low high) held.used made end (known tt) run
+ends_well setting who place (Query low high selector) held after made end good known run = part_end setting selector (ask_to setting who.gateway low high) held after made end (known tt) run
 
 -- and a view is there after it where a sync was seen before it, or it is one
 leaves_well : (setting : Setting) (g : ℕ) (seen : Bool) (who : Who) (place : ℕ) (w : Work) (held after : Holding) (made : List Entry) (end : End) → GivesView end → (seen ≡ true → HasView held) → TaskRun setting who place w held made (Some end) after → (seen || is_sync_of g w) ≡ true
     → HasView after
 leaves_well setting g seen who place (Upload ulid stop) held after made end good known (run, left) h = subst HasView (sym left) (known (or_none seen false refl h))
 leaves_well setting g seen who place (Sync gateway) held after made end good known (own, run, is, left) h = (sync_end held after made end own good is left).0
-leaves_well setting g seen who place (Query low high selector) held after made end good known (run, left) h = subst HasView (sym left) (known (or_none seen false refl h))
+leaves_well setting g seen who place (Query low high selector) held after made end good known run h =
+    let has : HasView held = known (or_none seen false refl h) in
+    task_leaves HasView setting who place held has made (Query low high selector) (Some end) after (λ gateway own is. absurd (cc (is))) (λ used asked call is ran. has) run
 
 -- ---- a gateway's own tasks
 

@@ -19,7 +19,7 @@ pub(crate) fn print_copy(rt: &HostRuntime) {
 }
 
 /// The plan of a block of its own.
-pub(crate) fn plan_of(alloc: Global) -> Option<BlockPlan> {
+fn plan_of(alloc: Global) -> Option<BlockPlan> {
     let ulid = Ulid::from_parts(0, 10);
     let Ok(source) = Text::from_str(alloc, "sidecar") else {
         return None;

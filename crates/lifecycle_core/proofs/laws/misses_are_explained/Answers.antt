@@ -1,4 +1,4 @@
-use Rattle.lifecycle_core.proofs.misses.Explaining.{misses_explained}
+use Rattle.lifecycle_core.proofs.answers.RunCalls.{misses_explained}
 use Rattle.lifecycle_core.proofs.laws.misses_are_explained.Goals as goal
 
 pub returns : goal.returns

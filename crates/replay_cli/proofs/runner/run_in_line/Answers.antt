@@ -1,5 +1,6 @@
 use Rattle.std.proofs.Common.{Some, refl, sym, ◌∙◌, ap, subst}
 use Rattle.world_core.specs.Asking.{IsAllAsked}
+use Rattle.world_core.specs.Worlds.{IsOfBytes}
 use Rattle.lifecycle_core.specs.Setting.{setting_of}
 use Rattle.replay_cli.specs.Progress.{RunCame}
 use Rattle.replay_cli.specs.declared.phases.Lines.{Lines}
@@ -25,8 +26,9 @@ pub returns-clause-cause : goal.returns-clause-cause
 returns-clause-cause g c =
     let ticks = c.run_phases-came.ensures.keeps.goes_on.tick ∙ ap (λ w. w.tick) c.new-hand.ensures.world ∙ c.requires.tick in
     let kept = kept_by _ c.args.script.now.rules.tick.ms c.run_phases-came.result.1.world.journal ticks (kept_of c.world-kept.result.now c.run_phases-came.result.1.world c.world-kept.ensures c.journal-after.ensures.holds.journal) in
+    let bytes = subst IsOfBytes (ap (λ w. w.journal) c.world-kept.ensures) c.journal-after.ensures.holds.bytes in
     run_told (setting_of c.args.script.now) c.run_phases-came.new.progress.gateways.items c.run_phases-came.result.1.world.journal c.into_report.result c.run_phases-came.result.0 c.verdict_of.result (Some c.run_phases-came.result.1.world.journal)
-    refl c.requires.lawful kept c.run_phases-came.ensures.full
+    refl c.requires.lawful kept bytes c.run_phases-came.ensures.full
     (subst (λ (r : Lines). RunCame (setting_of c.args.script.now) c.run_phases-came.new.progress.gateways.items c.run_phases-came.result.1.world.journal r.as_asked r.text.items c.run_phases-came.result.0) (sym c.into_report.ensures) c.run_phases-came.ensures.came)
     c.verdict_of.ensures.whole c.verdict_of.ensures.full c.verdict_of.ensures.none
 

@@ -1,6 +1,6 @@
 use Rattle.std.proofs.Common.{List, Some, refl, sym, ◌∙◌, ap, subst}
 use Rattle.world_core.specs.Asking.{IsAllAsked}
-use Rattle.world_core.specs.Worlds.{failed_count}
+use Rattle.world_core.specs.Worlds.{IsOfBytes, failed_count}
 use Rattle.world_core.specs.declared.entry.Entry.{Entry}
 use Rattle.lifecycle_core.specs.Setting.{setting_of}
 use Rattle.script_running.specs.Beside.{HasRunBeside}
@@ -20,7 +20,8 @@ of_closed-finished-requires g c = record { told = c.in-Ok.ensures.refused ∙ sy
 
 pub returns-in-Ok-clause-cause : goal.returns-in-Ok-clause-cause
 returns-in-Ok-clause-cause g c =
-    beside_told (setting_of c.args.script.now) c.requires.lawful c.of_closed-finished.result.world.journal c.in-Ok.end.outcomes c.run_beside.new.report c.in-Ok.end.came c.verdict_of.result c.in-Ok.ensures.reported
+    let bytes = subst IsOfBytes (ap (λ w. w.journal) (c.world-kept.ensures ∙ sym c.of_closed-finished.ensures.world)) c.journal-after.ensures.holds.bytes in
+    beside_told (setting_of c.args.script.now) c.requires.lawful c.of_closed-finished.result.world.journal bytes c.in-Ok.end.outcomes c.run_beside.new.report c.in-Ok.end.came c.verdict_of.result c.in-Ok.ensures.reported
     (subst (λ (es : List Entry). HasRunBeside (setting_of c.args.script.now) es c.in-Ok.end.outcomes c.in-Ok.end.came) (sym (ap (λ w. w.journal) c.of_closed-finished.ensures.world)) c.in-Ok.ensures.ran)
     c.verdict_of.ensures.whole c.verdict_of.ensures.full c.verdict_of.ensures.none
 

@@ -1,17 +1,18 @@
-use Rattle.std.proofs.Common.{sym, ◌∙◌, ap, refl}
+use Rattle.std.proofs.Common.{sym, ◌∙◌, ap, refl, subst}
 use Rattle.std.specs.Prelude.{Some}
 use Rattle.std.proofs.lemmas.Option.{slice_get-get_or}
 use Rattle.script_workers.specs.declared.hand.Hand.TheVariants as hands
 use Rattle.lifecycle_core.specs.Holdings.{nothing_held}
 use Rattle.lifecycle_core.specs.InLine.{seat_of, who_does}
 use Rattle.lifecycle_core.specs.Setting.{setting_of}
+use Rattle.script_running.specs.Sights.{Sees}
 use Rattle.replay_cli.proofs.Steps.{gateway_inside, gateway_step, upload_step}
 use Rattle.replay_cli.proofs.tasks.do_part.Goals as goal
 
 pub returns-in-Upload-clause-step : goal.returns-in-Upload-clause-step
 returns-in-Upload-clause-step g c = λ views shows.
-    upload_step (setting_of c.args.script.now) (seat_of c.args.seats.now.workers) c.seat_of-seat.result c.args.place c.in-Upload.field-0 c.args.task.now c.args.who views c.args.progress.now.gateways.items c.args.hand.world.journal c.do_over.result.1.world.journal c.do_over.new.view c.do_over.result.0
-    c.in-Upload.is c.seat_of-seat.ensures (c.do_over.ensures.done (who_does (seat_of c.args.seats.now.workers) (hands.Upload c.in-Upload.field-0)) c.args.place nothing_held refl refl) shows
+    upload_step (setting_of c.args.script.now) (seat_of c.args.seats.now.workers) c.seat_of-seat.result c.args.place c.in-Upload.field-0 c.args.task.now c.args.who views c.args.progress.now.gateways.items c.args.hand.world.journal c.do_over.result.1.world.journal c.do_over.new.sight c.do_over.result.0
+    c.in-Upload.is c.seat_of-seat.ensures (c.do_over.ensures.done (who_does (seat_of c.args.seats.now.workers) (hands.Upload c.in-Upload.field-0)) c.args.place nothing_held refl (subst (Sees nothing_held) (sym c.new-unseen.ensures) (record { view_is = refl; cache_is = refl }))) shows
 
 pub returns-in-Gateway-clause-step : goal.returns-in-Gateway-clause-step
 returns-in-Gateway-clause-step g c = λ views shows.

@@ -1,18 +1,18 @@
-use Rattle.std.proofs.Common.{◌≡◌, ◌∷◌, [], ◌+◌, ◌<◌, ◌≤◌, IsTrue, length, length-append, refl, sym, ◌∙◌, ap, subst, arith}
+use Rattle.std.proofs.Common.{◌≡◌, ◌∷◌, [], ◌+◌, IsTrue, length, length-append, refl, sym, ◌∙◌, ap, subst, arith}
 use Rattle.script_workers.specs.Hands.{gateway_count, hands_of_task}
 use Rattle.lifecycle_core.specs.InLine.{seat_of}
 use Rattle.lifecycle_core.specs.Setting.{setting_of}
 use Rattle.script_running.specs.Tasks.{is_full_came}
 use Rattle.script_running.proofs.AllParts.{all_parts, few_parts}
 use Rattle.run_notes.specs.LineHands.{keeps_run-none, keeps_run-more}
-use Rattle.replay_cli.proofs.Steps.{all_done, counted, duties_long, duty_at, gathered_is, hand_within, none_begun, none_done, part_broken, part_more, sync_within, task_begins}
+use Rattle.replay_cli.proofs.Steps.{all_done, counted, duties_long, duty_at, gathered_is, none_begun, none_done, part_broken, part_more, sync_within, task_begins}
 use Rattle.replay_cli.proofs.Wanted.{short_on, still_unwanted}
 use Rattle.replay_cli.proofs.tasks.do_task.Goals as goal
 
 pub returns-in_default-clause-step : goal.returns-in_default-clause-step
 returns-in_default-clause-step g c = λ views shows.
     none_begun (setting_of c.args.script.now) (seat_of c.args.seats.now.workers) c.args.place c.args.task.now views c.args.progress.now.gateways.items c.args.hand.world.journal
-    (task_begins (setting_of c.args.script.now) c.args.place c.args.task.now c.requires.lawful c.requires.work) shows
+    (task_begins (setting_of c.args.script.now) c.args.place c.args.task.now c.requires.lawful c.requires.work)
 
 pub loop-number-init : goal.loop-number-init
 loop-number-init g c = record {

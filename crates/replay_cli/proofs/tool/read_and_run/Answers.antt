@@ -1,10 +1,8 @@
-use Rattle.std.proofs.Common.{List, ap, sym, ◌∙◌}
+use Rattle.std.proofs.Common.{ap, sym, ◌∙◌}
 use Rattle.std.specs.Prelude.{Some, None, is_some}
 use Rattle.lifecycle_core.specs.InLine.{IsInLine}
 use Rattle.lifecycle_core.proofs.phases.FirstPhases.{none_in_line}
-use Rattle.world_core.specs.declared.entry.Entry.{Entry}
 use Rattle.replay_cli.specs.Kept.{IsUntouched}
-use Rattle.replay_cli.specs.Progress.{tells_full}
 use Rattle.replay_cli.specs.Verdicts.{around_call}
 use Rattle.replay_cli.specs.Words.{named_by}
 use Rattle.replay_cli.proofs.BucketAsked.{ended_asked}

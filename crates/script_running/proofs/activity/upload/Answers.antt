@@ -1,7 +1,8 @@
-use Rattle.std.proofs.Common.{refl}
+use Rattle.std.proofs.Common.{Err, ap, refl}
+use Rattle.block_files.specs.declared.build_refusal.BuildRefusal.{BuildRefusal}
 use Rattle.script_running.specs.Drives.{upload_came}
 use Rattle.script_running.proofs.Syncs.{wanted_by}
-use Rattle.script_running.proofs.Uploads.{upload_told}
+use Rattle.script_running.proofs.Uploads.{refused_told, upload_told}
 use Rattle.script_running.proofs.activity.upload.Goals as goal
 
 pub returns-clause-ran : goal.returns-clause-ran
@@ -11,3 +12,8 @@ returns-clause-ran g c = λ setting ulid.
 
 pub returns-clause-wanted : goal.returns-clause-wanted
 returns-clause-wanted g c = wanted_by upload_came c.drive.result c.upload_came.result refl c.upload_came.ensures c.drive.ensures.wanted
+
+pub returns-in-Err-TooLarge-clause-ran : goal.returns-in-Err-TooLarge-clause-ran
+returns-in-Err-TooLarge-clause-ran g c = λ setting ulid.
+    refused_told setting c.args.block.now c.args.stop (g.H.Hand.seat c.args.hand.now) (g.H.Hand.entries c.args.hand.now) ulid 7
+    (c.in-Err-TooLarge.ensures.refused setting (ap (λ (r : BuildRefusal). Err r) c.in-Err-TooLarge.field-0-is))

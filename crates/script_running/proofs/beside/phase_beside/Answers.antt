@@ -18,7 +18,7 @@ use Rattle.script_running.proofs.Refused.{clock_done, clock_tells, clock_unwante
 use Rattle.script_running.proofs.beside.phase_beside.Goals as goal
 
 pub returns-in_default-clause-came : goal.returns-in_default-clause-came
-returns-in_default-clause-came g c = no_room c.args.script.now c.args.place c.args.phase.now c.requires.at (view_of c.args.root) c.args.standing.now.views.items c.args.standing.now.outcomes c.requires.gone
+returns-in_default-clause-came g c = no_room c.args.script.now c.args.place c.args.phase.now c.requires.at (view_of c.args.root) c.args.standing.now.sights.items c.args.standing.now.outcomes c.requires.gone
 
 pub jobs_of-requires-clause-work : goal.jobs_of-requires-clause-work
 jobs_of-requires-clause-work g c =
@@ -28,7 +28,7 @@ jobs_of-requires-clause-work g c =
 pub jobs_of-requires-clause-gateways : goal.jobs_of-requires-clause-gateways
 jobs_of-requires-clause-gateways g c =
     let are = workers_here c.args.script.now c.args.place c.splits.result c.in-Ok.staff c.members-workers.result.now c.members-workers.ensures c.in-Ok.ensures (c.splits.ensures ∙ c.requires.seats) in
-    within_gateways c.args.script.now c.args.text.now c.requires.lawful c.requires.spelled c.args.place c.args.phase.now c.requires.at c.members-workers.result.now (length c.args.standing.now.views.items) are c.requires.gone.each
+    within_gateways c.args.script.now c.args.text.now c.requires.lawful c.requires.spelled c.args.place c.args.phase.now c.requires.at c.members-workers.result.now (length c.args.standing.now.sights.items) are c.requires.gone.each
 
 pub jobs_of-requires-clause-apart : goal.jobs_of-requires-clause-apart
 jobs_of-requires-clause-apart g c =
@@ -36,14 +36,14 @@ jobs_of-requires-clause-apart g c =
     subst HaveOwnGateways (sym are) (phase_apart (setting_of c.args.script.now) c.args.place)
 
 pub returns-in_default-jobs_of-clause-came : goal.returns-in_default-jobs_of-clause-came
-returns-in_default-jobs_of-clause-came g c = no_room c.args.script.now c.args.place c.args.phase.now c.requires.at (view_of c.args.root) c.args.standing.now.views.items c.args.standing.now.outcomes c.requires.gone
+returns-in_default-jobs_of-clause-came g c = no_room c.args.script.now c.args.place c.args.phase.now c.requires.at (view_of c.args.root) c.args.standing.now.sights.items c.args.standing.now.outcomes c.requires.gone
 
 pub begin_phase-begun-requires-clause-moment : goal.begin_phase-begun-requires-clause-moment
 begin_phase-begun-requires-clause-moment g c = moment_lawful c.args.script.now c.requires.lawful c.args.place c.args.phase.now c.requires.at
 
 pub returns-in-Err-clause-came : goal.returns-in-Err-clause-came
 returns-in-Err-clause-came g c =
-    clock_refused c.args.script.now c.args.place c.args.phase.now c.requires.at (view_of c.args.root) c.args.standing.now.views.items c.args.standing.now.outcomes c.requires.gone (view_of c.begin_phase-begun.result.1) c.in-Err.broken
+    clock_refused c.args.script.now c.args.place c.args.phase.now c.requires.at (view_of c.args.root) c.args.standing.now.sights.items c.args.standing.now.outcomes c.requires.gone (view_of c.begin_phase-begun.result.1) c.in-Err.broken
     (subst (IsClockSet c.args.phase.now (view_of c.args.root) (view_of c.begin_phase-begun.result.1)) c.in-Err.is c.begin_phase-begun.ensures.clock) c.begin_phase-begun.ensures.later
 
 pub returns-in-Err-clause-all : goal.returns-in-Err-clause-all
@@ -66,7 +66,7 @@ returns-then-end-clause-came g c =
     let same = if_true {P = ((c.run_phase-end.result.root ≡ c.begin_phase-begun.result.1) × (c.run_phase-end.result.ends.items ≡ []))}
     ((kept : List (ℕ × List Entry)) × HasRun c.begin_phase-begun.result.1 c.run_phase-end.result.root (vec_len c.in-Ok-jobs_of.jobs) kept × Runs {J = Post} {E = WorkerEnd} MayWork (view_of c.begin_phase-begun.result.1).known (view_of c.run_phase-end.result.root).front (c.begin_phase-begun.result.1.splits + 1) c.in-Ok-jobs_of.jobs.items c.run_phase-end.result.ends.items kept) c.run_phase-end.result.memory c.if-end.true c.run_phase-end.ensures.run in
     subst (λ (p : Pass). HasStopped (setting_of c.args.script.now) (view_of p) c.args.standing.now.outcomes broken.NoMemory) (sym same.0)
-    (idled c.args.script.now c.args.place c.args.phase.now c.requires.at c.args.root c.args.standing.now.views.items c.args.standing.now.outcomes c.requires.gone c.requires.own.1 c.begin_phase-begun.result.1 clock.0 clock.1 (c.begin_phase-begun.ensures.pass.1 ∙ c.requires.own.1))
+    (idled c.args.script.now c.args.place c.args.phase.now c.requires.at c.args.root c.args.standing.now.sights.items c.args.standing.now.outcomes c.requires.gone c.requires.own.1 c.begin_phase-begun.result.1 clock.0 clock.1 (c.begin_phase-begun.ensures.pass.1 ∙ c.requires.own.1))
 
 pub gather-came-requires-clause-many : goal.gather-came-requires-clause-many
 gather-came-requires-clause-many g c =
@@ -78,7 +78,7 @@ gather-came-requires-clause-many g c =
 pub gather-came-requires-clause-gateways : goal.gather-came-requires-clause-gateways
 gather-came-requires-clause-gateways g c =
     let are = workers_here c.args.script.now c.args.place c.splits.result c.in-Ok.staff c.members-workers.result.now c.members-workers.ensures c.in-Ok.ensures (c.splits.ensures ∙ c.requires.seats) in
-    within_gateways c.args.script.now c.args.text.now c.requires.lawful c.requires.spelled c.args.place c.args.phase.now c.requires.at c.members-workers.result.now (length c.jobs_of.new.views.items) are (c.jobs_of.ensures.each ∙ c.requires.gone.each)
+    within_gateways c.args.script.now c.args.text.now c.requires.lawful c.requires.spelled c.args.place c.args.phase.now c.requires.at c.members-workers.result.now (length c.jobs_of.new.sights.items) are (c.jobs_of.ensures.each ∙ c.requires.gone.each)
 
 pub gather-came-requires-clause-few : goal.gather-came-requires-clause-few
 gather-came-requires-clause-few g c = (let each = c.jobs_of.ensures.each in let gone = c.requires.gone.each in let few = c.requires.lawful.few_gateways in omega (arith, each, gone, few))
@@ -109,10 +109,10 @@ returns-clause-came g c =
     let clock = subst (IsClockSet c.args.phase.now (view_of c.args.root) (view_of c.begin_phase-begun.result.1)) c.in_default-begun.is c.begin_phase-begun.ensures.clock in
     let run = if_false {Q = ((kept : List (ℕ × List Entry)) × HasRun c.begin_phase-begun.result.1 c.run_phase-end.result.root (vec_len c.in-Ok-jobs_of.jobs) kept × Runs {J = Post} {E = WorkerEnd} MayWork (view_of c.begin_phase-begun.result.1).known (view_of c.run_phase-end.result.root).front (c.begin_phase-begun.result.1.splits + 1) c.in-Ok-jobs_of.jobs.items c.run_phase-end.result.ends.items kept)}
     ((c.run_phase-end.result.root ≡ c.begin_phase-begun.result.1) × (c.run_phase-end.result.ends.items ≡ [])) c.run_phase-end.result.memory c.if-end.false c.run_phase-end.ensures.run in
-    phase_comes c.args.script.now c.args.place c.args.phase.now c.requires.at c.args.root c.args.standing.now.views.items c.args.standing.now.outcomes c.requires.gone c.requires.own.1 c.begin_phase-begun.result.1 clock.0 clock.1
+    phase_comes c.args.script.now c.args.place c.args.phase.now c.requires.at c.args.root c.args.standing.now.sights.items c.args.standing.now.outcomes c.requires.gone c.requires.own.1 c.begin_phase-begun.result.1 clock.0 clock.1
     c.args.text.now c.requires.lawful c.requires.spelled c.begin_phase-begun.result.1.splits (c.begin_phase-begun.ensures.pass.2 ∙ c.requires.seats) c.members-workers.result.now are c.in-Ok-jobs_of.jobs.items sent
-    c.run_phase-end.result.root (vec_len c.in-Ok-jobs_of.jobs) run.0 run.1 c.run_phase-end.result.ends.items run.2 c.gather-came.new.views.items c.gather-came.new.outcomes c.gather-came.result (c.gather-came.ensures.each ∙ c.jobs_of.ensures.each)
-    (λ after own lasts have left. c.gather-came.ensures.gathers (setting_of c.args.script.now) c.args.place c.args.phase.now c.requires.gone.held after (view_of c.run_phase-end.result.root).front run.0 own lasts c.requires.lawful (gateways_counted c.args.script.now c.requires.lawful c.jobs_of.new.views.items (c.jobs_of.ensures.each ∙ c.requires.gone.each)) c.requires.at c.members.ensures are have left
+    c.run_phase-end.result.root (vec_len c.in-Ok-jobs_of.jobs) run.0 run.1 c.run_phase-end.result.ends.items run.2 c.gather-came.new.sights.items c.gather-came.new.outcomes c.gather-came.result (c.gather-came.ensures.each ∙ c.jobs_of.ensures.each)
+    (λ after own lasts have left. c.gather-came.ensures.gathers (setting_of c.args.script.now) c.args.place c.args.phase.now c.requires.gone.held after (view_of c.run_phase-end.result.root).front run.0 own lasts c.requires.lawful (gateways_counted c.args.script.now c.requires.lawful c.jobs_of.new.sights.items (c.jobs_of.ensures.each ∙ c.requires.gone.each)) c.requires.at c.members.ensures are have left
     (c.in-Ok-jobs_of.ensures.left c.requires.gone.held c.requires.gone.seen))
 
 -- ---- whether the full journal was met

@@ -18,5 +18,5 @@ invariant-loop-place g l = record {
   seats : l.root.splits ≡ seats_before l.script l.place;
   all : AllJoined (view_of l.root);
   reported : g.P.Report.tells l.report l.script (tasks_in (take l.place l.script.phases)) l.standing.outcomes;
-  gone : HasGone (setting_of l.script) (view_of l.root) (take l.place l.script.phases) l.standing.views.items l.standing.outcomes;
+  gone : HasGone (setting_of l.script) (view_of l.root) (take l.place l.script.phases) l.standing.sights.items l.standing.outcomes;
 }

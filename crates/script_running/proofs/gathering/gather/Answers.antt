@@ -11,8 +11,8 @@ use Rattle.script_running.proofs.gathering.gather.Goals as goal
 
 pub returns-in-Ok-take_in-clause-gathers : goal.returns-in-Ok-take_in-clause-gathers
 returns-in-Ok-take_in-clause-gathers g c = λ setting number phase before after front kept own lasts lawful counted at tasks workers have left beside.
-    came_whole setting number phase before after front c.args.workers.now kept own lasts c.args.ends.items c.args.views.now.items lawful counted at workers have left c.take_in.new.views.items beside c.in-Ok.slots c.take_in.new.slots
-    (subst (HaveCome c.args.ends.items) c.in-Ok-take_in.is c.take_in.ensures.came) c.take_in.ensures.taken (empty_of c.args.tasks.now phase.tasks (length c.args.views.now.items) c.args.views.now.items c.in-Ok.slots tasks refl (as_many (length c.args.tasks.now) c.len.result (length c.args.views.now.items) c.in-Ok.slots (let ok = c.args.views.now.ok in omega (arith, c.len.ensures)) c.in-Ok.ensures)) c.args.outcomes.now c.tell.new.outcomes c.tell.result c.tell.ensures.why (told_of c.args.tasks.now phase.tasks c.take_in.new.slots c.args.outcomes.now c.tell.new.outcomes c.tell.result tasks c.tell.ensures.told)
+    came_whole setting number phase before after front c.args.workers.now kept own lasts c.args.ends.items c.args.sights.now.items lawful counted at workers have left c.take_in.new.sights.items beside c.in-Ok.slots c.take_in.new.slots
+    (subst (HaveCome c.args.ends.items) c.in-Ok-take_in.is c.take_in.ensures.came) c.take_in.ensures.taken (empty_of c.args.tasks.now phase.tasks (length c.args.sights.now.items) c.args.sights.now.items c.in-Ok.slots tasks refl (as_many (length c.args.tasks.now) c.len.result (length c.args.sights.now.items) c.in-Ok.slots (let ok = c.args.sights.now.ok in omega (arith, c.len.ensures)) c.in-Ok.ensures)) c.args.outcomes.now c.tell.new.outcomes c.tell.result c.tell.ensures.why (told_of c.args.tasks.now phase.tasks c.take_in.new.slots c.args.outcomes.now c.tell.new.outcomes c.tell.result tasks c.tell.ensures.told)
 
 pub returns-then-any_full-clause-gathers : goal.returns-then-any_full-clause-gathers
 returns-then-any_full-clause-gathers g c = λ setting number phase before after front kept own lasts lawful counted at tasks workers have left beside.
@@ -33,9 +33,9 @@ pub returns-then-any_full-clause-came : goal.returns-then-any_full-clause-came
 returns-then-any_full-clause-came g c = met_so c.any_full.result c.deref.result.now c.args.ends.items c.any_full.ensures c.if-any_full.true c.deref.ensures.value
 
 pub take_in-requires-clause-places : goal.take_in-requires-clause-places
-take_in-requires-clause-places g c = slots_there (length c.args.tasks.now) (length c.args.views.now.items) c.in-Ok.slots
-    (as_many (length c.args.tasks.now) c.len.result (length c.args.views.now.items) c.in-Ok.slots (let ok = c.args.views.now.ok in omega (arith, c.len.ensures)) c.in-Ok.ensures)
+take_in-requires-clause-places g c = slots_there (length c.args.tasks.now) (length c.args.sights.now.items) c.in-Ok.slots
+    (as_many (length c.args.tasks.now) c.len.result (length c.args.sights.now.items) c.in-Ok.slots (let ok = c.args.sights.now.ok in omega (arith, c.len.ensures)) c.in-Ok.ensures)
     c.args.workers.now c.requires.gateways c.requires.places
 
 pub take_in-requires-clause-wide : goal.take_in-requires-clause-wide
-take_in-requires-clause-wide g c = (as_many (length c.args.tasks.now) c.len.result (length c.args.views.now.items) c.in-Ok.slots (let ok = c.args.views.now.ok in omega (arith, c.len.ensures)) c.in-Ok.ensures).wide
+take_in-requires-clause-wide g c = (as_many (length c.args.tasks.now) c.len.result (length c.args.sights.now.items) c.in-Ok.slots (let ok = c.args.sights.now.ok in omega (arith, c.len.ensures)) c.in-Ok.ensures).wide

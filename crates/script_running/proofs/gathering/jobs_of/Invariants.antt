@@ -5,8 +5,8 @@ use Rattle.script_running.proofs.gathering.jobs_of.Given as goal
 -- the workers so far are sent
 abbrev pub invariant-loop-worker : goal.invariant-loop-worker
 invariant-loop-worker l = record {
-  each : length l.views.items ≡ length l.initial.views.items;
+  each : length l.sights.items ≡ length l.initial.sights.items;
   count : length l.jobs.items ≡ l.worker-index;
   room : length l.workers ≤ l.jobs.cap;
-  sent : AreSent l.text l.place (take l.worker-index l.workers) l.initial.views.items l.views.items l.jobs.items;
+  sent : AreSent l.text l.place (take l.worker-index l.workers) l.initial.sights.items l.sights.items l.jobs.items;
 }

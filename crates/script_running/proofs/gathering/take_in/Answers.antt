@@ -21,7 +21,7 @@ loop-end-preserved c =
       long = c.take_one-other.ensures.each ∙ i.long;
       same = same_on c.args.slots.now c.loop-end.slots c.take_one-other.new.slots i.same c.take_one-other.ensures.laid.same;
       come = come_more c.loop-end.yielded end c.loop-end.came c.worse-came.result (subst (λ (r : Result (Unit {0}) Broken). IsWorse c.loop-end.came r c.worse-came.result) c.take_one-other.ensures.came c.worse-came.ensures) i.come;
-      onward = λ seen new t. i.onward seen new (take_step c.loop-end.number c.args.workers.now c.args.ends.items c.index-workers-number.result end c.loop-end.views.items c.take_one-other.new.views.items seen c.loop-end.slots c.take_one-other.new.slots new at here c.take_one-other.ensures.each c.take_one-other.ensures.sees c.take_one-other.ensures.laid t);
+      onward = λ seen new t. i.onward seen new (take_step c.loop-end.number c.args.workers.now c.args.ends.items c.index-workers-number.result end c.loop-end.sights.items c.take_one-other.new.sights.items seen c.loop-end.slots c.take_one-other.new.slots new at here c.take_one-other.ensures.each c.take_one-other.ensures.sees c.take_one-other.ensures.laid t);
     }
 
 pub take_one-other-requires-clause-places : goal.take_one-other-requires-clause-places
@@ -39,5 +39,5 @@ returns-clause-taken c =
     let i = c.loop-end.invariant in
     let road = YieldsList-from_vec c.args.ends.items c.into_iter-end-iterator.ensures.into_iter_gives.0 (omega (arith, c.into_iter-end-iterator.ensures.into_iter_gives.1, c.args.ends.ok)) in
     let end = YieldsList-end road c.loop-end.yielded c.loop-end.end-iterator c.loop-end.yielded_by c.next.result c.next.new.self c.in-None.is c.next.ensures.steps in
-    i.onward c.loop-end.views.items c.loop-end.slots
-    (take_end c.loop-end.number c.args.workers.now c.args.ends.items c.loop-end.views.items c.loop-end.slots (omega (arith, i.number, end.1, c.requires.many)) (omega (arith, i.number, end.1)))
+    i.onward c.loop-end.sights.items c.loop-end.slots
+    (take_end c.loop-end.number c.args.workers.now c.args.ends.items c.loop-end.sights.items c.loop-end.slots (omega (arith, i.number, end.1, c.requires.many)) (omega (arith, i.number, end.1)))

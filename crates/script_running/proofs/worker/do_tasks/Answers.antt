@@ -9,12 +9,12 @@ use Rattle.script_running.proofs.worker.do_tasks.Goals as goal
 
 pub returns-in_default-clause-worked : goal.returns-in_default-clause-worked
 returns-in_default-clause-worked g c = λ who held by sees.
-    none_done (setting_of (g.M.Means.script c.args.means.now)) c.args.tasks.now who c.args.places.now held (g.H.Hand.seat c.args.hand.now) (g.H.Hand.entries c.args.hand.now) c.args.view c.wanting.result
-    c.requires.lawful c.requires.tasks c.requires.places sees c.wanting.ensures.0 c.wanting.ensures.1 c.wanting.ensures.2
+    none_done (setting_of (g.M.Means.script c.args.means.now)) c.args.tasks.now who c.args.places.now held (g.H.Hand.seat c.args.hand.now) (g.H.Hand.entries c.args.hand.now) c.wanting.result
+    c.requires.lawful c.requires.tasks c.requires.places c.wanting.ensures.0 c.wanting.ensures.1
 
 pub loop-number-init : goal.loop-number-init
 loop-number-init g c = record {
-  worked = λ who held by sees. none_worked (setting_of (g.M.Means.script c.args.means.now)) c.args.tasks.now who held (g.H.Hand.seat c.args.hand.now) (g.H.Hand.entries c.args.hand.now) c.args.view [] c.in-Ok.parts.items refl c.in-Ok.ensures.items sees;
+  worked = λ who held by sees. none_worked (setting_of (g.M.Means.script c.args.means.now)) c.args.tasks.now who held (g.H.Hand.seat c.args.hand.now) (g.H.Hand.entries c.args.hand.now) c.args.sight [] c.in-Ok.parts.items refl c.in-Ok.ensures.items sees;
   seat = refl;
   refused = refl;
   keeps = g.met.H.Hand.keeps_none _;
@@ -33,8 +33,8 @@ pub returns-in-Err-clause-worked : goal.returns-in-Err-clause-worked
 returns-in-Err-clause-worked g c = λ who held by sees.
     let below : c.loop-number.number < length c.args.places.now = omega (arith, c.loop-number-test.true) in
     step_broken (setting_of (g.M.Means.script c.args.means.now)) c.args.tasks.now who c.args.places.now held (g.H.Hand.seat c.args.hand.now) (g.H.Hand.seat c.loop-number.hand) (g.H.Hand.entries c.args.hand.now) (g.H.Hand.entries c.loop-number.hand) (g.H.Hand.entries c.do_task.new.hand)
-    c.loop-number.view c.do_task.new.view c.loop-number.parts.items c.loop-number.number _ c.index-tasks-places.result below (default_any c.args.places.now c.loop-number.number 0 _ below) c.requires.places c.index-tasks-places.is c.loop-number.invariant.seat
-    (c.loop-number.invariant.worked who held by sees) c.in-Err.broken c.do_task.result _ c.requires.lawful c.requires.tasks c.in-Err.is refl refl refl (λ h s. c.do_task.ensures.done who _ h by s)
+    c.loop-number.sight c.do_task.new.sight c.loop-number.parts.items c.loop-number.number _ c.index-tasks-places.result below (default_any c.args.places.now c.loop-number.number 0 _ below) c.requires.places c.index-tasks-places.is c.loop-number.invariant.seat
+    (c.loop-number.invariant.worked who held by sees) c.in-Err.broken c.do_task.result _ c.requires.lawful c.requires.tasks c.in-Err.is refl refl (λ h s. c.do_task.ensures.done who _ h by s)
 
 pub loop-number-preserved : goal.loop-number-preserved
 loop-number-preserved g c =
@@ -42,7 +42,7 @@ loop-number-preserved g c =
     record {
       worked = λ who held by sees.
           step_worked (setting_of (g.M.Means.script c.args.means.now)) c.args.tasks.now who c.args.places.now held (g.H.Hand.seat c.args.hand.now) (g.H.Hand.seat c.loop-number.hand) (g.H.Hand.entries c.args.hand.now) (g.H.Hand.entries c.loop-number.hand) (g.H.Hand.entries c.do_task.new.hand)
-          c.loop-number.view c.do_task.new.view c.loop-number.parts.items c.loop-number.number _ c.index-tasks-places.result below (default_any c.args.places.now c.loop-number.number 0 _ below) c.requires.places c.index-tasks-places.is c.loop-number.invariant.seat
+          c.loop-number.sight c.do_task.new.sight c.loop-number.parts.items c.loop-number.number _ c.index-tasks-places.result below (default_any c.args.places.now c.loop-number.number 0 _ below) c.requires.places c.index-tasks-places.is c.loop-number.invariant.seat
           (c.loop-number.invariant.worked who held by sees) c.push_reserved.new.self.items c.in-Ok-do_task.part c.do_task.result c.in-Ok-do_task.is c.push_reserved.ensures.items (λ h s. c.do_task.ensures.done who _ h by s);
       seat = c.do_task.ensures.seat ∙ c.loop-number.invariant.seat;
       refused = refused_none (g.H.Hand.refused c.args.hand.now) (g.H.Hand.refused c.loop-number.hand) (g.H.Hand.refused c.do_task.new.hand) c.do_task.result c.in-Ok-do_task.part c.do_task.ensures.refused c.in-Ok-do_task.is c.loop-number.invariant.refused;
@@ -54,7 +54,7 @@ loop-number-preserved g c =
 
 pub returns-clause-worked : goal.returns-clause-worked
 returns-clause-worked g c = λ who held by sees.
-    all_worked (setting_of (g.M.Means.script c.args.means.now)) c.args.tasks.now who _ c.args.places.now held (g.H.Hand.seat c.args.hand.now) (g.H.Hand.entries c.args.hand.now) (g.H.Hand.entries c.loop-number.hand) c.loop-number.view c.loop-number.parts.items _
+    all_worked (setting_of (g.M.Means.script c.args.means.now)) c.args.tasks.now who _ c.args.places.now held (g.H.Hand.seat c.args.hand.now) (g.H.Hand.entries c.args.hand.now) (g.H.Hand.entries c.loop-number.hand) c.loop-number.sight c.loop-number.parts.items _
     (take_all c.loop-number.number c.args.places.now (omega (arith, c.loop-number-test.false))) refl refl refl (c.loop-number.invariant.worked who held by sees)
 
 pub returns-in_default-clause-refused : goal.returns-in_default-clause-refused

@@ -1,11 +1,10 @@
 use Rattle.std.proofs.Common.{◌≡◌, length}
-use Rattle.std.specs.Prelude.{None}
 use Rattle.std.specs.List.{All}
-use Rattle.store_gateway.specs.declared.gateway.Gateway.{Gateway}
+use Rattle.script_running.specs.Sights.{no_sight}
 use Rattle.replay_cli.proofs.phases.Progress.new.Given as goal
 
-abbrev pub invariant-loop-name : goal.invariant-loop-name
-invariant-loop-name l = record {
-  count : length l.gateways.items ≡ l.name-index;
-  unseen : All (λ (gateway : Gateway). gateway.view ≡ None) l.gateways.items;
+abbrev pub invariant-loop : goal.invariant-loop
+invariant-loop l = record {
+  count : length l.gateways.items ≡ l.counter;
+  unseen : All (λ sight. sight ≡ no_sight) l.gateways.items;
 }

@@ -45,7 +45,7 @@ returns-in-None-clause-run g c =
     let lent = c.self.invariant.1 in
     let r = ready i.text.now i.phase i.worker i.script.value i.script.value i.blocks.now i.tasks.now lent.spelled c.self.invariant.0 lent in
     subst (λ (post : Post). (made : List Entry) × (g.H.Hand.entries c.do_tasks.new.hand ≡ g.H.Hand.entries c.args.hand.now ++ made) × MayWork post (g.H.Hand.seat c.args.hand.now) made (g.H.Hand.front c.do_tasks.new.hand) c.do_tasks.result) c.self.view_is
-    (may_work (record { text = i.text.now; phase = i.phase; worker = i.worker; view = i.view }) i.script.value r.phase lent.spelled r.at
+    (may_work (record { text = i.text.now; phase = i.phase; worker = i.worker; sight = i.sight }) i.script.value r.phase lent.spelled r.at
     (g.H.Hand.seat c.args.hand.now) (g.H.Hand.entries c.args.hand.now) (g.H.Hand.entries c.do_tasks.new.hand) (g.H.Hand.front c.do_tasks.new.hand) c.do_tasks.result
     (λ who held by sees.
     subst (λ (ts : List Task). HasWorked (setting_of i.script.value) ts who i.worker.tasks held (g.H.Hand.seat c.args.hand.now) (g.H.Hand.entries c.args.hand.now) (g.H.Hand.entries c.do_tasks.new.hand) c.do_tasks.result) r.own
@@ -77,7 +77,7 @@ returns-in-Ok-clause-run g c =
     let i = c.self.inside in
     let r = ready i.text.now i.phase i.worker c.in-Ok.script i.script.value i.blocks.now i.tasks.now c.in-Ok.ensures.gives c.self.invariant.0 c.self.invariant.1 in
     subst (λ (post : Post). (made : List Entry) × (g.H.Hand.entries c.do_tasks-in-Ok.new.hand ≡ g.H.Hand.entries c.args.hand.now ++ made) × MayWork post (g.H.Hand.seat c.args.hand.now) made (g.H.Hand.front c.do_tasks-in-Ok.new.hand) c.do_tasks-in-Ok.result) c.self.view_is
-    (may_work (record { text = i.text.now; phase = i.phase; worker = i.worker; view = i.view }) c.in-Ok.script r.phase c.in-Ok.ensures.gives r.at
+    (may_work (record { text = i.text.now; phase = i.phase; worker = i.worker; sight = i.sight }) c.in-Ok.script r.phase c.in-Ok.ensures.gives r.at
     (g.H.Hand.seat c.args.hand.now) (g.H.Hand.entries c.args.hand.now) (g.H.Hand.entries c.do_tasks-in-Ok.new.hand) (g.H.Hand.front c.do_tasks-in-Ok.new.hand) c.do_tasks-in-Ok.result
     (λ who held by sees.
     subst (λ (ts : List Task). HasWorked (setting_of c.in-Ok.script) ts who i.worker.tasks held (g.H.Hand.seat c.args.hand.now) (g.H.Hand.entries c.args.hand.now) (g.H.Hand.entries c.do_tasks-in-Ok.new.hand) c.do_tasks-in-Ok.result) r.own
@@ -92,11 +92,11 @@ returns-clause-run g c =
     let i = c.self.inside in
     let a = c.self.invariant.0 in
     subst (λ (post : Post). (made : List Entry) × (g.H.Hand.entries c.args.hand.now ≡ g.H.Hand.entries c.args.hand.now ++ made) × MayWork post (g.H.Hand.seat c.args.hand.now) made (g.H.Hand.front c.args.hand.now) c.wanting.result) c.self.view_is
-    (may_work (record { text = i.text.now; phase = i.phase; worker = i.worker; view = i.view }) a.script a.phase a.spelled a.at
+    (may_work (record { text = i.text.now; phase = i.phase; worker = i.worker; sight = i.sight }) a.script a.phase a.spelled a.at
     (g.H.Hand.seat c.args.hand.now) (g.H.Hand.entries c.args.hand.now) (g.H.Hand.entries c.args.hand.now) (g.H.Hand.front c.args.hand.now) c.wanting.result
     (λ who held by sees.
-    none_done (setting_of a.script) a.phase.tasks who i.worker.tasks held (g.H.Hand.seat c.args.hand.now) (g.H.Hand.entries c.args.hand.now) i.view c.wanting.result
-    a.lawful (allowed a.script i.phase a.phase a.lawful a.at) a.within sees c.wanting.ensures.0 c.wanting.ensures.1 c.wanting.ensures.2)
+    none_done (setting_of a.script) a.phase.tasks who i.worker.tasks held (g.H.Hand.seat c.args.hand.now) (g.H.Hand.entries c.args.hand.now) c.wanting.result
+    a.lawful (allowed a.script i.phase a.phase a.lawful a.at) a.within c.wanting.ensures.0 c.wanting.ensures.1)
     (λ full. absurd (cc (full, c.wanting.ensures.1))))
 
 pub returns-in-None-clause-wanted : goal.returns-in-None-clause-wanted
