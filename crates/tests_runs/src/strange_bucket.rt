@@ -1,8 +1,12 @@
 //! A bucket that shows other objects than it holds, and the site that opens it.
 
+ghost use Rattle.std.specs.Prelude.{◌≡◌, false};
+ghost use Rattle.bucket_core.specs.Causes.{get_failed};
+
+use crate::setting::Setting;
 use bucket_core::{
-    Bucket, DeleteAnswer, FailList, GetAnswer, MemoryBucket, MemoryShelf, PageAnswer, PutAnswer,
-    Site, SiteRefusal,
+    Bucket, DeleteAnswer, Fail, FailList, GetAnswer, MemoryBucket, MemoryShelf, PageAnswer,
+    PutAnswer, Site, SiteRefusal,
 };
 use call_notes::CallNotes;
 use label_sets::{Text, TextList};
@@ -16,12 +20,36 @@ pub enum Lie {
     Never,
     /// Each meta that stands is shown as the one byte `x`.
     Metas,
+    /// Each index that stands, and each range of one, is shown as the one byte `x`.
+    Indexes,
+    /// No index is found.
+    Lost,
     /// Each page has the one name `x`.
     Pages,
 }
 
-/// A bucket in memory that may lie. It tells no contents, but what it was asked. It notes its calls to be printed too, and a call
-/// for whose note there is no memory is not done, unless it is a deletion.
+/// What a bucket shows of an object that it found.
+#[derive(Clone, Copy, Debug, PartialEq, Eq)]
+enum Sight {
+    True,
+    /// The one byte `x`.
+    Other,
+    Nothing,
+}
+
+impl Lie {
+    fn sight(self, key: &str) -> Sight {
+        match self {
+            Lie::Metas if key.ends_with("/meta.json") => Sight::Other,
+            Lie::Indexes if key.ends_with("/index") => Sight::Other,
+            Lie::Lost if key.ends_with("/index") => Sight::Nothing,
+            _ => Sight::True,
+        }
+    }
+}
+
+/// A bucket in memory that may lie, and of which a call may fail. It tells no contents, but what it was asked. It notes its calls to
+/// be printed too, and a call for whose note there is no memory is not done, unless it is a deletion.
 #[derive(Drop)]
 pub struct StrangeBucket {
     alloc: Global,
@@ -36,6 +64,16 @@ impl StrangeBucket {
     /// The notes of its calls, in order.
     pub fn notes(&self) -> &[u8] {
         &self.notes
+    }
+
+    /// An object of one byte.
+    fn other(&self) -> GetAnswer
+        ensures { get_failed result ≡ false }
+    {
+        match Blob::from_bytes(self.alloc, b"x") {
+            Ok(byte) => GetAnswer::Found(byte),
+            Err(_) => GetAnswer::NoMemory,
+        }
     }
 
     fn name_page(&self) -> Result<TextList, NoMemory> {
@@ -82,15 +120,11 @@ impl Bucket for StrangeBucket {
             return GetAnswer::NoMemory;
         }
         match self.inner.get(key) {
-            GetAnswer::Found(bytes) => {
-                if self.lie != Lie::Metas || !key.ends_with("meta.json") {
-                    return GetAnswer::Found(bytes);
-                }
-                match Blob::from_bytes(self.alloc, b"x") {
-                    Ok(byte) => GetAnswer::Found(byte),
-                    Err(_) => GetAnswer::NoMemory,
-                }
-            }
+            GetAnswer::Found(bytes) => match self.lie.sight(key) {
+                Sight::True => GetAnswer::Found(bytes),
+                Sight::Other => self.other(),
+                Sight::Nothing => GetAnswer::Absent,
+            },
             answer => answer,
         }
     }
@@ -101,7 +135,14 @@ impl Bucket for StrangeBucket {
         if note(&mut self.notes, "range ", key).is_err() {
             return GetAnswer::NoMemory;
         }
-        self.inner.get_range(key, from, len)
+        match self.inner.get_range(key, from, len) {
+            GetAnswer::Found(bytes) => match self.lie.sight(key) {
+                Sight::True => GetAnswer::Found(bytes),
+                Sight::Other => self.other(),
+                Sight::Nothing => GetAnswer::Absent,
+            },
+            answer => answer,
+        }
     }
 
     #[tactic(auto, using(crate::proofs::Noting::noted_so))]
@@ -127,13 +168,37 @@ impl Bucket for StrangeBucket {
     }
 }
 
-/// A site that opens empty strange buckets, and no shelf.
+/// A site that opens empty strange buckets, unless it fails, and no shelf.
 #[derive(Drop)]
 pub struct StrangeSite {
-    pub alloc: Global,
-    pub lie: Lie,
-    pub opened: u32,
-    pub faults: u64,
+    alloc: Global,
+    lie: Lie,
+    failing: Option<Fail>,
+    closed: bool,
+    opened: u32,
+    faults: u64,
+}
+
+impl StrangeSite {
+    pub(crate) fn new(alloc: Global, setting: &Setting) -> StrangeSite {
+        StrangeSite {
+            alloc,
+            lie: setting.lie,
+            failing: setting.bucket,
+            closed: setting.site,
+            opened: 0,
+            faults: 0,
+        }
+    }
+
+    /// The calls of its buckets that fail.
+    fn fails(&self) -> Result<FailList, NoMemory> {
+        let mut fails = FailList::new(self.alloc);
+        if let Some(fail) = self.failing {
+            fails.push(fail)?;
+        }
+        Ok(fails)
+    }
 }
 
 impl Site for StrangeSite {
@@ -154,14 +219,17 @@ impl Site for StrangeSite {
     ghost next_shelf = { λ s name. None };
 
     fn open_bucket(&mut self, _name: &str) -> Result<StrangeBucket, SiteRefusal> {
-        if self.opened == u32::MAX {
+        if self.closed || self.opened == u32::MAX {
             self.faults = self.faults.saturating_add(1);
             return Err(SiteRefusal::Failed);
         }
+        let Ok(fails) = self.fails() else {
+            return Err(SiteRefusal::NoMemory);
+        };
         self.opened += 1;
         Ok(StrangeBucket {
             alloc: self.alloc,
-            inner: MemoryBucket::new(self.alloc, FailList::new(self.alloc)),
+            inner: MemoryBucket::new(self.alloc, fails),
             lie: self.lie,
             notes: Vec::new(self.alloc),
             told: CallNotes::new(),

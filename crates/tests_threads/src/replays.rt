@@ -1,4 +1,4 @@
-//! Whole scripts, each phase of which has a thread for each of its workers.
+//! Whole scripts, the workers of each phase of which run beside each other.
 
 use crate::gates::Meeting;
 use bucket_core::{
@@ -258,7 +258,7 @@ fn has_told(ended: &Ended, report: &str) -> bool {
     ended.status == 0 && ended.text.as_slice() == report.as_bytes()
 }
 
-/// A run over memory, with a thread for each worker.
+/// A run over memory, with threads.
 fn replayed<R: Threads + Wait + Sync, G: Gate + Sync>(
     rt: &R,
     alloc: Global,

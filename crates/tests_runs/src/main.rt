@@ -1,0 +1,71 @@
+//! Whole runs of the program over a bucket in memory, of which calls may fail and which may lie. A line of standard input is one
+//! such run, in the notation that its head explains; one that begins with `= ` is a heading. What is to be printed was worked out
+//! apart from this program, by the description of the formats and of the activities.
+#![tactic(auto)]
+
+mod entries;
+mod lines;
+mod runs;
+mod says;
+mod setting;
+mod strange_bucket;
+mod told_runs;
+
+use crate::lines::{Named, add_lines, repeated, script_of, wide};
+use crate::runs::{Shown, print_run};
+use crate::says::{cut, say};
+use crate::setting::{calm, setting_of};
+use std::io;
+
+fn main(rt: HostRuntime) -> io::Result<()> {
+    let mut named = Vec::new(rt.alloc());
+    for row in rt.lines(rt.alloc()) {
+        do_row(&rt, &mut named, row?.as_str());
+    }
+    Ok(())
+}
+
+/// Does what a row says. Rows that name lines print nothing.
+fn do_row(rt: &HostRuntime, named: &mut Vec<Named>, row: &str) {
+    let (word, text) = cut(row);
+    if word == "lines" {
+        return add_lines(named, text);
+    }
+    say(rt, row);
+    match word {
+        "=" => {}
+        "words" => print_run(rt, text, b"", &calm(), Shown::Report),
+        "repeat" => print_repeated(rt, text),
+        "wide" => print_wide(rt, text),
+        "run" => print_script(rt, named.as_slice(), text, Shown::Report),
+        "journal" => print_script(rt, named.as_slice(), text, Shown::Entries),
+        "calls" => print_script(rt, named.as_slice(), text, Shown::Calls),
+        _ => say(rt, "  no row"),
+    }
+}
+
+/// The words of a run by one thread, over memory and no shelf.
+const SERIAL: &str = "serial memory none";
+
+fn print_script(rt: &HostRuntime, named: &[Named], text: &str, shown: Shown) {
+    let (how, lines) = text.split_once(" / ").unwrap_or((text, ""));
+    match script_of(rt.alloc(), named, lines) {
+        Ok(script) => print_run(rt, SERIAL, script.as_slice(), &setting_of(how), shown),
+        Err(_) => say(rt, "  no memory"),
+    }
+}
+
+fn print_repeated(rt: &HostRuntime, text: &str) {
+    let (count, line) = cut(text);
+    match repeated(rt.alloc(), count.parse().unwrap_or(0), line) {
+        Ok(script) => print_run(rt, SERIAL, script.as_slice(), &calm(), Shown::Report),
+        Err(_) => say(rt, "  no memory"),
+    }
+}
+
+fn print_wide(rt: &HostRuntime, text: &str) {
+    match wide(rt.alloc(), text.parse().unwrap_or(0)) {
+        Ok(script) => print_run(rt, SERIAL, script.as_slice(), &calm(), Shown::Entries),
+        Err(_) => say(rt, "  no memory"),
+    }
+}

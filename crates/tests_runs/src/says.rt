@@ -1,0 +1,30 @@
+//! What the rows print. A line that cannot be written shows as what is lacking in the output, by which the row fails; so no call
+//! here hands it on.
+
+/// Prints a line.
+pub(crate) fn say(rt: &HostRuntime, line: &str) {
+    let _ = rt.println(line);
+}
+
+/// Prints a text with no line's end behind it.
+pub(crate) fn put(rt: &HostRuntime, text: &str) {
+    let _ = rt.print(text);
+}
+
+/// Prints a word and a number with no line's end behind them.
+pub(crate) fn put_number(rt: &HostRuntime, word: &str, number: u64) {
+    let _ = print!(rt; "{word}{number}");
+}
+
+/// Prints each line of a text two blanks further in.
+pub(crate) fn say_lines(rt: &HostRuntime, text: &str) {
+    for line in text.lines() {
+        put(rt, "  ");
+        say(rt, line);
+    }
+}
+
+/// The first word of a text, and what stands behind the blank after it.
+pub(crate) fn cut(text: &str) -> (&str, &str) {
+    text.split_once(' ').unwrap_or((text, ""))
+}
