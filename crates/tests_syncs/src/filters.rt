@@ -1,13 +1,16 @@
 use crate::cleanings::{print_cleanings, print_play};
 use crate::marks::print_marked;
 use crate::metas::read_meta;
+use crate::planning::{
+    print_asks, print_compacted, print_gathered, print_groups, print_parts, print_plan,
+};
 use crate::says::{cut, put, put_letter, say};
 use crate::uploads::print_uploads;
 use block_meta::DeletionMark;
 use list_core::{NoMemory, TryCopy};
-use moment_core::{Moment, Span};
+use moment_core::{Moment, Partition, Span};
 use std::alloc::Global;
-use sync_filters::{Found, FoundList, consistent, is_expired, uncovered, unmarked};
+use sync_filters::{Found, FoundList, consistent, in_partition, is_expired, uncovered, unmarked};
 
 /// How old a block has to be, half an hour.
 const DELAY: Span = Span { ms: 1_800_000 };
@@ -29,6 +32,12 @@ pub(crate) fn print_row(rt: &HostRuntime, row: &str) {
     match kind {
         "clean" => print_cleanings(rt, text),
         "play" => print_play(rt, text),
+        "parts" => print_parts(rt, text),
+        "groups" => print_groups(rt, text),
+        "compacted" => print_compacted(rt, text),
+        "asks" => print_asks(rt, text),
+        "gather" => print_gathered(rt, text),
+        "plan" | "select" | "overlapping" => print_plan(rt, kind, text),
         _ => print_answer(rt, kind, text),
     }
 }
@@ -40,6 +49,7 @@ fn print_answer(rt: &HostRuntime, kind: &str, text: &str) {
         "marked" => print_kept(rt, is_kept(rt.alloc(), Some(MARK), text)),
         "unmarked" => print_kept(rt, is_kept(rt.alloc(), None, text)),
         "expiring" => print_kept(rt, is_retained(rt.alloc(), text)),
+        "within" => print_kept(rt, is_within(rt.alloc(), text)),
         "split" => print_split(rt, text),
         "upload" => print_uploads(rt, text),
         "sync" => print_marked(rt, text),
@@ -101,6 +111,17 @@ fn is_retained(alloc: Global, text: &str) -> Result<bool, NoMemory> {
     Ok(!is_expired(&found.meta, retention, moment_of(moment)))
 }
 
+/// The row is the first and the last time of a partition.
+fn is_within(alloc: Global, text: &str) -> Result<bool, NoMemory> {
+    let (low, high) = cut(text);
+    let partition = Partition {
+        low: low.parse().unwrap_or(0),
+        high: high.parse().unwrap_or(0),
+    };
+    let found = found_of(alloc, "1", "1", "0", "")?;
+    Ok(in_partition(&found.meta, &partition))
+}
+
 fn found_of(
     alloc: Global,
     block: &str,
@@ -120,12 +141,12 @@ fn found_of(
 
 fn print_split(rt: &HostRuntime, text: &str) {
     match blocks_of(rt.alloc(), text) {
-        Ok(found) => print_parts(rt, uncovered(rt.alloc(), found)),
+        Ok(found) => print_told_apart(rt, uncovered(rt.alloc(), found)),
         Err(_) => say(rt, "no memory"),
     }
 }
 
-fn print_parts(rt: &HostRuntime, split: Result<(FoundList, FoundList), NoMemory>) {
+fn print_told_apart(rt: &HostRuntime, split: Result<(FoundList, FoundList), NoMemory>) {
     match split {
         Ok((kept, covered)) => {
             print_blocks(rt, "kept", &kept);

@@ -1,6 +1,7 @@
-//! Makes calls on buckets and operations on worlds, asks the filters of a view about blocks, runs uploads, syncs and cleanings
-//! over a world, and prints what comes of it. A line of standard input is one question, in the notation that its head explains;
-//! one that begins with `= ` is a heading. What is to be printed was worked out by hand.
+//! Makes calls on buckets and operations on worlds, asks the filters of a view about blocks, asks for plans of blocks and which
+//! gateways a query asks, gathers their answers, runs uploads, syncs and cleanings over a world, and prints what comes of it. A
+//! line of standard input is one question, in the notation that its head explains; one that begins with `= ` is a heading. The
+//! long list of plans was computed by another program, and the rest by hand.
 #![tactic(auto)]
 
 mod buckets;
@@ -8,6 +9,7 @@ mod cleanings;
 mod filters;
 mod marks;
 mod metas;
+mod planning;
 mod says;
 mod syncs;
 mod turns;

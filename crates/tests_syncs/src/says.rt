@@ -23,6 +23,11 @@ pub(crate) fn put_letter(rt: &HostRuntime, ulid: Ulid) {
     put_char(rt, char::from(ulid.text()[25]));
 }
 
+/// Prints a blank, and the number that a ULID of 1970 stands for.
+pub(crate) fn put_number(rt: &HostRuntime, ulid: Ulid) {
+    let _ = print!(rt; " {}", ulid.entropy());
+}
+
 /// Prints a value as it is told for debugging.
 pub(crate) fn show<T: fmt::Debug>(rt: &HostRuntime, value: &T) {
     let _ = println!(rt; "{value:?}");

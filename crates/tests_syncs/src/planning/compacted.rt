@@ -1,5 +1,5 @@
-use crate::metas::metas_of;
-use crate::plans::put_places;
+use crate::planning::blocks::metas_of;
+use crate::planning::plans::put_places;
 use crate::says::{put, put_number, say};
 use block_meta::BlockPlan;
 use group_planner::MetaList;

@@ -1,6 +1,6 @@
 ghost use Rattle.std.specs.Prelude.{pos, ◌<ℤ◌};
 
-use crate::metas::metas_of;
+use crate::planning::blocks::metas_of;
 use crate::says::{cut, put, put_number, say};
 use group_planner::{Group, overlapping, plan, select, split_by_range};
 use label_sets::LabelSet;

@@ -1,4 +1,4 @@
-use crate::metas::read_meta;
+use crate::planning::blocks::read_meta;
 use crate::says::{cut, put, put_number, say};
 use group_planner::{Group, groups};
 use label_sets::{Text, TextList};
