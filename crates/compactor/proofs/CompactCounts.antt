@@ -37,6 +37,16 @@ part_under level above count lower few = omega (arith, lower, few)
 pub asks_falls : {A : Type 0} (old new : ℕ) (a : Act A) (op : Op) → a ≡ act.Do op → Falls old (Ok a) new → new < old
 asks_falls {A} old new a op is falls = subst (λ (b : Act A). Falls old (Ok b) new) is falls
 
+-- and so on its level
+pub falls_at : {A : Type 0} (level old new whole : ℕ) (a : Act A) (op : Op) → whole ≡ level + new → a ≡ act.Do op → Falls old (Ok a) new → whole < level + old
+falls_at {A} level old new whole a op same is falls = let less : new < old = asks_falls old new a op is falls in omega (arith, less, same)
+
+pub under_at : (level above count whole : ℕ) → whole ≡ most_asked * level + count → level < above → count < most_asked → whole < most_asked * above
+under_at level above count whole same lower few = omega (arith, lower, few, same)
+
+pub same_level : (level : ℕ) → level ≤ level
+same_level level = omega arith
+
 pub level_falls : {E : Type 0} (level above more : ℕ) (r : Result (Act E) NoMemory) (new : ℕ) → level ≤ above → Falls (most_asked * level) r new → Falls (most_asked * above + more) r new
 level_falls level above more (Ok (act.Do op)) new le falls = omega (arith, le, falls)
 level_falls level above more (Ok (act.Done end)) new le falls = tt

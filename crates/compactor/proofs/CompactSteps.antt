@@ -125,3 +125,11 @@ module _ {M A : Type 0} (may : M → List Entry → Option A → M → Type 0) (
   pub part_stops : (none : NoMemory) (r : Result (Act CompactEnd) NoMemory) (new : Compact) → is_err r ≡ true → GoesOn may asked old made (Err none) part → Goes (PartThen may old next) made r new
   part_stops none (Ok a) new is goes = absurd (cc (is))
   part_stops none (Err e) new is goes = breaks may old part next made goes
+
+-- ---- a state that is another one
+
+pub to_state : (new made : Compact) → new ≡ made → (entries : List Entry) (end : Option CompactEnd) → may_compact new entries end new → may_compact made entries end made
+to_state new made same entries end run = subst (λ (c : Compact). may_compact c entries end c) same run
+
+pub of_state : (new made : Compact) → new ≡ made → (entries : List Entry) (end : Option CompactEnd) → may_compact made entries end made → may_compact new entries end new
+of_state new made same entries end run = subst (λ (c : Compact). may_compact c entries end c) (sym same) run

@@ -78,6 +78,13 @@ impl Compact {
         })
     }
 
+    /// Waits in this stage. The stage before it is let go here alone.
+    fn wait_in(&mut self, stage: Stage)
+        ensures { self.new ≡ record self.old { stage = stage } }
+    {
+        self.stage = stage;
+    }
+
     /// Asks for the sync's first operation.
     fn first_sync(&mut self, mut sync: Sync) -> Result<Act<CompactEnd>, NoMemory>
         requires fresh { IsFreshSync sync }
@@ -86,7 +93,7 @@ impl Compact {
         let act = sync.first()?;
         match act {
             Act::Do(op) => {
-                self.stage = Stage::Syncing(sync);
+                self.wait_in(Stage::Syncing(sync));
                 Ok(Act::Do(op))
             }
             Act::Done(end) => self.after_sync(end),
@@ -105,7 +112,7 @@ impl Compact {
         let act = sync.step(seen)?;
         match act {
             Act::Do(op) => {
-                self.stage = Stage::Syncing(sync);
+                self.wait_in(Stage::Syncing(sync));
                 Ok(Act::Do(op))
             }
             Act::Done(end) => self.after_sync(end),
@@ -151,7 +158,7 @@ impl Compact {
         let act = marks.first()?;
         match act {
             Act::Do(op) => {
-                self.stage = Stage::Marking(reason, marks);
+                self.wait_in(Stage::Marking(reason, marks));
                 Ok(Act::Do(op))
             }
             Act::Done(end) => self.after_marks(reason, end),
@@ -176,7 +183,7 @@ impl Compact {
         let act = marks.step(seen)?;
         match act {
             Act::Do(op) => {
-                self.stage = Stage::Marking(reason, marks);
+                self.wait_in(Stage::Marking(reason, marks));
                 Ok(Act::Do(op))
             }
             Act::Done(end) => self.after_marks(reason, end),
@@ -245,10 +252,13 @@ impl Compact {
         let act = reads.first()?;
         match act {
             Act::Do(op) => {
-                self.stage = Stage::Reading(reads, labels, parents);
+                self.wait_in(Stage::Reading(reads, labels, parents));
                 Ok(Act::Do(op))
             }
-            Act::Done(end) => self.after_reads(end, labels, parents),
+            Act::Done(end) => {
+                drop(reads);
+                self.after_reads(end, labels, parents)
+            }
         }
     }
 
@@ -270,10 +280,13 @@ impl Compact {
         let act = reads.step(seen)?;
         match act {
             Act::Do(op) => {
-                self.stage = Stage::Reading(reads, labels, parents);
+                self.wait_in(Stage::Reading(reads, labels, parents));
                 Ok(Act::Do(op))
             }
-            Act::Done(end) => self.after_reads(end, labels, parents),
+            Act::Done(end) => {
+                drop(reads);
+                self.after_reads(end, labels, parents)
+            }
         }
     }
 
@@ -342,7 +355,7 @@ impl Compact {
         let act = upload.first()?;
         match act {
             Act::Do(op) => {
-                self.stage = Stage::Uploading(upload, parents);
+                self.wait_in(Stage::Uploading(upload, parents));
                 Ok(Act::Do(op))
             }
             Act::Done(_) => unreachable!(),
@@ -367,7 +380,7 @@ impl Compact {
         let act = upload.step(seen)?;
         match act {
             Act::Do(op) => {
-                self.stage = Stage::Uploading(upload, parents);
+                self.wait_in(Stage::Uploading(upload, parents));
                 Ok(Act::Do(op))
             }
             Act::Done(end) => self.after_upload(end, number, parents),
@@ -416,7 +429,7 @@ impl Compact {
         let act = marks.first()?;
         match act {
             Act::Do(op) => {
-                self.stage = Stage::Marking(Reason::Expired, marks);
+                self.wait_in(Stage::Marking(Reason::Expired, marks));
                 Ok(Act::Do(op))
             }
             Act::Done(end) => Ok(Act::Done(self.last_end(end))),
