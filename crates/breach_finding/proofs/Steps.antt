@@ -1,0 +1,107 @@
+-- The steps of a sync that is watched.
+use Rattle.std.proofs.Common.{◌≡◌, inl, inr, ◌≤◌, List, [], ◌∷◌, ◌++◌, Option, Some, None, Result, Ok, refl, sym, ◌∙◌, ap, subst, append_assoc, arith}
+use Rattle.list_core.specs.declared.memory.NoMemory.{NoMemory}
+use Rattle.world_core.specs.Machines.{Asks, GoesOn}
+use Rattle.world_core.specs.declared.act.Act.{Act}
+use Rattle.world_core.specs.declared.act.Act.TheVariants.{Do, Done}
+use Rattle.world_core.specs.declared.reply.Reply.{Reply}
+use Rattle.world_core.specs.Operations.{IsAnswer, entry_of}
+use Rattle.world_core.specs.declared.entry.Entry.{Entry}
+use Rattle.world_core.specs.declared.op.Op.{Op}
+use Rattle.world_core.specs.declared.op.Op.TheVariants as op
+use Rattle.world_core.specs.declared.reply.Reply.TheVariants as reply
+use Rattle.world_core.specs.declared.seen.Seen.{Seen}
+use Rattle.meta_fetcher.specs.SyncStates.{asked_sync, may_sync}
+use Rattle.meta_fetcher.specs.Syncs.{SyncRun}
+use Rattle.meta_fetcher.specs.declared.rules.SyncRules.{SyncRules}
+use Rattle.meta_fetcher.specs.declared.sync.Sync.{Sync}
+use Rattle.meta_fetcher.specs.declared.sync_end.SyncEnd.{SyncEnd}
+use Rattle.lifecycle_core.proofs.phases.TasksMade.{no_listing}
+use Rattle.breach_finding.specs.Watching.{IsAt, Went, came_of}
+use Rattle.breach_finding.specs.declared.watching.Came.TheVariants.{GoesOn as Going}
+use Rattle.breach_finding.specs.declared.watching.Came.{Came}
+use Rattle.breach_finding.specs.declared.watching.UnderWay.{UnderWay}
+use Rattle.breach_finding.proofs.OneOpening.{sync_begins}
+
+-- each operation has an answer
+some_answer : (o : Op) → (seen : Seen) × IsAnswer o seen
+some_answer (op.Clock moment) = (record { seq = 0; moment = record { ms = 0 }; reply = reply.Clocked }, record { kind = tt; moment = omega arith })
+some_answer (op.Put key bytes) = (record { seq = 0; moment = record { ms = 0 }; reply = reply.Stored }, record { kind = tt; moment = omega arith })
+some_answer (op.Get key) = (record { seq = 0; moment = record { ms = 0 }; reply = reply.Absent }, record { kind = tt; moment = omega arith })
+some_answer (op.GetRange key start len) = (record { seq = 0; moment = record { ms = 0 }; reply = reply.Absent }, record { kind = tt; moment = omega arith })
+some_answer (op.Delete key) = (record { seq = 0; moment = record { ms = 0 }; reply = reply.Deleted }, record { kind = tt; moment = omega arith })
+some_answer (op.RootPage after limit) = (record { seq = 0; moment = record { ms = 0 }; reply = reply.Names [] }, record { kind = tt; moment = omega arith })
+some_answer (op.BlockPage ulid after limit) = (record { seq = 0; moment = record { ms = 0 }; reply = reply.Names [] }, record { kind = tt; moment = omega arith })
+
+-- the operation that a sync waits for would go on with it
+pub would_go_on : (rules : SyncRules) (made : List Entry) (machine : Sync) (asks : Op) → IsAt rules made machine asks → (x : Entry) × (x.op ≡ asks) × SyncRun rules (made ++ x ∷ []) None
+would_go_on rules made machine asks at =
+    let some = some_answer asks in
+    (entry_of 0 asks some.0, refl, at.onward (entry_of 0 asks some.0 ∷ []) None machine (at.answered 0 some.0 some.1))
+
+module _ (rules : SyncRules) (made : List Entry) (old : Sync) (asks : Op) (at : IsAt rules made old asks) (e : Entry) where
+  pub at_next : (next : Op) (new : Sync) → Asks may_sync asked_sync old (e ∷ []) next new → IsAt rules (made ++ e ∷ []) new next
+  at_next next new a = record {
+    waits = a.waits;
+    onward = λ entries end last run. subst (λ (es : List Entry). SyncRun rules es end) (sym (append_assoc made (e ∷ []) entries)) (at.onward (e ∷ entries) end last (a.onward entries end last run));
+    answered = a.answered;
+  }
+
+  pub at_done : (end : SyncEnd) (new : Sync) → may_sync old (e ∷ []) (Some end) new → SyncRun rules (made ++ e ∷ []) (Some end)
+  at_done end new run = at.onward (e ∷ []) (Some end) new run
+
+-- ---- the first step
+
+module _ (rules : SyncRules) (old : Sync) (starts : (entries : List Entry) (end : Option SyncEnd) (last : Sync) → may_sync old entries end last → SyncRun rules entries end) where
+  pub at_first : (asks : Op) (new : Sync) → Asks may_sync asked_sync old [] asks new → IsAt rules [] new asks
+  at_first asks new a = record { waits = a.waits; onward = λ entries end last run. starts entries end last (a.onward entries end last run); answered = a.answered }
+
+  pub first_asks : (low : 1 ≤ rules.page_limit) (asks : Op) (new : Sync) → Asks may_sync asked_sync old [] asks new → asks ≡ op.RootPage [] rules.page_limit
+  first_asks low asks new a =
+      let goes = would_go_on rules [] new asks (at_first asks new a) in
+      sym goes.1 ∙ sync_begins rules low goes.0 [] None goes.2
+
+  pub first_not_done : (end : SyncEnd) (new : Sync) → may_sync old [] (Some end) new → ⊥
+  first_not_done end new run = let ended = starts [] (Some end) new run in no_listing rules 999_999 ended.0 ended.1
+
+-- ---- a step by an entry
+
+entry_is : (e : Entry) (r : Reply) → r ≡ e.reply → entry_of e.seat e.op (record { seq = e.seq; moment = e.moment; reply = r }) ≡ e
+entry_is e r same = ap (λ (q : Reply). entry_of e.seat e.op (record { seq = e.seq; moment = e.moment; reply = q })) same
+
+pub first_do : (old new : Sync) (res : Result (Act SyncEnd) NoMemory) (next : Op) → GoesOn may_sync asked_sync old [] res new → res ≡ Ok (Do next) → Asks may_sync asked_sync old [] next new
+first_do old new res next goes is = subst (λ (q : Result (Act SyncEnd) NoMemory). GoesOn may_sync asked_sync old [] q new) is goes
+
+pub first_done : (old new : Sync) (res : Result (Act SyncEnd) NoMemory) (end : SyncEnd) → GoesOn may_sync asked_sync old [] res new → res ≡ Ok (Done end) → may_sync old [] (Some end) new
+first_done old new res end goes is = subst (λ (q : Result (Act SyncEnd) NoMemory). GoesOn may_sync asked_sync old [] q new) is goes
+
+module _ (old new : Sync) (e : Entry) (r : Reply) (same : r ≡ e.reply) (res : Result (Act SyncEnd) NoMemory)
+    (goes : GoesOn may_sync asked_sync old (entry_of e.seat e.op (record { seq = e.seq; moment = e.moment; reply = r }) ∷ []) res new) where
+  by_entry : GoesOn may_sync asked_sync old (e ∷ []) res new
+  by_entry = subst (λ (x : Entry). GoesOn may_sync asked_sync old (x ∷ []) res new) (entry_is e r same) goes
+
+  pub step_do : (next : Op) → res ≡ Ok (Do next) → Asks may_sync asked_sync old (e ∷ []) next new
+  step_do next is = subst (λ (q : Result (Act SyncEnd) NoMemory). GoesOn may_sync asked_sync old (e ∷ []) q new) is by_entry
+
+  pub step_done : (end : SyncEnd) → res ≡ Ok (Done end) → may_sync old (e ∷ []) (Some end) new
+  step_done end is = subst (λ (q : Result (Act SyncEnd) NoMemory). GoesOn may_sync asked_sync old (e ∷ []) q new) is by_entry
+
+module _ (rules : SyncRules) (made : List Entry) (w : UnderWay) (at : IsAt rules made w.machine w.asks) (e : Entry) (new : Sync) where
+  pub went_do : (next : Op) → Asks may_sync asked_sync w.machine (e ∷ []) next new
+      → Went rules made e w.begin (record { under = Some (record { machine = new; asks = next; begin = w.begin }); told = Some (record { begin = w.begin; came = Going }) })
+  went_do next asks = inl (record {
+    next = record { machine = new; asks = next; begin = w.begin };
+    under = refl;
+    told = ((refl, refl), λ none. cc (none));
+    begun = refl;
+    at = at_next rules made w.machine w.asks at e next new asks;
+  })
+
+  pub went_done : (end : SyncEnd) (how : Came) → how ≡ came_of end → may_sync w.machine (e ∷ []) (Some end) new
+      → Went rules made e w.begin (record { under = None; told = Some (record { begin = w.begin; came = how }) })
+  went_done end how is run = inr (record {
+    end = end;
+    under = refl;
+    told = ((refl, is), λ none. cc (none));
+    run = at_done rules made w.machine w.asks at e end new run;
+  })

@@ -1,0 +1,9 @@
+pub mod Told
+pub mod Watching
+pub mod Seats
+pub mod Asked
+pub mod Views
+pub mod Tables
+pub mod Walks
+pub mod Judging
+pub mod Entries

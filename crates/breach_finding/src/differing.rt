@@ -1,0 +1,69 @@
+ghost use Rattle.std.specs.Prelude.{◌≡◌, ◌⊎◌, ◌<◌, ◌≤◌, drop, length, IfOk};
+ghost use Rattle.lifecycle_core.specs.Breaches.{next_byte};
+ghost use Rattle.breach_finding.specs.Told.{IsDifference, ended_names};
+
+use label_sets::Text;
+use list_core::NoMemory;
+use std::alloc::Global;
+
+/// The byte with which a text goes on at a place, and 256 at its end.
+fn byte_at(text: &[u8], place: usize) -> u64
+    ensures next { result ≡ next_byte (drop place text.now) }
+    ensures byte { place < length text.now → result < 256 }
+    ensures end { length text.now ≤ place → result ≡ 256 }
+{
+    match text.get(place) {
+        Some(byte) => u64::from(*byte),
+        None => 256,
+    }
+}
+
+fn shorter(one: usize, other: usize) -> usize
+    ensures within { result ≤ one }
+    ensures also { result ≤ other }
+    ensures is { (one ≡ result) ⊎ (other ≡ result) }
+{
+    if one < other { one } else { other }
+}
+
+/// The first bytes in which two texts differ, where a text's end counts as 256.
+pub(crate) fn first_difference(one: &[u8], other: &[u8]) -> Option<(u64, u64)>
+    ensures { IsDifference one.now other.now result }
+{
+    let count = shorter(one.len(), other.len());
+    for place in 0..count {
+        let (x, y) = (byte_at(one, place), byte_at(other, place));
+        if x != y {
+            return Some((x, y));
+        }
+    }
+    if one.len() == other.len() {
+        return None;
+    }
+    Some((byte_at(one, count), byte_at(other, count)))
+}
+
+/// Names, each with the byte at its end that no name has.
+fn ended_text(alloc: Global, names: &[Text]) -> Result<Vec<u8>, NoMemory>
+    ensures { IfOk result (λ text. text.items ≡ ended_names names.now) }
+{
+    let mut text = Vec::new(alloc);
+    for name in names {
+        text.extend_from_slice(name.as_str().as_bytes())?;
+        text.push(255)?;
+    }
+    Ok(text)
+}
+
+/// The first bytes in which two lists of names differ as texts.
+pub(crate) fn names_difference(
+    alloc: Global,
+    one: &[Text],
+    other: &[Text],
+) -> Result<Option<(u64, u64)>, NoMemory>
+    ensures { IfOk result (IsDifference (ended_names one.now) (ended_names other.now)) }
+{
+    let shown = ended_text(alloc, one)?;
+    let owed = ended_text(alloc, other)?;
+    Ok(first_difference(shown.as_slice(), owed.as_slice()))
+}

@@ -1,0 +1,71 @@
+ghost use Rattle.std.specs.Prelude.{◌≡◌, ◌↔◌, ◌<◌, ◌^◌, IsTrue, Some};
+ghost use Rattle.block_keys.specs.declared.key.Key.{Key};
+ghost use Rattle.lifecycle_core.specs.Breaches.{HoldsSamples, read_key};
+ghost use Rattle.breach_finding.specs.Asked.{IsSyncAnswer, is_whole};
+ghost use Rattle.breach_finding.specs.Views.{IsViewAnswer};
+
+use crate::puts::over;
+use crate::watching::{Came, Told};
+use block_keys::Key;
+use world_core::Op;
+
+/// Whether a sync is whole with its last entry.
+fn is_whole(came: Came, last: bool) -> bool
+    ensures { result ≡ is_whole came last }
+{
+    match came {
+        Came::GoesOn => last,
+        Came::View => true,
+        Came::Nothing => true,
+    }
+}
+
+/// How the last entry of a sync comes too late, if it is one's and does.
+pub(crate) fn sync_lateness(
+    told: Option<Told>,
+    last: bool,
+    moment: u64,
+    span: u64,
+) -> Option<(u64, u64)>
+    requires { moment < 2 ^ 48 }
+    ensures { IsSyncAnswer told last moment span result }
+{
+    let told = told?;
+    if !is_whole(told.came, last) {
+        return None;
+    }
+    over(moment + 1000, told.begin, span)
+}
+
+/// How a read comes too late for the view that it is made by, if there is one and it does.
+pub(crate) fn view_lateness(begin: Option<u64>, is: u64, span: u64) -> Option<(u64, u64)>
+    ensures { IsViewAnswer begin is span result }
+{
+    match begin {
+        Some(begin) => over(is, begin, span),
+        None => None,
+    }
+}
+
+/// Whether an operation reads what gateways read for queries alone.
+pub(crate) fn reads_samples(op: &Op) -> bool
+    ensures { IsTrue result ↔ ((key : Key) × (read_key op.now ≡ Some key) × HoldsSamples key) }
+{
+    match op {
+        Op::Get(key) => holds_samples(key),
+        Op::GetRange(key, _, _) => holds_samples(key),
+        _ => false,
+    }
+}
+
+/// Whether gateways read under the key for queries alone.
+fn holds_samples(key: &Key) -> bool
+    ensures { IsTrue result ↔ HoldsSamples key.now }
+{
+    match key {
+        Key::Index(_) => true,
+        Key::Segment(_, _) => true,
+        Key::Meta(_) => false,
+        Key::Mark(_) => false,
+    }
+}

@@ -1,0 +1,194 @@
+ghost use Rattle.std.specs.Prelude.{◌≡◌, ◌↔◌, ◌≤◌, ◌<◌, ◌^◌, ℕ, List, [], Some, IfOk, IsTrue};
+ghost use Rattle.world_core.specs.Operations.{IsReplyTo};
+ghost use Rattle.world_core.specs.declared.entry.Entry.{Entry};
+ghost use Rattle.world_core.specs.declared.op.Op.TheVariants as op;
+ghost use Rattle.meta_fetcher.specs.SyncStates.{asked_sync};
+ghost use Rattle.meta_fetcher.specs.declared.rules.SyncRules.{SyncRules};
+ghost use Rattle.breach_finding.specs.Watching.{Begins, IsAt, IsSyncOp, IsTurn, Waits, Went, came_of};
+
+use block_keys::Key;
+use list_core::{NoMemory, TryCopy};
+use meta_fetcher::{Sync, SyncEnd, SyncRules};
+use std::alloc::Global;
+use world_core::{Act, Entry, Machine, Op, Seen};
+
+/// A sync of a seat that is under way: the operation that it waits for, and when its first entry was made.
+#[derive(Drop)]
+pub(crate) struct UnderWay {
+    pub(crate) machine: Sync,
+    pub(crate) asks: Op,
+    pub(crate) begin: u64,
+}
+
+/// How far a sync has come with an entry.
+#[derive(Clone, Copy, Debug, PartialEq, Eq)]
+pub(crate) enum Came {
+    /// It goes on, if its seat has further entries.
+    GoesOn,
+    /// It gave a view.
+    View,
+    /// It ended without a view.
+    Nothing,
+}
+
+/// What an entry is to a sync.
+#[derive(Clone, Copy, Debug, PartialEq, Eq)]
+pub(crate) struct Told {
+    pub(crate) begin: u64,
+    pub(crate) came: Came,
+}
+
+/// What is under way after an entry of a seat, and what the entry was to a sync.
+#[derive(Drop)]
+pub(crate) struct Turn {
+    pub(crate) under: Option<UnderWay>,
+    pub(crate) told: Option<Told>,
+}
+
+/// Whether an operation reads under the key.
+fn is_get(done: &Op, key: &Key) -> bool
+    ensures { IsTrue result ↔ (done.now ≡ op.Get key.now) }
+{
+    match done {
+        Op::Get(own) => *own == *key,
+        _ => false,
+    }
+}
+
+/// Whether an operation asks for these names.
+fn is_page(done: &Op, after: &str, limit: u32) -> bool
+    ensures { IsTrue result ↔ (done.now ≡ op.RootPage after.now limit) }
+{
+    match done {
+        Op::RootPage(own, count) => own.as_str() == after && *count == limit,
+        _ => false,
+    }
+}
+
+/// Whether an operation is the one that a sync asks for.
+fn is_asked(asks: &Op, done: &Op) -> bool
+    ensures same { IsTrue result → asks.now ≡ done.now }
+    ensures other { IsSyncOp asks.now → asks.now ≡ done.now → IsTrue result }
+{
+    match asks {
+        Op::Get(key) => is_get(done, key),
+        Op::RootPage(after, limit) => is_page(done, after.as_str(), *limit),
+        _ => false,
+    }
+}
+
+/// Whether a sync that ended gave a view.
+fn came_to(end: &SyncEnd) -> Came
+    ensures { result ≡ came_of end.now }
+{
+    match end {
+        SyncEnd::View(_) => Came::View,
+        SyncEnd::Fault(_) => Came::Nothing,
+        SyncEnd::Damaged(_) => Came::Nothing,
+        SyncEnd::TooMany => Came::Nothing,
+    }
+}
+
+/// A sync before its first entry.
+fn opened(alloc: Global, rules: SyncRules, begin: u64) -> Result<UnderWay, NoMemory>
+    requires { 1 ≤ rules.page_limit }
+    ensures at { IfOk result (λ w. IsAt rules [] w.machine w.asks) }
+    ensures asks { IfOk result (λ w. w.asks ≡ op.RootPage [] rules.page_limit) }
+    ensures begun { IfOk result (λ w. w.begin ≡ begin) }
+{
+    let mut machine = Sync::start(alloc, rules)?;
+    match machine.first()? {
+        Act::Do(asks) => Ok(UnderWay {
+            machine,
+            asks,
+            begin,
+        }),
+        Act::Done(_) => unreachable!(),
+    }
+}
+
+/// Goes on with the entry that a sync waits for.
+fn goes_on(w: UnderWay, e: &Entry) -> Result<Turn, NoMemory>
+    requires waits { asked_sync w.machine ≡ Some e.now.op }
+    requires kind { IsReplyTo e.now.op e.now.reply }
+    requires small { e.now.moment.ms < 2 ^ 48 }
+    ensures went { IfOk result (λ turn. (rules : SyncRules) (made : List Entry)
+        → IsAt rules made w.machine w.asks → Went rules made e.now w.begin turn) }
+    ensures waits { IfOk result (λ turn. Waits turn.under) }
+{
+    let UnderWay {
+        mut machine,
+        asks: _,
+        begin,
+    } = w;
+    let reply = e.reply.copy()?;
+    let seen = Seen {
+        seq: e.seq,
+        moment: e.moment,
+        reply,
+    };
+    match machine.step(seen)? {
+        Act::Do(asks) => Ok(Turn {
+            under: Some(UnderWay {
+                machine,
+                asks,
+                begin,
+            }),
+            told: Some(Told {
+                begin,
+                came: Came::GoesOn,
+            }),
+        }),
+        Act::Done(end) => Ok(Turn {
+            under: None,
+            told: Some(Told {
+                begin,
+                came: came_to(&end),
+            }),
+        }),
+    }
+}
+
+/// Begins a sync with an entry that asks for the first page.
+fn begins(alloc: Global, rules: SyncRules, e: &Entry) -> Result<Turn, NoMemory>
+    requires limit { 1 ≤ rules.page_limit }
+    requires kind { IsReplyTo e.now.op e.now.reply }
+    requires small { e.now.moment.ms < 2 ^ 48 }
+    ensures turn { IfOk result (Begins rules e.now) }
+    ensures waits { IfOk result (λ turn. Waits turn.under) }
+{
+    if !is_page(&e.op, "", rules.page_limit) {
+        return Ok(Turn {
+            under: None,
+            told: None,
+        });
+    }
+    let w = opened(alloc, rules, e.moment.ms)?;
+    goes_on(w, e)
+}
+
+/// What an entry of a seat is to the sync that is under way, or to one that it begins.
+pub(crate) fn take_turn(
+    alloc: Global,
+    rules: SyncRules,
+    under: Option<UnderWay>,
+    e: &Entry,
+) -> Result<Turn, NoMemory>
+    requires limit { 1 ≤ rules.page_limit }
+    requires kind { IsReplyTo e.now.op e.now.reply }
+    requires small { e.now.moment.ms < 2 ^ 48 }
+    requires waits { Waits under }
+    ensures turn { IfOk result (IsTurn rules under e.now) }
+    ensures waits { IfOk result (λ turn. Waits turn.under) }
+{
+    match under {
+        None => begins(alloc, rules, e),
+        Some(w) => {
+            if is_asked(&w.asks, &e.op) {
+                goes_on(w, e)
+            } else {
+                begins(alloc, rules, e)
+            }
+        }
+    }
+}

@@ -1,0 +1,6 @@
+pub mod Changes
+pub mod Pages
+pub mod Blocks
+pub mod Scans
+pub mod Ranges
+pub mod Objects

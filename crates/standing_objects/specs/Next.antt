@@ -1,0 +1,44 @@
+-- The next name of a page.
+use Rattle.std.specs.Prelude.{◌≡◌, ◌⊎◌, ◌==◌, ◌&&◌, ℕ, ◌≤◌, Bool, false, List, Option, Some, None, IsSome}
+use Rattle.std.specs.BTreeMap.{get}
+use Rattle.std.specs.Ordering.{nat_cmp, is_gt, is_lt}
+use Rattle.std.specs.Cmp.Lexicographic.{slice_cmp}
+use Rattle.ulid_core.specs.UlidText.{text_of}
+use Rattle.block_keys.specs.Keys.{key_cmp, key_ulid}
+use Rattle.block_keys.specs.KeyText.{key_text}
+use Rattle.block_keys.specs.declared.key.Key.{Key}
+use Rattle.bucket_core.specs.Contents.{Contents}
+use Rattle.bucket_core.specs.Pages.{Before, IsName}
+use Rattle.standing_objects.specs.Held.{Places}
+
+-- something stands under the key
+abbrev pub Stands : Places → Key → Type 0
+Stands places key = IsSome (get key_cmp places key)
+
+-- the first key that is due, if something stands under one
+abbrev pub IsFirstKey : (Key → Type 0) → Places → Option Key → Type 0
+IsFirstKey IsDue places None = (key : Key) → Stands places key → ¬ IsDue key
+IsFirstKey IsDue places (Some first) =
+    Stands places first × IsDue first
+    × ((key : Key) → Stands places key → IsDue key → is_gt (key_cmp first key) ≡ false)
+
+-- whether the name of a key's block comes after the cursor
+abbrev pub is_due_block : List ℕ → Key → Bool
+is_due_block after key = is_lt (slice_cmp nat_cmp after (text_of (key_ulid key)))
+
+-- the block is the first one with an object whose name comes after the cursor
+abbrev pub IsNextBlock : Places → List ℕ → Option ℕ → Type 0
+IsNextBlock places after None = (key : Key) → Stands places key → ¬ Before after (text_of (key_ulid key))
+IsNextBlock places after (Some ulid) =
+    (first : Key) × Stands places first × (key_ulid first ≡ ulid) × Before after (text_of ulid)
+    × ((key : Key) → Stands places key → Before after (text_of (key_ulid key)) → ulid ≤ key_ulid key)
+
+-- whether the key is the block's, and its text comes after the cursor's
+abbrev pub is_due_object : ℕ → List ℕ → Key → Bool
+is_due_object ulid cursor key = (key_ulid key == ulid) && is_lt (slice_cmp nat_cmp cursor (key_text key))
+
+-- the name is the least that is due after the cursor
+pub record IsLeast (contents : Contents) (within after name : List ℕ) : Type 0 where
+  pub named : IsName contents within name
+  pub due : Before after name
+  pub least : (other : List ℕ) → IsName contents within other → Before after other → (name ≡ other) ⊎ Before name other
