@@ -51,7 +51,7 @@ same_set (l ∷ ls) (o ∷ os) e =
     let tail : ls ≡ os = same_set ls os parts.1 in
     λ i. head i ∷ tail i
 
-same_number : (one other : ℤ) → int_cmp one other ≡ Equal → one ≡ other
+pub same_number : (one other : ℤ) → int_cmp one other ≡ Equal → one ≡ other
 same_number one other e = by_ranked _ _ _ (int_cmp one other) (int_ranked one other (int_cmp one other) refl)
     (λ f _. absurd (let g : Less ≡ Equal = sym f ∙ e in cc)) (λ _ same. same) (λ f _. absurd (let g : Greater ≡ Equal = sym f ∙ e in cc))
 

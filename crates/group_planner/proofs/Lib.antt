@@ -8,3 +8,4 @@ pub mod KeptOrder
 pub mod KeyOrders
 pub mod CutLaws
 pub mod GroupLaws
+pub mod KeysOfBlocks

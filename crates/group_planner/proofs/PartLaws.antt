@@ -1,6 +1,6 @@
 -- A range has one list of parts, and how a loop finds it.
 use Rattle.std.proofs.Common.{◌≡◌, ◌≢◌, ℕ, zero, suc, ◌+◌, ◌<◌, ◌≤◌, Bool, true, false, not, List, [], ◌∷◌, ◌++◌, length, get_or, take, drop, append_assoc, append-nil, length-append, map, refl, sym, ap, ◌∙◌, subst, arith, inl, inr}
-use Rattle.std.specs.Prelude.{◌⊎◌, ℤ}
+use Rattle.std.specs.Prelude.{◌⊎◌, ℤ, Result, Ok, Err, IfOk}
 use Rattle.std.specs.Ordering.{int_eq}
 use Rattle.std.proofs.lemmas.Bool.{true≢false, and_from, and_parts}
 use Rattle.std.proofs.lemmas.Int.{ints}
@@ -135,6 +135,12 @@ parts_within (suc fuel) range members le = elim (next_of range members) [
 
 pub parts_of : (range : ℤ) (members : List Meta) → (parts : List (List Meta)) × AreParts range members parts
 parts_of range members = parts_within (length members) range members (omega arith)
+
+-- so there is one where memory runs out too
+pub parts_told : (range passed : ℤ) (metas members : List Meta) {E : Type 0} (r : Result (List (List ℕ)) E) → passed ≡ range → members ≡ metas → IfOk r (λ made. (parts : List (List Meta)) × AreParts passed members parts × (made ≡ map ulids_of parts))
+    → (parts : List (List Meta)) × AreParts range metas parts × IfOk r (λ made. made ≡ map ulids_of parts)
+parts_told range passed metas members {E} (Ok made) same are told = (told.0, subst (λ m. AreParts range m told.0) are (subst (λ n. AreParts n members told.0) same told.1), told.2)
+parts_told range passed metas members {E} (Err e) same are told = let made = parts_of range metas in (made.0, made.1, tt)
 
 -- ---- how a loop finds the next one
 

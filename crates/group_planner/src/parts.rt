@@ -14,8 +14,8 @@ use std::alloc::Global;
 /// multiple of it. Blocks that lie within no such stretch are in no part.
 pub fn split_by_range(alloc: Global, metas: &MetaList, range: i64) -> Result<UlidListList, NoMemory>
     requires { pos 0 <ℤ range }
-    ensures found { IfOk result (λ made. (parts : List (List Meta))
-        × AreParts range metas.now parts × (made ≡ map ulids_of_all parts)) }
+    ensures found { (parts : List (List Meta)) × AreParts range metas.now parts
+        × IfOk result (λ made. made ≡ map ulids_of_all parts) }
     ensures only { (one other : List (List Meta)) → AreParts range metas.now one
         → AreParts range metas.now other → one ≡ other }
 

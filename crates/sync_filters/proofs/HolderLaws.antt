@@ -57,7 +57,7 @@ record Better (one other : Meta) : Type 0 where
   more : (length other.sources < length one.sources) ⊎ (length one.sources ≡ length other.sources)
   all : (source : ℕ) → Contains other.sources source → Contains one.sources source
 
-has_source : (many few : List ℕ) (source : ℕ) → has_all many few ≡ true → Contains few source → Contains many source
+pub has_source : (many few : List ℕ) (source : ℕ) → has_all many few ≡ true → Contains few source → Contains many source
 has_source many few source all among =
     let some : list_any (λ other. eqb other source) many ≡ true = all_at_member (λ ulid. list_any (λ other. eqb other ulid) many) few source all among in
     let found : (x : ℕ) × Contains many x × (eqb x source ≡ true) = member_of_any (λ other. eqb other source) many some in

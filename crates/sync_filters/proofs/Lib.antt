@@ -3,3 +3,4 @@ mod EqualSources
 mod HolderLaws
 mod HolderPlaces
 mod Digests
+mod BitMarks

@@ -1,6 +1,7 @@
 -- Blocks by the numbers under which they are looked up: each of their sources, and a digest of all of them.
 use Rattle.std.specs.Prelude.{◌≡◌, ℕ, pos, ◌+◌, ◌*◌, ◌%◌, ◌^◌, ◌<◌, ◌==◌, ◌&&◌, ◌||◌, nat_lt, Bool, false, fold, List, [], ◌∷◌, map, length, if◌then◌else◌, Some, slice_get, Contains}
 use Rattle.std.specs.declared.cmp.Ordering.{Ordering}
+use Rattle.std.specs.Int.Bits.{bit_or}
 use Rattle.std.specs.Option.{option_map_or}
 use Rattle.std.specs.Ordering.{nat_cmp, ordering_then, is_lt, int_eq}
 use Rattle.sync_filters.specs.Filters.{is_better}
@@ -66,3 +67,18 @@ digest_of sources = fold mixed 0 sources
 -- the digest alone
 abbrev pub digest_alone : List ℕ → List ℕ
 digest_alone sources = digest_of sources ∷ []
+
+-- with the bit of one source more, of 128 in all
+abbrev pub with_bit : ℕ → ℕ → ℕ
+with_bit mark source = bit_or mark ((1 * 2 ^ (source % 128)) % 2 ^ 128)
+
+-- a bit for each source: a list that has all members of another has all its bits too
+unfoldable pub mark_of : List ℕ → ℕ
+mark_of sources = fold with_bit 0 sources
+
+abbrev pub mark_at : Found → ℕ
+mark_at block = mark_of block.meta.sources
+
+-- each bit of the few is one of the many
+abbrev pub has_bits : ℕ → ℕ → Bool
+has_bits many few = bit_or few many == many

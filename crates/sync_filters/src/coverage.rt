@@ -1,11 +1,11 @@
-ghost use Rattle.std.specs.Prelude.{◌≡◌, ◌==◌, pos, not, map, length, IfOk};
+ghost use Rattle.std.specs.Prelude.{◌≡◌, ◌==◌, ◌&&◌, pos, not, map, length, IfOk};
 ghost use Rattle.std.specs.List.{filter, list_any};
 ghost use Rattle.std.specs.List.Sorted.{IsStrictlyIncreasing, IsPermutation, IsNonDecreasingBy, IsSortedBy};
 ghost use Rattle.std.specs.Ordering.{int_eq};
 ghost use Rattle.sync_filters.specs.Filters.{is_better, is_covered as is_covered_by, has_more as has_more_than, has_all as has_each, Splits};
-ghost use Rattle.sync_filters.specs.Holders.{AreHolders, comes_before, covers_at, digest_alone, each_source};
+ghost use Rattle.sync_filters.specs.Holders.{AreHolders, comes_before, covers_at, digest_alone, each_source, mark_at};
 
-use crate::digest::digest;
+use crate::digest::{digest, has_bits, mark};
 use crate::holders::{Holder, by_digest, by_source, fewest_larger, holders_of};
 use crate::{Found, FoundList};
 use block_meta::Meta;
@@ -58,7 +58,8 @@ fn has(ulids: &[Ulid], ulid: Ulid) -> bool
 /// Blocks are looked up by their sources. One that covers another has the same sources, and then a digest of them leads to it; or
 /// it has more, and then it is among the larger blocks that have a source of the other: that source is taken which the fewest have.
 /// So the time is that of sorting all sources, and of comparing a block with these few. It grows beyond that only where each source
-/// of many blocks is one of many larger blocks too, of which none covers them.
+/// of many blocks is one of many larger blocks too, of which none covers them; and then each of those is told by 128 bits, but for a
+/// few that happen to have them all.
 pub fn uncovered(alloc: Global, found: FoundList) -> Result<(FoundList, FoundList), NoMemory>
     ensures { IfOk result (λ split. Splits found split.0 split.1) }
 {
@@ -83,47 +84,111 @@ fn covered_places(alloc: Global, listed: &[Found]) -> Result<Vec<bool>, NoMemory
 {
     let equals = by_digest(alloc, listed)?;
     let holders = by_source(alloc, listed)?;
+    let marks = marks_of(alloc, listed)?;
     let mut covered = Vec::new(alloc);
     for block in listed {
-        covered.push(is_covered(listed, &equals, &holders, block))?;
+        covered.push(is_covered(listed, &equals, &holders, &marks, block))?;
     }
     Ok(covered)
 }
 
-fn is_covered(listed: &[Found], equals: &[Holder], holders: &[Holder], block: &Found) -> bool
-    requires equals { AreHolders digest_alone (length listed.now) listed.now equals.now }
-    requires equals_sorted { IsSortedBy comes_before equals.now }
-    requires holders { AreHolders each_source (length listed.now) listed.now holders.now }
-    requires holders_sorted { IsSortedBy comes_before holders.now }
-    ensures { result ≡ is_covered_by listed.now block.now }
+/// The mark of each block's sources.
+fn marks_of(alloc: Global, listed: &[Found]) -> Result<Vec<u128>, NoMemory>
+    ensures { IfOk result (λ made. made.items ≡ map mark_at listed.now) }
 {
-    is_whole(&block.meta) && is_covered_by_some(listed, equals, holders, block)
+    let mut made = Vec::new(alloc);
+    for block in listed {
+        made.push(mark_of(block))?;
+    }
+    Ok(made)
 }
 
-fn is_covered_by_some(
+fn mark_of(block: &Found) -> u128
+    ensures { result ≡ mark_at block.now }
+{
+    mark(block.meta.sources.members())
+}
+
+fn is_covered(
     listed: &[Found],
     equals: &[Holder],
     holders: &[Holder],
+    marks: &[u128],
     block: &Found,
 ) -> bool
     requires equals { AreHolders digest_alone (length listed.now) listed.now equals.now }
     requires equals_sorted { IsSortedBy comes_before equals.now }
     requires holders { AreHolders each_source (length listed.now) listed.now holders.now }
     requires holders_sorted { IsSortedBy comes_before holders.now }
+    requires marks { marks.now ≡ map mark_at listed.now }
+    ensures { result ≡ is_covered_by listed.now block.now }
+{
+    is_whole(&block.meta) && is_covered_by_some(listed, equals, holders, marks, block)
+}
+
+fn is_covered_by_some(
+    listed: &[Found],
+    equals: &[Holder],
+    holders: &[Holder],
+    marks: &[u128],
+    block: &Found,
+) -> bool
+    requires equals { AreHolders digest_alone (length listed.now) listed.now equals.now }
+    requires equals_sorted { IsSortedBy comes_before equals.now }
+    requires holders { AreHolders each_source (length listed.now) listed.now holders.now }
+    requires holders_sorted { IsSortedBy comes_before holders.now }
+    requires marks { marks.now ≡ map mark_at listed.now }
     ensures { result ≡ is_covered_by listed.now block.now }
 {
     let sources = block.meta.sources.members();
-    is_covered_by_one(listed, holders_of(equals, digest(sources)), block)
-        || is_covered_by_one(listed, fewest_larger(holders, sources), block)
+    let mark = mark_of(block);
+    is_covered_by_one(
+        listed,
+        marks,
+        holders_of(equals, digest(sources)),
+        mark,
+        block,
+    ) || is_covered_by_one(listed, marks, fewest_larger(holders, sources), mark, block)
 }
 
-fn is_covered_by_one(listed: &[Found], few: &[Holder], block: &Found) -> bool
+fn is_covered_by_one(
+    listed: &[Found],
+    marks: &[u128],
+    few: &[Holder],
+    mark: u128,
+    block: &Found,
+) -> bool
+    requires marks { marks.now ≡ map mark_at listed.now }
+    requires mark { mark ≡ mark_at block.now }
     ensures { result ≡ list_any (λ holder. covers_at listed.now block.now holder.place) few.now }
 {
-    few.iter().any(|holder| covers(listed, holder.place, block))
+    for holder in few {
+        if covers(listed, marks, holder, mark, block) {
+            return true;
+        }
+    }
+    false
 }
 
-fn covers(listed: &[Found], place: usize, block: &Found) -> bool
+/// Whether a holder's block covers another. Most that do not lack one of its bits, which is quickly told.
+fn covers(listed: &[Found], marks: &[u128], holder: &Holder, mark: u128, block: &Found) -> bool
+    requires marks { marks.now ≡ map mark_at listed.now }
+    requires mark { mark ≡ mark_at block.now }
+    ensures { result ≡ covers_at listed.now block.now holder.now.place }
+{
+    match marks.get(holder.place) {
+        Some(theirs) => covers_if(listed, holder.place, block, has_bits(*theirs, mark)),
+        None => false,
+    }
+}
+
+fn covers_if(listed: &[Found], place: usize, block: &Found, likely: bool) -> bool
+    ensures { result ≡ (likely && covers_at listed.now block.now place) }
+{
+    likely && covers_there(listed, place, block)
+}
+
+fn covers_there(listed: &[Found], place: usize, block: &Found) -> bool
     ensures { result ≡ covers_at listed.now block.now place }
 {
     match listed.get(place) {

@@ -1,5 +1,5 @@
 -- What reading a field gives at a position: its value and the position after it, or the refusal.
-use Rattle.std.specs.Prelude.{ℕ, zero, suc, ◌+◌, ◌-◌, ◌*◌, ◌/◌, ◌%◌, List, [], ◌∷◌, length, take, Result, Ok, Err, nat_lt, ◌==◌, if◌then◌else◌, ℤ, pos, negsuc}
+use Rattle.std.specs.Prelude.{ℕ, zero, suc, ◌+◌, ◌-◌, ◌*◌, ◌/◌, ◌%◌, ◌^◌, List, [], ◌∷◌, length, take, Result, Ok, Err, nat_lt, ◌==◌, if◌then◌else◌, ℤ, pos, negsuc, ◌-ℤ◌}
 use Rattle.std.specs.Int.{Width, byte_len, from_be_bytes}
 use Rattle.reading_core.specs.Reading.{◌>>=◌}
 use Rattle.wire_bytes.specs.declared.refusal.WireRefusal.{WireRefusal}
@@ -31,6 +31,10 @@ unfoldable pub uvarint_at : Position → Result (ℕ × Position) WireRefusal
 uvarint_at p = do
   n ← groups_of 9 (left p)
   Ok (n.0, further n.1 p)
+
+-- A field of so many bits: above the middle it stands for itself less 2 ^ width.
+abbrev pub field_value : ℕ → ℕ → ℤ
+field_value width field = if nat_lt (2 ^ (width - 1)) field then pos field -ℤ pos (2 ^ width) else pos field
 
 -- numbers on either side of zero in turn: 0, -1, 1, -2, 2 and so on
 abbrev pub zigzag : ℤ → ℕ

@@ -14,3 +14,4 @@ pub use crc::crc_of;
 pub use cursor::Cursor;
 pub use put::{put_bytes, put_u8, put_u16, put_u32, put_u64, put_uvarint, put_varint};
 pub use refusal::WireRefusal;
+pub use varint::field_value;

@@ -1,6 +1,6 @@
 ghost use Rattle.std.specs.Prelude.{◌≡◌, ◌≤◌, ◌<◌, ◌^◌, ◌*◌, ◌+◌, drop, Ok, suc, length, take, IfOk, IfSome, ℕ, ℤ};
 ghost use Rattle.reading_core.specs.Reading.{Answers};
-ghost use Rattle.wire_bytes.specs.Fields.{groups_of, zigzag, unzigzag};
+ghost use Rattle.wire_bytes.specs.Fields.{groups_of, field_value, zigzag, unzigzag};
 ghost use Rattle.wire_bytes.specs.Written.{uvarint_text};
 
 use crate::WireRefusal;
@@ -97,6 +97,21 @@ fn last_group(bytes: &[u8]) -> Result<u64, WireRefusal>
         Some(0) => Ok(0),
         Some(1) => Ok(1),
         Some(_) => Err(WireRefusal::Overlong),
+    }
+}
+
+/// The number that a field of so many bits stands for: above the middle itself less 2 to its width.
+#[inline(always)]
+pub fn field_value(width: u32, field: u64) -> i64
+    requires width { 0 < width }
+    requires short { width < 32 }
+    requires field { field < 2 ^ width }
+    ensures { result ≡ field_value width field }
+{
+    if field > 1 << (width - 1) {
+        field as i64 - (1 << width)
+    } else {
+        field as i64
     }
 }
 

@@ -3,9 +3,10 @@ use Rattle.std.proofs.Common.{◌≡◌, ℕ, zero, suc, ◌-◌, ◌^◌, ◌<�
 use Rattle.std.specs.Int.{cast_signed, w64}
 use Rattle.std.specs.Prelude.{Result}
 use Rattle.std.proofs.lemmas.Bool.{lt-ltb, le-ltb, cases_lt}
+use Rattle.wire_bytes.specs.Fields.{field_value}
 use Rattle.xor_chunks.specs.declared.refusal.XorRefusal.{XorRefusal}
 use Rattle.xor_chunks.specs.Bits.{bits_of}
-use Rattle.xor_chunks.specs.Steps.{field_at, field_value, whole_field_at, change_at, value_at, within_at, opened_at}
+use Rattle.xor_chunks.specs.Steps.{field_at, whole_field_at, change_at, value_at, within_at, opened_at}
 use Rattle.xor_chunks.specs.Window.{Window, width_of, IsInside}
 use Rattle.xor_chunks.specs.Grammar.{StandsFor, IsRow, IsLongRow, IsChange, unchanged, row_14, row_17, row_20, row_64, IsWithin, IsOpened, IsValue, same_pattern, in_window, opens}
 use Rattle.xor_chunks.proofs.Takes.{take_again, taken}

@@ -1,8 +1,9 @@
 -- What reading the bits of one sample gives: it and the bits after it, or the first of the cases that refuse it.
-use Rattle.std.specs.Prelude.{◌≡◌, ℕ, zero, suc, ◌-◌, ◌^◌, Bool, true, false, List, ◌∷◌, length, take, drop, Result, Ok, Err, MatchResult, nat_lt, if◌then◌else◌, ℤ, pos, negsuc, ◌+ℤ◌, ◌-ℤ◌}
+use Rattle.std.specs.Prelude.{◌≡◌, ℕ, zero, suc, ◌-◌, ◌^◌, Bool, true, false, List, ◌∷◌, length, take, drop, Result, Ok, Err, MatchResult, nat_lt, if◌then◌else◌, ℤ, pos, negsuc, ◌+ℤ◌}
 use Rattle.std.specs.Int.{cast_signed, w64}
 use Rattle.reading_core.specs.Reading.{◌>>=◌, ◌>>◌, unless}
 use Rattle.reading_core.specs.Decimal.{fits_signed}
+use Rattle.wire_bytes.specs.Fields.{field_value}
 use Rattle.xor_chunks.specs.State.{State}
 use Rattle.xor_chunks.specs.declared.refusal.XorRefusal.{XorRefusal}
 use Rattle.xor_chunks.specs.declared.refusal.XorRefusal.TheVariants.{Short, Falling, OutOfRange}
@@ -20,10 +21,6 @@ take_at count bits = if nat_lt (length bits) count then Err Short else Ok (numbe
 -- what is read behind so many bits
 abbrev pub behind : {Y : Type 0} → ℕ → (List Bool → Result Y XorRefusal) → List Bool → Result Y XorRefusal
 behind count read bits = take_at count bits >>= λ passed. read passed.1
-
--- A field of so many bits: above the middle it stands for itself less 2 ^ width.
-abbrev pub field_value : ℕ → ℕ → ℤ
-field_value width field = if nat_lt (2 ^ (width - 1)) field then pos field -ℤ pos (2 ^ width) else pos field
 
 unfoldable pub field_at : ℕ → List Bool → Result (ℤ × List Bool) XorRefusal
 field_at width bits = do

@@ -1,27 +1,14 @@
 ghost use Rattle.std.specs.Prelude.{◌≡◌, pos, negsuc, ◌+ℤ◌, ◌-ℤ◌, ◌≤ℤ◌, ◌<◌, ◌≤◌, ◌+◌, ◌-◌, ◌/◌, ◌%◌, ◌^◌, ℕ, ℤ, Bool, List, Ok, if◌then◌else◌, nat_lt, IsTrue, IfOk, IfSome, IfNone};
 ghost use Rattle.reading_core.specs.Reading.{Answers};
+ghost use Rattle.wire_bytes.specs.Fields.{field_value};
 ghost use Rattle.xor_chunks.specs.Buffer.{front, Shows};
 ghost use Rattle.xor_chunks.specs.Known.{state_of};
-ghost use Rattle.xor_chunks.specs.Steps.{Reads, take_at, behind, change_at, value_at, within_at, time_after, follow_at, next_at, field_value};
+ghost use Rattle.xor_chunks.specs.Steps.{Reads, take_at, behind, change_at, value_at, within_at, time_after, follow_at, next_at};
 
 use crate::last::Last;
 use crate::window::Window;
 use crate::{BitReader, XorRefusal};
-
-/// A field of a row of changes: above the middle it stands for itself less 2 to its width.
-#[inline(always)]
-fn field_value(width: u32, field: u64) -> i64
-    requires width { 0 < width }
-    requires short { width < 32 }
-    requires field { field < 2 ^ width }
-    ensures { result ≡ field_value width field }
-{
-    if field > 1 << (width - 1) {
-        field as i64 - (1 << width)
-    } else {
-        field as i64
-    }
-}
+use wire_bytes::field_value;
 
 /// The time after a step, and how long that is: `delta`, as the step before it, and `change` more.
 #[inline(always)]

@@ -1,6 +1,6 @@
 use Rattle.std.proofs.Common.{◌≡◌, ap, sym, ◌∙◌, arith, rules}
 use Rattle.std.specs.Int.{w64, cast_signed, cast_unsigned}
-use Rattle.xor_chunks.specs.Steps.{field_value}
+use Rattle.wire_bytes.specs.Fields.{field_value}
 use Rattle.xor_chunks.proofs.Takes.{masked}
 use Rattle.xor_chunks.proofs.step.row_in.Goals as goal
 

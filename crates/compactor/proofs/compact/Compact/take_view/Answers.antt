@@ -14,7 +14,7 @@ returns-clause-leads c =
     view_begins c.args.self.now.replicas c.args.self.now.retention c.args.view c.in_ok-covered.covered.items c.in_ok-expired.expired.items c.from_vec.result.items c.mark.result c.mark.new.self
     (c.in_ok-covered.ensures ∙ ap names_of c.members-2.ensures)
     (c.in_ok-expired.ensures ∙ ap (λ l. names_of (expired_at c.args.self.now.retention c.args.view.begin l)) c.members.ensures)
-    (subst (AreGroups c.args.self.now.replicas (metas_of c.args.view.kept)) (sym (c.from_vec.ensures.items ∙ c.into_vec.ensures)) c.in_ok-found.ensures.found)
+    (subst (AreGroups c.args.self.now.replicas (metas_of c.args.view.kept)) (sym (c.from_vec.ensures.items ∙ c.into_vec.ensures)) (subst (AreGroups c.args.self.now.replicas (metas_of c.args.view.kept)) (sym c.in_ok-found.ensures.found.2) c.in_ok-found.ensures.found.1))
     c.mark.ensures.leads
 
 pub returns-clause-falls : goal.returns-clause-falls
