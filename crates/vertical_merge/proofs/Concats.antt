@@ -24,7 +24,7 @@ module _ {A : Type 0} (less : A → A → Bool) where
   none_less-in_order x [] h = tt
   none_less-in_order x (y ∷ ys) h = none_less-placed x y (in_order less ys) h.0 (none_less-in_order x ys h.1)
 
-  placed-none_less : (x : A) (ys : List A) → NoneLess less x ys → placed less x ys ≡ x ∷ ys
+  pub placed-none_less : (x : A) (ys : List A) → NoneLess less x ys → placed less x ys ≡ x ∷ ys
   unfolding placed
   placed-none_less x [] h = refl
   placed-none_less x (y ∷ ys) h = ap (λ b. cond b (y ∷ placed less x ys) (x ∷ y ∷ ys)) h.0
@@ -71,7 +71,7 @@ IsApart same [] ys = Unit {0}
 IsApart same (x ∷ xs) ys = NoneSame same x ys × IsApart same xs ys
 
 module _ {A : Type 0} (same : A → A → Bool) where
-  dedup_from-apart : (x : A) (ys : List A) → NoneSame same x ys → dedup_from same x ys ≡ x ∷ dedup same ys
+  pub dedup_from-apart : (x : A) (ys : List A) → NoneSame same x ys → dedup_from same x ys ≡ x ∷ dedup same ys
   dedup_from-apart x [] h = refl
   dedup_from-apart x (y ∷ ys) h = ap (λ b. cond b (dedup_from same x ys) (x ∷ dedup_from same y ys)) h.0
 

@@ -1,6 +1,8 @@
 pub mod Orders
 pub mod Concats
 pub mod Joining
+pub mod TimesMerged
+pub mod FirstsJoined
 pub mod Merging
 pub mod Laws
 pub mod Extremes

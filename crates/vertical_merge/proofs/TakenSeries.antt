@@ -1,5 +1,7 @@
 -- Samples of series, series by series.
-use Rattle.std.proofs.Common.{◌≡◌, List, [], ◌∷◌, ◌++◌, sym, ap, ◌∙◌, append_assoc, append-nil}
+use Rattle.std.proofs.Common.{◌≡◌, List, [], ◌∷◌, ◌++◌, length, map, take, drop, Result, Ok, Err, refl, sym, ap, ◌∙◌, append_assoc, append-nil}
+use Rattle.std.specs.Result.{OnErr}
+use Rattle.std.proofs.lemmas.List.{take-append-drop}
 use Rattle.std.proofs.lemmas.List.Concat.{flat_map-append}
 use Rattle.label_sets.specs.declared.series.Series.{Series}
 use Rattle.label_sets.specs.Triples.{Triple, triples_of, triples_under}
@@ -16,3 +18,20 @@ one_taken done one first before after was is =
     is ∙ ap (λ ts. ts ++ triples_under one.labels one.samples) was ∙ append_assoc first (triples_of done) (triples_under one.labels one.samples)
     ∙ ap (λ ts. first ++ (triples_of done ++ ts)) (sym (append-nil (triples_under one.labels one.samples)))
     ∙ ap (λ ts. first ++ ts) (sym (flat_map-append (λ (s : Series). triples_under s.labels s.samples) done (one ∷ [])))
+
+same_each : (xs : List Series) → map (λ (s : Series). s) xs ≡ xs
+same_each [] = refl
+same_each (x ∷ xs) = ap (λ (l : List Series). x ∷ l) (same_each xs)
+
+-- where memory ran out, those before were added
+pub some_taken : (all items done : List Series) (first before after : List Triple) → items ≡ all → map (λ (s : Series). s) done ≡ take (length done) items → before ≡ first ++ triples_of done → after ≡ before
+    → (added : List Triple) × (rest : List Triple) × (triples_of all ≡ added ++ rest) × (after ≡ first ++ added)
+unfolding triples_of
+some_taken all items done first before after items_are so_far was same =
+    let left : List Series = drop (length done) items in
+    let whole : all ≡ done ++ left = sym items_are ∙ sym (take-append-drop (length done) items) ∙ ap (λ (l : List Series). l ++ left) (sym so_far ∙ same_each done) in
+    (triples_of done, triples_of left, ap triples_of whole ∙ flat_map-append (λ (s : Series). triples_under s.labels s.samples) done left, same ∙ was)
+
+pub where_stopped : {X E : Type 0} {P : Type 0} (r : Result X E) → P → OnErr r P
+where_stopped {X} {E} {P} (Ok x) p = tt
+where_stopped {X} {E} {P} (Err e) p = p

@@ -1,5 +1,6 @@
 -- Series one after another, where neighbours under equal labels become one.
 use Rattle.std.specs.Prelude.{List, [], ◌∷◌, ◌++◌, Bool, if◌then◌else◌}
+use Rattle.std.specs.declared.cmp.Ordering.{Ordering}
 use Rattle.std.specs.Ordering.{int_cmp, is_eq, is_lt}
 use Rattle.std.specs.List.{dedup}
 use Rattle.label_sets.specs.declared.sample.Sample.{Sample}
@@ -24,6 +25,9 @@ unfoldable pub joined_to : List Series → Series → List Series
 joined_to [] next = next ∷ []
 joined_to (one ∷ []) next = joined one next
 joined_to (one ∷ other ∷ series) next = one ∷ joined_to (other ∷ series) next
+
+abbrev pub compare_times : Sample → Sample → Ordering
+compare_times one other = int_cmp one.time other.time
 
 abbrev pub has_lesser_time : Sample → Sample → Bool
 has_lesser_time one other = is_lt (int_cmp one.time other.time)

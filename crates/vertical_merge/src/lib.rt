@@ -5,6 +5,7 @@
 mod compacted;
 mod merger;
 mod plan_laws;
+mod sample_merge;
 
 pub use compacted::compacted_plan;
 pub use merger::Merger;

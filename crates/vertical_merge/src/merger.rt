@@ -2,10 +2,10 @@ ghost use Rattle.std.specs.Prelude.{◌≡◌, ◌≢◌, [], ◌++◌, ◌∷�
 ghost use Rattle.std.specs.List.Sorted.{IsSortedBy, IsStableBy};
 ghost use Rattle.label_sets.specs.Triples.{Triple, triples_of, triples_under};
 ghost use Rattle.vertical_merge.specs.Merged.{IsMerge, IsDeduplication, PatternsAgree};
-ghost use Rattle.vertical_merge.specs.Joined.{has_lesser_labels, has_lesser_time, joined_to, first_samples};
-ghost use Rattle.list_core.specs.Ordered.{in_order};
+ghost use Rattle.vertical_merge.specs.Joined.{has_lesser_labels, joined_to, first_samples};
 
-use label_sets::{LabelSet, Sample, SampleList, Series, SeriesList};
+use crate::sample_merge::first_samples;
+use label_sets::{LabelSet, SampleList, Series, SeriesList};
 use list_core::{NoMemory, TryCopy};
 use std::alloc::Global;
 use std::marker::Model;
@@ -61,9 +61,11 @@ impl Merger {
         Ok(())
     }
 
-    /// Adds series, one after another. Where memory runs out, the first of them may have been added.
+    /// Adds series, one after another. Where memory runs out, the first of them may have been added, and nothing else has changed.
     pub fn take_all(&mut self, series: SeriesList) -> Result<(), NoMemory>
-        ensures { OnOk result (self.new ≡ self.old ++ triples_of series) }
+        ensures ok { OnOk result (self.new ≡ self.old ++ triples_of series) }
+        ensures err { OnErr result ((added rest : List Triple) × (triples_of series ≡ added ++ rest)
+            × (self.new ≡ self.old ++ added)) }
     {
         take_each(self, series)
     }
@@ -81,7 +83,9 @@ impl Merger {
 }
 
 fn take_each(merger: &mut Merger, series: SeriesList) -> Result<(), NoMemory>
-    ensures { OnOk result (merger.new ≡ merger.old ++ triples_of series) }
+    ensures ok { OnOk result (merger.new ≡ merger.old ++ triples_of series) }
+    ensures err { OnErr result ((added rest : List Triple) × (triples_of series ≡ added ++ rest)
+        × (merger.new ≡ merger.old ++ added)) }
 {
     for one in series.into_vec() {
         merger.take(one)?;
@@ -164,21 +168,4 @@ fn first_of_each(series: Vec<Series>) -> Result<SeriesList, NoMemory>
         })?;
     }
     Ok(made)
-}
-
-/// The samples in the order of their times, of those at one time the first.
-fn first_samples(samples: SampleList) -> Result<SampleList, NoMemory>
-    ensures { IfOk result (λ made. made ≡ first_samples samples) }
-{
-    let mut samples = samples.into_vec();
-    sort_by_time(&mut samples)?;
-    samples.dedup_by_key(|sample| sample.time);
-    Ok(SampleList::from_vec(samples))
-}
-
-fn sort_by_time(samples: &mut Vec<Sample>) -> Result<(), NoMemory>
-    ensures { OnOk result (samples.new.items ≡ in_order has_lesser_time samples.old.items) }
-{
-    samples.sort_by_key(|sample| sample.time)?;
-    Ok(())
 }

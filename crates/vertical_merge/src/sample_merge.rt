@@ -1,0 +1,153 @@
+//! The first sample at each time. Parts that ascend already are merged, and not sorted anew.
+ghost use Rattle.std.specs.Prelude.{◌≡◌, ◌+◌, ◌<◌, ◌≤◌, ◌++◌, ℕ, length, take, slice_index_or, true, All, IfOk, MatchOption};
+ghost use Rattle.std.specs.List.Sorted.{IsStrictlySortedBy};
+ghost use Rattle.label_sets.specs.declared.sample.Sample.{Sample};
+ghost use Rattle.vertical_merge.specs.Joined.{compare_times, has_lesser_time, first_samples};
+
+use label_sets::{Sample, SampleList};
+use list_core::NoMemory;
+use std::alloc::Global;
+
+/// The samples in the order of their times, of those at one time the first.
+pub(crate) fn first_samples(samples: SampleList) -> Result<SampleList, NoMemory>
+    ensures { IfOk result (λ made. made ≡ first_samples samples) }
+{
+    let samples = samples.into_vec();
+    if fall(samples.as_slice()).is_none() {
+        return Ok(SampleList::from_vec(samples));
+    }
+    let made = merged(*samples.allocator(), samples.as_slice())?;
+    Ok(SampleList::from_vec(made))
+}
+
+/// The same of a slice. It is cut where the times fall, so that no part that ascends is cut, and the cuts lie near the middle.
+fn merged(alloc: Global, samples: &[Sample]) -> Result<Vec<Sample>, NoMemory>
+    ensures { IfOk result (λ made. made.items ≡ first_samples samples.now) }
+{
+    let Some(place) = fall(samples) else {
+        return Ok(Vec::from_slice(alloc, samples)?);
+    };
+    let (front, back) = samples.split_at(place);
+    let front = merged(alloc, front)?;
+    let back = merged(alloc, back)?;
+    merge(front, back.as_slice())
+}
+
+/// Samples at ascending times and others, in the order of their times. At a time of both the first sample stays.
+///
+/// What lies before all others stays where it is.
+fn merge(samples: Vec<Sample>, others: &[Sample]) -> Result<Vec<Sample>, NoMemory>
+    requires ascend { IsStrictlySortedBy compare_times samples.items }
+    requires others { IsStrictlySortedBy compare_times others.now }
+    ensures { IfOk result (λ made. made.items ≡ first_samples (samples.items ++ others.now)) }
+{
+    let start = start_of(samples.as_slice(), others);
+    let mut made = samples;
+    let tail = made.split_off(start)?;
+    made.reserve(tail.len() + others.len())?;
+    with_merged(made, tail.as_slice(), others)
+}
+
+/// How many of the samples are before all others.
+fn start_of(samples: &[Sample], others: &[Sample]) -> usize
+    requires ascend { IsStrictlySortedBy compare_times samples.now }
+    requires others { IsStrictlySortedBy compare_times others.now }
+    ensures within { result ≤ length samples.now }
+    ensures before { All (λ one. All (λ other. has_lesser_time one other ≡ true) others.now)
+        (take result samples.now) }
+{
+    let Some(first) = others.first() else {
+        return samples.len();
+    };
+    samples.partition_point(|sample| is_before(sample, first))
+}
+
+/// The list with the merge of two lists behind it.
+fn with_merged(
+    list: Vec<Sample>,
+    samples: &[Sample],
+    others: &[Sample],
+) -> Result<Vec<Sample>, NoMemory>
+    requires ascend { IsStrictlySortedBy compare_times samples.now }
+    requires others { IsStrictlySortedBy compare_times others.now }
+    ensures { IfOk result (λ made. made.items
+        ≡ list.items ++ first_samples (samples.now ++ others.now)) }
+{
+    let mut made = list;
+    let mut here = 0;
+    let mut there = 0;
+    while here < samples.len() && there < others.len() {
+        let one = samples[here];
+        let other = others[there];
+        if is_before(&one, &other) {
+            made.push(one)?;
+            here += 1;
+        } else if is_before(&other, &one) {
+            made.push(other)?;
+            there += 1;
+        } else {
+            made.push(one)?;
+            here += 1;
+            there += 1;
+        }
+    }
+    made.extend_from_slice(&samples[here..])?;
+    made.extend_from_slice(&others[there..])?;
+    Ok(made)
+}
+
+/// A place at which the time is not after the one before it: the first from the middle on, or else the last. None where the
+/// times ascend.
+fn fall(samples: &[Sample]) -> Option<usize>
+    ensures { MatchOption result (IsStrictlySortedBy compare_times samples.now)
+        (λ place. (0 < place) × (place < length samples.now)) }
+{
+    let middle = samples.len() / 2;
+    match first_fall(samples, middle) {
+        Some(place) => Some(place),
+        None => last_fall(samples, middle),
+    }
+}
+
+/// The first fall behind a place.
+fn first_fall(samples: &[Sample], from: usize) -> Option<usize>
+    requires { from ≤ length samples.now }
+    ensures { MatchOption result
+        ((k : ℕ) (d : Sample) → from ≤ k → k + 1 < length samples.now → has_lesser_time
+        (slice_index_or samples.now k d) (slice_index_or samples.now (k + 1) d) ≡ true)
+        (λ place. (0 < place) × (place < length samples.now)) }
+{
+    let mut place = from;
+    while place + 1 < samples.len() {
+        if !is_before(&samples[place], &samples[place + 1]) {
+            return Some(place + 1);
+        }
+        place += 1;
+    }
+    None
+}
+
+/// The last fall up to a place.
+fn last_fall(samples: &[Sample], to: usize) -> Option<usize>
+    requires { to ≤ length samples.now }
+    ensures { MatchOption result
+        ((k : ℕ) (d : Sample) → k < to → k + 1 < length samples.now → has_lesser_time
+        (slice_index_or samples.now k d) (slice_index_or samples.now (k + 1) d) ≡ true)
+        (λ place. (0 < place) × (place < length samples.now)) }
+{
+    let mut place = to;
+    while place > 0 {
+        if place < samples.len() && !is_before(&samples[place - 1], &samples[place]) {
+            return Some(place);
+        }
+        place -= 1;
+    }
+    None
+}
+
+#[inline(always)]
+fn is_before(one: &Sample, other: &Sample) -> bool
+    ensures { result ≡ has_lesser_time one.now other.now }
+{
+    one.time < other.time
+}
