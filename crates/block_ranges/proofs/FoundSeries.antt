@@ -3,7 +3,6 @@ use Rattle.std.proofs.Common.{◌≡◌, Vec, Global, ℕ, List, refl, sym, ap, 
 use Rattle.std.specs.Prelude.{IsErr, IsOk, IfOk, option_map, slice_get}
 use Rattle.list_core.specs.declared.memory.NoMemory.{NoMemory}
 use Rattle.index_parts.specs.declared.toc.Toc.{Toc}
-use Rattle.index_parts.specs.SymbolsReading.{symbols_at}
 use Rattle.index_parts.specs.RowsReading.{postings_table_at}
 use Rattle.index_slices.specs.Parts.{file, known}
 use Rattle.index_file.specs.declared.index_series.IndexSeries.{IndexSeries}
@@ -16,11 +15,10 @@ use Rattle.block_ranges.specs.IndexReads.{Tables, tables_of, part_at}
 use Rattle.block_ranges.specs.Findings.{ReadsAs}
 use Rattle.block_ranges.specs.Selecting.{tables_held, Selects}
 use Rattle.block_ranges.specs.ToRead.{AreRunsToRead}
-use Rattle.block_ranges.specs.WorkStates.{SelectsRuns, tables_in, texts_of, rows_in, read_or_none, symbols_piece, table_piece, lists_piece}
+use Rattle.block_ranges.specs.WorkStates.{SelectsRuns, tables_in, texts_of, rows_in, read_or_none, table_piece, lists_piece}
 use Rattle.block_ranges.specs.RunFindings.{FindsSeries}
 use Rattle.block_ranges.specs.declared.selection.Selection.{Selection}
 use Rattle.block_ranges.specs.declared.run_read.RunRead.{RunRead}
-use Rattle.block_ranges.specs.declared.work.SymbolsRead.{SymbolsRead}
 use Rattle.block_ranges.specs.declared.work.TablesRead.{TablesRead}
 
 -- ---- the whole index
@@ -69,18 +67,15 @@ module _ (query : Query) (block : Block) (bytes : List ℕ) (reader : Held) (is 
 
 -- ---- parts of it
 
-symbols_same : (read : SymbolsRead) (symbols : List (List ℕ)) → symbols_at (known (part_at (symbols_piece read.places) read.symbols)) read.places.toc.symbols ≡ Ok symbols → symbols ≡ texts_of read
-symbols_same read symbols is = sym (ap read_or_none is)
-
-pub texts_are : (read : SymbolsRead) (symbols : List (List ℕ)) → symbols_at (known (record { begin = read.places.toc.symbols; bytes = read.symbols })) read.places.toc.symbols ≡ Ok symbols → symbols ≡ texts_of read
-texts_are read symbols is = symbols_same read symbols is
-
 module _ (read : TablesRead) (lists : List ℕ) (reader : Held)
-    (symbols : symbols_at (known (part_at (symbols_piece read.first.places) read.first.symbols)) read.first.places.toc.symbols ≡ Ok reader.symbols)
     (rows : postings_table_at (known (part_at (table_piece read.first.places) read.table)) read.first.places.toc.postings_table ≡ Ok reader.rows)
     (there : reader.lists ≡ part_at (lists_piece read.first.places) lists) where
-  same_parts : tables_held reader ≡ tables_in read lists
-  same_parts = λ i. record { symbols = sym (ap read_or_none symbols) i; rows = sym (ap read_or_none rows) i; lists = there i }
+  -- what the reader has, with the symbols beside it
+  abbrev beside : Tables
+  beside = record { symbols = texts_of read.first; rows = reader.rows; lists = reader.lists }
+
+  same_parts : beside ≡ tables_in read lists
+  same_parts = λ i. record { symbols = texts_of read.first; rows = sym (ap read_or_none rows) i; lists = there i }
 
   pub parts_found : (query : Query) (block : Block) (toc : Toc) (size : ℕ) (selection : Selection) (runs : List RunRead) → Selects query block (tables_held reader) (Some selection)
       → AreRunsToRead toc size selection.all selection.numbers runs → SelectsRuns query block toc size (tables_in read lists) (Some runs)

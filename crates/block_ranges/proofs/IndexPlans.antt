@@ -25,7 +25,7 @@ use Rattle.block_ranges.specs.IndexReads.{Tables, tables_of, IsTakenBy, Goes, re
 use Rattle.block_ranges.specs.BlockReads.{BlockEnd, breaks_off, block_call}
 use Rattle.block_ranges.specs.Asking.{query_asked, block_asked}
 use Rattle.block_ranges.specs.ToRead.{run_read, AreRunsToRead}
-use Rattle.block_ranges.specs.WorkStates.{after_index, contents_left, whole_left, range_left, sized_left, runs_left, chunks_left, with_symbols, with_table, with_lists, with_run, symbols_piece, table_piece, lists_piece, symbols_in, rows_in, texts_of, tables_in, read_or_none, AreSelectedRuns, TakesRun}
+use Rattle.block_ranges.specs.WorkStates.{after_index, contents_left, whole_left, range_left, sized_left, runs_left, chunks_left, with_symbols, with_table, with_lists, with_run, symbols_piece, table_piece, lists_piece, rows_in, texts_of, tables_in, read_or_none, AreSelectedRuns, TakesRun}
 use Rattle.block_ranges.specs.RunFindings.{FindsSections, TestsSymbols, TestsTable, FindsRuns, FindsSeries}
 use Rattle.block_ranges.specs.declared.asked.Asked.{Asked}
 use Rattle.block_ranges.specs.declared.sections.Sections.{Sections}
@@ -101,12 +101,11 @@ module _ (asked : Asked) where
 
   pub symbols_read : (places : Sections) (bytes : List ℕ) (read : SymbolsRead) (last : ℕ) (cache : Cache) → TestsSymbols places bytes (Some read)
       → Keeps (range_left asked (table_piece read.places) (reached last cache) (with_table asked read)) (sized_left asked (symbols_piece places) (reached last cache) (with_symbols asked places) bytes)
-  symbols_read places bytes read last cache (same, held, long, is) =
+  symbols_read places bytes read last cache (same, long, is) =
       keeps_on _ _ _
-      (subst (λ b. Keeps (range_left asked (table_piece read.places) (reached last cache) (with_table asked read)) (with_symbols asked places (reached last cache) b)) held
-      (subst (λ p. Keeps (range_left asked (table_piece read.places) (reached last cache) (with_table asked read)) (with_symbols asked p (reached last cache) read.symbols)) same
-      (keeps_read (symbols_at (known (part_at (symbols_piece read.places) read.symbols)) read.places.toc.symbols) (texts_of read) _ _
-      (ok_read _ (subst (λ p. IsOk (symbols_at (known (part_at (symbols_piece p) read.symbols)) p.toc.symbols)) (sym same) (subst (λ b. IsOk (symbols_at (known (part_at (symbols_piece places) b)) places.toc.symbols)) (sym held) is))))))
+      (subst (λ p. Keeps (range_left asked (table_piece read.places) (reached last cache) (with_table asked read)) (with_symbols asked p (reached last cache) bytes)) same
+      (keeps_read (symbols_at (known (part_at (symbols_piece read.places) bytes)) read.places.toc.symbols) (texts_of read) _ _
+      (subst (λ p. symbols_at (known (part_at (symbols_piece p) bytes)) p.toc.symbols ≡ Ok (texts_of read)) (sym same) is)))
       (keeps_sized asked (symbols_piece places) (reached last cache) (with_symbols asked places) bytes long)
 
   pub symbols_refused : (places : Sections) (bytes : List ℕ) (last : ℕ) (cache : Cache) → TestsSymbols places bytes None

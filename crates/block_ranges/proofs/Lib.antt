@@ -25,3 +25,6 @@ pub mod KeyedReferences
 pub mod FoundSeries
 pub mod ChunksOn
 pub mod ShownLoop
+pub mod TextsKept
+pub mod LabelsAdded
+pub mod SeriesNamed

@@ -9,11 +9,11 @@ use Rattle.block_ranges.specs.ChunkReads.{Glimpse}
 use Rattle.block_ranges.specs.Glimpsed.{glimpse_seen, pending_chunk, Pends}
 use Rattle.block_ranges.specs.declared.glimpses.Pending.{Pending}
 
-err_of : {A E : Type 0} (r : Result A E) → IsErr r → (e : E) × (r ≡ Err e)
+pub err_of : {A E : Type 0} (r : Result A E) → IsErr r → (e : E) × (r ≡ Err e)
 err_of (Ok x) h = absurd (cc (h))
 err_of (Err e) h = (e, refl)
 
-is_err : {A E : Type 0} (r : Result A E) (e : E) → r ≡ Err e → IsErr r
+pub is_err : {A E : Type 0} (r : Result A E) (e : E) → r ≡ Err e → IsErr r
 is_err r e is = rw is refl
 
 -- what was found, and where nothing was

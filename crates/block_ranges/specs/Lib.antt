@@ -7,6 +7,7 @@ pub mod OneSet
 pub mod Reads
 pub mod Asking
 pub mod Findings
+pub mod TextPlaces
 pub mod IndexReads
 pub mod ChunkReads
 pub mod BlockReads

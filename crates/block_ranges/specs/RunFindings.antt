@@ -47,8 +47,8 @@ FindsSections size bytes None =
 -- the bytes of the symbols are as many as were asked for, and symbols
 abbrev pub TestsSymbols : Sections → List ℕ → Option SymbolsRead → Type 0
 TestsSymbols places bytes (Some read) =
-    (read.places ≡ places) × (read.symbols ≡ bytes) × (length bytes ≡ (symbols_piece places).len)
-    × IsOk (symbols_at (known (part_at (symbols_piece places) bytes)) places.toc.symbols)
+    (read.places ≡ places) × (length bytes ≡ (symbols_piece places).len)
+    × (symbols_at (known (part_at (symbols_piece places) bytes)) places.toc.symbols ≡ Ok (texts_of read))
 TestsSymbols places bytes None =
     ((length bytes == (symbols_piece places).len) ≡ false) ⊎ IsErr (symbols_at (known (part_at (symbols_piece places) bytes)) places.toc.symbols)
 

@@ -19,7 +19,6 @@ use Rattle.index_v2.specs.SeriesLabels.{numbered_at}
 use Rattle.series_selection.specs.Selections.{rows_read}
 use Rattle.block_content.specs.Firsts.{each_at}
 use Rattle.index_parts.specs.SeriesEntry.{reference_of}
-use Rattle.index_parts.specs.SymbolsReading.{symbols_at}
 use Rattle.index_parts.specs.RowsReading.{postings_table_at}
 use Rattle.index_slices.specs.Parts.{known}
 use Rattle.index_file.specs.declared.index_series.IndexSeries.{IndexSeries}
@@ -74,16 +73,12 @@ abbrev pub read_or_none : {A R : Type 0} → Result (List A) R → List A
 read_or_none (Ok found) = found
 read_or_none (Err refusal) = []
 
--- the symbols in the bytes of their section
-abbrev pub symbols_in : Sections → List ℕ → List (List ℕ)
-symbols_in places bytes = read_or_none (symbols_at (known (part_at (symbols_piece places) bytes)) places.toc.symbols)
-
 -- the rows in the bytes of the postings table
 abbrev pub rows_in : Sections → List ℕ → List PostingsRow
 rows_in places bytes = read_or_none (postings_table_at (known (part_at (table_piece places) bytes)) places.toc.postings_table)
 
 abbrev pub texts_of : SymbolsRead → List (List ℕ)
-texts_of read = symbols_in read.places read.symbols
+texts_of read = read.symbols
 
 abbrev pub tables_in : TablesRead → List ℕ → Tables
 tables_in read lists = record {

@@ -15,7 +15,7 @@ use crate::cache_reads::from_cache;
 use crate::chunk_steps::begin_chunks;
 use crate::run_read::RunRead;
 use crate::run_steps::{Taken, cached_runs, have_bytes, run_taken, selected_runs, whole_series};
-use crate::section_tests::{are_symbols, is_table};
+use crate::section_tests::{is_table, symbols_of};
 use crate::sections::Sections;
 use crate::work::{IndexSize, RunWork, Step, SymbolsRead, TablesRead, Work};
 use crate::{BlockOutcome, ByteRange, has_sections, section_range};
@@ -199,7 +199,7 @@ pub(crate) fn take_symbols(
     }
 }
 
-/// The bytes of the symbols. None where they are not as many as were asked for, or no symbols.
+/// The symbols. None where their bytes are not as many as were asked for, or no symbols.
 fn tested_symbols(
     asked: &Asked<'_>,
     places: Sections,
@@ -208,13 +208,12 @@ fn tested_symbols(
     ensures { IfOk result (TestsSymbols places bytes) }
 {
     let range = symbols_range(places);
-    if bytes.bytes().len() as u64 == range.len && are_symbols(asked.alloc, range, bytes.bytes())? {
-        Ok(Some(SymbolsRead {
-            places,
-            symbols: bytes,
-        }))
-    } else {
-        Ok(None)
+    if bytes.bytes().len() as u64 != range.len {
+        return Ok(None);
+    }
+    match symbols_of(asked.alloc, range, bytes.bytes())? {
+        Some(symbols) => Ok(Some(SymbolsRead { places, symbols })),
+        None => Ok(None),
     }
 }
 

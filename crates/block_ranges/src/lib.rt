@@ -14,6 +14,7 @@ mod group_read;
 mod group_reads;
 mod groups;
 mod index_steps;
+mod label_reads;
 mod places;
 mod references;
 mod run_read;
@@ -27,6 +28,7 @@ mod selection;
 mod series_reads;
 mod shown;
 mod span;
+mod symbol_texts;
 mod work;
 
 pub use block_call::BlockCall;

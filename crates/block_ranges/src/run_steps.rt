@@ -2,7 +2,6 @@
 ghost use Rattle.std.specs.Prelude.{◌≡◌, ◌+◌, ◌^◌, ◌<◌, length, map, option_map, IfOk, Ok};
 ghost use Rattle.std.specs.List.{list_all};
 ghost use Rattle.index_cache.specs.Caches.{held};
-ghost use Rattle.index_parts.specs.SymbolsReading.{symbols_at};
 ghost use Rattle.index_parts.specs.RowsReading.{postings_table_at};
 ghost use Rattle.index_slices.specs.Parts.{known};
 ghost use Rattle.block_ranges.specs.IndexRanges.{has_bytes};
@@ -42,20 +41,16 @@ pub(crate) enum Taken {
     Refused,
 }
 
-/// A reader over parts that were tested before: nothing but memory can be wanting.
-fn reader_over<'a>(
+/// A reader over a postings table that was tested before, and over the lists, without symbols:
+/// nothing but memory can be wanting.
+fn lists_reader<'a>(
     alloc: Global,
     toc: Toc,
-    symbols: &'a [u8],
     table: &'a [u8],
     postings: &'a [u8],
 ) -> Result<IndexReader<'a>, NoMemory>
-    requires symbols { toc.symbols + length symbols.now < 2 ^ 64 }
     requires table { toc.postings_table + length table.now < 2 ^ 64 }
     requires postings { toc.postings + length postings.now < 2 ^ 64 }
-    ensures symbols { IfOk result (λ reader. 0 < toc.symbols
-        → symbols_at (known (record { begin = toc.symbols; bytes = symbols.now })) toc.symbols
-        ≡ Ok reader.symbols) }
     ensures rows { IfOk result (λ reader. 0 < toc.postings_table
         → postings_table_at (known
         (record { begin = toc.postings_table; bytes = table.now })) toc.postings_table
@@ -64,9 +59,9 @@ fn reader_over<'a>(
         (λ reader. reader.lists ≡ record { begin = toc.postings; bytes = postings.now }) }
 {
     let parts = IndexParts {
-        toc,
+        toc: Toc { symbols: 0, ..toc },
         size: 0,
-        symbols,
+        symbols: &[],
         table,
         postings,
     };
@@ -74,18 +69,6 @@ fn reader_over<'a>(
         Ok(reader) => Ok(reader),
         Err(_) => Err(NoMemory),
     }
-}
-
-/// A reader over the symbols alone.
-fn symbols_reader(alloc: Global, read: &SymbolsRead) -> Result<IndexReader<'_>, NoMemory>
-    ensures { IfOk result (λ reader. reader.symbols ≡ texts_of read.now) }
-{
-    let toc = Toc {
-        postings_table: 0,
-        postings: 0,
-        ..read.places.toc
-    };
-    reader_over(alloc, toc, read.symbols.bytes(), &[], &[])
 }
 
 /// The runs of the series that the selector takes. None where one of the lists that it needs is
@@ -102,13 +85,7 @@ pub(crate) fn selected_runs(
         (tables_in read.now lists.now) (option_map (λ runs. runs.items) found)) }
 {
     let places = read.first.places;
-    let reader = reader_over(
-        asked.alloc,
-        places.toc,
-        read.first.symbols.bytes(),
-        read.table.bytes(),
-        lists,
-    )?;
+    let reader = lists_reader(asked.alloc, places.toc, read.table.bytes(), lists)?;
     match select(asked, &reader)? {
         Some(found) => Ok(Some(runs_to_read(
             asked.alloc,
@@ -145,12 +122,11 @@ pub(crate) fn cached_runs(
         (GoesOnRuns asked.now (texts_of read.now) last (held cache.old)
         (held cache.new) runs.items series.items) }
 {
-    let reader = symbols_reader(asked.alloc, read)?;
     let mut later = runs;
     let mut all = series;
     while let Some(run) = later.pop_front() {
         match from_cache(cache, Key::Index(asked.ulid), run.range)? {
-            Some(bytes) => match series_taken(asked.alloc, &reader, &run, bytes.bytes(), all)? {
+            Some(bytes) => match run_taken(asked.alloc, read, &run, bytes.bytes(), all)? {
                 Some(more) => all = more,
                 None => return Ok(Taken::Refused),
             },
@@ -179,25 +155,10 @@ pub(crate) fn run_taken(
         (λ found. TakesRun (texts_of read.now) (run_read run.now) bytes.now series.items
         (option_map (λ all. all.items) found)) }
 {
-    let reader = symbols_reader(alloc, read)?;
-    series_taken(alloc, &reader, run, bytes, series)
-}
-
-fn series_taken(
-    alloc: Global,
-    reader: &IndexReader<'_>,
-    run: &RunRead,
-    bytes: &[u8],
-    series: Vec<IndexSeries>,
-) -> Result<Option<Vec<IndexSeries>>, NoMemory>
-    ensures { IfOk result
-        (λ found. TakesRun reader.now.symbols (run_read run.now) bytes.now series.items
-        (option_map (λ all. all.items) found)) }
-{
     if bytes.len() as u64 != run.range.len {
         return Ok(None);
     }
-    series_of_run(alloc, reader, run, bytes, series)
+    series_of_run(alloc, &read.symbols, run, bytes, series)
 }
 
 /// The series that the selector takes from a whole index. None where it is refused.

@@ -7,6 +7,7 @@ use crate::group_read::GroupRead;
 use crate::run_read::RunRead;
 use crate::sections::Sections;
 use crate::shown::ChunkRead;
+use crate::symbol_texts::SymbolTexts;
 use index_parts::ChunkPlace;
 use index_v2::IndexSeries;
 use std::collections::VecDeque;
@@ -20,15 +21,14 @@ pub(crate) struct IndexSize {
     ghost long: { 57 ≤ bytes },
 }
 
-/// The bytes of the symbols, and where the other sections stand.
+/// The symbols, and where the other sections stand.
 #[derive(Drop)]
 pub(crate) struct SymbolsRead {
     pub(crate) places: Sections,
-    pub(crate) symbols: Blob,
-    ghost fits: { places.toc.symbols + length symbols < 2 ^ 64 },
+    pub(crate) symbols: SymbolTexts,
 }
 
-/// The bytes of the postings table beside those of the symbols.
+/// The bytes of the postings table beside the symbols.
 #[derive(Drop)]
 pub(crate) struct TablesRead {
     pub(crate) first: SymbolsRead,

@@ -17,8 +17,7 @@ returns-in-None-2 c =
     run_breaks c.args.asked.now (texts_of c.args.read.now) c.args.last (runs_left c.args.asked.now (texts_of c.args.read.now) (map run_read c.args.runs.items) (reached c.args.last (held c.args.cache.now)) c.args.series.items)
     c.loop-run.later.items c.pop_front.new.self.items c.in-Some.run' (held c.loop-run.cache) (held c.from_cache.new.cache) c.loop-run.all.items c.in-Some-2.bytes c.in-Some.ensures.items c.loop-run.invariant.0 has.0 has.1
     (subst (λ (b : List ℕ). TakesRun (texts_of c.args.read.now) (run_read c.in-Some.run') b c.loop-run.all.items None) c.bytes-in-Some-2.ensures
-    (subst (λ (t : List (List ℕ)). TakesRun t (run_read c.in-Some.run') c.bytes-in-Some-2.result.now c.loop-run.all.items None) c.in_ok-reader.ensures
-    (subst (λ found. TakesRun c.in_ok-reader.reader.symbols (run_read c.in-Some.run') c.bytes-in-Some-2.result.now c.loop-run.all.items (option_map (λ all. all.items) found)) c.in-None-2.is c.in_ok-more-in-Some-2.ensures)))
+    (subst (λ found. TakesRun (texts_of c.args.read.now) (run_read c.in-Some.run') c.bytes-in-Some-2.result.now c.loop-run.all.items (option_map (λ all. all.items) found)) c.in-None-2.is c.in_ok-more-in-Some-2.ensures))
 
 pub loop-run-preserved : goal.loop-run-preserved
 loop-run-preserved c =
@@ -27,7 +26,6 @@ loop-run-preserved c =
       run_goes_on c.args.asked.now (texts_of c.args.read.now) c.args.last (runs_left c.args.asked.now (texts_of c.args.read.now) (map run_read c.args.runs.items) (reached c.args.last (held c.args.cache.now)) c.args.series.items)
           c.loop-run.later.items c.pop_front.new.self.items c.in-Some.run' (held c.loop-run.cache) (held c.from_cache.new.cache) c.loop-run.all.items c.in-Some-2.bytes c.in-Some-3.more.items c.in-Some.ensures.items c.loop-run.invariant.0 has.0 has.1
           (subst (λ (b : List ℕ). TakesRun (texts_of c.args.read.now) (run_read c.in-Some.run') b c.loop-run.all.items (Some c.in-Some-3.more.items)) c.bytes-in-Some-2.ensures
-          (subst (λ (t : List (List ℕ)). TakesRun t (run_read c.in-Some.run') c.bytes-in-Some-2.result.now c.loop-run.all.items (Some c.in-Some-3.more.items)) c.in_ok-reader.ensures
-          (subst (λ found. TakesRun c.in_ok-reader.reader.symbols (run_read c.in-Some.run') c.bytes-in-Some-2.result.now c.loop-run.all.items (option_map (λ all. all.items) found)) c.in-Some-3.is c.in_ok-more-in-Some-2.ensures))),
+          (subst (λ found. TakesRun (texts_of c.args.read.now) (run_read c.in-Some.run') c.bytes-in-Some-2.result.now c.loop-run.all.items (option_map (λ all. all.items) found)) c.in-Some-3.is c.in_ok-more-in-Some-2.ensures)),
       omega (arith, many, c.loop-run.invariant.1),
     )

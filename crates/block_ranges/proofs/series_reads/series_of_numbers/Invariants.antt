@@ -8,4 +8,4 @@ use Rattle.block_ranges.specs.Findings.{ReadsBehind}
 use Rattle.block_ranges.proofs.series_reads.series_of_numbers.Given as goal
 
 abbrev pub invariant-loop-number : goal.invariant-loop-number
-invariant-loop-number l = ReadsBehind (λ xs. xs) l.initial.all.items (each_at (numbered_at (known (part_at (piece_of l.run.range) l.bytes)) l.index.symbols) (take l.number-index l.numbers)) (Some l.all.items)
+invariant-loop-number l = ReadsBehind (λ xs. xs) l.initial.all.items (each_at (numbered_at (known (part_at (piece_of l.run.range) l.bytes)) l.symbols) (take l.number-index l.numbers)) (Some l.all.items)

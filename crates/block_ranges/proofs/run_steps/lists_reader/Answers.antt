@@ -1,8 +1,5 @@
 use Rattle.block_ranges.proofs.PartReaders.{over_holds}
-use Rattle.block_ranges.proofs.run_steps.reader_over.Goals as goal
-
-pub returns-in-Ok-clause-symbols : goal.returns-in-Ok-clause-symbols
-returns-in-Ok-clause-symbols c = (over_holds _ c.in-Ok.reader c.in-Ok.ensures.exact).symbols
+use Rattle.block_ranges.proofs.run_steps.lists_reader.Goals as goal
 
 pub returns-in-Ok-clause-rows : goal.returns-in-Ok-clause-rows
 returns-in-Ok-clause-rows c = (over_holds _ c.in-Ok.reader c.in-Ok.ensures.exact).rows
