@@ -19,14 +19,14 @@ use Rattle.script_core.proofs.Kept.{Kept, so_far_of, start_kept, start_is}
 use Rattle.script_core.proofs.LineTools.{line_word, kind_again, ended_again}
 use Rattle.script_core.proofs.FoundSetup.{closed}
 use Rattle.script_core.proofs.FoundLines.{text_found}
-use Rattle.script_core.proofs.AgainSetup.{IsRead, rule_line_again, replica_line_again, gateway_line_again, block_line_again}
+use Rattle.script_core.proofs.AgainSetup.{IsRead, rule_line_again, replica_line_again, retention_line_again, gateway_line_again, block_line_again, shelf_line_again}
 use Rattle.script_core.proofs.AgainSeries.{series_line_again}
-use Rattle.script_core.proofs.AgainPhases.{at_line_again, upload_line_again, sync_line_again, query_line_again}
+use Rattle.script_core.proofs.AgainPhases.{at_line_again, upload_line_again, sync_line_again, compact_line_again, clean_line_again, query_line_again}
 use Rattle.script_core.specs.Limits.{longest_text}
 
-end_again : (st : State) → HasEnded (all_blocks st.blocks st.last) → end_block st ≡ Ok (closed st)
+end_again : (st : State) → Kept st → HasEnded (all_blocks st.blocks st.last st.shelved) → end_block st ≡ Ok (closed st)
 unfolding end_block
-end_again st ended = let is = ended_again st.blocks st.last ended in rw is refl
+end_again st kept ended = let is = ended_again st.blocks st.last st.shelved kept.blocks.ended ended in rw is refl
 
 -- a line that is read, whatever its kind
 pub record IsReadLine (st : State) (number : ℕ) (line : List ℕ) (next : SoFar) : Type 0 where
@@ -52,14 +52,18 @@ read_line st before number line kind next first is =
 
 says_again : (st : State) (number : ℕ) (line : List ℕ) (next : SoFar) → Kept st → Says (so_far_of st) number line next → IsReadLine st number line next
 says_again st number line next kept (spelling.series says) = read_line st st number line kinds.Series next refl (series_line_again st number line next kept says)
-says_again st number line next kept (spelling.rule ended says) = read_line st (closed st) number line kinds.Rule next (end_again st ended) (rule_line_again st number line next kept says)
-says_again st number line next kept (spelling.replica ended says) = read_line st (closed st) number line kinds.Rule next (end_again st ended) (replica_line_again st number line next kept says)
-says_again st number line next kept (spelling.gateway ended says) = read_line st (closed st) number line kinds.Gateway next (end_again st ended) (gateway_line_again st number line next kept says)
-says_again st number line next kept (spelling.block ended says) = read_line st (closed st) number line kinds.Block next (end_again st ended) (block_line_again st number line next kept says)
-says_again st number line next kept (spelling.at ended says) = read_line st (closed st) number line kinds.At next (end_again st ended) (at_line_again st number line next kept says)
-says_again st number line next kept (spelling.upload ended says) = read_line st (closed st) number line kinds.Upload next (end_again st ended) (upload_line_again st number line next kept says)
-says_again st number line next kept (spelling.sync ended says) = read_line st (closed st) number line kinds.Sync next (end_again st ended) (sync_line_again st number line next kept says)
-says_again st number line next kept (spelling.query ended says) = read_line st (closed st) number line kinds.Query next (end_again st ended) (query_line_again st number line next kept says)
+says_again st number line next kept (spelling.rule ended says) = read_line st (closed st) number line kinds.Rule next (end_again st kept ended) (rule_line_again st number line next kept says)
+says_again st number line next kept (spelling.replica ended says) = read_line st (closed st) number line kinds.Rule next (end_again st kept ended) (replica_line_again st number line next kept says)
+says_again st number line next kept (spelling.retention ended says) = read_line st (closed st) number line kinds.Rule next (end_again st kept ended) (retention_line_again st number line next kept says)
+says_again st number line next kept (spelling.gateway ended says) = read_line st (closed st) number line kinds.Gateway next (end_again st kept ended) (gateway_line_again st number line next kept says)
+says_again st number line next kept (spelling.block ended says) = read_line st (closed st) number line kinds.Block next (end_again st kept ended) (block_line_again st number line next kept says)
+says_again st number line next kept (spelling.shelf ended says) = read_line st (closed st) number line kinds.Shelf next (end_again st kept ended) (shelf_line_again st number line next kept says)
+says_again st number line next kept (spelling.at ended says) = read_line st (closed st) number line kinds.At next (end_again st kept ended) (at_line_again st number line next kept says)
+says_again st number line next kept (spelling.upload ended says) = read_line st (closed st) number line kinds.Upload next (end_again st kept ended) (upload_line_again st number line next kept says)
+says_again st number line next kept (spelling.sync ended says) = read_line st (closed st) number line kinds.Sync next (end_again st kept ended) (sync_line_again st number line next kept says)
+says_again st number line next kept (spelling.compact ended says) = read_line st (closed st) number line kinds.Compact next (end_again st kept ended) (compact_line_again st number line next kept says)
+says_again st number line next kept (spelling.clean ended says) = read_line st (closed st) number line kinds.Clean next (end_again st kept ended) (clean_line_again st number line next kept says)
+says_again st number line next kept (spelling.query ended says) = read_line st (closed st) number line kinds.Query next (end_again st kept ended) (query_line_again st number line next kept says)
 
 -- ---- whole texts
 
@@ -97,9 +101,9 @@ lines_again st number [] last kept said = record { after = st; read = refl; last
 lines_again st number (line ∷ lines) last kept said =
     lines_by st number line lines last (is_silent line) refl kept (λ next next_kept rest. lines_again next (number + 1) lines last next_kept rest) said
 
-finish_again : (st : State) → HasEnded (all_blocks st.blocks st.last) → finish st ≡ Ok (script_of_state st)
+finish_again : (st : State) → Kept st → HasEnded (all_blocks st.blocks st.last st.shelved) → finish st ≡ Ok (script_of_state st)
 unfolding finish
-finish_again st ended = let is = end_again st ended in rw is refl
+finish_again st kept ended = let is = end_again st kept ended in rw is refl
 
 read_whole : (text : List ℕ) (after : State) (script : Script) → nat_lt longest_text (length text) ≡ false → lines_at (start standard_rules) 1 (lines_of text) ≡ Ok after → finish after ≡ Ok script → script_of text ≡ Ok script
 unfolding script_of
@@ -112,5 +116,5 @@ script_again text script spells =
     let same : script_of_state lines.after ≡ script = ap (λ (s : SoFar). s.script) lines.last_is in
     let fits = spells.short in
     let short : nat_lt longest_text (length text) ≡ false = grind (arith, nat_tests) in
-    let ended : HasEnded (all_blocks lines.after.blocks lines.after.last) = subst (λ (s : Script). HasEnded s.blocks) (sym same) spells.ended in
-    read_whole text lines.after script short lines.read (finish_again lines.after ended ∙ ap Ok same)
+    let ended : HasEnded (all_blocks lines.after.blocks lines.after.last lines.after.shelved) = subst (λ (s : Script). HasEnded s.blocks) (sym same) spells.ended in
+    read_whole text lines.after script short lines.read (finish_again lines.after lines.kept ended ∙ ap Ok same)

@@ -1,5 +1,5 @@
 -- What a line of a phase spells is read of it.
-use Rattle.std.proofs.Common.{◌≡◌, ℕ, zero, suc, ◌+◌, ◌%◌, ◌^◌, ◌<◌, ◌≤◌, ℤ, ◌≤ℤ◌, Bool, true, false, not, nat_lt, nat_le, int_lt, List, [], ◌∷◌, ◌++◌, length, Option, Some, None, is_some, Ok, refl, sym, ap, ◌∙◌, subst, arith, inl, inr}
+use Rattle.std.proofs.Common.{◌≡◌, ℕ, zero, suc, ◌+◌, ◌%◌, ◌^◌, ◌<◌, ◌≤◌, ℤ, ◌≤ℤ◌, Bool, true, false, not, nat_lt, nat_le, int_lt, List, [], ◌∷◌, ◌++◌, length, Option, Some, None, is_some, Ok, refl, sym, ap, ◌∙◌, subst, arith, inl, inr, codes}
 use Rattle.std.specs.List.{list_all, range_with_len}
 use Rattle.std.proofs.lemmas.Bool.Decides.{nat_tests}
 use Rattle.std.proofs.lemmas.Int.{ints}
@@ -9,6 +9,7 @@ use Rattle.matchers.specs.Selectors.{is_metric_name}
 use Rattle.matchers.specs.declared.matcher.Matcher.{Matcher}
 use Rattle.moment_core.specs.declared.moment.Moment.{Moment}
 use Rattle.moment_core.specs.declared.rules.Rules.{Rules}
+use Rattle.reading_core.specs.Decimal.{decimal_text}
 use Rattle.script_core.specs.declared.line_kind.LineKind.TheVariants as kinds
 use Rattle.script_workers.specs.declared.phase.Phase.{Phase}
 use Rattle.script_core.specs.declared.script.Script.{Script}
@@ -17,20 +18,20 @@ use Rattle.script_workers.specs.declared.work.Work.TheVariants as works
 use Rattle.script_core.specs.Fields.{is_empty, next_field}
 use Rattle.script_workers.specs.Hands.{gateway_count, with_hands, hands_of}
 use Rattle.script_core.specs.Values.{is_reserved, agree, moment_from}
-use Rattle.script_core.specs.Lines.{fields_line, may_begin, at_line, upload_line, sync_line, query_line, question_at, selector_field}
-use Rattle.script_core.specs.State.{State, all_phases, begin_phase, add_task, add_query, note_sync, is_declared, is_synced, script_of_state, are_all_synced}
-use Rattle.script_core.specs.Spelling.{SoFar, AtLine, AddsTask, UploadLine, SyncLine, QueryLine}
-use Rattle.script_core.proofs.FieldLaws.{cut_again, cut_last}
-use Rattle.script_core.proofs.ValueLaws.{time_again, ulid_again, moment_again}
+use Rattle.script_core.specs.Lines.{fields_line, may_begin, at_line, stop_field, upload_line, sync_line, compact_line, clean_line, query_line, question_at, selector_field}
+use Rattle.script_core.specs.State.{State, all_phases, begin_phase, add_task, add_query, note_sync, is_declared, is_synced, script_of_state, are_all_synced, phase_compacts}
+use Rattle.script_core.specs.Spelling.{SoFar, spaced, IsField, AtLine, AddsTask, AreStopTexts, no_stop, stops_at, UploadLine, SyncLine, CompactLine, CleanLine, QueryLine}
+use Rattle.script_core.proofs.FieldLaws.{no_space, cut_again, cut_last}
+use Rattle.script_core.proofs.ValueLaws.{time_again, ulid_again, moment_again, stop_count_again}
 use Rattle.script_core.proofs.Kept.{Kept, at, so_far_of, hands_of-append}
-use Rattle.script_core.proofs.LineTools.{is_some_field, only_again, last_phase}
+use Rattle.script_core.proofs.LineTools.{is_some_field, only_again, last_phase, word_free}
 use Rattle.script_core.proofs.FoundSetup.{closed}
 use Rattle.script_core.proofs.AgainSetup.{IsRead, starts_again}
 use Rattle.script_core.proofs.SpelledValues.{near_tested, free_tested, agree_tested}
 use Rattle.script_core.proofs.ReadSelectors.{selector_again}
 use Rattle.script_workers.proofs.HandLaws.{few_counted}
 use Rattle.script_workers.specs.Limits.{most_workers}
-use Rattle.script_core.specs.Limits.{most_tasks}
+use Rattle.script_core.specs.Limits.{most_tasks, latest_stop}
 
 may_again : (rules : Rules) (phases : List Phase) (phase : Option Phase) (moment : Moment) → (phase ≡ None → phases ≡ []) → (all_phases phases phase ≡ [] → agree rules ≡ true) → ((others : List Phase) (last : Phase) → all_phases phases phase ≡ others ++ last ∷ [] → last.moment.ms ≤ moment.ms) → may_begin rules phase moment ≡ Ok tt
 may_again rules phases None moment first agreed later = let agrees = agreed (first refl) in rw agrees refl
@@ -97,13 +98,36 @@ in_order low high order = grind (arith, ints)
 
 -- ---- lines
 
-no_option : next_field None ≡ ([], None)
-unfolding next_field
-no_option = refl
+-- what is left of a line in front of some texts
+abbrev left_of : List (List ℕ) → Option (List ℕ)
+left_of [] = None
+left_of (text ∷ texts) = Some (spaced (text ∷ texts))
+
+-- a word and the texts behind it
+word_again : (word : List ℕ) (texts : List (List ℕ)) → no_space word ≡ true → next_field (Some (spaced (word ∷ texts))) ≡ (word, left_of texts)
+word_again word [] free = cut_last word free
+word_again word (text ∷ texts) free = cut_again word (spaced (text ∷ texts)) free
+
+count_again : (text : List ℕ) (count : ℕ) → IsField text → text ≡ decimal_text count → 1 ≤ count → count ≤ latest_stop → stop_field (Some (codes "stop" ++ 32 ∷ text)) ≡ Ok (Some count)
+unfolding stop_field
+count_again text count field written low high =
+    let cut : next_field (Some (codes "stop" ++ 32 ∷ text)) ≡ (codes "stop", Some text) = cut_again (codes "stop") text refl in
+    let only = only_again text field in
+    let read = stop_count_again text count written low high in
+    rw (cut, only, read) refl
+
+no_count : stop_field None ≡ Ok None
+unfolding stop_field
+no_count = refl
+
+stop_again : (texts : List (List ℕ)) (stop : Option ℕ) → AreStopTexts texts stop → stop_field (left_of texts) ≡ Ok stop
+stop_again texts stop (no_stop none is) = ap (λ ts. stop_field (left_of ts)) none ∙ no_count ∙ ap Ok (sym is)
+stop_again texts stop (stops_at text count are field written low high is) =
+    ap (λ ts. stop_field (left_of ts)) are ∙ count_again text count field written low high ∙ ap Ok (sym is)
 
 module _ (st : State) (number : ℕ) (line : List ℕ) (next : SoFar) (kept : Kept st) where
   kept_closed : Kept (closed st)
-  kept_closed = record { blocks = kept.blocks; tasks = kept.tasks }
+  kept_closed = record { blocks = kept.blocks; follows = λ c. absurd cc; tasks = kept.tasks }
 
   pub at_line_again : AtLine (so_far_of st) number line next → IsRead (closed st) number line kinds.At next
   unfolding fields_line at_line begin_phase
@@ -123,19 +147,21 @@ module _ (st : State) (number : ℕ) (line : List ℕ) (next : SoFar) (kept : Ke
   unfolding fields_line upload_line
   upload_line_again says =
       let ulid = says.is_ulid in
-      let cut = cut_last says.text ulid.field.no_space in
+      let rest : List ℕ = spaced (says.text ∷ says.texts) in
+      let cut = word_again says.text says.texts ulid.field.no_space in
       let some = is_some_field says.text ulid.field in
+      let stop = stop_again says.texts says.stop says.are_texts in
       let read_ulid = ulid_again says.text says.ulid ulid.written in
       let free : is_reserved says.ulid ≡ false = free_tested (says.ulid % 2 ^ 80) ulid.not_reserved in
       let declared : is_declared st says.ulid ≡ true = kept.blocks.declared says.ulid ∙ says.declared in
-      let task = task_again (closed st) number (works.Upload says.ulid None) says.script kept_closed says.task in
+      let task = task_again (closed st) number (works.Upload says.ulid says.stop) says.script kept_closed says.task in
       let begun : is_some st.phase ≡ true = task.begun in
       let added = task.read in
       record {
-        left = Some says.text;
+        left = Some rest;
         after = task.after;
-        cut = starts_again line kinds.Upload says.text says.spelled;
-        read = rw (cut, no_option, some, read_ulid, begun, free, declared) added;
+        cut = starts_again line kinds.Upload rest says.spelled;
+        read = rw (cut, some, stop, read_ulid, begun, free, declared) added;
         next_is = (λ i. at (task.script_is i) (task.in_block i)) ∙ sym says.adds;
       }
 
@@ -153,6 +179,38 @@ module _ (st : State) (number : ℕ) (line : List ℕ) (next : SoFar) (kept : Ke
         after = note_sync task.after says.gateway;
         cut = starts_again line kinds.Sync says.name says.spelled;
         read = rw (only, named, begun, declared, added) refl;
+        next_is = (λ i. at (task.script_is i) (task.in_block i)) ∙ sym says.adds;
+      }
+
+  pub compact_line_again : CompactLine (so_far_of st) number line next → IsRead (closed st) number line kinds.Compact next
+  unfolding fields_line compact_line
+  compact_line_again says =
+      let stop = stop_again says.texts says.stop says.are_texts in
+      let task = task_again (closed st) number (works.Compact says.stop) says.script kept_closed says.task in
+      let begun : is_some st.phase ≡ true = task.begun in
+      let last = last_phase st.phases st.phase says.task.others says.task.phase kept.tasks.no_phase says.task.last in
+      let first : phase_compacts st.phase ≡ false = ap phase_compacts last.0 ∙ says.first in
+      let added = task.read in
+      record {
+        left = left_of says.texts;
+        after = task.after;
+        cut = ap (λ l. next_field (Some l)) says.spelled ∙ word_again (codes "compact") says.texts (word_free kinds.Compact);
+        read = rw (stop, begun, first) added;
+        next_is = (λ i. at (task.script_is i) (task.in_block i)) ∙ sym says.adds;
+      }
+
+  pub clean_line_again : CleanLine (so_far_of st) number line next → IsRead (closed st) number line kinds.Clean next
+  unfolding fields_line clean_line
+  clean_line_again says =
+      let stop = stop_again says.texts says.stop says.are_texts in
+      let task = task_again (closed st) number (works.Clean says.stop) says.script kept_closed says.task in
+      let begun : is_some st.phase ≡ true = task.begun in
+      let added = task.read in
+      record {
+        left = left_of says.texts;
+        after = task.after;
+        cut = ap (λ l. next_field (Some l)) says.spelled ∙ word_again (codes "clean") says.texts (word_free kinds.Clean);
+        read = rw (stop, begun) added;
         next_is = (λ i. at (task.script_is i) (task.in_block i)) ∙ sym says.adds;
       }
 

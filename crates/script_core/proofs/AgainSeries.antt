@@ -1,5 +1,5 @@
 -- What a series line spells is read of it.
-use Rattle.std.proofs.Common.{◌≡◌, ◌≢◌, ℕ, ℤ, Bool, true, false, not, cond, nat_lt, List, [], ◌∷◌, ◌++◌, length, drop, Option, Some, None, option_map, Ok, refl, sym, ap, ◌∙◌, arith}
+use Rattle.std.proofs.Common.{◌≡◌, ◌≢◌, ℕ, ℤ, pos, Bool, true, false, not, cond, nat_lt, List, [], ◌∷◌, ◌++◌, length, drop, Option, Some, None, option_map, Ok, refl, sym, ap, ◌∙◌, arith}
 use Rattle.std.specs.List.{list_all, slice_split, join_with_byte, position_or_len, before_first, after_first}
 use Rattle.std.proofs.lemmas.Bool.Decides.{nat_tests}
 use Rattle.std.proofs.lemmas.List.{length-append, drop_at, same_from_push}
@@ -14,20 +14,20 @@ use Rattle.label_sets.specs.declared.sample.Sample.{Sample}
 use Rattle.label_sets.specs.declared.series.Series.{Series}
 use Rattle.script_core.specs.declared.block.Block.{Block}
 use Rattle.script_core.specs.declared.body.Body.{Body}
-use Rattle.script_core.specs.declared.body.Body.TheVariants.{Inline}
+use Rattle.script_core.specs.declared.body.Body.TheVariants.{Inline, OnShelf}
 use Rattle.script_core.specs.declared.line_kind.LineKind.TheVariants as kinds
 use Rattle.script_core.specs.Fields.{is_empty, is_space, after_space}
 use Rattle.script_core.specs.Values.{is_time}
 use Rattle.script_core.specs.Samples.{is_colon, texts_of, are_whole, is_small_number, has_small_number, have_small_numbers, samples_from, are_within, are_rising}
 use Rattle.script_core.specs.Lines.{fields_line, first_labels, series_line}
-use Rattle.script_core.specs.State.{State, Last, block_of, all_blocks, add_series, test_block, with_series, has_series, insert_series, script_of_state}
+use Rattle.script_core.specs.State.{State, Last, block_of, with_last, add_series, test_block, with_series, has_series, insert_series, script_of_state}
 use Rattle.script_core.specs.Spelling.{SoFar, inside, spaced, IsSampleField, AreSampleFields, SeriesLine}
 use Rattle.std.proofs.lemmas.Bool.{and_parts}
 use Rattle.script_core.proofs.FieldLaws.{no_space, spaceless}
 use Rattle.script_core.proofs.ValueLaws.{time_fits}
 use Rattle.script_core.proofs.Kept.{Kept, so_far_of}
 use Rattle.script_core.proofs.LineTools.{is_some_field, no_end}
-use Rattle.script_core.proofs.FoundSeries.{sample_time, added}
+use Rattle.script_core.proofs.FoundSeries.{sample_time, added, last_there}
 use Rattle.script_core.proofs.AgainSetup.{IsRead, starts_again}
 use Rattle.script_core.proofs.SpelledValues.{near_tested, rise_tested, within_tested}
 use Rattle.script_core.proofs.SpelledSeries.{place_fresh, place_inserted}
@@ -115,14 +115,17 @@ pub record LastIs (st : State) (others : List Block) (ulid : ℕ) (labels : List
 
 min_of : Body → ℤ
 min_of (Inline min_time max_time series) = min_time
+min_of OnShelf = pos 0
 
 max_of : Body → ℤ
 max_of (Inline min_time max_time series) = max_time
+max_of OnShelf = pos 0
 
 series_of_body : Body → List Series
 series_of_body (Inline min_time max_time series) = series
+series_of_body OnShelf = []
 
-last_by : (st : State) (last : Option Last) (others : List Block) (ulid : ℕ) (labels : List Label) (min_time max_time : ℤ) (series : List Series) → Kept st → st.last ≡ last → all_blocks st.blocks last ≡ others ++ record { ulid = ulid; labels = labels; body = Inline min_time max_time series } ∷ [] → LastIs st others ulid labels min_time max_time series
+last_by : (st : State) (last : Option Last) (others : List Block) (ulid : ℕ) (labels : List Label) (min_time max_time : ℤ) (series : List Series) → Kept st → st.last ≡ last → with_last st.blocks last ≡ others ++ record { ulid = ulid; labels = labels; body = Inline min_time max_time series } ∷ [] → LastIs st others ulid labels min_time max_time series
 unfolding min_of max_of series_of_body
 last_by st None others ulid labels min_time max_time series kept is all =
     absurd (no_end others (record { ulid = ulid; labels = labels; body = Inline min_time max_time series }) (sym (sym (kept.blocks.no_last is) ∙ all)))
@@ -157,7 +160,8 @@ unfolding fields_line
 series_line_again st number line next kept says =
     let series : Series = record { labels = says.labels; samples = says.samples } in
     let texts = spaced says.texts in
-    let last = last_by st st.last says.others says.ulid says.block_labels says.min_time says.max_time (says.lesser ++ says.greater) kept refl says.last in
+    let none = kept.follows says.in_block in
+    let last = last_by st st.last says.others says.ulid says.block_labels says.min_time says.max_time (says.lesser ++ says.greater) kept refl (sym (last_there st st.last none) ∙ says.last) in
     let cut : texts_of texts ≡ says.texts = cut_joined says.texts says.some (each_free says.texts says.samples says.are_samples) in
     let whole : are_whole texts ≡ true = ap (list_all (λ text. not (is_empty text))) cut ∙ each_whole says.texts says.samples says.are_samples in
     let small : have_small_numbers texts ≡ true = ap (list_all has_small_number) cut ∙ each_small says.texts says.samples says.are_samples in
@@ -171,7 +175,7 @@ series_line_again st number line next kept says =
       after = after;
       cut = starts_again line kinds.Series (says.labels_text ++ 32 ∷ texts) says.spelled;
       read = read_series st (says.labels_text ++ 32 ∷ texts) says.labels texts says.samples after (first_labels_again says.labels_text texts says.labels (set_text_again says.labels_text (32 ∷ texts) says.labels says.are_labels)) whole small read (rise_tested says.samples says.rising) (add_again st series last.block last.is test);
-      next_is = added st series last.block last.is says.in_block ∙ (λ i. inside (record (script_of_state st) { blocks = last.others_is i ++ record { ulid = last.ulid_is i; labels = last.labels_is i; body = Inline (last.min_is i) (last.max_is i) (insert_series (last.series_is i) series) } ∷ [] }))
+      next_is = added st series last.block none last.is says.in_block ∙ (λ i. inside (record (script_of_state st) { blocks = last.others_is i ++ record { ulid = last.ulid_is i; labels = last.labels_is i; body = Inline (last.min_is i) (last.max_is i) (insert_series (last.series_is i) series) } ∷ [] }))
           ∙ ap (λ s. inside (record (script_of_state st) { blocks = says.others ++ record { ulid = says.ulid; labels = says.block_labels; body = Inline says.min_time says.max_time s } ∷ [] })) (place_inserted says.lesser says.greater series says.ascend)
           ∙ sym says.adds;
     }

@@ -1,5 +1,5 @@
 -- What a line before the first phase spells is read of it; of series lines AgainSeries speaks.
-use Rattle.std.proofs.Common.{◌≡◌, ℕ, ◌%◌, ◌^◌, ℤ, ◌<ℤ◌, ◌≤ℤ◌, true, false, not, ◌==◌, nat_lt, int_lt, List, [], ◌∷◌, ◌++◌, length, Option, Some, None, is_none, Ok, refl, sym, ap, ◌∙◌, subst, arith, append-nil, codes}
+use Rattle.std.proofs.Common.{◌≡◌, ℕ, ◌%◌, ◌^◌, ℤ, ◌<ℤ◌, ◌≤ℤ◌, true, false, not, ◌==◌, nat_lt, int_lt, List, [], ◌∷◌, ◌++◌, length, Option, Some, None, is_none, Ok, refl, sym, ap, ◌∙◌, subst, arith, append-nil, codes, append_assoc}
 use Rattle.std.proofs.lemmas.Bool.Decides.{nat_tests}
 use Rattle.std.proofs.lemmas.Int.{ints}
 use Rattle.std.specs.BTreeSet.{insert_key}
@@ -8,24 +8,27 @@ use Rattle.label_sets.proofs.SetLaws.{set_text_again}
 use Rattle.label_sets.specs.Notation.{is_name, read_set, set_text}
 use Rattle.label_sets.specs.SetText.{IsSetText}
 use Rattle.label_sets.specs.declared.label.Label.{Label}
+use Rattle.script_core.specs.declared.block.Block.{Block}
+use Rattle.script_core.specs.declared.body.Body.TheVariants.{OnShelf}
 use Rattle.script_core.specs.declared.line_kind.LineKind.{LineKind}
 use Rattle.script_core.specs.declared.line_kind.LineKind.TheVariants as kinds
 use Rattle.script_core.specs.declared.rule_kind.RuleKind.TheVariants.{Valued}
 use Rattle.script_core.specs.Fields.{is_empty, next_field, only_field, rule_kind}
-use Rattle.script_core.specs.Values.{add_replica, is_reserved, with_rule, set_rule}
-use Rattle.script_core.specs.Lines.{fields_line, rule_line, partition_field, gateway_line, block_line, last_labels}
-use Rattle.script_core.specs.State.{State, Last, add_gateway, gateway_named, begin_block, is_declared, all_blocks, script_of_state}
-use Rattle.script_core.specs.Spelling.{SoFar, outside, spaced, IsField, IsTimeText, rule_word, RuleLine, ReplicaLine, ArePartitionTexts, at_all_times, from_to, GatewayLine, BlockLine}
+use Rattle.script_core.specs.Values.{add_replica, is_reserved, with_rule, set_rule, set_retention, span_from, retention_from}
+use Rattle.script_core.specs.Lines.{fields_line, rule_line, partition_field, gateway_line, block_line, shelf_line, last_labels}
+use Rattle.script_core.specs.State.{State, Last, add_gateway, gateway_named, add_shelf, begin_block, block_of, is_declared, with_last, all_blocks, script_of_state}
+use Rattle.script_core.specs.Spelling.{SoFar, outside, spaced, IsField, IsTimeText, rule_word, RuleLine, ReplicaLine, RetentionLine, ArePartitionTexts, at_all_times, from_to, GatewayLine, BlockLine, ShelfLine, inside}
 use Rattle.script_core.proofs.FieldLaws.{cut_again, cut_last}
-use Rattle.script_core.proofs.ValueLaws.{time_again, ulid_again, value_again}
+use Rattle.script_core.proofs.ValueLaws.{time_again, ulid_again, value_again, span_again}
 use Rattle.script_core.proofs.Kept.{Kept, so_far_of}
-use Rattle.script_core.proofs.LineTools.{is_some_field, only_again, line_word, word_free, name_free, valued_again, replica_free, early_again}
+use Rattle.script_core.proofs.LineTools.{is_some_field, only_again, line_word, word_free, name_free, valued_again, replica_free, retention_free, early_again}
 use Rattle.script_core.proofs.FoundSetup.{closed}
 use Rattle.moment_core.specs.Partitions.{all_times}
 use Rattle.moment_core.specs.declared.partition.Partition.{Partition}
 use Rattle.moment_core.specs.declared.rules.Rules.{Rules}
+use Rattle.moment_core.specs.declared.span.Span.{Span}
 use Rattle.script_core.proofs.SpelledValues.{near_tested, free_tested}
-use Rattle.script_core.proofs.SpelledRules.{rule_set}
+use Rattle.script_core.proofs.SpelledRules.{rule_set, keeps_again}
 use Rattle.script_core.specs.Limits.{most_gateways, most_blocks}
 
 -- A line that is read in this state as one of a kind, and leads to what is so far.
@@ -111,6 +114,23 @@ module _ (st : State) (number : ℕ) (line : List ℕ) (next : SoFar) (kept : Ke
         next_is = sym says.adds;
       }
 
+  pub retention_line_again : RetentionLine (so_far_of st) line next → IsRead (closed st) number line kinds.Rule next
+  unfolding fields_line rule_line set_retention
+  retention_line_again says =
+      let word : List ℕ = codes "retention" in
+      let text : List ℕ = word ++ 32 ∷ says.text in
+      let cut : next_field (Some text) ≡ (word, Some says.text) = cut_again word says.text retention_free in
+      let only : only_field (Some says.text) ≡ Ok says.text = only_again says.text says.field in
+      let read = span_again says.text (span_from says.ms) says.is_span in
+      let early : is_none st.phase ≡ true = early_again st.phases st.phase says.early in
+      record {
+        left = Some text;
+        after = record (closed st) { rules = record st.rules { retention = retention_from says.ms } };
+        cut = starts_again line kinds.Rule text says.spelled;
+        read = rw (cut, only, read, early) refl;
+        next_is = ap (λ (r : Option Span). outside (record (script_of_state st) { rules = record st.rules { retention = r } })) (keeps_again says.ms says.retention says.keeps) ∙ sym says.adds;
+      }
+
   -- a gateway line whose partition is read
   gateway_read : (name : List ℕ) (partition : Partition) (left rest : Option (List ℕ)) → next_field left ≡ (name, rest) → IsField name → is_name name ≡ true → partition_field rest ≡ Ok partition
       → is_none st.phase ≡ true → not (int_lt partition.high partition.low) ≡ true → gateway_named st.gateways name ≡ None → nat_lt (length st.gateways) most_gateways ≡ true
@@ -170,8 +190,30 @@ module _ (st : State) (number : ℕ) (line : List ℕ) (next : SoFar) (kept : Ke
       let few : nat_lt (length st.ulids) most_blocks ≡ true = let l = says.few in let n = kept.blocks.count in grind (arith, nat_tests) in
       record {
         left = Some rest;
-        after = record (closed st) { blocks = all_blocks st.blocks st.last; last = Some new; continues = true; ulids = insert_key nat_cmp st.ulids says.ulid };
+        after = record (closed st) { blocks = all_blocks st.blocks st.last st.shelved; last = Some new; shelved = []; continues = true; ulids = insert_key nat_cmp st.ulids says.ulid };
         cut = starts_again line kinds.Block rest says.spelled;
         read = rw (first, second, third, some_ulid, some_min, some_max, set, read_min, read_max, read_ulid, early, times, free, fresh, few) refl;
-        next_is = sym says.adds;
+        next_is = ap (λ (bs : List Block). inside (record (script_of_state st) { blocks = bs })) (append-nil (all_blocks st.blocks st.last st.shelved ++ block_of new ∷ [])) ∙ sym says.adds;
+      }
+
+  pub shelf_line_again : ShelfLine (so_far_of st) line next → IsRead (closed st) number line kinds.Shelf next
+  unfolding fields_line shelf_line add_shelf
+  shelf_line_again says =
+      let ulid = says.is_ulid in
+      let rest : List ℕ = says.ulid_text ++ 32 ∷ says.labels_text in
+      let new : Block = record { ulid = says.ulid; labels = says.labels; body = OnShelf } in
+      let first = cut_again says.ulid_text says.labels_text ulid.field.no_space in
+      let some = is_some_field says.ulid_text ulid.field in
+      let set = labels_again says.labels_text says.labels says.are_labels in
+      let read_ulid = ulid_again says.ulid_text says.ulid ulid.written in
+      let early : is_none st.phase ≡ true = early_again st.phases st.phase says.early in
+      let free : is_reserved says.ulid ≡ false = free_tested (says.ulid % 2 ^ 80) ulid.not_reserved in
+      let fresh : is_declared st says.ulid ≡ false = kept.blocks.declared says.ulid ∙ says.new in
+      let few : nat_lt (length st.ulids) most_blocks ≡ true = let l = says.few in let n = kept.blocks.count in grind (arith, nat_tests) in
+      record {
+        left = Some rest;
+        after = record (closed st) { shelved = st.shelved ++ new ∷ []; ulids = insert_key nat_cmp st.ulids says.ulid };
+        cut = starts_again line kinds.Shelf rest says.spelled;
+        read = rw (first, some, set, read_ulid, early, free, fresh, few) refl;
+        next_is = ap (λ (bs : List Block). outside (record (script_of_state st) { blocks = bs })) (sym (append_assoc (with_last st.blocks st.last) st.shelved (new ∷ []))) ∙ sym says.adds;
       }

@@ -19,13 +19,13 @@ use Rattle.matchers.specs.declared.matcher.Matcher.{Matcher}
 use Rattle.matchers.specs.SelectorText.{IsSelectorText, AreListed, comma_text, commas_text, matcher_text, metric_part}
 use Rattle.script_workers.specs.declared.work.Work.{Work}
 use Rattle.script_core.specs.declared.block.Block.{Block}
-use Rattle.script_core.specs.declared.body.Body.TheVariants.{Inline}
+use Rattle.script_core.specs.declared.body.Body.TheVariants.{Inline, OnShelf}
 use Rattle.script_core.specs.declared.script.Script.{Script}
 use Rattle.script_core.specs.Counts.{members_of_name, members_of_series, members_of_block, members_of_selector, members_of_phase, members_of_script}
 use Rattle.script_core.specs.Fields.{lines_of, is_silent, space}
 use Rattle.script_core.specs.GivenUp.{GivesUnless, IsWholeGivenUp}
 use Rattle.script_core.specs.Reading.{script_of}
-use Rattle.script_core.specs.Spelling.{spaced, IsField, AreSampleFields, SoFar, nothing, GatewayLine, BlockLine, SeriesLine, AtLine, AddsTask, UploadLine, SyncLine, QueryLine, RuleLine, ReplicaLine, Says, Say, Spells}
+use Rattle.script_core.specs.Spelling.{spaced, IsField, AreSampleFields, SoFar, nothing, GatewayLine, BlockLine, ShelfLine, SeriesLine, AtLine, AddsTask, UploadLine, SyncLine, CompactLine, CleanLine, QueryLine, RuleLine, ReplicaLine, RetentionLine, Says, Say, Spells}
 use Rattle.script_core.proofs.ReadScripts.{found_of}
 
 -- ---- fields
@@ -128,6 +128,9 @@ replica_adds before after line is =
       three_fields (codes "rule") (codes "replica-label") is.name,
     )
 
+retention_adds : (before after : SoFar) (line : List ℕ) → RetentionLine before line after → size_of after ≤ size_of before + length line
+retention_adds before after line is = omega (arith, ap size_of is.adds)
+
 block_adds : (before after : SoFar) (line : List ℕ) → BlockLine before line after → size_of after ≤ size_of before + length line
 block_adds before after line is =
     omega (
@@ -139,6 +142,17 @@ block_adds before after line is =
       longer_field is.ulid_text is.min_text (is.max_text ∷ is.labels_text ∷ []),
       three_fields is.min_text is.max_text is.labels_text,
       one_more members_of_block before.script.blocks (record { ulid = is.ulid; labels = is.labels; body = Inline is.min_time is.max_time [] }),
+    )
+
+shelf_adds : (before after : SoFar) (line : List ℕ) → ShelfLine before line after → size_of after ≤ size_of before + length line
+shelf_adds before after line is =
+    omega (
+      arith,
+      ap size_of is.adds,
+      ap length is.spelled,
+      set_fits is.labels_text is.labels is.are_labels,
+      three_fields (codes "shelf") is.ulid_text is.labels_text,
+      one_more members_of_block before.script.blocks (record { ulid = is.ulid; labels = is.labels; body = OnShelf }),
     )
 
 series_adds : (before after : SoFar) (line : List ℕ) → SeriesLine before line after → size_of after ≤ size_of before + length line
@@ -180,11 +194,19 @@ task_adds before after number work is =
 
 upload_adds : (before after : SoFar) (number : ℕ) (line : List ℕ) → UploadLine before number line after → size_of after ≤ size_of before + length line
 upload_adds before after number line is =
-    omega (arith, ap size_of is.adds, ap length is.spelled, two_fields (codes "upload") is.text, task_adds before.script is.script number _ is.task)
+    omega (arith, ap size_of is.adds, ap length is.spelled, longer_field (codes "upload") is.text is.texts, task_adds before.script is.script number _ is.task)
 
 sync_adds : (before after : SoFar) (number : ℕ) (line : List ℕ) → SyncLine before number line after → size_of after ≤ size_of before + length line
 sync_adds before after number line is =
     omega (arith, ap size_of is.adds, ap length is.spelled, two_fields (codes "sync") is.name, task_adds before.script is.script number _ is.task)
+
+compact_adds : (before after : SoFar) (number : ℕ) (line : List ℕ) → CompactLine before number line after → size_of after ≤ size_of before + length line
+compact_adds before after number line is =
+    omega (arith, ap size_of is.adds, ap length is.spelled, first_fits (codes "compact") is.texts, task_adds before.script is.script number _ is.task)
+
+clean_adds : (before after : SoFar) (number : ℕ) (line : List ℕ) → CleanLine before number line after → size_of after ≤ size_of before + length line
+clean_adds before after number line is =
+    omega (arith, ap size_of is.adds, ap length is.spelled, first_fits (codes "clean") is.texts, task_adds before.script is.script number _ is.task)
 
 query_adds : (before after : SoFar) (number : ℕ) (line : List ℕ) → QueryLine before number line after → size_of after ≤ size_of before + length line
 query_adds before after number line is =
@@ -203,11 +225,15 @@ line_adds : (before after : SoFar) (number : ℕ) (line : List ℕ) → Says bef
 line_adds before after number line (Says.series is) = series_adds before after line is
 line_adds before after number line (Says.rule ended is) = rule_adds before after line is
 line_adds before after number line (Says.replica ended is) = replica_adds before after line is
+line_adds before after number line (Says.retention ended is) = retention_adds before after line is
 line_adds before after number line (Says.gateway ended is) = gateway_adds before after line is
 line_adds before after number line (Says.block ended is) = block_adds before after line is
+line_adds before after number line (Says.shelf ended is) = shelf_adds before after line is
 line_adds before after number line (Says.at ended is) = at_adds before after number line is
 line_adds before after number line (Says.upload ended is) = upload_adds before after number line is
 line_adds before after number line (Says.sync ended is) = sync_adds before after number line is
+line_adds before after number line (Says.compact ended is) = compact_adds before after number line is
+line_adds before after number line (Says.clean ended is) = clean_adds before after number line is
 line_adds before after number line (Says.query ended is) = query_adds before after number line is
 
 -- ---- texts

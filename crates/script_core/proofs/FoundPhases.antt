@@ -1,34 +1,33 @@
 -- What is read of a line of a phase is what the line spells.
-use Rattle.std.proofs.Common.{◌≡◌, ℕ, zero, suc, ◌+◌, ◌%◌, ◌^◌, ◌<◌, ◌≤◌, ℤ, ◌≤ℤ◌, Bool, true, false, not, ◌==◌, ◌&&◌, ◌||◌, cond, nat_le, ltb-true, leb-true, int_lt, List, [], ◌∷◌, ◌++◌, length, Option, Some, None, is_none, is_some, unwrap_or, Result, Ok, refl, sym, ap, ◌∙◌, subst, arith, codes, inl, inr}
+use Rattle.std.proofs.Common.{◌≡◌, ℕ, zero, suc, ◌+◌, ◌%◌, ◌^◌, ◌<◌, ◌≤◌, ℤ, ◌≤ℤ◌, Bool, true, false, not, ◌==◌, ◌&&◌, ◌||◌, cond, nat_le, ltb-true, leb-true, int_lt, List, [], ◌∷◌, ◌++◌, length, Option, Some, None, is_some, unwrap_or, Ok, refl, sym, ap, ◌∙◌, subst, arith, codes, inl, inr}
 use Rattle.std.specs.List.{list_all, range_with_len}
 use Rattle.std.specs.Str.{bytes_eq}
 use Rattle.std.proofs.lemmas.Bool.Decides.{nat_tests}
 use Rattle.std.proofs.lemmas.Option.{same_Some}
 use Rattle.std.proofs.Math.Bool.{or-false}
-use Rattle.reading_core.specs.Reading.{◌>>=◌}
 use Rattle.reading_core.proofs.Binds.{bind_ok, unless_ok, ok_is, refused_as_ok, unless_is, then_ok, ok_or_ok}
 use Rattle.std.proofs.lemmas.Bool.{and_parts, not-true}
 use Rattle.reading_core.proofs.Parsed.{true_or_false}
+use Rattle.list_core.proofs.Bools.{bytes_eq-same}
 use Rattle.moment_core.specs.declared.moment.Moment.{Moment}
 use Rattle.moment_core.specs.declared.rules.Rules.{Rules}
 use Rattle.script_core.specs.declared.cause.LineCause.TheVariants as causes
-use Rattle.script_core.specs.declared.line_refusal.LineRefusal.{LineRefusal}
 use Rattle.script_core.specs.declared.line_refusal.LineRefusal.TheVariants.{Bad, BadRules, FallingMoment}
 use Rattle.script_workers.specs.declared.phase.Phase.{Phase}
 use Rattle.script_workers.specs.declared.work.Work.{Work}
 use Rattle.script_workers.specs.declared.work.Work.TheVariants as works
-use Rattle.script_core.specs.Fields.{is_empty, next_field}
+use Rattle.script_core.specs.Fields.{is_empty, next_field, only_field}
 use Rattle.script_workers.specs.Hands.{gateway_count, with_hands}
-use Rattle.script_core.specs.Values.{agree}
-use Rattle.script_core.specs.Lines.{may_begin, at_line, upload_line, sync_line, query_line, Asked, bad, question_at, selector_field}
-use Rattle.script_core.specs.State.{State, all_phases, begin_phase, add_task, add_query, note_sync, is_declared, is_synced, script_of_state, are_all_synced}
+use Rattle.script_core.specs.Values.{agree, stop_count}
+use Rattle.script_core.specs.Lines.{may_begin, at_line, stop_field, upload_line, sync_line, compact_line, clean_line, query_line, Asked, bad, question_at, selector_field}
+use Rattle.script_core.specs.State.{State, all_phases, begin_phase, add_task, add_query, note_sync, is_declared, is_synced, script_of_state, are_all_synced, phase_compacts}
 use Rattle.script_workers.specs.Works.{is_sync_of}
-use Rattle.script_core.specs.Spelling.{IsTimeText, AtLine, AddsTask, UploadLine, SyncLine, QueryLine}
-use Rattle.script_core.proofs.FieldLaws.{cut_found}
-use Rattle.script_core.proofs.ValueLaws.{is_none_is, time_found, ulid_found, moment_found}
+use Rattle.script_core.specs.Spelling.{spaced, IsTimeText, AtLine, AddsTask, AreStopTexts, no_stop, stops_at, UploadLine, SyncLine, CompactLine, CleanLine, QueryLine}
+use Rattle.script_core.proofs.FieldLaws.{Cut, cut_found}
+use Rattle.script_core.proofs.ValueLaws.{time_found, ulid_found, moment_found, stop_count_found}
 use Rattle.script_core.proofs.Kept.{Kept, KeepsTasks, at, so_far_of, phase_kept, task_kept, sync_noted, hands_of-append}
-use Rattle.script_core.proofs.LineTools.{is_field, cut_rest, cut_end, only_found, last_phase, no_end, unit_is}
-use Rattle.script_core.proofs.FoundSetup.{Starts, closed, not_below}
+use Rattle.script_core.proofs.LineTools.{is_field, cut_rest, only_found, last_phase, no_end, unit_is}
+use Rattle.script_core.proofs.FoundSetup.{Starts, closed, not_below, AreLeft, named_cut}
 use Rattle.script_core.proofs.SpelledValues.{near_spelled, free_spelled, agree_spelled}
 use Rattle.script_core.proofs.ReadSelectors.{selector_found}
 use Rattle.script_workers.proofs.HandLaws.{few_spelled}
@@ -82,7 +81,7 @@ module _ (st after : State) (number : ℕ) (work : Work) (kept : Kept st) (task 
   pub more_kept : (noted : List ℕ) → ((gateway : ℕ) → is_synced noted gateway ≡ (is_synced st.synced gateway || is_sync_of gateway work)) → Kept (record after { synced = noted })
   more_kept noted notes =
       let tasks = task_kept st.gateways st.phases task.phase st.synced noted st.hands st.activities (record { line = number; work = work }) (with_phase (Some task.phase) task.begun) notes in
-      subst (λ (s : State). Kept (record s { synced = noted })) task.is (record { blocks = kept.blocks; tasks = tasks })
+      subst (λ (s : State). Kept (record s { synced = noted })) task.is (record { blocks = kept.blocks; follows = kept.follows; tasks = tasks })
 
   -- nothing is noted
   pub same_kept : ((gateway : ℕ) → is_sync_of gateway work ≡ false) → Kept after
@@ -147,11 +146,29 @@ question_found st left asked h =
       times = not_below b.0 c.0 e.0;
     })
 
+-- ---- stops
+
+stop_found : (rest : Option (List ℕ)) (stop : Option ℕ) → stop_field rest ≡ Ok stop → (texts : List (List ℕ)) × AreLeft rest texts × AreStopTexts texts stop
+unfolding stop_field
+stop_found None stop h = ([], refl, no_stop refl (sym (ok_is _ _ h)))
+stop_found (Some text) stop h =
+    let word = (next_field (Some text)).0 in
+    let after_word = (next_field (Some text)).1 in
+    let a = bind_ok (only_field after_word) _ _ h in
+    let b = unless_ok (bytes_eq word (codes "stop")) causes.BadShape _ _ a.2 in
+    let c = bind_ok (stop_count a.0) _ _ b.1 in
+    let made : Some c.0 ≡ stop = ok_is _ _ c.2 in
+    let last = only_found after_word a.0 a.1 in
+    let cut = cut_rest (Some text) word after_word a.0 (cut_found (Some text)) last.0 in
+    let named : word ≡ codes "stop" = bytes_eq-same word (codes "stop") b.0 in
+    let number = stop_count_found a.0 c.0 c.1 in
+    (word ∷ a.0 ∷ [], cut.0, stops_at a.0 c.0 (ap (λ w. w ∷ a.0 ∷ []) named) last.1 number.0 number.1 number.2 (sym made))
+
 -- ---- lines
 
 module _ (st after : State) (number : ℕ) (line : List ℕ) (left : Option (List ℕ)) (kept : Kept st) where
   kept_closed : Kept (closed st)
-  kept_closed = record { blocks = kept.blocks; tasks = kept.tasks }
+  kept_closed = record { blocks = kept.blocks; follows = λ c. absurd cc; tasks = kept.tasks }
 
   pub at_line_found : Starts line (codes "at") left → at_line (closed st) number left ≡ Ok after → AtLine (so_far_of st) number line (so_far_of after) × Kept after
   unfolding at_line begin_phase
@@ -172,7 +189,7 @@ module _ (st after : State) (number : ℕ) (line : List ℕ) (left : Option (Lis
           later = λ others last is. let p = last_phase st.phases st.phase others last kept.tasks.no_phase is in not_sooner st.rules last b.0 (ap (λ o. may_begin st.rules o b.0) (sym p.0) ∙ may);
           adds = ap so_far_of (sym same);
         },
-        subst Kept same (record { blocks = kept.blocks; tasks = phase_kept st.gateways st.phases st.phase st.synced st.hands st.activities kept.tasks number b.0 }),
+        subst Kept same (record { blocks = kept.blocks; follows = λ c. absurd cc; tasks = phase_kept st.gateways st.phases st.phase st.synced st.hands st.activities kept.tasks number b.0 }),
       )
 
   pub upload_line_found : Starts line (codes "upload") left → upload_line (closed st) number left ≡ Ok after → UploadLine (so_far_of st) number line (so_far_of after) × Kept after
@@ -180,27 +197,30 @@ module _ (st after : State) (number : ℕ) (line : List ℕ) (left : Option (Lis
   upload_line_found starts h =
       let text = (next_field left).0 in
       let rest = (next_field left).1 in
-      let a = unless_ok (not (bytes_eq (next_field rest).0 (codes "stop"))) (Bad causes.UnknownWord) _ _ h in
-      let b = unless_ok (not (is_empty text) && is_none rest) (Bad causes.BadShape) _ _ a.1 in
-      let c = bind_ok _ _ _ b.1 in
+      let a = unless_ok (not (is_empty text)) (Bad causes.BadShape) _ _ h in
+      let b = bind_ok (bad (stop_field rest)) _ _ a.1 in
+      let c = bind_ok _ _ _ b.2 in
       let d = unless_ok _ _ _ _ c.2 in
       let e = unless_ok _ _ _ _ d.1 in
       let f = unless_ok _ _ _ _ e.1 in
-      let tests = and_parts (not (is_empty text)) (is_none rest) b.0 in
-      let end = cut_end left text rest (cut_found left) (is_none_is rest tests.1) tests.0 in
-      let task = added (closed st) after number (works.Upload c.0 None) f.1 in
+      let found = stop_found rest b.0 (refused_as_ok _ _ _ b.1) in
+      let cut = named_cut left text rest found.0 (cut_found left) a.0 found.1 in
+      let task = added (closed st) after number (works.Upload c.0 b.0) f.1 in
       let declared : is_declared st c.0 ≡ true = f.0 in (
         record {
           text = text;
           ulid = c.0;
-          spelled = starts text end.0;
-          is_ulid = record { field = is_field text tests.0 end.1; written = ulid_found text c.0 (refused_as_ok _ _ _ c.1); not_reserved = free_spelled (c.0 % 2 ^ 80) (not-true _ e.0) };
+          texts = found.0;
+          stop = b.0;
+          spelled = starts (spaced (text ∷ found.0)) cut.0;
+          are_texts = found.2;
+          is_ulid = record { field = is_field text a.0 cut.1; written = ulid_found text c.0 (refused_as_ok _ _ _ c.1); not_reserved = free_spelled (c.0 % 2 ^ 80) (not-true _ e.0) };
           declared = sym (kept.blocks.declared c.0) ∙ declared;
           script = script_of_state after;
-          task = adds_task (closed st) after number (works.Upload c.0 None) kept_closed task;
+          task = adds_task (closed st) after number (works.Upload c.0 b.0) kept_closed task;
           adds = ap (λ (s : State). at (script_of_state after) s.continues) (sym task.is);
         },
-        same_kept (closed st) after number (works.Upload c.0 None) kept_closed task (λ gateway. refl),
+        same_kept (closed st) after number (works.Upload c.0 b.0) kept_closed task (λ gateway. refl),
       )
 
   pub sync_line_found : Starts line (codes "sync") left → sync_line (closed st) number left ≡ Ok after → SyncLine (so_far_of st) number line (so_far_of after) × Kept after
@@ -228,6 +248,49 @@ module _ (st after : State) (number : ℕ) (line : List ℕ) (left : Option (Lis
           adds = ap so_far_of (sym same) ∙ ap (λ (s : State). at (script_of_state e.0) s.continues) (sym task.is);
         },
         subst Kept same noted,
+      )
+
+  pub compact_line_found : Cut (Some line) (codes "compact") left → compact_line (closed st) number left ≡ Ok after → CompactLine (so_far_of st) number line (so_far_of after) × Kept after
+  unfolding compact_line adds_task
+  compact_line_found cut h =
+      let a = bind_ok (bad (stop_field left)) _ _ h in
+      let b = unless_ok _ _ _ _ a.2 in
+      let c = unless_ok _ _ _ _ b.1 in
+      let found = stop_found left a.0 (refused_as_ok _ _ _ a.1) in
+      let whole = named_cut (Some line) (codes "compact") left found.0 cut refl found.1 in
+      let task = added (closed st) after number (works.Compact a.0) c.1 in
+      let none : phase_compacts st.phase ≡ false = not-true _ c.0 in (
+        record {
+          texts = found.0;
+          stop = a.0;
+          spelled = same_Some _ _ whole.0;
+          are_texts = found.2;
+          script = script_of_state after;
+          task = adds_task (closed st) after number (works.Compact a.0) kept_closed task;
+          first = ap phase_compacts (sym task.begun) ∙ none;
+          adds = ap (λ (s : State). at (script_of_state after) s.continues) (sym task.is);
+        },
+        same_kept (closed st) after number (works.Compact a.0) kept_closed task (λ gateway. refl),
+      )
+
+  pub clean_line_found : Cut (Some line) (codes "clean") left → clean_line (closed st) number left ≡ Ok after → CleanLine (so_far_of st) number line (so_far_of after) × Kept after
+  unfolding clean_line
+  clean_line_found cut h =
+      let a = bind_ok (bad (stop_field left)) _ _ h in
+      let b = unless_ok _ _ _ _ a.2 in
+      let found = stop_found left a.0 (refused_as_ok _ _ _ a.1) in
+      let whole = named_cut (Some line) (codes "clean") left found.0 cut refl found.1 in
+      let task = added (closed st) after number (works.Clean a.0) b.1 in (
+        record {
+          texts = found.0;
+          stop = a.0;
+          spelled = same_Some _ _ whole.0;
+          are_texts = found.2;
+          script = script_of_state after;
+          task = adds_task (closed st) after number (works.Clean a.0) kept_closed task;
+          adds = ap (λ (s : State). at (script_of_state after) s.continues) (sym task.is);
+        },
+        same_kept (closed st) after number (works.Clean a.0) kept_closed task (λ gateway. refl),
       )
 
   pub query_line_found : Starts line (codes "query") left → query_line (closed st) number left ≡ Ok after → QueryLine (so_far_of st) number line (so_far_of after) × Kept after
@@ -259,5 +322,5 @@ module _ (st after : State) (number : ℕ) (line : List ℕ) (left : Option (Lis
           task = adds_task (closed st) d.0 number work kept_closed task;
           adds = ap so_far_of (sym same) ∙ ap (λ (s : State). at (record (script_of_state d.0) { selectors = d.0.selectors ++ b.0 ∷ [] }) s.continues) (sym task.is);
         },
-        subst Kept same (record { blocks = k.blocks; tasks = k.tasks }),
+        subst Kept same (record { blocks = k.blocks; follows = k.follows; tasks = k.tasks }),
       )

@@ -1,5 +1,5 @@
 -- What is read of a series line is what the line spells.
-use Rattle.std.proofs.Common.{◌≡◌, ◌≢◌, ℕ, ◌≤◌, ℤ, Bool, true, false, not, cond, nat_lt, List, [], ◌∷◌, ◌++◌, length, take, drop, Option, Some, None, option_map, Result, Ok, Err, refl, sym, ap, ◌∙◌, subst, arith, codes}
+use Rattle.std.proofs.Common.{◌≡◌, ◌≢◌, ℕ, ◌≤◌, ℤ, Bool, true, false, not, cond, nat_lt, List, [], ◌∷◌, ◌++◌, length, take, drop, Option, Some, None, option_map, Result, Ok, Err, refl, sym, ap, ◌∙◌, subst, arith, codes, append-nil}
 use Rattle.std.specs.List.{list_all, slice_split, onto_first, position_or_len, before_first, after_first}
 use Rattle.std.proofs.lemmas.Bool.Decides.{nat_tests}
 use Rattle.std.proofs.lemmas.List.{take-append-drop}
@@ -27,10 +27,10 @@ use Rattle.script_core.specs.Fields.{is_empty, is_space, after_space}
 use Rattle.script_core.specs.Values.{is_time}
 use Rattle.script_core.specs.Samples.{is_colon, texts_of, are_whole, is_small_number, has_small_number, have_small_numbers, samples_from, are_within}
 use Rattle.script_core.specs.Lines.{first_labels, series_line}
-use Rattle.script_core.specs.State.{State, Last, block_of, all_blocks, add_series, test_block, with_series, has_series, script_of_state}
+use Rattle.script_core.specs.State.{State, Last, block_of, with_last, all_blocks, add_series, test_block, with_series, has_series, script_of_state}
 use Rattle.script_core.specs.Spelling.{spaced, inside, IsSampleField, AreSampleFields, SeriesLine}
 use Rattle.script_core.proofs.FieldLaws.{no_space, space_is}
-use Rattle.script_core.proofs.Kept.{Kept, at, so_far_of, series_kept}
+use Rattle.script_core.proofs.Kept.{Kept, KeepsBlocks, at, so_far_of, series_kept}
 use Rattle.script_core.proofs.LineTools.{is_field, unit_is}
 use Rattle.script_core.proofs.FoundSetup.{Starts}
 use Rattle.std.specs.List.Sorted.{IsStrictlySortedBy}
@@ -145,9 +145,14 @@ pub record InLast (blocks : List Block) (continues : Bool) (last : Option Last) 
 some_pieces : (texts : List ℕ) → texts_of texts ≢ []
 some_pieces texts none = omega (arith, ap length none, length-slice_split is_space texts)
 
-pub added : (st : State) (series : Series) (block : Last) → st.last ≡ Some block → st.continues ≡ true → so_far_of (record st { last = option_map (with_series series) st.last }) ≡ inside (record (script_of_state st) { blocks = st.blocks ++ block_of (with_series series block) ∷ [] })
-added st series block is follows i =
-    at (record (script_of_state st) { blocks = all_blocks st.blocks (option_map (with_series series) (is i)) }) (follows i)
+-- where no block of the shelf stands behind the last inline one, that is the last block
+pub last_there : (st : State) (last : Option Last) → st.shelved ≡ [] → all_blocks st.blocks last st.shelved ≡ with_last st.blocks last
+last_there st last none = ap (λ bs. with_last st.blocks last ++ bs) none ∙ append-nil (with_last st.blocks last)
+
+pub added : (st : State) (series : Series) (block : Last) → st.shelved ≡ [] → st.last ≡ Some block → st.continues ≡ true → so_far_of (record st { last = option_map (with_series series) st.last }) ≡ inside (record (script_of_state st) { blocks = st.blocks ++ block_of (with_series series block) ∷ [] })
+added st series block none is follows =
+    ap (λ (bs : List Block). at (record (script_of_state st) { blocks = bs }) st.continues) (last_there st (option_map (with_series series) st.last) none)
+    ∙ (λ i. at (record (script_of_state st) { blocks = with_last st.blocks (option_map (with_series series) (is i)) }) (follows i))
 
 in_last : (blocks : List Block) (continues : Bool) (last : Option Last) (series : Series) → test_block continues last series.labels series.samples ≡ Ok tt → InLast blocks continues last series
 in_last blocks continues None series h = absurd cc
@@ -155,6 +160,11 @@ in_last blocks continues (Some block) series h =
     let a = unless_ok (are_within block.min_time block.max_time series.samples) (Bad causes.OutsideBlock) _ _ h in
     let b = unless_ok (not (has_series block.series series.labels)) (Bad causes.RepeatedSeries) _ _ a.1 in
     record { block = block; is = refl; within = a.0; new = not-true _ b.0; follows = unless_is continues _ b.1 }
+
+still_kept : (blocks : List Block) (last : Option Last) (shelved : List Block) (ulids : List ℕ) (series : Series) → shelved ≡ [] → KeepsBlocks blocks last shelved ulids → KeepsBlocks blocks (option_map (with_series series) last) shelved ulids
+still_kept blocks last shelved ulids series none kept =
+    subst (λ (bs : List Block). KeepsBlocks blocks (option_map (with_series series) last) bs ulids) (sym none)
+    (series_kept blocks last ulids series (subst (λ (bs : List Block). KeepsBlocks blocks last bs ulids) none kept))
 
 -- the last block with these series
 abbrev block_with : Last → List Series → Block
@@ -173,6 +183,7 @@ series_line_found st after line left kept starts h =
     let same = ok_is _ _ f.2 in
     let series : Series = record { labels = a.0.0; samples = d.0 } in
     let last = in_last st.blocks st.continues st.last series (f.1 ∙ unit_is f.0) in
+    let none = kept.follows last.follows in
     let place = place_spelled last.block.series series last.new in
     let found = first_labels_found left a.0 a.1 in
     let set = found.2 in
@@ -197,10 +208,10 @@ series_line_found st after line left kept starts h =
         max_time = last.block.max_time;
         lesser = place.lesser;
         greater = place.greater;
-        last = ap (all_blocks st.blocks) last.is ∙ ap (λ s. st.blocks ++ block_with last.block s ∷ []) place.parted;
+        last = last_there st st.last none ∙ ap (with_last st.blocks) last.is ∙ ap (λ s. st.blocks ++ block_with last.block s ∷ []) place.parted;
         within = within_spelled last.block.min_time last.block.max_time d.0 last.within;
         ascend = subst (λ s. IsStrictlySortedBy compare_sets (labels_of s)) place.put (sorted_insert last.block.series series (kept.blocks.ascend last.block last.is));
-        adds = ap so_far_of (sym same) ∙ added st series last.block last.is last.follows ∙ ap (λ s. inside (record (script_of_state st) { blocks = st.blocks ++ block_with last.block s ∷ [] })) place.put;
+        adds = ap so_far_of (sym same) ∙ added st series last.block none last.is last.follows ∙ ap (λ s. inside (record (script_of_state st) { blocks = st.blocks ++ block_with last.block s ∷ [] })) place.put;
       },
-      subst Kept same (record { blocks = series_kept st.blocks st.last st.ulids series kept.blocks; tasks = kept.tasks }),
+      subst Kept same (record { blocks = still_kept st.blocks st.last st.shelved st.ulids series none kept.blocks; follows = kept.follows; tasks = kept.tasks }),
     )

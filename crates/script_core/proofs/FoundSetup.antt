@@ -1,5 +1,5 @@
 -- What is read of a line before the first phase is what the line spells; of series lines FoundSeries speaks.
-use Rattle.std.proofs.Common.{◌≡◌, ℕ, ◌%◌, ◌^◌, ◌<◌, ℤ, ◌<ℤ◌, ◌≤ℤ◌, true, false, not, ◌==◌, ◌&&◌, ltb-true, int_lt, List, [], ◌∷◌, ◌++◌, length, Option, Some, None, Result, Ok, Err, refl, sym, ap, ◌∙◌, subst, arith, codes, ◌⊎◌, inl, inr}
+use Rattle.std.proofs.Common.{◌≡◌, ℕ, ◌%◌, ◌^◌, ◌<◌, ℤ, ◌<ℤ◌, ◌≤ℤ◌, true, false, not, ◌==◌, ◌&&◌, ltb-true, int_lt, List, [], ◌∷◌, ◌++◌, length, Option, Some, None, Result, Ok, Err, refl, sym, ap, ◌∙◌, subst, arith, codes, ◌⊎◌, inl, inr, append-nil, append_assoc}
 use Rattle.std.proofs.lemmas.Bool.Decides.{nat_tests}
 use Rattle.std.proofs.lemmas.Int.{ints}
 use Rattle.std.proofs.lemmas.Option.{same_Some}
@@ -11,23 +11,25 @@ use Rattle.label_sets.specs.Notation.{read_set}
 use Rattle.label_sets.specs.SetText.{IsSetText}
 use Rattle.label_sets.specs.declared.label.Label.{Label}
 use Rattle.label_sets.specs.declared.label_refusal.LabelRefusal.{LabelRefusal}
+use Rattle.script_core.specs.declared.block.Block.{Block}
+use Rattle.script_core.specs.declared.body.Body.TheVariants.{Inline, OnShelf}
 use Rattle.script_core.specs.declared.cause.LineCause.TheVariants as causes
 use Rattle.script_core.specs.declared.line_refusal.LineRefusal.TheVariants.{Bad}
 use Rattle.moment_core.specs.declared.rules.Rules.{Rules}
 use Rattle.script_core.specs.declared.rule_kind.RuleKind.{RuleKind}
-use Rattle.script_core.specs.declared.rule_kind.RuleKind.TheVariants.{Valued, ReplicaLabel}
+use Rattle.script_core.specs.declared.rule_kind.RuleKind.TheVariants.{Valued, ReplicaLabel, Retention}
 use Rattle.moment_core.specs.declared.partition.Partition.{Partition}
 use Rattle.script_core.specs.Fields.{is_empty, next_field, only_field, rule_kind}
-use Rattle.script_core.specs.Values.{add_replica, apply_rule, set_rule, time_field}
-use Rattle.script_core.specs.Lines.{bad, rule_line, partition_field, gateway_line, block_line, whole_labels, last_labels}
-use Rattle.script_core.specs.State.{State, add_gateway, all_phases, begin_block, is_declared, script_of_state}
-use Rattle.script_core.specs.Spelling.{spaced, IsField, IsTimeText, outside, Sets, RuleLine, ReplicaLine, ArePartitionTexts, at_all_times, from_to, GatewayLine, BlockLine}
+use Rattle.script_core.specs.Values.{add_replica, apply_rule, set_rule, set_retention, retention_from, time_field}
+use Rattle.script_core.specs.Lines.{bad, rule_line, partition_field, gateway_line, block_line, whole_labels, last_labels, shelf_line}
+use Rattle.script_core.specs.State.{State, add_gateway, all_phases, begin_block, is_declared, script_of_state, add_shelf, all_blocks, with_last}
+use Rattle.script_core.specs.Spelling.{SoFar, spaced, IsField, IsTimeText, outside, Sets, RuleLine, ReplicaLine, RetentionLine, ArePartitionTexts, at_all_times, from_to, GatewayLine, BlockLine, ShelfLine, HasEnded, inside}
 use Rattle.script_core.proofs.FieldLaws.{no_space, Cut, cut_found}
-use Rattle.script_core.proofs.ValueLaws.{is_none_is, time_found, ulid_found, value_found}
-use Rattle.script_core.proofs.Kept.{Kept, so_far_of, gateway_kept, block_kept}
-use Rattle.script_core.proofs.LineTools.{is_field, cut_rest, cut_end, only_found, valued_found, replica_found, early_found}
+use Rattle.script_core.proofs.ValueLaws.{is_none_is, time_found, ulid_found, value_found, span_found}
+use Rattle.script_core.proofs.Kept.{Kept, so_far_of, gateway_kept, block_kept, shelf_kept}
+use Rattle.script_core.proofs.LineTools.{is_field, cut_rest, cut_end, only_found, valued_found, replica_found, retention_found, early_found, ended_again}
 use Rattle.script_core.proofs.SpelledValues.{near_spelled, free_spelled}
-use Rattle.script_core.proofs.SpelledRules.{rule_sets}
+use Rattle.script_core.proofs.SpelledRules.{rule_sets, keeps_for}
 use Rattle.script_core.specs.Limits.{most_blocks}
 
 -- what is left stands behind the line's word and a space
@@ -63,7 +65,7 @@ not_below low high h = let test = not-true (int_lt high low) h in grind (arith, 
 -- ---- partitions
 
 -- what is left behind a field, as its texts
-abbrev AreLeft : Option (List ℕ) → List (List ℕ) → Type 0
+abbrev pub AreLeft : Option (List ℕ) → List (List ℕ) → Type 0
 AreLeft rest [] = rest ≡ None
 AreLeft rest (text ∷ texts) = rest ≡ Some (spaced (text ∷ texts))
 
@@ -88,17 +90,21 @@ partition_found (Some text) partition h order =
     (low_text ∷ a.0 ∷ [], cut.0, from_to low_text a.0 refl low_at high_at order)
 
 -- a name with the texts behind it
-named_cut : (left : Option (List ℕ)) (name : List ℕ) (rest : Option (List ℕ)) (texts : List (List ℕ)) → Cut left name rest → not (is_empty name) ≡ true → AreLeft rest texts
+pub named_cut : (left : Option (List ℕ)) (name : List ℕ) (rest : Option (List ℕ)) (texts : List (List ℕ)) → Cut left name rest → not (is_empty name) ≡ true → AreLeft rest texts
     → (left ≡ Some (spaced (name ∷ texts))) × (no_space name ≡ true)
 named_cut left name rest [] cut some are = cut_end left name rest cut are some
 named_cut left name rest (text ∷ texts) cut some are = cut_rest left name rest (spaced (text ∷ texts)) cut are
+
+-- a rule line of one of the three kinds
+abbrev pub IsRuleLine : SoFar → List ℕ → SoFar → Type 0
+IsRuleLine before line after = RuleLine before line after ⊎ (ReplicaLine before line after ⊎ RetentionLine before line after)
 
 module _ (st after : State) (line : List ℕ) (left : Option (List ℕ)) (kept : Kept st) where
   -- a rule line by what it says, where all that a rule line asks for holds
   rule_by : (word text : List ℕ) (kind : RuleKind) (set : Rules) → IsField text → rule_kind word ≡ Some kind → apply_rule kind text st.rules ≡ Ok set
       → line ≡ codes "rule" ++ 32 ∷ (word ++ 32 ∷ text) → all_phases st.phases st.phase ≡ [] → record (closed st) { rules = set } ≡ after
-      → RuleLine (so_far_of st) line (so_far_of after) ⊎ ReplicaLine (so_far_of st) line (so_far_of after)
-  unfolding set_rule add_replica
+      → IsRuleLine (so_far_of st) line (so_far_of after)
+  unfolding set_rule add_replica set_retention
   rule_by word text (Valued name) set field known is spelled early same =
       let value = bind_ok _ _ _ is in
       inl (record {
@@ -116,17 +122,31 @@ module _ (st after : State) (line : List ℕ) (left : Option (List ℕ)) (kept :
   rule_by word text ReplicaLabel set field known is spelled early same =
       let named = unless_ok _ _ _ _ is in
       let made : record st.rules { replicas = st.rules.replicas ++ text ∷ [] } ≡ set = ok_is _ _ named.1 in
-      inr (record {
+      inr (inl (record {
         name = text;
         spelled = spelled ∙ ap (λ w. codes "rule" ++ 32 ∷ (w ++ 32 ∷ text)) (replica_found word known);
         field = field;
         is_name = named.0;
         early = early;
         adds = ap so_far_of (sym same) ∙ ap (λ (rules : Rules). outside (record (script_of_state st) { rules = rules })) (sym made);
-      })
+      }))
+  rule_by word text Retention set field known is spelled early same =
+      let span = bind_ok _ _ _ is in
+      let made : record st.rules { retention = retention_from span.0.ms } ≡ set = ok_is _ _ span.2 in
+      inr (inr (record {
+        text = text;
+        ms = span.0.ms;
+        spelled = spelled ∙ ap (λ w. codes "rule" ++ 32 ∷ (w ++ 32 ∷ text)) (retention_found word known);
+        field = field;
+        is_span = span_found text span.0 span.1;
+        early = early;
+        retention = retention_from span.0.ms;
+        keeps = keeps_for span.0.ms;
+        adds = ap so_far_of (sym same) ∙ ap (λ (rules : Rules). outside (record (script_of_state st) { rules = rules })) (sym made);
+      }))
 
   pub rule_line_found : Starts line (codes "rule") left → rule_line (closed st) left ≡ Ok after
-      → (RuleLine (so_far_of st) line (so_far_of after) ⊎ ReplicaLine (so_far_of st) line (so_far_of after)) × Kept after
+      → IsRuleLine (so_far_of st) line (so_far_of after) × Kept after
   unfolding rule_line
   rule_line_found starts h =
       let a = bind_ok _ _ _ h in
@@ -140,7 +160,7 @@ module _ (st after : State) (line : List ℕ) (left : Option (List ℕ)) (kept :
       let cut = cut_rest (Some a.0) word (next_field (Some a.0)).1 c.0 (cut_found (Some a.0)) text.0 in
       let spelled = starts a.0 (ok_or_ok _ _ _ a.1) ∙ ap (λ rest. codes "rule" ++ 32 ∷ rest) (same_Some a.0 (word ++ 32 ∷ c.0) cut.0) in (
         rule_by word c.0 b.0 d.0 text.1 (ok_or_ok _ _ _ b.1) (refused_as_ok _ _ _ d.1) spelled (early_found st.phases st.phase kept.tasks.no_phase e.0) same,
-        subst Kept same (record { blocks = kept.blocks; tasks = kept.tasks }),
+        subst Kept same (record { blocks = kept.blocks; follows = λ c. absurd cc; tasks = kept.tasks }),
       )
 
   pub gateway_line_found : Starts line (codes "gateway") left → gateway_line (closed st) left ≡ Ok after → GatewayLine (so_far_of st) line (so_far_of after) × Kept after
@@ -171,7 +191,7 @@ module _ (st after : State) (line : List ℕ) (left : Option (List ℕ)) (kept :
           few = ltb-true _ _ g.0;
           adds = ap so_far_of (sym same);
         },
-        subst Kept same (record { blocks = kept.blocks; tasks = gateway_kept st.gateways st.phases st.phase st.synced st.hands st.activities kept.tasks name (is_none_is st.phase d.0) }),
+        subst Kept same (record { blocks = kept.blocks; follows = λ c. absurd cc; tasks = gateway_kept st.gateways st.phases st.phase st.synced st.hands st.activities kept.tasks name (is_none_is st.phase d.0) }),
       )
 
   pub block_line_found : (number : ℕ) → Starts line (codes "block") left → block_line (closed st) number left ≡ Ok after → BlockLine (so_far_of st) line (so_far_of after) × Kept after
@@ -223,7 +243,43 @@ module _ (st after : State) (line : List ℕ) (left : Option (List ℕ)) (kept :
           times = below_is c.0 d.0 i.0;
           new = sym (kept.blocks.declared e.0) ∙ fresh;
           few = omega (arith, kept.blocks.count, few);
-          adds = ap so_far_of (sym same);
+          adds = ap so_far_of (sym same) ∙ ap (λ (bs : List Block). inside (record (script_of_state st) { blocks = bs })) (append-nil (all_blocks st.blocks st.last st.shelved ++ record { ulid = e.0; labels = f.0; body = Inline c.0 d.0 [] } ∷ []));
         },
-        subst Kept same (record { blocks = block_kept st.blocks st.last st.ulids kept.blocks (record { line = number; ulid = e.0; labels = f.0; min_time = c.0; max_time = d.0; series = [] }) refl fresh; tasks = kept.tasks }),
+        subst Kept same (record { blocks = block_kept st.blocks st.last st.shelved st.ulids kept.blocks (record { line = number; ulid = e.0; labels = f.0; min_time = c.0; max_time = d.0; series = [] }) refl fresh; follows = λ c. refl; tasks = kept.tasks }),
+      )
+
+  pub shelf_line_found : HasEnded (all_blocks st.blocks st.last st.shelved) → Starts line (codes "shelf") left → shelf_line (closed st) left ≡ Ok after → ShelfLine (so_far_of st) line (so_far_of after) × Kept after
+  unfolding shelf_line add_shelf
+  shelf_line_found ended starts h =
+      let ulid_text = (next_field left).0 in
+      let after_ulid = (next_field left).1 in
+      let a = unless_ok (not (is_empty ulid_text)) (Bad causes.BadShape) _ _ h in
+      let b = bind_ok _ _ _ a.1 in
+      let c = bind_ok _ _ _ b.2 in
+      let d = bind_ok _ _ _ c.2 in
+      let e = unless_ok _ _ _ _ d.2 in
+      let f = unless_ok _ _ _ _ e.1 in
+      let g = unless_ok _ _ _ _ f.1 in
+      let i = unless_ok _ _ _ _ g.1 in
+      let same = ok_is _ _ i.1 in
+      let set = labels_found after_ulid d.0 (subst (λ o. last_labels after_ulid ≡ Ok o) (ok_or_ok b.0 _ d.0 d.1) b.1) in
+      let first = cut_rest left ulid_text after_ulid set.0 (cut_found left) set.1 in
+      let fresh : is_declared st c.0 ≡ false = not-true _ g.0 in
+      let few : length st.ulids < most_blocks = ltb-true _ _ i.0 in
+      let new : Block = record { ulid = c.0; labels = d.0; body = OnShelf } in
+      let ends = ended_again st.blocks st.last st.shelved kept.blocks.ended ended in (
+        record {
+          ulid_text = ulid_text;
+          labels_text = set.0;
+          ulid = c.0;
+          labels = d.0;
+          spelled = starts (ulid_text ++ 32 ∷ set.0) first.0;
+          is_ulid = record { field = is_field ulid_text a.0 first.1; written = ulid_found ulid_text c.0 (refused_as_ok _ _ _ c.1); not_reserved = free_spelled (c.0 % 2 ^ 80) (not-true _ f.0) };
+          are_labels = set.2;
+          early = early_found st.phases st.phase kept.tasks.no_phase e.0;
+          new = sym (kept.blocks.declared c.0) ∙ fresh;
+          few = omega (arith, kept.blocks.count, few);
+          adds = ap so_far_of (sym same) ∙ ap (λ (bs : List Block). outside (record (script_of_state st) { blocks = bs })) (sym (append_assoc (with_last st.blocks st.last) st.shelved (new ∷ [])));
+        },
+        subst Kept same (record { blocks = shelf_kept st.blocks st.last st.shelved st.ulids kept.blocks new refl ends fresh; follows = λ c. absurd cc; tasks = kept.tasks }),
       )

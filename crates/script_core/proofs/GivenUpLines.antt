@@ -1,13 +1,11 @@
 -- A query that is given up, from its selector to its whole text.
-use Rattle.std.proofs.Common.{◌≡◌, ℕ, ◌≤◌, Bool, true, false, nat_lt, List, Option, Some, Result, Ok, Err, ◌⊎◌, inl, inr, refl, sym, ap, ◌∙◌, arith, length}
+use Rattle.std.proofs.Common.{◌≡◌, ℕ, true, false, nat_lt, List, Option, Some, Ok, Err, ◌⊎◌, inl, inr, refl, sym, ap, ◌∙◌, arith, length}
 use Rattle.std.specs.Str.{is_utf8}
 use Rattle.std.proofs.lemmas.Bool.Decides.{nat_tests}
 use Rattle.moment_core.specs.StandardRules.{standard_rules}
-use Rattle.script_core.specs.declared.cause.LineCause.TheVariants.{PatternSizeText}
 use Rattle.script_core.specs.declared.line_kind.LineKind.{LineKind}
 use Rattle.script_core.specs.declared.line_kind.LineKind.TheVariants as kinds
 use Rattle.script_core.specs.declared.line_refusal.LineRefusal.{LineRefusal}
-use Rattle.script_core.specs.declared.line_refusal.LineRefusal.TheVariants as lines
 use Rattle.script_core.specs.declared.script_refusal.ScriptRefusal.{ScriptRefusal}
 use Rattle.script_core.specs.Fields.{lines_of, is_silent, next_field, line_kind}
 use Rattle.script_core.specs.GivenUp.{IsSelectorGivenUp, IsQueryGivenUp, IsKindGivenUp, IsTextGivenUp, IsLineGivenUp, AreLinesGivenUp, IsWholeGivenUp}

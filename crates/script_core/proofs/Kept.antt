@@ -1,6 +1,7 @@
 -- What the state of the lines so far keeps beside the script so far.
-use Rattle.std.proofs.Common.{◌≡◌, ℕ, ◌+◌, suc, Bool, true, false, ◌==◌, ◌||◌, cond, List, [], ◌∷◌, ◌++◌, length, Option, Some, None, option_map, refl, sym, ap, ◌∙◌, subst, arith, append-nil, append_assoc}
-use Rattle.std.specs.List.{list_any}
+use Rattle.std.proofs.Common.{◌≡◌, ◌≢◌, ℕ, ◌+◌, suc, Bool, true, false, ◌==◌, ◌||◌, cond, List, [], ◌∷◌, ◌++◌, length, Option, Some, None, option_map, Ok, refl, sym, ap, ◌∙◌, subst, arith, append-nil, append_assoc}
+use Rattle.std.specs.List.{All, list_any}
+use Rattle.std.proofs.lemmas.List.Elements.{All-nil, All-push}
 use Rattle.std.specs.Ordering.{is_eq, match_ordering, nat_cmp}
 use Rattle.std.specs.declared.cmp.Ordering.{Ordering}
 use Rattle.std.specs.declared.cmp.Ordering.TheVariants.{Less, Equal, Greater}
@@ -19,13 +20,14 @@ use Rattle.moment_core.specs.declared.moment.Moment.{Moment}
 use Rattle.list_core.proofs.Bools.{same-from_Equal}
 use Rattle.list_core.proofs.Order.{sorted_nil}
 use Rattle.script_core.specs.declared.block.Block.{Block}
+use Rattle.script_core.specs.declared.body.Body.TheVariants.{OnShelf}
 use Rattle.script_workers.specs.declared.hand.Hand.{Hand}
 use Rattle.script_workers.specs.declared.phase.Phase.{Phase}
 use Rattle.script_core.specs.declared.script.Script.{Script}
 use Rattle.script_workers.specs.declared.task.Task.{Task}
 use Rattle.script_workers.specs.declared.work.Work.{Work}
 use Rattle.script_workers.specs.Hands.{gateway_count, with_hands, hands_of, hands_from}
-use Rattle.script_core.specs.State.{State, Last, start, block_of, all_blocks, all_phases, is_synced, with_series, script_of_state}
+use Rattle.script_core.specs.State.{State, Last, start, block_of, with_last, all_blocks, has_ended, all_phases, is_synced, with_series, script_of_state}
 use Rattle.script_core.specs.Spelling.{SoFar, nothing}
 use Rattle.script_workers.specs.Works.{works_in, works_of, is_sync_of, has_sync}
 use Rattle.script_core.specs.Blocks.{declares}
@@ -43,11 +45,13 @@ so_far_of st = at (script_of_state st) st.continues
 abbrev pub among : List ℕ → ℕ → Bool
 among ulids ulid = list_any (is_at (nat_cmp ulid)) ulids
 
--- the ULIDs are those of the blocks
-pub record KeepsBlocks (blocks : List Block) (last : Option Last) (ulids : List ℕ) : Type 0 where
+-- the ULIDs are those of the blocks, and the shelf's blocks stand behind an inline one that has ended
+pub record KeepsBlocks (blocks : List Block) (last : Option Last) (shelved : List Block) (ulids : List ℕ) : Type 0 where
   pub no_last : last ≡ None → blocks ≡ []
-  pub declared : (ulid : ℕ) → among ulids ulid ≡ declares (all_blocks blocks last) ulid
-  pub count : length ulids ≡ length (all_blocks blocks last)
+  pub on_shelf : All (λ (b : Block). b.body ≡ OnShelf) shelved
+  pub ended : shelved ≢ [] → has_ended last ≡ Ok tt
+  pub declared : (ulid : ℕ) → among ulids ulid ≡ declares (all_blocks blocks last shelved) ulid
+  pub count : length ulids ≡ length (all_blocks blocks last shelved)
   pub ascend : (block : Last) → last ≡ Some block → IsStrictlySortedBy compare_sets (labels_of block.series)
 
 -- what is kept of the tasks is what they give
@@ -58,13 +62,16 @@ pub record KeepsTasks (gateways : List (List ℕ)) (phases : List Phase) (phase 
   pub are_counted : activities ≡ length (works_of (all_phases phases phase))
 
 pub record Kept (st : State) : Type 0 where
-  pub blocks : KeepsBlocks st.blocks st.last st.ulids
+  pub blocks : KeepsBlocks st.blocks st.last st.shelved st.ulids
+  -- a series line follows no block of the shelf
+  pub follows : st.continues ≡ true → st.shelved ≡ []
   pub tasks : KeepsTasks st.gateways st.phases st.phase st.synced st.hands st.activities
 
 pub start_kept : Kept (start standard_rules)
 unfolding start
 start_kept = record {
-  blocks = record { no_last = λ _. refl; declared = λ _. refl; count = refl; ascend = λ block is. absurd cc };
+  blocks = record { no_last = λ _. refl; on_shelf = All-nil (λ (b : Block). b.body ≡ OnShelf); ended = λ some. refl; declared = λ _. refl; count = refl; ascend = λ block is. absurd cc };
+  follows = λ _. refl;
   tasks = record { no_phase = λ _. refl; are_synced = λ _. refl; are_hands = λ last is. absurd cc; are_counted = refl };
 }
 
@@ -111,25 +118,51 @@ pub declares-append : (blocks : List Block) (block : Block) (ulid : ℕ) → dec
 declares-append blocks block ulid =
     list_any-append (λ (b : Block). b.ulid == ulid) blocks (block ∷ []) ∙ ap (λ b. declares blocks ulid || b) (or-false (block.ulid == ulid))
 
-module _ (blocks : List Block) (last : Option Last) (ulids : List ℕ) (kept : KeepsBlocks blocks last ulids) where
-  -- one more block
-  pub block_kept : (new : Last) → new.series ≡ [] → among ulids new.ulid ≡ false → KeepsBlocks (all_blocks blocks last) (Some new) (insert_key nat_cmp ulids new.ulid)
+declares-nil : (blocks : List Block) (ulid : ℕ) → declares (blocks ++ []) ulid ≡ declares blocks ulid
+declares-nil blocks ulid = ap (λ bs. declares bs ulid) (append-nil blocks)
+
+module _ (blocks : List Block) (last : Option Last) (shelved : List Block) (ulids : List ℕ) (kept : KeepsBlocks blocks last shelved ulids) where
+  abbrev all : List Block
+  all = all_blocks blocks last shelved
+
+  -- one more inline block
+  pub block_kept : (new : Last) → new.series ≡ [] → among ulids new.ulid ≡ false → KeepsBlocks all (Some new) [] (insert_key nat_cmp ulids new.ulid)
   block_kept new none fresh =
       record {
         no_last = λ none. absurd cc;
-        declared = λ ulid. among-insert ulid new.ulid ulids ∙ ap (λ b. b || (new.ulid == ulid)) (kept.declared ulid) ∙ sym (declares-append (all_blocks blocks last) (block_of new) ulid);
-        count = length-insert new.ulid ulids fresh ∙ ap (λ n. n + 1) kept.count ∙ sym (length-append (all_blocks blocks last) (block_of new ∷ []));
+        on_shelf = All-nil (λ (b : Block). b.body ≡ OnShelf);
+        ended = λ some. absurd (some refl);
+        declared = λ ulid. among-insert ulid new.ulid ulids ∙ ap (λ b. b || (new.ulid == ulid)) (kept.declared ulid) ∙ sym (declares-append all (block_of new) ulid) ∙ sym (declares-nil (all ++ block_of new ∷ []) ulid);
+        count = length-insert new.ulid ulids fresh ∙ ap (λ n. n + 1) kept.count ∙ sym (length-append all (block_of new ∷ [])) ∙ sym (ap length (append-nil (all ++ block_of new ∷ [])));
         ascend = λ block is. subst (λ (series : List Series). IsStrictlySortedBy compare_sets (labels_of series)) (sym none ∙ ap (λ (l : Last). l.series) (same_Some new block is)) (sorted_nil compare_sets);
       }
 
--- one more series of the last block
-pub series_kept : (blocks : List Block) (last : Option Last) (ulids : List ℕ) (series : Series) → KeepsBlocks blocks last ulids → KeepsBlocks blocks (option_map (with_series series) last) ulids
+  -- one more block of the shelf
+  pub shelf_kept : (new : Block) → new.body ≡ OnShelf → has_ended last ≡ Ok tt → among ulids new.ulid ≡ false → KeepsBlocks blocks last (shelved ++ new ∷ []) (insert_key nat_cmp ulids new.ulid)
+  shelf_kept new is ends fresh =
+      let more : all ++ new ∷ [] ≡ all_blocks blocks last (shelved ++ new ∷ []) = append_assoc (with_last blocks last) shelved (new ∷ []) in
+      record {
+        no_last = kept.no_last;
+        on_shelf = All-push (λ (b : Block). b.body ≡ OnShelf) shelved new kept.on_shelf is;
+        ended = λ some. ends;
+        declared = λ ulid. among-insert ulid new.ulid ulids ∙ ap (λ b. b || (new.ulid == ulid)) (kept.declared ulid) ∙ sym (declares-append all new ulid) ∙ ap (λ bs. declares bs ulid) more;
+        count = length-insert new.ulid ulids fresh ∙ ap (λ n. n + 1) kept.count ∙ sym (length-append all (new ∷ [])) ∙ ap length more;
+        ascend = kept.ascend;
+      }
+
+-- one more series of the last block, behind which no block of the shelf stands
+pub series_kept : (blocks : List Block) (last : Option Last) (ulids : List ℕ) (series : Series) → KeepsBlocks blocks last [] ulids → KeepsBlocks blocks (option_map (with_series series) last) [] ulids
 series_kept blocks None ulids series kept = kept
 series_kept blocks (Some last) ulids series kept =
+    let same : (ulid : ℕ) → declares (all_blocks blocks (Some last) []) ulid ≡ declares (all_blocks blocks (Some (with_series series last)) []) ulid = λ ulid.
+    declares-nil (blocks ++ block_of last ∷ []) ulid ∙ declares-append blocks (block_of last) ulid
+    ∙ sym (declares-append blocks (block_of (with_series series last)) ulid) ∙ sym (declares-nil (blocks ++ block_of (with_series series last) ∷ []) ulid) in
     record {
       no_last = λ none. absurd cc;
-      declared = λ ulid. kept.declared ulid ∙ declares-append blocks (block_of last) ulid ∙ sym (declares-append blocks (block_of (with_series series last)) ulid);
-      count = kept.count ∙ length-append blocks (block_of last ∷ []) ∙ sym (length-append blocks (block_of (with_series series last) ∷ []));
+      on_shelf = kept.on_shelf;
+      ended = λ some. absurd (some refl);
+      declared = λ ulid. kept.declared ulid ∙ same ulid;
+      count = kept.count ∙ ap length (append-nil (blocks ++ block_of last ∷ [])) ∙ length-append blocks (block_of last ∷ []) ∙ sym (length-append blocks (block_of (with_series series last) ∷ [])) ∙ sym (ap length (append-nil (blocks ++ block_of (with_series series last) ∷ [])));
       ascend = λ block is. subst (λ (series : List Series). IsStrictlySortedBy compare_sets (labels_of series)) (ap (λ (l : Last). l.series) (same_Some (with_series series last) block is)) (sorted_insert last.series series (kept.ascend last refl));
     }
 

@@ -12,7 +12,7 @@ use Rattle.label_sets.specs.SetText.{IsSetText}
 use Rattle.label_sets.proofs.SetsAgain.{pair_shape_again}
 use Rattle.label_sets.proofs.Utf8Parts.{cut_front, cut_rest, unquoted}
 use Rattle.script_core.specs.Lawful.{AreLawfulLabels}
-use Rattle.script_core.specs.Spelling.{SoFar, spaced, AreSampleFields, BlockLine, SeriesLine}
+use Rattle.script_core.specs.Spelling.{SoFar, spaced, AreSampleFields, BlockLine, ShelfLine, SeriesLine}
 
 -- ---- the values of a label set
 
@@ -59,6 +59,9 @@ lawful_labels text labels utf8 is = record {
 second_field : (one two three : List ℕ) → IsUtf8 (spaced (one ∷ two ∷ three ∷ [])) → IsUtf8 two
 second_field one two three utf8 = cut_front two three 32 (omega arith) (cut_rest one (two ++ 32 ∷ three) 32 (omega arith) utf8)
 
+third_field : (one two three : List ℕ) → IsUtf8 (spaced (one ∷ two ∷ three ∷ [])) → IsUtf8 three
+third_field one two three utf8 = cut_rest two three 32 (omega arith) (cut_rest one (two ++ 32 ∷ three) 32 (omega arith) utf8)
+
 last_field : (one two three four five : List ℕ) → IsUtf8 (spaced (one ∷ two ∷ three ∷ four ∷ five ∷ [])) → IsUtf8 five
 last_field one two three four five utf8 =
     let behind_one : IsUtf8 (two ++ 32 ∷ (three ++ 32 ∷ (four ++ 32 ∷ five))) = cut_rest one (two ++ 32 ∷ (three ++ 32 ∷ (four ++ 32 ∷ five))) 32 (omega arith) utf8 in
@@ -69,6 +72,10 @@ module _ (before after : SoFar) (line : List ℕ) (utf8 : IsUtf8 line) where
   pub block_labels : (says : BlockLine before line after) → AreLawfulLabels says.labels
   block_labels says =
       lawful_labels says.labels_text says.labels (last_field (codes "block") says.ulid_text says.min_text says.max_text says.labels_text (subst IsUtf8 says.spelled utf8)) says.are_labels
+
+  pub shelf_labels : (says : ShelfLine before line after) → AreLawfulLabels says.labels
+  shelf_labels says =
+      lawful_labels says.labels_text says.labels (third_field (codes "shelf") says.ulid_text says.labels_text (subst IsUtf8 says.spelled utf8)) says.are_labels
 
   pub series_labels : (says : SeriesLine before line after) → AreLawfulLabels says.labels
   series_labels says =

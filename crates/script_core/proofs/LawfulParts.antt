@@ -1,5 +1,5 @@
 -- The parts of a lawful script stay lawful as lines are added.
-use Rattle.std.proofs.Common.{◌≡◌, ℕ, ◌+◌, ◌^◌, ◌<◌, ◌≤◌, ℤ, pos, negsuc, neg_ℤ, ◌≤ℤ◌, true, false, ◌==◌, ◌||◌, nat_eq, List, [], ◌∷◌, ◌++◌, length, map, get_or, refl, sym, ap, ◌∙◌, subst, arith, ◌⊎◌, inl, inr}
+use Rattle.std.proofs.Common.{◌≡◌, ℕ, zero, suc, ◌+◌, ◌^◌, ◌<◌, ◌≤◌, ℤ, pos, negsuc, neg_ℤ, ◌≤ℤ◌, Bool, true, false, ◌==◌, ◌||◌, nat_eq, List, [], ◌∷◌, ◌++◌, length, map, get_or, refl, sym, ap, ◌∙◌, subst, arith, ◌⊎◌, inl, inr}
 use Rattle.std.specs.List.{All, AllByRecursion, IsDistinct, list_any}
 use Rattle.std.specs.List.Sorted.{IsStrictlySortedBy, IsNonDecreasingBy}
 use Rattle.std.specs.Cmp.{IsTotalOrder}
@@ -16,7 +16,10 @@ use Rattle.label_sets.specs.Labels.{compare_sets}
 use Rattle.label_sets.specs.declared.label.Label.{Label}
 use Rattle.label_sets.specs.declared.series.Series.{Series}
 use Rattle.script_core.specs.declared.block.Block.{Block}
+use Rattle.std.proofs.lemmas.List.Quantifiers.{all_pairs_push}
+use Rattle.script_workers.specs.Works.{is_compaction, has_compaction, CompactOnce}
 use Rattle.script_workers.specs.declared.phase.Phase.{Phase}
+use Rattle.script_workers.specs.declared.task.Task.{Task}
 use Rattle.script_core.specs.Values.{is_time}
 use Rattle.script_core.specs.State.{insert_series}
 use Rattle.script_core.specs.Blocks.{declares}
@@ -151,3 +154,30 @@ moments_push phases new moments later i j d below inside =
           let last_is : get_or (phases ++ new ∷ []) j d ≡ new = get_or_at phases new [] d j at_end in
           subst (λ (p : Phase). (get_or (phases ++ new ∷ []) i d).moment.ms ≤ p.moment.ms) (sym last_is) (to_last phases new moments later i d (omega arith))
     ]
+
+-- ---- compactions
+
+none_of : (a b : Bool) → (a || b) ≡ false → (a ≡ false) × (b ≡ false)
+none_of true b h = absurd cc
+none_of false b h = (refl, h)
+
+-- where no task is a compaction, none of them is
+each_other : (tasks : List Task) → has_compaction tasks ≡ false → (k : ℕ) (d : Task) → k < length tasks → is_compaction (get_or tasks k d).work ≡ false
+each_other [] none k d inside = absurd (omega (arith, inside))
+each_other (task ∷ tasks) none zero d inside = (none_of (is_compaction task.work) (has_compaction tasks) none).0
+each_other (task ∷ tasks) none (suc k) d inside =
+    each_other tasks (none_of (is_compaction task.work) (has_compaction tasks) none).1 k d (omega (arith, inside))
+
+-- another compaction would be the second one
+not_second : (one other : Bool) → (other ≡ true → one ≡ false) → one ≡ true → other ≡ false
+not_second one true first is = let none = first refl in absurd cc
+not_second one false first is = refl
+
+-- one more task, where it is no compaction or the first one
+pub compacts_push : (tasks : List Task) (task : Task) → CompactOnce tasks → (is_compaction task.work ≡ true → has_compaction tasks ≡ false) → CompactOnce (tasks ++ task ∷ [])
+compacts_push tasks task once first =
+    all_pairs_push (λ (one other : Task). is_compaction one.work ≡ true → is_compaction other.work ≡ false) tasks task once
+    (λ k d inside. not_second (is_compaction (get_or tasks k d).work) (is_compaction task.work) (λ is. each_other tasks (first is) k d inside))
+
+pub compacts_nil : CompactOnce []
+compacts_nil = λ i j d below inside. absurd (omega (arith, inside))

@@ -1,5 +1,5 @@
 -- What is spelled is lawful.
-use Rattle.std.proofs.Common.{◌≡◌, ◌≢◌, ℕ, ◌+◌, ◌%◌, ◌^◌, ◌<◌, ◌≤◌, ℤ, Bool, true, false, cond, nat_eq, nat_lt, List, [], ◌∷◌, ◌++◌, length, get_or, Some, None, refl, sym, ap, ◌∙◌, subst, arith, inl, inr, append_assoc, append-nil}
+use Rattle.std.proofs.Common.{◌≡◌, ◌≢◌, ℕ, ◌+◌, ◌%◌, ◌^◌, ◌<◌, ◌≤◌, ℤ, Bool, true, false, cond, nat_eq, nat_lt, List, [], ◌∷◌, ◌++◌, length, get_or, Option, Some, None, refl, sym, ap, ◌∙◌, subst, arith, inl, inr, append_assoc, append-nil}
 use Rattle.std.specs.Bool.{MatchBool}
 use Rattle.std.specs.List.{All, IsDistinct, position_or_len}
 use Rattle.std.specs.List.Sorted.{IsNonDecreasingBy}
@@ -16,28 +16,29 @@ use Rattle.label_sets.specs.declared.series.Series.{Series}
 use Rattle.matchers.specs.declared.matcher.Matcher.{Matcher}
 use Rattle.moment_core.specs.declared.partition.Partition.{Partition}
 use Rattle.moment_core.specs.declared.rules.Rules.{Rules}
+use Rattle.moment_core.specs.declared.span.Span.{Span}
 use Rattle.list_core.proofs.Order.{sorted_nil}
 use Rattle.script_core.specs.declared.block.Block.{Block}
-use Rattle.script_core.specs.declared.body.Body.TheVariants.{Inline}
+use Rattle.script_core.specs.declared.body.Body.TheVariants.{Inline, OnShelf}
 use Rattle.script_workers.specs.declared.phase.Phase.{Phase}
 use Rattle.script_core.specs.declared.rule_name.RuleName.{RuleName}
 use Rattle.script_core.specs.declared.rule_name.RuleName.TheVariants as names
 use Rattle.script_core.specs.declared.script.Script.{Script}
 use Rattle.script_workers.specs.declared.task.Task.{Task}
 use Rattle.script_workers.specs.declared.work.Work.{Work}
-use Rattle.script_workers.specs.declared.work.Work.TheVariants.{Upload, Sync, Query}
+use Rattle.script_workers.specs.declared.work.Work.TheVariants.{Upload, Sync, Compact, Clean, Query}
 use Rattle.script_core.specs.Fields.{lines_of, is_silent}
 use Rattle.script_workers.specs.Hands.{gateway_count, hands_of, hands_from}
 use Rattle.script_core.specs.State.{gateway_named}
 use Rattle.script_core.specs.Values.{with_rule, agree}
-use Rattle.script_workers.specs.Works.{works_in, works_of, has_sync}
-use Rattle.script_core.specs.Lawful.{AreLawfulRules, AreLawfulLabels, HasLawfulSamples, IsLawfulInline, HasSeries, IsLawfulBlock, AreLawfulBlocks, IsLawfulWork, IsLawfulPhase, AreLawfulPhases, IsLawfulPartition, IsLawfulSelector, IsLawfulScript}
+use Rattle.script_workers.specs.Works.{works_in, works_of, has_sync, is_compaction, has_compaction, CompactOnce}
+use Rattle.script_core.specs.Lawful.{AreLawfulRules, AreLawfulLabels, HasLawfulSamples, IsLawfulInline, HasSeries, IsLawfulBlock, AreLawfulBlocks, IsLawfulRetention, IsLawfulStop, IsLawfulWork, IsLawfulPhase, AreLawfulPhases, IsLawfulPartition, IsLawfulSelector, IsLawfulScript}
 use Rattle.script_core.specs.Spelling as spelling
-use Rattle.script_core.specs.Spelling.{SoFar, HasEnded, IsValueText, AreSampleFields, RuleLine, ReplicaLine, ArePartitionTexts, GatewayLine, BlockLine, SeriesLine, AtLine, AddsTask, UploadLine, SyncLine, QueryLine, Says, Say, Spells}
+use Rattle.script_core.specs.Spelling.{SoFar, HasEnded, IsValueText, AreSampleFields, RuleLine, ReplicaLine, KeepsFor, RetentionLine, ArePartitionTexts, GatewayLine, BlockLine, ShelfLine, SeriesLine, AtLine, AddsTask, AreStopTexts, UploadLine, SyncLine, CompactLine, CleanLine, QueryLine, Says, Say, Spells}
 use Rattle.script_core.proofs.Kept.{works_of-append, works_of-more}
 use Rattle.script_core.proofs.LineTools.{no_end}
-use Rattle.script_core.proofs.LawfulLabels.{block_labels, series_labels, small_patterns}
-use Rattle.script_core.proofs.LawfulParts.{ends, All-front, All-last, once_push, same_ulids, ulids_of, moments_push}
+use Rattle.script_core.proofs.LawfulLabels.{block_labels, shelf_labels, series_labels, small_patterns}
+use Rattle.script_core.proofs.LawfulParts.{compacts_push, compacts_nil, ends, All-front, All-last, once_push, same_ulids, ulids_of, moments_push}
 use Rattle.script_core.proofs.SpelledValues.{free_tested, agree_tested, within_tested}
 use Rattle.script_core.proofs.SpelledSeries.{each_placed}
 use Rattle.script_workers.proofs.HandLaws.{few_counted}
@@ -83,13 +84,13 @@ early_selectors replicas selectors none = subst (All (IsLawfulSelector replicas)
 -- ---- rules, gateways and blocks
 
 lawful_rule : (name : RuleName) (text : List ℕ) (value : ℕ) (rules : Rules) → IsValueText name text value → AreLawfulRules rules → AreLawfulRules (with_rule name value rules)
-lawful_rule names.Consistency text value rules is lawful = record { consistency = is.at_most; ignore = lawful.ignore; delete = lawful.delete; partial = lawful.partial; upload = lawful.upload; tick = lawful.tick; page_limit_low = lawful.page_limit_low; page_limit_high = lawful.page_limit_high; replicas = lawful.replicas }
-lawful_rule names.Ignore text value rules is lawful = record { consistency = lawful.consistency; ignore = is.at_most; delete = lawful.delete; partial = lawful.partial; upload = lawful.upload; tick = lawful.tick; page_limit_low = lawful.page_limit_low; page_limit_high = lawful.page_limit_high; replicas = lawful.replicas }
-lawful_rule names.Delete text value rules is lawful = record { consistency = lawful.consistency; ignore = lawful.ignore; delete = is.at_most; partial = lawful.partial; upload = lawful.upload; tick = lawful.tick; page_limit_low = lawful.page_limit_low; page_limit_high = lawful.page_limit_high; replicas = lawful.replicas }
-lawful_rule names.Partial text value rules is lawful = record { consistency = lawful.consistency; ignore = lawful.ignore; delete = lawful.delete; partial = is.at_most; upload = lawful.upload; tick = lawful.tick; page_limit_low = lawful.page_limit_low; page_limit_high = lawful.page_limit_high; replicas = lawful.replicas }
-lawful_rule names.Upload text value rules is lawful = record { consistency = lawful.consistency; ignore = lawful.ignore; delete = lawful.delete; partial = lawful.partial; upload = is.at_most; tick = lawful.tick; page_limit_low = lawful.page_limit_low; page_limit_high = lawful.page_limit_high; replicas = lawful.replicas }
-lawful_rule names.Tick text value rules is lawful = record { consistency = lawful.consistency; ignore = lawful.ignore; delete = lawful.delete; partial = lawful.partial; upload = lawful.upload; tick = is.1; page_limit_low = lawful.page_limit_low; page_limit_high = lawful.page_limit_high; replicas = lawful.replicas }
-lawful_rule names.PageLimit text value rules is lawful = record { consistency = lawful.consistency; ignore = lawful.ignore; delete = lawful.delete; partial = lawful.partial; upload = lawful.upload; tick = lawful.tick; page_limit_low = is.1; page_limit_high = is.2; replicas = lawful.replicas }
+lawful_rule names.Consistency text value rules is lawful = record { consistency = is.at_most; ignore = lawful.ignore; delete = lawful.delete; partial = lawful.partial; upload = lawful.upload; tick = lawful.tick; page_limit_low = lawful.page_limit_low; page_limit_high = lawful.page_limit_high; replicas = lawful.replicas; retention = lawful.retention }
+lawful_rule names.Ignore text value rules is lawful = record { consistency = lawful.consistency; ignore = is.at_most; delete = lawful.delete; partial = lawful.partial; upload = lawful.upload; tick = lawful.tick; page_limit_low = lawful.page_limit_low; page_limit_high = lawful.page_limit_high; replicas = lawful.replicas; retention = lawful.retention }
+lawful_rule names.Delete text value rules is lawful = record { consistency = lawful.consistency; ignore = lawful.ignore; delete = is.at_most; partial = lawful.partial; upload = lawful.upload; tick = lawful.tick; page_limit_low = lawful.page_limit_low; page_limit_high = lawful.page_limit_high; replicas = lawful.replicas; retention = lawful.retention }
+lawful_rule names.Partial text value rules is lawful = record { consistency = lawful.consistency; ignore = lawful.ignore; delete = lawful.delete; partial = is.at_most; upload = lawful.upload; tick = lawful.tick; page_limit_low = lawful.page_limit_low; page_limit_high = lawful.page_limit_high; replicas = lawful.replicas; retention = lawful.retention }
+lawful_rule names.Upload text value rules is lawful = record { consistency = lawful.consistency; ignore = lawful.ignore; delete = lawful.delete; partial = lawful.partial; upload = is.at_most; tick = lawful.tick; page_limit_low = lawful.page_limit_low; page_limit_high = lawful.page_limit_high; replicas = lawful.replicas; retention = lawful.retention }
+lawful_rule names.Tick text value rules is lawful = record { consistency = lawful.consistency; ignore = lawful.ignore; delete = lawful.delete; partial = lawful.partial; upload = lawful.upload; tick = is.1; page_limit_low = lawful.page_limit_low; page_limit_high = lawful.page_limit_high; replicas = lawful.replicas; retention = lawful.retention }
+lawful_rule names.PageLimit text value rules is lawful = record { consistency = lawful.consistency; ignore = lawful.ignore; delete = lawful.delete; partial = lawful.partial; upload = lawful.upload; tick = lawful.tick; page_limit_low = is.1; page_limit_high = is.2; replicas = lawful.replicas; retention = lawful.retention }
 
 -- with the last block complete, all blocks are
 all_full : (blocks : List Block) → ((others : List Block) (block : Block) → blocks ≡ others ++ block ∷ [] → All (λ (b : Block). HasSeries b.body) others) → HasEnded blocks → All (λ (b : Block). HasSeries b.body) blocks
@@ -107,6 +108,15 @@ some_samples (text ∷ texts) (sample ∷ samples) some are none = cc
 lawful_partition : (texts : List (List ℕ)) (partition : Partition) → ArePartitionTexts texts partition → IsLawfulPartition partition
 lawful_partition texts partition (spelling.at_all_times none is) = inl is
 lawful_partition texts partition (spelling.from_to low_text high_text are low high order) = inr (low.near.early, order, high.near.late)
+
+lawful_retention : (ms : ℕ) (retention : Option Span) → ms ≤ 2 ^ 46 → KeepsFor ms retention → IsLawfulRetention retention
+lawful_retention ms retention fits (spelling.for_ever none is) = subst IsLawfulRetention (sym is) tt
+lawful_retention ms retention fits (spelling.so_long some is) = subst IsLawfulRetention (sym is) (some, fits)
+
+lawful_stop : (texts : List (List ℕ)) (stop : Option ℕ) → AreStopTexts texts stop → IsLawfulStop stop
+lawful_stop texts stop (spelling.no_stop none is) = subst IsLawfulStop (sym is) tt
+lawful_stop texts stop (spelling.stops_at text count are field written low high is) =
+    subst IsLawfulStop (sym is) (low, high)
 
 module _ (before after : SoFar) (line : List ℕ) (order : InOrder before) where
   rule_in_order : RuleLine before line after → InOrder after
@@ -137,6 +147,34 @@ module _ (before after : SoFar) (line : List ℕ) (order : InOrder before) where
       page_limit_low = order.rules.page_limit_low;
       page_limit_high = order.rules.page_limit_high;
       replicas = All-push (λ name. is_name name ≡ true) before.script.rules.replicas says.name order.rules.replicas says.is_name;
+      retention = order.rules.retention;
+    };
+    agreed = λ some. absurd (some says.early);
+    few_gateways = order.few_gateways;
+    names = order.names;
+    partitioned = order.partitioned;
+    partitions = order.partitions;
+    blocks = order.blocks;
+    full = order.full;
+    selectors = early_selectors _ before.script.selectors (order.none_selected says.early);
+    none_selected = order.none_selected;
+    phases = order.phases;
+    early = λ e. absurd cc;
+  })
+
+  retention_in_order : RetentionLine before line after → InOrder after
+  retention_in_order says = subst InOrder (sym says.adds) (record {
+    rules = record {
+      consistency = order.rules.consistency;
+      ignore = order.rules.ignore;
+      delete = order.rules.delete;
+      partial = order.rules.partial;
+      upload = order.rules.upload;
+      tick = order.rules.tick;
+      page_limit_low = order.rules.page_limit_low;
+      page_limit_high = order.rules.page_limit_high;
+      replicas = order.rules.replicas;
+      retention = lawful_retention says.ms says.retention says.is_span.at_most says.keeps;
     };
     agreed = λ some. absurd (some says.early);
     few_gateways = order.few_gateways;
@@ -200,6 +238,35 @@ module _ (before after : SoFar) (line : List ℕ) (order : InOrder before) where
         early = λ e. says.early;
       })
 
+  shelf_in_order : IsUtf8 line → HasEnded before.script.blocks → ShelfLine before line after → InOrder after
+  shelf_in_order utf8 ended says =
+      let new : Block = record { ulid = says.ulid; labels = says.labels; body = OnShelf } in
+      let size = length-append before.script.blocks (new ∷ []) in
+      let few = says.few in
+      subst InOrder (sym says.adds) (record {
+        rules = order.rules;
+        agreed = order.agreed;
+        few_gateways = order.few_gateways;
+        names = order.names;
+        partitioned = order.partitioned;
+        partitions = order.partitions;
+        blocks = record {
+          few = omega arith;
+          each = All-push IsLawfulBlock before.script.blocks new order.blocks.each (record {
+            ulid = says.is_ulid.written.fits;
+            not_reserved = free_tested (says.ulid % 2 ^ 80) says.is_ulid.not_reserved;
+            labels = shelf_labels before after line utf8 says;
+            body = tt;
+          });
+          once = once_push before.script.blocks new order.blocks.once says.new;
+        };
+        full = λ others block is. subst (All (λ (b : Block). HasSeries b.body)) (same_from_push before.script.blocks others new block is).0 (all_full before.script.blocks order.full ended);
+        selectors = order.selectors;
+        none_selected = order.none_selected;
+        phases = early_phases before.script.gateways _ (length before.script.selectors) before.script.phases says.early;
+        early = λ e. absurd cc;
+      })
+
   series_in_order : IsUtf8 line → SeriesLine before line after → InOrder after
   series_in_order utf8 says =
       let new : Series = record { labels = says.labels; samples = says.samples } in
@@ -257,6 +324,7 @@ phase_in_order gateways blocks selectors phases phase lawful none below later =
         moment = below;
         tasks = subst (All (λ (task : Task). IsLawfulWork gateways blocks selectors task.work)) (sym none) (All-nil (λ (task : Task). IsLawfulWork gateways blocks selectors task.work));
         few_workers = subst (λ tasks. length (hands_of (gateway_count gateways) tasks) ≤ most_workers) (sym none) (no_workers (gateway_count gateways));
+        compacts_once = subst CompactOnce (sym none) compacts_nil;
       });
       moments = moments_push phases phase lawful.moments later;
       few_tasks = subst (λ works. length works ≤ most_tasks) (sym same) lawful.few_tasks;
@@ -295,8 +363,8 @@ sync_by gateways works work old new before after low high selector gateway is in
           old before more.0 low high selector gateway p.0 inside
     ]
 
-task_in_order : (before after : Script) (selectors number : ℕ) (work : Work) → AreLawfulPhases before.gateways before.blocks selectors before.phases → AddsTask before number work after → IsLawfulWork before.gateways before.blocks selectors work → ((low high : ℤ) (selector gateway : ℕ) → work ≡ Query low high selector → gateway < length before.gateways → has_sync (works_of before.phases) gateway ≡ true) → AreLawfulPhases before.gateways before.blocks selectors after.phases
-task_in_order before after selectors number work lawful adds fits syncs =
+task_in_order : (before after : Script) (selectors number : ℕ) (work : Work) → AreLawfulPhases before.gateways before.blocks selectors before.phases → (adds : AddsTask before number work after) → IsLawfulWork before.gateways before.blocks selectors work → (is_compaction work ≡ true → has_compaction adds.phase.tasks ≡ false) → ((low high : ℤ) (selector gateway : ℕ) → work ≡ Query low high selector → gateway < length before.gateways → has_sync (works_of before.phases) gateway ≡ true) → AreLawfulPhases before.gateways before.blocks selectors after.phases
+task_in_order before after selectors number work lawful adds fits first syncs =
     let task : Task = record { line = number; work = work } in
     let old : Phase = adds.phase in
     let new : Phase = record old { tasks = old.tasks ++ task ∷ [] } in
@@ -310,10 +378,11 @@ task_in_order before after selectors number work lawful adds fits syncs =
         moment = last.moment;
         tasks = All-push (λ (t : Task). IsLawfulWork before.gateways before.blocks selectors t.work) old.tasks task last.tasks fits;
         few_workers = few_counted (gateway_count before.gateways) (old.tasks ++ task ∷ []) adds.few_workers;
+        compacts_once = compacts_push old.tasks task last.compacts_once first;
       });
       moments = same_moments adds.others old new refl (subst (IsNonDecreasingBy (λ (p : Phase). p.moment.ms)) adds.last lawful.moments);
       few_tasks = omega arith;
-      synced = λ first rest low high selector gateway is inside. sync_by (length before.gateways) (works_of before.phases) work lawful.synced syncs first rest low high selector gateway (sym works ∙ is) inside;
+      synced = λ front rest low high selector gateway is inside. sync_by (length before.gateways) (works_of before.phases) work lawful.synced syncs front rest low high selector gateway (sym works ∙ is) inside;
     } in
     subst (AreLawfulPhases before.gateways before.blocks selectors) (ap (λ (s : Script). s.phases) (sym adds.adds)) phases
 
@@ -333,6 +402,8 @@ named_inside gateways name gateway named =
 more_selectors : (gateways : List (List ℕ)) (blocks : List Block) (selectors : ℕ) (work : Work) → IsLawfulWork gateways blocks selectors work → IsLawfulWork gateways blocks (selectors + 1) work
 more_selectors gateways blocks selectors (Upload ulid stop) lawful = lawful
 more_selectors gateways blocks selectors (Sync gateway) lawful = lawful
+more_selectors gateways blocks selectors (Compact stop) lawful = lawful
+more_selectors gateways blocks selectors (Clean stop) lawful = lawful
 more_selectors gateways blocks selectors (Query low high selector) lawful =
     let below = lawful.3 in (lawful.0, lawful.1, lawful.2, omega arith)
 
@@ -342,6 +413,7 @@ selector_in_order gateways blocks selectors phases lawful = record {
     moment = is.moment;
     tasks = All-weaker (λ (t : Task). IsLawfulWork gateways blocks selectors t.work) (λ (t : Task). IsLawfulWork gateways blocks (selectors + 1) t.work) (λ task fits. more_selectors gateways blocks selectors task.work fits) phase.tasks is.tasks;
     few_workers = is.few_workers;
+    compacts_once = is.compacts_once;
   }) phases lawful.each;
   moments = lawful.moments;
   few_tasks = lawful.few_tasks;
@@ -392,11 +464,19 @@ module _ (before after : SoFar) (number : ℕ) (line : List ℕ) (order : InOrde
 
   upload_in_order : UploadLine before number line after → InOrder after
   upload_in_order says =
-      subst InOrder (sym says.adds) (with_task says.script (Upload says.ulid None) says.task (task_in_order before.script says.script (length before.script.selectors) number (Upload says.ulid None) order.phases says.task says.declared (λ low high selector gateway is inside. absurd cc)))
+      subst InOrder (sym says.adds) (with_task says.script (Upload says.ulid says.stop) says.task (task_in_order before.script says.script (length before.script.selectors) number (Upload says.ulid says.stop) order.phases says.task (says.declared, lawful_stop says.texts says.stop says.are_texts) (λ is. absurd cc) (λ low high selector gateway is inside. absurd cc)))
 
   sync_in_order : SyncLine before number line after → InOrder after
   sync_in_order says =
-      subst InOrder (sym says.adds) (with_task says.script (Sync says.gateway) says.task (task_in_order before.script says.script (length before.script.selectors) number (Sync says.gateway) order.phases says.task (named_inside before.script.gateways says.name says.gateway says.declared) (λ low high selector gateway is inside. absurd cc)))
+      subst InOrder (sym says.adds) (with_task says.script (Sync says.gateway) says.task (task_in_order before.script says.script (length before.script.selectors) number (Sync says.gateway) order.phases says.task (named_inside before.script.gateways says.name says.gateway says.declared) (λ is. absurd cc) (λ low high selector gateway is inside. absurd cc)))
+
+  compact_in_order : CompactLine before number line after → InOrder after
+  compact_in_order says =
+      subst InOrder (sym says.adds) (with_task says.script (Compact says.stop) says.task (task_in_order before.script says.script (length before.script.selectors) number (Compact says.stop) order.phases says.task (lawful_stop says.texts says.stop says.are_texts) (λ is. says.first) (λ low high selector gateway is inside. absurd cc)))
+
+  clean_in_order : CleanLine before number line after → InOrder after
+  clean_in_order says =
+      subst InOrder (sym says.adds) (with_task says.script (Clean says.stop) says.task (task_in_order before.script says.script (length before.script.selectors) number (Clean says.stop) order.phases says.task (lawful_stop says.texts says.stop says.are_texts) (λ is. absurd cc) (λ low high selector gateway is inside. absurd cc)))
 
   query_in_order : QueryLine before number line after → InOrder after
   query_in_order says =
@@ -405,7 +485,7 @@ module _ (before after : SoFar) (number : ℕ) (line : List ℕ) (order : InOrde
       let adds = says.task in
       let script : Script = record before.script { phases = adds.others ++ record adds.phase { tasks = adds.phase.tasks ++ record { line = number; work = work } ∷ [] } ∷ [] } in
       let fits : IsLawfulWork before.script.gateways before.script.blocks (selectors + 1) work = (says.is_low.near.early, says.times, says.is_high.near.late, omega arith) in
-      let phases = task_in_order before.script says.script (selectors + 1) number work (selector_in_order before.script.gateways before.script.blocks selectors before.script.phases order.phases) adds fits (λ low high selector gateway is inside. says.synced gateway inside) in
+      let phases = task_in_order before.script says.script (selectors + 1) number work (selector_in_order before.script.gateways before.script.blocks selectors before.script.phases order.phases) adds fits (λ is. absurd cc) (λ low high selector gateway is inside. says.synced gateway inside) in
       let moved : AreLawfulPhases before.script.gateways before.script.blocks (selectors + 1) script.phases = subst (AreLawfulPhases before.script.gateways before.script.blocks (selectors + 1)) (ap (λ (s : Script). s.phases) adds.adds) phases in
       let all : InOrder (spelling.outside (record script { selectors = before.script.selectors ++ says.selector ∷ [] })) = record {
         rules = order.rules;
@@ -427,11 +507,15 @@ module _ (before after : SoFar) (number : ℕ) (line : List ℕ) (order : InOrde
   says_in_order utf8 (spelling.series says) = series_in_order before after line order utf8 says
   says_in_order utf8 (spelling.rule ended says) = rule_in_order before after line order says
   says_in_order utf8 (spelling.replica ended says) = replica_in_order before after line order says
+  says_in_order utf8 (spelling.retention ended says) = retention_in_order before after line order says
   says_in_order utf8 (spelling.gateway ended says) = gateway_in_order before after line order says
   says_in_order utf8 (spelling.block ended says) = block_in_order before after line order utf8 ended says
+  says_in_order utf8 (spelling.shelf ended says) = shelf_in_order before after line order utf8 ended says
   says_in_order utf8 (spelling.at ended says) = at_in_order says
   says_in_order utf8 (spelling.upload ended says) = upload_in_order says
   says_in_order utf8 (spelling.sync ended says) = sync_in_order says
+  says_in_order utf8 (spelling.compact ended says) = compact_in_order says
+  says_in_order utf8 (spelling.clean ended says) = clean_in_order says
   says_in_order utf8 (spelling.query ended says) = query_in_order says
 
 -- ---- whole texts
@@ -452,7 +536,7 @@ none_once = tt
 
 nothing_in_order : InOrder spelling.nothing
 nothing_in_order = record {
-  rules = record { consistency = omega arith; ignore = omega arith; delete = omega arith; partial = omega arith; upload = omega arith; tick = omega arith; page_limit_low = omega arith; page_limit_high = omega arith; replicas = All-nil (λ name. is_name name ≡ true) };
+  rules = record { consistency = omega arith; ignore = omega arith; delete = omega arith; partial = omega arith; upload = omega arith; tick = omega arith; page_limit_low = omega arith; page_limit_high = omega arith; replicas = All-nil (λ name. is_name name ≡ true); retention = tt };
   agreed = λ some. absurd (some refl);
   few_gateways = omega arith;
   names = All-nil (λ name. is_name name ≡ true);

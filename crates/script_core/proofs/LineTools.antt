@@ -1,5 +1,5 @@
 -- What the laws of lines share: first words, what follows them, ends of lists, and the ends of blocks.
-use Rattle.std.proofs.Common.{◌≡◌, ◌≢◌, ℕ, Bool, true, false, not, ◌==◌, ◌&&◌, cond, List, [], ◌∷◌, ◌++◌, length, Option, Some, None, is_none, option_map, Result, Ok, refl, sym, ap, ◌∙◌, subst, arith, codes}
+use Rattle.std.proofs.Common.{◌≡◌, ◌≢◌, ℕ, Bool, true, false, not, ◌==◌, ◌&&◌, cond, List, [], ◌∷◌, ◌++◌, length, Option, Some, None, is_none, option_map, Result, Ok, refl, sym, ap, ◌∙◌, subst, arith, codes, inl, inr, append-nil, append_assoc}
 use Rattle.std.specs.Str.{bytes_eq}
 use Rattle.std.proofs.lemmas.Bool.Decides.{nat_tests}
 use Rattle.std.proofs.lemmas.Option.{same_Some}
@@ -13,19 +13,21 @@ use Rattle.std.proofs.lemmas.Bool.{and_parts, not-true, not_from_false}
 use Rattle.list_core.proofs.Bools.{bytes_eq-same}
 use Rattle.list_core.proofs.Lists.{nil_not_middle, some-from_length, length-some}
 use Rattle.script_core.specs.declared.block.Block.{Block}
+use Rattle.script_core.specs.declared.body.Body.TheVariants.{OnShelf}
 use Rattle.script_core.specs.declared.cause.LineCause.TheVariants.{BadShape}
 use Rattle.script_core.specs.declared.line_kind.LineKind.{LineKind}
 use Rattle.script_core.specs.declared.line_kind.LineKind.TheVariants as kinds
 use Rattle.script_workers.specs.declared.phase.Phase.{Phase}
 use Rattle.script_core.specs.declared.rule_kind.RuleKind.{RuleKind}
-use Rattle.script_core.specs.declared.rule_kind.RuleKind.TheVariants.{Valued, ReplicaLabel}
+use Rattle.script_core.specs.declared.rule_kind.RuleKind.TheVariants.{Valued, ReplicaLabel, Retention}
 use Rattle.script_core.specs.declared.rule_name.RuleName.{RuleName}
 use Rattle.script_core.specs.declared.rule_name.RuleName.TheVariants as names
 use Rattle.script_core.specs.Fields.{is_empty, next_field, only_field, line_words, rule_words, line_kind, rule_kind, rule_name}
-use Rattle.script_core.specs.State.{Last, block_of, all_blocks, all_phases, has_ended}
+use Rattle.script_core.specs.State.{Last, block_of, with_last, all_blocks, all_phases, has_ended}
 use Rattle.script_core.specs.Lawful.{HasSeries}
 use Rattle.script_core.specs.Spelling.{IsField, rule_word, HasEnded}
 use Rattle.script_core.proofs.FieldLaws.{no_space, Cut, cut_nothing, cut_whole, cut_front, cut_found, cut_last}
+use Rattle.script_core.proofs.LawfulParts.{ends, All-last}
 use Rattle.script_core.proofs.ValueLaws.{is_none_is}
 
 -- ---- steps
@@ -83,9 +85,12 @@ line_word kinds.Rule = codes "rule"
 line_word kinds.Gateway = codes "gateway"
 line_word kinds.Block = codes "block"
 line_word kinds.Series = codes "series"
+line_word kinds.Shelf = codes "shelf"
 line_word kinds.At = codes "at"
 line_word kinds.Upload = codes "upload"
 line_word kinds.Sync = codes "sync"
+line_word kinds.Compact = codes "compact"
+line_word kinds.Clean = codes "clean"
 line_word kinds.Query = codes "query"
 
 -- what is found in a table of words has the word that was sought
@@ -95,30 +100,47 @@ word_found {K} word_of table word found all h =
 
 pub kind_found : (word : List ℕ) (found : LineKind) → line_kind word ≡ Some found → word ≡ line_word found
 kind_found word found =
-    word_found line_word line_words word found (All-from_recursion (λ (e : List ℕ × LineKind). e.0 ≡ line_word e.1) line_words (refl, (refl, (refl, (refl, (refl, (refl, (refl, (refl, tt)))))))))
+    word_found line_word line_words word found (All-from_recursion (λ (e : List ℕ × LineKind). e.0 ≡ line_word e.1) line_words (refl, (refl, (refl, (refl, (refl, (refl, (refl, (refl, (refl, (refl, (refl, tt))))))))))))
 
 pub name_found : (word : List ℕ) (found : RuleName) → rule_name word ≡ Some found → word ≡ rule_word found
 name_found word found =
     word_found rule_word rule_words word found (All-from_recursion (λ (e : List ℕ × RuleName). e.0 ≡ rule_word e.1) rule_words (refl, (refl, (refl, (refl, (refl, (refl, (refl, tt))))))))
 
-valued_by : (b : Bool) (named : Option RuleName) (name : RuleName) → cond {A = Option RuleKind} b (Some ReplicaLabel) (option_map Valued named) ≡ Some (Valued name) → named ≡ Some name
-valued_by true named name h = absurd cc
-valued_by false None name h = absurd cc
-valued_by false (Some own) name h = let same : Valued own ≡ Valued name = same_Some _ _ h in cc
+-- a rule's kind by the tests of its word
+abbrev kind_by : Bool → Bool → Option RuleName → Option RuleKind
+kind_by replica retention named =
+    cond {A = Option RuleKind} replica (Some ReplicaLabel) (cond {A = Option RuleKind} retention (Some Retention) (option_map Valued named))
+
+valued_by : (replica retention : Bool) (named : Option RuleName) (name : RuleName) → kind_by replica retention named ≡ Some (Valued name) → named ≡ Some name
+valued_by true retention named name h = absurd cc
+valued_by false true named name h = let same : Retention ≡ Valued name = same_Some _ _ h in absurd cc
+valued_by false false None name h = absurd cc
+valued_by false false (Some own) name h = let same : Valued own ≡ Valued name = same_Some _ _ h in cc
 
 -- the word of a rule that has one value
 pub valued_found : (word : List ℕ) (name : RuleName) → rule_kind word ≡ Some (Valued name) → word ≡ rule_word name
 valued_found word name h =
-    name_found word name (valued_by (bytes_eq word (codes "replica-label")) (rule_name word) name h)
+    name_found word name (valued_by (bytes_eq word (codes "replica-label")) (bytes_eq word (codes "retention")) (rule_name word) name h)
 
-replica_by : (b : Bool) (named : Option RuleName) → cond {A = Option RuleKind} b (Some ReplicaLabel) (option_map Valued named) ≡ Some ReplicaLabel → b ≡ true
-replica_by true named h = refl
-replica_by false None h = absurd cc
-replica_by false (Some own) h = let same : Valued own ≡ ReplicaLabel = same_Some _ _ h in absurd cc
+replica_by : (replica retention : Bool) (named : Option RuleName) → kind_by replica retention named ≡ Some ReplicaLabel → replica ≡ true
+replica_by true retention named h = refl
+replica_by false true named h = let same : Retention ≡ ReplicaLabel = same_Some _ _ h in absurd cc
+replica_by false false None h = absurd cc
+replica_by false false (Some own) h = let same : Valued own ≡ ReplicaLabel = same_Some _ _ h in absurd cc
 
 pub replica_found : (word : List ℕ) → rule_kind word ≡ Some ReplicaLabel → word ≡ codes "replica-label"
 replica_found word h =
-    bytes_eq-same word (codes "replica-label") (replica_by (bytes_eq word (codes "replica-label")) (rule_name word) h)
+    bytes_eq-same word (codes "replica-label") (replica_by (bytes_eq word (codes "replica-label")) (bytes_eq word (codes "retention")) (rule_name word) h)
+
+retention_by : (replica retention : Bool) (named : Option RuleName) → kind_by replica retention named ≡ Some Retention → retention ≡ true
+retention_by true retention named h = let same : ReplicaLabel ≡ Retention = same_Some _ _ h in absurd cc
+retention_by false true named h = refl
+retention_by false false None h = absurd cc
+retention_by false false (Some own) h = let same : Valued own ≡ Retention = same_Some _ _ h in absurd cc
+
+pub retention_found : (word : List ℕ) → rule_kind word ≡ Some Retention → word ≡ codes "retention"
+retention_found word h =
+    bytes_eq-same word (codes "retention") (retention_by (bytes_eq word (codes "replica-label")) (bytes_eq word (codes "retention")) (rule_name word) h)
 
 pub valued_again : (name : RuleName) → rule_kind (rule_word name) ≡ Some (Valued name)
 valued_again names.Consistency = refl
@@ -126,6 +148,9 @@ valued_again name = refl
 
 pub replica_free : no_space (codes "replica-label") ≡ true
 replica_free = refl
+
+pub retention_free : no_space (codes "retention") ≡ true
+retention_free = refl
 
 pub kind_again : (kind : LineKind) → line_kind (line_word kind) ≡ Some kind
 kind_again kinds.Rule = refl
@@ -153,17 +178,40 @@ no_end xs x e = nil_not_middle x xs [] (sym e)
 ended_by : (last : Last) → last.series ≢ [] → has_ended (Some last) ≡ Ok tt
 ended_by last some = let test : not (length last.series == 0) ≡ true = not_from_false (length last.series == 0) (length-some last.series some) in rw test refl
 
-pub ended_found : (blocks : List Block) (last : Option Last) → (last ≡ None → blocks ≡ []) → has_ended last ≡ Ok tt → HasEnded (all_blocks blocks last)
-ended_found blocks None first h = λ others block is. absurd (nil_not_middle block others [] (sym (first refl) ∙ is))
-ended_found blocks (Some last) first h =
+-- the last inline block has a series
+last_found : (blocks : List Block) (last : Option Last) → (last ≡ None → blocks ≡ []) → has_ended last ≡ Ok tt → HasEnded (with_last blocks last)
+last_found blocks None first h = λ others block is. absurd (nil_not_middle block others [] (sym (first refl) ∙ is))
+last_found blocks (Some last) first h =
     let test = unless_is (not (length last.series == 0)) _ h in
     λ others block is.
     let same : block_of last ≡ block = (same_from_push blocks others (block_of last) block is).1 in
     subst (λ (b : Block). HasSeries b.body) same (some-from_length last.series (not-true (length last.series == 0) test))
 
-pub ended_again : (blocks : List Block) (last : Option Last) → HasEnded (all_blocks blocks last) → has_ended last ≡ Ok tt
-ended_again blocks None ended = refl
-ended_again blocks (Some last) ended = ended_by last (ended blocks (block_of last) refl)
+last_again : (blocks : List Block) (last : Option Last) → HasEnded (with_last blocks last) → has_ended last ≡ Ok tt
+last_again blocks None ended = refl
+last_again blocks (Some last) ended = ended_by last (ended blocks (block_of last) refl)
+
+-- a block of the shelf has nothing to end
+abbrev pub OnShelves : List Block → Type 0
+OnShelves shelved = All (λ (b : Block). b.body ≡ OnShelf) shelved
+
+shelf_ended : (front more others : List Block) (last block : Block) → last.body ≡ OnShelf → front ++ (more ++ last ∷ []) ≡ others ++ block ∷ [] → HasSeries block.body
+shelf_ended front more others last block is all =
+    let same : last ≡ block = (same_from_push (front ++ more) others last block (append_assoc front more (last ∷ []) ∙ all)).1 in
+    subst HasSeries (sym is ∙ ap (λ (b : Block). b.body) same) tt
+
+pub ended_found : (blocks : List Block) (last : Option Last) (shelved : List Block) → (last ≡ None → blocks ≡ []) → OnShelves shelved → has_ended last ≡ Ok tt → HasEnded (all_blocks blocks last shelved)
+ended_found blocks last shelved first on_shelf h = elim (ends shelved) [
+  | inl none ↦ subst HasEnded (sym (append-nil (with_last blocks last)) ∙ ap (λ bs. with_last blocks last ++ bs) (sym none)) (last_found blocks last first h)
+  | inr more ↦ λ others block is.
+      let one : (more.1).body ≡ OnShelf = All-last (λ (b : Block). b.body ≡ OnShelf) more.0 more.1 (subst OnShelves more.2 on_shelf) in
+      shelf_ended (with_last blocks last) more.0 others more.1 block one (ap (λ bs. with_last blocks last ++ bs) (sym more.2) ∙ is)
+]
+
+pub ended_again : (blocks : List Block) (last : Option Last) (shelved : List Block) → (shelved ≢ [] → has_ended last ≡ Ok tt) → HasEnded (all_blocks blocks last shelved) → has_ended last ≡ Ok tt
+ended_again blocks last [] known ended =
+    last_again blocks last (subst HasEnded (append-nil (with_last blocks last)) ended)
+ended_again blocks last (block ∷ shelved) known ended = known (λ none. cc)
 
 pub early_found : (phases : List Phase) (phase : Option Phase) → (phase ≡ None → phases ≡ []) → is_none phase ≡ true → all_phases phases phase ≡ []
 early_found phases None first h = first refl

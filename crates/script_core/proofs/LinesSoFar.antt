@@ -1,16 +1,15 @@
 -- The lines that were read so far, and those that are left.
-use Rattle.std.proofs.Common.{◌≡◌, ◌≢◌, ℕ, ◌+◌, ◌<◌, ◌≤◌, Bool, true, false, nat_lt, List, [], ◌∷◌, ◌++◌, length, Result, Ok, Err, ◌⊎◌, inl, inr, refl, sym, ap, ◌∙◌, subst, arith, append_assoc, append-nil}
+use Rattle.std.proofs.Common.{◌≡◌, ℕ, ◌+◌, ◌<◌, ◌≤◌, Bool, true, false, nat_lt, List, [], ◌∷◌, ◌++◌, length, Result, Ok, Err, ◌⊎◌, inl, inr, refl, sym, ap, ◌∙◌, subst, arith, append_assoc}
 use Rattle.std.specs.List.{position_or_len, before_first, after_first}
 use Rattle.std.proofs.lemmas.Bool.Decides.{nat_tests}
 use Rattle.std.proofs.lemmas.List.{drop_all, length-append, take_all}
 use Rattle.std.proofs.lemmas.List.Splits.{slice_split_first, slice_split_none}
 use Rattle.std.proofs.lemmas.List.Sums.{fails_before_first}
-use Rattle.reading_core.specs.Reading.{◌>>=◌}
 use Rattle.reading_core.proofs.Binds.{bind_ok, ok_is}
 use Rattle.moment_core.specs.StandardRules.{standard_rules}
 use Rattle.script_core.specs.declared.script_refusal.ScriptRefusal.{ScriptRefusal}
 use Rattle.script_core.specs.Fields.{is_newline, lines_of}
-use Rattle.script_core.specs.GivenUp.{IsLineGivenUp, IsPatternAmong, AreLinesGivenUp}
+use Rattle.script_core.specs.GivenUp.{IsLineGivenUp, AreLinesGivenUp}
 use Rattle.script_core.specs.Reading.{line_at, lines_at}
 use Rattle.script_core.specs.State.{State, start}
 use Rattle.script_core.proofs.LineLists.{lines_refuse}

@@ -1,5 +1,5 @@
 -- What `Script::read` answers.
-use Rattle.std.proofs.Common.{◌≡◌, ◌≢◌, ℕ, ◌+◌, ◌≤◌, true, List, [], ◌∷◌, ◌++◌, length, Option, Some, None, is_some, Result, Ok, Err, IfOk, MatchResult, inl, inr, refl, sym, ap, ◌∙◌, subst, arith}
+use Rattle.std.proofs.Common.{◌≡◌, ◌≢◌, ℕ, ◌+◌, ◌≤◌, true, List, [], ◌∷◌, ◌++◌, length, Option, Some, None, is_some, Result, Ok, Err, IfOk, MatchResult, inl, inr, sym, ap, ◌∙◌, subst, arith}
 use Rattle.reading_core.proofs.Binds.{one_answer, ok_not_err}
 use Rattle.moment_core.specs.StandardRules.{standard_rules}
 use Rattle.script_core.specs.declared.line_kind.LineKind.TheVariants as kinds
@@ -11,14 +11,13 @@ use Rattle.script_core.specs.GivenUp.{GivesUnless, IsGivenUp, IsWholeGivenUp, Is
 use Rattle.script_core.specs.Lawful.{IsLawfulScript}
 use Rattle.script_core.specs.Limits.{longest_text}
 use Rattle.script_core.specs.Reading.{script_of}
-use Rattle.script_core.specs.Spelling as spelling
 use Rattle.script_core.specs.Spelling.{SoFar, Say, Spells}
 use Rattle.script_core.specs.State.{State, all_phases, start}
 use Rattle.script_core.proofs.FoundLines.{end_found, lines_found, script_found, starts_of}
 use Rattle.script_core.proofs.FoundPhases.{question_found}
 use Rattle.script_core.proofs.FoundSetup.{closed}
 use Rattle.script_core.proofs.AgainLines.{script_again}
-use Rattle.script_core.proofs.Kept.{Kept, so_far_of, start_kept, start_is}
+use Rattle.script_core.proofs.Kept.{so_far_of, start_kept, start_is}
 use Rattle.script_core.proofs.LawfulScripts.{spelled_lawful}
 use Rattle.script_core.proofs.LineTools.{no_end}
 

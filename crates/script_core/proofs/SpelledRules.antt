@@ -1,10 +1,12 @@
 -- A rule line sets its rule and leaves the others.
-use Rattle.std.proofs.Common.{◌≡◌, ◌≢◌, ℕ, refl, sym, ◌∙◌}
+use Rattle.std.proofs.Common.{◌≡◌, ◌≢◌, ℕ, Bool, true, false, ◌==◌, cond, Option, Some, None, refl, sym, ◌∙◌, arith}
+use Rattle.std.proofs.lemmas.Bool.Decides.{nat_tests}
 use Rattle.moment_core.specs.declared.rules.Rules.{Rules}
+use Rattle.moment_core.specs.declared.span.Span.{Span}
 use Rattle.script_core.specs.declared.rule_name.RuleName.{RuleName}
 use Rattle.script_core.specs.declared.rule_name.RuleName.TheVariants as names
-use Rattle.script_core.specs.Values.{with_rule}
-use Rattle.script_core.specs.Spelling.{rule_value, Sets}
+use Rattle.script_core.specs.Values.{with_rule, span_from, retention_from}
+use Rattle.script_core.specs.Spelling.{rule_value, Sets, KeepsFor, for_ever, so_long}
 
 set_value : (name : RuleName) (value : ℕ) (rules : Rules) → rule_value name (with_rule name value rules) ≡ value
 set_value names.Consistency value rules = refl
@@ -61,3 +63,16 @@ pub rule_set : (name : RuleName) (value : ℕ) (before after : Rules) → Sets n
 rule_set name value before after is =
     let made = rule_sets name value before in
     same_rules after (with_rule name value before) (λ other. same_values name other value before after (with_rule name value before) is made) (is.replicas ∙ sym made.replicas) (is.retention ∙ sym made.retention)
+
+-- ---- the retention
+
+keeps_by : (ms : ℕ) (b : Bool) → (ms == 0) ≡ b → KeepsFor ms (cond {A = Option Span} b None (Some (span_from ms)))
+keeps_by ms true is = for_ever (grind (arith, nat_tests)) refl
+keeps_by ms false is = so_long (grind (arith, nat_tests)) refl
+
+pub keeps_for : (ms : ℕ) → KeepsFor ms (retention_from ms)
+keeps_for ms = keeps_by ms (ms == 0) refl
+
+pub keeps_again : (ms : ℕ) (retention : Option Span) → KeepsFor ms retention → retention_from ms ≡ retention
+keeps_again ms retention (for_ever none is) = let test : (ms == 0) ≡ true = grind (arith, nat_tests) in rw test (sym is)
+keeps_again ms retention (so_long some is) = let test : (ms == 0) ≡ false = grind (arith, nat_tests) in rw test (sym is)

@@ -1,19 +1,16 @@
 -- The reader's tests, in the words of the grammar.
-use Rattle.std.proofs.Common.{◌≡◌, ℕ, ◌+◌, ◌-◌, ◌^◌, ◌<◌, ◌≤◌, ℤ, pos, negsuc, ◌≤ℤ◌, Bool, true, false, not, ◌&&◌, cond, nat_le, leb-true, int_lt, List, [], ◌∷◌, Option, Some, None, refl, sym, ap, ◌∙◌, arith, inl, inr, codes}
+use Rattle.std.proofs.Common.{◌≡◌, ℕ, ◌+◌, ◌-◌, ◌^◌, ◌<◌, ◌≤◌, ℤ, pos, negsuc, ◌≤ℤ◌, Bool, true, false, not, ◌&&◌, cond, nat_le, leb-true, int_lt, List, [], ◌∷◌, refl, arith}
 use Rattle.std.specs.Cmp.{int_cmp_total}
 use Rattle.std.specs.List.{All, AllByRecursion}
 use Rattle.std.specs.List.Sorted.{IsStrictlySortedBy}
 use Rattle.std.specs.Ordering.{int_cmp}
 use Rattle.std.specs.declared.cmp.Ordering.TheVariants.{Less, Equal, Greater}
-use Rattle.std.specs.Str.{bytes_eq}
 use Rattle.std.proofs.lemmas.Bool.Decides.{nat_tests}
 use Rattle.std.proofs.lemmas.Int.{ints}
 use Rattle.std.proofs.lemmas.List.Elements.{All-nil, All-cons, All-head, All-tail}
-use Rattle.std.proofs.lemmas.Option.{same_Some}
 use Rattle.std.proofs.lemmas.Bool.{and_parts, not-true}
 use Rattle.label_sets.specs.declared.sample.Sample.{Sample}
 use Rattle.moment_core.specs.declared.rules.Rules.{Rules}
-use Rattle.list_core.proofs.Bools.{bytes_eq-same}
 use Rattle.script_core.specs.Samples.{is_within, are_within, times_of, rise_after, are_rising}
 use Rattle.script_core.specs.Values.{is_time, agree}
 use Rattle.script_core.specs.Spelling.{IsNear, IsWithin, DoAgree}

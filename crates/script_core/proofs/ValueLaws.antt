@@ -19,9 +19,10 @@ use Rattle.ulid_core.specs.UlidText.{IsUlidText}
 use Rattle.script_core.specs.declared.cause.LineCause.TheVariants.{BadNumber}
 use Rattle.script_core.specs.declared.rule_name.RuleName.{RuleName}
 use Rattle.script_core.specs.declared.rule_name.RuleName.TheVariants as names
-use Rattle.script_core.specs.Values.{is_time, time_field, page_limit_field, span_from, span_field, tick_field, moment_from, moment_field, ulid_field, value_field}
+use Rattle.script_core.specs.Values.{is_time, time_field, page_limit_field, stop_count, span_from, span_field, tick_field, moment_from, moment_field, ulid_field, value_field}
 use Rattle.script_core.specs.Spelling.{IsValueText}
 use Rattle.moment_core.specs.Limits.{longest_tick}
+use Rattle.script_core.specs.Limits.{latest_stop}
 
 pub is_none_is : {A : Type 0} (o : Option A) → is_none o ≡ true → o ≡ None
 is_none_is None h = refl
@@ -95,6 +96,26 @@ page_limit_again text limit written low high =
     let read : unsigned_of text ≡ Ok limit = ap unsigned_of written ∙ unsigned_again limit small in
     let first : nat_le 1 limit ≡ true = grind (arith, nat_tests) in
     let last : nat_le limit 10_000 ≡ true = grind (arith, nat_tests) in
+    rw (read, first, last) refl
+
+pub stop_count_found : (text : List ℕ) (count : ℕ) → stop_count text ≡ Ok count → (text ≡ decimal_text count) × (1 ≤ count) × (count ≤ latest_stop)
+unfolding stop_count
+stop_count_found text count h =
+    let a = bind_ok _ _ _ h in
+    let b = unless_ok (nat_le 1 a.0 && nat_le a.0 latest_stop) BadNumber _ _ a.2 in
+    let same : a.0 ≡ count = ok_is _ _ b.1 in
+    let tests = and_parts (nat_le 1 a.0) (nat_le a.0 latest_stop) b.0 in
+    let low : 1 ≤ a.0 = leb-true 1 a.0 tests.0 in
+    let high : a.0 ≤ latest_stop = leb-true a.0 latest_stop tests.1 in
+    ((unsigned_found text a.0 (refused_as_ok _ _ _ a.1)).0 ∙ ap decimal_text same, omega (arith, same), omega (arith, same))
+
+pub stop_count_again : (text : List ℕ) (count : ℕ) → text ≡ decimal_text count → 1 ≤ count → count ≤ latest_stop → stop_count text ≡ Ok count
+unfolding stop_count
+stop_count_again text count written low high =
+    let small : count < 2 ^ 64 = omega arith in
+    let read : unsigned_of text ≡ Ok count = ap unsigned_of written ∙ unsigned_again count small in
+    let first : nat_le 1 count ≡ true = grind (arith, nat_tests) in
+    let last : nat_le count latest_stop ≡ true = grind (arith, nat_tests) in
     rw (read, first, last) refl
 
 pub moment_found : (text : List ℕ) (moment : Moment) → moment_field text ≡ Ok moment → IsMomentText text moment.ms

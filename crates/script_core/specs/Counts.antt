@@ -7,7 +7,7 @@ use Rattle.matchers.specs.declared.matcher.Matcher.{Matcher}
 use Rattle.script_workers.specs.declared.phase.Phase.{Phase}
 use Rattle.script_core.specs.declared.block.Block.{Block}
 use Rattle.script_core.specs.declared.body.Body.{Body}
-use Rattle.script_core.specs.declared.body.Body.TheVariants.{Inline}
+use Rattle.script_core.specs.declared.body.Body.TheVariants.{Inline, OnShelf}
 use Rattle.script_core.specs.declared.script.Script.{Script}
 
 abbrev pub members_of_name : List ℕ → ℕ
@@ -18,6 +18,7 @@ members_of_series one = 1 + members_in one.labels + length one.samples
 
 abbrev pub members_of_body : Body → ℕ
 members_of_body (Inline min_time max_time series) = sum_by members_of_series series
+members_of_body OnShelf = 0
 
 abbrev pub members_of_block : Block → ℕ
 members_of_block block = 1 + members_in block.labels + members_of_body block.body

@@ -9,7 +9,7 @@ use Rattle.script_core.specs.declared.cause.LineCause.TheVariants.{BadShape}
 use Rattle.script_core.specs.declared.line_kind.LineKind.{LineKind}
 use Rattle.script_core.specs.declared.line_kind.LineKind.TheVariants as kinds
 use Rattle.script_core.specs.declared.rule_kind.RuleKind.{RuleKind}
-use Rattle.script_core.specs.declared.rule_kind.RuleKind.TheVariants.{Valued, ReplicaLabel}
+use Rattle.script_core.specs.declared.rule_kind.RuleKind.TheVariants.{Valued, ReplicaLabel, Retention}
 use Rattle.script_core.specs.declared.rule_name.RuleName.{RuleName}
 use Rattle.script_core.specs.declared.rule_name.RuleName.TheVariants as names
 
@@ -64,9 +64,12 @@ line_words =
     ∷ (codes "gateway", kinds.Gateway)
     ∷ (codes "block", kinds.Block)
     ∷ (codes "series", kinds.Series)
+    ∷ (codes "shelf", kinds.Shelf)
     ∷ (codes "at", kinds.At)
     ∷ (codes "upload", kinds.Upload)
     ∷ (codes "sync", kinds.Sync)
+    ∷ (codes "compact", kinds.Compact)
+    ∷ (codes "clean", kinds.Clean)
     ∷ (codes "query", kinds.Query)
     ∷ []
 
@@ -91,4 +94,6 @@ rule_name word = lookup (bytes_eq word) rule_words
 -- what a rule line says, by the rule's name
 abbrev pub rule_kind : List ℕ → Option RuleKind
 rule_kind word =
-    if bytes_eq word (codes "replica-label") then Some ReplicaLabel else option_map Valued (rule_name word)
+    if bytes_eq word (codes "replica-label") then Some ReplicaLabel
+    else if bytes_eq word (codes "retention") then Some Retention
+    else option_map Valued (rule_name word)

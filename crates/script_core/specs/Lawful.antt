@@ -1,5 +1,5 @@
 -- What holds of each script that is read, whatever its text.
-use Rattle.std.specs.Prelude.{◌≡◌, ◌≢◌, ◌⊎◌, ℕ, ◌^◌, ◌<◌, ◌≤◌, ℤ, pos, neg_ℤ, ◌<ℤ◌, ◌≤ℤ◌, List, [], ◌∷◌, ◌++◌, length, map, IsTrue, IsFalse, nat_eq}
+use Rattle.std.specs.Prelude.{◌≡◌, ◌≢◌, ◌⊎◌, ℕ, ◌^◌, ◌<◌, ◌≤◌, ℤ, pos, neg_ℤ, ◌<ℤ◌, ◌≤ℤ◌, List, [], ◌∷◌, ◌++◌, length, map, IsTrue, IsFalse, nat_eq, Option, None, Some}
 use Rattle.std.specs.List.{All, IsDistinct}
 use Rattle.std.specs.List.Sorted.{IsStrictlySortedBy, IsNonDecreasingBy}
 use Rattle.std.specs.Ordering.{int_cmp}
@@ -12,23 +12,29 @@ use Rattle.label_sets.specs.declared.series.Series.{Series}
 use Rattle.matchers.specs.SelectorRefusals.{IsReadable}
 use Rattle.matchers.specs.declared.matcher.Matcher.{Matcher}
 use Rattle.moment_core.specs.declared.rules.Rules.{Rules}
+use Rattle.moment_core.specs.declared.span.Span.{Span}
 use Rattle.moment_core.specs.Limits.{longest_tick}
 use Rattle.moment_core.specs.Partitions.{all_times}
 use Rattle.moment_core.specs.declared.partition.Partition.{Partition}
 use Rattle.script_workers.specs.Limits.{most_workers}
-use Rattle.script_core.specs.Limits.{most_gateways, most_blocks, most_tasks}
+use Rattle.script_core.specs.Limits.{most_gateways, most_blocks, most_tasks, latest_stop}
 use Rattle.script_core.specs.declared.block.Block.{Block}
 use Rattle.script_core.specs.declared.body.Body.{Body}
-use Rattle.script_core.specs.declared.body.Body.TheVariants.{Inline}
+use Rattle.script_core.specs.declared.body.Body.TheVariants.{Inline, OnShelf}
 use Rattle.script_workers.specs.declared.phase.Phase.{Phase}
 use Rattle.script_core.specs.declared.script.Script.{Script}
 use Rattle.script_workers.specs.declared.work.Work.{Work}
-use Rattle.script_workers.specs.declared.work.Work.TheVariants.{Upload, Sync, Query}
+use Rattle.script_workers.specs.declared.work.Work.TheVariants.{Upload, Sync, Compact, Clean, Query}
 use Rattle.script_core.specs.Values.{is_reserved, agree}
 use Rattle.script_core.specs.Samples.{times_of, are_within}
 use Rattle.script_workers.specs.Hands.{gateway_count, hands_of}
-use Rattle.script_workers.specs.Works.{works_of, has_sync}
+use Rattle.script_workers.specs.Works.{works_of, has_sync, CompactOnce}
 use Rattle.script_core.specs.Blocks.{declares}
+
+-- a retention, where there is one, of some time
+abbrev pub IsLawfulRetention : Option Span → Type 0
+IsLawfulRetention None = Unit {0}
+IsLawfulRetention (Some span) = (1 ≤ span.ms) × (span.ms ≤ 2 ^ 46)
 
 -- spans of at most 2^46 milliseconds, a tick of at most a day, pages of 1 to 10,000 names, and replica labels that are names
 pub record AreLawfulRules (rules : Rules) : Type 0 where
@@ -41,6 +47,7 @@ pub record AreLawfulRules (rules : Rules) : Type 0 where
   pub page_limit_low : 1 ≤ rules.page_limit
   pub page_limit_high : rules.page_limit ≤ 10_000
   pub replicas : All (λ name. IsTrue (is_name name)) rules.replicas
+  pub retention : IsLawfulRetention rules.retention
 
 -- a label set, whose names have the form of a name and whose values are texts
 pub record AreLawfulLabels (labels : List Label) : Type 0 where
@@ -66,9 +73,12 @@ pub record IsLawfulInline (min_time max_time : ℤ) (series : List Series) : Typ
 
 abbrev pub IsLawfulBody : Body → Type 0
 IsLawfulBody (Inline min_time max_time series) = IsLawfulInline min_time max_time series
+IsLawfulBody OnShelf = Unit {0}
 
+-- an inline block has series, and what a block of the shelf has stands in its files
 abbrev pub HasSeries : Body → Type 0
 HasSeries (Inline min_time max_time series) = series ≢ []
+HasSeries OnShelf = Unit {0}
 
 -- a block of a ULID of 128 bits
 pub record IsLawfulBlock (block : Block) : Type 0 where
@@ -83,10 +93,17 @@ pub record AreLawfulBlocks (blocks : List Block) : Type 0 where
   -- no ULID twice
   pub once : IsDistinct nat_eq (map (λ block. block.ulid) blocks)
 
+-- a task stops at its first operation or later
+abbrev pub IsLawfulStop : Option ℕ → Type 0
+IsLawfulStop None = Unit {0}
+IsLawfulStop (Some count) = (1 ≤ count) × (count ≤ latest_stop)
+
 -- an upload is of a declared block, a sync of a declared gateway, and a query has its range and its selector
 abbrev pub IsLawfulWork : List (List ℕ) → List Block → ℕ → Work → Type 0
-IsLawfulWork gateways blocks selectors (Upload ulid stop) = IsTrue (declares blocks ulid)
+IsLawfulWork gateways blocks selectors (Upload ulid stop) = IsTrue (declares blocks ulid) × IsLawfulStop stop
 IsLawfulWork gateways blocks selectors (Sync gateway) = gateway < length gateways
+IsLawfulWork gateways blocks selectors (Compact stop) = IsLawfulStop stop
+IsLawfulWork gateways blocks selectors (Clean stop) = IsLawfulStop stop
 IsLawfulWork gateways blocks selectors (Query low high selector) =
     (neg_ℤ (pos (2 ^ 62)) ≤ℤ low) × (low ≤ℤ high) × (high ≤ℤ pos (2 ^ 62)) × (selector < selectors)
 
@@ -94,6 +111,7 @@ pub record IsLawfulPhase (gateways : List (List ℕ)) (blocks : List Block) (sel
   pub moment : phase.moment.ms < 2 ^ 47
   pub tasks : All (λ task. IsLawfulWork gateways blocks selectors task.work) phase.tasks
   pub few_workers : length (hands_of (gateway_count gateways) phase.tasks) ≤ most_workers
+  pub compacts_once : CompactOnce phase.tasks
 
 pub record AreLawfulPhases (gateways : List (List ℕ)) (blocks : List Block) (selectors : ℕ) (phases : List Phase) : Type 0 where
   pub each : All (IsLawfulPhase gateways blocks selectors) phases
@@ -122,7 +140,7 @@ pub record IsLawfulScript (script : Script) : Type 0 where
   pub partitioned : length script.partitions ≡ length script.gateways
   pub partitions : All IsLawfulPartition script.partitions
   pub blocks : AreLawfulBlocks script.blocks
-  -- each block has a series
+  -- each inline block has a series
   pub full : All (λ block. HasSeries block.body) script.blocks
   pub selectors : All (IsLawfulSelector script.rules.replicas) script.selectors
   pub phases : AreLawfulPhases script.gateways script.blocks (length script.selectors) script.phases

@@ -14,3 +14,7 @@ most_blocks = 4_096
 -- how many tasks all phases have at most
 abbrev pub most_tasks : ℕ
 most_tasks = 65_536
+
+-- how many operations a task makes at most before it stops
+abbrev pub latest_stop : ℕ
+latest_stop = 1_000_000

@@ -10,18 +10,19 @@ use Rattle.moment_core.specs.Partitions.{all_times}
 use Rattle.moment_core.specs.declared.moment.Moment.{Moment}
 use Rattle.moment_core.specs.declared.partition.Partition.{Partition}
 use Rattle.moment_core.specs.declared.rules.Rules.{Rules}
+use Rattle.script_core.specs.declared.body.Body.TheVariants.{OnShelf}
 use Rattle.script_core.specs.declared.cause.LineCause.{LineCause}
 use Rattle.script_core.specs.declared.cause.LineCause.TheVariants as causes
 use Rattle.script_core.specs.declared.line_kind.LineKind.{LineKind}
 use Rattle.script_core.specs.declared.line_kind.LineKind.TheVariants as kinds
 use Rattle.script_core.specs.declared.line_refusal.LineRefusal.{LineRefusal}
-use Rattle.script_core.specs.declared.line_refusal.LineRefusal.TheVariants.{Bad, FallingMoment, UnknownBlock, BadRules, NeverSynced}
+use Rattle.script_core.specs.declared.line_refusal.LineRefusal.TheVariants.{Bad, FallingMoment, UnknownBlock, BadRules, NeverSynced, TwoCompactors}
 use Rattle.script_workers.specs.declared.phase.Phase.{Phase}
 use Rattle.script_workers.specs.declared.work.Work.TheVariants as works
 use Rattle.script_core.specs.Fields.{is_empty, next_field, only_field, after_space, rule_kind}
-use Rattle.script_core.specs.Values.{time_field, moment_field, ulid_field, is_reserved, apply_rule, agree}
+use Rattle.script_core.specs.Values.{time_field, moment_field, ulid_field, stop_count, is_reserved, apply_rule, agree}
 use Rattle.script_core.specs.Samples.{are_whole, have_small_numbers, samples_of, are_rising}
-use Rattle.script_core.specs.State.{State, gateway_named, add_gateway, is_declared, begin_block, add_series, begin_phase, add_task, add_query, note_sync, are_all_synced}
+use Rattle.script_core.specs.State.{State, gateway_named, add_gateway, is_declared, begin_block, add_shelf, add_series, begin_phase, add_task, add_query, note_sync, are_all_synced, phase_compacts}
 use Rattle.matchers.specs.SelectorText.{are_lawful, named_replicas}
 use Rattle.matchers.specs.Stages.{read_whole, selector_of}
 use Rattle.label_sets.specs.Notation.{is_name, read_set}
@@ -101,6 +102,18 @@ block_line st number left = do
   unless (not (is_reserved ulid)) (Bad causes.ReservedUlid)
   begin_block st (record { line = number; ulid = ulid; labels = labels; min_time = min_time; max_time = max_time; series = [] })
 
+-- shelf ULID LABELS
+unfoldable pub shelf_line : State → Option (List ℕ) → Result State LineRefusal
+shelf_line st left = do
+  let ulid_text = next_field left
+  unless (not (is_empty ulid_text.0)) (Bad causes.BadShape)
+  set ← last_labels ulid_text.1
+  ulid ← bad (ulid_field ulid_text.0)
+  labels ← ok_or set (Bad causes.BadLabelText)
+  unless (is_early st) (Bad causes.LateLine)
+  unless (not (is_reserved ulid)) (Bad causes.ReservedUlid)
+  add_shelf st (record { ulid = ulid; labels = labels; body = OnShelf })
+
 -- the label set at the front of what is left of a line, and what follows the space after it
 unfoldable pub first_labels : Option (List ℕ) → Result (List Label × List ℕ) LineRefusal
 first_labels left = do
@@ -132,18 +145,27 @@ at_line st number left = do
   may_begin st.rules st.phase moment
   Ok (begin_phase st (record { line = number; moment = moment; tasks = [] }))
 
--- upload ULID
+-- what is left behind the words of a task: nothing, or stop N
+unfoldable pub stop_field : Option (List ℕ) → Result (Option ℕ) LineCause
+stop_field None = Ok None
+stop_field (Some text) = do
+  let word = next_field (Some text)
+  count_text ← only_field word.1
+  unless (bytes_eq word.0 (codes "stop")) causes.BadShape
+  count ← stop_count count_text
+  Ok (Some count)
+
+-- upload ULID, or upload ULID stop N
 unfoldable pub upload_line : State → ℕ → Option (List ℕ) → Result State LineRefusal
 upload_line st number left = do
   let ulid_text = next_field left
-  let option = next_field ulid_text.1
-  unless (not (bytes_eq option.0 (codes "stop"))) (Bad causes.UnknownWord)
-  unless (not (is_empty ulid_text.0) && is_none ulid_text.1) (Bad causes.BadShape)
+  unless (not (is_empty ulid_text.0)) (Bad causes.BadShape)
+  stop ← bad (stop_field ulid_text.1)
   ulid ← bad (ulid_field ulid_text.0)
   unless (has_begun st) (Bad causes.NoPhase)
   unless (not (is_reserved ulid)) (Bad causes.ReservedUlid)
   unless (is_declared st ulid) UnknownBlock
-  add_task st number (works.Upload ulid None)
+  add_task st number (works.Upload ulid stop)
 
 -- sync NAME
 unfoldable pub sync_line : State → ℕ → Option (List ℕ) → Result State LineRefusal
@@ -154,6 +176,21 @@ sync_line st number left = do
   gateway ← ok_or (gateway_named st.gateways name) (Bad causes.UnknownGateway)
   after ← add_task st number (works.Sync gateway)
   Ok (note_sync after gateway)
+
+-- compact, or compact stop N
+unfoldable pub compact_line : State → ℕ → Option (List ℕ) → Result State LineRefusal
+compact_line st number left = do
+  stop ← bad (stop_field left)
+  unless (has_begun st) (Bad causes.NoPhase)
+  unless (not (phase_compacts st.phase)) TwoCompactors
+  add_task st number (works.Compact stop)
+
+-- clean, or clean stop N
+unfoldable pub clean_line : State → ℕ → Option (List ℕ) → Result State LineRefusal
+clean_line st number left = do
+  stop ← bad (stop_field left)
+  unless (has_begun st) (Bad causes.NoPhase)
+  add_task st number (works.Clean stop)
 
 -- what a query line asks, before its selector is read
 pub record Asked : Type 0 where
@@ -198,7 +235,10 @@ fields_line st number kinds.Rule left = rule_line st left
 fields_line st number kinds.Gateway left = gateway_line st left
 fields_line st number kinds.Block left = block_line st number left
 fields_line st number kinds.Series left = series_line st left
+fields_line st number kinds.Shelf left = shelf_line st left
 fields_line st number kinds.At left = at_line st number left
 fields_line st number kinds.Upload left = upload_line st number left
 fields_line st number kinds.Sync left = sync_line st number left
+fields_line st number kinds.Compact left = compact_line st number left
+fields_line st number kinds.Clean left = clean_line st number left
 fields_line st number kinds.Query left = query_line st number left

@@ -24,6 +24,7 @@ of_line number lines.UnknownBlock = scripts.UnknownBlock number
 of_line number lines.BlockChanged = scripts.BlockChanged number
 of_line number lines.BadRules = scripts.BadRules number
 of_line number lines.NeverSynced = scripts.NeverSynced number
+of_line number lines.TwoCompactors = scripts.TwoCompactors number
 of_line number lines.TooMany = scripts.TooMany number
 of_line number lines.NoMemory = scripts.NoMemory
 
@@ -33,9 +34,12 @@ is_series (Some kinds.Rule) = false
 is_series (Some kinds.Gateway) = false
 is_series (Some kinds.Block) = false
 is_series (Some kinds.Series) = true
+is_series (Some kinds.Shelf) = false
 is_series (Some kinds.At) = false
 is_series (Some kinds.Upload) = false
 is_series (Some kinds.Sync) = false
+is_series (Some kinds.Compact) = false
+is_series (Some kinds.Clean) = false
 is_series (Some kinds.Query) = false
 
 -- a line of a kind, if its first word has one

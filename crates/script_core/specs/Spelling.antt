@@ -2,7 +2,7 @@
 -- record for each kind of line: how the line is written, what has to hold of the script so far, and what the line adds. Here
 -- is nothing of causes and of their order: a text that is read is one that spells its script, and each text that spells a
 -- script is read.
-use Rattle.std.specs.Prelude.{◌≡◌, ◌≢◌, ℕ, ◌+◌, ◌-◌, ◌%◌, ◌^◌, ◌<◌, ◌≤◌, ℤ, pos, neg_ℤ, ◌<ℤ◌, ◌≤ℤ◌, List, [], ◌∷◌, ◌++◌, length, map, Bool, true, false, not, IsTrue, IsFalse, None, Some, All, position, codes}
+use Rattle.std.specs.Prelude.{◌≡◌, ◌≢◌, ℕ, ◌+◌, ◌-◌, ◌%◌, ◌^◌, ◌<◌, ◌≤◌, ℤ, pos, neg_ℤ, ◌<ℤ◌, ◌≤ℤ◌, List, [], ◌∷◌, ◌++◌, length, map, Bool, true, false, not, IsTrue, IsFalse, Option, None, Some, All, position, codes}
 use Rattle.std.specs.Bool.{MatchBool}
 use Rattle.std.specs.List.{list_all, join_with_byte}
 use Rattle.std.specs.List.Sorted.{IsStrictlySortedBy}
@@ -24,21 +24,22 @@ use Rattle.moment_core.specs.SpanText.{IsSpanText}
 use Rattle.moment_core.specs.StandardRules.{standard_rules}
 use Rattle.moment_core.specs.declared.partition.Partition.{Partition}
 use Rattle.moment_core.specs.declared.rules.Rules.{Rules}
+use Rattle.moment_core.specs.declared.span.Span.{Span}
 use Rattle.ulid_core.specs.UlidText.{IsUlidText}
 use Rattle.moment_core.specs.Limits.{longest_tick}
-use Rattle.script_core.specs.Limits.{longest_text, most_gateways, most_blocks, most_tasks}
+use Rattle.script_core.specs.Limits.{longest_text, most_gateways, most_blocks, most_tasks, latest_stop}
 use Rattle.script_core.specs.declared.block.Block.{Block}
-use Rattle.script_core.specs.declared.body.Body.TheVariants.{Inline}
+use Rattle.script_core.specs.declared.body.Body.TheVariants.{Inline, OnShelf}
 use Rattle.script_workers.specs.declared.phase.Phase.{Phase}
 use Rattle.script_core.specs.declared.rule_name.RuleName.{RuleName}
 use Rattle.script_core.specs.declared.rule_name.RuleName.TheVariants as names
 use Rattle.script_core.specs.declared.script.Script.{Script}
 use Rattle.script_workers.specs.declared.work.Work.{Work}
-use Rattle.script_workers.specs.declared.work.Work.TheVariants.{Upload, Sync, Query}
+use Rattle.script_workers.specs.declared.work.Work.TheVariants.{Upload, Sync, Compact, Clean, Query}
 use Rattle.script_core.specs.Fields.{lines_of, is_silent, space, is_space}
 use Rattle.script_workers.specs.Hands.{gateway_count}
 use Rattle.script_workers.specs.Whose.{FewWorkers}
-use Rattle.script_workers.specs.Works.{works_of, has_sync}
+use Rattle.script_workers.specs.Works.{works_of, has_sync, has_compaction}
 use Rattle.script_core.specs.Blocks.{declares}
 use Rattle.script_core.specs.Lawful.{HasSeries}
 use Rattle.script_core.specs.Samples.{times_of}
@@ -184,6 +185,24 @@ pub record ReplicaLine (before : SoFar) (line : List ℕ) (after : SoFar) : Type
   -- It joins the replica labels of the lines before it.
   pub adds : after ≡ outside (record before.script { rules = record before.script.rules { replicas = before.script.rules.replicas ++ name ∷ [] } })
 
+-- How long blocks are kept by a span of so many milliseconds: for ever, where that is no time.
+pub data KeepsFor (ms : ℕ) (retention : Option Span) : Type 0 where
+  for_ever : ms ≡ 0 → retention ≡ None → KeepsFor ms retention
+  so_long : 1 ≤ ms → retention ≡ Some (record { ms = ms }) → KeepsFor ms retention
+
+-- rule retention SPAN
+pub record RetentionLine (before : SoFar) (line : List ℕ) (after : SoFar) : Type 0 where
+  pub text : List ℕ
+  pub ms : ℕ
+  pub spelled : line ≡ spaced (codes "rule" ∷ codes "retention" ∷ text ∷ [])
+  pub field : IsField text
+  pub is_span : IsSpanText text ms
+  pub early : IsEarly before
+  pub retention : Option Span
+  pub keeps : KeepsFor ms retention
+  -- It takes the place of what was set before.
+  pub adds : after ≡ outside (record before.script { rules = record before.script.rules { retention = retention } })
+
 -- What follows a gateway's name: nothing, for all times, or the first time of its partition and the last.
 pub data ArePartitionTexts (texts : List (List ℕ)) (partition : Partition) : Type 0 where
   at_all_times : texts ≡ [] → partition ≡ all_times → ArePartitionTexts texts partition
@@ -223,6 +242,20 @@ pub record BlockLine (before : SoFar) (line : List ℕ) (after : SoFar) : Type 0
   pub new : IsFalse (declares before.script.blocks ulid)
   pub few : length before.script.blocks < most_blocks
   pub adds : after ≡ inside (record before.script { blocks = before.script.blocks ++ record { ulid = ulid; labels = labels; body = Inline min_time max_time [] } ∷ [] })
+
+-- shelf ULID LABELS
+pub record ShelfLine (before : SoFar) (line : List ℕ) (after : SoFar) : Type 0 where
+  pub ulid_text : List ℕ
+  pub labels_text : List ℕ
+  pub ulid : ℕ
+  pub labels : List Label
+  pub spelled : line ≡ spaced (codes "shelf" ∷ ulid_text ∷ labels_text ∷ [])
+  pub is_ulid : IsUlidField ulid_text ulid
+  pub are_labels : IsSetText labels_text labels
+  pub early : IsEarly before
+  pub new : IsFalse (declares before.script.blocks ulid)
+  pub few : length before.script.blocks < most_blocks
+  pub adds : after ≡ outside (record before.script { blocks = before.script.blocks ++ record { ulid = ulid; labels = labels; body = OnShelf } ∷ [] })
 
 -- series LABELS TIME:PATTERN TIME:PATTERN ..
 pub record SeriesLine (before : SoFar) (line : List ℕ) (after : SoFar) : Type 0 where
@@ -272,15 +305,23 @@ pub record AddsTask (before : Script) (number : ℕ) (work : Work) (after : Scri
   pub few_workers : FewWorkers (gateway_count before.gateways) (phase.tasks ++ record { line = number; work = work } ∷ [])
   pub adds : after ≡ record before { phases = others ++ record phase { tasks = phase.tasks ++ record { line = number; work = work } ∷ [] } ∷ [] }
 
--- upload ULID
+-- What may follow the words of a task: nothing, or `stop` and how many operations it makes before it stops.
+pub data AreStopTexts (texts : List (List ℕ)) (stop : Option ℕ) : Type 0 where
+  no_stop : texts ≡ [] → stop ≡ None → AreStopTexts texts stop
+  stops_at : (text : List ℕ) (count : ℕ) → texts ≡ codes "stop" ∷ text ∷ [] → IsField text → text ≡ decimal_text count → 1 ≤ count → count ≤ latest_stop → stop ≡ Some count → AreStopTexts texts stop
+
+-- upload ULID, or upload ULID stop N
 pub record UploadLine (before : SoFar) (number : ℕ) (line : List ℕ) (after : SoFar) : Type 0 where
   pub text : List ℕ
   pub ulid : ℕ
-  pub spelled : line ≡ spaced (codes "upload" ∷ text ∷ [])
+  pub texts : List (List ℕ)
+  pub stop : Option ℕ
+  pub spelled : line ≡ spaced (codes "upload" ∷ text ∷ texts)
   pub is_ulid : IsUlidField text ulid
+  pub are_texts : AreStopTexts texts stop
   pub declared : IsTrue (declares before.script.blocks ulid)
   pub script : Script
-  pub task : AddsTask before.script number (Upload ulid None) script
+  pub task : AddsTask before.script number (Upload ulid stop) script
   pub adds : after ≡ outside script
 
 -- sync NAME
@@ -293,6 +334,28 @@ pub record SyncLine (before : SoFar) (number : ℕ) (line : List ℕ) (after : S
   pub declared : position (λ one. bytes_eq one name) before.script.gateways ≡ Some gateway
   pub script : Script
   pub task : AddsTask before.script number (Sync gateway) script
+  pub adds : after ≡ outside script
+
+-- compact, or compact stop N
+pub record CompactLine (before : SoFar) (number : ℕ) (line : List ℕ) (after : SoFar) : Type 0 where
+  pub texts : List (List ℕ)
+  pub stop : Option ℕ
+  pub spelled : line ≡ spaced (codes "compact" ∷ texts)
+  pub are_texts : AreStopTexts texts stop
+  pub script : Script
+  pub task : AddsTask before.script number (Compact stop) script
+  -- It is the first in its phase.
+  pub first : IsFalse (has_compaction task.phase.tasks)
+  pub adds : after ≡ outside script
+
+-- clean, or clean stop N
+pub record CleanLine (before : SoFar) (number : ℕ) (line : List ℕ) (after : SoFar) : Type 0 where
+  pub texts : List (List ℕ)
+  pub stop : Option ℕ
+  pub spelled : line ≡ spaced (codes "clean" ∷ texts)
+  pub are_texts : AreStopTexts texts stop
+  pub script : Script
+  pub task : AddsTask before.script number (Clean stop) script
   pub adds : after ≡ outside script
 
 -- query LOW HIGH SELECTOR
@@ -320,11 +383,15 @@ pub data Says (before : SoFar) (number : ℕ) (line : List ℕ) (after : SoFar) 
   series : SeriesLine before line after → Says before number line after
   rule : HasEnded before.script.blocks → RuleLine before line after → Says before number line after
   replica : HasEnded before.script.blocks → ReplicaLine before line after → Says before number line after
+  retention : HasEnded before.script.blocks → RetentionLine before line after → Says before number line after
   gateway : HasEnded before.script.blocks → GatewayLine before line after → Says before number line after
   block : HasEnded before.script.blocks → BlockLine before line after → Says before number line after
+  shelf : HasEnded before.script.blocks → ShelfLine before line after → Says before number line after
   at : HasEnded before.script.blocks → AtLine before number line after → Says before number line after
   upload : HasEnded before.script.blocks → UploadLine before number line after → Says before number line after
   sync : HasEnded before.script.blocks → SyncLine before number line after → Says before number line after
+  compact : HasEnded before.script.blocks → CompactLine before number line after → Says before number line after
+  clean : HasEnded before.script.blocks → CleanLine before number line after → Says before number line after
   query : HasEnded before.script.blocks → QueryLine before number line after → Says before number line after
 
 -- Lines in order, the first of which has this number. A silent line is passed over, and counted.

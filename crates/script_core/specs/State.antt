@@ -29,9 +29,10 @@ use Rattle.script_core.specs.declared.script_refusal.ScriptRefusal.TheVariants.{
 use Rattle.script_core.specs.declared.inline_block.InlineBlock.{InlineBlock}
 use Rattle.script_core.specs.Samples.{are_within}
 use Rattle.script_workers.specs.Hands.{gateway_count, with_hands}
+use Rattle.script_workers.specs.Works.{has_compaction}
 use Rattle.script_workers.specs.declared.hand.Hand.{Hand}
 
--- the last declared block, with the number of its line
+-- the last inline block, with the number of its line
 pub record Last : Type 0 where
   pub line : ℕ
   pub ulid : ℕ
@@ -49,9 +50,10 @@ pub record State : Type 0 where
   pub partitions : List Partition
   -- the places of those that have a sync line, each once
   pub synced : List ℕ
-  -- the blocks before the last, and the last
+  -- the blocks before the last inline one, that one, and the shelf's blocks behind it
   pub blocks : List Block
   pub last : Option Last
+  pub shelved : List Block
   -- whether a series line may follow
   pub continues : Bool
   -- the ULIDs of all blocks, ascending
@@ -76,26 +78,34 @@ last_of block =
 -- what there is before the first line
 unfoldable pub start : Rules → State
 start rules =
-    record { rules = rules; gateways = []; partitions = []; synced = []; blocks = []; last = None; continues = false; ulids = []; selectors = []; phases = []; phase = None; hands = []; activities = 0 }
+    record { rules = rules; gateways = []; partitions = []; synced = []; blocks = []; last = None; shelved = []; continues = false; ulids = []; selectors = []; phases = []; phase = None; hands = []; activities = 0 }
 
 -- a declared block as the script has it
 abbrev pub block_of : Last → Block
 block_of last =
     record { ulid = last.ulid; labels = last.labels; body = Inline last.min_time last.max_time last.series }
 
--- the blocks with the last one
-abbrev pub all_blocks : List Block → Option Last → List Block
-all_blocks blocks None = blocks
-all_blocks blocks (Some last) = blocks ++ block_of last ∷ []
+-- the blocks with the last inline one
+abbrev pub with_last : List Block → Option Last → List Block
+with_last blocks None = blocks
+with_last blocks (Some last) = blocks ++ block_of last ∷ []
+
+-- and with the shelf's blocks behind it
+abbrev pub all_blocks : List Block → Option Last → List Block → List Block
+all_blocks blocks last shelved = with_last blocks last ++ shelved
 
 -- the phases with the last one
 abbrev pub all_phases : List Phase → Option Phase → List Phase
 all_phases phases None = phases
 all_phases phases (Some phase) = phases ++ phase ∷ []
 
--- the last block joins those before it
-abbrev pub store_block : State → State
-store_block st = record st { blocks = all_blocks st.blocks st.last; last = None }
+-- the last inline block joins those before it
+abbrev pub store_inline : State → State
+store_inline st = record st { blocks = with_last st.blocks st.last; last = None }
+
+-- and so do the shelf's blocks behind it
+abbrev pub store_blocks : State → State
+store_blocks st = record st { blocks = all_blocks st.blocks st.last st.shelved; last = None; shelved = [] }
 
 -- the last phase joins those before it
 abbrev pub store_phase : State → State
@@ -128,7 +138,14 @@ unfoldable pub begin_block : State → Last → Result State LineRefusal
 begin_block st block = do
   unless (not (is_declared st block.ulid)) BlockChanged
   unless (nat_lt (length st.ulids) most_blocks) TooMany
-  Ok (record st { blocks = all_blocks st.blocks st.last; last = Some block; continues = true; ulids = insert_key nat_cmp st.ulids block.ulid })
+  Ok (record st { blocks = all_blocks st.blocks st.last st.shelved; last = Some block; shelved = []; continues = true; ulids = insert_key nat_cmp st.ulids block.ulid })
+
+-- a block of the shelf
+unfoldable pub add_shelf : State → Block → Result State LineRefusal
+add_shelf st block = do
+  unless (not (is_declared st block.ulid)) BlockChanged
+  unless (nat_lt (length st.ulids) most_blocks) TooMany
+  Ok (record st { shelved = st.shelved ++ block ∷ []; ulids = insert_key nat_cmp st.ulids block.ulid })
 
 -- whether the block has a series with these labels
 abbrev pub has_series : List Series → List Label → Bool
@@ -190,6 +207,11 @@ unfoldable pub note_sync : State → ℕ → State
 note_sync st gateway =
     record st { synced = (if is_synced st.synced gateway then st.synced else st.synced ++ gateway ∷ []) }
 
+-- the last phase has a compaction
+abbrev pub phase_compacts : Option Phase → Bool
+phase_compacts None = false
+phase_compacts (Some phase) = has_compaction phase.tasks
+
 -- each gateway has a sync line
 abbrev pub are_all_synced : State → Bool
 are_all_synced st = list_all (is_synced st.synced) (range_with_len 0 (length st.gateways))
@@ -197,7 +219,7 @@ are_all_synced st = list_all (is_synced st.synced) (range_with_len 0 (length st.
 -- the script of a state that no line follows
 abbrev pub script_of_state : State → Script
 script_of_state st =
-    record { rules = st.rules; gateways = st.gateways; partitions = st.partitions; blocks = all_blocks st.blocks st.last; selectors = st.selectors; phases = all_phases st.phases st.phase }
+    record { rules = st.rules; gateways = st.gateways; partitions = st.partitions; blocks = all_blocks st.blocks st.last st.shelved; selectors = st.selectors; phases = all_phases st.phases st.phase }
 
 -- what is left after the last line, as a script
 unfoldable pub finish : State → Result Script ScriptRefusal

@@ -1,5 +1,5 @@
 -- The numbers, times, spans and ULIDs that stand in fields.
-use Rattle.std.specs.Prelude.{ℕ, ◌+◌, ◌-◌, ◌%◌, ◌^◌, List, [], ◌∷◌, ◌++◌, Bool, ◌&&◌, nat_le, nat_lt, option_map, ok_or, Result, Ok, ℤ, pos, negsuc}
+use Rattle.std.specs.Prelude.{ℕ, ◌+◌, ◌-◌, ◌%◌, ◌^◌, List, [], ◌∷◌, ◌++◌, Bool, ◌&&◌, ◌==◌, nat_le, nat_lt, Option, None, Some, option_map, ok_or, Result, Ok, ℤ, pos, negsuc, if◌then◌else◌}
 use Rattle.reading_core.specs.Reading.{◌>>=◌, ◌>>◌, unless, refused_as}
 use Rattle.reading_core.specs.Decimal.{unsigned_of, signed_of}
 use Rattle.ulid_core.specs.UlidText.{ulid_of}
@@ -7,8 +7,9 @@ use Rattle.label_sets.specs.Notation.{is_name}
 use Rattle.moment_core.specs.declared.span.Span.{Span}
 use Rattle.moment_core.specs.declared.rules.Rules.{Rules}
 use Rattle.moment_core.specs.Limits.{longest_tick}
+use Rattle.script_core.specs.Limits.{latest_stop}
 use Rattle.script_core.specs.declared.rule_kind.RuleKind.{RuleKind}
-use Rattle.script_core.specs.declared.rule_kind.RuleKind.TheVariants.{Valued, ReplicaLabel}
+use Rattle.script_core.specs.declared.rule_kind.RuleKind.TheVariants.{Valued, ReplicaLabel, Retention}
 use Rattle.script_core.specs.declared.rule_name.RuleName.{RuleName}
 use Rattle.script_core.specs.declared.rule_name.RuleName.TheVariants as names
 use Rattle.moment_core.specs.SpanText.{span_of}
@@ -33,6 +34,12 @@ page_limit_field field = do
   limit ← refused_as (λ _. BadNumber) (unsigned_of field)
   unless (nat_le 1 limit && nat_le limit 10000) BadNumber
   Ok limit
+
+unfoldable pub stop_count : List ℕ → Result ℕ LineCause
+stop_count field = do
+  count ← refused_as (λ _. BadNumber) (unsigned_of field)
+  unless (nat_le 1 count && nat_le count latest_stop) BadNumber
+  Ok count
 
 abbrev pub span_from : ℕ → Span
 span_from ms = record { ms = ms }
@@ -92,10 +99,21 @@ add_replica text rules = do
   unless (is_name text) BadName
   Ok (record rules { replicas = rules.replicas ++ text ∷ [] })
 
+-- blocks are kept so long; for ever, where that is no time
+abbrev pub retention_from : ℕ → Option Span
+retention_from ms = if ms == 0 then None else Some (span_from ms)
+
+-- the rules with another retention
+unfoldable pub set_retention : List ℕ → Rules → Result Rules LineCause
+set_retention text rules = do
+  span ← span_field text
+  Ok (record rules { retention = retention_from span.ms })
+
 -- what a rule line of this kind makes of the rules, by the text of its value
 abbrev pub apply_rule : RuleKind → List ℕ → Rules → Result Rules LineCause
 apply_rule (Valued name) text rules = set_rule name text rules
 apply_rule ReplicaLabel text rules = add_replica text rules
+apply_rule Retention text rules = set_retention text rules
 
 -- An upload has its time before a partial block is deleted, and a second more before a marked one is. A mark is heeded
 -- no later than it deletes.

@@ -7,7 +7,7 @@ use Rattle.script_core.specs.State.{State, last_of}
 
 unfoldable pub state_of : Draft → State
 state_of draft =
-    record { rules = draft.rules; gateways = draft.gateways; partitions = draft.partitions; synced = draft.synced.items; blocks = draft.blocks; last = option_map last_of draft.last; continues = draft.continues; ulids = draft.ulids.keys; selectors = draft.selectors; phases = draft.phases; phase = draft.phase; hands = draft.hands.items; activities = draft.activities }
+    record { rules = draft.rules; gateways = draft.gateways; partitions = draft.partitions; synced = draft.synced.items; blocks = draft.blocks; last = option_map last_of draft.last; shelved = draft.shelved; continues = draft.continues; ulids = draft.ulids.keys; selectors = draft.selectors; phases = draft.phases; phase = draft.phase; hands = draft.hands.items; activities = draft.activities }
 
 abbrev pub asked_of : Question → Asked
 asked_of question = record { low = question.low; high = question.high; text = question.selector.now }

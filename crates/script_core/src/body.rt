@@ -11,6 +11,8 @@ pub enum Body {
         max_time: i64,
         series: SeriesList,
     },
+    /// From the files that the shelf has under the block's ULID.
+    OnShelf,
 }
 
 impl TryCopy for Body {
@@ -25,6 +27,7 @@ impl TryCopy for Body {
                 max_time: *max_time,
                 series: series.copy()?,
             }),
+            Body::OnShelf => Ok(Body::OnShelf),
         }
     }
 }

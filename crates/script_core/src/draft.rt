@@ -1,11 +1,12 @@
-ghost use Rattle.std.specs.Prelude.{◌≤◌, length};
+ghost use Rattle.std.specs.Prelude.{◌≡◌, ◌≤◌, ◌++◌, OnOk, length};
 ghost use Rattle.script_core.specs.Limits.{most_tasks};
+ghost use Rattle.script_workers.specs.Works.{has_compaction};
 
 use crate::inline_block::InlineBlock;
 use crate::line_refusal::LineRefusal;
 use crate::samples::are_within;
 use crate::texts::text_place;
-use crate::{BlockList, LineCause, Script, ScriptRefusal};
+use crate::{Block, BlockList, LineCause, Script, ScriptRefusal};
 use label_sets::{LabelSet, Sample, SampleList, Text, TextList};
 use list_core::NoMemory;
 use matchers::{Selector, SelectorList};
@@ -13,6 +14,7 @@ use moment_core::{Partition, PartitionList, Rules};
 use script_workers::{Hand, Phase, PhaseList, Task, Work, add_hands, gateway_count};
 use std::alloc::Global;
 use std::collections::BTreeSet;
+use std::mem;
 use ulid_core::Ulid;
 
 const MOST_GATEWAYS: usize = 16;
@@ -33,10 +35,12 @@ pub(crate) struct Draft {
     pub partitions: PartitionList,
     /// The places of the gateways that have a sync line, each once.
     pub synced: Vec<u32>,
-    /// The blocks before the last.
+    /// The blocks before the last inline one.
     pub blocks: BlockList,
-    /// The last block.
+    /// The last inline block.
     pub last: Option<InlineBlock>,
+    /// The shelf's blocks behind it.
+    pub shelved: BlockList,
     /// Whether a series line may follow: the line before, but for silent ones, was a block line or a series line.
     pub continues: bool,
     /// The ULIDs of all blocks.
@@ -61,7 +65,7 @@ impl Draft {
     ghost use Rattle.script_core.specs.declared.cause.LineCause.TheVariants as causes;
     ghost use Rattle.script_core.specs.declared.line_refusal.LineRefusal.TheVariants as line_refusals;
     ghost use Rattle.script_core.specs.declared.script_refusal.ScriptRefusal.TheVariants as script_refusals;
-    ghost use Rattle.script_core.specs.State.{start, end_block, gateway_named, add_gateway, is_declared, begin_block, test_series, add_series, begin_phase, add_task, add_query, note_sync, are_all_synced, finish, store_block, store_phase, last_of};
+    ghost use Rattle.script_core.specs.State.{start, end_block, gateway_named, add_gateway, is_declared, begin_block, add_shelf, test_series, add_series, begin_phase, add_task, add_query, note_sync, are_all_synced, phase_compacts, finish, store_inline, store_blocks, store_phase, last_of};
     ghost use Rattle.script_core.specs.View.{state_of};
 
     /// What is there before the first line.
@@ -76,6 +80,7 @@ impl Draft {
             synced: Vec::new(alloc),
             blocks: BlockList::new(alloc),
             last: None,
+            shelved: BlockList::new(alloc),
             continues: false,
             ulids: BTreeSet::new(alloc),
             selectors: SelectorList::new(alloc),
@@ -93,7 +98,7 @@ impl Draft {
             (finish (state_of self)) }
     {
         self.end_block()?;
-        self.store_block(alloc)?;
+        self.store_blocks(alloc)?;
         self.store_phase(alloc)?;
         Ok(Script {
             rules: self.rules,
@@ -121,10 +126,19 @@ impl Draft {
         Ok(())
     }
 
-    /// The last block joins those before it.
+    /// The last inline block joins those before it, and the shelf's blocks behind it do.
     #[tactic(auto, unfolding(crate::specs::View::state_of))]
-    fn store_block(&mut self, alloc: Global) -> Result<(), NoMemory>
-        ensures { OnOk result (state_of self.new ≡ store_block (state_of self.old)) }
+    fn store_blocks(&mut self, alloc: Global) -> Result<(), NoMemory>
+        ensures { OnOk result (state_of self.new ≡ store_blocks (state_of self.old)) }
+    {
+        self.store_inline(alloc)?;
+        let shelved = mem::replace(&mut self.shelved, BlockList::new(alloc));
+        push_all(&mut self.blocks, shelved)
+    }
+
+    #[tactic(auto, unfolding(crate::specs::View::state_of))]
+    fn store_inline(&mut self, alloc: Global) -> Result<(), NoMemory>
+        ensures { OnOk result (state_of self.new ≡ store_inline (state_of self.old)) }
     {
         if let Some(block) = self.last.take() {
             self.blocks.push(block.into_block(alloc)?)?;
@@ -186,10 +200,22 @@ impl Draft {
     {
         LineRefusal::BlockChanged.unless(!self.is_declared(block.ulid))?;
         LineRefusal::TooMany.unless(self.ulids.len() < MOST_BLOCKS)?;
-        self.store_block(alloc)?;
+        self.store_blocks(alloc)?;
         self.ulids.insert(block.ulid)?;
         self.last = Some(block);
         self.continues = true;
+        Ok(())
+    }
+
+    #[tactic(auto, unfolding(crate::specs::View::state_of, crate::specs::State::add_shelf))]
+    pub(crate) fn add_shelf_block(&mut self, block: Block) -> Result<(), LineRefusal>
+        ensures { Gives line_refusals.NoMemory (λ _. state_of self.new) result
+            (add_shelf (state_of self.old) block) }
+    {
+        LineRefusal::BlockChanged.unless(!self.is_declared(block.ulid))?;
+        LineRefusal::TooMany.unless(self.ulids.len() < MOST_BLOCKS)?;
+        self.ulids.insert(block.ulid)?;
+        self.shelved.push(block)?;
         Ok(())
     }
 
@@ -253,6 +279,17 @@ impl Draft {
         Ok(())
     }
 
+    /// Whether the last phase has a compaction.
+    #[tactic(auto, unfolding(crate::specs::View::state_of))]
+    pub(crate) fn has_compaction(&self) -> bool
+        ensures { result ≡ phase_compacts (state_of self.now).phase }
+    {
+        match &self.phase {
+            Some(phase) => has_compaction(phase.tasks.members()),
+            None => false,
+        }
+    }
+
     /// The place of the next task in the last phase.
     fn next_place(&self) -> Result<u64, LineCause>
         ensures { result
@@ -301,4 +338,21 @@ impl Draft {
         let gateways = self.gateways.len() as u32;
         (0..gateways).all(|gateway| self.synced.contains(&gateway))
     }
+}
+
+/// Whether some task of a phase is a compaction.
+fn has_compaction(tasks: &[Task]) -> bool
+    ensures { result ≡ has_compaction tasks.now }
+{
+    tasks.iter().any(|task| task.work.is_compaction())
+}
+
+/// Adds blocks at the end.
+fn push_all(blocks: &mut BlockList, more: BlockList) -> Result<(), NoMemory>
+    ensures { OnOk result (blocks.new ≡ blocks.old ++ more) }
+{
+    for block in more.into_vec() {
+        blocks.push(block)?;
+    }
+    Ok(())
 }

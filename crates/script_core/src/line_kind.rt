@@ -5,9 +5,12 @@ pub(crate) enum LineKind {
     Gateway,
     Block,
     Series,
+    Shelf,
     At,
     Upload,
     Sync,
+    Compact,
+    Clean,
     Query,
 }
 
@@ -23,9 +26,12 @@ impl LineKind {
             "gateway" => Some(LineKind::Gateway),
             "block" => Some(LineKind::Block),
             "series" => Some(LineKind::Series),
+            "shelf" => Some(LineKind::Shelf),
             "at" => Some(LineKind::At),
             "upload" => Some(LineKind::Upload),
             "sync" => Some(LineKind::Sync),
+            "compact" => Some(LineKind::Compact),
+            "clean" => Some(LineKind::Clean),
             "query" => Some(LineKind::Query),
             _ => None,
         }

@@ -14,6 +14,7 @@ pub(crate) enum LineRefusal {
     BlockChanged,
     BadRules,
     NeverSynced,
+    TwoCompactors,
     TooMany,
     NoMemory,
 }
@@ -34,6 +35,7 @@ impl LineRefusal {
             LineRefusal::BlockChanged => ScriptRefusal::BlockChanged(line),
             LineRefusal::BadRules => ScriptRefusal::BadRules(line),
             LineRefusal::NeverSynced => ScriptRefusal::NeverSynced(line),
+            LineRefusal::TwoCompactors => ScriptRefusal::TwoCompactors(line),
             LineRefusal::TooMany => ScriptRefusal::TooMany(line),
             LineRefusal::NoMemory => ScriptRefusal::NoMemory,
         }

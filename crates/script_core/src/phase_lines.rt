@@ -5,14 +5,14 @@ ghost use Rattle.reading_core.specs.Reading.{Answers, Gives};
 ghost use Rattle.script_core.specs.declared.line_refusal.LineRefusal.TheVariants as line_refusals;
 ghost use Rattle.script_core.specs.Values.{agree, moment_field};
 ghost use Rattle.script_core.specs.GivenUp.{GivesUnless, IsQueryGivenUp, IsSelectorGivenUp};
-ghost use Rattle.script_core.specs.Lines.{bad, may_begin, at_line, upload_line, sync_line, query_line, question_at, selector_field};
+ghost use Rattle.script_core.specs.Lines.{bad, may_begin, at_line, stop_field, upload_line, sync_line, compact_line, clean_line, query_line, question_at, selector_field};
 ghost use Rattle.script_core.specs.View.{asked_of, state_of};
 
 use crate::LineCause;
 use crate::draft::Draft;
 use crate::fields::{next_field, only_field};
 use crate::line_refusal::LineRefusal;
-use crate::values::{is_reserved, time, ulid};
+use crate::values::{is_reserved, stop_count, time, ulid};
 use label_sets::{TextList, is_name};
 use matchers::{Selector, SelectorRefusal};
 use moment_core::{Moment, MomentRefusal, Rules};
@@ -76,7 +76,23 @@ fn agree(rules: &Rules) -> bool
         && rules.ignore.ms <= delete
 }
 
-/// `upload ULID`
+/// What is left behind the words of a task: nothing, or `stop N`.
+#[tactic(auto, unfolding(crate::specs::Lines::stop_field))]
+fn stop(left: Option<&str>) -> Result<Option<u32>, LineCause>
+    ensures { result ≡ stop_field (option_copied left.entry) }
+{
+    let Some(text) = left else {
+        return Ok(None);
+    };
+    let (word, rest) = next_field(Some(text));
+    let count_text = only_field(rest)?;
+    if word != "stop" {
+        return Err(LineCause::BadShape);
+    }
+    Ok(Some(stop_count(count_text)?))
+}
+
+/// `upload ULID` or `upload ULID stop N`
 #[tactic(auto, unfolding(crate::specs::View::state_of, crate::specs::Lines::upload_line))]
 pub(crate) fn upload_line(
     draft: &mut Draft,
@@ -87,14 +103,13 @@ pub(crate) fn upload_line(
         (upload_line (state_of draft.old) number (option_copied fields.entry)) }
 {
     let (ulid_text, rest) = next_field(fields);
-    let (option, _) = next_field(rest);
-    LineCause::UnknownWord.unless(option != "stop")?;
-    LineCause::BadShape.unless(!ulid_text.is_empty() && rest.is_none())?;
+    LineCause::BadShape.unless(!ulid_text.is_empty())?;
+    let stop = stop(rest)?;
     let ulid = ulid(ulid_text)?;
     LineCause::NoPhase.unless(draft.phase.is_some())?;
     LineCause::ReservedUlid.unless(!is_reserved(ulid))?;
     LineRefusal::UnknownBlock.unless(draft.is_declared(ulid))?;
-    draft.add_task(number, Work::Upload(ulid, None))
+    draft.add_task(number, Work::Upload(ulid, stop))
 }
 
 /// `sync NAME`
@@ -114,6 +129,37 @@ pub(crate) fn sync_line(
     draft.add_task(number, Work::Sync(gateway))?;
     draft.note_sync(gateway)?;
     Ok(())
+}
+
+/// `compact` or `compact stop N`
+#[tactic(auto, unfolding(crate::specs::View::state_of, crate::specs::Lines::compact_line))]
+pub(crate) fn compact_line(
+    draft: &mut Draft,
+    number: u32,
+    fields: Option<&str>,
+) -> Result<(), LineRefusal>
+    ensures { Gives line_refusals.NoMemory (λ _. state_of draft.new) result
+        (compact_line (state_of draft.old) number (option_copied fields.entry)) }
+{
+    let stop = stop(fields)?;
+    LineCause::NoPhase.unless(draft.phase.is_some())?;
+    LineRefusal::TwoCompactors.unless(!draft.has_compaction())?;
+    draft.add_task(number, Work::Compact(stop))
+}
+
+/// `clean` or `clean stop N`
+#[tactic(auto, unfolding(crate::specs::View::state_of, crate::specs::Lines::clean_line))]
+pub(crate) fn clean_line(
+    draft: &mut Draft,
+    number: u32,
+    fields: Option<&str>,
+) -> Result<(), LineRefusal>
+    ensures { Gives line_refusals.NoMemory (λ _. state_of draft.new) result
+        (clean_line (state_of draft.old) number (option_copied fields.entry)) }
+{
+    let stop = stop(fields)?;
+    LineCause::NoPhase.unless(draft.phase.is_some())?;
+    draft.add_task(number, Work::Clean(stop))
 }
 
 /// What a query line asks, before its selector is read.

@@ -14,8 +14,8 @@ use crate::draft::Draft;
 use crate::fields::{cut_line, is_silent, next_field};
 use crate::line_kind::LineKind;
 use crate::line_refusal::LineRefusal;
-use crate::phase_lines::{at_line, query_line, sync_line, upload_line};
-use crate::setup_lines::{block_line, gateway_line, rule_line, series_line};
+use crate::phase_lines::{at_line, clean_line, compact_line, query_line, sync_line, upload_line};
+use crate::setup_lines::{block_line, gateway_line, rule_line, series_line, shelf_line};
 use crate::{LineCause, Script, ScriptRefusal};
 use moment_core::Rules;
 use std::alloc::Global;
@@ -125,9 +125,12 @@ fn read_fields(
         LineKind::Gateway => gateway_line(draft, alloc, fields),
         LineKind::Block => block_line(draft, alloc, number, fields),
         LineKind::Series => series_line(draft, alloc, fields),
+        LineKind::Shelf => shelf_line(draft, alloc, fields),
         LineKind::At => at_line(draft, alloc, number, fields),
         LineKind::Upload => upload_line(draft, number, fields),
         LineKind::Sync => sync_line(draft, number, fields),
+        LineKind::Compact => compact_line(draft, number, fields),
+        LineKind::Clean => clean_line(draft, number, fields),
         LineKind::Query => query_line(draft, alloc, number, fields),
     }
 }

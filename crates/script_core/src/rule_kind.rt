@@ -1,11 +1,12 @@
-ghost use Rattle.reading_core.specs.Reading.{Gives};
+ghost use Rattle.reading_core.specs.Reading.{Answers, Gives};
 ghost use Rattle.script_core.specs.declared.line_refusal.LineRefusal.TheVariants as line_refusals;
 ghost use Rattle.script_core.specs.Lines.{bad};
-ghost use Rattle.script_core.specs.Values.{add_replica, apply_rule};
+ghost use Rattle.script_core.specs.Values.{add_replica, apply_rule, set_retention};
 
 use crate::LineCause;
 use crate::line_refusal::LineRefusal;
 use crate::rule_name::RuleName;
+use crate::values::span;
 use label_sets::{Text, is_name};
 use moment_core::Rules;
 use std::alloc::Global;
@@ -17,6 +18,8 @@ pub(crate) enum RuleKind {
     Valued(RuleName),
     /// One more replica label.
     ReplicaLabel,
+    /// How long blocks are kept, or that they are kept for ever.
+    Retention,
 }
 
 impl RuleKind {
@@ -28,6 +31,7 @@ impl RuleKind {
     {
         match word {
             "replica-label" => Some(RuleKind::ReplicaLabel),
+            "retention" => Some(RuleKind::Retention),
             _ => Some(RuleKind::Valued(RuleName::of_word(word)?)),
         }
     }
@@ -45,6 +49,7 @@ impl RuleKind {
         match self {
             RuleKind::Valued(name) => Ok(name.set(rules, text)?),
             RuleKind::ReplicaLabel => add_replica(rules, alloc, text),
+            RuleKind::Retention => Ok(set_retention(rules, text)?),
         }
     }
 }
@@ -56,5 +61,19 @@ fn add_replica(rules: &mut Rules, alloc: Global, name: &str) -> Result<(), LineR
 {
     LineCause::BadName.unless(is_name(name))?;
     rules.replicas.push(Text::from_str(alloc, name)?)?;
+    Ok(())
+}
+
+/// A retention of no time sets none.
+#[tactic(auto, unfolding(crate::specs::Values::set_retention))]
+fn set_retention(rules: &mut Rules, text: &str) -> Result<(), LineCause>
+    ensures { Answers (λ _. rules.new) result (set_retention text.now rules.old) }
+{
+    let retention = span(text)?;
+    rules.retention = if retention.ms == 0 {
+        None
+    } else {
+        Some(retention)
+    };
     Ok(())
 }

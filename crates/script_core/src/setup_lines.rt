@@ -1,12 +1,11 @@
-//! The lines before the first phase: rules, gateways, and blocks with their series.
+//! The lines before the first phase: rules, gateways, blocks with their series, and blocks of the shelf.
 
 ghost use Rattle.std.specs.Prelude.{◌≡◌, option_copied};
 ghost use Rattle.reading_core.specs.Reading.{Gives};
 ghost use Rattle.script_core.specs.declared.line_refusal.LineRefusal.TheVariants as line_refusals;
-ghost use Rattle.script_core.specs.Lines.{rule_line, partition_field, gateway_line, block_line, last_labels, series_line, first_labels};
+ghost use Rattle.script_core.specs.Lines.{rule_line, partition_field, gateway_line, block_line, shelf_line, last_labels, series_line, first_labels};
 ghost use Rattle.script_core.specs.View.{state_of};
 
-use crate::LineCause;
 use crate::draft::Draft;
 use crate::fields::{after_space, next_field, only_field};
 use crate::inline_block::InlineBlock;
@@ -14,6 +13,7 @@ use crate::line_refusal::LineRefusal;
 use crate::rule_kind::RuleKind;
 use crate::samples::{are_rising, are_whole, have_small_numbers, read_samples};
 use crate::values::{is_reserved, time, ulid};
+use crate::{Block, Body, LineCause};
 use label_sets::{LabelRefusal, LabelSet, Text, is_name};
 use moment_core::Partition;
 use std::alloc::Global;
@@ -102,6 +102,30 @@ pub(crate) fn block_line(
         alloc,
         InlineBlock::new(alloc, number, ulid, labels, min_time, max_time),
     )
+}
+
+/// `shelf ULID LABELS`
+#[tactic(auto, unfolding(crate::specs::View::state_of, crate::specs::Lines::shelf_line))]
+pub(crate) fn shelf_line(
+    draft: &mut Draft,
+    alloc: Global,
+    fields: Option<&str>,
+) -> Result<(), LineRefusal>
+    ensures { Gives line_refusals.NoMemory (λ _. state_of draft.new) result
+        (shelf_line (state_of draft.old) (option_copied fields.entry)) }
+{
+    let (ulid_text, rest) = next_field(fields);
+    LineCause::BadShape.unless(!ulid_text.is_empty())?;
+    let labels = last_labels(alloc, rest)?;
+    let ulid = ulid(ulid_text)?;
+    let labels = labels.ok_or(LineCause::BadLabelText)?;
+    LineCause::LateLine.unless(draft.phase.is_none())?;
+    LineCause::ReservedUlid.unless(!is_reserved(ulid))?;
+    draft.add_shelf_block(Block {
+        ulid,
+        labels,
+        body: Body::OnShelf,
+    })
 }
 
 /// The label set that is left of a line, or none where the text is no label set.

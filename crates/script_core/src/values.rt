@@ -1,7 +1,7 @@
 //! The numbers, times, spans and ULIDs that stand in fields.
 
 ghost use Rattle.std.specs.Prelude.{◌≡◌};
-ghost use Rattle.script_core.specs.Values.{time_field, is_time, page_limit_field, span_field, tick_field, ulid_field, is_reserved};
+ghost use Rattle.script_core.specs.Values.{time_field, is_time, page_limit_field, stop_count, span_field, tick_field, ulid_field, is_reserved};
 
 use crate::LineCause;
 use moment_core::Span;
@@ -12,6 +12,9 @@ use ulid_core::Ulid;
 const TIME_LIMIT: i64 = 1 << 62;
 
 const PAGE_LIMIT: u64 = 10_000;
+
+/// The greatest number of operations after which a task may stop.
+const LATEST_STOP: u64 = 1_000_000;
 
 /// A day, in milliseconds.
 const LONGEST_TICK: u64 = 86_400_000;
@@ -43,6 +46,17 @@ pub(crate) fn page_limit(field: &str) -> Result<u32, LineCause>
 {
     match read_unsigned(field) {
         Ok(number) if 1 <= number && number <= PAGE_LIMIT => Ok(number as u32),
+        _ => Err(LineCause::BadNumber),
+    }
+}
+
+/// How many operations a task makes before it stops, from 1 to 1,000,000.
+#[tactic(auto, unfolding(crate::specs::Values::stop_count))]
+pub(crate) fn stop_count(field: &str) -> Result<u32, LineCause>
+    ensures { result ≡ stop_count field.now }
+{
+    match read_unsigned(field) {
+        Ok(number) if 1 <= number && number <= LATEST_STOP => Ok(number as u32),
         _ => Err(LineCause::BadNumber),
     }
 }

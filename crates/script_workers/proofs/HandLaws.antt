@@ -12,31 +12,31 @@ use Rattle.std.proofs.lemmas.Map.Views.{Contains-from_any, list_any-from_Contain
 use Rattle.std.proofs.lemmas.Option.{same_Some}
 use Rattle.list_core.proofs.Membership.{contains_first, contains_later, member_cases, no_member}
 use Rattle.script_workers.specs.declared.hand.Hand.{Hand}
-use Rattle.script_workers.specs.declared.hand.Hand.TheVariants.{Upload, Gateway}
+use Rattle.script_workers.specs.declared.hand.Hand.TheVariants.{Alone, Gateway}
 use Rattle.script_workers.specs.declared.task.Task.{Task}
 use Rattle.script_workers.specs.declared.work.Work.{Work}
 use Rattle.script_workers.specs.declared.work.Work.TheVariants as works
 use Rattle.script_workers.specs.Hands.{same_hand, hands_of_task, with_hand, with_hands, hands_from, hands_of, does}
-use Rattle.script_workers.specs.Whose.{IsFor, ships, syncs, asks, IsTaskOf, AreEnough, FewWorkers}
-use Rattle.script_workers.proofs.HandLists.{no_upload_among, gateway_among}
+use Rattle.script_workers.specs.Whose.{IsFor, ships, compacts, cleans, syncs, asks, IsTaskOf, AreEnough, FewWorkers}
+use Rattle.script_workers.proofs.HandLists.{none_alone_among, gateway_among}
 use Rattle.script_workers.specs.Limits.{most_workers}
 
 -- ---- equal hands
 
 pub hands_equal : (one other : Hand) → same_hand one other ≡ true → one ≡ other
-hands_equal (Upload one) (Upload other) e = let same : one ≡ other = grind (arith, nat_tests) in ap Upload same
-hands_equal (Upload one) (Gateway other) e = absurd cc
-hands_equal (Gateway one) (Upload other) e = absurd cc
+hands_equal (Alone one) (Alone other) e = let same : one ≡ other = grind (arith, nat_tests) in ap Alone same
+hands_equal (Alone one) (Gateway other) e = absurd cc
+hands_equal (Gateway one) (Alone other) e = absurd cc
 hands_equal (Gateway one) (Gateway other) e = let same : one ≡ other = grind (arith, nat_tests) in ap Gateway same
 
 itself : (hand : Hand) → same_hand hand hand ≡ true
-itself (Upload place) = grind (arith, nat_tests)
+itself (Alone place) = grind (arith, nat_tests)
 itself (Gateway gateway) = grind (arith, nat_tests)
 
 swapped : (one other : Hand) → same_hand one other ≡ same_hand other one
-swapped (Upload one) (Upload other) = grind (arith, nat_tests)
-swapped (Upload one) (Gateway other) = refl
-swapped (Gateway one) (Upload other) = refl
+swapped (Alone one) (Alone other) = grind (arith, nat_tests)
+swapped (Alone one) (Gateway other) = refl
+swapped (Gateway one) (Alone other) = refl
 swapped (Gateway one) (Gateway other) = grind (arith, nat_tests)
 
 pub hands_laws : IsEquivalence same_hand
@@ -64,10 +64,12 @@ one_hand one hand h =
 
 pub does_for : (gateways : ℕ) (hand : Hand) (place : ℕ) (work : Work) → does gateways hand place work ≡ true → IsFor gateways hand place work
 unfolding hands_of_task
-does_for gateways hand place (works.Upload ulid stop) h = ships ulid stop refl (one_hand (Upload place) hand h)
+does_for gateways hand place (works.Upload ulid stop) h = ships ulid stop refl (one_hand (Alone place) hand h)
 does_for gateways hand place (works.Sync gateway) h = syncs gateway refl (one_hand (Gateway gateway) hand h)
-does_for gateways (Upload own) place (works.Query low high selector) h =
-    let clash : false ≡ true = sym (no_upload_among own (range_with_len 0 gateways)) ∙ h in absurd cc
+does_for gateways hand place (works.Compact stop) h = compacts stop refl (one_hand (Alone place) hand h)
+does_for gateways hand place (works.Clean stop) h = cleans stop refl (one_hand (Alone place) hand h)
+does_for gateways (Alone own) place (works.Query low high selector) h =
+    let clash : false ≡ true = sym (none_alone_among own (range_with_len 0 gateways)) ∙ h in absurd cc
 does_for gateways (Gateway gateway) place (works.Query low high selector) h =
     let below : nat_lt gateway gateways ≡ true = sym (gateway_among gateway gateways) ∙ h in
     asks low high selector gateway refl refl (grind (arith, nat_tests))
@@ -75,6 +77,8 @@ does_for gateways (Gateway gateway) place (works.Query low high selector) h =
 pub for_does : (gateways : ℕ) (hand : Hand) (place : ℕ) (work : Work) → IsFor gateways hand place work → does gateways hand place work ≡ true
 unfolding hands_of_task
 for_does gateways hand place work (ships ulid stop is who) = rw (is, who, itself) refl
+for_does gateways hand place work (compacts stop is who) = rw (is, who, itself) refl
+for_does gateways hand place work (cleans stop is who) = rw (is, who, itself) refl
 for_does gateways hand place work (syncs gateway is who) = rw (is, who, itself) refl
 for_does gateways hand place work (asks low high selector gateway is who below) =
     let inside : nat_lt gateway gateways ≡ true = grind (arith, nat_tests) in

@@ -4,16 +4,16 @@ use Rattle.std.specs.List.{list_any, range_with_len}
 use Rattle.std.proofs.lemmas.List.{drop_more, drop_all, append-nil}
 use Rattle.std.proofs.lemmas.Bool.Decides.{nat_tests}
 use Rattle.script_workers.specs.declared.hand.Hand.{Hand}
-use Rattle.script_workers.specs.declared.hand.Hand.TheVariants.{Upload, Gateway}
+use Rattle.script_workers.specs.declared.hand.Hand.TheVariants.{Alone, Gateway}
 use Rattle.script_workers.specs.declared.task.Task.{Task}
 use Rattle.script_workers.specs.declared.phase.Phase.{Phase}
 use Rattle.script_workers.specs.declared.worker.Worker.{Worker}
 use Rattle.script_workers.specs.Hands.{same_hand, with_hands, hands_from, hands_of, does, places_from, seats_after, seats_from, workers_from, worker_of, greatest}
 
--- no upload is a gateway
-pub no_upload_among : (place : ℕ) (gateways : List ℕ) → list_any (same_hand (Upload place)) (map Gateway gateways) ≡ false
-no_upload_among place [] = refl
-no_upload_among place (gateway ∷ gateways) = no_upload_among place gateways
+-- who does one task alone is no gateway
+pub none_alone_among : (place : ℕ) (gateways : List ℕ) → list_any (same_hand (Alone place)) (map Gateway gateways) ≡ false
+none_alone_among place [] = refl
+none_alone_among place (gateway ∷ gateways) = none_alone_among place gateways
 
 gateway_among_from : (gateway first count : ℕ) → list_any (same_hand (Gateway gateway)) (map Gateway (range_with_len first count)) ≡ (nat_le first gateway && nat_lt gateway (first + count))
 gateway_among_from gateway first zero = grind (arith, nat_tests)

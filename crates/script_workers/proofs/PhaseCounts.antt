@@ -29,6 +29,8 @@ task_few : (gateways place : ℕ) (work : Work) → gateways ≤ 16 → length (
 unfolding hands_of_task
 task_few gateways place (works.Upload ulid stop) few = omega arith
 task_few gateways place (works.Sync gateway) few = omega arith
+task_few gateways place (works.Compact stop) few = omega arith
+task_few gateways place (works.Clean stop) few = omega arith
 task_few gateways place (works.Query low high selector) few =
     let count = length-map-range_with_len Gateway 0 gateways in omega (arith, few, count)
 

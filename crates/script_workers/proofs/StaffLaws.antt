@@ -11,7 +11,7 @@ use Rattle.std.proofs.lemmas.List.Elements.{All-nil, All-cons, All-head, All-tai
 use Rattle.std.proofs.lemmas.List.Quantifiers.{all_pairs_push}
 use Rattle.list_core.proofs.Membership.{contains_first, contains_later}
 use Rattle.script_workers.specs.declared.hand.Hand.{Hand}
-use Rattle.script_workers.specs.declared.hand.Hand.TheVariants.{Upload, Gateway}
+use Rattle.script_workers.specs.declared.hand.Hand.TheVariants.{Alone, Gateway}
 use Rattle.script_workers.specs.declared.task.Task.{Task}
 use Rattle.script_workers.specs.declared.work.Work.{Work}
 use Rattle.script_workers.specs.declared.work.Work.TheVariants as works
@@ -94,8 +94,10 @@ gateways_in_order first (suc count) = (above_gateways first (first + 1) count (o
 
 task_in_order : (gateways place : ℕ) (work : Work) → AreInOrder (hands_of_task gateways place work)
 unfolding hands_of_task
-task_in_order gateways place (works.Upload ulid stop) = (All-nil (IsGatewayBefore (Upload place)), tt)
+task_in_order gateways place (works.Upload ulid stop) = (All-nil (IsGatewayBefore (Alone place)), tt)
 task_in_order gateways place (works.Sync gateway) = (All-nil (IsGatewayBefore (Gateway gateway)), tt)
+task_in_order gateways place (works.Compact stop) = (All-nil (IsGatewayBefore (Alone place)), tt)
+task_in_order gateways place (works.Clean stop) = (All-nil (IsGatewayBefore (Alone place)), tt)
 task_in_order gateways place (works.Query low high selector) = gateways_in_order 0 gateways
 
 -- ---- the hands so far, where each has places of its own

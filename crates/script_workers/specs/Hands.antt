@@ -18,15 +18,18 @@ abbrev pub gateway_count : List (List ℕ) → ℕ
 gateway_count gateways = min (length gateways) greatest
 
 abbrev pub same_hand : Hand → Hand → Bool
-same_hand (hands.Upload one) (hands.Upload other) = one == other
-same_hand (hands.Upload one) (hands.Gateway other) = false
-same_hand (hands.Gateway one) (hands.Upload other) = false
+same_hand (hands.Alone one) (hands.Alone other) = one == other
+same_hand (hands.Alone one) (hands.Gateway other) = false
+same_hand (hands.Gateway one) (hands.Alone other) = false
 same_hand (hands.Gateway one) (hands.Gateway other) = one == other
 
--- Who does the task at a place: an upload has a worker of its own, a sync is its gateway's, a query is every gateway's.
+-- Who does the task at a place: an upload, a compaction and a cleaning have a worker of their own each, a sync is its
+-- gateway's, a query is every gateway's.
 unfoldable pub hands_of_task : ℕ → ℕ → Work → List Hand
-hands_of_task gateways place (works.Upload ulid stop) = hands.Upload place ∷ []
+hands_of_task gateways place (works.Upload ulid stop) = hands.Alone place ∷ []
 hands_of_task gateways place (works.Sync gateway) = hands.Gateway gateway ∷ []
+hands_of_task gateways place (works.Compact stop) = hands.Alone place ∷ []
+hands_of_task gateways place (works.Clean stop) = hands.Alone place ∷ []
 hands_of_task gateways place (works.Query low high selector) = map hands.Gateway (range_with_len 0 gateways)
 
 -- a hand joins those before it, once
@@ -60,7 +63,7 @@ places_from gateways hand place (task ∷ tasks) =
     else places_from gateways hand (place + 1) tasks
 
 abbrev pub gateway_of : Hand → Option ℕ
-gateway_of (hands.Upload place) = None
+gateway_of (hands.Alone place) = None
 gateway_of (hands.Gateway gateway) = Some gateway
 
 -- so many seats after others; past the greatest number of 32 bits there is none

@@ -4,7 +4,7 @@ use Rattle.std.specs.List.{AllPairs, IsDistinct}
 use Rattle.std.specs.List.Sorted.{IsStrictlySortedBy}
 use Rattle.std.specs.Ordering.{nat_cmp}
 use Rattle.script_workers.specs.declared.hand.Hand.{Hand}
-use Rattle.script_workers.specs.declared.hand.Hand.TheVariants.{Upload, Gateway}
+use Rattle.script_workers.specs.declared.hand.Hand.TheVariants.{Alone, Gateway}
 use Rattle.script_workers.specs.declared.task.Task.{Task}
 use Rattle.script_workers.specs.declared.worker.Worker.{Worker}
 use Rattle.script_workers.specs.Hands.{same_hand, places_from, gateway_of}
@@ -18,8 +18,8 @@ pub record ArePlacesOf (gateways : ℕ) (tasks : List Task) (hand : Hand) (place
 
 -- both are gateways, and the line of the first is before that of the second
 abbrev pub IsGatewayBefore : Hand → Hand → Type 0
-IsGatewayBefore (Upload one) other = ⊥
-IsGatewayBefore (Gateway one) (Upload other) = ⊥
+IsGatewayBefore (Alone one) other = ⊥
+IsGatewayBefore (Gateway one) (Alone other) = ⊥
 IsGatewayBefore (Gateway one) (Gateway other) = one < other
 
 -- One hand's first task is before another's. Gateways that begin with one query follow the order of their lines.

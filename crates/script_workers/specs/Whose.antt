@@ -2,15 +2,17 @@
 use Rattle.std.specs.Prelude.{◌≡◌, ℕ, ℤ, ◌<◌, ◌≤◌, List, length, Contains, Option, Some, slice_get}
 use Rattle.script_workers.specs.Limits.{most_workers}
 use Rattle.script_workers.specs.declared.hand.Hand.{Hand}
-use Rattle.script_workers.specs.declared.hand.Hand.TheVariants.{Upload, Gateway}
+use Rattle.script_workers.specs.declared.hand.Hand.TheVariants.{Alone, Gateway}
 use Rattle.script_workers.specs.declared.task.Task.{Task}
 use Rattle.script_workers.specs.declared.work.Work.{Work}
 use Rattle.script_workers.specs.declared.work.Work.TheVariants as works
 
--- Whose a task at a place is, where there are so many gateways: an upload has a worker of its own, a sync is its gateway's,
--- and a query is every gateway's.
+-- Whose a task at a place is, where there are so many gateways: an upload, a compaction and a cleaning have a worker of
+-- their own each, a sync is its gateway's, and a query is every gateway's.
 pub data IsFor (gateways : ℕ) (hand : Hand) (place : ℕ) (work : Work) : Type 0 where
-  ships : (ulid : ℕ) (stop : Option ℕ) → work ≡ works.Upload ulid stop → hand ≡ Upload place → IsFor gateways hand place work
+  ships : (ulid : ℕ) (stop : Option ℕ) → work ≡ works.Upload ulid stop → hand ≡ Alone place → IsFor gateways hand place work
+  compacts : (stop : Option ℕ) → work ≡ works.Compact stop → hand ≡ Alone place → IsFor gateways hand place work
+  cleans : (stop : Option ℕ) → work ≡ works.Clean stop → hand ≡ Alone place → IsFor gateways hand place work
   syncs : (gateway : ℕ) → work ≡ works.Sync gateway → hand ≡ Gateway gateway → IsFor gateways hand place work
   asks : (low high : ℤ) (selector gateway : ℕ) → work ≡ works.Query low high selector → hand ≡ Gateway gateway → gateway < gateways → IsFor gateways hand place work
 

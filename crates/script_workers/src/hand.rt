@@ -1,8 +1,8 @@
-/// Who does a task: a worker for that upload alone, or the worker of a gateway.
+/// Who does a task: a worker for that task alone, or the worker of a gateway.
 #[derive(Clone, Copy, Debug, PartialEq, Eq)]
 pub enum Hand {
-    /// The upload at this place of the phase.
-    Upload(u64),
+    /// The upload, compaction or cleaning at this place of the phase.
+    Alone(u64),
     /// The gateway at this place.
     Gateway(u32),
 }
@@ -17,28 +17,28 @@ impl Hand {
         ensures { result ≡ same_hand self other }
     {
         match self {
-            Hand::Upload(place) => other.is_upload(place),
+            Hand::Alone(place) => other.is_alone_at(place),
             Hand::Gateway(gateway) => other.gateway() == Some(gateway),
         }
     }
 
-    fn is_upload(self, place: u64) -> bool
-        ensures { result ≡ same_hand (hands.Upload place) self }
+    fn is_alone_at(self, place: u64) -> bool
+        ensures { result ≡ same_hand (hands.Alone place) self }
     {
         match self {
-            Hand::Upload(own) => own == place,
+            Hand::Alone(own) => own == place,
             Hand::Gateway(_) => false,
         }
     }
 
     /// Whether this is one of so many gateways.
-    #[tactic(auto, using(crate::proofs::HandLists::no_upload_among, crate::proofs::HandLists::gateway_among))]
+    #[tactic(auto, using(crate::proofs::HandLists::none_alone_among, crate::proofs::HandLists::gateway_among))]
     pub(crate) fn is_among(self, gateways: u32) -> bool
         ensures { result
             ≡ list_any (same_hand self) (map hands.Gateway (range_with_len 0 gateways)) }
     {
         match self {
-            Hand::Upload(_) => false,
+            Hand::Alone(_) => false,
             Hand::Gateway(gateway) => gateway < gateways,
         }
     }
@@ -47,7 +47,7 @@ impl Hand {
         ensures { result ≡ gateway_of self }
     {
         match self {
-            Hand::Upload(_) => None,
+            Hand::Alone(_) => None,
             Hand::Gateway(gateway) => Some(gateway),
         }
     }

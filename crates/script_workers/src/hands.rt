@@ -37,7 +37,7 @@ pub fn add_hands(
     ensures { OnOk result (hands.new.items ≡ with_hands gateways hands.old.items place work.now) }
 {
     match work {
-        Work::Upload(..) => add_hand(hands, Hand::Upload(place)),
+        Work::Upload(..) | Work::Compact(_) | Work::Clean(_) => add_hand(hands, Hand::Alone(place)),
         Work::Sync(gateway) => add_hand(hands, Hand::Gateway(*gateway)),
         Work::Query { .. } => add_gateways(hands, gateways),
     }
@@ -74,7 +74,7 @@ pub(crate) fn does(gateways: u32, hand: Hand, place: u64, work: &Work) -> bool
     ensures { result ≡ does gateways hand place work.now }
 {
     match work {
-        Work::Upload(..) => hand.is(Hand::Upload(place)),
+        Work::Upload(..) | Work::Compact(_) | Work::Clean(_) => hand.is(Hand::Alone(place)),
         Work::Sync(gateway) => hand.is(Hand::Gateway(*gateway)),
         Work::Query { .. } => hand.is_among(gateways),
     }

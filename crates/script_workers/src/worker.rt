@@ -6,7 +6,7 @@ use wire_bytes::NumberList;
 pub struct Worker {
     /// The number under which the worker's operations are kept, from 1 over the whole script.
     pub seat: u32,
-    /// The gateway's place, and none for an upload.
+    /// The gateway's place, and none for an upload, a compaction or a cleaning.
     pub gateway: Option<u32>,
     /// The places of the tasks in the phase, in order.
     pub tasks: NumberList,

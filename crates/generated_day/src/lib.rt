@@ -1,0 +1,10 @@
+//! The generated day: a script of two replicas' blocks of one day, with rounds of compaction, a cleaning and three queries.
+#![tactic(auto)]
+
+mod day;
+mod lines;
+mod samples;
+mod summary;
+
+pub use day::generated;
+pub use summary::{QueryCounts, Summary};

@@ -1,0 +1,187 @@
+//! The lines of the generated day.
+
+ghost use Rattle.std.specs.Prelude.{◌≡◌, ◌<◌, ◌≤◌, ◌*◌, ◌+◌, ◌++◌, OnOk};
+ghost use Rattle.generated_day.specs.Day.{two_digits, labels_text, all_series_text, times_text, external_text, at_line, upload_line, series_line, block_line, block_text, blocks_at, uploads_at, look_text, round_text, ulid_of};
+
+use crate::samples::{DAY_START, block_start, put_samples};
+use list_core::NoMemory;
+use reading_core::put_unsigned;
+use ulid_core::Ulid;
+
+const MINUTE: u64 = 60_000;
+
+/// The ULID of a replica's block.
+fn ulid_of(block: u64, replica: u64) -> Ulid
+    requires block { block < 12 }
+    requires replica { replica < 2 }
+    ensures { result ≡ ulid_of block replica }
+{
+    Ulid::from_parts(block_start(block + 1), u128::from(2 * block + replica + 1))
+}
+
+/// Appends a number below 100 in two digits.
+#[tactic(auto, unfolding(crate::specs::Day::two_digits))]
+fn put_two_digits(out: &mut Vec<u8>, number: u64) -> Result<(), NoMemory>
+    requires { number < 100 }
+    ensures { OnOk result (out.new.items ≡ out.old.items ++ two_digits number) }
+{
+    out.push(48 + (number / 10) as u8)?;
+    out.push(48 + (number % 10) as u8)?;
+    Ok(())
+}
+
+#[tactic(auto, unfolding(crate::specs::Day::labels_text))]
+fn put_labels(out: &mut Vec<u8>, series: u64) -> Result<(), NoMemory>
+    requires { series < 100 }
+    ensures { OnOk result (out.new.items ≡ out.old.items ++ labels_text series) }
+{
+    out.extend_from_slice(b"{__name__=\"m\",inst=\"i")?;
+    put_two_digits(out, series)?;
+    out.extend_from_slice(b"\"}")?;
+    Ok(())
+}
+
+#[tactic(auto, unfolding(crate::specs::Day::series_line))]
+fn put_series(
+    out: &mut Vec<u8>,
+    number: u64,
+    block: u64,
+    replica: u64,
+    series: u64,
+) -> Result<(), NoMemory>
+    requires block { block < 12 }
+    requires series { series < 100 }
+    ensures { OnOk result
+        (out.new.items ≡ out.old.items ++ series_line number block replica series) }
+{
+    out.extend_from_slice(b"series ")?;
+    put_labels(out, series)?;
+    put_samples(out, number, block, replica, series)?;
+    out.push(b'\n')?;
+    Ok(())
+}
+
+/// Appends the times of a block: its first millisecond, and the one behind its last.
+#[tactic(auto, unfolding(crate::specs::Day::times_text))]
+fn put_times(out: &mut Vec<u8>, block: u64) -> Result<(), NoMemory>
+    requires { block < 12 }
+    ensures { OnOk result (out.new.items ≡ out.old.items ++ times_text block) }
+{
+    put_unsigned(out, block_start(block))?;
+    out.push(b' ')?;
+    put_unsigned(out, block_start(block + 1))
+}
+
+/// Appends a replica's external labels.
+#[tactic(auto, unfolding(crate::specs::Day::external_text))]
+fn put_external(out: &mut Vec<u8>, replica: u64) -> Result<(), NoMemory>
+    ensures { OnOk result (out.new.items ≡ out.old.items ++ external_text replica) }
+{
+    out.extend_from_slice(b"{cluster=\"c\",replica=\"")?;
+    put_unsigned(out, replica)?;
+    out.extend_from_slice(b"\"}")?;
+    Ok(())
+}
+
+#[tactic(auto, unfolding(crate::specs::Day::block_line))]
+fn put_block_line(out: &mut Vec<u8>, block: u64, replica: u64) -> Result<(), NoMemory>
+    requires block { block < 12 }
+    requires replica { replica < 2 }
+    ensures { OnOk result (out.new.items ≡ out.old.items ++ block_line block replica) }
+{
+    out.extend_from_slice(b"block ")?;
+    ulid_of(block, replica).put_text(out)?;
+    out.push(b' ')?;
+    put_times(out, block)?;
+    out.push(b' ')?;
+    put_external(out, replica)?;
+    out.push(b'\n')?;
+    Ok(())
+}
+
+/// Appends a block's line and those of its hundred series.
+#[tactic(auto, unfolding(crate::specs::Day::block_text))]
+fn put_block(out: &mut Vec<u8>, number: u64, block: u64, replica: u64) -> Result<(), NoMemory>
+    requires block { block < 12 }
+    requires replica { replica < 2 }
+    ensures { OnOk result (out.new.items ≡ out.old.items ++ block_text number block replica) }
+{
+    put_block_line(out, block, replica)?;
+    put_all_series(out, number, block, replica)
+}
+
+fn put_all_series(out: &mut Vec<u8>, number: u64, block: u64, replica: u64) -> Result<(), NoMemory>
+    requires block { block < 12 }
+    ensures { OnOk result (out.new.items
+        ≡ out.old.items ++ all_series_text number block replica) }
+{
+    for series in 0..100 {
+        put_series(out, number, block, replica, series)?;
+    }
+    Ok(())
+}
+
+/// Appends both replicas' blocks of the same time.
+#[tactic(auto, unfolding(crate::specs::Day::blocks_at))]
+pub(crate) fn put_blocks(out: &mut Vec<u8>, number: u64, block: u64) -> Result<(), NoMemory>
+    requires { block < 12 }
+    ensures { OnOk result (out.new.items ≡ out.old.items ++ blocks_at number block) }
+{
+    put_block(out, number, block, 0)?;
+    put_block(out, number, block, 1)
+}
+
+/// Appends the line that begins a phase.
+#[tactic(auto, unfolding(crate::specs::Day::at_line))]
+pub(crate) fn put_at(out: &mut Vec<u8>, moment: u64) -> Result<(), NoMemory>
+    ensures { OnOk result (out.new.items ≡ out.old.items ++ at_line moment) }
+{
+    out.extend_from_slice(b"at ")?;
+    put_unsigned(out, moment)?;
+    out.push(b'\n')?;
+    Ok(())
+}
+
+#[tactic(auto, unfolding(crate::specs::Day::upload_line))]
+fn put_upload(out: &mut Vec<u8>, block: u64, replica: u64) -> Result<(), NoMemory>
+    requires block { block < 12 }
+    requires replica { replica < 2 }
+    ensures { OnOk result (out.new.items ≡ out.old.items ++ upload_line block replica) }
+{
+    out.extend_from_slice(b"upload ")?;
+    ulid_of(block, replica).put_text(out)?;
+    out.push(b'\n')?;
+    Ok(())
+}
+
+/// Appends the phase in which both replicas ship their blocks, at the end of these.
+#[tactic(auto, unfolding(crate::specs::Day::uploads_at))]
+pub(crate) fn put_uploads(out: &mut Vec<u8>, block: u64) -> Result<(), NoMemory>
+    requires { block < 12 }
+    ensures { OnOk result (out.new.items ≡ out.old.items ++ uploads_at block) }
+{
+    put_at(out, block_start(block + 1))?;
+    put_upload(out, block, 0)?;
+    put_upload(out, block, 1)
+}
+
+/// Appends a phase in which both gateways sync and are asked for the day.
+#[tactic(auto, unfolding(crate::specs::Day::look_text))]
+pub(crate) fn put_look(out: &mut Vec<u8>, moment: u64) -> Result<(), NoMemory>
+    ensures { OnOk result (out.new.items ≡ out.old.items ++ look_text moment) }
+{
+    put_at(out, moment)?;
+    out.extend_from_slice(b"sync g1\nsync g2\nquery 1728000000000 1728086400000 {}\n")?;
+    Ok(())
+}
+
+/// Appends the phase of a round of compactions.
+#[tactic(auto, unfolding(crate::specs::Day::round_text))]
+pub(crate) fn put_round(out: &mut Vec<u8>, round: u64) -> Result<(), NoMemory>
+    requires { round ≤ 15 }
+    ensures { OnOk result (out.new.items ≡ out.old.items ++ round_text round) }
+{
+    put_at(out, DAY_START + 1_500 * MINUTE + round * MINUTE)?;
+    out.extend_from_slice(b"compact\n")?;
+    Ok(())
+}

@@ -1,0 +1,104 @@
+//! The samples of the generated day.
+
+ghost use Rattle.std.specs.Prelude.{◌≡◌, ◌<◌, ◌≤◌, ◌^◌, ◌++◌, OnOk};
+ghost use Rattle.generated_day.specs.Day.{block_start, pattern, sample, has_sample, sample_part, samples_text};
+
+use label_sets::Sample;
+use list_core::NoMemory;
+
+/// The first millisecond of the day.
+pub(crate) const DAY_START: u64 = 1_728_000_000_000;
+
+/// How long a block is.
+const BLOCK_SPAN: u64 = 7_200_000;
+
+/// How far apart samples are.
+const STEP: u64 = 15_000;
+
+const SERIES_SEED: u64 = 1_000_003;
+
+const MULTIPLIER: u128 = 6_364_136_223_846_793_005;
+
+const INCREMENT: u128 = 1_442_695_040_888_963_407;
+
+const PATTERNS: u128 = 0x1_0000_0000_0000_0000;
+
+/// The first millisecond of the block at a place, and the one behind the block before it.
+pub(crate) fn block_start(place: u64) -> u64
+    requires { place ≤ 12 }
+    ensures { result ≡ block_start place }
+{
+    DAY_START + BLOCK_SPAN * place
+}
+
+fn pattern(number: u64, series: u64, time: u64) -> u64
+    requires series { series < 100 }
+    requires time { time < 2 ^ 41 }
+    ensures { result ≡ pattern number series time }
+{
+    let seed = u128::from(number) + u128::from(SERIES_SEED * series + time);
+    ((seed * MULTIPLIER + INCREMENT) % PATTERNS) as u64
+}
+
+fn sample(number: u64, block: u64, series: u64, place: u64) -> Sample
+    requires block { block < 12 }
+    requires series { series < 100 }
+    requires place { place < 480 }
+    ensures { result ≡ sample number block series place }
+{
+    let time = block_start(block) + STEP * place;
+    Sample {
+        time: time as i64,
+        pattern: pattern(number, series, time),
+    }
+}
+
+/// Whether a replica has the sample at a place: of each seven it misses one.
+fn has_sample(replica: u64, place: u64) -> bool
+    ensures { result ≡ has_sample replica place }
+{
+    let missed = if replica == 0 { 3 } else { 5 };
+    place % 7 != missed
+}
+
+/// Appends the sample at a place, if the replica has it.
+#[tactic(auto, unfolding(crate::specs::Day::sample_part))]
+fn put_sample(
+    out: &mut Vec<u8>,
+    number: u64,
+    block: u64,
+    replica: u64,
+    series: u64,
+    place: u64,
+) -> Result<(), NoMemory>
+    requires block { block < 12 }
+    requires series { series < 100 }
+    requires place { place < 480 }
+    ensures { OnOk result
+        (out.new.items ≡ out.old.items ++ sample_part number block replica series place) }
+{
+    if has_sample(replica, place) {
+        out.push(b' ')?;
+        sample(number, block, series, place).write(out)?;
+    }
+    Ok(())
+}
+
+/// Appends the samples of a series, each after a space.
+pub(crate) fn put_samples(
+    out: &mut Vec<u8>,
+    number: u64,
+    block: u64,
+    replica: u64,
+    series: u64,
+) -> Result<(), NoMemory>
+    requires block { block < 12 }
+    requires series { series < 100 }
+    ensures { OnOk result
+        (out.new.items ≡ out.old.items ++ samples_text number block replica series) }
+{
+    for place in 0..480 {
+        put_sample(out, number, block, replica, series, place)?;
+    }
+    Ok(())
+}
