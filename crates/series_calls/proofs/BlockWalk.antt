@@ -49,35 +49,15 @@ use Rattle.series_calls.proofs.ReadLists.{each_read, hold_runs, lists_some, near
 -- was read or kept, and `Whole` of those of an object that was read.
 module _ {E : Type 0} (breaks : Break → Cache → E) (Holds : List Entry → Plan E → Type 0) (Asks : Op → Type 0) (Given : Entry → Type 0) (Fine : Cache → Type 0)
     (Known : Key → Piece → List ℕ → Type 0) (Whole : Key → List ℕ → Type 0)
-    (idle : (made : List Entry) → Holds made never)
-    (asked : (made : List Entry) (op : Op) (next : Entry → Plan E) → Asks op → ((e : Entry) → e.op ≡ op → Given e → Holds (made ++ e ∷ []) (next e)) → Holds made (asks op next))
+    (read_holds : (made : List Entry) (op : Op) (cache : Cache) (next : ℕ → List ℕ → Plan E) → Asks op → Fine cache
+    → ((e : Entry) (bytes : List ℕ) → e.op ≡ op → Given e → e.reply ≡ Found bytes → Holds (made ++ e ∷ []) (next e.seq bytes)) → Holds made (reads breaks op cache next))
     (found : (A : Type 0) (made : List Entry) (Such : A → Type 0) (one : IsAtMostOne Such) (next : A → Plan E) → ((a : A) → Such a → Holds made (next a)) → Holds made (finds Such one next))
-    (lost : (made : List Entry) (e : Entry) (op : Op) (cache : Cache) → Asks op → e.op ≡ op → Given e → e.reply ≡ Absent → Fine cache → Holds (made ++ e ∷ []) (ends (breaks (missing e.seq) cache)))
-    (failed : (made : List Entry) (e : Entry) (landed : Bool) (cache : Cache) → Given e → e.reply ≡ Failed landed → Fine cache → Holds (made ++ e ∷ []) (ends (breaks (fault e.seq) cache)))
     (uses : (range : Range) (cache : Cache) → Fine cache → Fine (used range cache))
     (keeps : (e : Entry) (key : Key) (piece : Piece) (bytes : List ℕ) (cache : Cache) → e.op ≡ GetRange key piece.from piece.len → Given e → e.reply ≡ Found bytes
     → lookup (same_range (range_of key piece)) cache.entries ≡ None → Fine cache → Fine (kept (range_of key piece) bytes cache))
     (known_read : (e : Entry) (key : Key) (piece : Piece) (bytes : List ℕ) → e.op ≡ GetRange key piece.from piece.len → Given e → e.reply ≡ Found bytes → Known key piece bytes)
     (known_kept : (key : Key) (piece : Piece) (bytes : List ℕ) (cache : Cache) → Fine cache → lookup (same_range (range_of key piece)) cache.entries ≡ Some bytes → Known key piece bytes)
     (whole_read : (e : Entry) (key : Key) (bytes : List ℕ) → e.op ≡ Get key → Given e → e.reply ≡ Found bytes → Whole key bytes) where
-  -- ---- words
-
-  reads_hold : (made : List Entry) (op : Op) (cache : Cache) (next : ℕ → List ℕ → Plan E) → Asks op → Fine cache
-      → ((e : Entry) (bytes : List ℕ) → e.op ≡ op → Given e → e.reply ≡ Found bytes → Holds (made ++ e ∷ []) (next e.seq bytes)) → Holds made (reads breaks op cache next)
-  reads_hold made op cache next is fine on =
-      asked made op (λ (e : Entry). after_get e.reply (next e.seq) (ends (breaks (missing e.seq) cache)) (ends (breaks (fault e.seq) cache))) is
-      (λ e same given. by e same given e.reply refl)
-    where
-      by : (e : Entry) → e.op ≡ op → Given e → (r : Reply) → e.reply ≡ r
-          → Holds (made ++ e ∷ []) (after_get r (next e.seq) (ends (breaks (missing e.seq) cache)) (ends (breaks (fault e.seq) cache)))
-      by e same given (Found bytes) so = on e bytes same given so
-      by e same given Absent so = lost made e op cache is same given so fine
-      by e same given (Failed landed) so = failed made e landed cache given so fine
-      by e same given Clocked so = idle (made ++ e ∷ [])
-      by e same given Stored so = idle (made ++ e ∷ [])
-      by e same given Deleted so = idle (made ++ e ∷ [])
-      by e same given (Names names) so = idle (made ++ e ∷ [])
-
   either : (made : List Entry) (b : Bool) (one other : Plan E) → (b ≡ true → Holds made one) → (b ≡ false → Holds made other) → Holds made (choose b one other)
   either made true one other first second = first refl
   either made false one other first second = second refl
@@ -109,7 +89,7 @@ module _ {E : Type 0} (breaks : Break → Cache → E) (Holds : List Entry → P
       by_held (Some bytes) so =
           fits made (record { last = at.last; cache = used (range_of key piece) at.cache }) bytes (known_kept key piece bytes at.cache fine so) (uses (range_of key piece) at.cache fine)
       by_held None none =
-          reads_hold made (GetRange key piece.from piece.len) at.cache
+          read_holds made (GetRange key piece.from piece.len) at.cache
           (λ seq bytes. sized piece otherwise next (record { last = seq; cache = kept (range_of key piece) bytes at.cache }) bytes) is fine
           (λ e bytes same given so. fits (made ++ e ∷ []) (record { last = e.seq; cache = kept (range_of key piece) bytes at.cache }) bytes (known_read e key piece bytes same given so)
           (keeps e key piece bytes at.cache same given so none fine))
@@ -134,7 +114,7 @@ module _ {E : Type 0} (breaks : Break → Cache → E) (Holds : List Entry → P
 
     whole_holds : (next : Goes breaks query block) → AfterSeries next → (made : List Entry) (cache : Cache) → Fine cache → Holds made (reads_whole breaks query block next cache)
     whole_holds next on made cache fine =
-        reads_hold made (Get (Index block.ulid)) cache (after_whole breaks query block cache next) whole fine
+        read_holds made (Get (Index block.ulid)) cache (after_whole breaks query block cache next) whole fine
         (λ e bytes same given so. after (made ++ e ∷ []) e.seq bytes (whole_read e (Index block.ulid) bytes same given so))
       where
         after : (made : List Entry) (seq : ℕ) (bytes : List ℕ) → Whole (Index block.ulid) bytes → Holds made (after_whole breaks query block cache next seq bytes)
@@ -233,7 +213,7 @@ module _ {E : Type 0} (breaks : Break → Cache → E) (Holds : List Entry → P
     contents_hold : (size : ℕ) (next : Goes breaks query block) → AfterSeries next → block.index_size ≡ Some size → (made : List Entry) (cache : Cache) → Fine cache
         → Holds made (reads_contents breaks query block size next cache)
     contents_hold size next on told made cache fine =
-        reads_hold made (GetRange (Index block.ulid) (contents_piece size).from (contents_piece size).len) cache (after_contents breaks query block size next cache) (ranges _ _) fine
+        read_holds made (GetRange (Index block.ulid) (contents_piece size).from (contents_piece size).len) cache (after_contents breaks query block size next cache) (ranges _ _) fine
         (λ e bytes same given so. after (made ++ e ∷ []) e.seq bytes (known_read e (Index block.ulid) (contents_piece size) bytes same given so))
       where
         after : (made : List Entry) (seq : ℕ) (bytes : List ℕ) → Known (Index block.ulid) (contents_piece size) bytes → Holds made (after_contents breaks query block size next cache seq bytes)
@@ -283,7 +263,7 @@ module _ {E : Type 0} (breaks : Break → Cache → E) (Holds : List Entry → P
         made (all ++ read reference samples ∷ []) (one_more (IsChunkRead Known Whole ulid tests) all (read reference samples) are fit.0)
         (map-append (λ (one : Read). one.reference) all (read reference samples ∷ []) ∙ ap (λ l. l ++ reference ∷ []) same)
     out_holds stretch next ((reference, sticks_out len) ∷ chunks) done fit on made all are same =
-        reads_hold made (GetRange (Segment ulid (segment_of stretch.first)) (offset_of reference) len) cache _
+        read_holds made (GetRange (Segment ulid (segment_of stretch.first)) (offset_of reference) len) cache _
         (subst (λ n. Asks (GetRange (Segment ulid n) (offset_of reference) len)) (sym fit.0.same_segment) (ranges reference (offset_of reference) len fit.0.sought)) fine
         (λ e bytes is_op given so. if_holds (made ++ e ∷ []) (tests reference bytes) _ (ends (breaks (damaged e.seq) cache))
         (λ samples reads_as. out_holds stretch next chunks (done ++ reference ∷ []) fit.1
@@ -344,7 +324,7 @@ module _ {E : Type 0} (breaks : Break → Cache → E) (Holds : List Entry → P
     group_holds : (stretch : Stretch ℕ) (next : List Read → Plan E) (done : List ℕ) → IsGroup stretch → AfterReads next (done ++ members stretch)
         → AfterReads (reads_group breaks ulid tests cache (group_of stretch) next) done
     group_holds stretch next done near on made all are same =
-        reads_hold made (GetRange (Segment ulid (segment_of stretch.first)) (group_piece stretch).from (group_piece stretch).len) cache _
+        read_holds made (GetRange (Segment ulid (segment_of stretch.first)) (group_piece stretch).from (group_piece stretch).len) cache _
         (ranges stretch.first (group_piece stretch).from (group_piece stretch).len near.0.1) fine
         (λ e bytes is_op given so. if_holds (made ++ e ∷ []) (each_at (glimpse_at tests (group_of stretch) bytes) (members stretch)) _ (ends (breaks (damaged e.seq) cache))
         (λ glimpses seen.
@@ -370,7 +350,7 @@ module _ {E : Type 0} (breaks : Break → Cache → E) (Holds : List Entry → P
 
   -- ---- the block
 
-  pub block_holds : (query : Query) (block : Block) → Asks (Get (Index block.ulid)) → ((from len : ℕ) → Asks (GetRange (Index block.ulid) from len))
+  pub walk_holds : (query : Query) (block : Block) → Asks (Get (Index block.ulid)) → ((from len : ℕ) → Asks (GetRange (Index block.ulid) from len))
       → ((series : List IndexSeries) → AreSeries Known Whole query block series → (reference : ℕ) → IsSoughtOf query series reference → (from len : ℕ)
       → Asks (GetRange (Segment block.ulid (segment_of reference)) from len))
       → ((made : List Entry) (number : ℕ) (cache : Cache) → IsSpoilt Known Whole query block → Fine cache → Holds made (ends (breaks (damaged number) cache)))
@@ -380,7 +360,7 @@ module _ {E : Type 0} (breaks : Break → Cache → E) (Holds : List Entry → P
       → IsSetOf (map reference_of (flat_map (taken query) series)) (map (λ (one : Read). one.reference) all)
       → Fine after → Holds made (next after (flat_map (shown query block all) series)))
       → (made : List Entry) (cache : Cache) → Fine cache → Holds made (reads_block breaks query block cache next)
-  block_holds query block whole index segments spoilt next on made cache fine =
+  walk_holds query block whole index segments spoilt next on made cache fine =
       by_size_holds query block whole index spoilt block.index_size
       (λ at series. reads_chunks breaks block (flat_map (taken query) series) at.cache at.last (λ all. next at.cache (flat_map (shown query block all) series)))
       (λ made at series are fine. chunks made at series are fine) refl made cache fine
@@ -397,3 +377,45 @@ module _ {E : Type 0} (breaks : Break → Cache → E) (Holds : List Entry → P
           (all_members (IsSoughtOf query series) references (λ reference has. (is.members reference).0 has))
           (λ made all read_so same. on made at.cache series all are read_so (subst (IsSetOf (map reference_of (flat_map (taken query) series))) (sym same) is) fine) made))
           (λ none. spoilt made at.last at.cache (no_key series are none) fine)
+
+-- The same where a read ends what is lost, or what failed, at once.
+module _ {E : Type 0} (breaks : Break → Cache → E) (Holds : List Entry → Plan E → Type 0) (Asks : Op → Type 0) (Given : Entry → Type 0) (Fine : Cache → Type 0)
+    (Known : Key → Piece → List ℕ → Type 0) (Whole : Key → List ℕ → Type 0)
+    (idle : (made : List Entry) → Holds made never)
+    (asked : (made : List Entry) (op : Op) (next : Entry → Plan E) → Asks op → ((e : Entry) → e.op ≡ op → Given e → Holds (made ++ e ∷ []) (next e)) → Holds made (asks op next))
+    (found : (A : Type 0) (made : List Entry) (Such : A → Type 0) (one : IsAtMostOne Such) (next : A → Plan E) → ((a : A) → Such a → Holds made (next a)) → Holds made (finds Such one next))
+    (lost : (made : List Entry) (e : Entry) (op : Op) (cache : Cache) → Asks op → e.op ≡ op → Given e → e.reply ≡ Absent → Fine cache → Holds (made ++ e ∷ []) (ends (breaks (missing e.seq) cache)))
+    (failed : (made : List Entry) (e : Entry) (landed : Bool) (cache : Cache) → Given e → e.reply ≡ Failed landed → Fine cache → Holds (made ++ e ∷ []) (ends (breaks (fault e.seq) cache)))
+    (uses : (range : Range) (cache : Cache) → Fine cache → Fine (used range cache))
+    (keeps : (e : Entry) (key : Key) (piece : Piece) (bytes : List ℕ) (cache : Cache) → e.op ≡ GetRange key piece.from piece.len → Given e → e.reply ≡ Found bytes
+    → lookup (same_range (range_of key piece)) cache.entries ≡ None → Fine cache → Fine (kept (range_of key piece) bytes cache))
+    (known_read : (e : Entry) (key : Key) (piece : Piece) (bytes : List ℕ) → e.op ≡ GetRange key piece.from piece.len → Given e → e.reply ≡ Found bytes → Known key piece bytes)
+    (known_kept : (key : Key) (piece : Piece) (bytes : List ℕ) (cache : Cache) → Fine cache → lookup (same_range (range_of key piece)) cache.entries ≡ Some bytes → Known key piece bytes)
+    (whole_read : (e : Entry) (key : Key) (bytes : List ℕ) → e.op ≡ Get key → Given e → e.reply ≡ Found bytes → Whole key bytes) where
+  own_reads : (made : List Entry) (op : Op) (cache : Cache) (next : ℕ → List ℕ → Plan E) → Asks op → Fine cache
+      → ((e : Entry) (bytes : List ℕ) → e.op ≡ op → Given e → e.reply ≡ Found bytes → Holds (made ++ e ∷ []) (next e.seq bytes)) → Holds made (reads breaks op cache next)
+  own_reads made op cache next is fine on =
+      asked made op (λ (e : Entry). after_get e.reply (next e.seq) (ends (breaks (missing e.seq) cache)) (ends (breaks (fault e.seq) cache))) is
+      (λ e same given. by e same given e.reply refl)
+    where
+      by : (e : Entry) → e.op ≡ op → Given e → (r : Reply) → e.reply ≡ r
+          → Holds (made ++ e ∷ []) (after_get r (next e.seq) (ends (breaks (missing e.seq) cache)) (ends (breaks (fault e.seq) cache)))
+      by e same given (Found bytes) so = on e bytes same given so
+      by e same given Absent so = lost made e op cache is same given so fine
+      by e same given (Failed landed) so = failed made e landed cache given so fine
+      by e same given Clocked so = idle (made ++ e ∷ [])
+      by e same given Stored so = idle (made ++ e ∷ [])
+      by e same given Deleted so = idle (made ++ e ∷ [])
+      by e same given (Names names) so = idle (made ++ e ∷ [])
+
+  pub block_holds : (query : Query) (block : Block) → Asks (Get (Index block.ulid)) → ((from len : ℕ) → Asks (GetRange (Index block.ulid) from len))
+      → ((series : List IndexSeries) → AreSeries Known Whole query block series → (reference : ℕ) → IsSoughtOf query series reference → (from len : ℕ)
+      → Asks (GetRange (Segment block.ulid (segment_of reference)) from len))
+      → ((made : List Entry) (number : ℕ) (cache : Cache) → IsSpoilt Known Whole query block → Fine cache → Holds made (ends (breaks (damaged number) cache)))
+      → (next : Cache → List Triple → Plan E)
+      → ((made : List Entry) (after : Cache) (series : List IndexSeries) (all : List Read) → AreSeries Known Whole query block series
+      → AreChunksRead Known Whole block.ulid (tests_at block (flat_map (taken query) series)) all
+      → IsSetOf (map reference_of (flat_map (taken query) series)) (map (λ (one : Read). one.reference) all)
+      → Fine after → Holds made (next after (flat_map (shown query block all) series)))
+      → (made : List Entry) (cache : Cache) → Fine cache → Holds made (reads_block breaks query block cache next)
+  block_holds = walk_holds breaks Holds Asks Given Fine Known Whole own_reads found uses keeps known_read known_kept whole_read

@@ -20,3 +20,4 @@ pub mod ShownEnds
 pub mod StandingIndex
 pub mod StandingChunks
 pub mod FoundBlocks
+pub mod LastAbsent

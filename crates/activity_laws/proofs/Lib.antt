@@ -1,0 +1,4 @@
+pub mod PagesAsk
+pub mod Listing
+pub mod CleaningAsks
+pub mod SyncSights
