@@ -4,4 +4,6 @@ pub mod misses
 pub mod views
 pub mod blocks
 pub mod answers
+pub mod deeds
+pub mod marks
 pub mod Assembling

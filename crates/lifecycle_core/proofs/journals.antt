@@ -9,8 +9,6 @@ pub mod OneSync
 pub mod OneViewAt
 pub mod OneBreach
 pub mod Told
-pub mod RunEntries
-pub mod InOrder
 pub mod Standing
-pub mod TellingPuts
-pub mod Telling
+pub mod Rising
+pub mod LastNumbers

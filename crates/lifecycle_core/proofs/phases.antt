@@ -18,6 +18,11 @@ pub mod RunFronts
 pub mod Fronts
 pub mod ActingRuns
 pub mod PhaseViews
+pub mod Stretches
+pub mod OwnSyncs
 pub mod TasksMade
 pub mod OneEnding
 pub mod OneCut
+pub mod Turns
+pub mod WholeSeats
+pub mod NextSeats

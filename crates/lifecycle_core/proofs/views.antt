@@ -1,10 +1,12 @@
--- That a view is true of the script, finds each settled upload, and is there when a query asks for it.
+-- That a view keeps what was complete, covers each settled upload, and is there when a query asks for it.
 pub mod Metas
 pub mod Pages
-pub mod Puts
-pub mod Finds
-pub mod Soles
-pub mod TrueViews
 pub mod SyncEnds
-pub mod FewNames
+pub mod FewListed
+pub mod Undamaged
+pub mod RoundsUndamaged
 pub mod ViewsThere
+pub mod Seen
+pub mod OneOpening
+pub mod Alone
+pub mod Named

@@ -1,5 +1,5 @@
 -- Which entry of a journal shows first that the bucket lied, or that somebody acted at another time than the rules allow.
-use Rattle.std.specs.Prelude.{◌≡◌, ◌≢◌, ◌⊎◌, ◌+◌, ◌*◌, ◌<◌, ◌≤◌, ℕ, List, [], ◌∷◌, ◌++◌, length, Contains, Option, Some, None, codes}
+use Rattle.std.specs.Prelude.{◌≡◌, ◌≢◌, ◌⊎◌, ◌+◌, ◌*◌, ◌/◌, ◌<◌, ◌≤◌, ℕ, List, [], ◌∷◌, ◌++◌, length, Contains, Option, Some, None, slice_get, codes}
 use Rattle.std.specs.List.{flat_map}
 use Rattle.block_keys.specs.declared.key.Key.{Key}
 use Rattle.block_keys.specs.declared.key.Key.TheVariants.{Meta, Index, Segment, Mark}
@@ -15,8 +15,14 @@ use Rattle.ulid_core.specs.Times.{time_of}
 use Rattle.meta_fetcher.specs.declared.sync_end.SyncEnd.{SyncEnd}
 use Rattle.meta_fetcher.specs.declared.sync_end.SyncEnd.TheVariants as fetched
 use Rattle.meta_fetcher.specs.declared.view.View.{View}
+use Rattle.moment_core.specs.declared.moment.Moment.{Moment}
 use Rattle.script_core.specs.Workers.{workers_of}
+use Rattle.script_workers.specs.declared.phase.Phase.{Phase}
+use Rattle.script_workers.specs.declared.task.Task.{Task}
+use Rattle.script_workers.specs.declared.work.Work.{Work}
+use Rattle.script_workers.specs.declared.work.Work.TheVariants.{Compact}
 use Rattle.script_workers.specs.declared.worker.Worker.{Worker}
+use Rattle.lifecycle_core.specs.Conducts.{of_seat}
 use Rattle.lifecycle_core.specs.Holdings.{Use}
 use Rattle.lifecycle_core.specs.Setting.{Setting}
 use Rattle.lifecycle_core.specs.SyncsAndCalls.{IsSyncBy}
@@ -35,6 +41,8 @@ pub data Rule : Type 0 where
   sync_time : Rule
   -- a view is read in time
   view_time : Rule
+  -- a compaction reads in time
+  read_time : Rule
 
 abbrev pub rank : Rule → ℕ
 rank honesty = 0
@@ -42,6 +50,7 @@ rank upload_time = 1
 rank mark_time = 2
 rank sync_time = 3
 rank view_time = 4
+rank read_time = 5
 
 -- ---- what the bucket shows
 
@@ -97,15 +106,20 @@ pub record IsSyncIn (setting : Setting) (journal : List Entry) (gateway : ℕ) (
       → (other : IsSyncBy (sync_rules setting gateway) journal seat others own)
       → length other.before < length sync.before → length other.before + length others ≤ length sync.before
 
+-- no sync of the gateway that gave a view ended behind the one number and before the other
+abbrev pub NoViewBetween : Setting → List Entry → ℕ → ℕ → ℕ → Type 0
+NoViewBetween setting journal gateway last number =
+    (entries : List Entry) (view : View)
+    → IsSyncIn setting journal gateway entries (Some (fetched.View view))
+    → last_number entries < number → last_number entries ≤ last
+
 -- the view that a gateway has at the entry of a number: that of its last sync before it which gave one
 pub record IsViewAt (setting : Setting) (journal : List Entry) (gateway number : ℕ)
     (view : View) : Type 0 where
   pub entries : List Entry
   pub gave : IsSyncIn setting journal gateway entries (Some (fetched.View view))
   pub before : last_number entries < number
-  pub last : (others : List Entry) (other : View)
-      → IsSyncIn setting journal gateway others (Some (fetched.View other))
-      → last_number others < number → last_number others ≤ last_number entries
+  pub last : NoViewBetween setting journal gateway (last_number entries) number
 
 -- the key under which an operation reads
 abbrev pub read_key : Op → Option Key
@@ -132,20 +146,61 @@ ReadsSamples e = (key : Key) × (read_key e.op ≡ Some key) × HoldsSamples key
 abbrev pub IsCallRead : Setting → ℕ → Entry → Type 0
 IsCallRead setting gateway e = IsSeatOf setting gateway e.seat × ReadsSamples e
 
+-- ---- what compactions do
+
+-- the task at a place of the phase of a number
+pub record IsWorkAt (setting : Setting) (number place : ℕ) (work : Work) : Type 0 where
+  pub phase : Phase
+  pub task : Task
+  pub in_phases : slice_get setting.script.phases number ≡ Some phase
+  pub in_tasks : slice_get phase.tasks place ≡ Some task
+  pub asks : task.work ≡ work
+
+-- A worker whose task is a compaction has this seat.
+pub record IsCompactorSeat (setting : Setting) (seat : ℕ) : Type 0 where
+  pub number : ℕ
+  pub worker : Worker
+  pub works : Contains (workers_of setting.script number) worker
+  pub sits : worker.seat ≡ seat
+  pub place : ℕ
+  pub own : Contains worker.tasks place
+  pub stop : Option ℕ
+  pub compacts : IsWorkAt setting number place (Compact stop)
+
+-- the entry is a get, a range or a page
+abbrev pub IsReading : Op → Type 0
+IsReading (Clock moment) = ⊥
+IsReading (Put key bytes) = ⊥
+IsReading (Get key) = Unit {0}
+IsReading (GetRange key from len) = Unit {0}
+IsReading (Delete key) = ⊥
+IsReading (RootPage after limit) = Unit {0}
+IsReading (BlockPage ulid after limit) = Unit {0}
+
+-- The entry is a read at a seat, whose first entry was made at that moment.
+abbrev pub IsReadSince : List Entry → ℕ → Moment → Entry → Type 0
+IsReadSince journal seat begin e =
+    (e.seat ≡ seat) × IsReading e.op
+    × ((first : Entry) × (others : List Entry) × (of_seat seat journal ≡ first ∷ others) × (first.moment ≡ begin))
+
 -- ---- whom the rules watch
 
--- what of a journal the rules of time on syncs and calls are asked of
+-- what of a journal the rules of time on syncs, calls and compactions are asked of
 pub record Watch : Type 1 where
   -- the entries are one whole sync, which came to this end
   pub syncs : List Entry → Option SyncEnd → Type 0
   -- the entry is a read of a series call over this view
   pub reads : Entry → View → Type 0
+  -- the entry is a read of a compaction that began at this moment
+  pub compactions : Moment → Entry → Type 0
 
--- the script's gateways, each at the seats of its workers, which read by the view of their last sync
+-- The script's gateways, each at the seats of its workers, which read by the view of their last sync, and its compactions, each at
+-- the seat of its worker.
 abbrev pub watched : Setting → List Entry → Watch
 watched setting journal = record {
   syncs = λ entries end. (gateway : ℕ) × IsSyncIn setting journal gateway entries end;
   reads = λ e view. (gateway : ℕ) × IsCallRead setting gateway e × IsViewAt setting journal gateway e.seq view;
+  compactions = λ begin e. IsCompactorSeat setting e.seat × IsReadSince journal e.seat begin e;
 }
 
 -- one call over a view, and the sync that gave the view, at whatever seats they were made
@@ -153,6 +208,15 @@ abbrev pub watched_call : Use → List Entry → List Entry → Watch
 watched_call used sync entries = record {
   syncs = λ own end. (own ≡ sync) × (end ≡ Some (fetched.View used.view));
   reads = λ e view. Contains entries e × ReadsSamples e × (view ≡ used.view);
+  compactions = λ begin e. ⊥;
+}
+
+-- one compaction, at whatever seat it was made
+abbrev pub watched_compaction : List Entry → ℕ → Watch
+watched_compaction journal seat = record {
+  syncs = λ own end. ⊥;
+  reads = λ e view. ⊥;
+  compactions = IsReadSince journal seat;
 }
 
 -- ---- breaches
@@ -161,7 +225,7 @@ watched_call used sync entries = record {
 abbrev pub IsOver : ℕ → ℕ → ℕ → ℕ → Type 0
 IsOver is most x y = (x ≡ is) × (y ≡ most) × (most < is)
 
--- The rule refuses the entry, which follows the entries before it in the journal, where these syncs and calls are watched. Of the
+-- The rule refuses the entry, which follows the entries before it in the journal, where these syncs, calls and compactions are watched. Of the
 -- two numbers the first one is what it shows and the second one what it owes, or the first one is above the second one and may not
 -- be.
 abbrev pub RefusesUnder : Setting → Watch → Rule → List Entry → Entry → ℕ → ℕ → Type 0
@@ -182,8 +246,11 @@ RefusesUnder setting watch sync_time before e x y =
 RefusesUnder setting watch view_time before e x y =
     (view : View) × watch.reads e view
     × IsOver (e.moment.ms + setting.script.rules.ignore.ms) (view.begin.ms + setting.script.rules.delete.ms) x y
+RefusesUnder setting watch read_time before e x y =
+    (begin : Moment) × watch.compactions begin e
+    × IsOver e.moment.ms (begin.ms + setting.script.rules.delete.ms / 2) x y
 
--- where the script's gateways are watched
+-- where the script's gateways and compactions are watched
 abbrev pub Refuses : Setting → List Entry → Rule → List Entry → Entry → ℕ → ℕ → Type 0
 Refuses setting journal rule before e x y = RefusesUnder setting (watched setting journal) rule before e x y
 

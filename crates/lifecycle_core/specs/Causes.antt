@@ -9,9 +9,11 @@ use Rattle.world_core.specs.declared.reply.Reply.TheVariants.{Absent}
 use Rattle.shipper.specs.declared.upload_end.UploadEnd.TheVariants as shipped
 use Rattle.meta_fetcher.specs.declared.sync_end.SyncEnd.TheVariants as fetched
 use Rattle.series_calls.specs.declared.series_end.SeriesEnd.TheVariants as called
+use Rattle.compactor.specs.declared.compact_end.CompactEnd.TheVariants as compacting
+use Rattle.cleaner.specs.declared.clean_end.CleanEnd.TheVariants as cleaning
 use Rattle.lifecycle_core.specs.Setting.{Setting}
-use Rattle.lifecycle_core.specs.Breaches.{Rule, honesty, upload_time, mark_time, sync_time, view_time, RefusesUnder, Watch, read_key, watched}
-use Rattle.lifecycle_core.specs.Tasks.{End, uploaded, synced, answered, not_asked, refused, without_view, stopped}
+use Rattle.lifecycle_core.specs.Breaches.{Rule, honesty, upload_time, mark_time, sync_time, view_time, read_time, RefusesUnder, Watch, read_key, watched}
+use Rattle.lifecycle_core.specs.Tasks.{End, uploaded, synced, compacted, cleaned, answered, not_asked, refused, without_view, stopped}
 use Rattle.lifecycle_core.specs.TimeRules.{PutsMark, PutsObject}
 
 -- some worker came to this end
@@ -20,18 +22,30 @@ SomeCame ends end =
     (phase : List (List End)) × (own : List End) × Contains ends phase × Contains phase own
     × Contains own end
 
--- What may be blamed for an object of the block that the entry of this number did not find: any reply that is a lie, an object or
--- a mark of this block that was put at another time than it might have been, or that this entry itself came too late.
-abbrev pub IsBlamed : ℕ → ℕ → Rule → Entry → Type 0
-IsBlamed ulid number honesty e = Unit {0}
-IsBlamed ulid number upload_time e = PutsObject ulid e
-IsBlamed ulid number mark_time e = (second : ℕ) × PutsMark ulid second e
-IsBlamed ulid number sync_time e = ⊥
-IsBlamed ulid number view_time e = e.seq ≡ number
+-- What may be blamed for an object of the block that an entry of a call did not find: any reply that is a lie, an object or a mark of
+-- this block that was put at another time than it might have been, or that this entry itself came too late.
+abbrev pub IsBlamed : Entry → ℕ → Rule → Entry → Type 0
+IsBlamed missed ulid honesty e = Unit {0}
+IsBlamed missed ulid upload_time e = PutsObject ulid e
+IsBlamed missed ulid mark_time e = (second : ℕ) × PutsMark ulid second e
+IsBlamed missed ulid sync_time e = ⊥
+IsBlamed missed ulid view_time e = e.seq ≡ missed.seq
+IsBlamed missed ulid read_time e = ⊥
 
--- The entry of this number found no object, and some entry that is not after it is to be blamed for that, where these syncs and calls
--- are watched.
-pub record IsExplainedUnder (setting : Setting) (watch : Watch) (journal : List Entry) (number : ℕ) : Type 0 where
+-- The same of a compaction's entry: a reply that is a lie, an object of this block that was put at another time, or that an entry of
+-- this compaction came too late.
+abbrev pub IsBlamedInCompaction : Entry → ℕ → Rule → Entry → Type 0
+IsBlamedInCompaction missed ulid honesty e = Unit {0}
+IsBlamedInCompaction missed ulid upload_time e = PutsObject ulid e
+IsBlamedInCompaction missed ulid mark_time e = ⊥
+IsBlamedInCompaction missed ulid sync_time e = ⊥
+IsBlamedInCompaction missed ulid view_time e = ⊥
+IsBlamedInCompaction missed ulid read_time e = e.seat ≡ missed.seat
+
+-- The entry of this number found no object, and some entry that is not after it is to be blamed for that, where these syncs, calls and
+-- compactions are watched.
+pub record IsExplainedBy (setting : Setting) (watch : Watch) (blames : Entry → ℕ → Rule → Entry → Type 0) (journal : List Entry)
+    (number : ℕ) : Type 0 where
   pub missed : Entry
   pub key : Key
   pub at : entry_at journal number ≡ Some missed
@@ -46,16 +60,30 @@ pub record IsExplainedUnder (setting : Setting) (watch : Watch) (journal : List 
   pub parts : journal ≡ before ++ entry ∷ after
   pub early : entry.seq ≤ number
   pub refused : RefusesUnder setting watch rule before entry x y
-  pub blamed : IsBlamed (key_ulid key) number rule entry
+  pub blamed : blames missed (key_ulid key) rule entry
+
+-- as a call's miss
+abbrev pub IsExplainedUnder : Setting → Watch → List Entry → ℕ → Type 0
+IsExplainedUnder setting watch journal number = IsExplainedBy setting watch IsBlamed journal number
 
 -- where the script's gateways are watched
 abbrev pub IsExplained : Setting → List Entry → ℕ → Type 0
 IsExplained setting journal number = IsExplainedUnder setting (watched setting journal) journal number
 
--- a call found an object missing, at the entry of this number
+-- a call or a compaction found an object missing, at the entry of this number
 abbrev pub IsMissing : End → ℕ → Type 0
 IsMissing (uploaded end) number = ⊥
 IsMissing (synced end) number = ⊥
+IsMissing (compacted (compacting.Done collected groups expired)) number = ⊥
+IsMissing (compacted (compacting.Fault entry)) number = ⊥
+IsMissing (compacted (compacting.Missing entry)) number = entry ≡ number
+IsMissing (compacted (compacting.Damaged entry)) number = ⊥
+IsMissing (compacted compacting.TooMany) number = ⊥
+IsMissing (compacted compacting.TooLarge) number = ⊥
+IsMissing (cleaned (cleaning.Done blocks partials)) number = ⊥
+IsMissing (cleaned (cleaning.Fault entry)) number = ⊥
+IsMissing (cleaned (cleaning.Damaged entry)) number = ⊥
+IsMissing (cleaned cleaning.TooMany) number = ⊥
 IsMissing (answered used (called.Answer series sources)) number = ⊥
 IsMissing (answered used (called.Missing entry)) number = entry ≡ number
 IsMissing (answered used (called.Damaged entry)) number = ⊥
@@ -65,11 +93,23 @@ IsMissing not_asked number = ⊥
 IsMissing (refused cause) number = ⊥
 IsMissing (stopped count) number = ⊥
 
+-- what may be blamed for the miss of a task that came to this end
+abbrev pub blamed_for : End → Entry → ℕ → Rule → Entry → Type 0
+blamed_for (compacted end) = IsBlamedInCompaction
+blamed_for (uploaded end) = IsBlamed
+blamed_for (synced end) = IsBlamed
+blamed_for (cleaned end) = IsBlamed
+blamed_for (answered used end) = IsBlamed
+blamed_for without_view = IsBlamed
+blamed_for not_asked = IsBlamed
+blamed_for (refused cause) = IsBlamed
+blamed_for (stopped count) = IsBlamed
+
 -- Where a worker says that an object was missing, the journal shows why.
 abbrev pub AreMissesExplained : Setting → List Entry → List (List (List End)) → Type 0
 AreMissesExplained setting journal ends =
     (end : End) (number : ℕ) → SomeCame ends end → IsMissing end number
-    → IsExplained setting journal number
+    → IsExplainedBy setting (watched setting journal) (blamed_for end) journal number
 
 -- No worker says that an object was missing.
 abbrev pub AreFound : List (List (List End)) → Type 0
@@ -82,6 +122,16 @@ IsDamaged (synced (fetched.View view)) = ⊥
 IsDamaged (synced (fetched.Fault entry)) = ⊥
 IsDamaged (synced (fetched.Damaged entry)) = Unit {0}
 IsDamaged (synced fetched.TooMany) = ⊥
+IsDamaged (compacted (compacting.Done collected groups expired)) = ⊥
+IsDamaged (compacted (compacting.Fault entry)) = ⊥
+IsDamaged (compacted (compacting.Missing entry)) = ⊥
+IsDamaged (compacted (compacting.Damaged entry)) = Unit {0}
+IsDamaged (compacted compacting.TooMany) = ⊥
+IsDamaged (compacted compacting.TooLarge) = ⊥
+IsDamaged (cleaned (cleaning.Done blocks partials)) = ⊥
+IsDamaged (cleaned (cleaning.Fault entry)) = ⊥
+IsDamaged (cleaned (cleaning.Damaged entry)) = Unit {0}
+IsDamaged (cleaned cleaning.TooMany) = ⊥
 IsDamaged (answered used (called.Answer series sources)) = ⊥
 IsDamaged (answered used (called.Missing entry)) = ⊥
 IsDamaged (answered used (called.Damaged entry)) = Unit {0}
@@ -104,6 +154,16 @@ IsFault (synced (fetched.View view)) number = ⊥
 IsFault (synced (fetched.Fault entry)) number = entry ≡ number
 IsFault (synced (fetched.Damaged entry)) number = ⊥
 IsFault (synced fetched.TooMany) number = ⊥
+IsFault (compacted (compacting.Done collected groups expired)) number = ⊥
+IsFault (compacted (compacting.Fault entry)) number = entry ≡ number
+IsFault (compacted (compacting.Missing entry)) number = ⊥
+IsFault (compacted (compacting.Damaged entry)) number = ⊥
+IsFault (compacted compacting.TooMany) number = ⊥
+IsFault (compacted compacting.TooLarge) number = ⊥
+IsFault (cleaned (cleaning.Done blocks partials)) number = ⊥
+IsFault (cleaned (cleaning.Fault entry)) number = entry ≡ number
+IsFault (cleaned (cleaning.Damaged entry)) number = ⊥
+IsFault (cleaned cleaning.TooMany) number = ⊥
 IsFault (answered used (called.Answer series sources)) number = ⊥
 IsFault (answered used (called.Missing entry)) number = ⊥
 IsFault (answered used (called.Damaged entry)) number = ⊥
@@ -119,7 +179,8 @@ AreFaultsShown journal ends =
     (end : End) (number : ℕ) → SomeCame ends end → IsFault end number
     → (e : Entry) × (entry_at journal number ≡ Some e) × IsTrue (has_failed e.reply)
 
--- The task came to what it is for, or to the stop of its line, or its block is not shipped.
+-- The task came to what it is for, or to the stop of its line, or its block is not shipped, or a compacted block's index would be too
+-- long, or one block has a million objects.
 abbrev pub IsWell : End → Type 0
 IsWell (uploaded (shipped.Done count)) = Unit {0}
 IsWell (uploaded shipped.Already) = Unit {0}
@@ -128,6 +189,16 @@ IsWell (synced (fetched.View view)) = Unit {0}
 IsWell (synced (fetched.Fault entry)) = ⊥
 IsWell (synced (fetched.Damaged entry)) = ⊥
 IsWell (synced fetched.TooMany) = ⊥
+IsWell (compacted (compacting.Done collected groups expired)) = Unit {0}
+IsWell (compacted (compacting.Fault entry)) = ⊥
+IsWell (compacted (compacting.Missing entry)) = ⊥
+IsWell (compacted (compacting.Damaged entry)) = ⊥
+IsWell (compacted compacting.TooMany) = ⊥
+IsWell (compacted compacting.TooLarge) = Unit {0}
+IsWell (cleaned (cleaning.Done blocks partials)) = Unit {0}
+IsWell (cleaned (cleaning.Fault entry)) = ⊥
+IsWell (cleaned (cleaning.Damaged entry)) = ⊥
+IsWell (cleaned cleaning.TooMany) = Unit {0}
 IsWell (answered used (called.Answer series sources)) = Unit {0}
 IsWell (answered used (called.Missing entry)) = ⊥
 IsWell (answered used (called.Damaged entry)) = ⊥

@@ -1,9 +1,11 @@
 -- Which uploads a journal shows to be complete, and which of them a sync has to see.
-use Rattle.std.specs.Prelude.{◌≡◌, ◌<◌, ◌≤◌, ◌+◌, ◌≤ℤ◌, ℕ, List, ◌∷◌, ◌++◌, All, IsTrue, IsSome}
+use Rattle.std.specs.Prelude.{◌≡◌, ◌<◌, ◌≤◌, ◌+◌, ◌+ℤ◌, ◌<ℤ◌, ◌≤ℤ◌, ℕ, pos, List, ◌∷◌, ◌++◌, All, IsTrue, IsSome, Option, Some, None}
 use Rattle.block_keys.specs.declared.key.Key.TheVariants.{Meta}
 use Rattle.block_meta.specs.MetaFields.{MetaFields}
 use Rattle.block_meta.specs.MetaText.{IsMetaText}
+use Rattle.moment_core.specs.declared.moment.Moment.{Moment}
 use Rattle.moment_core.specs.declared.partition.Partition.{Partition}
+use Rattle.moment_core.specs.declared.span.Span.{Span}
 use Rattle.meta_fetcher.specs.declared.rules.SyncRules.{SyncRules}
 use Rattle.world_core.specs.Standing.{has_landed}
 use Rattle.world_core.specs.declared.op.Op.TheVariants.{Put}
@@ -44,9 +46,16 @@ pub record Passes (partition : Partition) (meta : MetaFields) : Type 0 where
   pub from : partition.low ≤ℤ meta.max_time
   pub upto : meta.min_time ≤ℤ partition.high
 
--- By the rules of a view's sync: the block was complete before the sync began, its consistency delay was over by then, and it passes
--- its partition.
+-- A retention is set, no sample of the block was dropped, and the moment is more than the retention after the block's end.
+abbrev pub IsExpired : Option Span → MetaFields → Moment → Type 0
+IsExpired None meta moment = ⊥
+IsExpired (Some retention) meta moment =
+    (meta.resolution ≡ pos 0) × ((meta.max_time +ℤ pos retention.ms) <ℤ pos moment.ms)
+
+-- By the rules of a view's sync: the block was complete before the sync began, its consistency delay was over by then, it had not
+-- expired, and it passes the sync's partition.
 pub record IsSettled (setting : Setting) (journal : List Entry) (rules : SyncRules) (used : Use) (ulid : ℕ) : Type 0 where
   pub uploaded : IsUploadedBefore setting journal ulid used.view.first
   pub old : time_of ulid + rules.consistency.ms ≤ used.view.begin.ms
+  pub fresh : ¬ IsExpired setting.script.rules.retention uploaded.meta used.view.begin
   pub passes : Passes rules.partition uploaded.meta

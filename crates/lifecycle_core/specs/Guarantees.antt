@@ -1,5 +1,5 @@
 -- What a query's answer is worth: the statement about each answered query of a lawful journal.
-use Rattle.std.specs.Prelude.{◌≡◌, ◌≢◌, ℕ, ℤ, List, map, All, Contains, Option, Some, slice_get}
+use Rattle.std.specs.Prelude.{◌≡◌, ◌≢◌, ◌⊎◌, ℕ, ℤ, List, map, All, Contains, Option, Some, slice_get}
 use Rattle.std.specs.List.{AllZip, flat_map}
 use Rattle.label_sets.specs.Triples.{triples_of}
 use Rattle.label_sets.specs.declared.series.Series.{Series}
@@ -12,10 +12,11 @@ use Rattle.script_core.specs.Workers.{workers_of}
 use Rattle.script_workers.specs.declared.phase.Phase.{Phase}
 use Rattle.script_workers.specs.declared.task.Task.{Task}
 use Rattle.script_workers.specs.declared.work.Work.TheVariants as work
-use Rattle.lifecycle_core.specs.Breaches.{Watch}
+use Rattle.lifecycle_core.specs.Breaches.{IsUnbroken, Watch}
 use Rattle.lifecycle_core.specs.Causes.{AreFaultsShown, AreMissesExplained, AreUndamaged, AreWell, IsExplainedUnder}
 use Rattle.lifecycle_core.specs.Conducts.{CameTo}
 use Rattle.lifecycle_core.specs.Phases.{IsInTurn, IsRunOf}
+use Rattle.lifecycle_core.specs.Quiet.{DeletesNothing}
 use Rattle.lifecycle_core.specs.Tasks.{End, answered, asks_in, sync_rules}
 use Rattle.lifecycle_core.specs.TimeRules.{IsUploadedInTime, IsSyncedInTime}
 use Rattle.label_sets.specs.Triples.{Triple}
@@ -29,9 +30,11 @@ use Rattle.lifecycle_core.specs.SyncsAndCalls.{IsViewOf}
 use Rattle.matchers.specs.declared.matcher.Matcher.{Matcher}
 use Rattle.world_core.specs.declared.entry.Entry.{Entry}
 use Rattle.lifecycle_core.specs.Setting.{Setting}
-use Rattle.lifecycle_core.specs.Completed.{IsUploadedBefore, IsSettled}
+use Rattle.block_meta.specs.MetaFields.{MetaFields}
+use Rattle.lifecycle_core.specs.Completed.{IsCompletedAt, IsUploadedBefore, IsSettled}
 use Rattle.lifecycle_core.specs.Held.{held}
 use Rattle.lifecycle_core.specs.Holdings.{Use}
+use Rattle.lifecycle_core.specs.PutBlocks.{HoldsItsSources}
 
 -- what a gateway gave to a query
 pub record Named : Type 0 where
@@ -135,17 +138,22 @@ pub record IsSoundCall (setting : Setting) (watch : Watch) (journal : List Entry
       → (series : List Series) (sources : List ℕ) → end ≡ Some (ended.Answer series sources)
       → (ulid : ℕ) → IsSettled setting journal rules used ulid → Contains sources ulid
 
--- What is guaranteed of a run that came to these ends. A missing object is explained by the journal, and a failed call shown by it,
--- whatever the bucket does. Where the bucket is honest, nothing is found damaged and each answered query is sound; and where, besides,
--- no call failed and each phase was done before the next one began, every task ends well.
+-- What is guaranteed of a run that came to these ends. A failed call is shown by the journal, whatever the bucket does; and where each
+-- phase was done before the next one began, so that gateways used their last views, a missing object is explained by it. Where the
+-- bucket is honest, nothing is found damaged, each answered query is sound, and each complete block holds what its sources hold. And
+-- where no call failed and each phase was done before the next one began, every task ends well if no entry breaks a rule, or if the
+-- bucket is honest and nothing is deleted.
 pub record IsGuaranteed (setting : Setting) (journal : List Entry)
     (ends : List (List (List End))) : Type 0 where
-  pub explained : AreMissesExplained setting journal ends
+  pub explained : IsInTurn setting ends → AreMissesExplained setting journal ends
   pub faults : AreFaultsShown journal ends
   pub undamaged : IsHonest journal → AreUndamaged ends
   pub sound : IsHonest journal → (query : Answered) → IsGiven setting ends query
       → IsSound setting journal query
-  pub complete : IsInTurn setting ends → IsHonest journal → failed_count journal ≡ 0 → AreWell ends
+  pub held : IsHonest journal → (ulid seq : ℕ) (meta : MetaFields) → IsCompletedAt journal ulid seq meta
+      → HoldsItsSources setting journal ulid seq
+  pub complete : IsInTurn setting ends → IsUnbroken setting journal ⊎ (IsHonest journal × DeletesNothing setting.script)
+      → failed_count journal ≡ 0 → AreWell ends
 
 -- a journal of the script's runs, each phase done before the next one began, of which all this is guaranteed
 abbrev pub IsGuaranteedJournal : Setting → List Entry → Type 0

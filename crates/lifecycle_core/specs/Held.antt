@@ -7,13 +7,19 @@ use Rattle.label_sets.specs.Finals.{final_of}
 use Rattle.label_sets.specs.Triples.{Triple, triples_under}
 use Rattle.script_core.specs.declared.block.Block.{Block}
 use Rattle.script_core.specs.declared.body.Body.{Body}
-use Rattle.script_core.specs.declared.body.Body.TheVariants.{Inline}
+use Rattle.script_core.specs.declared.body.Body.TheVariants.{Inline, OnShelf}
 use Rattle.script_core.specs.declared.script.Script.{Script}
-use Rattle.lifecycle_core.specs.Setting.{Setting}
+use Rattle.lifecycle_core.specs.Setting.{FromShelf, Setting, holding, refusing}
 
--- the series of a declared block, ascending by their labels
+-- the series of a block that was read of a shelf; one that is refused has none
+abbrev pub series_from : FromShelf → List Series
+series_from (holding files series) = series
+series_from (refusing refusal) = []
+
+-- the series of a declared block, ascending by their labels: those of its lines, or those that its files hold
 abbrev pub given_by : Setting → ℕ → Body → List Series
 given_by setting ulid (Inline min_time max_time series) = series
+given_by setting ulid OnShelf = series_from (setting.shelf ulid)
 
 abbrev pub given : Setting → Block → List Series
 given setting block = given_by setting block.ulid block.body

@@ -32,8 +32,8 @@ duties_from gateways place (task ∷ tasks) =
 
 -- whether the worker does what the hand is to do
 abbrev pub serves : Hand → Option ℕ → List ℕ → Bool
-serves (hands.Upload place) None tasks = list_any (λ own. own == place) tasks
-serves (hands.Upload place) (Some gateway) tasks = false
+serves (hands.Alone place) None tasks = list_any (λ own. own == place) tasks
+serves (hands.Alone place) (Some gateway) tasks = false
 serves (hands.Gateway place) None tasks = false
 serves (hands.Gateway place) (Some gateway) tasks = gateway == place
 

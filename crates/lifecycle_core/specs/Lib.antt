@@ -13,6 +13,10 @@ pub mod InLine
 pub mod Acting
 pub mod SyncsAndCalls
 pub mod TimeRules
+pub mod Decisions
+pub mod Marked
+pub mod PutBlocks
+pub mod Quiet
 pub mod Breaches
 pub mod Causes
 pub mod Guarantees

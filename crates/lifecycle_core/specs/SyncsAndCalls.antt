@@ -7,6 +7,7 @@ use Rattle.meta_fetcher.specs.declared.rules.SyncRules.{SyncRules}
 use Rattle.meta_fetcher.specs.declared.sync_end.SyncEnd.{SyncEnd}
 use Rattle.meta_fetcher.specs.declared.sync_end.SyncEnd.TheVariants as fetched
 use Rattle.block_ranges.specs.Reads.{Cache, Query as Question}
+use Rattle.series_calls.specs.Asking.{IsReadOf}
 use Rattle.series_calls.specs.KeptRanges.{IsOfReads}
 use Rattle.series_calls.specs.SeriesCalls.{CallEnd, SeriesRun}
 use Rattle.series_calls.specs.declared.series_end.SeriesEnd.{SeriesEnd}
@@ -31,7 +32,8 @@ pub record IsViewOf (rules : SyncRules) (journal : List Entry) (used : Use) (ent
   pub last : used.last ≡ last_number entries
 
 -- The entries are some of the journal's, in their order, all of them made after the sync that gave the view, and a call over that
--- view that came to this end. What it had in its cache was read by entries that were made before all of them.
+-- view that came to this end. What it had in its cache was read by entries that were made before all of them,
+-- each of which read the index or the segments of a block.
 pub record IsCallIn (journal : List Entry) (used : Use) (question : Question) (entries : List Entry)
     (end : Option SeriesEnd) : Type 0 where
   pub among : (e : Entry) → Contains entries e → Contains journal e
@@ -40,6 +42,7 @@ pub record IsCallIn (journal : List Entry) (used : Use) (question : Question) (e
   pub cache : Cache
   pub earlier : List Entry
   pub known : All (λ one. Contains journal one × All (λ e. one.seq < e.seq) entries) earlier
+  pub reads : All (λ one. (ulid : ℕ) × IsReadOf ulid one.op) earlier
   pub cached : IsOfReads earlier cache
   pub own : Option CallEnd
   pub run : SeriesRun used.view question cache entries own

@@ -2,11 +2,15 @@
 use Rattle.std.specs.Prelude.{◌≡◌, ◌⊎◌, ◌==◌, ℕ, ℤ, List, [], fold, find, Option, Some, None, option_map, slice_get, unwrap_or}
 use Rattle.moment_core.specs.declared.partition.Partition.{Partition}
 pub use Rattle.moment_core.specs.Partitions.{all_times}
-use Rattle.world_core.specs.Plans.{Runs}
+use Rattle.world_core.specs.Plans.{Plan, Runs}
 use Rattle.world_core.specs.Stops.{IsBefore, IsStopped}
 use Rattle.world_core.specs.declared.entry.Entry.{Entry}
 use Rattle.shipper.specs.declared.upload_end.UploadEnd.{UploadEnd}
 use Rattle.shipper.specs.Uploads.{upload}
+use Rattle.compactor.specs.Compactions.{compaction}
+use Rattle.compactor.specs.declared.compact_end.CompactEnd.{CompactEnd}
+use Rattle.cleaner.specs.Cleanings.{cleaning}
+use Rattle.cleaner.specs.declared.clean_end.CleanEnd.{CleanEnd}
 use Rattle.block_keys.specs.declared.object.Object.{Object}
 use Rattle.meta_fetcher.specs.declared.rules.SyncRules.{SyncRules}
 use Rattle.meta_fetcher.specs.declared.sync_end.SyncEnd.{SyncEnd}
@@ -20,7 +24,7 @@ use Rattle.querier.specs.declared.ask.Ask.{Ask}
 use Rattle.querier.specs.Asks.{asks_of}
 use Rattle.script_core.specs.declared.block.Block.{Block}
 use Rattle.script_workers.specs.declared.work.Work.{Work}
-use Rattle.script_workers.specs.declared.work.Work.TheVariants.{Upload, Sync, Query}
+use Rattle.script_workers.specs.declared.work.Work.TheVariants.{Upload, Sync, Compact, Clean, Query}
 use Rattle.lifecycle_core.specs.Held.{declared}
 use Rattle.lifecycle_core.specs.Conducts.{Who}
 use Rattle.lifecycle_core.specs.Holdings.{Holding, Use}
@@ -30,6 +34,8 @@ use Rattle.lifecycle_core.specs.Setting.{Setting}
 pub data End : Type 0 where
   uploaded : UploadEnd → End
   synced : SyncEnd → End
+  compacted : CompactEnd → End
+  cleaned : CleanEnd → End
   -- a gateway's part of a query, with the view that it used
   answered : Use → SeriesEnd → End
   -- a gateway's part of a query, where none of its syncs gave a view
@@ -76,6 +82,11 @@ last_number entries = fold (λ last e. e.seq) 0 entries
 -- a run that the script stops
 abbrev pub IsStop : Option ℕ → List Entry → Option End → Type 0
 IsStop stop entries end = (n : ℕ) × IsStopped stop entries n × (end ≡ Some (stopped n))
+
+-- A run of a plan, whose end gives such an end of the task, unless it comes to the stop of its line.
+abbrev pub StoppedRun : {E : Type 0} → Plan E → (E → End) → Option ℕ → List Entry → Option End → Type 0
+StoppedRun {E} plan gives stop entries end =
+    (own : Option E) × Runs plan entries own × (((end ≡ option_map gives own) × IsBefore stop entries) ⊎ IsStop stop entries end)
 
 -- An upload ships the objects of a block, unless it is stopped.
 abbrev pub BlockUpload : Setting → Block → Option ℕ → List Entry → Option End → Type 0
@@ -136,6 +147,13 @@ PartTask setting selector None before entries end after = NothingDone not_asked 
 PartTask setting selector (Some ask) before entries end after =
     QueryTask before.used (question_of setting selector ask) before entries end after
 
+-- one round of compactions, and one cleaning, by the script's rules
+abbrev pub CompactTask : Setting → Option ℕ → List Entry → Option End → Type 0
+CompactTask setting stop entries end = StoppedRun (compaction setting.script.rules) compacted stop entries end
+
+abbrev pub CleanTask : Setting → Option ℕ → List Entry → Option End → Type 0
+CleanTask setting stop entries end = StoppedRun (cleaning setting.script.rules) cleaned stop entries end
+
 -- What a worker may do for the task at a place of its phase: from what it holds, its entries, its end, which is none where the
 -- run broke off, and what it holds then.
 abbrev pub TaskRun : Setting → Who → ℕ → Work → Holding → List Entry → Option End → Holding → Type 0
@@ -143,5 +161,9 @@ TaskRun setting who place (Upload ulid stop) before entries end after =
     UploadTask setting ulid stop entries end × (after ≡ before)
 TaskRun setting who place (Sync gateway) before entries end after =
     SyncTask setting gateway before entries end after
+TaskRun setting who place (Compact stop) before entries end after =
+    CompactTask setting stop entries end × (after ≡ before)
+TaskRun setting who place (Clean stop) before entries end after =
+    CleanTask setting stop entries end × (after ≡ before)
 TaskRun setting who place (Query low high selector) before entries end after =
     PartTask setting selector (ask_to setting who.gateway low high) before entries end after

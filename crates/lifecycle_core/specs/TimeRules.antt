@@ -1,11 +1,12 @@
 -- The rules of time under which a run has to stay, so that no block is deleted while somebody still reads it. A script's
 -- rules say how long each delay is; a journal shows whether they were kept.
-use Rattle.std.specs.Prelude.{◌≡◌, ◌+◌, ◌*◌, ◌≤◌, ℕ, List, ◌∷◌, All, Contains, IsTrue}
+use Rattle.std.specs.Prelude.{◌≡◌, ◌+◌, ◌*◌, ◌/◌, ◌≤◌, ℕ, List, ◌∷◌, All, Contains, IsTrue}
 use Rattle.block_keys.specs.Keys.{key_ulid}
 use Rattle.block_keys.specs.declared.key.Key.{Key}
 use Rattle.block_keys.specs.declared.key.Key.TheVariants.{Meta, Index, Segment, Mark}
 use Rattle.block_meta.specs.MetaFields.{MarkFields}
 use Rattle.block_meta.specs.MetaText.{IsMarkText}
+use Rattle.moment_core.specs.declared.moment.Moment.{Moment}
 use Rattle.moment_core.specs.declared.rules.Rules.{Rules}
 use Rattle.meta_fetcher.specs.declared.view.View.{View}
 use Rattle.ulid_core.specs.Times.{time_of}
@@ -54,3 +55,8 @@ IsSyncedInTime rules entries =
 -- before the delete delay, less the ignore delay, has gone by from the sync's beginning.
 abbrev pub IsReadInTime : Rules → View → Entry → Type 0
 IsReadInTime rules view e = e.moment.ms + rules.ignore.ms ≤ view.begin.ms + rules.delete.ms
+
+-- A compaction reads within half the delete delay from its beginning on: no mark that its sync passed over can have led to a deletion
+-- by then.
+abbrev pub IsCompactionReadInTime : Rules → Moment → Entry → Type 0
+IsCompactionReadInTime rules begin e = e.moment.ms ≤ begin.ms + rules.delete.ms / 2

@@ -29,7 +29,16 @@ ghost use Rattle.script_core.specs.Lawful.{IsLawfulScript};
 ghost use Rattle.script_core.specs.Workers.{workers_of};
 ghost use Rattle.lifecycle_core.specs.Acting.{IsActing};
 ghost use Rattle.lifecycle_core.specs.Cuts.{IsCutBehind};
-ghost use Rattle.lifecycle_core.specs.Breaches.{IsBreach, IsCallRead, IsLie, IsSeatOf, IsSyncIn, IsUnbroken, IsViewAt, Rule, read_key, watched_call};
+ghost use Rattle.moment_core.specs.declared.moment.Moment.{Moment};
+ghost use Rattle.moment_core.specs.declared.rules.Rules.{Rules};
+ghost use Rattle.block_keys.specs.Keys.{key_ulid};
+ghost use Rattle.compactor.specs.Compactions.{CompactRun};
+ghost use Rattle.compactor.specs.declared.compact_end.CompactEnd.{CompactEnd};
+ghost use Rattle.cleaner.specs.Cleanings.{CleanRun};
+ghost use Rattle.cleaner.specs.declared.clean_end.CleanEnd.{CleanEnd};
+ghost use Rattle.lifecycle_core.specs.PutBlocks.{WasPutBefore};
+ghost use Rattle.lifecycle_core.specs.Quiet.{CompactsNothing, DeletesNothing};
+ghost use Rattle.lifecycle_core.specs.Breaches.{HoldsSamples, IsBreach, IsCallRead, IsCompactorSeat, IsLie, IsReadSince, IsSeatOf, IsSyncIn, IsUnbroken, IsViewAt, NoViewBetween, Rule, read_key, watched_call};
 ghost use Rattle.lifecycle_core.specs.Causes.{AreFound, AreMissesExplained, AreWell, IsExplained, IsExplainedUnder};
 ghost use Rattle.lifecycle_core.specs.Completed.{IsSettled};
 ghost use Rattle.lifecycle_core.specs.Conducts.{CameTo};
@@ -42,7 +51,7 @@ ghost use Rattle.lifecycle_core.specs.Phases.{IsFinished, IsInTurn, IsLawfulJour
 ghost use Rattle.lifecycle_core.specs.QueriesAsked.{IsQueryAt};
 ghost use Rattle.lifecycle_core.specs.Tasks.{End, answered, ask_to, sync_rules};
 ghost use Rattle.lifecycle_core.specs.Ways.{AreFinished, BeginsPhase};
-ghost use Rattle.lifecycle_core.specs.TimeRules.{IsMarkedInTime, IsReadInTime, IsSyncedInTime, IsUploadedInTime};
+ghost use Rattle.lifecycle_core.specs.TimeRules.{IsCompactionReadInTime, IsMarkedInTime, IsReadInTime, IsSyncedInTime, IsUploadedInTime};
 
 /// A law: a run that was broken off before its first entry is a run of every script.
 pub fn no_entry_is_lawful()
@@ -84,7 +93,7 @@ pub fn calls_are_worth_it()
     ensures worth { (setting : Setting) (journal : List Entry) (gateway : ℕ) (used : Use)
         (sync entries : List Entry) (selector : List Matcher) (low high : ℤ)
         (end : Option SeriesEnd)
-        → IsLawfulScript setting.script → IsActing setting journal
+        → IsLawfulScript setting.script → IsActing setting journal → IsOfBytes journal
         → IsViewOf (sync_rules setting gateway) journal used sync → IsHonest journal
         → named_replicas setting.script.rules.replicas selector ≡ []
         → IsCallIn journal used (asking selector setting.script.rules.replicas low high) entries end
@@ -93,9 +102,18 @@ pub fn calls_are_worth_it()
 {}
 
 /// A law: whoever reads an object with which a block is shipped that a view keeps, or a range of one, after the sync that gave the
-/// view, and finds nothing, the journal shows why. It need not be a call's read.
+/// view, and finds nothing, the journal shows why. It need not be a call's read. The same is true of each index and segment that
+/// was put before of a block that the view keeps, also of one that was compacted.
 pub fn reads_of_kept_blocks_are_explained()
-    ensures { (setting : Setting) (journal : List Entry) (gateway : ℕ) (used : Use)
+    ensures put { (setting : Setting) (journal : List Entry) (gateway : ℕ) (used : Use)
+        (sync : List Entry) (found : Found) (e : Entry) (key : Key) (bytes : List ℕ)
+        → IsLawfulScript setting.script → IsActing setting journal → IsOfBytes journal
+        → IsViewOf (sync_rules setting gateway) journal used sync
+        → Contains used.view.kept found → Contains journal e → used.last < e.seq
+        → read_key e.op ≡ Some key → key_ulid key ≡ found.ulid → HoldsSamples key
+        → WasPutBefore journal key bytes e.seq → e.reply ≡ Absent
+        → IsExplainedUnder setting (watched_call used sync (e ∷ [])) journal e.seq }
+    ensures shipped { (setting : Setting) (journal : List Entry) (gateway : ℕ) (used : Use)
         (sync : List Entry) (found : Found) (e : Entry) (key : Key)
         → IsLawfulScript setting.script → IsActing setting journal → IsOfBytes journal
         → IsViewOf (sync_rules setting gateway) journal used sync
@@ -104,25 +122,28 @@ pub fn reads_of_kept_blocks_are_explained()
         → IsExplainedUnder setting (watched_call used sync (e ∷ [])) journal e.seq }
 {}
 
-/// A law: no script deletes an object yet. So where the bucket is honest, a call over the view of a sync that ended before it misses
-/// nothing, nor does any other read of a block that the view keeps; and the call names each block that this sync has to see,
-/// whatever the rules of time.
+/// A law: where no line of the script is a cleaning, and the bucket is honest, a call over the view of a sync that ended before it
+/// misses nothing, nor does any other read of a block that the view keeps. Where, besides, no line is a compaction, the call names
+/// each block that this sync has to see, whatever the rules of time.
 pub fn calls_miss_nothing_while_nothing_deletes()
     ensures found { (setting : Setting) (journal : List Entry) (gateway : ℕ) (used : Use)
         (sync entries : List Entry) (question : Question) (number : ℕ)
-        → IsLawfulScript setting.script → IsActing setting journal
+        → IsLawfulScript setting.script → DeletesNothing setting.script
+        → IsActing setting journal → IsOfBytes journal
         → IsViewOf (sync_rules setting gateway) journal used sync → IsHonest journal
         → ¬ IsCallIn journal used question entries (Some (ended.Missing number)) }
     ensures read { (setting : Setting) (journal : List Entry) (gateway : ℕ) (used : Use)
         (sync : List Entry) (found : Found) (e : Entry) (key : Key)
-        → IsLawfulScript setting.script → IsActing setting journal
+        → IsLawfulScript setting.script → DeletesNothing setting.script
+        → IsActing setting journal
         → IsViewOf (sync_rules setting gateway) journal used sync → IsHonest journal
         → Contains used.view.kept found → Contains journal e → used.last < e.seq
         → read_key e.op ≡ Some key → IsShippedUnder setting found.ulid key → e.reply ≢ Absent }
     ensures covered { (setting : Setting) (journal : List Entry) (gateway : ℕ) (used : Use)
         (sync entries : List Entry) (selector : List Matcher) (low high : ℤ)
         (series : List Series) (sources : List ℕ)
-        → IsLawfulScript setting.script → IsActing setting journal
+        → IsLawfulScript setting.script → DeletesNothing setting.script
+        → CompactsNothing setting.script → IsActing setting journal
         → IsViewOf (sync_rules setting gateway) journal used sync → IsHonest journal
         → IsCallIn journal used (asking selector setting.script.rules.replicas low high) entries
         (Some (ended.Answer series sources))
@@ -132,7 +153,9 @@ pub fn calls_miss_nothing_while_nothing_deletes()
 
 /// A law: each end to which a gateway's worker came in a query is that of a call in the journal, over the view of a sync in it by
 /// that gateway's rules, which a worker of this gateway made. The worker that came to the end made the call's entries, for the
-/// selector that the query's line names and those of its times for which the gateway is asked.
+/// selector that the query's line names and those of its times for which the gateway is asked; and what it had in its cache was read
+/// by workers of this gateway. Where each phase was done before the next one began, the sync is the gateway's last before the call
+/// that gave a view; where the bucket is honest, besides, the view is what the gateway has at each entry of the call.
 pub fn ends_are_calls()
     ensures { (setting : Setting) (journal : List Entry) (ends : List (List (List End)))
         (number place gateway : ℕ) (own : List (List End)) (used : Use) (end : SeriesEnd)
@@ -145,19 +168,30 @@ pub fn ends_are_calls()
         × (ask_to setting (Some gateway) low high ≡ Some ask)
         × (view : IsViewOf (sync_rules setting gateway) journal used sync)
         × IsSeatOf setting gateway view.seat
-        × IsCallIn journal used
-        (asking selector setting.script.rules.replicas ask.low ask.high) entries (Some end)
-        × All (λ e. e.seat ≡ came.worker.seat) entries }
+        × (call : IsCallIn journal used
+        (asking selector setting.script.rules.replicas ask.low ask.high) entries (Some end))
+        × All (λ e. e.seat ≡ came.worker.seat) entries
+        × All (λ e. IsSeatOf setting gateway e.seat) call.earlier
+        × (IsLawfulScript setting.script → IsInTurn setting ends
+        → All (λ e. NoViewBetween setting journal gateway used.last e.seq) entries)
+        × (IsLawfulScript setting.script → IsInTurn setting ends → IsHonest journal
+        → All (λ e. IsViewAt setting journal gateway e.seq used.view) entries) }
 {}
 
-/// A law: the entries of an upload or of a sync tell its end, and those of a call, with the cache before it, its end and the cache
-/// that it leaves. So what is reported of them is told by the journal.
+/// A law: the entries of an upload, a sync, a compaction or a cleaning tell its end, and those of a call, with the cache before it,
+/// its end and the cache that it leaves. So what is reported of them is told by the journal.
 pub fn entries_tell_the_end()
     ensures upload { (ulid : ℕ) (objects : List Object) (entries : List Entry)
         (one other : UploadEnd) → Runs (upload ulid objects) entries (Some one)
         → Runs (upload ulid objects) entries (Some other) → one ≡ other }
     ensures sync { (rules : SyncRules) (entries : List Entry) (one other : SyncEnd)
         → SyncRun rules entries (Some one) → SyncRun rules entries (Some other) → one ≡ other }
+    ensures compaction { (rules : Rules) (entries : List Entry) (one other : CompactEnd)
+        → CompactRun rules entries (Some one) → CompactRun rules entries (Some other)
+        → one ≡ other }
+    ensures cleaning { (rules : Rules) (entries : List Entry) (one other : CleanEnd)
+        → CleanRun rules entries (Some one) → CleanRun rules entries (Some other)
+        → one ≡ other }
     ensures call { (view : View) (question : Question) (cache : Cache) (entries : List Entry)
         (one other : CallEnd) → SeriesRun view question cache entries (Some one)
         → SeriesRun view question cache entries (Some other) → one ≡ other }
@@ -194,17 +228,19 @@ pub fn fronts_are_lawful()
         → IsLawfulJournal setting (front ++ others) → IsLawfulJournal setting front }
 {}
 
-/// A law: where a series call says that an object was missing, the journal shows why, whatever the bucket does.
+/// A law: where each phase was done before the next one began, and a series call or a compaction says that an object was missing,
+/// the journal shows why, whatever the bucket does.
 pub fn misses_are_explained()
     ensures { (setting : Setting) (journal : List Entry) (ends : List (List (List End)))
-        → IsLawfulScript setting.script → IsRunOf setting journal ends → IsOfBytes journal
-        → AreMissesExplained setting journal ends }
+        → IsLawfulScript setting.script → IsRunOf setting journal ends → IsInTurn setting ends
+        → IsOfBytes journal → AreMissesExplained setting journal ends }
 {}
 
-/// A law: where the bucket is honest, no series call misses an object, since no script deletes one.
+/// A law: where the bucket is honest, and no line of the script is a cleaning, no call and no compaction misses an object.
 pub fn honest_buckets_miss_nothing()
     ensures { (setting : Setting) (journal : List Entry) (ends : List (List (List End)))
-        → IsLawfulScript setting.script → IsRunOf setting journal ends → IsHonest journal
+        → IsLawfulScript setting.script → DeletesNothing setting.script
+        → IsRunOf setting journal ends → IsOfBytes journal → IsHonest journal
         → AreFound ends }
 {}
 
@@ -267,7 +303,8 @@ pub fn journals_have_one_breach()
         → (x ≡ one) × (y ≡ two) }
 {}
 
-/// A law: an unbroken journal keeps each rule of time: on uploads, on marks, on syncs, and on the reads of a series call.
+/// A law: an unbroken journal keeps each rule of time: on uploads, on marks, on syncs, and on the reads of series calls and of
+/// compactions.
 pub fn unbroken_journals_are_in_time()
     ensures uploaded { (setting : Setting) (journal : List Entry) → IsUnbroken setting journal
         → (ulid : ℕ) → IsUploadedInTime setting.script.rules ulid journal }
@@ -283,6 +320,11 @@ pub fn unbroken_journals_are_in_time()
         → Each (λ before e. IsCallRead setting gateway e
         → IsViewAt setting journal gateway e.seq view
         → IsReadInTime setting.script.rules view e) journal }
+    ensures compacted { (setting : Setting) (journal : List Entry) → IsUnbroken setting journal
+        → (begin : Moment)
+        → Each (λ before e. IsCompactorSeat setting e.seat
+        → IsReadSince journal e.seat begin e
+        → IsCompactionReadInTime setting.script.rules begin e) journal }
 {}
 
 /// A law: all is guaranteed of every run of a lawful script, in whatever order its workers' operations fell, and wherever it was
@@ -293,11 +335,21 @@ pub fn runs_are_guaranteed()
         → IsGuaranteed setting journal ends }
 {}
 
-/// A law: where the bucket is honest, an answered query leaves no settled upload out, whatever the rules of time, since no script
-/// deletes anything yet.
+/// A law: where the bucket is honest, and no line of the script is a compaction or a cleaning, an answered query leaves no settled
+/// upload out, whatever the rules of time.
 pub fn settled_uploads_are_named()
     ensures { (setting : Setting) (journal : List Entry) (ends : List (List (List End)))
         (query : Answered)
-        → IsLawfulScript setting.script → IsRunOf setting journal ends → IsHonest journal
+        → IsLawfulScript setting.script → DeletesNothing setting.script
+        → CompactsNothing setting.script → IsRunOf setting journal ends → IsHonest journal
+        → IsGiven setting ends query → LeavesNoneOut setting journal query }
+{}
+
+/// A law: where no entry breaks a rule, an answered query leaves no settled upload out.
+pub fn unbroken_runs_leave_none_out()
+    ensures { (setting : Setting) (journal : List Entry) (ends : List (List (List End)))
+        (query : Answered)
+        → IsLawfulScript setting.script → IsRunOf setting journal ends → IsOfBytes journal
+        → IsUnbroken setting journal
         → IsGiven setting ends query → LeavesNoneOut setting journal query }
 {}

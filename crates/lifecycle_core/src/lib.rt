@@ -2,8 +2,14 @@
 //! worth.
 #![tactic(auto)]
 
+mod block_histories;
 mod laws;
 
+pub use block_histories::{
+    compactions_miss_nothing_without_cause, complete_blocks_hold_their_sources,
+    files_stand_while_the_meta_stands, first_marks_stand_until_the_meta_goes, keys_have_one_text,
+    marks_have_their_cause, nothing_is_put_after_a_decision, sources_lie_within,
+};
 pub use laws::{
     calls_are_worth_it, calls_miss_nothing_while_nothing_deletes, ends_are_calls, ends_are_one,
     entries_tell_the_end, fronts_are_lawful, honest_buckets_miss_nothing,
@@ -12,5 +18,5 @@ pub use laws::{
     reads_of_kept_blocks_are_explained, replies_lie_where_they_do_not_tell, runs_are_guaranteed,
     runs_in_line_are_lawful, settled_uploads_are_named, unbroken_journals_are_honest,
     unbroken_journals_are_in_time, unbroken_journals_have_no_breach,
-    unbroken_journals_miss_nothing, unbroken_runs_end_well,
+    unbroken_journals_miss_nothing, unbroken_runs_end_well, unbroken_runs_leave_none_out,
 };

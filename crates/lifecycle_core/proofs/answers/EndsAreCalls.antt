@@ -1,8 +1,11 @@
 -- Each end of a gateway's call in a run is that of a call in the journal, over the view of a sync in it.
-use Rattle.std.proofs.Common.{◌≡◌, inl, inr, ℕ, ℤ, zero, suc, ◌<◌, List, [], ◌∷◌, Option, Some, None, refl, sym, ◌∙◌, ap, subst, arith}
+use Rattle.std.proofs.Common.{◌≡◌, inl, inr, ℕ, ℤ, zero, suc, ◌<◌, List, [], ◌∷◌, ◌++◌, Contains, Option, Some, None, refl, sym, ◌∙◌, ap, subst, append_assoc, arith}
 use Rattle.std.specs.Prelude.{option_map, slice_get}
 use Rattle.matchers.specs.declared.matcher.Matcher.{Matcher}
 use Rattle.std.specs.List.{All, AllPairs}
+use Rattle.std.proofs.lemmas.List.Elements.{All-contains_itself, All-weaker}
+use Rattle.world_core.specs.Standing.{IsHonest}
+use Rattle.script_core.specs.Lawful.{IsLawfulScript}
 use Rattle.world_core.specs.declared.entry.Entry.{Entry}
 use Rattle.meta_fetcher.specs.Syncs.{SyncRun}
 use Rattle.meta_fetcher.specs.declared.sync_end.SyncEnd.{SyncEnd}
@@ -13,21 +16,26 @@ use Rattle.series_calls.specs.declared.series_end.SeriesEnd.{SeriesEnd}
 use Rattle.querier.specs.declared.ask.Ask.{Ask}
 use Rattle.script_core.specs.Workers.{workers_of}
 use Rattle.script_workers.specs.declared.work.Work.{Work}
-use Rattle.script_workers.specs.declared.work.Work.TheVariants.{Upload, Sync, Query}
-use Rattle.lifecycle_core.specs.Breaches.{IsSeatOf}
+use Rattle.script_workers.specs.declared.work.Work.TheVariants.{Upload, Sync, Compact, Clean, Query}
+use Rattle.lifecycle_core.specs.Breaches.{IsSeatOf, IsViewAt, NoViewBetween}
 use Rattle.lifecycle_core.specs.Conducts.{CameTo, Who}
 use Rattle.lifecycle_core.specs.Holdings.{Holding, Use}
-use Rattle.lifecycle_core.specs.Phases.{IsRunOf}
+use Rattle.lifecycle_core.specs.Phases.{IsInTurn, IsRunOf}
 use Rattle.lifecycle_core.specs.QueriesAsked.{IsQueryAt}
 use Rattle.lifecycle_core.specs.Setting.{Setting}
 use Rattle.lifecycle_core.specs.SyncsAndCalls.{IsCallIn, IsViewOf}
-use Rattle.lifecycle_core.specs.Tasks.{End, QueryTask, TaskRun, answered, ask_to, question_of, sync_rules, synced}
-use Rattle.lifecycle_core.proofs.journals.Telling.{journal_rises}
+use Rattle.compactor.specs.Compactions.{compaction}
+use Rattle.cleaner.specs.Cleanings.{cleaning}
+use Rattle.lifecycle_core.specs.Tasks.{End, QueryTask, TaskRun, answered, ask_to, cleaned, compacted, question_of, sync_rules, synced}
+use Rattle.lifecycle_core.proofs.journals.Rising.{journal_rises}
+use Rattle.lifecycle_core.proofs.journals.Standing.{parted}
 use Rattle.script_workers.specs.declared.task.Task.{Task}
 use Rattle.lifecycle_core.proofs.journals.Told.{IsMade, IsOrigin, Rises}
 use Rattle.lifecycle_core.proofs.phases.GatewayParts.{part_ends, query_is}
-use Rattle.lifecycle_core.proofs.phases.ShipEnds.{ship_end}
-use Rattle.lifecycle_core.proofs.phases.TasksMade.{answers_are_made_by}
+use Rattle.lifecycle_core.proofs.phases.ShipEnds.{ship_end, stopped_end}
+use Rattle.lifecycle_core.proofs.phases.OwnSyncs.{IsLatestAt}
+use Rattle.lifecycle_core.proofs.phases.TasksMade.{answers_are_last}
+use Rattle.lifecycle_core.proofs.answers.LastViews.{none_between, view_at}
 
 -- the call behind an end
 pub record IsAsked (setting : Setting) (gateway : Option ℕ) (w : Work) (held : Holding) (entries : List Entry) (used : Use) (end : SeriesEnd) : Type 0 where
@@ -84,6 +92,10 @@ pub task_asked : (setting : Setting) (who : Who) (place : ℕ) (w : Work) (held 
 task_asked setting who place (Upload ulid stop) held after entries used end ((block, is, ships), left) =
     absurd (ship_end (λ (x : End). x ≡ answered used end → ⊥) setting block stop entries (answered used end) (λ objects own run same. cc (same)) (λ cause same. cc (same)) (λ n same. cc (same)) ships (λ i. answered used end))
 task_asked setting who place (Sync gateway) held after entries used end (own, run, is, left) = absurd (no_sync_answers used end own is)
+task_asked setting who place (Compact stop) held after entries used end (run, left) =
+    absurd (stopped_end (λ (x : End). x ≡ answered used end → ⊥) (compaction setting.script.rules) compacted stop entries (answered used end) (λ own done same. cc (same)) (λ n same. cc (same)) run (λ i. answered used end))
+task_asked setting who place (Clean stop) held after entries used end (run, left) =
+    absurd (stopped_end (λ (x : End). x ≡ answered used end → ⊥) (cleaning setting.script.rules) cleaned stop entries (answered used end) (λ own done same. cc (same)) (λ n same. cc (same)) run (λ i. answered used end))
 task_asked setting who place (Query low high selector) held after entries used end run =
     let part = part_ends setting selector (ask_to setting who.gateway low high) held after entries (answered used end) (λ off. cc (off)) run in
     query_asked setting who.gateway held after selector low high part.0 entries used end part.1 part.2
@@ -95,7 +107,7 @@ pairs_of (e ∷ entries) rises zero (suc j) d less inside = (rises.0 j d (omega 
 pairs_of (e ∷ entries) rises (suc i) zero d less inside = absurd (omega (arith, less))
 pairs_of (e ∷ entries) rises (suc i) (suc j) d less inside = pairs_of entries rises.1 i j d (omega (arith, less)) (omega (arith, inside))
 
-view_of : (setting : Setting) (journal : List Entry) (gateway : ℕ) (used : Use) (o : IsOrigin setting journal used) → o.gateway ≡ gateway → IsViewOf (sync_rules setting gateway) journal used o.entries
+unfoldable pub view_of : (setting : Setting) (journal : List Entry) (gateway : ℕ) (used : Use) (o : IsOrigin setting journal used) → o.gateway ≡ gateway → IsViewOf (sync_rules setting gateway) journal used o.entries
 view_of setting journal gateway used o same = record {
   seat = o.seat;
   sync = record {
@@ -118,6 +130,7 @@ made_call setting journal used end m call = record {
   cache = m.held.cache;
   earlier = m.earlier;
   known = m.known;
+  reads = m.reads;
   cached = m.cached;
   own = Some call.own;
   run = call.run;
@@ -162,23 +175,32 @@ called_in setting journal used end m low high selector call = record {
   cache = m.held.cache;
   earlier = m.earlier;
   known = m.known;
+  reads = m.reads;
   cached = m.cached;
   own = Some call.own;
   run = call.run;
   is = ap (λ (x : SeriesEnd). Some x) call.came;
 }
 
+-- a front of an honest journal is honest
+honest_front : (journal front : List Entry) (e : Entry) (back : List Entry) → journal ≡ front ++ e ∷ back → IsHonest journal → IsHonest (front ++ e ∷ [])
+honest_front journal front e back at honest before after x is =
+    honest before (after ++ back) x (at ∙ sym (append_assoc front (e ∷ []) back) ∙ ap (λ (es : List Entry). es ++ back) is ∙ append_assoc before (x ∷ after) back)
+
 pub ends_are_calls : (setting : Setting) (journal : List Entry) (ends : List (List (List End))) (number place gateway : ℕ) (own : List (List End)) (used : Use) (end : SeriesEnd) → IsRunOf setting journal ends → slice_get ends number ≡ Some own
     → (came : CameTo (workers_of setting.script number) own (Some gateway) place (answered used end)) → (selector : List Matcher) × (low : ℤ) × (high : ℤ) × (ask : Ask) × (sync : List Entry) × (entries : List Entry) × IsQueryAt setting number place selector low high
     × (ask_to setting (Some gateway) low high ≡ Some ask)
-    × (view : IsViewOf (sync_rules setting gateway) journal used sync) × IsSeatOf setting gateway view.seat × IsCallIn journal used (asking selector setting.script.rules.replicas ask.low ask.high) entries (Some end) × All (λ e. e.seat ≡ came.worker.seat) entries
-unfolding view_of
+    × (view : IsViewOf (sync_rules setting gateway) journal used sync) × IsSeatOf setting gateway view.seat × (call : IsCallIn journal used (asking selector setting.script.rules.replicas ask.low ask.high) entries (Some end)) × All (λ e. e.seat ≡ came.worker.seat) entries
+    × All (λ e. IsSeatOf setting gateway e.seat) call.earlier × (IsLawfulScript setting.script → IsInTurn setting ends → All (λ e. NoViewBetween setting journal gateway used.last e.seq) entries)
+    × (IsLawfulScript setting.script → IsInTurn setting ends → IsHonest journal → All (λ e. IsViewAt setting journal gateway e.seq used.view) entries)
+unfolding view_of made_call
 ends_are_calls setting journal ends number place gateway own used end run own_is came =
-    let made = answers_are_made_by setting journal ends (journal_rises setting.script.rules.tick.ms journal run.kept) run number own (Some gateway) place (answered used end) own_is came in
+    let made = answers_are_last setting journal ends (journal_rises setting.script.rules.tick.ms journal run.kept) run number own (Some gateway) place (answered used end) own_is came in
     let m = (made.4).0 in
     let call = task_asked setting m.who m.place (made.1).work m.held m.after m.entries used end m.run in
     let origin = m.origin used call.is in
-    let by : m.who.gateway ≡ Some gateway = ap (λ (who : Who). who.gateway) (made.4).1 ∙ came.is in (
+    let by : m.who.gateway ≡ Some gateway = ap (λ (who : Who). who.gateway) (made.4).1 ∙ came.is in
+    let latest : IsLawfulScript setting.script → IsInTurn setting ends → IsLatestAt setting journal gateway m.entries m.held = λ lawful turns. (made.4).2 (lawful, turns) gateway came.is in (
       call.selector,
       call.low,
       call.high,
@@ -191,4 +213,12 @@ ends_are_calls setting journal ends number place gateway own used end run own_is
       m.sits used call.is gateway by,
       made_call setting journal used end m call,
       subst (λ (who : Who). All (λ (e : Entry). e.seat ≡ who.seat) m.entries) (made.4).1 m.own,
+      m.readers gateway by,
+      λ lawful turns.
+          All-weaker (Contains m.entries) (λ (e : Entry). NoViewBetween setting journal gateway used.last e.seq) (λ e among. none_between setting journal m used call.is gateway by (latest lawful turns) e among) m.entries (All-contains_itself m.entries),
+      λ lawful turns honest.
+          All-weaker (Contains m.entries) (λ (e : Entry). IsViewAt setting journal gateway e.seq used.view)
+          (λ e among.
+          let at = parted journal e (m.part.among e among) in
+          view_at setting journal m used call.is gateway by lawful ends run e among at.0 at.1 at.2 (honest_front journal at.0 e at.1 at.2 honest) (latest lawful turns)) m.entries (All-contains_itself m.entries),
     )

@@ -28,7 +28,7 @@ use Rattle.lifecycle_core.specs.Phases.{IsRunOf}
 use Rattle.lifecycle_core.specs.Setting.{Setting}
 use Rattle.lifecycle_core.specs.Tasks.{End, PartTask, QueryTask, TaskRun, answered, ask_to, not_asked, question_of}
 use Rattle.lifecycle_core.proofs.answers.EndsAreCalls.{task_called}
-use Rattle.lifecycle_core.proofs.journals.Telling.{journal_rises}
+use Rattle.lifecycle_core.proofs.journals.Rising.{journal_rises}
 use Rattle.lifecycle_core.proofs.phases.GatewayParts.{ask_gateway, asked_each, asks_on, asks_with, query_is}
 use Rattle.lifecycle_core.proofs.phases.TasksMade.{IsMadeBy, answers_are_made}
 

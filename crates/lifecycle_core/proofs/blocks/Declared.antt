@@ -1,18 +1,13 @@
 -- The block that a script declares under a ULID.
 use Rattle.list_core.proofs.Lists.{find_passes, find_holds}
-use Rattle.std.proofs.Common.{◌≡◌, ◌^◌, ◌<◌, ◌==◌, ℕ, Contains, Some, true, subst, arith}
+use Rattle.std.proofs.Common.{◌≡◌, ◌^◌, ◌<◌, ◌==◌, ℕ, Some, true, subst, arith}
 use Rattle.std.proofs.lemmas.Bool.Decides.{nat_tests}
-use Rattle.std.proofs.lemmas.List.Elements.{All-contains_itself}
 use Rattle.script_core.specs.declared.block.Block.{Block}
 use Rattle.script_core.specs.Lawful.{IsLawfulBlock, IsLawfulScript}
 use Rattle.lifecycle_core.specs.Held.{declared}
 use Rattle.lifecycle_core.specs.Setting.{Setting}
 
 module _ (setting : Setting) (ulid : ℕ) (block : Block) (is : declared setting.script ulid ≡ Some block) where
-  -- it is one of the script's blocks, and has this ULID
-  pub declared_among : Contains setting.script.blocks block
-  declared_among = find_holds (Contains setting.script.blocks) (λ (b : Block). b.ulid == ulid) setting.script.blocks block (All-contains_itself setting.script.blocks) is
-
   pub declared_ulid : block.ulid ≡ ulid
   declared_ulid =
       let test : (block.ulid == ulid) ≡ true = find_passes (λ (b : Block). b.ulid == ulid) setting.script.blocks block is in

@@ -1,6 +1,6 @@
 -- A block that is built of a declared block's series is a whole one, and the only one; and it is not built where it is refused.
-use Rattle.std.proofs.Common.{◌≡◌, ℕ, ℤ, zero, suc, ◌+◌, ◌<◌, ◌≤◌, ◌^◌, Bool, true, false, min, pos, List, [], ◌∷◌, ◌++◌, map, length, codes, Option, Some, None, Result, Ok, IsUtf8, rules, refl, sym, ◌∙◌, ap, subst, arith}
-use Rattle.std.specs.Prelude.{IfSome, All, find, option_map, ◌≤ℤ◌, ◌<ℤ◌}
+use Rattle.std.proofs.Common.{◌≡◌, ℕ, ℤ, zero, suc, ◌+◌, ◌<◌, ◌≤◌, ◌^◌, true, false, pos, List, [], ◌∷◌, ◌++◌, length, codes, Some, Ok, IsUtf8, rules, refl, sym, ◌∙◌, ap, subst, arith}
+use Rattle.std.specs.Prelude.{IfSome, All, find, option_map}
 use Rattle.std.specs.List.{AllByRecursion, AllZip}
 use Rattle.std.specs.Str.{bytes_eq}
 use Rattle.std.proofs.lemmas.Str.{IsUtf8-append}
@@ -15,7 +15,6 @@ use Rattle.block_keys.specs.KeyText.{six_digits}
 use Rattle.block_keys.specs.declared.object.Object.{Object}
 use Rattle.block_meta.specs.declared.block_plan.BlockPlan.{BlockPlan}
 use Rattle.block_meta.specs.declared.file_size.FileSize.{FileSize}
-use Rattle.block_meta.specs.Lawful.{AreLawfulTimes}
 use Rattle.block_meta.specs.MetaFields.{MetaFields, fields_of}
 use Rattle.block_meta.specs.MetaReading.{meta_of_text}
 use Rattle.block_meta.specs.MetaValue.{meta_text}
@@ -24,12 +23,12 @@ use Rattle.block_files.specs.declared.block_files.BlockFiles.{BlockFiles}
 use Rattle.block_files.proofs.MetaTexts.{IsReadAgain, meta_read_again}
 use Rattle.chunk_files.specs.Layout.{greatest}
 use Rattle.index_writing.specs.WriteSteps as index_writing
-use Rattle.block_writing.specs.Put.{PlanFields, Put, PutSeries, fitted}
+use Rattle.block_writing.specs.Put.{PlanFields, fitted}
 use Rattle.block_writing.specs.Writing.{plan_fields}
-use Rattle.block_writing.specs.Files.{AreFilesOf, HaveNoIndex}
+use Rattle.block_writing.specs.Files.{HaveNoIndex}
 use Rattle.block_writing.specs.Segments.{segment_text}
-use Rattle.block_writing.specs.WrittenMeta.{IsWritten, counts_of, index_size, meta_with, names_from, segment_size, sizes_from, sizes_of}
-use Rattle.block_writing.specs.Built.{HaveNoBlock, IsBuilt, IsPutAs}
+use Rattle.block_writing.specs.WrittenMeta.{counts_of, index_size, meta_with, names_from, segment_size, sizes_from, sizes_of}
+use Rattle.block_writing.specs.Built.{IsBuilt}
 use Rattle.block_writing.proofs.Names.{IsUtf8-six_digits}
 use Rattle.block_writing.proofs.OnePut.{put_once}
 use Rattle.block_writing.proofs.OneText.{one_index}
@@ -83,10 +82,10 @@ not_both block low high series objects cause is none =
 
 -- ---- the sizes of its files
 
-abbrev NotIndex : FileSize → Type 0
+abbrev pub NotIndex : FileSize → Type 0
 NotIndex file = bytes_eq file.path (codes "index") ≡ false
 
-find_behind : (files : List FileSize) (last : FileSize) → AllByRecursion NotIndex files → bytes_eq last.path (codes "index") ≡ true → find (λ (file : FileSize). bytes_eq file.path (codes "index")) (files ++ last ∷ []) ≡ Some last
+pub find_behind : (files : List FileSize) (last : FileSize) → AllByRecursion NotIndex files → bytes_eq last.path (codes "index") ≡ true → find (λ (file : FileSize). bytes_eq file.path (codes "index")) (files ++ last ∷ []) ≡ Some last
 find_behind [] last none is = rw is refl
 find_behind (file ∷ files) last none is = rw none.0 (find_behind files last none.1 is)
 
@@ -95,16 +94,16 @@ unfolding sizes_from
 segments_other number [] = tt
 segments_other number (segment ∷ segments) = (refl, segments_other (number + 1) segments)
 
-index_told : (segments : List (List ℕ)) (index : List ℕ) → length index ≤ index_writing.greatest → told_size (sizes_of segments index) ≡ Some (length index)
+pub index_told : (segments : List (List ℕ)) (index : List ℕ) → length index ≤ index_writing.greatest → told_size (sizes_of segments index) ≡ Some (length index)
 unfolding sizes_of
 index_told segments index small =
     let fits : fitted (length index) ≡ length index = omega (arith, small) in
     ap (option_map (λ (file : FileSize). file.bytes)) (find_behind (sizes_from 1 segments) (index_size index) (segments_other 1 segments) refl) ∙ ap (λ (n : ℕ). Some n) fits
 
-abbrev FitsFile : FileSize → Type 0
+abbrev pub FitsFile : FileSize → Type 0
 FitsFile f = IsUtf8 f.path × (f.bytes < 2 ^ 64)
 
-count_fits : (count : ℕ) → fitted count < 2 ^ 64
+pub count_fits : (count : ℕ) → fitted count < 2 ^ 64
 count_fits count = omega arith
 
 chunks_utf8 : IsUtf8 (codes "chunks/")
@@ -120,20 +119,20 @@ sizes_fit number (segment ∷ segments) =
     All-cons FitsFile (segment_size number segment) (sizes_from (number + 1) segments)
     (IsUtf8-append (codes "chunks/") (six_digits number) chunks_utf8 (IsUtf8-six_digits number), count_fits (length segment)) (sizes_fit (number + 1) segments)
 
-all_fit : (segments : List (List ℕ)) (index : List ℕ) → All FitsFile (sizes_of segments index)
+pub all_fit : (segments : List (List ℕ)) (index : List ℕ) → All FitsFile (sizes_of segments index)
 unfolding sizes_of
 all_fit segments index =
     All-append FitsFile (sizes_from 1 segments) (index_size index ∷ []) (sizes_fit 1 segments)
     (All-cons FitsFile (index_size index) [] (index_utf8, count_fits (length index)) (All-nil FitsFile))
 
-names_fit : (number count : ℕ) → All IsUtf8 (names_from number count)
+pub names_fit : (number count : ℕ) → All IsUtf8 (names_from number count)
 unfolding names_from
 names_fit number zero = All-nil IsUtf8
 names_fit number (suc count) = All-cons IsUtf8 (six_digits number) (names_from (number + 1) count) (IsUtf8-six_digits number) (names_fit (number + 1) count)
 
 -- ---- its meta
 
-samples_fit : (series : List Series) → sample_count series < 2 ^ 64
+pub samples_fit : (series : List Series) → sample_count series < 2 ^ 64
 unfolding sample_count
 samples_fit series = omega arith
 
@@ -153,6 +152,10 @@ module _ (block : Block) (low high : ℤ) (series : List Series) (objects : List
   meta_labels : is.files.meta.labels ≡ block.labels
   unfolding meta_with
   meta_labels = ap (λ (m : MetaFields). m.labels) meta_is ∙ is.planned.labels
+
+  meta_whole : is.files.meta.resolution ≡ pos 0
+  unfolding meta_with
+  meta_whole = ap (λ (m : MetaFields). m.resolution) meta_is
 
   meta_times : (is.files.meta.min_time ≡ low) × (is.files.meta.max_time ≡ high)
   unfolding meta_with
@@ -215,13 +218,15 @@ whole_inline setting block low high series objects body small lawful named value
       own = meta_ulid block low high series objects is;
       sources = meta_sources block low high series objects is;
       labels = meta_labels block low high series objects is;
-      times = subst (λ b. Spans b is.files.meta.min_time is.files.meta.max_time) (sym body) (meta_times block low high series objects is);
+      whole = meta_whole block low high series objects is;
+      times = subst (λ b. Spans setting block.ulid b is.files.meta.min_time is.files.meta.max_time) (sym body) (meta_times block low high series objects is);
       sized = meta_sized block low high series objects is;
       bytes = (is.bytes.index, is.bytes.segments);
       few = is.files.numbered;
       short = segments_short block low high series objects is;
       indexed = content.indexed;
       index_is = content.index_is;
+      apart = content.apart;
       series_are = subst (λ b. AllZip (HoldsSeries is.files.segments) content.indexed (given_by setting block.ulid b)) (sym body) content.series_are;
       within = subst (λ b. AllByRecursion (AreWithin is.files.meta) (given_by setting block.ulid b)) (sym body) content.within;
     }

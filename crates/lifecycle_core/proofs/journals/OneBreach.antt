@@ -1,5 +1,5 @@
 -- A journal without a breach is unbroken, and one that is not has one breach alone.
-use Rattle.std.proofs.Common.{◌≡◌, ◌≢◌, ◌⊎◌, inl, inr, ℕ, zero, suc, ◌+◌, ◌*◌, ◌<◌, List, [], ◌∷◌, ◌++◌, length, refl, sym, ◌∙◌, ap, subst, append_assoc, append-nil, arith}
+use Rattle.std.proofs.Common.{◌≡◌, ◌≢◌, ◌⊎◌, inl, inr, ℕ, zero, suc, ◌+◌, ◌*◌, ◌/◌, ◌<◌, List, [], ◌∷◌, ◌++◌, length, refl, sym, ◌∙◌, ap, subst, append_assoc, append-nil, arith}
 use Rattle.std.specs.Prelude.{Ok}
 use Rattle.std.proofs.lemmas.List.{length-append}
 use Rattle.block_keys.specs.Keys.{key_ulid}
@@ -12,15 +12,16 @@ use Rattle.world_core.specs.Standing.{stands}
 use Rattle.world_core.specs.Worlds.{IsJournal}
 use Rattle.world_core.specs.declared.entry.Entry.{Entry}
 use Rattle.meta_fetcher.specs.declared.view.View.{View}
+use Rattle.moment_core.specs.declared.moment.Moment.{Moment}
 use Rattle.script_core.specs.Lawful.{IsLawfulScript}
-use Rattle.lifecycle_core.specs.Breaches.{FirstDiffer, IsBreach, IsKept, IsLie, IsOver, IsSeatOf, IsUnbroken, IsViewAt, Refuses, Rule, honesty, mark_time, next_byte, rank, sync_time, upload_time, view_time}
+use Rattle.lifecycle_core.specs.Breaches.{FirstDiffer, IsBreach, IsKept, IsLie, IsOver, IsSeatOf, IsUnbroken, IsViewAt, Refuses, Rule, honesty, mark_time, next_byte, rank, read_time, sync_time, upload_time, view_time}
 use Rattle.lifecycle_core.specs.Setting.{Setting}
 use Rattle.lifecycle_core.specs.TimeRules.{PutsMark, PutsObject}
 use Rattle.lifecycle_core.proofs.journals.Honesty.{one_reply}
 use Rattle.lifecycle_core.proofs.journals.OneSync.{one_sync, same_seat}
 use Rattle.lifecycle_core.proofs.journals.OneViewAt.{one_view}
 use Rattle.lifecycle_core.proofs.journals.Positions.{split}
-use Rattle.lifecycle_core.proofs.journals.Telling.{journal_rises}
+use Rattle.lifecycle_core.proofs.journals.Rising.{journal_rises}
 use Rattle.lifecycle_core.proofs.journals.Told.{Rises}
 use Rattle.lifecycle_core.proofs.phases.OneSeat.{one_gateway}
 
@@ -59,26 +60,37 @@ same_rule honesty upload_time is = absurd (omega (arith, is))
 same_rule honesty mark_time is = absurd (omega (arith, is))
 same_rule honesty sync_time is = absurd (omega (arith, is))
 same_rule honesty view_time is = absurd (omega (arith, is))
+same_rule honesty read_time is = absurd (omega (arith, is))
 same_rule upload_time honesty is = absurd (omega (arith, is))
 same_rule upload_time upload_time is = refl
 same_rule upload_time mark_time is = absurd (omega (arith, is))
 same_rule upload_time sync_time is = absurd (omega (arith, is))
 same_rule upload_time view_time is = absurd (omega (arith, is))
+same_rule upload_time read_time is = absurd (omega (arith, is))
 same_rule mark_time honesty is = absurd (omega (arith, is))
 same_rule mark_time upload_time is = absurd (omega (arith, is))
 same_rule mark_time mark_time is = refl
 same_rule mark_time sync_time is = absurd (omega (arith, is))
 same_rule mark_time view_time is = absurd (omega (arith, is))
+same_rule mark_time read_time is = absurd (omega (arith, is))
 same_rule sync_time honesty is = absurd (omega (arith, is))
 same_rule sync_time upload_time is = absurd (omega (arith, is))
 same_rule sync_time mark_time is = absurd (omega (arith, is))
 same_rule sync_time sync_time is = refl
 same_rule sync_time view_time is = absurd (omega (arith, is))
+same_rule sync_time read_time is = absurd (omega (arith, is))
 same_rule view_time honesty is = absurd (omega (arith, is))
 same_rule view_time upload_time is = absurd (omega (arith, is))
 same_rule view_time mark_time is = absurd (omega (arith, is))
 same_rule view_time sync_time is = absurd (omega (arith, is))
 same_rule view_time view_time is = refl
+same_rule view_time read_time is = absurd (omega (arith, is))
+same_rule read_time honesty is = absurd (omega (arith, is))
+same_rule read_time upload_time is = absurd (omega (arith, is))
+same_rule read_time mark_time is = absurd (omega (arith, is))
+same_rule read_time sync_time is = absurd (omega (arith, is))
+same_rule read_time view_time is = absurd (omega (arith, is))
+same_rule read_time read_time is = refl
 
 neither_less : (one other : ℕ) → ¬ (one < other) → ¬ (other < one) → one ≡ other
 neither_less one other not turned = omega (arith, not, turned)
@@ -175,6 +187,10 @@ one_refusal setting journal lawful rises view_time before e x y a b (view, (gate
     let same : view' ≡ view = one_view setting journal rises gateway e.seq view view' has (subst (λ (g : ℕ). IsViewAt setting journal g e.seq view') own has') in
     one_over (e.moment.ms + setting.script.rules.ignore.ms) (view.begin.ms + setting.script.rules.delete.ms) x y a b over
     (subst (λ (v : View). IsOver (e.moment.ms + setting.script.rules.ignore.ms) (v.begin.ms + setting.script.rules.delete.ms) a b) same over')
+one_refusal setting journal lawful rises read_time before e x y a b (begin, (sits, (own, reads, (first, others, begins, at))), over) (begin', (sits', (own', reads', (first', others', begins', at'))), over') =
+    let same : first' ≡ first = cc (begins, begins') in
+    let start : begin' ≡ begin = sym at' ∙ ap (λ (f : Entry). f.moment) same ∙ at in
+    one_over e.moment.ms (begin.ms + setting.script.rules.delete.ms / 2) x y a b over (subst (λ (m : Moment). IsOver e.moment.ms (m.ms + setting.script.rules.delete.ms / 2) a b) start over')
 
 pub one_pair : (setting : Setting) (tick : ℕ) (journal : List Entry) → IsLawfulScript setting.script → IsJournal tick journal → (rule : Rule) (number x y a b : ℕ) → IsBreach setting journal rule number x y → IsBreach setting journal rule number a b → (x ≡ a) × (y ≡ b)
 one_pair setting tick journal lawful kept rule number x y a b one other =

@@ -13,7 +13,7 @@ use Rattle.lifecycle_core.specs.SyncsAndCalls.{IsSyncBy}
 use Rattle.lifecycle_core.specs.Tasks.{sync_rules}
 use Rattle.lifecycle_core.proofs.journals.Positions.{split, stands_in}
 use Rattle.lifecycle_core.proofs.journals.Told.{Rises}
-use Rattle.lifecycle_core.proofs.phases.TasksMade.{all_of_seat, rises_filter, rises_right}
+use Rattle.lifecycle_core.proofs.phases.Stretches.{all_of_seat, rises_filter, rises_right}
 
 -- ---- an entry stands once
 

@@ -16,7 +16,7 @@ use Rattle.lifecycle_core.proofs.journals.OneSync.{one_sync}
 use Rattle.lifecycle_core.proofs.journals.Positions.{stands_in}
 use Rattle.lifecycle_core.proofs.journals.Told.{Rises}
 use Rattle.lifecycle_core.proofs.journals.Unbroken.{ends_with}
-use Rattle.lifecycle_core.proofs.phases.TasksMade.{no_listing}
+use Rattle.lifecycle_core.proofs.phases.Stretches.{no_listing}
 use Rattle.lifecycle_core.proofs.views.SyncEnds.{sync_tells}
 
 -- a number is that of one entry
@@ -38,13 +38,13 @@ one_entry (y ∷ ys) rises e x one other same = elim (member_cases y e ys one) [
 ]
 
 -- the last entry of a sync that gave a view
-record HasLast (entries : List Entry) : Type 0 where
-  front : List Entry
-  entry : Entry
-  parts : entries ≡ front ++ entry ∷ []
-  number : last_number entries ≡ entry.seq
+pub record HasLast (entries : List Entry) : Type 0 where
+  pub front : List Entry
+  pub entry : Entry
+  pub parts : entries ≡ front ++ entry ∷ []
+  pub number : last_number entries ≡ entry.seq
 
-last_of : (rules : SyncRules) (entries : List Entry) (view : View) → SyncRun rules entries (Some (fetched.View view)) → HasLast entries
+pub last_of : (rules : SyncRules) (entries : List Entry) (view : View) → SyncRun rules entries (Some (fetched.View view)) → HasLast entries
 last_of rules [] view run = absurd (no_listing rules 999_999 run.0 run.1)
 last_of rules (e ∷ entries) view run =
     let tail = ends_with e entries in
@@ -52,7 +52,7 @@ last_of rules (e ∷ entries) view run =
 
 module _ (setting : Setting) (journal : List Entry) (rises : Rises journal) where
   -- an entry of a sync is one of the journal
-  of_journal : (gateway : ℕ) (entries : List Entry) (view : View) (e : Entry) → (s : IsSyncIn setting journal gateway entries (Some (fetched.View view))) → Contains entries e → Contains journal e
+  pub of_journal : (gateway : ℕ) (entries : List Entry) (view : View) (e : Entry) → (s : IsSyncIn setting journal gateway entries (Some (fetched.View view))) → Contains entries e → Contains journal e
   of_journal gateway entries view e s among =
       let own : Contains ((s.sync.before ++ entries) ++ s.sync.after) e = Contains-append_left (s.sync.before ++ entries) s.sync.after e (Contains-append_right s.sync.before entries e among) in
       of_filter (λ (x : Entry). x.seat == s.seat) journal e (subst (λ (es : List Entry). Contains es e) (sym s.sync.parts) own)

@@ -1,6 +1,6 @@
 -- What was put stands, and what stands was put, where nothing is deleted.
-use Rattle.std.proofs.Common.{◌≡◌, ◌≢◌, ◌⊎◌, inl, inr, ℕ, zero, suc, ◌+◌, ◌-◌, ◌==◌, Bool, true, false, cond, IsTrue, List, [], ◌∷◌, ◌++◌, length, Contains, Option, Some, None, refl, sym, ◌∙◌, ap, subst, arith}
-use Rattle.std.specs.Prelude.{option_map, slice_get}
+use Rattle.std.proofs.Common.{◌≡◌, ◌≢◌, ◌⊎◌, inl, inr, ℕ, zero, suc, ◌+◌, ◌-◌, ◌==◌, Bool, true, false, cond, IsTrue, List, [], ◌∷◌, ◌++◌, length, Contains, Some, refl, ◌∙◌, ap, arith}
+use Rattle.std.specs.Prelude.{slice_get}
 use Rattle.std.specs.List.{fold}
 use Rattle.std.specs.Str.{bytes_eq}
 use Rattle.std.proofs.lemmas.Bool.Decides.{nat_tests}
@@ -9,18 +9,20 @@ use Rattle.std.proofs.lemmas.Slice.Eq.{bytes_eq-Decides}
 use Rattle.list_core.proofs.Membership.{contains_first}
 use Rattle.block_keys.specs.KeyText.{key_text}
 use Rattle.block_keys.specs.declared.key.Key.{Key}
-use Rattle.bucket_core.specs.Contents.{Contents, nothing, range_of, with_object, without_object}
+use Rattle.bucket_core.specs.Contents.{Contents, with_object, without_object}
 use Rattle.world_core.specs.Journals.{entry_at}
-use Rattle.world_core.specs.Standing.{Tells, has_landed, left_by, stands}
+use Rattle.world_core.specs.Standing.{has_landed, left_by}
 use Rattle.world_core.specs.declared.entry.Entry.{Entry}
 use Rattle.world_core.specs.declared.op.Op.{Op}
 use Rattle.world_core.specs.declared.op.Op.TheVariants as op
 use Rattle.world_core.specs.declared.reply.Reply.{Reply}
 use Rattle.world_core.specs.declared.reply.Reply.TheVariants as reply
-use Rattle.lifecycle_core.specs.Breaches.{read_key}
-use Rattle.lifecycle_core.proofs.journals.RunEntries.{HasPut}
 
 -- ---- what stands
+
+-- a put of the key has landed among the entries
+abbrev pub HasPut : List Entry → Key → Type 0
+HasPut entries k = (e : Entry) × Contains entries e × ((bytes : List ℕ) × (e.op ≡ op.Put k bytes) × IsTrue (has_landed e.reply))
 
 -- what stands after entries that delete nothing
 put_or_not : (landed same : Bool) (text k bytes old : List ℕ) (c : Contents) → bytes_eq k text ≡ same → c text ≡ Some old → (other : List ℕ) × (cond landed (with_object k bytes c) c text ≡ Some other)
@@ -118,16 +120,6 @@ pub the_entry : (journal front back : List Entry) (e : Entry) (number : ℕ) →
 the_entry journal front back e number parts is = ap (entry_at journal) is ∙ entry_next journal (length front) ∙ ap (λ (es : List Entry). slice_get es (length front)) parts ∙ at_number front back e
 
 -- ---- reads
-
--- where a read that tells finds nothing, nothing stands
-pub read_tells : (contents : Contents) (o : Op) (k : Key) → read_key o ≡ Some k → Tells contents o reply.Absent → contents (key_text k) ≡ None
-read_tells contents (op.Get other) k reads none = let same : other ≡ k = cc (reads) in ap (λ (x : Key). contents (key_text x)) (sym same) ∙ none
-read_tells contents (op.GetRange other from len) k reads none = let same : other ≡ k = cc (reads) in ap (λ (x : Key). contents (key_text x)) (sym same) ∙ none
-read_tells contents (op.Clock moment) k reads none = absurd (cc (reads))
-read_tells contents (op.Put other new) k reads none = absurd (cc (reads))
-read_tells contents (op.Delete other) k reads none = absurd (cc (reads))
-read_tells contents (op.RootPage after limit) k reads none = absurd (cc (reads))
-read_tells contents (op.BlockPage ulid after limit) k reads none = absurd (cc (reads))
 
 pub parted : {X : Type 0} (xs : List X) (x : X) → Contains xs x → (front : List X) × (back : List X) × (xs ≡ front ++ x ∷ back)
 parted [] x (k, below, is) = absurd (omega (arith, below))

@@ -1,6 +1,6 @@
 -- What holds of an unbroken journal by the other words.
 use Rattle.list_core.proofs.Membership.{of_filter}
-use Rattle.std.proofs.Common.{◌≡◌, ◌<◌, ◌≤◌, ◌+◌, ◌*◌, ◌==◌, ℕ, zero, suc, List, [], ◌∷◌, ◌++◌, Contains, Option, inl, inr, refl, sym, ◌∙◌, ap, subst, append-nil, append_assoc, arith}
+use Rattle.std.proofs.Common.{◌≡◌, ◌<◌, ◌≤◌, ◌+◌, ◌*◌, ◌/◌, ◌==◌, ℕ, zero, suc, List, [], ◌∷◌, ◌++◌, Contains, Option, inl, inr, refl, sym, ◌∙◌, ap, subst, append-nil, append_assoc, arith}
 use Rattle.std.specs.List.{All}
 use Rattle.std.proofs.lemmas.List.Elements.{All-cons, All-nil, Contains-append_cases, Contains-append_right}
 use Rattle.std.proofs.lemmas.List.Sums.{fold-append}
@@ -12,11 +12,12 @@ use Rattle.world_core.specs.declared.op.Op.{Op}
 use Rattle.world_core.specs.declared.op.Op.TheVariants as op
 use Rattle.meta_fetcher.specs.declared.sync_end.SyncEnd.{SyncEnd}
 use Rattle.meta_fetcher.specs.declared.view.View.{View}
-use Rattle.lifecycle_core.specs.Breaches.{IsBreach, IsCallRead, IsKept, IsSyncIn, IsUnbroken, IsViewAt, Rule, mark_time, sync_time, upload_time, view_time}
+use Rattle.moment_core.specs.declared.moment.Moment.{Moment}
+use Rattle.lifecycle_core.specs.Breaches.{IsBreach, IsCallRead, IsCompactorSeat, IsKept, IsReadSince, IsSyncIn, IsUnbroken, IsViewAt, Rule, mark_time, read_time, sync_time, upload_time, view_time}
 use Rattle.lifecycle_core.specs.Causes.{IsExplained}
 use Rattle.lifecycle_core.specs.Conducts.{of_seat}
 use Rattle.lifecycle_core.specs.Setting.{Setting}
-use Rattle.lifecycle_core.specs.TimeRules.{IsMarkedInTime, IsReadInTime, IsSyncedInTime, IsUploadedInTime, PutsMark, PutsObject}
+use Rattle.lifecycle_core.specs.TimeRules.{IsCompactionReadInTime, IsMarkedInTime, IsReadInTime, IsSyncedInTime, IsUploadedInTime, PutsMark, PutsObject}
 use Rattle.lifecycle_core.proofs.journals.Positions.{unfilter}
 
 pub explains_nothing : (setting : Setting) (journal : List Entry) (number : ℕ) → IsUnbroken setting journal → ¬ IsExplained setting journal number
@@ -129,3 +130,8 @@ module _ (setting : Setting) (journal : List Entry) (unbroken : IsUnbroken setti
   read gateway view before after e parts reads has =
       not_over (e.moment.ms + setting.script.rules.ignore.ms) (view.begin.ms + setting.script.rules.delete.ms)
       (λ over. unbroken before after e parts view_time (e.moment.ms + setting.script.rules.ignore.ms) (view.begin.ms + setting.script.rules.delete.ms) (view, (gateway, reads, has), (refl, refl, over)))
+
+  pub compaction_read : (begin : Moment) → Each (λ before e. IsCompactorSeat setting e.seat → IsReadSince journal e.seat begin e → IsCompactionReadInTime setting.script.rules begin e) journal
+  compaction_read begin before after e parts sits reads =
+      not_over e.moment.ms (begin.ms + setting.script.rules.delete.ms / 2)
+      (λ over. unbroken before after e parts read_time e.moment.ms (begin.ms + setting.script.rules.delete.ms / 2) (begin, (sits, reads), (refl, refl, over)))

@@ -15,15 +15,15 @@ use Rattle.script_core.specs.Workers.{workers_before, workers_of}
 use Rattle.script_core.specs.declared.script.Script.{Script}
 use Rattle.script_workers.specs.Hands.{gateway_count, gateway_of, hands_of}
 use Rattle.script_workers.specs.Staff.{IsWorkerOf}
-use Rattle.script_workers.specs.Whose.{IsFor, IsTaskOf, ships, syncs, asks}
+use Rattle.script_workers.specs.Whose.{IsFor, IsTaskOf, ships, compacts, cleans, syncs, asks}
 use Rattle.script_workers.specs.declared.hand.Hand.{Hand}
 use Rattle.script_workers.specs.declared.hand.Hand.TheVariants as hands
 use Rattle.script_workers.specs.declared.phase.Phase.{Phase}
 use Rattle.script_workers.specs.declared.task.Task.{Task}
 use Rattle.script_workers.specs.declared.work.Work.{Work}
-use Rattle.script_workers.specs.declared.work.Work.TheVariants.{Upload, Sync, Query}
+use Rattle.script_workers.specs.declared.work.Work.TheVariants.{Upload, Sync, Compact, Clean, Query}
 use Rattle.script_workers.specs.declared.worker.Worker.{Worker}
-use Rattle.lifecycle_core.specs.Acting.{IsActing, IsReading, acting, uploaders}
+use Rattle.lifecycle_core.specs.Acting.{IsActing, IsReading, acting, actors}
 use Rattle.lifecycle_core.specs.Conducts.{Assigned, Conduct, PhaseRun, TasksAt, TasksRun, Who, WorkerRun, of_seat, who_of, working}
 use Rattle.lifecycle_core.specs.Holdings.{Holding, Holdings, Use, holding_of, none_held, nothing_held}
 use Rattle.lifecycle_core.specs.Phases.{IsRunOf, by_script, by_workers}
@@ -109,17 +109,21 @@ one_worker script n m one other a b same =
 -- ---- a gateway's worker reads
 
 is_gateway : (hand : Hand) (gateway : ℕ) → gateway_of hand ≡ Some gateway → hand ≡ hands.Gateway gateway
-is_gateway (hands.Upload place) gateway is = absurd (cc (is))
+is_gateway (hands.Alone place) gateway is = absurd (cc (is))
 is_gateway (hands.Gateway own) gateway is = ap hands.Gateway (cc (is))
 
--- a work that is no upload
+-- a work of a gateway, which reads alone
 abbrev IsOther : Work → Type 0
 IsOther (Upload ulid stop) = ⊥
 IsOther (Sync gateway) = Unit {0}
+IsOther (Compact stop) = ⊥
+IsOther (Clean stop) = ⊥
 IsOther (Query low high selector) = Unit {0}
 
 for_gateway : (gateways gateway place : ℕ) (w : Work) → IsFor gateways (hands.Gateway gateway) place w → IsOther w
 for_gateway gateways gateway place w (ships ulid stop is who) = absurd (cc (who))
+for_gateway gateways gateway place w (compacts stop is who) = absurd (cc (who))
+for_gateway gateways gateway place w (cleans stop is who) = absurd (cc (who))
 for_gateway gateways gateway place w (syncs own is who) = subst IsOther (sym is) tt
 for_gateway gateways gateway place w (asks low high selector own is who below) = subst IsOther (sym is) tt
 
@@ -139,27 +143,29 @@ task_reads : (setting : Setting) (who : Who) (place : ℕ) (w : Work) (held afte
 task_reads setting who place (Upload ulid stop) held after entries end other run = absurd other
 task_reads setting who place (Sync gateway) held after entries end other (own, run, is, left) =
     All-from_recursion (λ (e : Entry). IsReading e.op) entries (sync_reads (sync_rules setting gateway) entries own run)
+task_reads setting who place (Compact stop) held after entries end other run = absurd other
+task_reads setting who place (Clean stop) held after entries end other run = absurd other
 task_reads setting who place (Query low high selector) held after entries end other run =
     part_entries setting selector AllRead (ask_to setting who.gateway low high) held after entries end (none_read [] refl) (λ asked own. query_reads held.used asked held after entries end own) run
 
-abbrev NoUploads : List Assigned → Type 0
-NoUploads own = AllByRecursion (λ (a : Assigned). IsOther a.task.work) own
+abbrev AreOthers : List Assigned → Type 0
+AreOthers own = AllByRecursion (λ (a : Assigned). IsOther a.task.work) own
 
-tasks_read : (setting : Setting) (who : Who) (all : List Entry) (held last : Holding) (tasks : List Assigned) (entries : List Entry) (ends : List End) → NoUploads tasks → TasksRun (by_script setting) who all held tasks entries ends last → AllRead entries
+tasks_read : (setting : Setting) (who : Who) (all : List Entry) (held last : Holding) (tasks : List Assigned) (entries : List Entry) (ends : List End) → AreOthers tasks → TasksRun (by_script setting) who all held tasks entries ends last → AllRead entries
 tasks_read setting who all held last [] entries ends none run = none_read entries run.0
 tasks_read setting who all held last (own ∷ tasks) entries ends none (inl (made, others, end, later, next, parts, run, is, rest)) =
     subst AllRead (sym parts) (All-append (λ (e : Entry). IsReading e.op) made others (task_reads setting who own.place own.task.work held next made (Some end) none.0 run)
     (tasks_read setting who all next last tasks others later none.1 rest))
 tasks_read setting who all held last (own ∷ tasks) entries ends none (inr (run, is)) = task_reads setting who own.place own.task.work held last entries None none.0 run
 
--- the tasks at a gateway's places are no uploads
-no_uploads : (gateways gateway : ℕ) (tasks : List Task) (places : List ℕ) (own : List Assigned) → AllByRecursion (IsTaskOf gateways tasks (hands.Gateway gateway)) places → TasksAt tasks places own → NoUploads own
-no_uploads gateways gateway tasks [] own each at = subst NoUploads (sym at) tt
-no_uploads gateways gateway tasks (place ∷ places) [] each at = tt
-no_uploads gateways gateway tasks (place ∷ places) (a ∷ own) each at =
+-- the tasks at a gateway's places are the gateway's
+are_others : (gateways gateway : ℕ) (tasks : List Task) (places : List ℕ) (own : List Assigned) → AllByRecursion (IsTaskOf gateways tasks (hands.Gateway gateway)) places → TasksAt tasks places own → AreOthers own
+are_others gateways gateway tasks [] own each at = subst AreOthers (sym at) tt
+are_others gateways gateway tasks (place ∷ places) [] each at = tt
+are_others gateways gateway tasks (place ∷ places) (a ∷ own) each at =
     let task = each.0 in
     let same : task.task ≡ a.task = cc (task.is, (at.0).1) in
-    (subst (λ (t : Task). IsOther t.work) same (for_gateway gateways gateway place (task.task).work task.whose), no_uploads gateways gateway tasks places own each.1 at.1)
+    (subst (λ (t : Task). IsOther t.work) same (for_gateway gateways gateway place (task.task).work task.whose), are_others gateways gateway tasks places own each.1 at.1)
 
 -- ---- a phase
 
@@ -170,7 +176,7 @@ same_seat seat = seat
 abbrev again : Worker → Worker
 again worker = record { seat = same_seat worker.seat; gateway = worker.gateway; tasks = worker.tasks }
 
--- the ends of the uploads' workers
+-- the ends of the workers without a gateway
 abbrev shipped_by : List Worker → List (List End) → List (List End)
 shipped_by [] ends = []
 shipped_by (w ∷ ws) [] = []
@@ -193,7 +199,7 @@ tasks_same one other f who all before (own ∷ tasks) entries ends last (inl (ma
 tasks_same one other f who all before (own ∷ tasks) entries ends last (inr (run, is)) = inr (f who own.place own.task.work all before entries None last run, is)
 
 module _ (setting : Setting) (tasks : List Task) (views after : Holdings) (made : List Entry) where
-  -- an upload's worker does what it did
+  -- a worker without a gateway does what it did
   ships_again : (worker : Worker) (own : List End) → worker.gateway ≡ None → WorkerRun (by_script setting) tasks views made after worker own → WorkerRun (acting setting same_seat) tasks none_held made none_held (again worker) own
   ships_again worker own none run = record {
     own = run.own;
@@ -220,10 +226,10 @@ module _ (setting : Setting) (tasks : List Task) (views after : Holdings) (made 
 
 module _ (setting : Setting) (lawful : IsLawfulScript setting.script) (number : ℕ) (phase : Phase) (at : slice_get setting.script.phases number ≡ Some phase) (views after : Holdings) (made : List Entry) (ends : List (List End))
     (run : PhaseRun (by_script setting) phase.tasks (workers_of setting.script number) views made ends after) where
-  -- no upload's worker has a gateway's seat
-  apart_from_uploads : (worker : Worker) (g : ℕ) → Contains (workers_of setting.script number) worker → worker.gateway ≡ Some g → (other : ℕ) → Contains (map (λ (w : Worker). w.seat) (uploaders setting same_seat other)) worker.seat → ⊥
-  apart_from_uploads worker g among is other sits =
-      let one = of_map (λ (w : Worker). w.seat) (uploaders setting same_seat other) worker.seat sits in
+  -- no worker of one task alone has a gateway's seat
+  apart_from_actors : (worker : Worker) (g : ℕ) → Contains (workers_of setting.script number) worker → worker.gateway ≡ Some g → (other : ℕ) → Contains (map (λ (w : Worker). w.seat) (actors setting same_seat other)) worker.seat → ⊥
+  apart_from_actors worker g among is other sits =
+      let one = of_map (λ (w : Worker). w.seat) (actors setting same_seat other) worker.seat sits in
       let two = of_map again (filter (λ (x : Worker). is_none x.gateway) (workers_of setting.script other)) one.0 one.1 in
       let whose = two.0 in
       let inside : Contains (workers_of setting.script other) whose = of_filter (λ (x : Worker). is_none x.gateway) (workers_of setting.script other) whose two.1 in
@@ -241,16 +247,16 @@ module _ (setting : Setting) (lawful : IsLawfulScript setting.script) (number : 
       subst (λ (p : Phase). All (IsTaskOf (gateway_count setting.script.gateways) p.tasks (hands.Gateway g)) worker.tasks) same_phase
       (subst (λ (h : Hand). All (IsTaskOf (gateway_count setting.script.gateways) s.phase.tasks h) worker.tasks) hand s.own.places.only) in
       tasks_read setting (who_of worker) made (holding_of views worker.gateway) w.last w.own (of_seat worker.seat made) own
-      (no_uploads (gateway_count setting.script.gateways) g phase.tasks worker.tasks w.own (recursion_from_All (IsTaskOf (gateway_count setting.script.gateways) phase.tasks (hands.Gateway g)) worker.tasks each) w.are) w.runs
+      (are_others (gateway_count setting.script.gateways) g phase.tasks worker.tasks w.own (recursion_from_All (IsTaskOf (gateway_count setting.script.gateways) phase.tasks (hands.Gateway g)) worker.tasks each) w.are) w.runs
 
   abbrev Sits : Entry → Type 0
-  Sits e = Contains (map (λ (w : Worker). w.seat) (uploaders setting same_seat number)) e.seat ⊎ (acting setting same_seat).bystands e
+  Sits e = Contains (map (λ (w : Worker). w.seat) (actors setting same_seat number)) e.seat ⊎ (acting setting same_seat).bystands e
 
   sits_by : (e : Entry) (worker : Worker) (own : List End) (b : Bool) → Contains made e → Contains (workers_of setting.script number) worker → worker.seat ≡ e.seat → is_none worker.gateway ≡ b
       → WorkerRun (by_script setting) phase.tasks views made after worker own → Sits e
   sits_by e worker own true inside among seat is w =
-      inl (subst (Contains (map (λ (x : Worker). x.seat) (uploaders setting same_seat number))) seat
-      (into_map (λ (x : Worker). x.seat) (uploaders setting same_seat number) (again worker)
+      inl (subst (Contains (map (λ (x : Worker). x.seat) (actors setting same_seat number))) seat
+      (into_map (λ (x : Worker). x.seat) (actors setting same_seat number) (again worker)
       (into_map again (filter (λ (x : Worker). is_none x.gateway) (workers_of setting.script number)) worker (into_filter (λ (x : Worker). is_none x.gateway) (workers_of setting.script number) worker among is))))
   sits_by e worker own false inside among seat is w =
       let g = a_gateway worker.gateway is in
@@ -259,7 +265,7 @@ module _ (setting : Setting) (lawful : IsLawfulScript setting.script) (number : 
       inr (
         (λ zero_seat. absurd (omega (arith, s.seat, seat, zero_seat))),
         All-contains (λ (x : Entry). IsReading x.op) (of_seat worker.seat made) e (gateway_reads worker g.0 own among g.1 w) (into_filter (λ (x : Entry). x.seat == worker.seat) made e inside test),
-        (λ other sits. apart_from_uploads worker g.0 among g.1 other (subst (Contains (map (λ (x : Worker). x.seat) (uploaders setting same_seat other))) (sym seat) sits)),
+        (λ other sits. apart_from_actors worker g.0 among g.1 other (subst (Contains (map (λ (x : Worker). x.seat) (actors setting same_seat other))) (sym seat) sits)),
       )
 
   one_sits : (e : Entry) → Contains made e → Sits e
@@ -271,7 +277,7 @@ module _ (setting : Setting) (lawful : IsLawfulScript setting.script) (number : 
     | inr none ↦ absurd none
   ]
 
-  phase_acts : PhaseRun (acting setting same_seat) phase.tasks (uploaders setting same_seat number) none_held made (shipped_by (workers_of setting.script number) ends) none_held
+  phase_acts : PhaseRun (acting setting same_seat) phase.tasks (actors setting same_seat number) none_held made (shipped_by (workers_of setting.script number) ends) none_held
   phase_acts = record {
     seats = All-weaker (Contains made) Sits one_sits made (All-contains_itself made);
     runs = all_again setting phase.tasks views after made (workers_of setting.script number) ends run.runs;
@@ -315,3 +321,8 @@ runs_act setting journal ends lawful run = record {
   kept = run.kept;
   phases = phases_act setting lawful 0 none_held setting.script.phases journal ends (λ k p own. ap (slice_get setting.script.phases) (omega arith) ∙ own) run.phases;
 }
+
+-- at its own seats
+pub seats_stay : (setting : Setting) (journal : List Entry) (ends : List (List (List End))) (lawful : IsLawfulScript setting.script) (run : IsRunOf setting journal ends) (seat : ℕ) → (runs_act setting journal ends lawful run).seats seat ≡ seat
+unfolding runs_act
+seats_stay setting journal ends lawful run seat = refl

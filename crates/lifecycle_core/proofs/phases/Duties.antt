@@ -9,13 +9,13 @@ use Rattle.lifecycle_core.specs.InLine.{Duty}
 use Rattle.lifecycle_core.specs.Tasks.{End}
 
 pub same_is : (one other : Hand) → same_hand one other ≡ true → one ≡ other
-same_is (hands.Upload a) (hands.Upload b) e = let s : a ≡ b = grind (arith, nat_tests) in ap hands.Upload s
-same_is (hands.Upload a) (hands.Gateway b) e = absurd (cc (e))
-same_is (hands.Gateway a) (hands.Upload b) e = absurd (cc (e))
+same_is (hands.Alone a) (hands.Alone b) e = let s : a ≡ b = grind (arith, nat_tests) in ap hands.Alone s
+same_is (hands.Alone a) (hands.Gateway b) e = absurd (cc (e))
+same_is (hands.Gateway a) (hands.Alone b) e = absurd (cc (e))
 same_is (hands.Gateway a) (hands.Gateway b) e = let s : a ≡ b = grind (arith, nat_tests) in ap hands.Gateway s
 
 pub same_self : (hand : Hand) → same_hand hand hand ≡ true
-same_self (hands.Upload a) = grind (arith, nat_tests)
+same_self (hands.Alone a) = grind (arith, nat_tests)
 same_self (hands.Gateway a) = grind (arith, nat_tests)
 
 -- the duties of a hand, in their order

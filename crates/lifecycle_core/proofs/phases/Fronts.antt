@@ -184,7 +184,7 @@ AreApart [] = Unit {0}
 AreApart (w ∷ ws) = ((gateway : ℕ) → w.gateway ≡ Some gateway → All (λ (x : Worker). x.gateway ≢ Some gateway) ws) × AreApart ws
 
 gateway_is : (hand : Hand) (gateway : ℕ) → gateway_of hand ≡ Some gateway → hand ≡ hands.Gateway gateway
-gateway_is (hands.Upload place) gateway is = absurd (cc (is))
+gateway_is (hands.Alone place) gateway is = absurd (cc (is))
 gateway_is (hands.Gateway own) gateway is = ap hands.Gateway (cc (is))
 
 same_gateways : (gateway : ℕ) (hand : Hand) → hand ≡ hands.Gateway gateway → same_hand (hands.Gateway gateway) hand ≡ true

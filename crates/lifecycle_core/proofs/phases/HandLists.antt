@@ -17,9 +17,9 @@ use Rattle.lifecycle_core.specs.InLine.{Duty, duties_from}
 use Rattle.lifecycle_core.proofs.phases.Duties.{same_is}
 
 pub same_turned : (a b : Hand) → same_hand a b ≡ same_hand b a
-same_turned (hands.Upload a) (hands.Upload b) = grind (arith, nat_tests)
-same_turned (hands.Upload a) (hands.Gateway b) = refl
-same_turned (hands.Gateway a) (hands.Upload b) = refl
+same_turned (hands.Alone a) (hands.Alone b) = grind (arith, nat_tests)
+same_turned (hands.Alone a) (hands.Gateway b) = refl
+same_turned (hands.Gateway a) (hands.Alone b) = refl
 same_turned (hands.Gateway a) (hands.Gateway b) = grind (arith, nat_tests)
 
 -- each hand once
@@ -148,4 +148,6 @@ pub task_apart : (gateways place : ℕ) (w : Work) → Apart (hands_of_task gate
 unfolding hands_of_task
 task_apart gateways place (works.Upload ulid stop) = (refl, tt)
 task_apart gateways place (works.Sync gateway) = (refl, tt)
+task_apart gateways place (works.Compact stop) = (refl, tt)
+task_apart gateways place (works.Clean stop) = (refl, tt)
 task_apart gateways place (works.Query low high selector) = gateways_apart 0 gateways

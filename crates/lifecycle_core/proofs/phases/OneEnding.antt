@@ -1,6 +1,6 @@
 -- A journal tells the ends of what is done: two runs of a script over one journal came to the same ends.
 use Rattle.list_core.proofs.Membership.{contains_first}
-use Rattle.std.proofs.Common.{◌≡◌, ◌≢◌, ◌⊎◌, inl, inr, ℕ, ℤ, suc, ◌+◌, ◌<◌, ◌==◌, Bool, true, false, List, [], ◌∷◌, ◌++◌, length, map, All, Contains, Option, Some, None, refl, sym, ◌∙◌, ap, subst, arith, append-nil}
+use Rattle.std.proofs.Common.{◌≡◌, ◌≢◌, ◌⊎◌, inl, inr, ℕ, suc, ◌+◌, ◌<◌, ◌==◌, Bool, true, false, List, [], ◌∷◌, ◌++◌, length, map, All, Contains, Option, Some, None, refl, sym, ◌∙◌, ap, subst, arith, append-nil}
 use Rattle.std.specs.Prelude.{option_map, slice_get}
 use Rattle.std.specs.List.{AllZip}
 use Rattle.std.proofs.lemmas.Bool.Decides.{nat_tests}
@@ -12,6 +12,8 @@ use Rattle.world_core.specs.Stops.{IsBefore}
 use Rattle.world_core.specs.declared.entry.Entry.{Entry}
 use Rattle.world_core.proofs.PlanLaws.{once, one_end}
 use Rattle.shipper.specs.Uploads.{upload}
+use Rattle.compactor.specs.Compactions.{compaction}
+use Rattle.cleaner.specs.Cleanings.{cleaning}
 use Rattle.shipper.specs.declared.upload_end.UploadEnd.{UploadEnd}
 use Rattle.meta_fetcher.specs.Syncs.{IsEnd, SyncRun, sync}
 use Rattle.meta_fetcher.specs.declared.sync_end.SyncEnd.{SyncEnd}
@@ -23,7 +25,7 @@ use Rattle.script_workers.specs.declared.hand.Hand.{Hand}
 use Rattle.script_workers.specs.declared.phase.Phase.{Phase}
 use Rattle.script_workers.specs.declared.task.Task.{Task}
 use Rattle.script_workers.specs.declared.work.Work.{Work}
-use Rattle.script_workers.specs.declared.work.Work.TheVariants.{Upload, Sync, Query}
+use Rattle.script_workers.specs.declared.work.Work.TheVariants.{Upload, Sync, Compact, Clean, Query}
 use Rattle.script_workers.specs.declared.worker.Worker.{Worker}
 use Rattle.script_core.specs.Workers.{seats_before, workers_after, workers_of}
 use Rattle.script_core.specs.declared.block.Block.{Block}
@@ -33,7 +35,7 @@ use Rattle.lifecycle_core.specs.Phases.{IsFinished, IsRunOf, by_script, by_worke
 use Rattle.lifecycle_core.specs.Setting.{Setting}
 use Rattle.querier.specs.declared.ask.Ask.{Ask}
 use Rattle.lifecycle_core.specs.Shipped.{IsShipped}
-use Rattle.lifecycle_core.specs.Tasks.{End, IsStop, PartTask, QueryTask, ShipTask, TaskRun, answered, ask_to, called_with, question_of, refused, sync_rules, synced, synced_with, uploaded}
+use Rattle.lifecycle_core.specs.Tasks.{End, IsStop, PartTask, QueryTask, ShipTask, TaskRun, answered, ask_to, called_with, cleaned, compacted, question_of, refused, sync_rules, synced, synced_with, uploaded}
 use Rattle.lifecycle_core.specs.Ways.{AreFinished, PhasesRun}
 use Rattle.lifecycle_core.proofs.blocks.OneShipped.{not_refused, one_cause, one_shipped}
 use Rattle.lifecycle_core.proofs.phases.RunFronts.{not_nil}
@@ -82,34 +84,35 @@ same_upload setting block other objects others entries own same ships also run =
     let objects_same : objects ≡ others = one_shipped setting block block.body objects others ships (subst (λ (b : Block). IsShipped setting b others) (sym same) also) in
     subst (λ (b : Block). Runs (upload b.ulid objects) entries own) (sym same) (subst (λ (os : List Object). Runs (upload other.ulid os) entries own) (sym objects_same) run)
 
-abbrev Stops : Option ℕ → List Entry → Option End → Option UploadEnd → Type 0
-Stops stop entries end own = ((end ≡ option_map uploaded own) × IsBefore stop entries) ⊎ IsStop stop entries end
+-- a run of a plan, whose end gives the task's, or which was stopped
+abbrev Stops : {E : Type 0} → (E → End) → Option ℕ → List Entry → Option End → Option E → Type 0
+Stops {E} gives stop entries end own = ((end ≡ option_map gives own) × IsBefore stop entries) ⊎ IsStop stop entries end
 
-upload_once : (plan : Plan UploadEnd) (stop : Option ℕ) (xs : List Entry) (y : Entry) (rest : List Entry) (last : End) (end : Option End) (own more : Option UploadEnd) → Runs plan xs own → Stops stop xs (Some last) own
-    → Runs plan (xs ++ y ∷ rest) more → Stops stop (xs ++ y ∷ rest) end more → ⊥
-upload_once plan stop xs y rest last end own more run (inl (is, early)) on how =
-    let made = some_of uploaded own last is in once plan xs made.0 y rest more (subst (λ (o : Option UploadEnd). Runs plan xs o) made.1 run) on
-upload_once plan stop xs y rest last end own more run (inr (n, (stops, above, count), is)) on (inl (so, early)) =
+stopped_once : {E : Type 0} (plan : Plan E) (gives : E → End) (stop : Option ℕ) (xs : List Entry) (y : Entry) (rest : List Entry) (last : End) (end : Option End) (own more : Option E) → Runs plan xs own → Stops gives stop xs (Some last) own
+    → Runs plan (xs ++ y ∷ rest) more → Stops gives stop (xs ++ y ∷ rest) end more → ⊥
+stopped_once {E} plan gives stop xs y rest last end own more run (inl (is, early)) on how =
+    let made = some_of gives own last is in once plan xs made.0 y rest more (subst (λ (o : Option E). Runs plan xs o) made.1 run) on
+stopped_once {E} plan gives stop xs y rest last end own more run (inr (n, (stops, above, count), is)) on (inl (so, early)) =
     let below = early n stops above in omega (arith, below, count, longer xs y rest)
-upload_once plan stop xs y rest last end own more run (inr (n, (stops, above, count), is)) on (inr (m, (also, over, many), so)) =
+stopped_once {E} plan gives stop xs y rest last end own more run (inr (n, (stops, above, count), is)) on (inr (m, (also, over, many), so)) =
     let same : n ≡ m = cc (stops, also) in omega (arith, same, count, many, longer xs y rest)
 
-upload_tells : (plan : Plan UploadEnd) (stop : Option ℕ) (xs : List Entry) (one other : End) (own more : Option UploadEnd) → Runs plan xs own → Stops stop xs (Some one) own → Runs plan xs more → Stops stop xs (Some other) more → one ≡ other
-upload_tells plan stop xs one other own more run (inl (is, early)) on (inl (so, soon)) =
-    let first = some_of uploaded own one is in
-    let second = some_of uploaded more other so in
-    let same = one_end plan xs first.0 second.0 (subst (λ (o : Option UploadEnd). Runs plan xs o) first.1 run) (subst (λ (o : Option UploadEnd). Runs plan xs o) second.1 on) in
-    first.2 ∙ ap uploaded same ∙ sym second.2
-upload_tells plan stop xs one other own more run (inl (is, early)) on (inr (n, (stops, above, count), so)) = absurd (let below = early n stops above in omega (arith, below, count))
-upload_tells plan stop xs one other own more run (inr (n, (stops, above, count), is)) on (inl (so, early)) = absurd (let below = early n stops above in omega (arith, below, count))
-upload_tells plan stop xs one other own more run (inr (n, (stops, above, count), is)) on (inr (m, (also, over, many), so)) =
+stopped_tells : {E : Type 0} (plan : Plan E) (gives : E → End) (stop : Option ℕ) (xs : List Entry) (one other : End) (own more : Option E) → Runs plan xs own → Stops gives stop xs (Some one) own → Runs plan xs more → Stops gives stop xs (Some other) more → one ≡ other
+stopped_tells {E} plan gives stop xs one other own more run (inl (is, early)) on (inl (so, soon)) =
+    let first = some_of gives own one is in
+    let second = some_of gives more other so in
+    let same = one_end plan xs first.0 second.0 (subst (λ (o : Option E). Runs plan xs o) first.1 run) (subst (λ (o : Option E). Runs plan xs o) second.1 on) in
+    first.2 ∙ ap gives same ∙ sym second.2
+stopped_tells {E} plan gives stop xs one other own more run (inl (is, early)) on (inr (n, (stops, above, count), so)) = absurd (let below = early n stops above in omega (arith, below, count))
+stopped_tells {E} plan gives stop xs one other own more run (inr (n, (stops, above, count), is)) on (inl (so, early)) = absurd (let below = early n stops above in omega (arith, below, count))
+stopped_tells {E} plan gives stop xs one other own more run (inr (n, (stops, above, count), is)) on (inr (m, (also, over, many), so)) =
     let same : n ≡ m = cc (stops, also) in cc (is, so, same)
 
 -- ---- uploads
 
 ship_once : (setting : Setting) (block : Block) (stop : Option ℕ) (xs : List Entry) (y : Entry) (rest : List Entry) (last : End) (end : Option End) → ShipTask setting block stop xs (Some last) → ShipTask setting block stop (xs ++ y ∷ rest) end → ⊥
 ship_once setting block stop xs y rest last end (inl (objects, own, ships, run, how)) (inl (others, also, also_ships, more, on)) =
-    upload_once (upload block.ulid objects) stop xs y rest last end own also run how (same_upload setting block block objects others (xs ++ y ∷ rest) also refl ships also_ships more) on
+    stopped_once (upload block.ulid objects) uploaded stop xs y rest last end own also run how (same_upload setting block block objects others (xs ++ y ∷ rest) also refl ships also_ships more) on
 ship_once setting block stop xs y rest last end (inr (inl (cause, none, (nil, how)))) (inl (others, also, ships, more, on)) = not_refused setting block block.body others cause ships none
 ship_once setting block stop xs y rest last end (inr (inr (nil, off))) more = absurd (cc (off))
 ship_once setting block stop xs y rest last end run (inr (inl (cause, none, (nil, how)))) = not_nil xs y rest nil
@@ -121,7 +124,7 @@ refused_is cause one (inr is) = cc (is)
 
 ship_tells : (setting : Setting) (block : Block) (stop : Option ℕ) (xs : List Entry) (one other : End) → ShipTask setting block stop xs (Some one) → ShipTask setting block stop xs (Some other) → one ≡ other
 ship_tells setting block stop xs one other (inl (objects, own, ships, run, how)) (inl (others, also, also_ships, more, on)) =
-    upload_tells (upload block.ulid objects) stop xs one other own also run how (same_upload setting block block objects others xs also refl ships also_ships more) on
+    stopped_tells (upload block.ulid objects) uploaded stop xs one other own also run how (same_upload setting block block objects others xs also refl ships also_ships more) on
 ship_tells setting block stop xs one other (inl (objects, own, ships, run, how)) (inr (inl (cause, none, (nil, on)))) = absurd (not_refused setting block block.body objects cause ships none)
 ship_tells setting block stop xs one other (inr (inl (cause, none, (nil, how)))) (inl (others, also, ships, more, on)) = absurd (not_refused setting block block.body others cause ships none)
 ship_tells setting block stop xs one other (inr (inl (cause, none, (nil, how)))) (inr (inl (also, too, (nil', on)))) =
@@ -176,6 +179,10 @@ module _ (setting : Setting) where
       let rules = sync_rules setting gateway in
       let made = some_of synced own last is in
       comes_once (sync rules) (IsEnd rules) xs made.0 y rest also (subst (SyncRun rules xs) made.1 run) more
+  task_once who place (Compact stop) held after later xs y rest last end ((own, run, how), kept) ((also, more, on), keeps) =
+      stopped_once (compaction setting.script.rules) compacted stop xs y rest last end own also run how more on
+  task_once who place (Clean stop) held after later xs y rest last end ((own, run, how), kept) ((also, more, on), keeps) =
+      stopped_once (cleaning setting.script.rules) cleaned stop xs y rest last end own also run how more on
   task_once who place (Query low high selector) held after later xs y rest last end run more =
       part_once setting selector (ask_to setting who.gateway low high) held after later xs y rest last end run more
 
@@ -192,6 +199,10 @@ module _ (setting : Setting) where
       let same = sync_tells rules xs first.0 second.0 (subst (SyncRun rules xs) first.1 run) (subst (SyncRun rules xs) second.1 more) in
       let owns : own ≡ also = first.1 ∙ ap (λ (s : SyncEnd). Some s) same ∙ sym second.1 in
       (first.2 ∙ ap synced same ∙ sym second.2, kept ∙ ap (synced_with held xs) owns ∙ sym keeps)
+  task_tells who place (Compact stop) held after later xs one other ((own, run, how), kept) ((also, more, on), keeps) =
+      (stopped_tells (compaction setting.script.rules) compacted stop xs one other own also run how more on, kept ∙ sym keeps)
+  task_tells who place (Clean stop) held after later xs one other ((own, run, how), kept) ((also, more, on), keeps) =
+      (stopped_tells (cleaning setting.script.rules) cleaned stop xs one other own also run how more on, kept ∙ sym keeps)
   task_tells who place (Query low high selector) held after later xs one other run more = part_tells setting selector (ask_to setting who.gateway low high) held after later xs one other run more
 
   -- ---- workers

@@ -31,13 +31,17 @@ module _ (script : Script) (lawful : IsLawfulScript script) where
       let own : slice_get (workers_of script number) place ≡ Some worker = ap (λ (o : Option Phase). slice_get (workers_after script (seats_before script number) o) place) is ∙ at in
       let seats = are_seated script number phase lawful is in
       let within = slice_get_within (workers_of script number) place worker own in
-      let hand = slice_get-get_or staff place (hands.Upload 0) (omega (arith, within, seats.count)) in
-      (seats.each place (get_or staff place (hands.Upload 0)) worker hand own).seat
+      let hand = slice_get-get_or staff place (hands.Alone 0) (omega (arith, within, seats.count)) in
+      (seats.each place (get_or staff place (hands.Alone 0)) worker hand own).seat
 
   has_place : (number : ℕ) (worker : Worker) → Contains (workers_of script number) worker → HasPlace number worker
   has_place number worker among =
       let at = place_of_member (workers_of script number) worker among in
       record { place = at.0; at = at.1; seat = seated number at.0 worker (slice_get script.phases number) refl at.1 }
+
+  -- no worker has the clock's
+  pub seat_above : (number : ℕ) (worker : Worker) → Contains (workers_of script number) worker → 0 < worker.seat
+  seat_above number worker among = let h = has_place number worker among in omega (arith, h.seat)
 
   -- the workers of a phase are among those before a later one
   before_by : (number later : ℕ) (same : Bool) → (number == later) ≡ same → number < suc later
@@ -65,6 +69,10 @@ module _ (script : Script) (lawful : IsLawfulScript script) where
 
   same_phase : (number also : ℕ) → ¬ (number < also) → ¬ (also < number) → number ≡ also
   same_phase number also not turned = omega (arith, not, turned)
+
+  -- a seat tells its phase
+  pub one_phase : (number also : ℕ) (worker other : Worker) → Contains (workers_of script number) worker → Contains (workers_of script also) other → worker.seat ≡ other.seat → number ≡ also
+  one_phase number also worker other one two same = same_phase number also (not_later number also worker other one two same) (not_later also number other worker two one (sym same))
 
   pub one_worker : (number also : ℕ) (worker other : Worker) → Contains (workers_of script number) worker → Contains (workers_of script also) other → worker.seat ≡ other.seat → worker ≡ other
   one_worker number also worker other one two same =

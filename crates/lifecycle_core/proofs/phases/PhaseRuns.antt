@@ -22,7 +22,7 @@ use Rattle.lifecycle_core.specs.Setting.{Setting}
 use Rattle.lifecycle_core.specs.Tasks.{End}
 use Rattle.lifecycle_core.proofs.phases.Duties.{same_is, same_self, part, ends_by, tasks_of}
 use Rattle.lifecycle_core.proofs.phases.HandLists.{JoinsAll, joins_from, hands_in}
-use Rattle.lifecycle_core.proofs.phases.Places.{IsDuty, all_duties, places_are, places_in, tasks_at, upload_place}
+use Rattle.lifecycle_core.proofs.phases.Places.{IsDuty, all_duties, places_are, places_in, tasks_at, alone_place}
 use Rattle.lifecycle_core.proofs.phases.Workers.{IsPlaced, IsWorkerOf, each_worker, seat_among}
 use Rattle.lifecycle_core.proofs.phases.TaskRuns.{MayBegin}
 use Rattle.lifecycle_core.proofs.phases.WorkerRuns.{Fits, did}
@@ -52,10 +52,10 @@ among_all (d ∷ ds) hs f = (
 placed_hands : (gateways : ℕ) (tasks : List Task) (ds : List Duty) → AllByRecursion (IsDuty tasks) ds → AllByRecursion (IsPlaced gateways tasks) (hands_in ds)
 placed_hands gateways tasks [] all = tt
 placed_hands gateways tasks (d ∷ ds) all = (
-  λ own e. let u = (all.0).upload own e in
-      let at = upload_place gateways 0 d.place tasks d.task (u.1).0 (u.1).1 (all.0).at (u.1).2 in
+  λ own e. let u = (all.0).alone own e in
+      let at = alone_place gateways 0 d.place tasks d.task (all.0).at u.1 in
       let same : own ≡ 0 + d.place = omega (arith, u.0) in
-      subst (λ (h : Hand). places_from gateways h 0 tasks ≡ own ∷ []) (sym e) (subst (λ (n : ℕ). places_from gateways (hands.Upload n) 0 tasks ≡ n ∷ []) (sym same) at),
+      subst (λ (h : Hand). places_from gateways h 0 tasks ≡ own ∷ []) (sym e) (subst (λ (n : ℕ). places_from gateways (hands.Alone n) 0 tasks ≡ n ∷ []) (sym same) at),
   placed_hands gateways tasks ds all.1,
 )
 
@@ -69,7 +69,7 @@ all_fit : (setting : Setting) (tasks : List Task) (gateways before : ℕ) (worke
     → AllByRecursion (Fits setting (seat_of workers) hand worker.seat) ds
 all_fit setting tasks gateways before workers hand worker [] lawful is all = tt
 all_fit setting tasks gateways before workers hand worker (d ∷ ds) lawful is all = (
-  record { same = is.same d.hand; other = is.other d.hand; upload = λ p e. ((all.0).upload p e).1; begins = begins_at setting tasks d.place d.task lawful (all.0).at },
+  record { same = is.same d.hand; other = is.other d.hand; alone = λ p e. ((all.0).alone p e).1; begins = begins_at setting tasks d.place d.task lawful (all.0).at },
   all_fit setting tasks gateways before workers hand worker ds lawful is all.1,
 )
 
@@ -85,7 +85,7 @@ seated setting seat seats views (d ∷ ds) entries ends after each (inl r) =
 seated setting seat seats views (d ∷ ds) entries ends after each (inr r) = λ k x below. subst (Contains seats) (sym (r.1 k x below)) each.0
 
 same_view : (views : Holdings) (hand : Hand) (gateway : ℕ) (used : Holding) → hand ≢ hands.Gateway gateway → with_holding views (gateway_of hand) used gateway ≡ views gateway
-same_view views (hands.Upload p) gateway used differ = refl
+same_view views (hands.Alone p) gateway used differ = refl
 same_view views (hands.Gateway p) gateway used differ =
     let apart : p ≢ gateway = λ e. differ (ap hands.Gateway e) in
     let e : (gateway == p) ≡ false = grind (arith, nat_tests, apart) in rw e refl
@@ -320,8 +320,8 @@ module _ (setting : Setting) (gateways before : ℕ) (tasks : List Task) (views 
       → ((hand : Hand) → AllZip (Beside hand (places_in (part hand own_duties)) (ends_by hand own_duties ends)) ds es)
       → AllZip (λ d e. CameTo own_workers (ends_of own_duties ends own_hands) (gateway_of d.hand) d.place e) ds es
   came_all room [] [] among near = tt
-  came_all room [] (e ∷ es) among near = absurd (near (hands.Upload 0))
-  came_all room (d ∷ ds) [] among near = absurd (near (hands.Upload 0))
+  came_all room [] (e ∷ es) among near = absurd (near (hands.Alone 0))
+  came_all room (d ∷ ds) [] among near = absurd (near (hands.Alone 0))
   came_all room (d ∷ ds) (e ∷ es) among near = (came_one room d e among.0 (λ h. (near h).0), came_all room ds es among.1 (λ h. (near h).1))
 
   -- the phase's run, by its workers

@@ -1,14 +1,14 @@
--- To which ends an upload comes: that of its operations, that its block is not shipped, or the stop of its line.
+-- To which ends a task with a stop comes. An upload: that of its operations, that its block is not shipped, or the stop of its line.
 use Rattle.std.proofs.Common.{◌≡◌, ℕ, List, Option, Some, None, inl, inr, sym, subst}
 use Rattle.std.specs.Prelude.{option_map}
 use Rattle.block_keys.specs.declared.object.Object.{Object}
-use Rattle.world_core.specs.Plans.{Runs}
+use Rattle.world_core.specs.Plans.{Plan, Runs}
 use Rattle.world_core.specs.declared.entry.Entry.{Entry}
 use Rattle.shipper.specs.Uploads.{upload}
 use Rattle.shipper.specs.declared.upload_end.UploadEnd.{UploadEnd}
 use Rattle.script_core.specs.declared.block.Block.{Block}
 use Rattle.lifecycle_core.specs.Setting.{Setting}
-use Rattle.lifecycle_core.specs.Tasks.{End, ShipTask, refused, stopped, uploaded}
+use Rattle.lifecycle_core.specs.Tasks.{End, ShipTask, StoppedRun, refused, stopped, uploaded}
 
 module _ (P : End → Type 0) (setting : Setting) (block : Block) (stop : Option ℕ) (entries : List Entry) (end : End)
     (by_upload : (objects : List Object) (own : UploadEnd) → Runs (upload block.ulid objects) entries (Some own) → P (uploaded own)) (by_refusal : (cause : ℕ) → P (refused cause)) (by_stop : (n : ℕ) → P (stopped n)) where
@@ -25,3 +25,14 @@ module _ (P : End → Type 0) (setting : Setting) (block : Block) (stop : Option
   ship_end (inr (inl (cause, none, (nil, inl off)))) = absurd (cc (off))
   ship_end (inr (inl (cause, none, (nil, inr is)))) = some_is (refused cause) is (by_refusal cause)
   ship_end (inr (inr (nil, off))) = absurd (cc (off))
+
+-- a compaction or a cleaning: that of its operations, or the stop of its line
+module _ {E : Type 0} (P : End → Type 0) (plan : Plan E) (gives : E → End) (stop : Option ℕ) (entries : List Entry) (end : End)
+    (by_run : (own : E) → Runs plan entries (Some own) → P (gives own)) (by_stop : (n : ℕ) → P (stopped n)) where
+  run_end : (own : Option E) → Runs plan entries own → Some end ≡ option_map gives own → P end
+  run_end None run is = absurd (cc (is))
+  run_end (Some own) run is = let same : end ≡ gives own = cc (is) in subst P (sym same) (by_run own run)
+
+  pub stopped_end : StoppedRun plan gives stop entries (Some end) → P end
+  stopped_end (own, run, inl (is, early)) = run_end own run is
+  stopped_end (own, run, inr (n, reached, is)) = let same : end ≡ stopped n = cc (is) in subst P (sym same) (by_stop n)

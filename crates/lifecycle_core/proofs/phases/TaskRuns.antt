@@ -3,7 +3,10 @@ use Rattle.std.proofs.Common.{◌≡◌, ℕ, zero, suc, ◌<◌, Bool, true, fa
 use Rattle.std.specs.Prelude.{◌==◌, Option, Some, None, option_map, slice_get, find}
 use Rattle.std.specs.List.{All, list_any}
 use Rattle.std.proofs.lemmas.List.Elements.{All-head, All-tail}
+use Rattle.world_core.specs.Plans.{Plan}
 use Rattle.world_core.specs.declared.entry.Entry.{Entry}
+use Rattle.compactor.specs.Compactions.{compaction}
+use Rattle.cleaner.specs.Cleanings.{cleaning}
 use Rattle.meta_fetcher.specs.Syncs.{SyncRun}
 use Rattle.meta_fetcher.specs.declared.view.View.{View}
 use Rattle.meta_fetcher.specs.declared.sync_end.SyncEnd.{SyncEnd}
@@ -16,11 +19,11 @@ use Rattle.querier.specs.declared.ask.Ask.{Ask}
 use Rattle.script_core.specs.Lawful.{IsLawfulBlock, IsLawfulWork}
 use Rattle.script_core.specs.declared.block.Block.{Block}
 use Rattle.script_workers.specs.declared.work.Work.{Work}
-use Rattle.script_workers.specs.declared.work.Work.TheVariants.{Upload, Sync, Query}
+use Rattle.script_workers.specs.declared.work.Work.TheVariants.{Upload, Sync, Compact, Clean, Query}
 use Rattle.lifecycle_core.specs.Conducts.{Who}
 use Rattle.lifecycle_core.specs.Holdings.{Holding, Use}
 use Rattle.lifecycle_core.specs.Setting.{Setting}
-use Rattle.lifecycle_core.specs.Tasks.{End, PartTask, QueryTask, TaskRun, ask_to, called_with, last_number, question_of, sync_rules, synced_with}
+use Rattle.lifecycle_core.specs.Tasks.{End, PartTask, QueryTask, StoppedRun, TaskRun, cleaned, compacted, ask_to, called_with, last_number, question_of, sync_rules, synced_with}
 use Rattle.lifecycle_core.proofs.phases.GatewayParts.{query_is}
 
 found_first : {X : Type 0} (P : X → Type 0) (p : X → Bool) (x : X) (xs : List X) (b : Bool) → p x ≡ b → P x → (list_any p xs ≡ true → (y : X) × (find p xs ≡ Some y) × P y) → list_any p (x ∷ xs) ≡ true
@@ -52,21 +55,39 @@ part_none : (setting : Setting) (selector : ℕ) (ask : Option Ask) (before : Ho
 part_none setting selector None before below = ((refl, inl refl), refl)
 part_none setting selector (Some ask) before below = query_none before.used (question_of setting selector ask) before (asked_some setting selector ask below)
 
+-- a run with a stop may be broken off before its first entry
+stopped_none : {E : Type 0} (plan : Plan E) (gives : E → End) (stop : Option ℕ) → StoppedRun plan gives stop [] None
+stopped_none plan gives stop = (None, breaks_off plan, inl (refl, λ n same above. above))
+
 -- a run of the work may be broken off before its first entry, and then nothing has changed
 abbrev pub MayBegin : Setting → Work → Type 0
 MayBegin setting w = (who : Who) (place : ℕ) (before : Holding) → TaskRun setting who place w before [] None before
 
 pub none_yet : (setting : Setting) (w : Work) → All IsLawfulBlock setting.script.blocks → IsLawfulWork setting.script.gateways setting.script.blocks (length setting.script.selectors) w → MayBegin setting w
 none_yet setting (Upload ulid stop) blocks lawful = λ who place before.
-    let f = found_by IsLawfulBlock (λ (block : Block). block.ulid == ulid) setting.script.blocks blocks lawful in
+    let f = found_by IsLawfulBlock (λ (block : Block). block.ulid == ulid) setting.script.blocks blocks lawful.0 in
     ((f.0, f.1, inr (inr (refl, refl))), refl)
 none_yet setting (Sync gateway) blocks lawful = λ who place before. (None, refl, refl, refl)
+none_yet setting (Compact stop) blocks lawful = λ who place before. (stopped_none (compaction setting.script.rules) compacted stop, refl)
+none_yet setting (Clean stop) blocks lawful = λ who place before. (stopped_none (cleaning setting.script.rules) cleaned stop, refl)
 none_yet setting (Query low high selector) blocks lawful = λ who place before.
     part_none setting selector (ask_to setting who.gateway low high) before lawful.3
 
--- no upload changes what a worker holds
-pub upload_keeps : (setting : Setting) (who : Who) (place : ℕ) (before after : Holding) (ulid : ℕ) (stop : Option ℕ) (made : List Entry) (end : Option End) → TaskRun setting who place (Upload ulid stop) before made end after → after ≡ before
-upload_keeps setting who place before after ulid stop made end run = run.1
+-- a work whose worker does it alone
+abbrev pub IsAlone : Work → Type 0
+IsAlone (Upload ulid stop) = Unit {0}
+IsAlone (Sync gateway) = ⊥
+IsAlone (Compact stop) = Unit {0}
+IsAlone (Clean stop) = Unit {0}
+IsAlone (Query low high selector) = ⊥
+
+-- such a work changes nothing of what a worker holds
+pub alone_keeps : (setting : Setting) (who : Who) (place : ℕ) (before after : Holding) (w : Work) (made : List Entry) (end : Option End) → IsAlone w → TaskRun setting who place w before made end after → after ≡ before
+alone_keeps setting who place before after (Upload ulid stop) made end alone run = run.1
+alone_keeps setting who place before after (Sync gateway) made end alone run = absurd alone
+alone_keeps setting who place before after (Compact stop) made end alone run = run.1
+alone_keeps setting who place before after (Clean stop) made end alone run = run.1
+alone_keeps setting who place before after (Query low high selector) made end alone run = absurd alone
 
 -- what holds of what a worker held before a task, of a view that its sync gives, and of the cache that its call leaves, holds of what
 -- it holds after the task
@@ -101,5 +122,7 @@ module _ (Holds : Holding → Type 0) (setting : Setting) (who : Who) (place : �
   pub task_leaves : (w : Work) (end : Option End) (after : Holding) → ((gateway : ℕ) (own : Option SyncEnd) → w ≡ Sync gateway → SyncRun (sync_rules setting gateway) made own → Given own) → Called
       → TaskRun setting who place w before made end after → Holds after
   task_leaves (Upload ulid stop) end after gives called run = subst Holds (sym run.1) known
+  task_leaves (Compact stop) end after gives called run = subst Holds (sym run.1) known
+  task_leaves (Clean stop) end after gives called run = subst Holds (sym run.1) known
   task_leaves (Sync gateway) end after gives called (own, run, is, same) = sync_leaves own after (gives gateway own refl run) same
   task_leaves (Query low high selector) end after gives called run = part_leaves selector (ask_to setting who.gateway low high) end after called run

@@ -7,8 +7,6 @@ use Rattle.world_core.specs.declared.entry.Entry.{Entry}
 use Rattle.script_workers.specs.Hands.{same_hand, gateway_of}
 use Rattle.script_workers.specs.declared.hand.Hand.{Hand}
 use Rattle.script_workers.specs.declared.hand.Hand.TheVariants as hands
-use Rattle.script_workers.specs.declared.work.Work.{Work}
-use Rattle.script_workers.specs.declared.work.Work.TheVariants as works
 use Rattle.lifecycle_core.specs.Conducts.{TasksRun, Who, of_seat}
 use Rattle.lifecycle_core.specs.Holdings.{Holding, Holdings, holding_of, nothing_held, with_holding}
 use Rattle.lifecycle_core.specs.InLine.{Duty, InLine, who_does}
@@ -17,14 +15,14 @@ use Rattle.lifecycle_core.specs.Setting.{Setting}
 use Rattle.lifecycle_core.specs.Tasks.{End, TaskRun}
 use Rattle.lifecycle_core.proofs.phases.Duties.{same_is, part, part_own, part_other, ends_by, ends_own, ends_other, ends_none, tasks_of}
 use Rattle.lifecycle_core.proofs.phases.Seats.{own_first, others_first}
-use Rattle.lifecycle_core.proofs.phases.TaskRuns.{MayBegin, upload_keeps}
+use Rattle.lifecycle_core.proofs.phases.TaskRuns.{IsAlone, MayBegin, alone_keeps}
 use Rattle.std.proofs.lemmas.List.{append-nil}
 
--- the duty may begin, an upload's hand has an upload, and the hand's seat is no other's
+-- the duty may begin, the hand of one task alone has such a task, and the hand's seat is no other's
 pub record Fits (setting : Setting) (seat : Hand → ℕ) (hand : Hand) (own : ℕ) (duty : Duty) : Type 0 where
   pub same : same_hand hand duty.hand ≡ true → seat duty.hand ≡ own
   pub other : same_hand hand duty.hand ≡ false → seat duty.hand ≢ own
-  pub upload : (place : ℕ) → duty.hand ≡ hands.Upload place → (ulid : ℕ) × (stop : Option ℕ) × (duty.task.work ≡ works.Upload ulid stop)
+  pub alone : (place : ℕ) → duty.hand ≡ hands.Alone place → IsAlone duty.task.work
   pub begins : MayBegin setting duty.task.work
 
 -- what is set is held, where it is a gateway's
@@ -39,15 +37,14 @@ held_own : (setting : Setting) (seat : Hand → ℕ) (hand : Hand) (own : ℕ) (
     → Fits setting seat hand own duty → TaskRun setting who duty.place duty.task.work (holding_of views (gateway_of h)) made end held
     → holding_of (with_holding views (gateway_of h) held) (gateway_of h) ≡ held
 held_own setting seat hand own views duty who made end held (hands.Gateway g) is fits run = set_holding views g held
-held_own setting seat hand own views duty who made end held (hands.Upload p) is fits run =
-    let w = fits.upload p is in
-    sym (upload_keeps setting who duty.place nothing_held held w.0 w.1 made end (subst (λ (x : Work). TaskRun setting who duty.place x nothing_held made end held) w.2 run))
+held_own setting seat hand own views duty who made end held (hands.Alone p) is fits run =
+    sym (alone_keeps setting who duty.place nothing_held held duty.task.work made end (fits.alone p is) run)
 
 -- and after a duty of another hand
 held_other : (views : Holdings) (one other : Hand) (held : Holding) → same_hand one other ≡ false → holding_of (with_holding views (gateway_of other) held) (gateway_of one) ≡ holding_of views (gateway_of one)
-held_other views (hands.Upload a) (hands.Upload b) held e = refl
-held_other views (hands.Upload a) (hands.Gateway b) held e = refl
-held_other views (hands.Gateway a) (hands.Upload b) held e = refl
+held_other views (hands.Alone a) (hands.Alone b) held e = refl
+held_other views (hands.Alone a) (hands.Gateway b) held e = refl
+held_other views (hands.Gateway a) (hands.Alone b) held e = refl
 held_other views (hands.Gateway a) (hands.Gateway b) held e = other_gateway views b a held (grind (arith, nat_tests, e))
 
 module _ (setting : Setting) (seat : Hand → ℕ) (hand : Hand) (own : ℕ) (all : List Entry) where

@@ -14,18 +14,18 @@ use Rattle.lifecycle_core.proofs.phases.Duties.{same_is}
 use Rattle.lifecycle_core.proofs.phases.HandLists.{Apart, same_turned}
 
 module _ (gateways : ℕ) (tasks : List Task) where
-  -- an upload's hand has the one place
+  -- the hand of one task alone has the one place
   abbrev pub IsPlaced : Hand → Type 0
-  IsPlaced hand = (own : ℕ) → hand ≡ hands.Upload own → places_from gateways hand 0 tasks ≡ own ∷ []
+  IsPlaced hand = (own : ℕ) → hand ≡ hands.Alone own → places_from gateways hand 0 tasks ≡ own ∷ []
 
   or_false : (a : Bool) → (a || false) ≡ a
   or_false true = refl
   or_false false = refl
 
   serves_is : (hand x : Hand) → IsPlaced hand → serves x (gateway_of hand) (places_from gateways hand 0 tasks) ≡ same_hand hand x
-  serves_is (hands.Upload a) (hands.Upload b) placed = rw (placed a refl) (or_false (a == b))
-  serves_is (hands.Upload a) (hands.Gateway b) placed = refl
-  serves_is (hands.Gateway a) (hands.Upload b) placed = refl
+  serves_is (hands.Alone a) (hands.Alone b) placed = rw (placed a refl) (or_false (a == b))
+  serves_is (hands.Alone a) (hands.Gateway b) placed = refl
+  serves_is (hands.Gateway a) (hands.Alone b) placed = refl
   serves_is (hands.Gateway a) (hands.Gateway b) placed = refl
 
   seat_first : (before : ℕ) (hand x : Hand) (hs : List Hand) (b : Bool) → IsPlaced hand → same_hand hand x ≡ b

@@ -1,28 +1,23 @@
 -- What is found under the key of a block's meta, where it is an object with which the script's block is shipped; and that no such
 -- object is under the key of a mark.
+use Rattle.lifecycle_core.proofs.blocks.NewMetas.{named_again}
 use Rattle.lifecycle_core.proofs.blocks.Objects.{object, object_is}
 use Rattle.lifecycle_core.proofs.blocks.OneShipped.{ends_with_meta}
 use Rattle.lifecycle_core.proofs.blocks.Whole.{IsWholeBlock, Spans}
 use Rattle.list_core.proofs.Membership.{only_member}
 use Rattle.std.proofs.lemmas.List.Elements.{Contains-append_cases}
-use Rattle.std.proofs.Common.{◌≡◌, ℕ, eqb, List, [], ◌∷◌, Contains, Some, None, Result, Ok, ℤ, refl, sym, ◌∙◌, ap, subst, inl, inr}
-use Rattle.std.proofs.lemmas.Bool.{eq-eqb, cond-true}
+use Rattle.std.proofs.Common.{◌≡◌, ℕ, List, [], ◌∷◌, Contains, Some, Ok, refl, sym, ◌∙◌, ap, subst, inl, inr}
 use Rattle.block_keys.specs.declared.key.Key.TheVariants as key
 use Rattle.block_keys.specs.declared.object.Object.{Object}
-use Rattle.block_meta.specs.declared.refusal.MetaRefusal.{MetaRefusal}
 use Rattle.block_meta.specs.MetaFields.{MetaFields}
 use Rattle.block_meta.specs.MetaReading.{meta_of_text}
 use Rattle.block_meta.specs.MetaValue.{meta_text}
-use Rattle.block_meta.specs.OfBlocks.{block_meta, named_meta}
+use Rattle.block_meta.specs.OfBlocks.{block_meta}
 use Rattle.script_core.specs.declared.block.Block.{Block}
 use Rattle.lifecycle_core.specs.Held.{declared}
 use Rattle.lifecycle_core.specs.Setting.{Setting}
 use Rattle.lifecycle_core.specs.Shipped.{IsShipped}
-use Rattle.block_keys.specs.declared.key.Key.{Key}
-use Rattle.block_meta.proofs.FoundTexts.{meta_text_found}
-use Rattle.world_core.specs.declared.entry.Entry.{Entry}
-use Rattle.world_core.specs.declared.op.Op.TheVariants as op
-use Rattle.lifecycle_core.proofs.journals.Told.{IsReadable, IsShippedObject, PutsTexts}
+use Rattle.lifecycle_core.proofs.journals.Told.{IsReadable, IsShippedObject}
 
 -- ---- metas
 
@@ -33,7 +28,7 @@ pub record IsMetaOf (setting : Setting) (ulid : ℕ) (meta : MetaFields) : Type 
   pub own : meta.ulid ≡ ulid
   pub sources : meta.sources ≡ ulid ∷ []
   pub labels : meta.labels ≡ block.labels
-  pub times : Spans block.body meta.min_time meta.max_time
+  pub times : Spans setting block.ulid block.body meta.min_time meta.max_time
   pub objects : List Object
   pub shipped : IsShipped setting block objects
   pub whole : IsWholeBlock setting block objects
@@ -65,12 +60,6 @@ meta_read_as setting readable ulid bytes o =
       },
     )
 
--- so puts of metas put their texts, where each put is of a shipped object
-pub puts_texts : (setting : Setting) (journal : List Entry) → IsReadable setting → ((e : Entry) → Contains journal e → (k : Key) (bytes : List ℕ) → e.op ≡ op.Put k bytes → IsShippedObject setting k bytes) → PutsTexts journal
-puts_texts setting journal readable shipped e among ulid bytes puts =
-    let read = meta_read_as setting readable ulid bytes (shipped e among (key.Meta ulid) bytes puts) in
-    (read.0, (meta_text_found bytes).holds read.0 read.1)
-
 -- no shipped object is under the key of a mark
 pub no_mark : (setting : Setting) (ulid : ℕ) (bytes : List ℕ) → IsShippedObject setting (key.Mark ulid) bytes → ⊥
 no_mark setting ulid bytes o =
@@ -80,12 +69,8 @@ no_mark setting ulid bytes o =
       | inr later ↦ let same : m.last ≡ object (key.Mark ulid) bytes = only_member m.last (object (key.Mark ulid) bytes) later in cc (m.meta, ap (λ (x : Object). x.key) same)
     ]
 
--- what is read as the block's meta names the block
-named : (ulid : ℕ) (r : Result MetaFields MetaRefusal) (meta : MetaFields) → r ≡ Ok meta → meta.ulid ≡ ulid → named_meta ulid r ≡ Some meta
-named ulid r meta read own = ap (named_meta ulid) read ∙ cond-true (eqb meta.ulid ulid) (Some meta) None (eq-eqb meta.ulid ulid own)
-
 pub meta_found : (setting : Setting) → IsReadable setting → (ulid : ℕ) (bytes : List ℕ) → IsShippedObject setting (key.Meta ulid) bytes
     → (meta : MetaFields) × (block_meta ulid bytes ≡ Some meta) × IsMetaOf setting ulid meta
 meta_found setting readable ulid bytes o =
     let found = meta_read_as setting readable ulid bytes o in
-    (found.0, named ulid (meta_of_text bytes) found.0 found.1 found.2.own, found.2)
+    (found.0, named_again ulid (meta_of_text bytes) found.0 found.1 found.2.own, found.2)

@@ -17,29 +17,31 @@ use Rattle.block_ranges.specs.Reads.{Query as Question}
 use Rattle.script_workers.specs.Hands.{does, gateway_count, gateway_of, greatest, hands_of, places_from, same_hand, seats_after, worker_of, workers_from}
 use Rattle.script_core.specs.Workers.{seats_before, workers_after, workers_of}
 use Rattle.script_core.specs.Lawful.{IsLawfulScript}
-use Rattle.script_workers.specs.Whose.{AreEnough, IsFor, ships, syncs, asks}
+use Rattle.script_workers.specs.Whose.{AreEnough, IsFor, ships, compacts, cleans, syncs, asks}
 use Rattle.script_workers.specs.Works.{has_sync, is_sync_of, works_in, works_of}
 use Rattle.script_workers.specs.declared.hand.Hand.{Hand}
 use Rattle.script_workers.specs.declared.hand.Hand.TheVariants as hands
 use Rattle.script_workers.specs.declared.phase.Phase.{Phase}
 use Rattle.script_workers.specs.declared.task.Task.{Task}
 use Rattle.script_workers.specs.declared.work.Work.{Work}
-use Rattle.script_workers.specs.declared.work.Work.TheVariants.{Upload, Sync, Query}
+use Rattle.script_workers.specs.declared.work.Work.TheVariants.{Upload, Sync, Compact, Clean, Query}
 use Rattle.script_workers.specs.declared.worker.Worker.{Worker}
 use Rattle.script_workers.proofs.HandLaws.{does_for, for_does, tested}
 use Rattle.script_workers.proofs.StaffLaws.{is_staff, next_place}
 use Rattle.lifecycle_core.specs.Causes.{SomeCame}
+use Rattle.compactor.specs.Compactions.{compaction}
+use Rattle.cleaner.specs.Cleanings.{cleaning}
 use Rattle.lifecycle_core.specs.Conducts.{AreDone, Assigned, PhaseRun, TasksAt, TasksRun, Who, WorkerRun, of_seat}
 use Rattle.lifecycle_core.specs.Holdings.{Holding, Holdings, Use, holding_of, none_held, nothing_held}
 use Rattle.lifecycle_core.specs.Phases.{IsInTurn, IsRunOf, by_script, by_workers}
 use Rattle.lifecycle_core.specs.Setting.{Setting}
 use Rattle.querier.specs.declared.ask.Ask.{Ask}
 use Rattle.series_calls.specs.SeriesCalls.{CallEnd}
-use Rattle.lifecycle_core.specs.Tasks.{End, PartTask, QueryTask, TaskRun, answered, ask_to, question_of, synced, synced_with, without_view}
+use Rattle.lifecycle_core.specs.Tasks.{End, PartTask, QueryTask, TaskRun, answered, ask_to, cleaned, compacted, question_of, synced, synced_with, without_view}
 use Rattle.lifecycle_core.specs.Ways.{AreInTurn, PhasesRun}
 use Rattle.lifecycle_core.proofs.phases.Duties.{same_is}
 use Rattle.lifecycle_core.proofs.phases.GatewayParts.{query_is}
-use Rattle.lifecycle_core.proofs.phases.ShipEnds.{ship_end}
+use Rattle.lifecycle_core.proofs.phases.ShipEnds.{ship_end, stopped_end}
 use Rattle.lifecycle_core.proofs.phases.TaskRuns.{task_leaves}
 use Rattle.lifecycle_core.proofs.journals.Positions.{zip_left, zip_right}
 
@@ -66,6 +68,8 @@ or_none false b is h = absurd (cc (is, h))
 abbrev IsQuery : Work → Type 0
 IsQuery (Upload ulid stop) = ⊥
 IsQuery (Sync own) = ⊥
+IsQuery (Compact stop) = ⊥
+IsQuery (Clean stop) = ⊥
 IsQuery (Query low high selector) = Unit {0}
 
 module _ (count g : ℕ) where
@@ -81,6 +85,8 @@ module _ (count g : ℕ) where
   first_synced : (seen : Bool) (w : Work) (works : List Work) → AreOrdered seen (w ∷ works) → IsQuery w → g < count → seen ≡ true
   first_synced seen (Upload ulid stop) works ordered is below = absurd is
   first_synced seen (Sync own) works ordered is below = absurd is
+  first_synced seen (Compact stop) works ordered is below = absurd is
+  first_synced seen (Clean stop) works ordered is below = absurd is
   first_synced seen (Query low high selector) works ordered is below = or_none seen false refl (ordered [] works low high selector refl below)
 
   are_synced : (seen : Bool) (works : List Work) → AreOrdered seen works → AreSynced seen works
@@ -126,6 +132,10 @@ ends_well : (setting : Setting) (who : Who) (place : ℕ) (w : Work) (held after
 ends_well setting who place (Upload ulid stop) held after made end good known ((block, is, shipped), left) =
     ship_end (λ (x : End). x ≢ without_view) setting block stop made end (λ objects own run no. cc (no)) (λ cause no. cc (no)) (λ n no. cc (no)) shipped
 ends_well setting who place (Sync gateway) held after made end good known (own, run, is, left) = (sync_end held after made end own good is left).1
+ends_well setting who place (Compact stop) held after made end good known (run, left) =
+    stopped_end (λ (x : End). x ≢ without_view) (compaction setting.script.rules) compacted stop made end (λ own run no. cc (no)) (λ n no. cc (no)) run
+ends_well setting who place (Clean stop) held after made end good known (run, left) =
+    stopped_end (λ (x : End). x ≢ without_view) (cleaning setting.script.rules) cleaned stop made end (λ own run no. cc (no)) (λ n no. cc (no)) run
 ends_well setting who place (Query low high selector) held after made end good known run = part_end setting selector (ask_to setting who.gateway low high) held after made end (known tt) run
 
 -- and a view is there after it where a sync was seen before it, or it is one
@@ -133,6 +143,8 @@ leaves_well : (setting : Setting) (g : ℕ) (seen : Bool) (who : Who) (place : �
     → HasView after
 leaves_well setting g seen who place (Upload ulid stop) held after made end good known (run, left) h = subst HasView (sym left) (known (or_none seen false refl h))
 leaves_well setting g seen who place (Sync gateway) held after made end good known (own, run, is, left) h = (sync_end held after made end own good is left).0
+leaves_well setting g seen who place (Compact stop) held after made end good known (run, left) h = subst HasView (sym left) (known (or_none seen false refl h))
+leaves_well setting g seen who place (Clean stop) held after made end good known (run, left) h = subst HasView (sym left) (known (or_none seen false refl h))
 leaves_well setting g seen who place (Query low high selector) held after made end good known run h =
     let has : HasView held = known (or_none seen false refl h) in
     task_leaves HasView setting who place held has made (Query low high selector) (Some end) after (λ gateway own is. absurd (cc (is))) (λ used asked call is ran. has) run
@@ -150,17 +162,23 @@ sync_apart gateways g own place false test is = refl
 not_own : (gateways g place : ℕ) (w : Work) → does gateways (hands.Gateway g) place w ≡ false → is_sync_of g w ≡ false
 not_own gateways g place (Upload ulid stop) is = refl
 not_own gateways g place (Sync own) is = sync_apart gateways g own place (own == g) refl is
+not_own gateways g place (Compact stop) is = refl
+not_own gateways g place (Clean stop) is = refl
 not_own gateways g place (Query low high selector) is = refl
 
 for_query : (gateways g place : ℕ) (w : Work) → IsFor gateways (hands.Gateway g) place w → IsQuery w → g < gateways
 for_query gateways g place w (ships ulid stop is who) query = absurd (cc (who))
+for_query gateways g place w (compacts stop is who) query = absurd (cc (who))
+for_query gateways g place w (cleans stop is who) query = absurd (cc (who))
 for_query gateways g place w (syncs gateway is who) query = absurd (subst IsQuery is query)
 for_query gateways g place w (asks low high selector gateway is who below) query = let same : g ≡ gateway = cc (who) in subst (λ n. n < gateways) (sym same) below
 
-for_upload : (gateways p place : ℕ) (w : Work) → IsFor gateways (hands.Upload p) place w → IsQuery w → ⊥
-for_upload gateways p place w (ships ulid stop is who) query = subst IsQuery is query
-for_upload gateways p place w (syncs gateway is who) query = subst IsQuery is query
-for_upload gateways p place w (asks low high selector gateway is who below) query = absurd (cc (who))
+for_alone : (gateways p place : ℕ) (w : Work) → IsFor gateways (hands.Alone p) place w → IsQuery w → ⊥
+for_alone gateways p place w (ships ulid stop is who) query = subst IsQuery is query
+for_alone gateways p place w (compacts stop is who) query = subst IsQuery is query
+for_alone gateways p place w (cleans stop is who) query = subst IsQuery is query
+for_alone gateways p place w (syncs gateway is who) query = subst IsQuery is query
+for_alone gateways p place w (asks low high selector gateway is who below) query = absurd (cc (who))
 
 -- the tasks of a hand, from a place on
 unfoldable owned : ℕ → Hand → ℕ → List Task → List Assigned
@@ -215,11 +233,11 @@ module _ (setting : Setting) where
   no_query_by task others true one rest = (one refl, rest)
   no_query_by task others false one rest = rest
 
-  no_query : (gateways p base : ℕ) (tasks : List Task) → NoQuery (owned gateways (hands.Upload p) base tasks)
+  no_query : (gateways p base : ℕ) (tasks : List Task) → NoQuery (owned gateways (hands.Alone p) base tasks)
   unfolding owned
   no_query gateways p base [] = tt
   no_query gateways p base (task ∷ tasks) =
-      no_query_by (record { place = base; task = task }) (owned gateways (hands.Upload p) (base + 1) tasks) (does gateways (hands.Upload p) base task.work) (λ is. for_upload gateways p base task.work (does_for gateways (hands.Upload p) base task.work is))
+      no_query_by (record { place = base; task = task }) (owned gateways (hands.Alone p) (base + 1) tasks) (does gateways (hands.Alone p) base task.work) (λ is. for_alone gateways p base task.work (does_for gateways (hands.Alone p) base task.work is))
       (no_query gateways p (base + 1) tasks)
 
   -- who asks nothing never wants for a view
@@ -276,6 +294,8 @@ found_hand g h false c is none later found = later found
 sync_for : (gateways g place : ℕ) (w : Work) → is_sync_of g w ≡ true → IsFor gateways (hands.Gateway g) place w
 sync_for gateways g place (Upload ulid stop) is = absurd (cc (is))
 sync_for gateways g place (Sync own) is = let same : g ≡ own = grind (arith, nat_tests, is) in syncs own refl (ap (λ n. hands.Gateway n) same)
+sync_for gateways g place (Compact stop) is = absurd (cc (is))
+sync_for gateways g place (Clean stop) is = absurd (cc (is))
 sync_for gateways g place (Query low high selector) is = absurd (cc (is))
 
 -- a sync that is among the tasks
@@ -373,13 +393,13 @@ module _ (setting : Setting) (gateways : ℕ) (few : gateways ≤ length setting
   gateway_asks g = are_asked setting g gateways (length setting.script.gateways) few (seen g) 0 tasks (ordered g)
 
   worker_none : (worker : Worker) (own : List End) → Own worker own → GiveViews own → Contains own without_view → ⊥
-  worker_none worker own ((hands.Upload p, gateway, places), w) good =
-      unasked setting (record { seat = worker.seat; gateway = None }) made (owned gateways (hands.Upload p) 0 tasks) nothing_held w.last (of_seat worker.seat made) own (no_query setting gateways p 0 tasks) good (its_runs (hands.Upload p) worker own gateway places w)
+  worker_none worker own ((hands.Alone p, gateway, places), w) good =
+      unasked setting (record { seat = worker.seat; gateway = None }) made (owned gateways (hands.Alone p) 0 tasks) nothing_held w.last (of_seat worker.seat made) own (no_query setting gateways p 0 tasks) good (its_runs (hands.Alone p) worker own gateway places w)
   worker_none worker own ((hands.Gateway g, gateway, places), w) good =
       (gateway_asks g (record { seat = worker.seat; gateway = Some g }) made (views g) w.last (of_seat worker.seat made) own (known g) good (its_runs (hands.Gateway g) worker own gateway places w)).0
 
   worker_has : (g : ℕ) (worker : Worker) (own : List End) → Own worker own → worker.gateway ≡ Some g → length worker.tasks ≡ length own → GiveViews own → (seen g || has_sync (works_in tasks) g) ≡ true → HasView (after g)
-  worker_has g worker own ((hands.Upload p, gateway, places), w) is long good h = absurd (cc (gateway, is))
+  worker_has g worker own ((hands.Alone p, gateway, places), w) is long good h = absurd (cc (gateway, is))
   worker_has g worker own ((hands.Gateway own_g, gateway, places), w) is long good h =
       let same : own_g ≡ g = cc (gateway, is) in
       let at : worker.tasks ≡ places_from gateways (hands.Gateway g) 0 tasks = subst (λ n. worker.tasks ≡ places_from gateways (hands.Gateway n) 0 tasks) same places in

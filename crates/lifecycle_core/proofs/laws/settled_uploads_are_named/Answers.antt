@@ -1,4 +1,4 @@
-use Rattle.lifecycle_core.proofs.Assembling.{none_left_out}
+use Rattle.lifecycle_core.proofs.answers.NamedUploads.{none_left_out}
 use Rattle.lifecycle_core.proofs.laws.settled_uploads_are_named.Goals as goal
 
 pub returns : goal.returns
