@@ -2,7 +2,7 @@
 use Rattle.std.proofs.Common.{◌≡◌, ◌⊎◌, inl, inr, ℕ, ◌+◌, ◌<◌, ◌≤◌, true, false, Option, Some, None, refl, sym, ap, subst, arith}
 use Rattle.std.specs.Prelude.{is_some}
 use Rattle.std.proofs.lemmas.Bool.{cases_lt}
-use Rattle.lifecycle_core.specs.Breaches.{Rule, honesty, mark_time, rank, sync_time, upload_time, view_time}
+use Rattle.lifecycle_core.specs.Breaches.{Rule, honesty, mark_time, rank, read_time, sync_time, upload_time, view_time}
 use Rattle.breach_finding.specs.Judging.{IsJudged, refusal_of}
 use Rattle.breach_finding.specs.Told.{IsTold}
 use Rattle.breach_finding.specs.Walks.{rule_of}
@@ -17,6 +17,7 @@ same_rule upload_time upload_time is = refl
 same_rule mark_time mark_time is = refl
 same_rule sync_time sync_time is = refl
 same_rule view_time view_time is = refl
+same_rule read_time read_time is = refl
 same_rule one other is = absurd (omega (arith, is))
 
 up_to : (n below : ℕ) → n < below + 1 → (n < below) ⊎ (n ≡ below)

@@ -1,9 +1,9 @@
 pub mod Texts
 pub mod PutTimes
 pub mod Owed
-pub mod OneOpening
 pub mod SyncSteps
-pub mod Alone
+pub mod FoundViews
+pub mod PassedOn
 pub mod Steps
 pub mod SeatTurns
 pub mod SyncTimes
@@ -14,6 +14,9 @@ pub mod Named
 pub mod WalkSteps
 pub mod ViewSteps
 pub mod LastEntries
+pub mod SeatCounts
+pub mod Compactors
+pub mod FirstMoments
 pub mod WalkJudged
 pub mod WalkTurns
 pub mod EntriesTold

@@ -1,53 +1,16 @@
 -- Entries that are kept list no empty name.
-use Rattle.std.proofs.Common.{◌≡◌, ◌≢◌, inl, inr, ℕ, ◌==◌, Bool, List, [], ◌∷◌, ◌++◌, refl, sym, ◌∙◌, ap, subst, append_assoc}
-use Rattle.std.specs.List.{AllByRecursion, filter}
-use Rattle.std.specs.Ordering.{nat_cmp}
-use Rattle.std.specs.Cmp.Lexicographic.{slice_cmp}
-use Rattle.std.proofs.lemmas.Bool.{cases_Bool}
-use Rattle.list_core.proofs.Lists.{filter_hit, filter_miss}
-use Rattle.bucket_core.specs.Contents.{Contents}
-use Rattle.bucket_core.specs.Pages.{Ascends, Before}
+use Rattle.std.proofs.Common.{◌≡◌, ℕ, ◌==◌, List, [], ◌∷◌, ◌++◌, refl, sym, ◌∙◌, ap, append_assoc}
 use Rattle.world_core.specs.Journals.{Each}
 use Rattle.world_core.specs.Operations.{IsReplyTo}
 use Rattle.world_core.specs.Standing.{Tells, stands}
 use Rattle.world_core.specs.Worlds.{IsJournal, IsOfBytes}
 use Rattle.world_core.specs.declared.entry.Entry.{Entry}
-use Rattle.world_core.specs.declared.op.Op.{Op}
-use Rattle.world_core.specs.declared.op.Op.TheVariants as op
-use Rattle.world_core.specs.declared.reply.Reply.{Reply}
-use Rattle.world_core.specs.declared.reply.Reply.TheVariants as reply
 use Rattle.lifecycle_core.specs.Breaches.{IsKept, honesty}
 use Rattle.lifecycle_core.specs.Conducts.{of_seat}
 use Rattle.lifecycle_core.specs.Setting.{Setting}
 use Rattle.lifecycle_core.proofs.journals.UnbrokenHonest.{told_or_lies}
-use Rattle.breach_finding.proofs.OneOpening.{AllList, ListsNames}
-
-not_empty : (after name : List ℕ) → Before after name → name ≢ []
-not_empty [] name before same = cc (before, ap (slice_cmp nat_cmp []) same)
-not_empty (x ∷ after) name before same = cc (before, ap (slice_cmp nat_cmp (x ∷ after)) same)
-
-ascend_named : (after : List ℕ) (names : List (List ℕ)) → Ascends after names → AllByRecursion (λ name. name ≢ []) names
-ascend_named after [] up = tt
-ascend_named after (name ∷ names) up = (not_empty after name up.0, ascend_named name names up.1)
-
-by_names : (c : Contents) (o : Op) (names : List (List ℕ)) → IsReplyTo o (reply.Names names) → Tells c o (reply.Names names) → AllByRecursion (λ name. name ≢ []) names
-by_names c (op.RootPage after limit) names kind tells = ascend_named after names tells.ascend
-by_names c (op.BlockPage ulid after limit) names kind tells = ascend_named after names tells.ascend
-by_names c (op.Clock moment) names kind tells = absurd kind
-by_names c (op.Put key bytes) names kind tells = absurd kind
-by_names c (op.Get key) names kind tells = absurd kind
-by_names c (op.GetRange key start len) names kind tells = absurd kind
-by_names c (op.Delete key) names kind tells = absurd kind
-
-tells_names : (c : Contents) (o : Op) (r : Reply) → IsReplyTo o r → Tells c o r → ListsNames r
-tells_names c o r kind tells = λ names same. by_names c o names (subst (IsReplyTo o) same kind) (subst (Tells c o) same tells)
-
-filtered_list : (p : Entry → Bool) (entries : List Entry) → AllList entries → AllList (filter p entries)
-filtered_list p [] all = tt
-filtered_list p (e ∷ entries) all = elim (cases_Bool (p e)) [
-  | inl hit ↦ subst AllList (sym (filter_hit p e entries hit)) (all.0, filtered_list p entries all.1)
-  | inr miss ↦ subst AllList (sym (filter_miss p e entries miss)) (filtered_list p entries all.1)
-]
+use Rattle.lifecycle_core.proofs.views.Named.{filtered_list, tells_names}
+use Rattle.lifecycle_core.proofs.views.OneOpening.{AllList}
 
 module _ (setting : Setting) (tick : ℕ) (journal : List Entry) (is : IsJournal tick journal) (bytes : IsOfBytes journal) (before after : List Entry) (parts : journal ≡ before ++ after) (kept : Each (IsKept setting journal) before) where
   named_from : (front others : List Entry) → before ≡ front ++ others → AllList others

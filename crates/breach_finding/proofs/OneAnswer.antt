@@ -19,6 +19,7 @@ one_rule found.UploadTime found.UploadTime is = refl
 one_rule found.MarkTime found.MarkTime is = refl
 one_rule found.SyncTime found.SyncTime is = refl
 one_rule found.ViewTime found.ViewTime is = refl
+one_rule found.ReadTime found.ReadTime is = refl
 one_rule a b is = cc (is)
 
 same_breach : (a b : Breach) → a.rule ≡ b.rule → a.entry ≡ b.entry → a.found ≡ b.found → a.allowed ≡ b.allowed → a ≡ b

@@ -1,7 +1,8 @@
 -- Whose gateway's a seat is.
 use Rattle.list_core.proofs.Membership.{contains_first, contains_later, member_cases, no_member}
 use Rattle.std.proofs.Common.{◌≡◌, ◌⊎◌, inl, inr, ℕ, ◌+◌, Bool, true, false, List, [], ◌∷◌, Contains, Option, Some, None, refl, sym, ◌∙◌, ap, subst, arith}
-use Rattle.std.specs.BTreeMap.{get}
+use Rattle.std.specs.BTreeMap.{BTreeMap, IsEmpty, get}
+use Rattle.std.specs.Map.{lookup}
 use Rattle.std.specs.Ordering.{is_eq, nat_cmp}
 use Rattle.std.proofs.lemmas.Bool.{cases_lt}
 use Rattle.list_core.proofs.Bools.{nat_cmp-Equal, nat_cmp-Greater, nat_cmp-Less}
@@ -104,3 +105,13 @@ module _ (script : Script) (lawful : IsLawfulScript script) (number : ℕ) (old 
     ];
     all = λ seat gateway s. all_here gateway seat s (here_or_before gateway seat s);
   }
+
+pub empty_get : {X : Type 0} (m : BTreeMap ℕ X) → IsEmpty m → (q : ℕ) → get nat_cmp m q ≡ None
+empty_get m none q = ap (λ es. lookup (λ k. is_eq (nat_cmp q k)) es) none
+
+-- before the first phase
+pub seats_none : (script : Script) (seats : Numbers) → IsEmpty seats → AreSeatsOf script 0 seats
+seats_none script seats none = record {
+  found = λ seat gateway is. cc (is, empty_get seats none seat);
+  all = λ seat gateway s. let less = s.1 in absurd (omega (arith, less));
+}

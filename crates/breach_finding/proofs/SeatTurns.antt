@@ -16,8 +16,8 @@ use Rattle.breach_finding.specs.declared.watching.Came.TheVariants.{GoesOn}
 use Rattle.breach_finding.specs.declared.watching.Told.{Told}
 use Rattle.breach_finding.specs.declared.watching.Turn.{Turn}
 use Rattle.breach_finding.specs.declared.watching.UnderWay.{UnderWay}
-use Rattle.breach_finding.proofs.Alone.{each_at, right_list}
-use Rattle.breach_finding.proofs.OneOpening.{AllList, Is, one_opening, sync_begins}
+use Rattle.lifecycle_core.proofs.views.Alone.{each_at, right_list}
+use Rattle.lifecycle_core.proofs.views.OneOpening.{AllList, Is, one_opening, sync_begins}
 use Rattle.breach_finding.proofs.Steps.{would_go_on}
 use Rattle.breach_finding.proofs.SyncSteps.{ends_there, next_is_one}
 
@@ -130,7 +130,7 @@ module _ (rules : SyncRules) (low : 1 ≤ rules.page_limit) (own : List Entry) (
 
   not_begun : IsSole [] → e.op ≢ op.RootPage [] rules.page_limit → (begins made others : List Entry) (also : Option SyncEnd) → own ≡ begins ++ made → SyncRun rules (made ++ e ∷ others) also → ⊥
   not_begun sole other begins made others also is run =
-      other (sync_begins rules low e others also (subst (λ (es : List Entry). SyncRun rules (es ++ e ∷ others) also) (sole begins made others also is run) run))
+      other (sync_begins rules e others also (subst (λ (es : List Entry). SyncRun rules (es ++ e ∷ others) also) (sole begins made others also is run) run))
 
   begun : (turn : Turn) → IsSole [] → Begins rules e turn → Stepped turn
   begun turn sole (inl (opens, goes)) = went own [] (sym (append-nil own)) sole e.moment.ms (e, [], refl, refl) turn goes
@@ -152,7 +152,7 @@ module _ (rules : SyncRules) (low : 1 ≤ rules.page_limit) (own : List Entry) (
 
     under_sole : AllList own → w.asks ≡ e.op → IsSole (u.first ∷ u.others)
     under_sole named same begins [] others also is run =
-        let opens : e.op ≡ op.RootPage [] rules.page_limit = sync_begins rules low e others also run in
+        let opens : e.op ≡ op.RootPage [] rules.page_limit = sync_begins rules e others also run in
         let all : AllList (u.first ∷ u.others) = right_list u.front (u.first ∷ u.others) (subst AllList u.parts named) in
         absurd (each_at Is (u.first ∷ []) u.others [] goes.0 (one_opening rules low u.first (u.others ++ goes.0 ∷ []) None goes.2) all rules.page_limit (goes.1 ∙ same ∙ opens))
     under_sole named same begins (x ∷ made) others also is run = u.only begins (x ∷ made) is (λ none. cc (none)) (e, others, also, run)

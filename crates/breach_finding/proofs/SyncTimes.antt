@@ -26,8 +26,8 @@ use Rattle.breach_finding.specs.Watching.{came_of}
 use Rattle.breach_finding.specs.declared.watching.Came.{Came}
 use Rattle.breach_finding.specs.declared.watching.Came.TheVariants.{GoesOn, Nothing, View}
 use Rattle.breach_finding.specs.declared.watching.Told.{Told}
-use Rattle.breach_finding.proofs.Alone.{alone_here}
-use Rattle.breach_finding.proofs.OneOpening.{AllList}
+use Rattle.lifecycle_core.proofs.views.Alone.{alone_here}
+use Rattle.lifecycle_core.proofs.views.OneOpening.{AllList}
 use Rattle.breach_finding.proofs.SeatTurns.{last_split}
 
 left_list : (a b : List Entry) → AllList (a ++ b) → AllList a

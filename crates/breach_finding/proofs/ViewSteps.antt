@@ -26,7 +26,7 @@ use Rattle.breach_finding.specs.Watching.{came_of}
 use Rattle.breach_finding.specs.declared.watching.Came.{Came}
 use Rattle.breach_finding.specs.declared.watching.Came.TheVariants as came
 use Rattle.breach_finding.specs.declared.watching.Told.{Told}
-use Rattle.breach_finding.proofs.OneOpening.{AllList}
+use Rattle.lifecycle_core.proofs.views.OneOpening.{AllList}
 use Rattle.breach_finding.proofs.SeatTables.{num_itself, num_same}
 use Rattle.breach_finding.proofs.SeatTurns.{last_split}
 use Rattle.breach_finding.proofs.SyncTimes.{ends_here, is_sync}

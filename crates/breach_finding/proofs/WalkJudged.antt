@@ -13,12 +13,12 @@ use Rattle.world_core.specs.declared.entry.Entry.{Entry}
 use Rattle.script_core.specs.Lawful.{IsLawfulScript}
 use Rattle.standing_objects.specs.Standings.{IsStanding}
 use Rattle.standing_objects.specs.declared.standing.Standing.{Standing}
-use Rattle.lifecycle_core.specs.Breaches.{HoldsSamples, IsBreach, IsKept, IsSeatOf, ReadsSamples, Refuses, Rule, honesty, mark_time, rank, read_key, sync_time, upload_time, view_time}
+use Rattle.lifecycle_core.specs.Breaches.{HoldsSamples, IsBreach, IsKept, IsSeatOf, ReadsSamples, Refuses, Rule, honesty, mark_time, rank, read_key, read_time, sync_time, upload_time, view_time}
 use Rattle.lifecycle_core.specs.Conducts.{of_seat}
 use Rattle.lifecycle_core.specs.Setting.{Setting}
 use Rattle.lifecycle_core.specs.Tasks.{sync_rules}
 use Rattle.lifecycle_core.proofs.journals.Positions.{stands_in}
-use Rattle.lifecycle_core.proofs.journals.Telling.{journal_rises}
+use Rattle.lifecycle_core.proofs.journals.Rising.{journal_rises}
 use Rattle.lifecycle_core.proofs.journals.Told.{Rises}
 use Rattle.lifecycle_core.proofs.phases.OneSeat.{one_gateway}
 use Rattle.breach_finding.specs.Judging.{IsJudged, IsLateTold, first_of, refusal_of}
@@ -32,7 +32,7 @@ use Rattle.breach_finding.specs.declared.found.Refusal.{Refusal}
 use Rattle.breach_finding.proofs.Judged.{judged_next}
 use Rattle.breach_finding.proofs.LastEntries.{last_so, not_last, number_of_last}
 use Rattle.breach_finding.proofs.Named.{seat_named}
-use Rattle.breach_finding.proofs.OneOpening.{AllList}
+use Rattle.lifecycle_core.proofs.views.OneOpening.{AllList}
 use Rattle.breach_finding.proofs.SyncTimes.{sync_told}
 use Rattle.breach_finding.proofs.ViewSteps.{sits_last, views_on, views_past}
 use Rattle.breach_finding.proofs.ViewTimes.{not_read, not_seated, view_told}
@@ -84,15 +84,21 @@ module _ (setting : Setting) (lawful : IsLawfulScript setting.script) (tick : �
   pub found_breach : (below : ℕ) (r : Refusal) → IsJudged R below (Some r) → IsBreach setting journal (rule_of r.rule) e.seq r.found r.allowed
   found_breach below r (low_rank, refuses, others) = record { before = before; entry = e; after = after; parts = parts; is = refl; refused = refuses; first = walked.kept; foremost = λ other one two less refused. others other one two less refused }
 
-  five : (rule : Rule) → rank rule < 5
-  five honesty = omega arith
-  five upload_time = omega arith
-  five mark_time = omega arith
-  five sync_time = omega arith
-  five view_time = omega arith
+  six : (rule : Rule) → rank rule < 6
+  six honesty = omega arith
+  six upload_time = omega arith
+  six mark_time = omega arith
+  six sync_time = omega arith
+  six view_time = omega arith
+  six read_time = omega arith
 
-  pub is_kept : IsJudged R 5 None → IsKept setting journal before e
-  is_kept none rule x y refuses = none rule x y (five rule) refuses
+  pub is_kept : IsJudged R 6 None → IsKept setting journal before e
+  is_kept none rule x y refuses = none rule x y (six rule) refuses
+
+  -- what the rules on syncs and views tell, and then the rule on compactions
+  pub judged_all : (late told : Option Refusal) (slow : Option (ℕ × ℕ)) → IsJudged R 5 late → IsTold (R read_time) slow → told ≡ first_of late (refusal_of found.ReadTime slow) → IsJudged R 6 told
+  judged_all None told slow late slow_is is = subst (IsJudged R 6) (sym is) (judged_next R 5 found.ReadTime refl late slow slow_is)
+  judged_all (Some r) told slow late slow_is is = subst (IsJudged R 6) (sym is) ((let less = late.0 in omega (arith, less)), late.1, late.2)
 
   next_number : length (before ++ e ∷ []) + 1 ≡ e.seq + 1
   next_number = omega (arith, length-append before (e ∷ []), number)
@@ -110,13 +116,13 @@ module _ (setting : Setting) (lawful : IsLawfulScript setting.script) (tick : �
     judged_past =
         judged_next R 4 found.ViewTime refl (judged_next R 3 found.SyncTime refl early None no_sync) None (not_seated setting journal before e none)
 
-    pub walked_past : (stood : Standing) → IsStanding journal stood (left_by e.op e.reply (stands before)) → IsWalked setting journal (before ++ e ∷ []) stood unders views
-    walked_past stood held = record {
+    pub walked_past : IsKept setting journal before e → (stood : Standing) → IsStanding journal stood (left_by e.op e.reply (stands before)) → IsWalked setting journal (before ++ e ∷ []) stood unders views
+    walked_past kept stood held = record {
       held = subst (IsStanding journal stood) (sym stands_next) held;
       watched = watched_past setting before e unders unders none walked.watched;
       waits = walked.waits;
       seen = λ gateway. subst (λ (n : ℕ). IsLastView setting journal gateway n (get nat_cmp views gateway)) (sym next_number) (views_past setting lawful journal rises e among none gateway (get nat_cmp views gateway) (seen_here gateway));
-      kept = kept_more setting journal before e walked.kept (is_kept judged_past);
+      kept = kept_more setting journal before e walked.kept kept;
     }
 
   -- ---- at a gateway's seat
@@ -149,8 +155,8 @@ module _ (setting : Setting) (lawful : IsLawfulScript setting.script) (tick : �
     pub judged_late : IsJudged R 5 told
     judged_late = subst (IsJudged R 5) (sym late.answer) (by_slow late.slow slow_told)
 
-    pub walked_on : told ≡ None → (stood : Standing) → IsStanding journal stood (left_by e.op e.reply (stands before)) → IsWalked setting journal (before ++ e ∷ []) stood new given
-    walked_on none stood held = record {
+    pub walked_on : IsKept setting journal before e → (stood : Standing) → IsStanding journal stood (left_by e.op e.reply (stands before)) → IsWalked setting journal (before ++ e ∷ []) stood new given
+    walked_on kept stood held = record {
       held = subst (IsStanding journal stood) (sym stands_next) held;
       watched = watched_on setting before e unders new gateway sits one late.sync late.turn low named walked.watched;
       waits = waits_on setting before e unders new gateway sits one late.sync late.turn low named walked.watched walked.waits;
@@ -158,5 +164,5 @@ module _ (setting : Setting) (lawful : IsLawfulScript setting.script) (tick : �
           subst (λ (n : ℕ). IsLastView setting journal other n (get nat_cmp given other)) (sym next_number)
           (subst (IsLastView setting journal other (e.seq + 1)) (sym (late.views other))
           (views_on setting lawful journal before after e parts rises gateway sits low named late.sync of_sync other (get nat_cmp views other) (seen_here other)));
-      kept = kept_more setting journal before e walked.kept (is_kept (subst (IsJudged R 5) none judged_late));
+      kept = kept_more setting journal before e walked.kept kept;
     }

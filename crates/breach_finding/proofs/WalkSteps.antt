@@ -16,7 +16,7 @@ use Rattle.breach_finding.specs.Seats.{IsToldOf, IsWatched}
 use Rattle.breach_finding.specs.Walks.{UnderWays}
 use Rattle.breach_finding.specs.Watching.{Waits}
 use Rattle.breach_finding.specs.declared.watching.Told.{Told}
-use Rattle.breach_finding.proofs.OneOpening.{AllList}
+use Rattle.lifecycle_core.proofs.views.OneOpening.{AllList}
 use Rattle.breach_finding.proofs.SeatTables.{num_itself, num_same}
 use Rattle.breach_finding.proofs.SeatTurns.{last_split, seat_step}
 

@@ -2,10 +2,9 @@
 use Rattle.list_core.proofs.Membership.{contains_first, each_member, no_member, of_filter}
 use Rattle.std.proofs.Common.{◌≡◌, inl, inr, ℕ, zero, suc, ◌+◌, ◌≤◌, ◌==◌, List, [], ◌∷◌, ◌++◌, take, drop, Contains, length, Option, Some, None, refl, sym, ◌∙◌, ap, subst, arith, append_assoc}
 use Rattle.std.specs.Prelude.{slice_get}
-use Rattle.std.specs.BTreeMap.{BTreeMap, IsEmpty, get}
+use Rattle.std.specs.BTreeMap.{IsEmpty, get}
 use Rattle.std.specs.List.{AllByRecursion}
-use Rattle.std.specs.Map.{lookup}
-use Rattle.std.specs.Ordering.{is_eq, nat_cmp}
+use Rattle.std.specs.Ordering.{nat_cmp}
 use Rattle.std.proofs.lemmas.Bool.{cases_lt}
 use Rattle.std.proofs.lemmas.List.Elements.{Contains-append_left, Contains-append_right}
 use Rattle.bucket_core.specs.Contents.{nothing}
@@ -19,24 +18,25 @@ use Rattle.script_core.specs.declared.script.Script.{Script}
 use Rattle.script_workers.specs.declared.worker.Worker.{Worker}
 use Rattle.standing_objects.specs.Standings.{IsStanding}
 use Rattle.standing_objects.specs.declared.standing.Standing.{Standing}
-use Rattle.lifecycle_core.specs.Breaches.{IsBreach, IsSeatOf, IsViewAt, Refuses, Rule}
-use Rattle.lifecycle_core.specs.Conducts.{of_seat}
-use Rattle.lifecycle_core.specs.Setting.{Setting}
+use Rattle.lifecycle_core.specs.Breaches.{IsBreach, IsKept, IsSeatOf, IsViewAt, Refuses, Rule}
+use Rattle.lifecycle_core.specs.Setting.{FromShelf, Setting}
 use Rattle.lifecycle_core.specs.Tasks.{sync_rules}
-use Rattle.breach_finding.specs.Entries.{IsAtGateway, IsEntryTold}
+use Rattle.breach_finding.specs.Entries.{IsAskedOn, IsEarlyTold, IsEntryTold, IsWatchedTold}
 use Rattle.breach_finding.specs.Judging.{IsJudged}
 use Rattle.breach_finding.specs.Seats.{IsWatched}
-use Rattle.breach_finding.specs.Tables.{AreSeatsOf, Numbers, SitsBefore}
+use Rattle.breach_finding.specs.Tables.{AreTablesOf, Numbers, SitsBefore}
 use Rattle.breach_finding.specs.Views.{IsLastView}
 use Rattle.breach_finding.specs.Walks.{IsFound, IsWalked, UnderWays, rule_of, setting_with}
 use Rattle.breach_finding.specs.Watching.{Waits}
 use Rattle.breach_finding.specs.declared.found.Breach.{Breach}
 use Rattle.breach_finding.specs.declared.found.BreachRule.{BreachRule}
 use Rattle.breach_finding.specs.declared.found.Refusal.{Refusal}
-use Rattle.breach_finding.proofs.LastEntries.{number_of_last}
+use Rattle.breach_finding.specs.declared.tables.Tables.{Tables}
+use Rattle.breach_finding.proofs.Compactors.{compaction_told}
+use Rattle.breach_finding.proofs.SeatTables.{empty_get}
 use Rattle.breach_finding.proofs.SeatTurns.{no_parts}
 use Rattle.breach_finding.proofs.ViewTimes.{last_of}
-use Rattle.breach_finding.proofs.WalkJudged.{found_breach, judged_late, walked_on, walked_past}
+use Rattle.breach_finding.proofs.WalkJudged.{found_breach, is_kept, judged_all, judged_late, judged_past, walked_on, walked_past}
 
 -- ---- the parts at a place
 
@@ -60,14 +60,14 @@ past_end [] place far = refl
 past_end (x ∷ xs) zero far = absurd (omega (arith, far))
 past_end (x ∷ xs) (suc place) far = past_end xs place (omega (arith, far))
 
-sits_before : (script : Script) (shelf : List ℕ → Option (List ℕ)) (gateway seat : ℕ) → IsSeatOf (setting_with script shelf) gateway seat → SitsBefore script (length script.phases) gateway seat
+sits_before : (script : Script) (shelf : ℕ → FromShelf) (gateway seat : ℕ) → IsSeatOf (setting_with script shelf) gateway seat → SitsBefore script (length script.phases) gateway seat
 sits_before script shelf gateway seat (number, worker, among, whose, sits) = elim (cases_lt number (length script.phases)) [
   | inl below ↦ (number, below, worker, among, whose, sits)
   | inr far ↦ (let none : workers_of script number ≡ [] = ap (workers_after script (seats_before script number)) (past_end script.phases number far) in
       absurd (no_member worker (subst (λ (ws : List Worker). Contains ws worker) none among)))
 ]
 
-sits_of : (script : Script) (shelf : List ℕ → Option (List ℕ)) (gateway seat : ℕ) → SitsBefore script (length script.phases) gateway seat → IsSeatOf (setting_with script shelf) gateway seat
+sits_of : (script : Script) (shelf : ℕ → FromShelf) (gateway seat : ℕ) → SitsBefore script (length script.phases) gateway seat → IsSeatOf (setting_with script shelf) gateway seat
 sits_of script shelf gateway seat (number, less, worker, among, whose, sits) = (number, worker, among, whose, sits)
 
 -- ---- before the first entry
@@ -75,9 +75,6 @@ sits_of script shelf gateway seat (number, less, worker, among, whose, sits) = (
 numbered_from : (journal front others : List Entry) (tick : ℕ) → IsJournal tick journal → journal ≡ front ++ others → AllByRecursion (λ x. 1 ≤ x.seq) others
 numbered_from journal front [] tick is parts = tt
 numbered_from journal front (x ∷ others) tick is parts = (let number = is.numbered front others x parts in omega (arith, number), numbered_from journal (front ++ x ∷ []) others tick is (parts ∙ sym (append_assoc front (x ∷ []) others)))
-
-empty_get : {X : Type 0} (m : BTreeMap ℕ X) → IsEmpty m → (q : ℕ) → get nat_cmp m q ≡ None
-empty_get m none q = ap (λ es. lookup (λ k. is_eq (nat_cmp q k)) es) none
 
 module _ (setting : Setting) (tick : ℕ) (journal : List Entry) (is : IsJournal tick journal) where
   no_view_yet : (gateway : ℕ) (view : View) → IsViewAt setting journal gateway 1 view → ⊥
@@ -103,8 +100,8 @@ module _ (setting : Setting) (tick : ℕ) (journal : List Entry) (is : IsJournal
 
 -- ---- an entry
 
-module _ (script : Script) (shelf : List ℕ → Option (List ℕ)) (lawful : IsLawfulScript script) (tick : ℕ) (journal : List Entry) (is : IsJournal tick journal) (bytes : IsOfBytes journal) (seats lasts : Numbers) (are : AreSeatsOf script (length script.phases) seats)
-    (known : (seat : ℕ) → get nat_cmp lasts seat ≡ number_of_last (of_seat seat journal)) (place : ℕ) (e : Entry) (at : slice_get journal place ≡ Some e) (standing : Standing) (unders new : UnderWays) (views given : Numbers)
+module _ (script : Script) (shelf : ℕ → FromShelf) (lawful : IsLawfulScript script) (tick : ℕ) (journal : List Entry) (is : IsJournal tick journal) (bytes : IsOfBytes journal) (tables : Tables) (are : AreTablesOf script journal tables)
+    (place : ℕ) (e : Entry) (at : slice_get journal place ≡ Some e) (standing : Standing) (unders new : UnderWays) (views given : Numbers)
     (walked : IsWalked (setting_with script shelf) journal (take place journal) standing unders views) (told : Option Refusal) where
   abbrev setting : Setting
   setting = setting_with script shelf
@@ -118,8 +115,8 @@ module _ (script : Script) (shelf : List ℕ → Option (List ℕ)) (lawful : Is
   parts : journal ≡ before ++ e ∷ after
   parts = parts_at journal place e at
 
-  nobody_sits : get nat_cmp seats e.seat ≡ None → (gateway : ℕ) → IsSeatOf setting gateway e.seat → ⊥
-  nobody_sits none gateway sits = cc (are.all e.seat gateway (sits_before script shelf gateway e.seat sits), none)
+  nobody_sits : get nat_cmp tables.gateways e.seat ≡ None → (gateway : ℕ) → IsSeatOf setting gateway e.seat → ⊥
+  nobody_sits none gateway sits = let own = (are.gateways).all e.seat gateway (sits_before script shelf gateway e.seat sits) in cc (own, none)
 
   abbrev R : Rule → ℕ → ℕ → Type 0
   R rule = Refuses setting journal rule before e
@@ -127,30 +124,44 @@ module _ (script : Script) (shelf : List ℕ → Option (List ℕ)) (lawful : Is
   found_so : (below : ℕ) (r : Refusal) → IsJudged R below (Some r) → IsBreach setting journal (rule_of r.rule) e.seq r.found r.allowed
   found_so below r judged = found_breach setting lawful tick journal is bytes before after e parts standing unders views walked below r judged
 
-  late_judged : (t : IsAtGateway script journal standing seats lasts unders new views given e told) → IsJudged R 5 told
-  late_judged t =
-      judged_late setting lawful tick journal is bytes before after e parts standing unders views walked t.gateway (sits_of script shelf t.gateway e.seat (are.found e.seat t.gateway t.whose)) lasts known
-      (t.early setting journal before refl walked.held) new given told t.late
+  sits_here : (gateway : ℕ) → get nat_cmp tables.gateways e.seat ≡ Some gateway → IsSeatOf setting gateway e.seat
+  sits_here gateway whose = sits_of script shelf gateway e.seat ((are.gateways).found e.seat gateway whose)
 
-  pub refused_here : IsEntryTold script journal standing seats lasts unders new views given e told → (r : Refusal) → told ≡ Some r → IsBreach setting journal (rule_of r.rule) e.seq r.found r.allowed
+  none_early : IsEarlyTold script journal standing e None → IsJudged R 3 None
+  none_early early = early setting journal before refl walked.held
+
+  late_judged : IsEarlyTold script journal standing e None → (late : Option Refusal) → IsWatchedTold script tables unders new views given e late → IsJudged R 5 late
+  late_judged early late (inl t) = subst (IsJudged R 5) (sym t.none) (judged_past setting lawful tick journal is bytes before after e parts standing unders views walked (nobody_sits t.nobody) (none_early early))
+  late_judged early late (inr t) =
+      judged_late setting lawful tick journal is bytes before after e parts standing unders views walked t.gateway (sits_here t.gateway t.whose) tables.lasts are.lasts (none_early early) new given late t.late
+
+  all_judged : IsAskedOn script journal standing tables unders new views given e told → IsJudged R 6 told
+  all_judged t =
+      judged_all setting lawful tick journal is bytes before after e parts standing unders views walked t.late told t.slow (late_judged t.early t.late t.watched)
+      (compaction_told script shelf journal before e tables.compactors (get nat_cmp tables.begins e.seat) are.compactors (are.begins e.seat) t.slow t.slow_is) t.answer
+
+  pub refused_here : IsEntryTold script journal standing tables unders new views given e told → (r : Refusal) → told ≡ Some r → IsBreach setting journal (rule_of r.rule) e.seq r.found r.allowed
   refused_here (inl t) r some =
       let same : t.refusal ≡ r = cc (t.is, some) in
       subst (λ (q : Refusal). IsBreach setting journal (rule_of q.rule) e.seq q.found q.allowed) same (found_so 3 t.refusal (t.early setting journal before refl walked.held))
-  refused_here (inr (inl t)) r some = cc (t.none, some)
-  refused_here (inr (inr t)) r some = found_so 5 r (subst (IsJudged R 5) some (late_judged t))
+  refused_here (inr t) r some = found_so 6 r (subst (IsJudged R 6) some (all_judged t))
 
-  pub goes_on : IsEntryTold script journal standing seats lasts unders new views given e told → told ≡ None → (stood : Standing) → IsStanding journal stood (left_by e.op e.reply (stands before)) → IsWalked setting journal (take (place + 1) journal) stood new given
+  pub goes_on : IsEntryTold script journal standing tables unders new views given e told → told ≡ None → (stood : Standing) → IsStanding journal stood (left_by e.op e.reply (stands before)) → IsWalked setting journal (take (place + 1) journal) stood new given
   goes_on t none stood held = subst (λ (es : List Entry). IsWalked setting journal es stood new given) (sym (front_more journal place e at)) (by_told t)
     where
-      by_told : IsEntryTold script journal standing seats lasts unders new views given e told → IsWalked setting journal (before ++ e ∷ []) stood new given
-      by_told (inl t) = cc (t.is, none)
-      by_told (inr (inl t)) =
+      by_watched : (early : IsEarlyTold script journal standing e None) (late : Option Refusal) → IsKept setting journal before e → IsWatchedTold script tables unders new views given e late → IsWalked setting journal (before ++ e ∷ []) stood new given
+      by_watched early late kept (inl t) =
           subst (λ (u : UnderWays). IsWalked setting journal (before ++ e ∷ []) stood u given) (sym t.under)
           (subst (λ (v : Numbers). IsWalked setting journal (before ++ e ∷ []) stood unders v) (sym t.views)
-          (walked_past setting lawful tick journal is bytes before after e parts standing unders views walked (nobody_sits t.nobody) (t.early setting journal before refl walked.held) stood held))
-      by_told (inr (inr t)) =
-          walked_on setting lawful tick journal is bytes before after e parts standing unders views walked t.gateway (sits_of script shelf t.gateway e.seat (are.found e.seat t.gateway t.whose)) lasts known
-          (t.early setting journal before refl walked.held) new given told t.late none stood held
+          (walked_past setting lawful tick journal is bytes before after e parts standing unders views walked (nobody_sits t.nobody) (none_early early) kept stood held))
+      by_watched early late kept (inr t) =
+          walked_on setting lawful tick journal is bytes before after e parts standing unders views walked t.gateway (sits_here t.gateway t.whose) tables.lasts are.lasts
+          (none_early early) new given late t.late kept stood held
+
+      by_told : IsEntryTold script journal standing tables unders new views given e told → IsWalked setting journal (before ++ e ∷ []) stood new given
+      by_told (inl t) = cc (t.is, none)
+      by_told (inr t) =
+          by_watched t.early t.late (is_kept setting lawful tick journal is bytes before after e parts standing unders views walked (subst (IsJudged R 6) none (all_judged t))) t.watched
 
 -- the breach that is made of a refusal
 pub found_is : (setting : Setting) (journal : List Entry) (r : Refusal) (number : ℕ) (b : Breach) → b.rule ≡ r.rule → b.entry ≡ number → b.found ≡ r.found → b.allowed ≡ r.allowed → IsBreach setting journal (rule_of r.rule) number r.found r.allowed → IsFound setting journal b

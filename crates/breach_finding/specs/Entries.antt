@@ -1,6 +1,7 @@
--- What is told of an entry: by the rules that ask nothing of syncs and views, and then by the others at a gateway's seat.
-use Rattle.std.specs.Prelude.{◌≡◌, ◌⊎◌, ℕ, List, Option, Some, None}
+-- What is told of an entry: by the rules that ask nothing of seats, and then by the others.
+use Rattle.std.specs.Prelude.{◌≡◌, ◌⊎◌, ◌/◌, ℕ, List, Option, Some, None}
 use Rattle.std.specs.BTreeMap.{get}
+use Rattle.std.specs.BTreeSet.{contains}
 use Rattle.std.specs.Ordering.{nat_cmp}
 use Rattle.world_core.specs.Standing.{stands}
 use Rattle.world_core.specs.declared.entry.Entry.{Entry}
@@ -9,10 +10,13 @@ use Rattle.standing_objects.specs.declared.standing.Standing.{Standing}
 use Rattle.script_core.specs.declared.script.Script.{Script}
 use Rattle.lifecycle_core.specs.Breaches.{Refuses}
 use Rattle.lifecycle_core.specs.Setting.{Setting}
-use Rattle.breach_finding.specs.Judging.{IsJudged, IsLateTold}
+use Rattle.breach_finding.specs.Judging.{IsJudged, IsLateTold, first_of, refusal_of}
 use Rattle.breach_finding.specs.Tables.{Numbers}
+use Rattle.breach_finding.specs.Views.{IsCompactionAnswer}
 use Rattle.breach_finding.specs.Walks.{UnderWays}
+use Rattle.breach_finding.specs.declared.found.BreachRule.TheVariants as found
 use Rattle.breach_finding.specs.declared.found.Refusal.{Refusal}
+use Rattle.breach_finding.specs.declared.tables.Tables.{Tables}
 
 -- by the rules on what the bucket shows and on puts
 abbrev pub IsEarlyTold : Script → List Entry → Standing → Entry → Option Refusal → Type 0
@@ -26,22 +30,33 @@ pub record IsRefusedEarly (script : Script) (journal : List Entry) (standing : S
   pub is : told ≡ Some refusal
   pub early : IsEarlyTold script journal standing e (Some refusal)
 
--- none of them does, and its seat is no gateway's
-pub record IsPast (script : Script) (journal : List Entry) (standing : Standing) (seats : Numbers) (old new : UnderWays) (seen given : Numbers) (e : Entry) (told : Option Refusal) : Type 0 where
-  pub early : IsEarlyTold script journal standing e None
-  pub nobody : get nat_cmp seats e.seat ≡ None
+-- Its seat is no gateway's, so by the syncs and views nothing is told.
+pub record IsPast (gateways : Numbers) (old new : UnderWays) (seen given : Numbers) (e : Entry) (told : Option Refusal) : Type 0 where
+  pub nobody : get nat_cmp gateways e.seat ≡ None
   pub under : new ≡ old
   pub views : given ≡ seen
   pub none : told ≡ None
 
--- none of them does, and its seat is a gateway's
-pub record IsAtGateway (script : Script) (journal : List Entry) (standing : Standing) (seats lasts : Numbers) (old new : UnderWays) (seen given : Numbers) (e : Entry) (told : Option Refusal) : Type 0 where
-  pub early : IsEarlyTold script journal standing e None
+-- its seat is a gateway's
+pub record IsAtGateway (script : Script) (tables : Tables) (old new : UnderWays) (seen given : Numbers) (e : Entry) (told : Option Refusal) : Type 0 where
   pub gateway : ℕ
-  pub whose : get nat_cmp seats e.seat ≡ Some gateway
-  pub late : IsLateTold script lasts old new seen given gateway e told
+  pub whose : get nat_cmp tables.gateways e.seat ≡ Some gateway
+  pub late : IsLateTold script tables.lasts old new seen given gateway e told
 
-abbrev pub IsEntryTold : Script → List Entry → Standing → Numbers → Numbers → UnderWays → UnderWays → Numbers → Numbers → Entry → Option Refusal → Type 0
-IsEntryTold script journal standing seats lasts old new seen given e told =
-    IsRefusedEarly script journal standing e told
-    ⊎ (IsPast script journal standing seats old new seen given e told ⊎ IsAtGateway script journal standing seats lasts old new seen given e told)
+-- by the rules on syncs and views
+abbrev pub IsWatchedTold : Script → Tables → UnderWays → UnderWays → Numbers → Numbers → Entry → Option Refusal → Type 0
+IsWatchedTold script tables old new seen given e told =
+    IsPast tables.gateways old new seen given e told ⊎ IsAtGateway script tables old new seen given e told
+
+-- None of the first rules refuses it, and the others are asked: those on syncs and views, and then the one on compactions.
+pub record IsAskedOn (script : Script) (journal : List Entry) (standing : Standing) (tables : Tables) (old new : UnderWays) (seen given : Numbers) (e : Entry) (told : Option Refusal) : Type 0 where
+  pub early : IsEarlyTold script journal standing e None
+  pub late : Option Refusal
+  pub watched : IsWatchedTold script tables old new seen given e late
+  pub slow : Option (ℕ × ℕ)
+  pub slow_is : IsCompactionAnswer (contains nat_cmp tables.compactors e.seat) (get nat_cmp tables.begins e.seat) e (script.rules.delete.ms / 2) slow
+  pub answer : told ≡ first_of late (refusal_of found.ReadTime slow)
+
+abbrev pub IsEntryTold : Script → List Entry → Standing → Tables → UnderWays → UnderWays → Numbers → Numbers → Entry → Option Refusal → Type 0
+IsEntryTold script journal standing tables old new seen given e told =
+    IsRefusedEarly script journal standing e told ⊎ IsAskedOn script journal standing tables old new seen given e told

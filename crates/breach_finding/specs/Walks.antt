@@ -8,9 +8,9 @@ use Rattle.world_core.specs.declared.entry.Entry.{Entry}
 use Rattle.script_core.specs.declared.script.Script.{Script}
 use Rattle.standing_objects.specs.Standings.{IsStanding}
 use Rattle.standing_objects.specs.declared.standing.Standing.{Standing}
-use Rattle.lifecycle_core.specs.Breaches.{IsBreach, IsKept, IsSeatOf, IsUnbroken, Rule, honesty, mark_time, sync_time, upload_time, view_time}
+use Rattle.lifecycle_core.specs.Breaches.{IsBreach, IsKept, IsSeatOf, IsUnbroken, Rule, honesty, mark_time, read_time, sync_time, upload_time, view_time}
 use Rattle.lifecycle_core.specs.Conducts.{of_seat}
-use Rattle.lifecycle_core.specs.Setting.{Setting}
+use Rattle.lifecycle_core.specs.Setting.{FromShelf, Setting}
 use Rattle.lifecycle_core.specs.Tasks.{sync_rules}
 use Rattle.breach_finding.specs.Seats.{IsWatched}
 use Rattle.breach_finding.specs.Views.{IsLastView}
@@ -39,9 +39,10 @@ rule_of found.UploadTime = upload_time
 rule_of found.MarkTime = mark_time
 rule_of found.SyncTime = sync_time
 rule_of found.ViewTime = view_time
+rule_of found.ReadTime = read_time
 
 -- a script, with whatever files on a shelf
-abbrev pub setting_with : Script → (List ℕ → Option (List ℕ)) → Setting
+abbrev pub setting_with : Script → (ℕ → FromShelf) → Setting
 setting_with script shelf = record { script = script; shelf = shelf }
 
 -- the breach is the journal's

@@ -1,9 +1,13 @@
 -- A seat's syncs, watched along its entries.
-use Rattle.std.specs.Prelude.{◌≡◌, ◌≢◌, ◌⊎◌, ℕ, List, [], ◌∷◌, ◌++◌, Option, Some, None, IfSome}
+use Rattle.std.specs.Prelude.{◌≡◌, ◌≢◌, ◌⊎◌, ℕ, List, [], ◌∷◌, ◌++◌, map, Option, Some, None, IfSome, is_some, if◌then◌else◌}
+use Rattle.block_keys.specs.declared.key.Key.TheVariants as key
+use Rattle.block_meta.specs.OfBlocks.{block_meta}
 use Rattle.world_core.specs.Operations.{IsAnswer, entry_of}
 use Rattle.world_core.specs.declared.entry.Entry.{Entry}
 use Rattle.world_core.specs.declared.op.Op.{Op}
 use Rattle.world_core.specs.declared.op.Op.TheVariants as op
+use Rattle.world_core.specs.declared.reply.Reply.{Reply}
+use Rattle.world_core.specs.declared.reply.Reply.TheVariants as reply
 use Rattle.world_core.specs.declared.seen.Seen.{Seen}
 use Rattle.meta_fetcher.specs.SyncStates.{asked_sync, may_sync}
 use Rattle.meta_fetcher.specs.Syncs.{SyncRun}
@@ -33,10 +37,20 @@ came_of (ended.Fault entry) = came.Nothing
 came_of (ended.Damaged entry) = came.Nothing
 came_of ended.TooMany = came.Nothing
 
--- A sync by these rules made these entries, and waits for this operation.
+-- What a watched sync is told of a reply. Of a block's meta it is told that there is none: so it keeps no meta, and goes on as it would.
+abbrev pub passed_on : Op → Reply → Reply
+passed_on (op.Get (key.Meta ulid)) (reply.Found bytes) = if is_some (block_meta ulid bytes) then reply.Absent else reply.Found bytes
+passed_on o r = r
+
+-- the entry, with what the sync is told of it
+abbrev pub as_passed : Entry → Entry
+as_passed e = record { seq = e.seq; seat = e.seat; moment = e.moment; op = e.op; reply = passed_on e.op e.reply }
+
+-- A sync by these rules made these entries, was told of them what is passed on, and waits for this operation.
 pub record IsAt (rules : SyncRules) (made : List Entry) (machine : Sync) (asks : Op) : Type 0 where
   pub waits : asked_sync machine ≡ Some asks
-  pub onward : (entries : List Entry) (end : Option SyncEnd) (last : Sync) → may_sync machine entries end last → SyncRun rules (made ++ entries) end
+  pub onward : (entries : List Entry) (end : Option SyncEnd) (last : Sync) → may_sync machine entries end last
+      → SyncRun rules (map as_passed made ++ entries) end
   pub answered : (seat : ℕ) (seen : Seen) → IsAnswer asks seen → may_sync machine (entry_of seat asks seen ∷ []) None machine
 
 -- the machine waits for the operation that is kept beside it

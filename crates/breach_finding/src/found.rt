@@ -11,6 +11,8 @@ pub enum BreachRule {
     SyncTime,
     /// A view is read in time.
     ViewTime,
+    /// A compaction reads in time.
+    ReadTime,
 }
 
 /// The first entry of a journal that a rule refuses.

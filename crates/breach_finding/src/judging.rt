@@ -18,7 +18,7 @@ ghost use Rattle.breach_finding.specs.Watching.{Waits};
 use crate::found::{BreachRule, Refusal};
 use crate::lies::lie;
 use crate::puts::{landed, mark_breach, upload_breach};
-use crate::times::{reads_samples, sync_lateness, view_lateness};
+use crate::times::{lateness, reads_samples, sync_lateness};
 use crate::watching::{Came, Told, UnderWay, take_turn};
 use list_core::NoMemory;
 use meta_fetcher::SyncRules;
@@ -30,7 +30,7 @@ use std::collections::BTreeMap;
 use world_core::{Entry, Op};
 
 /// The refusal of a rule, if it refuses.
-fn refusal_by(rule: BreachRule, told: Option<(u64, u64)>) -> Option<Refusal>
+pub(crate) fn refusal_by(rule: BreachRule, told: Option<(u64, u64)>) -> Option<Refusal>
     ensures { result ≡ refusal_of rule told }
 {
     match told {
@@ -184,11 +184,11 @@ fn staleness(
         return None;
     }
     let begin = views.get(&gateway).copied();
-    view_lateness(begin, entry.moment.ms + rules.ignore.ms, rules.delete.ms)
+    lateness(begin, entry.moment.ms + rules.ignore.ms, rules.delete.ms)
 }
 
 /// The first of two refusals.
-fn first_of(own: Option<Refusal>, other: Option<Refusal>) -> Option<Refusal>
+pub(crate) fn first_of(own: Option<Refusal>, other: Option<Refusal>) -> Option<Refusal>
     ensures { result ≡ first_of own other }
 {
     match own {

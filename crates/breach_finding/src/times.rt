@@ -1,13 +1,17 @@
-ghost use Rattle.std.specs.Prelude.{◌≡◌, ◌↔◌, ◌<◌, ◌^◌, IsTrue, Some};
+ghost use Rattle.std.specs.Prelude.{◌≡◌, ◌↔◌, ◌/◌, ◌<◌, ◌^◌, IsTrue, Some};
+ghost use Rattle.std.specs.BTreeMap.{get};
+ghost use Rattle.std.specs.BTreeSet.{contains};
+ghost use Rattle.std.specs.Ordering.{nat_cmp};
 ghost use Rattle.block_keys.specs.declared.key.Key.{Key};
-ghost use Rattle.lifecycle_core.specs.Breaches.{HoldsSamples, read_key};
+ghost use Rattle.lifecycle_core.specs.Breaches.{HoldsSamples, IsReading, read_key};
 ghost use Rattle.breach_finding.specs.Asked.{IsSyncAnswer, is_whole};
-ghost use Rattle.breach_finding.specs.Views.{IsViewAnswer};
+ghost use Rattle.breach_finding.specs.Views.{IsCompactionAnswer, IsViewAnswer};
 
 use crate::puts::over;
+use crate::tables::Tables;
 use crate::watching::{Came, Told};
 use block_keys::Key;
-use world_core::Op;
+use world_core::{Entry, Op};
 
 /// Whether a sync is whole with its last entry.
 fn is_whole(came: Came, last: bool) -> bool
@@ -37,13 +41,35 @@ pub(crate) fn sync_lateness(
     over(moment + 1000, told.begin, span)
 }
 
-/// How a read comes too late for the view that it is made by, if there is one and it does.
-pub(crate) fn view_lateness(begin: Option<u64>, is: u64, span: u64) -> Option<(u64, u64)>
+/// How a read comes too late for what began then, a view or a compaction, if something did and it does.
+pub(crate) fn lateness(begin: Option<u64>, is: u64, span: u64) -> Option<(u64, u64)>
     ensures { IsViewAnswer begin is span result }
 {
     match begin {
         Some(begin) => over(is, begin, span),
         None => None,
+    }
+}
+
+/// How a compaction's read comes too late, if the entry is one and does.
+pub(crate) fn compaction_lateness(tables: &Tables, entry: &Entry, delay: u64) -> Option<(u64, u64)>
+    ensures { IsCompactionAnswer (contains nat_cmp tables.now.compactors entry.now.seat)
+        (get nat_cmp tables.now.begins entry.now.seat) entry.now (delay / 2) result }
+{
+    if !tables.compactors.contains(&entry.seat) || !is_reading(&entry.op) {
+        return None;
+    }
+    let begin = tables.begins.get(&entry.seat).copied();
+    lateness(begin, entry.moment.ms, delay / 2)
+}
+
+/// Whether an operation is a get, a range or a page.
+fn is_reading(op: &Op) -> bool
+    ensures { IsTrue result ↔ IsReading op.now }
+{
+    match op {
+        Op::Get(_) | Op::GetRange(..) | Op::RootPage(..) | Op::BlockPage(..) => true,
+        Op::Clock(_) | Op::Put(..) | Op::Delete(_) => false,
     }
 }
 

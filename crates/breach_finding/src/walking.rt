@@ -4,13 +4,15 @@ ghost use Rattle.std.specs.Ordering.{nat_cmp};
 ghost use Rattle.world_core.specs.Operations.{IsLawful, IsReplyTo};
 ghost use Rattle.world_core.specs.Worlds.{IsJournal, IsOfBytes};
 ghost use Rattle.script_core.specs.Lawful.{AreLawfulRules, IsLawfulScript};
-ghost use Rattle.breach_finding.specs.Entries.{IsEntryTold};
+ghost use Rattle.lifecycle_core.specs.Setting.{FromShelf};
+ghost use Rattle.breach_finding.specs.Entries.{IsEntryTold, IsWatchedTold};
 ghost use Rattle.breach_finding.specs.Walks.{IsAnswer, setting_with};
 ghost use Rattle.breach_finding.specs.Watching.{Waits};
 
-use crate::found::{Breach, Refusal};
-use crate::judging::{early_refusal, late_refusal, stand};
-use crate::tables::{last_entries, seats_of};
+use crate::found::{Breach, BreachRule, Refusal};
+use crate::judging::{early_refusal, first_of, late_refusal, refusal_by, stand};
+use crate::tables::{Tables, tables_of};
+use crate::times::compaction_lateness;
 use crate::watching::UnderWay;
 use list_core::NoMemory;
 use script_core::Script;
@@ -48,8 +50,7 @@ fn entry_refusal(
     script: &Script,
     journal: &[Entry],
     standing: &Standing,
-    seats: &BTreeMap<u32, u32>,
-    lasts: &BTreeMap<u32, u64>,
+    tables: &Tables,
     unders: &mut BTreeMap<u32, UnderWay>,
     views: &mut BTreeMap<u32, u64>,
     entry: &Entry,
@@ -59,15 +60,38 @@ fn entry_refusal(
     requires kind { IsReplyTo entry.now.op entry.now.reply }
     requires small { entry.now.moment.ms < 2 ^ 48 }
     requires waits { (seat : ℕ) → Waits (get nat_cmp unders.old seat) }
-    ensures { IfOk result (IsEntryTold script.now journal.now standing.now seats.now lasts.now
+    ensures { IfOk result (IsEntryTold script.now journal.now standing.now tables.now
         unders.old unders.new views.old views.new entry.now) }
 {
     let early = early_refusal(alloc, script, journal, standing, entry)?;
     if early.is_some() {
         return Ok(early);
     }
-    match seats.get(&entry.seat) {
-        Some(gateway) => late_refusal(alloc, script, lasts, unders, views, *gateway, entry),
+    let late = watched_refusal(alloc, script, tables, unders, views, entry)?;
+    let slow = compaction_lateness(tables, entry, script.rules.delete.ms);
+    Ok(first_of(late, refusal_by(BreachRule::ReadTime, slow)))
+}
+
+/// Asks of an entry what depends on syncs and views, if its seat is a gateway's, and takes note of it.
+fn watched_refusal(
+    alloc: Global,
+    script: &Script,
+    tables: &Tables,
+    unders: &mut BTreeMap<u32, UnderWay>,
+    views: &mut BTreeMap<u32, u64>,
+    entry: &Entry,
+) -> Result<Option<Refusal>, NoMemory>
+    requires rules { AreLawfulRules script.now.rules }
+    requires kind { IsReplyTo entry.now.op entry.now.reply }
+    requires small { entry.now.moment.ms < 2 ^ 48 }
+    requires waits { (seat : ℕ) → Waits (get nat_cmp unders.old seat) }
+    ensures { IfOk result (IsWatchedTold script.now tables.now
+        unders.old unders.new views.old views.new entry.now) }
+{
+    match tables.gateways.get(&entry.seat) {
+        Some(gateway) => {
+            late_refusal(alloc, script, &tables.lasts, unders, views, *gateway, entry)
+        }
         None => Ok(None),
     }
 }
@@ -82,11 +106,10 @@ pub fn find_breach(
     requires lawful { IsLawfulScript script.now }
     requires kept { IsJournal script.now.rules.tick.ms journal.now }
     requires bytes { IsOfBytes journal.now }
-    ensures { (shelf : List ℕ → Option (List ℕ))
+    ensures { (shelf : ℕ → FromShelf)
         → IfOk result (IsAnswer (setting_with script.now shelf) journal.now) }
 {
-    let seats = seats_of(alloc, script)?;
-    let lasts = last_entries(alloc, journal)?;
+    let tables = tables_of(alloc, script, journal)?;
     let mut standing = Standing::nothing(alloc);
     let mut unders = BTreeMap::new(alloc);
     let mut views = BTreeMap::new(alloc);
@@ -97,8 +120,7 @@ pub fn find_breach(
             script,
             journal,
             &standing,
-            &seats,
-            &lasts,
+            &tables,
             &mut unders,
             &mut views,
             entry,

@@ -2,15 +2,18 @@ ghost use Rattle.std.specs.Prelude.{◌≡◌, ◌↔◌, ◌≤◌, ◌<◌, �
 ghost use Rattle.world_core.specs.Operations.{IsReplyTo};
 ghost use Rattle.world_core.specs.declared.entry.Entry.{Entry};
 ghost use Rattle.world_core.specs.declared.op.Op.TheVariants as op;
+ghost use Rattle.block_keys.specs.declared.key.Key.TheVariants as key;
 ghost use Rattle.meta_fetcher.specs.SyncStates.{asked_sync};
 ghost use Rattle.meta_fetcher.specs.declared.rules.SyncRules.{SyncRules};
-ghost use Rattle.breach_finding.specs.Watching.{Begins, IsAt, IsSyncOp, IsTurn, Waits, Went, came_of};
+ghost use Rattle.breach_finding.specs.Watching.{Begins, IsAt, IsSyncOp, IsTurn, Waits, Went, came_of, passed_on};
 
 use block_keys::Key;
+use block_meta::meta_of;
 use list_core::{NoMemory, TryCopy};
 use meta_fetcher::{Sync, SyncEnd, SyncRules};
 use std::alloc::Global;
-use world_core::{Act, Entry, Machine, Op, Seen};
+use ulid_core::Ulid;
+use world_core::{Act, Entry, Machine, Op, Reply, Seen};
 
 /// A sync of a seat that is under way: the operation that it waits for, and when its first entry was made.
 #[derive(Drop)]
@@ -107,8 +110,35 @@ fn opened(alloc: Global, rules: SyncRules, begin: u64) -> Result<UnderWay, NoMem
     }
 }
 
+/// What a watched sync is told of a reply to its read of a block's meta.
+fn without_meta(alloc: Global, ulid: Ulid, reply: &Reply) -> Result<Reply, NoMemory>
+    ensures told { IfOk result (λ told.
+        told ≡ passed_on (op.Get (key.Meta ulid)) reply.now) }
+    ensures kind { IfOk result (λ told. IsReplyTo (op.Get (key.Meta ulid)) reply.now
+        → IsReplyTo (op.Get (key.Meta ulid)) told) }
+{
+    match reply {
+        Reply::Found(bytes) => match meta_of(alloc, ulid, bytes.bytes())? {
+            Some(_) => Ok(Reply::Absent),
+            None => reply.copy(),
+        },
+        _ => reply.copy(),
+    }
+}
+
+/// What a watched sync is told of a reply: all, but that a block's meta is passed over, which it would keep.
+fn passed_on(alloc: Global, done: &Op, reply: &Reply) -> Result<Reply, NoMemory>
+    ensures told { IfOk result (λ told. told ≡ passed_on done.now reply.now) }
+    ensures kind { IfOk result (λ told. IsReplyTo done.now reply.now → IsReplyTo done.now told) }
+{
+    match done {
+        Op::Get(Key::Meta(ulid)) => without_meta(alloc, *ulid, reply),
+        _ => reply.copy(),
+    }
+}
+
 /// Goes on with the entry that a sync waits for.
-fn goes_on(w: UnderWay, e: &Entry) -> Result<Turn, NoMemory>
+fn goes_on(alloc: Global, w: UnderWay, e: &Entry) -> Result<Turn, NoMemory>
     requires waits { asked_sync w.machine ≡ Some e.now.op }
     requires kind { IsReplyTo e.now.op e.now.reply }
     requires small { e.now.moment.ms < 2 ^ 48 }
@@ -121,7 +151,7 @@ fn goes_on(w: UnderWay, e: &Entry) -> Result<Turn, NoMemory>
         asks: _,
         begin,
     } = w;
-    let reply = e.reply.copy()?;
+    let reply = passed_on(alloc, &e.op, &e.reply)?;
     let seen = Seen {
         seq: e.seq,
         moment: e.moment,
@@ -164,7 +194,7 @@ fn begins(alloc: Global, rules: SyncRules, e: &Entry) -> Result<Turn, NoMemory>
         });
     }
     let w = opened(alloc, rules, e.moment.ms)?;
-    goes_on(w, e)
+    goes_on(alloc, w, e)
 }
 
 /// What an entry of a seat is to the sync that is under way, or to one that it begins.
@@ -185,7 +215,7 @@ pub(crate) fn take_turn(
         None => begins(alloc, rules, e),
         Some(w) => {
             if is_asked(&w.asks, &e.op) {
-                goes_on(w, e)
+                goes_on(alloc, w, e)
             } else {
                 begins(alloc, rules, e)
             }

@@ -4,3 +4,4 @@ pub mod Blocks
 pub mod Scans
 pub mod Ranges
 pub mod Objects
+pub mod NextObjects

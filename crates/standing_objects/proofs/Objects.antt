@@ -1,7 +1,7 @@
 -- The names of a block's objects are what follows the slash in their keys' texts.
 use Rattle.std.proofs.Common.{◌≡◌, ◌⊎◌, inl, inr, ℕ, zero, suc, ◌+◌, ◌≤◌, ◌==◌, ◌&&◌, Bool, true, false, List, [], ◌∷◌, ◌++◌, map, length, take, drop, Option, Some, None, Result, Ok, Err, refl, sym, ◌∙◌, ap, subst, arith, append_assoc, length-append}
-use Rattle.std.specs.Prelude.{IfOk, IsSome, find}
-use Rattle.std.specs.BTreeMap.{get, keys, IsOrdered}
+use Rattle.std.specs.Prelude.{IfOk, IsSome}
+use Rattle.std.specs.BTreeMap.{get}
 use Rattle.std.specs.List.{after_first, position_or_len}
 use Rattle.std.specs.Ordering.{nat_cmp, is_eq, is_gt, is_lt, ordering_then}
 use Rattle.std.specs.Cmp.Lexicographic.{slice_cmp}
@@ -21,10 +21,9 @@ use Rattle.bucket_core.specs.Contents.{Contents}
 use Rattle.bucket_core.specs.Pages.{Before, IsName, Lists}
 use Rattle.world_core.specs.declared.entry.Entry.{Entry}
 use Rattle.standing_objects.specs.Held.{Holds, IsWritten, Places, bytes_at}
-use Rattle.standing_objects.specs.Next.{IsLeast, Stands, is_due_object}
+use Rattle.standing_objects.specs.Next.{IsDueAt, IsFirstKey, IsLeast, Stands, is_due_object}
 use Rattle.standing_objects.proofs.Blocks.{place_of}
 use Rattle.standing_objects.proofs.Changes.{block_text, in_order, same_key}
-use Rattle.standing_objects.proofs.Scans.{FirstDue, scanned}
 
 -- a key's text in two parts
 pub text_parts : (key : Key) → key_text key ≡ text_of (key_ulid key) ++ 47 ∷ name_of key
@@ -51,7 +50,7 @@ front_same [] a b = refl
 front_same (x ∷ front) a b = ap (λ o. ordering_then o (slice_cmp nat_cmp (front ++ a) (front ++ b))) (nat_cmp-Equal x) ∙ front_same front a b
 
 -- texts of one block are in the order of what follows the slash
-cmp_behind : (key : Key) (after : List ℕ) → slice_cmp nat_cmp (text_of (key_ulid key) ++ 47 ∷ after) (key_text key) ≡ slice_cmp nat_cmp after (name_of key)
+pub cmp_behind : (key : Key) (after : List ℕ) → slice_cmp nat_cmp (text_of (key_ulid key) ++ 47 ∷ after) (key_text key) ≡ slice_cmp nat_cmp after (name_of key)
 cmp_behind key after = ap (slice_cmp nat_cmp (text_of (key_ulid key) ++ 47 ∷ after)) (text_parts key) ∙ front_same (text_of (key_ulid key)) (47 ∷ after) (47 ∷ name_of key)
 
 -- ---- lists in two parts
@@ -121,22 +120,17 @@ module _ (entries : List Entry) (places : Places) (contents : Contents) (holds :
         ∙ ap (λ (t : List ℕ). slice_cmp nat_cmp t (key_text other)) (ap (λ (u : ℕ). text_of u ++ 47 ∷ name_of one) (same ∙ sym block) ∙ sym (text_parts one))
         ∙ in_order one other is also
 
-    pub no_object_due : IsOrdered key_cmp places → (r : Option Key) → r ≡ find (is_due_object ulid cursor) (keys places) → r ≡ None → (name : List ℕ) → IsName contents (text_of ulid) name → ¬ Before after name
-    no_object_due ordered r is none name named before =
+    pub no_object_due : (r : Option Key) → IsFirstKey (IsDueAt ulid cursor) places r → r ≡ None → (name : List ℕ) → IsName contents (text_of ulid) name → ¬ Before after name
+    no_object_due r first none name named before =
         let found = object_named name named in
-        let all = none_of (find (is_due_object ulid cursor) (keys places)) (sym is ∙ none) (scanned (is_due_object ulid cursor) places.entries ordered) in
-        cc (all found.0 found.1, is_due found.0 found.3 (subst (Before after) found.4 before))
-      where
-        none_of : (o : Option Key) → o ≡ None → FirstDue (is_due_object ulid cursor) places.entries o → (key : Key) → Stands places key → is_due_object ulid cursor key ≡ false
-        none_of None is first = first
-        none_of (Some key) is first = cc (is)
+        (subst (IsFirstKey (IsDueAt ulid cursor) places) none first) found.0 found.1 (is_due found.0 found.3 (subst (Before after) found.4 before))
 
-    pub object_stands : IsOrdered key_cmp places → (r : Option Key) (key : Key) → r ≡ find (is_due_object ulid cursor) (keys places) → r ≡ Some key → Stands places key
-    object_stands ordered r key is some = (subst (FirstDue (is_due_object ulid cursor) places.entries) (sym is ∙ some) (scanned (is_due_object ulid cursor) places.entries ordered)).0
+    pub object_stands : (r : Option Key) (key : Key) → IsFirstKey (IsDueAt ulid cursor) places r → r ≡ Some key → Stands places key
+    object_stands r key first some = (subst (IsFirstKey (IsDueAt ulid cursor) places) some first).0
 
-    pub least_object : IsOrdered key_cmp places → (r : Option Key) (key : Key) → r ≡ find (is_due_object ulid cursor) (keys places) → r ≡ Some key → IsLeast contents (text_of ulid) after (name_of key)
-    least_object ordered r key is some =
-        let first = subst (FirstDue (is_due_object ulid cursor) places.entries) (sym is ∙ some) (scanned (is_due_object ulid cursor) places.entries ordered) in
+    pub least_object : (r : Option Key) (key : Key) → IsFirstKey (IsDueAt ulid cursor) places r → r ≡ Some key → IsLeast contents (text_of ulid) after (name_of key)
+    least_object r key is some =
+        let first = subst (IsFirstKey (IsDueAt ulid cursor) places) some is in
         let due = of_due key first.1 in record {
           named = named_of_object key first.0 due.0;
           due = due.1;

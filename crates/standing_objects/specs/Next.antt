@@ -1,8 +1,9 @@
 -- The next name of a page.
-use Rattle.std.specs.Prelude.{◌≡◌, ◌⊎◌, ◌==◌, ◌&&◌, ℕ, ◌≤◌, Bool, false, List, Option, Some, None, IsSome}
+use Rattle.std.specs.Prelude.{◌≡◌, ◌⊎◌, ◌==◌, ◌&&◌, ℕ, ◌≤◌, Bool, true, false, List, ◌∷◌, ◌++◌, Option, Some, None, IsSome}
 use Rattle.std.specs.BTreeMap.{get}
 use Rattle.std.specs.Ordering.{nat_cmp, is_gt, is_lt}
 use Rattle.std.specs.Cmp.Lexicographic.{slice_cmp}
+use Rattle.std.specs.declared.cmp.Ordering.TheVariants.{Less}
 use Rattle.ulid_core.specs.UlidText.{text_of}
 use Rattle.block_keys.specs.Keys.{key_cmp, key_ulid}
 use Rattle.block_keys.specs.KeyText.{key_text}
@@ -36,6 +37,18 @@ IsNextBlock places after (Some ulid) =
 -- whether the key is the block's, and its text comes after the cursor's
 abbrev pub is_due_object : ℕ → List ℕ → Key → Bool
 is_due_object ulid cursor key = (key_ulid key == ulid) && is_lt (slice_cmp nat_cmp cursor (key_text key))
+
+-- the key is due after a cursor
+abbrev pub IsDueAt : ℕ → List ℕ → Key → Type 0
+IsDueAt ulid cursor key = is_due_object ulid cursor key ≡ true
+
+-- the key is the block's, and its name comes after this one
+abbrev pub IsDueIn : ℕ → List ℕ → Key → Type 0
+IsDueIn ulid after key = IsDueAt ulid (text_of ulid ++ 47 ∷ after) key
+
+-- the key is the block's, and stands behind the other one
+abbrev pub IsBehindIn : ℕ → Key → Key → Type 0
+IsBehindIn ulid key other = (key_ulid other ≡ ulid) × (key_cmp key other ≡ Less)
 
 -- the name is the least that is due after the cursor
 pub record IsLeast (contents : Contents) (within after name : List ℕ) : Type 0 where

@@ -8,11 +8,11 @@ ghost use Rattle.std.specs.Ordering.{is_lt, nat_cmp};
 ghost use Rattle.std.specs.declared.cmp.Ordering.TheVariants.{Less};
 ghost use Rattle.ulid_core.specs.UlidText.{text_of};
 ghost use Rattle.block_keys.specs.Keys.{IsLawfulKey, key_cmp, key_ulid};
-ghost use Rattle.block_keys.specs.KeyText.{is_slash, name_of};
+ghost use Rattle.block_keys.specs.KeyText.{is_slash, key_text, name_of};
 ghost use Rattle.bucket_core.specs.Contents.{Contents};
 ghost use Rattle.bucket_core.specs.Pages.{IsPage};
 ghost use Rattle.standing_objects.specs.Held.{HaveTexts, IsWritten};
-ghost use Rattle.standing_objects.specs.Next.{IsFirstKey, IsNextBlock, is_due_block, is_due_object};
+ghost use Rattle.standing_objects.specs.Next.{IsBehindIn, IsDueAt, IsDueIn, IsFirstKey, IsNextBlock, is_due_block, is_due_object};
 ghost use Rattle.standing_objects.specs.Standings.{IsStanding};
 ghost use Rattle.world_core.specs.declared.entry.Entry.{Entry};
 
@@ -166,8 +166,60 @@ impl Standing {
         Ok(names)
     }
 
-    /// The first key of the block whose text comes after the cursor's.
-    fn next_object(&self, alloc: Global, ulid: Ulid, cursor: &str) -> Result<Option<Key>, NoMemory>
+    /// The first key of a block behind this one of its own. A block's keys lie together, in the order of their texts.
+    fn object_behind(&self, ulid: Ulid, key: &Key) -> Option<Key>
+        requires { key_ulid key.now ≡ ulid }
+        ensures { IsFirstKey (IsBehindIn ulid key.now) self.now.places result }
+    {
+        let first = *self.key_behind(key)?;
+        if first.ulid() == ulid {
+            Some(first)
+        } else {
+            None
+        }
+    }
+
+    /// The first key of the block whose name comes after this one. It goes over keys only where that is no object's name.
+    fn next_object(&self, alloc: Global, ulid: Ulid, after: &str) -> Result<Option<Key>, NoMemory>
+        ensures { HaveTexts self.now.places
+            → IfOk result (IsFirstKey (IsDueIn ulid after.now) self.now.places) }
+    {
+        if after.is_empty() {
+            return Ok(self.object_behind(ulid, &Key::Segment(ulid, 0)));
+        }
+        let cursor = cursor_of(alloc, ulid, after)?;
+        match Key::read(cursor.as_str()) {
+            Ok(key) => self.object_after(alloc, ulid, cursor.as_str(), key),
+            Err(_) => self.object_by_scan(alloc, ulid, cursor.as_str()),
+        }
+    }
+
+    /// The same behind the text of a key, which may be of another block.
+    fn object_after(
+        &self,
+        alloc: Global,
+        ulid: Ulid,
+        cursor: &str,
+        key: Key,
+    ) -> Result<Option<Key>, NoMemory>
+        requires text { cursor.now ≡ key_text key }
+        requires written { IsWritten key }
+        ensures { HaveTexts self.now.places
+            → IfOk result (IsFirstKey (IsDueAt ulid cursor.now) self.now.places) }
+    {
+        if key.ulid() == ulid {
+            return Ok(self.object_behind(ulid, &key));
+        }
+        self.object_by_scan(alloc, ulid, cursor)
+    }
+
+    /// The first key of the block whose text comes after the cursor's, which is sought among all keys.
+    fn object_by_scan(
+        &self,
+        alloc: Global,
+        ulid: Ulid,
+        cursor: &str,
+    ) -> Result<Option<Key>, NoMemory>
         ensures found { HaveTexts self.now.places → IfOk result (λ key. key
             ≡ find (is_due_object ulid cursor.now) (keys self.now.places)) }
         ensures ordered { IsOrdered key_cmp self.now.places }
@@ -196,8 +248,7 @@ impl Standing {
         let mut names = List::new(alloc);
         let mut last = Text::from_str(alloc, after)?;
         for _ in 0..limit {
-            let cursor = cursor_of(alloc, ulid, last.as_str())?;
-            let Some(key) = self.next_object(alloc, ulid, cursor.as_str())? else {
+            let Some(key) = self.next_object(alloc, ulid, last.as_str())? else {
                 break;
             };
             let name = name_text(alloc, &key)?;

@@ -1,8 +1,9 @@
-use Rattle.std.proofs.Common.{◌≤◌, suc, List, None, length, take, take_all, drop, arith, subst}
+use Rattle.std.proofs.Common.{◌≤◌, suc, List, length, take, take_all, drop, arith, subst}
 use Rattle.world_core.specs.Journals.{Each}
 use Rattle.world_core.specs.Standing.{stands}
 use Rattle.world_core.specs.declared.entry.Entry.{Entry}
 use Rattle.lifecycle_core.specs.Breaches.{IsKept}
+use Rattle.lifecycle_core.specs.Setting.{setting_of}
 use Rattle.breach_finding.specs.Walks.{setting_with}
 use Rattle.breach_finding.proofs.WalkTurns.{found_is, goes_on, parts_at, refused_here, walk_begins}
 use Rattle.breach_finding.proofs.walking.find_breach.Goals as goal
@@ -30,7 +31,7 @@ entry_refusal-requires-clause-small c =
 pub returns-in-Some : goal.returns-in-Some
 returns-in-Some c shelf =
     found_is (setting_with c.args.script.now shelf) c.args.journal.now c.in-Some.refusal c.entry_at-entry.result.now.seq c.breach_of.result c.breach_of.ensures.rule c.breach_of.ensures.entry c.breach_of.ensures.found c.breach_of.ensures.allowed
-    (refused_here c.args.script.now shelf c.requires.lawful c.args.script.now.rules.tick.ms c.args.journal.now c.requires.kept c.requires.bytes c.in_ok-seats.seats c.in_ok-lasts.lasts (c.in_ok-seats.ensures c.requires.lawful) c.in_ok-lasts.ensures
+    (refused_here c.args.script.now shelf c.requires.lawful c.args.script.now.rules.tick.ms c.args.journal.now c.requires.kept c.requires.bytes c.in_ok-tables.tables c.in_ok-tables.ensures
     c.loop-place.place c.entry_at-entry.result.now c.entry_at-entry.ensures c.loop-place.standing c.loop-place.unders c.entry_refusal.new.unders c.loop-place.views c.entry_refusal.new.views (c.loop-place.invariant shelf) c.in_ok-refused.refused
     c.in_ok-refused.ensures c.in-Some.refusal c.in-Some.is)
 
@@ -41,12 +42,12 @@ stand-requires c =
 
 pub loop-place-preserved : goal.loop-place-preserved
 loop-place-preserved c shelf =
-    goes_on c.args.script.now shelf c.requires.lawful c.args.script.now.rules.tick.ms c.args.journal.now c.requires.kept c.requires.bytes c.in_ok-seats.seats c.in_ok-lasts.lasts (c.in_ok-seats.ensures c.requires.lawful) c.in_ok-lasts.ensures
+    goes_on c.args.script.now shelf c.requires.lawful c.args.script.now.rules.tick.ms c.args.journal.now c.requires.kept c.requires.bytes c.in_ok-tables.tables c.in_ok-tables.ensures
     c.loop-place.place c.entry_at-entry.result.now c.entry_at-entry.ensures c.loop-place.standing c.loop-place.unders c.entry_refusal.new.unders c.loop-place.views c.entry_refusal.new.views (c.loop-place.invariant shelf) c.in_ok-refused.refused
     c.in_ok-refused.ensures c.in_default.is c.stand.new.standing (c.in_ok-stand.ensures c.args.journal.now (stands (take c.loop-place.place c.args.journal.now)) c.entry_at-entry.ensures (c.loop-place.invariant shelf).held)
 
 pub entry_refusal-requires-clause-waits : goal.entry_refusal-requires-clause-waits
-entry_refusal-requires-clause-waits c = (c.loop-place.invariant (λ key. None)).waits
+entry_refusal-requires-clause-waits c = (c.loop-place.invariant (setting_of c.args.script.now).shelf).waits
 
 pub returns : goal.returns
 returns c shelf =

@@ -1,4 +1,4 @@
-use Rattle.std.proofs.Common.{◌≡◌, List, ℕ, ◌∙◌, ap}
+use Rattle.std.proofs.Common.{◌≡◌, ◌∙◌, ap}
 use Rattle.std.specs.List.{after_first}
 use Rattle.block_keys.specs.KeyText.{is_slash, key_text, name_of}
 use Rattle.block_keys.proofs.KeyLaws.{IsLawfulKey-text}

@@ -1,8 +1,7 @@
-use Rattle.std.proofs.Common.{◌≡◌, Option, sym, subst}
+use Rattle.std.proofs.Common.{◌≡◌, sym, subst}
 use Rattle.std.specs.Option.{option_copied}
 use Rattle.std.specs.declared.cmp.Ordering.TheVariants.{Less}
 use Rattle.block_keys.specs.Keys.{key_cmp}
-use Rattle.block_keys.specs.declared.key.Key.{Key}
 use Rattle.standing_objects.specs.Next.{IsFirstKey}
 use Rattle.standing_objects.proofs.Ranges.{range_first, range_none}
 use Rattle.standing_objects.proofs.standing.Standing.key_behind.Goals as goal

@@ -1,15 +1,15 @@
-use Rattle.std.proofs.Common.{◌≡◌, ℕ, ◌+◌, ◌-◌, Some, None, List, [], ◌∷◌, ◌++◌, sym, ◌∙◌, ap, subst}
+use Rattle.std.proofs.Common.{◌≡◌, ℕ, ◌+◌, ◌-◌, Some, None, List, [], ◌∷◌, ◌++◌, refl, sym, ◌∙◌, ap, subst}
 use Rattle.ulid_core.specs.UlidText.{IsUlidText, text_of}
 use Rattle.ulid_core.proofs.UlidLaws.{ulid_of-found}
 use Rattle.block_keys.specs.KeyText.{name_of}
 use Rattle.bucket_core.specs.Contents.{Contents}
 use Rattle.bucket_core.specs.Pages.{IsPage}
 use Rattle.standing_objects.specs.Held.{HaveTexts, Holds}
-use Rattle.standing_objects.specs.Next.{IsLeast}
+use Rattle.standing_objects.specs.Next.{IsDueAt, IsDueIn, IsFirstKey, IsLeast}
 use Rattle.standing_objects.proofs.Objects.{least_object, no_object_due, object_stands}
 use Rattle.standing_objects.proofs.Pages.{page_begun, page_done, page_on, page_over}
 use Rattle.world_core.specs.declared.entry.Entry.{Entry}
-use Rattle.standing_objects.proofs.standing.Standing.page_of_block.Goals.{else-loop-test, then-loop-test+in_ok-cursor+in_ok-key+in_default}
+use Rattle.standing_objects.proofs.standing.Standing.page_of_block.Goals.{else-loop-test, then-loop-test+in_ok-key+in_default}
 use Rattle.standing_objects.proofs.standing.Standing.page_of_block.Goals as goal
 
 pub loop-init : goal.loop-init
@@ -19,9 +19,10 @@ pub loop-preserved : goal.loop-preserved
 loop-preserved c entries contents holds others page =
     let texts : HaveTexts c.args.self.now.places = λ key stands. (holds.there key stands).0 in
     let own : IsUlidText (text_of c.args.ulid) c.args.ulid = ulid_of-found (text_of c.args.ulid) c.args.ulid c.text_is_read.ensures in
-    let starts : c.as_str-in-loop.result.now ≡ text_of c.args.ulid ++ 47 ∷ c.loop.last = c.as_str-in-loop.ensures.value ∙ c.in_ok-cursor.ensures ∙ ap (λ (t : List ℕ). text_of c.args.ulid ++ 47 ∷ t) c.as_str.ensures in
-    let stands = object_stands entries c.args.self.now.places contents holds c.args.ulid own c.loop.last c.as_str-in-loop.result.now starts c.in_ok-key.ensures.ordered c.in_ok-key.field-0 c.in-Some.key (c.in_ok-key.ensures.found texts) c.in-Some.is in
-    let least : IsLeast contents (text_of c.args.ulid) c.loop.last (name_of c.in-Some.key) = least_object entries c.args.self.now.places contents holds c.args.ulid own c.loop.last c.as_str-in-loop.result.now starts c.in_ok-key.ensures.ordered c.in_ok-key.field-0 c.in-Some.key (c.in_ok-key.ensures.found texts) c.in-Some.is in
+    let first : IsFirstKey (IsDueAt c.args.ulid (text_of c.args.ulid ++ 47 ∷ c.loop.last)) c.args.self.now.places c.in_ok-key.field-0 =
+    subst (λ (t : List ℕ). IsFirstKey (IsDueIn c.args.ulid t) c.args.self.now.places c.in_ok-key.field-0) c.as_str.ensures (c.in_ok-key.ensures texts) in
+    let stands = object_stands entries c.args.self.now.places contents holds c.args.ulid own c.loop.last (text_of c.args.ulid ++ 47 ∷ c.loop.last) refl c.in_ok-key.field-0 c.in-Some.key first c.in-Some.is in
+    let least : IsLeast contents (text_of c.args.ulid) c.loop.last (name_of c.in-Some.key) = least_object entries c.args.self.now.places contents holds c.args.ulid own c.loop.last (text_of c.args.ulid ++ 47 ∷ c.loop.last) refl c.in_ok-key.field-0 c.in-Some.key first c.in-Some.is in
     let name : c.in_ok-name.name ≡ name_of c.in-Some.key = c.in_ok-name.ensures (holds.there c.in-Some.key stands).0 in
     let rest : IsPage contents (text_of c.args.ulid) (name_of c.in-Some.key) (c.args.limit - (c.loop.counter + 1)) others = subst (λ (t : List ℕ). IsPage contents (text_of c.args.ulid) t (c.args.limit - (c.loop.counter + 1)) others) (c.in_ok-last-2.ensures ∙ name) page in
     let names : c.push.new.self ≡ c.loop.names ++ name_of c.in-Some.key ∷ [] = c.in_ok-push.ensures.ok ∙ ap (λ (n : List ℕ). c.loop.names ++ n ∷ []) name in
@@ -31,10 +32,9 @@ loop-preserved c entries contents holds others page =
 pub returns : goal.returns
 returns c entries contents holds = elim c.loop-test.branch [
   | else-loop-test w ↦ page_done contents (text_of c.args.ulid) c.args.after.now c.loop.last c.args.limit c.loop.counter c.loop.names (c.loop.invariant entries contents holds) w.loop-test.false
-  | then-loop-test+in_ok-cursor+in_ok-key+in_default w ↦
+  | then-loop-test+in_ok-key+in_default w ↦
       let own : IsUlidText (text_of c.args.ulid) c.args.ulid = ulid_of-found (text_of c.args.ulid) c.args.ulid c.text_is_read.ensures in
       page_over contents (text_of c.args.ulid) c.args.after.now c.loop.last c.args.limit c.loop.counter c.loop.names (c.loop.invariant entries contents holds)
-      (no_object_due entries c.args.self.now.places contents holds c.args.ulid own c.loop.last w.as_str-in-loop.result.now
-      (w.as_str-in-loop.ensures.value ∙ w.in_ok-cursor.ensures ∙ ap (λ (t : List ℕ). text_of c.args.ulid ++ 47 ∷ t) w.as_str.ensures)
-      w.in_ok-key.ensures.ordered w.in_ok-key.field-0 (w.in_ok-key.ensures.found (λ key stands. (holds.there key stands).0)) w.in_default.is)
+      (no_object_due entries c.args.self.now.places contents holds c.args.ulid own c.loop.last (text_of c.args.ulid ++ 47 ∷ c.loop.last) refl w.in_ok-key.field-0
+      (subst (λ (t : List ℕ). IsFirstKey (IsDueIn c.args.ulid t) c.args.self.now.places w.in_ok-key.field-0) w.as_str.ensures (w.in_ok-key.ensures (λ key stands. (holds.there key stands).0))) w.in_default.is)
 ]

@@ -1,12 +1,10 @@
-use Rattle.std.proofs.Common.{◌≡◌, ℕ, ◌+◌, ◌-◌, ◌<◌, Option, Some, None, List, [], ◌∷◌, ◌++◌, sym, ◌∙◌, ap, subst}
+use Rattle.std.proofs.Common.{◌≡◌, ℕ, ◌+◌, ◌-◌, Option, Some, None, List, [], ◌∷◌, ◌++◌, sym, ◌∙◌, ap, subst}
 use Rattle.ulid_core.specs.UlidText.{text_of}
-use Rattle.bucket_core.specs.Contents.{Contents}
 use Rattle.bucket_core.specs.Pages.{IsPage}
-use Rattle.standing_objects.specs.Held.{HaveTexts, Holds, Places}
+use Rattle.standing_objects.specs.Held.{HaveTexts, Places}
 use Rattle.standing_objects.specs.Next.{IsLeast, IsNextBlock}
 use Rattle.standing_objects.proofs.Blocks.{least_due, none_due}
 use Rattle.standing_objects.proofs.Pages.{page_begun, page_done, page_on, page_over}
-use Rattle.world_core.specs.declared.entry.Entry.{Entry}
 use Rattle.standing_objects.proofs.standing.Standing.page_of_blocks.Goals.{else-loop-test, then-loop-test+in_default}
 use Rattle.standing_objects.proofs.standing.Standing.page_of_blocks.Goals as goal
 

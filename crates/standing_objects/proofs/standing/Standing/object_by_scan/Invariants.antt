@@ -4,7 +4,7 @@ use Rattle.block_keys.specs.Keys.{IsLawfulKey}
 use Rattle.std.specs.List.{AllByRecursion}
 use Rattle.standing_objects.specs.Held.{HaveTexts}
 use Rattle.standing_objects.specs.Next.{is_due_object}
-use Rattle.standing_objects.proofs.standing.Standing.next_object.Given as goal
+use Rattle.standing_objects.proofs.standing.Standing.object_by_scan.Given as goal
 
 -- the first key that is due among those that are left is the first one of all
 abbrev pub invariant-loop-key : goal.invariant-loop-key
