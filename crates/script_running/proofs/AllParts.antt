@@ -6,8 +6,10 @@ use Rattle.script_workers.specs.Hands.{hands_of_task}
 use Rattle.script_workers.specs.declared.hand.Hand.TheVariants as hands
 use Rattle.script_workers.specs.declared.work.Work.{Work}
 use Rattle.script_workers.specs.declared.work.Work.TheVariants as work
-use Rattle.lifecycle_core.specs.Tasks.{End, answered, not_asked, refused, stopped, synced, uploaded, without_view}
-use Rattle.script_running.specs.Outcomes.{AreAllParts, IsPart, call_part, sync_outcome, upload_outcome}
+use Rattle.lifecycle_core.specs.Tasks.{End, answered, cleaned, compacted, not_asked, refused, stopped, synced, uploaded, without_view}
+use Rattle.script_running.specs.Outcomes.{AreAllParts, IsPart, call_part, clean_outcome, compact_outcome, sync_outcome, upload_outcome}
+use Rattle.script_running.specs.declared.outcome.CleanOutcome.TheVariants as clean
+use Rattle.script_running.specs.declared.outcome.CompactOutcome.TheVariants as compact
 use Rattle.script_running.specs.declared.outcome.NoAnswer.TheVariants as none
 use Rattle.script_running.specs.declared.outcome.UploadOutcome.TheVariants as upload
 use Rattle.script_running.specs.declared.part.Part.{Part}
@@ -18,6 +20,8 @@ use Rattle.script_running.specs.declared.part.QueryPart.TheVariants as given
 one_query : (low high : ℤ) (selector : ℕ) (end : End) (one : Part) → IsPart (work.Query low high selector) end one → (own : QueryPart) × (one ≡ part.Query own)
 one_query low high selector (uploaded e) one is = absurd is
 one_query low high selector (synced e) one is = absurd is
+one_query low high selector (compacted e) one is = absurd is
+one_query low high selector (cleaned e) one is = absurd is
 one_query low high selector (answered used e) one is = (call_part e, is)
 one_query low high selector without_view one is = (given.NoAnswer none.NoView, is)
 one_query low high selector not_asked one is = (given.NotAsked, is)
@@ -36,6 +40,8 @@ query_parts low high selector (end ∷ ends) (one ∷ parts) all =
 one_upload : (ulid : ℕ) (stop : Option ℕ) (end : End) (one : Part) → IsPart (work.Upload ulid stop) end one → AreAllParts (work.Upload ulid stop) (one ∷ [])
 one_upload ulid stop (uploaded e) one is = (upload_outcome e, ap (λ (p : Part). p ∷ []) is)
 one_upload ulid stop (synced e) one is = absurd is
+one_upload ulid stop (compacted e) one is = absurd is
+one_upload ulid stop (cleaned e) one is = absurd is
 one_upload ulid stop (answered used e) one is = absurd is
 one_upload ulid stop without_view one is = absurd is
 one_upload ulid stop not_asked one is = absurd is
@@ -45,25 +51,51 @@ one_upload ulid stop (stopped count) one is = (upload.Stopped count, ap (λ (p :
 one_sync : (gateway : ℕ) (end : End) (one : Part) → IsPart (work.Sync gateway) end one → AreAllParts (work.Sync gateway) (one ∷ [])
 one_sync gateway (uploaded e) one is = absurd is
 one_sync gateway (synced e) one is = (sync_outcome e, ap (λ (p : Part). p ∷ []) is)
+one_sync gateway (compacted e) one is = absurd is
+one_sync gateway (cleaned e) one is = absurd is
 one_sync gateway (answered used e) one is = absurd is
 one_sync gateway without_view one is = absurd is
 one_sync gateway not_asked one is = absurd is
 one_sync gateway (refused cause) one is = absurd is
 one_sync gateway (stopped count) one is = absurd is
 
+one_compact : (stop : Option ℕ) (end : End) (one : Part) → IsPart (work.Compact stop) end one → AreAllParts (work.Compact stop) (one ∷ [])
+one_compact stop (uploaded e) one is = absurd is
+one_compact stop (synced e) one is = absurd is
+one_compact stop (compacted e) one is = (compact_outcome e, ap (λ (p : Part). p ∷ []) is)
+one_compact stop (cleaned e) one is = absurd is
+one_compact stop (answered used e) one is = absurd is
+one_compact stop without_view one is = absurd is
+one_compact stop not_asked one is = absurd is
+one_compact stop (refused cause) one is = absurd is
+one_compact stop (stopped count) one is = (compact.Stopped count, ap (λ (p : Part). p ∷ []) is)
+
+one_clean : (stop : Option ℕ) (end : End) (one : Part) → IsPart (work.Clean stop) end one → AreAllParts (work.Clean stop) (one ∷ [])
+one_clean stop (uploaded e) one is = absurd is
+one_clean stop (synced e) one is = absurd is
+one_clean stop (compacted e) one is = absurd is
+one_clean stop (cleaned e) one is = (clean_outcome e, ap (λ (p : Part). p ∷ []) is)
+one_clean stop (answered used e) one is = absurd is
+one_clean stop without_view one is = absurd is
+one_clean stop not_asked one is = absurd is
+one_clean stop (refused cause) one is = absurd is
+one_clean stop (stopped count) one is = (clean.Stopped count, ap (λ (p : Part). p ∷ []) is)
+
+-- one who does a task alone has one end and one part
+alone_parts : (w : Work) (ends : List End) (parts : List Part) → ((end : End) (one : Part) → IsPart w end one → AreAllParts w (one ∷ [])) → length ends ≡ 1 → AllZip (IsPart w) ends parts → AreAllParts w parts
+alone_parts w [] parts each count all = absurd (omega (arith, count))
+alone_parts w (end ∷ []) [] each count all = absurd all
+alone_parts w (end ∷ []) (one ∷ []) each count all = each end one all.0
+alone_parts w (end ∷ []) (one ∷ other ∷ parts) each count all = absurd all.1
+alone_parts w (end ∷ next ∷ ends) parts each count all = absurd (omega (arith, count))
+
 -- the parts of as many as do the task are those of all who do it
 pub all_parts : (w : Work) (gateways place : ℕ) (ends : List End) (parts : List Part) → length ends ≡ length (hands_of_task gateways place w) → AllZip (IsPart w) ends parts → AreAllParts w parts
 unfolding hands_of_task
-all_parts (work.Upload ulid stop) gateways place [] parts count all = absurd (omega (arith, count))
-all_parts (work.Upload ulid stop) gateways place (end ∷ []) [] count all = absurd all
-all_parts (work.Upload ulid stop) gateways place (end ∷ []) (one ∷ []) count all = one_upload ulid stop end one all.0
-all_parts (work.Upload ulid stop) gateways place (end ∷ []) (one ∷ other ∷ parts) count all = absurd all.1
-all_parts (work.Upload ulid stop) gateways place (end ∷ next ∷ ends) parts count all = absurd (omega (arith, count))
-all_parts (work.Sync gateway) gateways place [] parts count all = absurd (omega (arith, count))
-all_parts (work.Sync gateway) gateways place (end ∷ []) [] count all = absurd all
-all_parts (work.Sync gateway) gateways place (end ∷ []) (one ∷ []) count all = one_sync gateway end one all.0
-all_parts (work.Sync gateway) gateways place (end ∷ []) (one ∷ other ∷ parts) count all = absurd all.1
-all_parts (work.Sync gateway) gateways place (end ∷ next ∷ ends) parts count all = absurd (omega (arith, count))
+all_parts (work.Upload ulid stop) gateways place ends parts count all = alone_parts (work.Upload ulid stop) ends parts (one_upload ulid stop) count all
+all_parts (work.Sync gateway) gateways place ends parts count all = alone_parts (work.Sync gateway) ends parts (one_sync gateway) count all
+all_parts (work.Compact stop) gateways place ends parts count all = alone_parts (work.Compact stop) ends parts (one_compact stop) count all
+all_parts (work.Clean stop) gateways place ends parts count all = alone_parts (work.Clean stop) ends parts (one_clean stop) count all
 all_parts (work.Query low high selector) gateways place ends parts count all = query_parts low high selector ends parts all
 
 -- so there are few of them
@@ -71,6 +103,8 @@ pub few_parts : (w : Work) (gateways place : ℕ) → gateways ≤ 16 → length
 unfolding hands_of_task
 few_parts (work.Upload ulid stop) gateways place few = omega arith
 few_parts (work.Sync gateway) gateways place few = omega arith
+few_parts (work.Compact stop) gateways place few = omega arith
+few_parts (work.Clean stop) gateways place few = omega arith
 few_parts (work.Query low high selector) gateways place few = let count = length-map-range_with_len hands.Gateway 0 gateways in omega (arith, few, count)
 
 pub zip_long : {A B : Type 0} (R : A → B → Type 0) (xs : List A) (ys : List B) → AllZip R xs ys → length ys ≡ length xs

@@ -8,7 +8,6 @@ use Rattle.std.proofs.lemmas.Option.{slice_get_within}
 use Rattle.list_core.proofs.Membership.{no_member}
 use Rattle.world_core.specs.declared.entry.Entry.{Entry}
 use Rattle.phase_runner.specs.Phases.{RanTo, Runs}
-use Rattle.script_core.specs.Reading.{script_of}
 use Rattle.script_core.proofs.SeatLaws.{are_seated}
 use Rattle.script_core.specs.Lawful.{IsLawfulScript}
 use Rattle.script_core.specs.Workers.{workers_before, workers_of}
@@ -23,7 +22,7 @@ use Rattle.script_workers.specs.declared.worker.Worker.{Worker}
 use Rattle.lifecycle_core.specs.Conducts.{PhaseRun, of_seat, who_of}
 use Rattle.lifecycle_core.specs.Holdings.{Holding, Holdings, holding_of}
 use Rattle.lifecycle_core.specs.Phases.{by_script}
-use Rattle.lifecycle_core.specs.Setting.{Setting, setting_of}
+use Rattle.lifecycle_core.specs.Setting.{Setting}
 use Rattle.lifecycle_core.specs.Tasks.{End}
 use Rattle.lifecycle_core.specs.Ways.{BeginsPhase}
 use Rattle.lifecycle_core.proofs.phases.Fronts.{IsCutWell}
@@ -32,7 +31,10 @@ use Rattle.lifecycle_core.proofs.phases.TaskRuns.{MayBegin}
 use Rattle.script_running.specs.Begun.{AreLeft, WasBegun, WereKept}
 use Rattle.script_running.specs.Cutting.{Passed}
 use Rattle.script_running.specs.Ended.{AreInRow, HasEnded, HaveEnded, IsPostOf}
+use Rattle.script_running.specs.Lending.{Loan, setting_in}
+use Rattle.script_running.specs.Shelves.{setting_by}
 use Rattle.script_running.specs.Workers.{HasWorked, IsBrokenOff, MayWork, OwnRun, Post}
+use Rattle.script_running.specs.declared.shelf.ShelfBlock.{ShelfBlock}
 use Rattle.script_running.specs.declared.worker.WorkerEnd.{WorkerEnd}
 use Rattle.script_running.proofs.Begun.{phase_runs}
 use Rattle.script_running.proofs.WorkerSteps.{assigned, none_run, tasks_begin}
@@ -40,17 +42,21 @@ use Rattle.script_running.proofs.WorkerSteps.{assigned, none_run, tasks_begin}
 abbrev Kept : Type 0
 Kept = ℕ × List Entry
 
-module _ (script : Script) (bytes : List ℕ) (number : ℕ) (phase : Phase) (before : Holdings) (spelled : script_of bytes ≡ Ok script) (at : slice_get script.phases number ≡ Some phase) (above : ℕ) (front : List Entry) where
+module _ (script : Script) (shelf : List ShelfBlock) (loan : Loan) (lent : loan.script ≡ script) (its : loan.shelf ≡ shelf) (number : ℕ) (phase : Phase) (before : Holdings) (at : slice_get script.phases number ≡ Some phase) (above : ℕ) (front : List Entry) where
   abbrev own_setting : Setting
-  own_setting = setting_of script
+  own_setting = setting_by script shelf
 
-  has_worked : (worker : Worker) (post : Post) (seat : ℕ) (made : List Entry) (seen : List Entry) (end : WorkerEnd) → IsPostOf bytes number before worker post → MayWork post seat made (Some seen) end
+  has_worked : (worker : Worker) (post : Post) (seat : ℕ) (made : List Entry) (seen : List Entry) (end : WorkerEnd) → IsPostOf loan number before worker post → MayWork post seat made (Some seen) end
       → HasWorked own_setting phase.tasks (who_of worker) worker.tasks (holding_of before worker.gateway) seat [] made end
   has_worked worker post seat made seen end p may =
-      subst (λ (w : Worker). HasWorked own_setting phase.tasks (who_of w) w.tasks (holding_of before worker.gateway) seat [] made end) p.worker_is
-      (may.worked script phase (holding_of before worker.gateway) (ap script_of p.text_is ∙ spelled) (ap (slice_get script.phases) p.phase_is ∙ at) p.sees)
+      let found : slice_get post.loan.script.phases post.phase ≡ Some phase = ap (λ (l : Loan). slice_get l.script.phases post.phase) p.loan_is ∙ ap (λ (s : Script). slice_get s.phases post.phase) lent ∙ ap (slice_get script.phases) p.phase_is ∙ at in
+      subst (λ (s : Script). HasWorked (setting_by s shelf) phase.tasks (who_of worker) worker.tasks (holding_of before worker.gateway) seat [] made end) lent
+      (subst (λ (s : List ShelfBlock). HasWorked (setting_by loan.script s) phase.tasks (who_of worker) worker.tasks (holding_of before worker.gateway) seat [] made end) its
+      (subst (λ (l : Loan). HasWorked (setting_in l) phase.tasks (who_of worker) worker.tasks (holding_of before worker.gateway) seat [] made end) p.loan_is
+      (subst (λ (w : Worker). HasWorked (setting_in post.loan) phase.tasks (who_of w) w.tasks (holding_of before worker.gateway) seat [] made end) p.worker_is
+      (may.worked phase (holding_of before worker.gateway) found p.sees))))
 
-  has_ended : (worker : Worker) (post : Post) (seat : ℕ) (kept : Kept) (end : WorkerEnd) → worker.seat ≡ seat → IsPostOf bytes number before worker post → RanTo MayWork above front seat post end kept
+  has_ended : (worker : Worker) (post : Post) (seat : ℕ) (kept : Kept) (end : WorkerEnd) → worker.seat ≡ seat → IsPostOf loan number before worker post → RanTo MayWork above front seat post end kept
       → (ends : List End) × (last : Holding) × HasEnded own_setting phase.tasks before front worker kept end ends last
   has_ended worker post seat kept end sits p ran =
       let w = has_worked worker post seat kept.1 ran.seen end p ran.run in (
@@ -71,7 +77,7 @@ module _ (script : Script) (bytes : List ℕ) (number : ℕ) (phase : Phase) (be
         },
       )
 
-  pub have_ended : (seat : ℕ) (workers : List Worker) (posts : List Post) (others : List WorkerEnd) (kept : List Kept) → AllZip (IsPostOf bytes number before) workers posts → AreInRow seat workers → Runs MayWork above front seat posts others kept
+  pub have_ended : (seat : ℕ) (workers : List Worker) (posts : List Post) (others : List WorkerEnd) (kept : List Kept) → AllZip (IsPostOf loan number before) workers posts → AreInRow seat workers → Runs MayWork above front seat posts others kept
       → (ends : List (List End)) × (lasts : List Holding) × HaveEnded own_setting phase.tasks before front workers kept others ends lasts
   have_ended seat [] [] [] [] posts row runs = ([], [], tt)
   have_ended seat [] [] [] (k ∷ kept) posts row runs = absurd runs

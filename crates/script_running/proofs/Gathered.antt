@@ -8,7 +8,7 @@ use Rattle.list_core.proofs.Lists.{cons_same}
 use Rattle.list_core.proofs.Membership.{contains_first, contains_later, contains_place, member_cases, no_member, place_of_member}
 use Rattle.script_workers.specs.Hands.{gateway_count, gateway_of, hands_of, hands_of_task}
 use Rattle.script_workers.specs.Staff.{AreSeated, IsStaff, IsWorkerOf}
-use Rattle.script_workers.specs.Whose.{IsFor, IsTaskOf, asks, ships, syncs}
+use Rattle.script_workers.specs.Whose.{IsFor, IsTaskOf, asks, cleans, compacts, ships, syncs}
 use Rattle.script_workers.specs.declared.hand.Hand.{Hand}
 use Rattle.script_workers.specs.declared.hand.Hand.TheVariants as hands
 use Rattle.script_workers.specs.declared.phase.Phase.{Phase}
@@ -183,6 +183,8 @@ all_fors : (gateways place : ℕ) (w : Work) → Fors gateways place w (hands_of
 unfolding hands_of_task
 all_fors gateways place (works.Upload ulid stop) = (ships ulid stop refl refl, tt)
 all_fors gateways place (works.Sync gateway) = (syncs gateway refl refl, tt)
+all_fors gateways place (works.Compact stop) = (compacts stop refl refl, tt)
+all_fors gateways place (works.Clean stop) = (cleans stop refl refl, tt)
 all_fors gateways place (works.Query low high selector) = asked_fors gateways place 0 gateways low high selector (omega arith)
 
 -- ---- all tasks

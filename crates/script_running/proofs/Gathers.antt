@@ -44,7 +44,7 @@ met_so false ends others met is same = absurd (cc (is))
 -- no slot has a part yet
 none_filled : (tasks gateways : ℕ) (slots : Slots) → AreAllEmpty tasks gateways slots → (gateway : Option ℕ) (place : ℕ) (one : Part) → slot_at slots gateway place ≡ Some (Some one) → ⊥
 none_filled tasks gateways slots empty None place one is =
-    let none = at_place (λ (slot : Option Part). slot ≡ None) slots.uploads.slots.items place (Some one) (empty.uploads).empty is in absurd (cc (none))
+    let none = at_place (λ (slot : Option Part). slot ≡ None) slots.alone.slots.items place (Some one) (empty.alone).empty is in absurd (cc (none))
 none_filled tasks gateways slots empty (Some gateway) place one is = of_column (slice_get slots.gateways.items gateway) refl is
   where
     of_column : (c : Option Column) → slice_get slots.gateways.items gateway ≡ c → slot_in c place ≡ Some (Some one) → ⊥
@@ -69,7 +69,7 @@ slots_there tasks gateways slots empty workers within places = λ k w below. of_
     column (c ∷ cs) (suc gateway) less all = column cs gateway (omega (arith, less)) (All-tail (AreEmpty tasks) c cs all)
 
     of_gateway : (gateway : Option ℕ) → IfSome gateway (λ gateway. gateway < gateways) → (place : ℕ) → place < tasks → HasSlot slots gateway place
-    of_gateway None inside place less = have slots.uploads.slots.items place (omega (arith, less, (empty.uploads).wide))
+    of_gateway None inside place less = have slots.alone.slots.items place (omega (arith, less, (empty.alone).wide))
     of_gateway (Some gateway) inside place less =
         let c = column slots.gateways.items gateway (omega (arith, inside, empty.wide)) empty.columns in
         subst (λ (o : Option Column). IsSome (slot_in o place)) (sym c.1) (have c.0.slots.items place (omega (arith, less, (c.2).wide)))

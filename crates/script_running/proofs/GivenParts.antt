@@ -10,6 +10,8 @@ use Rattle.script_workers.specs.declared.work.Work.{Work}
 use Rattle.script_workers.specs.declared.work.Work.TheVariants as work
 use Rattle.script_running.specs.Given.{HasGiven}
 use Rattle.script_running.specs.Outcomes.{AreAllParts, IsOutcomeOf, IsQueryOutcome, answers_of, first_none, names_of, or_first, why_none}
+use Rattle.script_running.specs.declared.outcome.CleanOutcome.{CleanOutcome}
+use Rattle.script_running.specs.declared.outcome.CompactOutcome.{CompactOutcome}
 use Rattle.script_running.specs.declared.outcome.NoAnswer.{NoAnswer}
 use Rattle.script_running.specs.declared.outcome.Outcome.TheVariants as outcome
 use Rattle.script_running.specs.declared.outcome.QueryOutcome.{QueryOutcome}
@@ -179,35 +181,57 @@ query_whole [] end parts are is (work.Upload ulid stop) (one, only) = absurd (cc
 query_whole (p ∷ own) end parts are is (work.Upload ulid stop) (one, only) = absurd (cc (are, only))
 query_whole [] end parts are is (work.Sync gateway) (one, only) = absurd (cc (are, only))
 query_whole (p ∷ own) end parts are is (work.Sync gateway) (one, only) = absurd (cc (are, only))
+query_whole [] end parts are is (work.Compact stop) (one, only) = absurd (cc (are, only))
+query_whole (p ∷ own) end parts are is (work.Compact stop) (one, only) = absurd (cc (are, only))
+query_whole [] end parts are is (work.Clean stop) (one, only) = absurd (cc (are, only))
+query_whole (p ∷ own) end parts are is (work.Clean stop) (one, only) = absurd (cc (are, only))
 query_whole own end parts are is (work.Query low high selector) all = (own, end, are, is, refl)
 
--- one of them was an upload's
-pub upload_whole : (own : List QueryPart) (end : UploadOutcome) (rest parts : List Part) → parts ≡ map part.Query own ++ part.Upload end ∷ rest → (w : Work) → AreAllParts w parts → IsOutcomeOf w parts (outcome.Upload end)
-upload_whole [] end rest parts are (work.Upload ulid stop) (one, only) = let same : end ≡ one = cc (are, only) in (end, only ∙ ap (λ (x : UploadOutcome). part.Upload x ∷ []) (sym same), refl)
-upload_whole (p ∷ own) end rest parts are (work.Upload ulid stop) (one, only) = absurd (cc (are, only))
-upload_whole [] end rest parts are (work.Sync gateway) (one, only) = absurd (cc (are, only))
-upload_whole (p ∷ own) end rest parts are (work.Sync gateway) (one, only) = absurd (cc (are, only))
-upload_whole own end rest parts are (work.Query low high selector) (others, all) = absurd (no_upload own others end rest (sym are ∙ all))
-  where
-    no_upload : (own others : List QueryPart) (end : UploadOutcome) (rest : List Part) → map part.Query own ++ part.Upload end ∷ rest ≡ map part.Query others → ⊥
-    no_upload [] [] end rest is = cc (is)
-    no_upload [] (q ∷ others) end rest is = cc (is)
-    no_upload (p ∷ own) [] end rest is = cc (is)
-    no_upload (p ∷ own) (q ∷ others) end rest is = no_upload own others end rest (cc (is))
+-- one of them was not a gateway's part of a query
+abbrev IsAlone : Part → Type 0
+IsAlone one = (q : QueryPart) → one ≢ part.Query q
 
--- one of them was a sync's
-pub sync_whole : (own : List QueryPart) (end : SyncOutcome) (rest parts : List Part) → parts ≡ map part.Query own ++ part.Sync end ∷ rest → (w : Work) → AreAllParts w parts → IsOutcomeOf w parts (outcome.Sync end)
-sync_whole [] end rest parts are (work.Sync gateway) (one, only) = let same : end ≡ one = cc (are, only) in (end, only ∙ ap (λ (x : SyncOutcome). part.Sync x ∷ []) (sym same), refl)
-sync_whole (p ∷ own) end rest parts are (work.Sync gateway) (one, only) = absurd (cc (are, only))
-sync_whole [] end rest parts are (work.Upload ulid stop) (one, only) = absurd (cc (are, only))
-sync_whole (p ∷ own) end rest parts are (work.Upload ulid stop) (one, only) = absurd (cc (are, only))
-sync_whole own end rest parts are (work.Query low high selector) (others, all) = absurd (no_sync own others end rest (sym are ∙ all))
-  where
-    no_sync : (own others : List QueryPart) (end : SyncOutcome) (rest : List Part) → map part.Query own ++ part.Sync end ∷ rest ≡ map part.Query others → ⊥
-    no_sync [] [] end rest is = cc (is)
-    no_sync [] (q ∷ others) end rest is = cc (is)
-    no_sync (p ∷ own) [] end rest is = cc (is)
-    no_sync (p ∷ own) (q ∷ others) end rest is = no_sync own others end rest (cc (is))
+not_all : (own others : List QueryPart) (one : Part) (rest : List Part) → IsAlone one → map part.Query own ++ one ∷ rest ≡ map part.Query others → ⊥
+not_all [] [] one rest alone is = absurd (cc (is))
+not_all [] (q ∷ others) one rest alone is = alone q (cc (is))
+not_all (p ∷ own) [] one rest alone is = absurd (cc (is))
+not_all (p ∷ own) (q ∷ others) one rest alone is = not_all own others one rest alone (cc (is))
+
+only_one : (own : List QueryPart) (one other : Part) (rest parts : List Part) → parts ≡ map part.Query own ++ one ∷ rest → parts ≡ other ∷ [] → IsAlone other → one ≡ other
+only_one [] one other rest parts are only alone = cc (are, only)
+only_one (p ∷ own) one other rest parts are only alone = absurd (alone p (cc (are, only)))
+
+-- it was an upload's
+upload_whole : (own : List QueryPart) (end : UploadOutcome) (rest parts : List Part) → parts ≡ map part.Query own ++ part.Upload end ∷ rest → (w : Work) → AreAllParts w parts → IsOutcomeOf w parts (outcome.Upload end)
+upload_whole own end rest parts are (work.Upload ulid stop) (one, only) = let same = only_one own (part.Upload end) (part.Upload one) rest parts are only (λ q is. absurd (cc (is))) in let inner : end ≡ one = cc (same) in (one, only, ap outcome.Upload inner)
+upload_whole own end rest parts are (work.Sync gateway) (one, only) = let same = only_one own (part.Upload end) (part.Sync one) rest parts are only (λ q is. absurd (cc (is))) in absurd (cc (same))
+upload_whole own end rest parts are (work.Compact stop) (one, only) = let same = only_one own (part.Upload end) (part.Compact one) rest parts are only (λ q is. absurd (cc (is))) in absurd (cc (same))
+upload_whole own end rest parts are (work.Clean stop) (one, only) = let same = only_one own (part.Upload end) (part.Clean one) rest parts are only (λ q is. absurd (cc (is))) in absurd (cc (same))
+upload_whole own end rest parts are (work.Query low high selector) (others, all) = absurd (not_all own others (part.Upload end) rest (λ q is. absurd (cc (is))) (sym are ∙ all))
+
+-- it was a sync's
+sync_whole : (own : List QueryPart) (end : SyncOutcome) (rest parts : List Part) → parts ≡ map part.Query own ++ part.Sync end ∷ rest → (w : Work) → AreAllParts w parts → IsOutcomeOf w parts (outcome.Sync end)
+sync_whole own end rest parts are (work.Upload ulid stop) (one, only) = let same = only_one own (part.Sync end) (part.Upload one) rest parts are only (λ q is. absurd (cc (is))) in absurd (cc (same))
+sync_whole own end rest parts are (work.Sync gateway) (one, only) = let same = only_one own (part.Sync end) (part.Sync one) rest parts are only (λ q is. absurd (cc (is))) in let inner : end ≡ one = cc (same) in (one, only, ap outcome.Sync inner)
+sync_whole own end rest parts are (work.Compact stop) (one, only) = let same = only_one own (part.Sync end) (part.Compact one) rest parts are only (λ q is. absurd (cc (is))) in absurd (cc (same))
+sync_whole own end rest parts are (work.Clean stop) (one, only) = let same = only_one own (part.Sync end) (part.Clean one) rest parts are only (λ q is. absurd (cc (is))) in absurd (cc (same))
+sync_whole own end rest parts are (work.Query low high selector) (others, all) = absurd (not_all own others (part.Sync end) rest (λ q is. absurd (cc (is))) (sym are ∙ all))
+
+-- it was a compaction's
+compact_whole : (own : List QueryPart) (end : CompactOutcome) (rest parts : List Part) → parts ≡ map part.Query own ++ part.Compact end ∷ rest → (w : Work) → AreAllParts w parts → IsOutcomeOf w parts (outcome.Compact end)
+compact_whole own end rest parts are (work.Upload ulid stop) (one, only) = let same = only_one own (part.Compact end) (part.Upload one) rest parts are only (λ q is. absurd (cc (is))) in absurd (cc (same))
+compact_whole own end rest parts are (work.Sync gateway) (one, only) = let same = only_one own (part.Compact end) (part.Sync one) rest parts are only (λ q is. absurd (cc (is))) in absurd (cc (same))
+compact_whole own end rest parts are (work.Compact stop) (one, only) = let same = only_one own (part.Compact end) (part.Compact one) rest parts are only (λ q is. absurd (cc (is))) in let inner : end ≡ one = cc (same) in (one, only, ap outcome.Compact inner)
+compact_whole own end rest parts are (work.Clean stop) (one, only) = let same = only_one own (part.Compact end) (part.Clean one) rest parts are only (λ q is. absurd (cc (is))) in absurd (cc (same))
+compact_whole own end rest parts are (work.Query low high selector) (others, all) = absurd (not_all own others (part.Compact end) rest (λ q is. absurd (cc (is))) (sym are ∙ all))
+
+-- it was a cleaning's
+clean_whole : (own : List QueryPart) (end : CleanOutcome) (rest parts : List Part) → parts ≡ map part.Query own ++ part.Clean end ∷ rest → (w : Work) → AreAllParts w parts → IsOutcomeOf w parts (outcome.Clean end)
+clean_whole own end rest parts are (work.Upload ulid stop) (one, only) = let same = only_one own (part.Clean end) (part.Upload one) rest parts are only (λ q is. absurd (cc (is))) in absurd (cc (same))
+clean_whole own end rest parts are (work.Sync gateway) (one, only) = let same = only_one own (part.Clean end) (part.Sync one) rest parts are only (λ q is. absurd (cc (is))) in absurd (cc (same))
+clean_whole own end rest parts are (work.Compact stop) (one, only) = let same = only_one own (part.Clean end) (part.Compact one) rest parts are only (λ q is. absurd (cc (is))) in absurd (cc (same))
+clean_whole own end rest parts are (work.Clean stop) (one, only) = let same = only_one own (part.Clean end) (part.Clean one) rest parts are only (λ q is. absurd (cc (is))) in let inner : end ≡ one = cc (same) in (one, only, ap outcome.Clean inner)
+clean_whole own end rest parts are (work.Query low high selector) (others, all) = absurd (not_all own others (part.Clean end) rest (λ q is. absurd (cc (is))) (sym are ∙ all))
 
 -- the parts of a query so far, and one more
 pub query_more : (own : List QueryPart) (one : QueryPart) (yielded : List Part) → yielded ≡ map part.Query own → yielded ++ part.Query one ∷ [] ≡ map part.Query (own ++ one ∷ [])
@@ -235,3 +259,11 @@ upload_here own end parts yielded x is are so_far turn = upload_whole own end (d
 pub sync_here : (own : List QueryPart) (end : SyncOutcome) (parts yielded : List Part) (x : Part) → x ≡ part.Sync end → yielded ≡ map part.Query own → map (λ (y : Part). y) yielded ≡ take (length yielded) parts → (length yielded < length parts) × (x ≡ get_or parts (length yielded) x)
     → (w : Work) → AreAllParts w parts → IsOutcomeOf w parts (outcome.Sync end)
 sync_here own end parts yielded x is are so_far turn = sync_whole own end (drop (length yielded + 1) parts) parts (next_is own parts yielded x (part.Sync end) is are so_far turn)
+
+pub compact_here : (own : List QueryPart) (end : CompactOutcome) (parts yielded : List Part) (x : Part) → x ≡ part.Compact end → yielded ≡ map part.Query own → map (λ (y : Part). y) yielded ≡ take (length yielded) parts → (length yielded < length parts) × (x ≡ get_or parts (length yielded) x)
+    → (w : Work) → AreAllParts w parts → IsOutcomeOf w parts (outcome.Compact end)
+compact_here own end parts yielded x is are so_far turn = compact_whole own end (drop (length yielded + 1) parts) parts (next_is own parts yielded x (part.Compact end) is are so_far turn)
+
+pub clean_here : (own : List QueryPart) (end : CleanOutcome) (parts yielded : List Part) (x : Part) → x ≡ part.Clean end → yielded ≡ map part.Query own → map (λ (y : Part). y) yielded ≡ take (length yielded) parts → (length yielded < length parts) × (x ≡ get_or parts (length yielded) x)
+    → (w : Work) → AreAllParts w parts → IsOutcomeOf w parts (outcome.Clean end)
+clean_here own end parts yielded x is are so_far turn = clean_whole own end (drop (length yielded + 1) parts) parts (next_is own parts yielded x (part.Clean end) is are so_far turn)

@@ -1,6 +1,10 @@
 pub mod Blocks
 pub mod Planned
+pub mod Shelves
+pub mod Crossing
+pub mod Stopped
 pub mod Uploads
+pub mod Texts
 pub mod Syncs
 pub mod Calls
 pub mod TaskSteps

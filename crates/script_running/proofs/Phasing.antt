@@ -20,7 +20,7 @@ use Rattle.world_turn.specs.declared.view.View.{View as Known}
 use Rattle.phase_runner.specs.Phases.{HasRun, Runs}
 use Rattle.script_workers.specs.Hands.{gateway_count, gateway_of, hands_of, places_from}
 use Rattle.script_workers.specs.Staff.{IsWorkerOf}
-use Rattle.script_workers.specs.Whose.{IsFor, IsTaskOf, asks, ships, syncs}
+use Rattle.script_workers.specs.Whose.{IsFor, IsTaskOf, asks, cleans, compacts, ships, syncs}
 use Rattle.script_workers.specs.declared.hand.Hand.{Hand}
 use Rattle.script_workers.specs.declared.hand.Hand.TheVariants as hands
 use Rattle.script_workers.specs.declared.phase.Phase.{Phase}
@@ -30,12 +30,11 @@ use Rattle.script_workers.specs.declared.worker.Worker.{Worker}
 use Rattle.script_workers.proofs.StaffLaws.{is_staff}
 use Rattle.script_core.proofs.SeatLaws.{are_seated, room, seats_taken}
 use Rattle.script_core.specs.Lawful.{IsLawfulPhase, IsLawfulScript, IsLawfulWork}
-use Rattle.script_core.specs.Reading.{script_of}
 use Rattle.script_core.specs.Workers.{seats_before, workers_after, workers_before, workers_of}
 use Rattle.script_core.specs.declared.script.Script.{Script}
 use Rattle.lifecycle_core.specs.Conducts.{AreDone}
 use Rattle.lifecycle_core.specs.Holdings.{Holding, Holdings}
-use Rattle.lifecycle_core.specs.Setting.{Setting, setting_of}
+use Rattle.lifecycle_core.specs.Setting.{Setting}
 use Rattle.lifecycle_core.specs.Tasks.{End}
 use Rattle.lifecycle_core.specs.Ways.{BeginsPhase}
 use Rattle.lifecycle_core.proofs.phases.Fronts.{AreApart as Apart, apart_of, script_is_cut_well}
@@ -45,10 +44,13 @@ use Rattle.script_running.specs.Ended.{AreInRow, HaveEnded, IsPostOf}
 use Rattle.script_running.specs.Gathering.{HaveOwnGateways, Gathers}
 use Rattle.script_running.specs.Going.{HasCome, HasGone, HasSeenFull, HasStopped, IfFull, IsClockSet, Met}
 use Rattle.script_running.specs.Outcomes.{PhasesCame, TasksCame}
-use Rattle.script_running.specs.Workers.{AreUploads, IsAtWork, MayWork, Post, is_upload}
+use Rattle.script_running.specs.Lending.{Loan}
+use Rattle.script_running.specs.Shelves.{setting_by}
+use Rattle.script_running.specs.Workers.{IsAtWork, MayWork, Post}
 use Rattle.script_running.specs.declared.came.Broken.{Broken}
 use Rattle.script_running.specs.declared.came.Broken.TheVariants as broken
 use Rattle.script_running.specs.declared.outcome.Outcome.{Outcome}
+use Rattle.script_running.specs.declared.shelf.ShelfBlock.{ShelfBlock}
 use Rattle.script_running.specs.declared.sight.Sight.{Sight}
 use Rattle.script_running.specs.declared.worker.WorkerEnd.{WorkerEnd}
 use Rattle.script_running.proofs.Ending.{have_ended, was_begun, were_kept}
@@ -139,6 +141,8 @@ module _ (script : Script) (lawful : IsLawfulScript script) (place : ℕ) (phase
         where
           by_work : (w : Work) → IsFor gateways h spot w → IsLawfulWork script.gateways script.blocks (length script.selectors) w → g < length script.gateways
           by_work w (ships ulid stop one whose) may = absurd (cc (whose, is))
+          by_work w (compacts stop one whose) may = absurd (cc (whose, is))
+          by_work w (cleans stop one whose) may = absurd (cc (whose, is))
           by_work w (syncs gateway one whose) may =
               let same : gateway ≡ g = cc (whose, is) in
               let less : gateway < length script.gateways = subst (IsLawfulWork script.gateways script.blocks (length script.selectors)) one may in
@@ -151,9 +155,9 @@ module _ (script : Script) (lawful : IsLawfulScript script) (place : ℕ) (phase
 
 -- ---- the phases behind a place
 
-module _ (script : Script) (place : ℕ) (phase : Phase) (at : slice_get script.phases place ≡ Some phase) where
+module _ (script : Script) (shelf : List ShelfBlock) (place : ℕ) (phase : Phase) (at : slice_get script.phases place ≡ Some phase) where
   abbrev own : Setting
-  own = setting_of script
+  own = setting_by script shelf
 
   abbrev front_phases : List Phase
   front_phases = take place script.phases
@@ -231,13 +235,13 @@ module _ (script : Script) (place : ℕ) (phase : Phase) (at : slice_get script.
           ));
         }
 
-    module _ (bytes : List ℕ) (lawful : IsLawfulScript script) (spelled : script_of bytes ≡ Ok script) (splits : ℕ) (splits_are : splits ≡ seats_before script place) (workers : List Worker) (workers_are : workers ≡ workers_of script place) (posts : List Post) (sent : AllZip (IsPostOf bytes place g.held) workers posts)
+    module _ (loan : Loan) (lent : loan.script ≡ script) (its : loan.shelf ≡ shelf) (lawful : IsLawfulScript script) (splits : ℕ) (splits_are : splits ≡ seats_before script place) (workers : List Worker) (workers_are : workers ≡ workers_of script place) (posts : List Post) (sent : AllZip (IsPostOf loan place g.held) workers posts)
         (after : Pass) (count : ℕ) (kept : List Kept) (run : HasRun set after count kept) (others : List WorkerEnd) (runs : Runs MayWork (view_of set).known (view_of after).front (splits + 1) posts others kept) where
       abbrev one : Passed
       one = record { clock = entry_of (view_of root).seat (Clock phase.moment) seen; kept = kept }
 
       ended : (ends : List (List End)) × (lasts : List Holding) × HaveEnded own phase.tasks g.held (view_of after).front workers kept others ends lasts
-      ended = have_ended script bytes place phase g.held spelled at (view_of set).known (view_of after).front (splits + 1) workers posts others kept sent (subst (AreInRow (splits + 1)) (sym workers_are) (row script lawful place phase at splits splits_are)) runs
+      ended = have_ended script shelf loan lent its place phase g.held at (view_of set).known (view_of after).front (splits + 1) workers posts others kept sent (subst (AreInRow (splits + 1)) (sym workers_are) (row script lawful place phase at splits splits_are)) runs
 
       -- by the number of the finished phases
       have : HaveEnded own phase.tasks g.held (view_of after).front (workers_of script (length front_phases)) kept others ended.0 ended.1
@@ -299,7 +303,7 @@ module _ (script : Script) (place : ℕ) (phase : Phase) (at : slice_get script.
 
 -- ---- the jobs
 
-module _ (script : Script) (bytes : List ℕ) (lawful : IsLawfulScript script) (spelled : script_of bytes ≡ Ok script) (place : ℕ) (phase : Phase) (at : slice_get script.phases place ≡ Some phase) where
+module _ (script : Script) (lawful : IsLawfulScript script) (place : ℕ) (phase : Phase) (at : slice_get script.phases place ≡ Some phase) where
   seats_of : (w : Worker) → Contains (workers_of script place) w → (h : Hand) × (n : ℕ) × Contains (hands_of (gateway_count script.gateways) phase.tasks) h × IsWorkerOf (gateway_count script.gateways) phase.tasks h n w
   seats_of w among =
       let s = are_seated script place phase lawful at in
@@ -315,23 +319,12 @@ module _ (script : Script) (bytes : List ℕ) (lawful : IsLawfulScript script) (
       let s = seats_of w among in
       All-weaker (IsTaskOf (gateway_count script.gateways) phase.tasks s.0) (λ p. p < length phase.tasks) (λ p t. slice_get_within phase.tasks p t.task t.is) w.tasks ((s.3).places).only
 
-  -- a worker of no gateway has uploads
-  ships_alone : (w : Worker) → Contains (workers_of script place) w → w.gateway ≡ None → AreUploads phase.tasks w.tasks
-  ships_alone w among none =
-      let s = seats_of w among in
-      All-weaker (IsTaskOf (gateway_count script.gateways) phase.tasks s.0) (λ p. IfSome (slice_get phase.tasks p) (λ (t : Task). is_upload t.work ≡ true))
-      (λ p t. subst (λ (o : Option Task). IfSome o (λ (x : Task). is_upload x.work ≡ true)) (sym t.is) (an_upload s.0 p (t.task).work (sym (s.3).gateway ∙ none) t.whose)) w.tasks ((s.3).places).only
-    where
-      an_upload : (h : Hand) (p : ℕ) (own : Work) → gateway_of h ≡ None → IsFor (gateway_count script.gateways) h p own → is_upload own ≡ true
-      an_upload h p own none (ships ulid stop is whose) = ap is_upload is
-      an_upload h p own none (syncs gateway is whose) = let some : gateway_of h ≡ Some gateway = ap gateway_of whose in absurd (cc (some, none))
-      an_upload h p own none (asks low high selector gateway is whose less) = let some : gateway_of h ≡ Some gateway = ap gateway_of whose in absurd (cc (some, none))
-
   pub within_tasks : (workers : List Worker) (tasks : List Task) → workers ≡ workers_of script place → tasks ≡ phase.tasks → All (λ (w : Worker). All (λ p. p < length tasks) w.tasks) workers
   within_tasks workers tasks are same = subst (λ (ts : List Task). All (λ (w : Worker). All (λ p. p < length ts) w.tasks) workers) (sym same) (each_worker (λ (w : Worker). All (λ p. p < length phase.tasks) w.tasks) has_tasks workers are)
 
-  pub at_work : (workers : List Worker) → workers ≡ workers_of script place → All (IsAtWork bytes place) workers
-  at_work workers are = each_worker (IsAtWork bytes place) (λ w among. record { script = script; spelled = spelled; lawful = lawful; phase = phase; at = at; within = has_tasks w among; ships = ships_alone w among }) workers are
+  pub at_work : (workers : List Worker) (loan : Loan) → loan.script ≡ script → workers ≡ workers_of script place → All (λ (w : Worker). IsAtWork loan.script place w phase.tasks) workers
+  at_work workers loan lent are = subst (λ (s : Script). All (λ (w : Worker). IsAtWork s place w phase.tasks) workers) (sym lent)
+      (each_worker (λ (w : Worker). IsAtWork script place w phase.tasks) (λ w among. record { lawful = lawful; phase = phase; at = at; own = refl; within = has_tasks w among }) workers are)
 
   pub within_gateways : (workers : List Worker) (count : ℕ) → workers ≡ workers_of script place → count ≡ length script.gateways → All (λ (w : Worker). IfSome w.gateway (λ gateway. gateway < count)) workers
   within_gateways workers count are same = each_worker (λ (w : Worker). IfSome w.gateway (λ gateway. gateway < count))
@@ -340,7 +333,7 @@ module _ (script : Script) (bytes : List ℕ) (lawful : IsLawfulScript script) (
       omega (arith, less, same))) workers are
     where
       named : (h : Hand) (g : ℕ) → gateway_of h ≡ Some g → h ≡ hands.Gateway g
-      named (hands.Upload p) g is = absurd (cc (is))
+      named (hands.Alone p) g is = absurd (cc (is))
       named (hands.Gateway other) g is = ap hands.Gateway (cc (is))
 
 runs_long : (above : ℕ) (front : List Entry) (seat : ℕ) (posts : List Post) (others : List WorkerEnd) (kept : List Kept) → Runs {J = Post} {E = WorkerEnd} MayWork above front seat posts others kept → length posts ≡ length others
@@ -351,9 +344,9 @@ runs_long above front seat (p ∷ posts) [] kept runs = absurd runs
 runs_long above front seat (p ∷ posts) (o ∷ others) [] runs = absurd runs
 runs_long above front seat (p ∷ posts) (o ∷ others) (k ∷ kept) runs = ap suc (runs_long above front (seat + 1) posts others kept runs.1)
 
-pub ends_long : (bytes : List ℕ) (number : ℕ) (held : Holdings) (workers : List Worker) (above : ℕ) (front : List Entry) (seat : ℕ) (posts : List Post) (others : List WorkerEnd) (kept : List Kept) → AllZip (IsPostOf bytes number held) workers posts → Runs {J = Post} {E = WorkerEnd} MayWork above front seat posts others kept
+pub ends_long : (loan : Loan) (number : ℕ) (held : Holdings) (workers : List Worker) (above : ℕ) (front : List Entry) (seat : ℕ) (posts : List Post) (others : List WorkerEnd) (kept : List Kept) → AllZip (IsPostOf loan number held) workers posts → Runs {J = Post} {E = WorkerEnd} MayWork above front seat posts others kept
     → length workers ≡ length others
-ends_long bytes number held workers above front seat posts others kept sent runs = as_many (IsPostOf bytes number held) workers posts sent ∙ runs_long above front seat posts others kept runs
+ends_long loan number held workers above front seat posts others kept sent runs = as_many (IsPostOf loan number held) workers posts sent ∙ runs_long above front seat posts others kept runs
 
 pub workers_here : (script : Script) (place splits : ℕ) (staff workers : List Worker) → workers ≡ staff → staff ≡ workers_after script splits (slice_get script.phases place) → splits ≡ seats_before script place → workers ≡ workers_of script place
 workers_here script place splits staff workers same are is = same ∙ are ∙ ap (λ (n : ℕ). workers_after script n (slice_get script.phases place)) is

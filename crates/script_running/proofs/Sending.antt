@@ -10,6 +10,7 @@ use Rattle.lifecycle_core.specs.Holdings.{Holdings, holding_of, nothing_held}
 use Rattle.script_running.specs.Beside.{AreSeen}
 use Rattle.script_running.specs.Ended.{IsPostOf}
 use Rattle.script_running.specs.Gathering.{HaveOwnGateways, AreSeenBeside, IsTaken}
+use Rattle.script_running.specs.Lending.{Loan}
 use Rattle.script_running.specs.Sights.{Sees, no_sight}
 use Rattle.script_running.specs.Workers.{Post}
 use Rattle.script_running.specs.declared.sight.Sight.{Sight}
@@ -24,32 +25,32 @@ apart_before (x ∷ workers) zero w gateway apart at is = subst (All (NotOf gate
 apart_before (x ∷ workers) (suc k) w gateway apart at is =
     All-cons (NotOf gateway) x (take k workers) (λ same. All-contains (NotOf gateway) workers w (apart.0 gateway same) (contains_place workers k w at) is) (apart_before workers k w gateway apart.1 at is)
 
-zip_more : {A B : Type 0} (R : A → B → Type 0) (xs : List A) (ys : List B) (x : A) (y : B) → AllZip R xs ys → R x y → AllZip R (xs ++ x ∷ []) (ys ++ y ∷ [])
+pub zip_more : {A B : Type 0} (R : A → B → Type 0) (xs : List A) (ys : List B) (x : A) (y : B) → AllZip R xs ys → R x y → AllZip R (xs ++ x ∷ []) (ys ++ y ∷ [])
 zip_more R [] [] x y all is = (is, tt)
 zip_more R [] (b ∷ ys) x y all is = absurd all
 zip_more R (a ∷ xs) [] x y all is = absurd all
 zip_more R (a ∷ xs) (b ∷ ys) x y all is = (all.0, zip_more R xs ys x y all.1 is)
 
 -- so many workers were sent, and what the other gateways see by is there
-pub record AreSent (bytes : List ℕ) (number : ℕ) (workers : List Worker) (before sights : List Sight) (posts : List Post) : Type 0 where
-  pub sent : (held : Holdings) → AreSeen held before → AllZip (IsPostOf bytes number held) workers posts
+pub record AreSent (loan : Loan) (number : ℕ) (workers : List Worker) (before sights : List Sight) (posts : List Post) : Type 0 where
+  pub sent : (held : Holdings) → AreSeen held before → AllZip (IsPostOf loan number held) workers posts
   pub left : (place : ℕ) (sight : Sight) → slice_get sights place ≡ Some sight → All (NotOf place) workers → slice_get before place ≡ Some sight
 
-pub none_sent : (bytes : List ℕ) (number : ℕ) (workers : List Worker) (sights : List Sight) (posts : List Post) → posts ≡ [] → AreSent bytes number (take 0 workers) sights sights posts
-none_sent bytes number workers sights posts none = subst (λ (ps : List Post). AreSent bytes number (take 0 workers) sights sights ps) (sym none)
-    (subst (λ (ws : List Worker). AreSent bytes number ws sights sights []) (sym (take_none workers)) (record { sent = λ held seen. tt; left = λ place sight is none. is }))
+pub none_sent : (loan : Loan) (number : ℕ) (workers : List Worker) (sights : List Sight) (posts : List Post) → posts ≡ [] → AreSent loan number (take 0 workers) sights sights posts
+none_sent loan number workers sights posts none = subst (λ (ps : List Post). AreSent loan number (take 0 workers) sights sights ps) (sym none)
+    (subst (λ (ws : List Worker). AreSent loan number ws sights sights []) (sym (take_none workers)) (record { sent = λ held seen. tt; left = λ place sight is none. is }))
 
 sees_own : (held : Holdings) (before : List Sight) (gateway : Option ℕ) (own : Sight) → AreSeen held before → (gateway ≡ None → own ≡ no_sight) → ((place : ℕ) → gateway ≡ Some place → slice_get before place ≡ Some own) → Sees (holding_of held gateway) own
 sees_own held before None own seen none named = subst (Sees nothing_held) (sym (none refl)) (record { view_is = refl; cache_is = refl })
 sees_own held before (Some place) own seen none named = seen place own (named place refl)
 
-pub one_sent : (bytes : List ℕ) (number k : ℕ) (workers : List Worker) (w : Worker) (before sights next : List Sight) (posts more : List Post) (post : Post) → HaveOwnGateways workers → slice_get workers k ≡ Some w → AreSent bytes number (take k workers) before sights posts
-    → post.text ≡ bytes → post.phase ≡ number → post.worker ≡ w → IsTaken w.gateway post.sight sights next → more ≡ posts ++ post ∷ [] → AreSent bytes number (take (k + 1) workers) before next more
-one_sent bytes number k workers w before sights next posts more post apart at s text phase worker taken is =
-    subst (λ (ws : List Worker). AreSent bytes number ws before next more) (sym (take_place workers k w at))
-    (subst (λ (ps : List Post). AreSent bytes number (take k workers ++ w ∷ []) before next ps) (sym is) (record {
-      sent = λ held seen. zip_more (IsPostOf bytes number held) (take k workers) posts w post (s.sent held seen) (record {
-        text_is = text;
+pub one_sent : (loan : Loan) (number k : ℕ) (workers : List Worker) (w : Worker) (before sights next : List Sight) (posts more : List Post) (post : Post) → HaveOwnGateways workers → slice_get workers k ≡ Some w → AreSent loan number (take k workers) before sights posts
+    → post.loan ≡ loan → post.phase ≡ number → post.worker ≡ w → IsTaken w.gateway post.sight sights next → more ≡ posts ++ post ∷ [] → AreSent loan number (take (k + 1) workers) before next more
+one_sent loan number k workers w before sights next posts more post apart at s its phase worker taken is =
+    subst (λ (ws : List Worker). AreSent loan number ws before next more) (sym (take_place workers k w at))
+    (subst (λ (ps : List Post). AreSent loan number (take k workers ++ w ∷ []) before next ps) (sym is) (record {
+      sent = λ held seen. zip_more (IsPostOf loan number held) (take k workers) posts w post (s.sent held seen) (record {
+        loan_is = its;
         phase_is = phase;
         worker_is = worker;
         sees = sees_own held before w.gateway post.sight seen taken.none (λ place named. s.left place post.sight (taken.named place named) (apart_before workers k w place apart at named));
@@ -59,5 +60,5 @@ one_sent bytes number k workers w before sights next posts more post apart at s 
     }))
 
 -- gateways without a worker have the sights of what they hold
-pub seen_beside : (bytes : List ℕ) (number : ℕ) (workers : List Worker) (before sights : List Sight) (posts : List Post) → AreSent bytes number workers before sights posts → (held : Holdings) → AreSeen held before → AreSeenBeside held workers sights
-seen_beside bytes number workers before sights posts s held seen place sight is none = seen place sight (s.left place sight is none)
+pub seen_beside : (loan : Loan) (number : ℕ) (workers : List Worker) (before sights : List Sight) (posts : List Post) → AreSent loan number workers before sights posts → (held : Holdings) → AreSeen held before → AreSeenBeside held workers sights
+seen_beside loan number workers before sights posts s held seen place sight is none = seen place sight (s.left place sight is none)

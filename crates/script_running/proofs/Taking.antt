@@ -109,7 +109,7 @@ lays_one p places x parts old new within l = record {
 -- ---- all slots
 
 -- those of no gateway are others than those of a gateway
-pub laid_upload : (places : List ℕ) (parts : List Part) (old new : Slots) → AreLaid places parts old.uploads.slots.items new.uploads.slots.items → new.gateways ≡ old.gateways → IsLaid None places parts old new
+pub laid_upload : (places : List ℕ) (parts : List Part) (old new : Slots) → AreLaid places parts old.alone.slots.items new.alone.slots.items → new.gateways ≡ old.gateways → IsLaid None places parts old new
 laid_upload places parts old new l same = record {
   same = record { wide = ap (λ v. length v.items) same; each = each };
   origin = origin;
@@ -118,7 +118,7 @@ laid_upload places parts old new l same = record {
 }
   where
     each : (gateway : Option ℕ) (place : ℕ) → HasSlot old gateway place → HasSlot new gateway place
-    each None place has = slot_kept old.uploads.slots.items new.uploads.slots.items place l.wide has
+    each None place has = slot_kept old.alone.slots.items new.alone.slots.items place l.wide has
     each (Some gateway) place has = subst (λ v. IsSome (slot_in (slice_get v.items gateway) place)) (sym same) has
 
     origin : (other : Option ℕ) (place : ℕ) (one : Part) → slot_at new other place ≡ Some (Some one) → (slot_at old other place ≡ Some (Some one)) ⊎ ((other ≡ None) × Contains (zip places parts) (place, one))
@@ -130,7 +130,7 @@ laid_upload places parts old new l same = record {
     kept (Some gateway) place filled = subst (λ v. (one : Part) × (slot_in (slice_get v.items gateway) place ≡ Some (Some one))) (sym same) filled
 
 -- one gateway's are others than those of another
-pub laid_gateway : (gateway : ℕ) (places : List ℕ) (parts : List Part) (old new : Slots) (before after : Column) → new.uploads ≡ old.uploads → new.gateways.items ≡ set old.gateways.items gateway after → slice_get old.gateways.items gateway ≡ Some before
+pub laid_gateway : (gateway : ℕ) (places : List ℕ) (parts : List Part) (old new : Slots) (before after : Column) → new.alone ≡ old.alone → new.gateways.items ≡ set old.gateways.items gateway after → slice_get old.gateways.items gateway ≡ Some before
     → AreLaid places parts before.slots.items after.slots.items → IsLaid (Some gateway) places parts old new
 laid_gateway gateway places parts old new before after uploads is at l = record {
   same = record { wide = ap length is ∙ length-set old.gateways.items gateway after; each = each };
@@ -184,10 +184,10 @@ laid_gateway gateway places parts old new before after uploads is at l = record 
     ]
 
 -- the same of a worker whose gateway is known
-pub laid_of_none : (own : Option ℕ) (places : List ℕ) (parts : List Part) (old new : Slots) → own ≡ None → AreLaid places parts old.uploads.slots.items new.uploads.slots.items → new.gateways ≡ old.gateways → IsLaid own places parts old new
+pub laid_of_none : (own : Option ℕ) (places : List ℕ) (parts : List Part) (old new : Slots) → own ≡ None → AreLaid places parts old.alone.slots.items new.alone.slots.items → new.gateways ≡ old.gateways → IsLaid own places parts old new
 laid_of_none own places parts old new is l same = subst (λ (o : Option ℕ). IsLaid o places parts old new) (sym is) (laid_upload places parts old new l same)
 
-pub laid_of_gateway : (own : Option ℕ) (gateway : ℕ) (places : List ℕ) (parts : List Part) (old new : Slots) (before after : Column) → own ≡ Some gateway → new.uploads ≡ old.uploads → new.gateways.items ≡ set old.gateways.items gateway after
+pub laid_of_gateway : (own : Option ℕ) (gateway : ℕ) (places : List ℕ) (parts : List Part) (old new : Slots) (before after : Column) → own ≡ Some gateway → new.alone ≡ old.alone → new.gateways.items ≡ set old.gateways.items gateway after
     → gateway < length old.gateways.items → before ≡ get_or old.gateways.items gateway before → AreLaid places parts before.slots.items after.slots.items → IsLaid own places parts old new
 laid_of_gateway own gateway places parts old new before after is uploads put within value l =
     subst (λ (o : Option ℕ). IsLaid o places parts old new) (sym is) (laid_gateway gateway places parts old new before after uploads put (found old.gateways.items gateway gateway before refl within value) l)

@@ -17,7 +17,10 @@ use Rattle.block_ranges.specs.Reads.{Cache, Query as Question}
 use Rattle.index_cache.specs.declared.cache.IndexCache.{IndexCache}
 use Rattle.series_calls.specs.SeriesCalls.{CallEnd, SeriesRun, asking, series_call}
 use Rattle.world_core.proofs.PlanLaws.{breaks_off}
+use Rattle.cleaner.specs.Cleanings.{cleaning}
+use Rattle.compactor.specs.Compactions.{compaction}
 use Rattle.moment_core.specs.declared.partition.Partition.{Partition}
+use Rattle.moment_core.specs.declared.rules.Rules.{Rules}
 use Rattle.querier.specs.Asks.{asks_of}
 use Rattle.querier.specs.declared.ask.Ask.{Ask}
 use Rattle.script_core.specs.Lawful.{IsLawfulPartition, IsLawfulScript}
@@ -28,7 +31,7 @@ use Rattle.lifecycle_core.specs.Conducts.{Who}
 use Rattle.lifecycle_core.specs.Held.{declared}
 use Rattle.lifecycle_core.specs.Holdings.{Holding, Use}
 use Rattle.lifecycle_core.specs.Setting.{Setting}
-use Rattle.lifecycle_core.specs.Tasks.{End, PartTask, QueryTask, ShipTask, TaskRun, answered, ask_to, called_with, not_asked, question_of, sync_rules, synced, synced_with, without_view}
+use Rattle.lifecycle_core.specs.Tasks.{End, PartTask, QueryTask, ShipTask, StoppedRun, TaskRun, answered, ask_to, called_with, cleaned, compacted, not_asked, question_of, sync_rules, synced, synced_with, without_view}
 use Rattle.lifecycle_core.proofs.phases.GatewayParts.{ask_partition}
 use Rattle.script_running.specs.Drives.{Came}
 use Rattle.script_running.proofs.Calls.{Called}
@@ -78,6 +81,22 @@ module _ (setting : Setting) (who : Who) (place : ℕ) (held : Holding) (seat : 
       let runs : (made : List Entry) (e : Option End) → ShipTask setting block stop made e → TaskRun setting who place work held made e held =
       λ made e run. subst (λ (x : Work). TaskRun setting who place x held made e held) (sym w) ((block, is, run), refl) in
       by_run work (ShipTask setting block stop) (λ e. e) ran.0 held sight ran.1 (λ made e run. (held, runs made e run)) (runs (ran.1).made ran.0 (ran.1).run) (when_done came (Sees held sight) sees)
+      (subst (λ (x : Work). CameBy x ran.0 came) (sym w) ran.2)
+
+  pub compact_done : (work : Work) (sight : Sight) (stop : Option ℕ) (rules : Rules) → work ≡ works.Compact stop → rules ≡ setting.script.rules
+      → (end : Option End) × Adds (StoppedRun (compaction rules) compacted stop) seat old new end came × CameBy (works.Compact stop) end came → Sees held sight → HasDone setting who place work held seat old new sight came
+  compact_done work sight stop rules w same ran sees =
+      let runs : (made : List Entry) (e : Option End) → StoppedRun (compaction rules) compacted stop made e → TaskRun setting who place work held made e held =
+      λ made e run. subst (λ (x : Work). TaskRun setting who place x held made e held) (sym w) (subst (λ (r : Rules). StoppedRun (compaction r) compacted stop made e) same run, refl) in
+      by_run work (StoppedRun (compaction rules) compacted stop) (λ e. e) ran.0 held sight ran.1 (λ made e run. (held, runs made e run)) (runs (ran.1).made ran.0 (ran.1).run) (when_done came (Sees held sight) sees)
+      (subst (λ (x : Work). CameBy x ran.0 came) (sym w) ran.2)
+
+  pub clean_done : (work : Work) (sight : Sight) (stop : Option ℕ) (rules : Rules) → work ≡ works.Clean stop → rules ≡ setting.script.rules
+      → (end : Option End) × Adds (StoppedRun (cleaning rules) cleaned stop) seat old new end came × CameBy (works.Clean stop) end came → Sees held sight → HasDone setting who place work held seat old new sight came
+  clean_done work sight stop rules w same ran sees =
+      let runs : (made : List Entry) (e : Option End) → StoppedRun (cleaning rules) cleaned stop made e → TaskRun setting who place work held made e held =
+      λ made e run. subst (λ (x : Work). TaskRun setting who place x held made e held) (sym w) (subst (λ (r : Rules). StoppedRun (cleaning r) cleaned stop made e) same run, refl) in
+      by_run work (StoppedRun (cleaning rules) cleaned stop) (λ e. e) ran.0 held sight ran.1 (λ made e run. (held, runs made e run)) (runs (ran.1).made ran.0 (ran.1).run) (when_done came (Sees held sight) sees)
       (subst (λ (x : Work). CameBy x ran.0 came) (sym w) ran.2)
 
   sight_told : (made : List Entry) (end : Option SyncEnd) (before : Sight) → Sees held before → Sees (synced_with held made end) (record { view = view_by before.view end; cache = before.cache })
@@ -266,6 +285,10 @@ pub found_by : (setting : Setting) (whose : Option ℕ) (gateway : ℕ) (low low
 found_by setting whose gateway low low' high high' asks members own is l h are same found =
     subst (λ (o : Option ℕ). own ≡ ask_to setting o low' high') (sym is) (found_ask setting gateway low low' high high' asks members own l h are same found)
 
+-- what is asked, by the partitions that are lent
+pub asks_among : (asks : List Ask) (low high : ℤ) (lent own : List Partition) → asks ≡ asks_of low high lent → lent ≡ own → asks ≡ asks_of low high own
+asks_among asks low high lent own are same = subst (λ (ps : List Partition). asks ≡ asks_of low high ps) same are
+
 -- what is asked for numbers that were passed on
 pub asked_where : (setting : Setting) (gateway : Option ℕ) (low low' high high' : ℤ) (asked own : Option Ask) → low ≡ low' → high ≡ high' → asked ≡ ask_to setting gateway low high → asked ≡ own → ask_to setting gateway low' high' ≡ own
 asked_where setting gateway low low' high high' asked own l h is so =
@@ -282,6 +305,12 @@ pub asked_so : (held : Holding) (matchers : List Matcher) (replicas : List (List
     → HasAsked held (asking matchers replicas low high) seat old new sight came → HasAsked held (asking matchers replicas low' high') seat old new sight came
 asked_so held matchers replicas low low' high high' seat old new sight came l h asked =
     subst (λ (x : ℤ). HasAsked held (asking matchers replicas x high') seat old new sight came) l (subst (λ (y : ℤ). HasAsked held (asking matchers replicas low y) seat old new sight came) h asked)
+
+-- a selector and rules that are the same
+pub asked_again : (held : Holding) (matchers own : List Matcher) (rules its : Rules) (low high : ℤ) (seat : ℕ) (old new : List Entry) (sight : Sight) (came : Came) → matchers ≡ own → rules ≡ its
+    → HasAsked held (asking matchers rules.replicas low high) seat old new sight came → HasAsked held (asking own its.replicas low high) seat old new sight came
+asked_again held matchers own rules its low high seat old new sight came same are asked =
+    subst (λ (r : Rules). HasAsked held (asking own r.replicas low high) seat old new sight came) are (subst (λ (m : List Matcher). HasAsked held (asking m rules.replicas low high) seat old new sight came) same asked)
 
 -- the range of a lawful query fits its numbers
 pub fits_range : (z : ℤ) → neg_ℤ (pos (2 ^ 62)) ≤ℤ z → z ≤ℤ pos (2 ^ 62) → SFits w64 z
@@ -320,3 +349,7 @@ ask_fits setting (Some gateway) low high ask lawful from upto is =
       subst (λ (a : Ask). SFits w64 a.low) (sym of.3) (either_fits (int_lt of.1.low low) low of.1.low from fits.0),
       subst (λ (a : Ask). SFits w64 a.high) (sym of.3) (either_fits (int_lt of.1.high high) of.1.high high fits.1 upto),
     )
+
+pub asks_fit : (setting : Setting) (gateway : Option ℕ) (low high : ℤ) (asked : Option Ask) → IsLawfulScript setting.script → SFits w64 low → SFits w64 high → asked ≡ ask_to setting gateway low high → IfSome asked (λ (own : Ask). SFits w64 own.low × SFits w64 own.high)
+asks_fit setting gateway low high None lawful from upto is = tt
+asks_fit setting gateway low high (Some ask) lawful from upto is = ask_fits setting gateway low high ask lawful from upto (sym is)

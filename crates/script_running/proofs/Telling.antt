@@ -1,5 +1,5 @@
 -- The slots of a phase's tasks, emptied one task after another.
-use Rattle.std.proofs.Common.{◌≡◌, ◌≢◌, inl, inr, ℕ, ℤ, zero, suc, ◌+◌, ◌<◌, ◌≤◌, List, [], ◌∷◌, ◌++◌, length, length-append, length-take, get_or, take, map, Option, Some, None, refl, sym, ◌∙◌, ap, subst, arith, append-nil, append_assoc}
+use Rattle.std.proofs.Common.{◌≡◌, ◌≢◌, ◌⊎◌, inl, inr, ℕ, ℤ, zero, suc, ◌+◌, ◌<◌, ◌≤◌, List, [], ◌∷◌, ◌++◌, length, length-append, length-take, get_or, take, map, Option, Some, None, refl, sym, ◌∙◌, ap, subst, arith, append-nil, append_assoc}
 use Rattle.std.specs.Prelude.{OnOk, Result, slice_get}
 use Rattle.std.specs.List.{flat_map, range_with_len}
 use Rattle.std.proofs.Math.ListN.{set, length-set}
@@ -29,7 +29,7 @@ pub then_taken : (place : ℕ) (old mid new : Slots) → IsTakenAt place old mid
 then_taken place old mid new one two = record { wide = two.wide ∙ one.wide; others = λ gateway other apart. two.others gateway other apart ∙ one.others gateway other apart }
 
 -- of those of no gateway
-pub upload_taken : (place : ℕ) (old new : Slots) → new.gateways ≡ old.gateways → ((other : ℕ) → other ≢ place → slice_get new.uploads.slots.items other ≡ slice_get old.uploads.slots.items other) → IsTakenAt place old new
+pub upload_taken : (place : ℕ) (old new : Slots) → new.gateways ≡ old.gateways → ((other : ℕ) → other ≢ place → slice_get new.alone.slots.items other ≡ slice_get old.alone.slots.items other) → IsTakenAt place old new
 upload_taken place old new same others = record { wide = ap (λ v. length v.items) same; others = each }
   where
     each : (gateway : Option ℕ) (other : ℕ) → other ≢ place → slot_at new gateway other ≡ slot_at old gateway other
@@ -37,7 +37,7 @@ upload_taken place old new same others = record { wide = ap (λ v. length v.item
     each (Some gateway) other apart = ap (λ v. slot_in (slice_get v.items gateway) other) same
 
 -- of a gateway's
-pub gateway_taken : (place gateway : ℕ) (old new : Slots) (before after : Column) → new.uploads ≡ old.uploads → new.gateways.items ≡ set old.gateways.items gateway after → slice_get old.gateways.items gateway ≡ Some before → slice_get new.gateways.items gateway ≡ Some after
+pub gateway_taken : (place gateway : ℕ) (old new : Slots) (before after : Column) → new.alone ≡ old.alone → new.gateways.items ≡ set old.gateways.items gateway after → slice_get old.gateways.items gateway ≡ Some before → slice_get new.gateways.items gateway ≡ Some after
     → ((other : ℕ) → other ≢ place → slice_get after.slots.items other ≡ slice_get before.slots.items other) → IsTakenAt place old new
 gateway_taken place gateway old new before after uploads is at now others = record { wide = ap length is ∙ length-set old.gateways.items gateway after; others = each }
   where
@@ -90,7 +90,7 @@ pub column_laid : {E : Type 0} (r : Result (Unit {0}) E) (parts after : List Par
 column_laid r parts after columns gateway place column within value laid =
     subst (λ (c : Option Column). OnOk r (after ≡ parts ++ laid_in (slot_in c place))) (sym (found columns gateway gateway column refl within value)) laid
 
-pub column_taken : (place gateway : ℕ) (old new : Slots) (before after : Column) → new.uploads ≡ old.uploads → new.gateways.items ≡ set old.gateways.items gateway after → gateway < length old.gateways.items → before ≡ get_or old.gateways.items gateway before
+pub column_taken : (place gateway : ℕ) (old new : Slots) (before after : Column) → new.alone ≡ old.alone → new.gateways.items ≡ set old.gateways.items gateway after → gateway < length old.gateways.items → before ≡ get_or old.gateways.items gateway before
     → ((other : ℕ) → other ≢ place → slice_get after.slots.items other ≡ slice_get before.slots.items other) → IsTakenAt place old new
 column_taken place gateway old new before after uploads put within value others =
     gateway_taken place gateway old new before after uploads put (found old.gateways.items gateway gateway before refl within value)
@@ -146,6 +146,14 @@ pub upload_parts : (slots : Slots) (place ulid : ℕ) (stop : Option ℕ) → la
 unfolding hands_of_task
 upload_parts slots place ulid stop = sym (append-nil (laid_in (slot_at slots None place)))
 
+pub compact_parts : (slots : Slots) (place : ℕ) (stop : Option ℕ) → laid_in (slot_at slots None place) ≡ parts_at slots place (works.Compact stop)
+unfolding hands_of_task
+compact_parts slots place stop = sym (append-nil (laid_in (slot_at slots None place)))
+
+pub clean_parts : (slots : Slots) (place : ℕ) (stop : Option ℕ) → laid_in (slot_at slots None place) ≡ parts_at slots place (works.Clean stop)
+unfolding hands_of_task
+clean_parts slots place stop = sym (append-nil (laid_in (slot_at slots None place)))
+
 pub sync_parts : (slots : Slots) (place gateway : ℕ) → laid_in (slot_at slots (Some gateway) place) ≡ parts_at slots place (works.Sync gateway)
 unfolding hands_of_task
 sync_parts slots place gateway = sym (append-nil (laid_in (slot_at slots (Some gateway) place)))
@@ -193,9 +201,25 @@ parts_few slots place w few =
 
 -- ---- the parts that were taken, by who does the task
 
-pub of_upload : (slots : Slots) (place ulid : ℕ) (stop : Option ℕ) (w : Work) (parts before : List Part) → w ≡ works.Upload ulid stop → before ≡ [] → parts ≡ before ++ laid_in (slice_get slots.uploads.slots.items place) → parts ≡ parts_at slots place w
+of_upload : (slots : Slots) (place ulid : ℕ) (stop : Option ℕ) (w : Work) (parts before : List Part) → w ≡ works.Upload ulid stop → before ≡ [] → parts ≡ before ++ laid_in (slice_get slots.alone.slots.items place) → parts ≡ parts_at slots place w
 of_upload slots place ulid stop w parts before is none are =
-    are ∙ ap (λ (l : List Part). l ++ laid_in (slice_get slots.uploads.slots.items place)) none ∙ upload_parts slots place ulid stop ∙ ap (parts_at slots place) (sym is)
+    are ∙ ap (λ (l : List Part). l ++ laid_in (slice_get slots.alone.slots.items place)) none ∙ upload_parts slots place ulid stop ∙ ap (parts_at slots place) (sym is)
+
+of_compact : (slots : Slots) (place : ℕ) (stop : Option ℕ) (w : Work) (parts before : List Part) → w ≡ works.Compact stop → before ≡ [] → parts ≡ before ++ laid_in (slice_get slots.alone.slots.items place) → parts ≡ parts_at slots place w
+of_compact slots place stop w parts before is none are =
+    are ∙ ap (λ (l : List Part). l ++ laid_in (slice_get slots.alone.slots.items place)) none ∙ compact_parts slots place stop ∙ ap (parts_at slots place) (sym is)
+
+of_clean : (slots : Slots) (place : ℕ) (stop : Option ℕ) (w : Work) (parts before : List Part) → w ≡ works.Clean stop → before ≡ [] → parts ≡ before ++ laid_in (slice_get slots.alone.slots.items place) → parts ≡ parts_at slots place w
+of_clean slots place stop w parts before is none are =
+    are ∙ ap (λ (l : List Part). l ++ laid_in (slice_get slots.alone.slots.items place)) none ∙ clean_parts slots place stop ∙ ap (parts_at slots place) (sym is)
+
+-- of an upload, a compaction or a cleaning
+pub of_alone : (slots : Slots) (place : ℕ) (w : Work) (parts before : List Part)
+    → ((ulid : ℕ) × (stop : Option ℕ) × (w ≡ works.Upload ulid stop)) ⊎ (((stop : Option ℕ) × (w ≡ works.Compact stop)) ⊎ ((stop : Option ℕ) × (w ≡ works.Clean stop)))
+    → before ≡ [] → parts ≡ before ++ laid_in (slice_get slots.alone.slots.items place) → parts ≡ parts_at slots place w
+of_alone slots place w parts before (inl (ulid, stop, is)) none are = of_upload slots place ulid stop w parts before is none are
+of_alone slots place w parts before (inr (inl (stop, is))) none are = of_compact slots place stop w parts before is none are
+of_alone slots place w parts before (inr (inr (stop, is))) none are = of_clean slots place stop w parts before is none are
 
 pub of_sync : (slots : Slots) (place gateway : ℕ) (w : Work) (parts before : List Part) → w ≡ works.Sync gateway → before ≡ [] → parts ≡ before ++ laid_in (slot_at slots (Some gateway) place) → parts ≡ parts_at slots place w
 of_sync slots place gateway w parts before is none are =

@@ -29,7 +29,7 @@ use Rattle.script_running.specs.declared.worker.WorkerEnd.{WorkerEnd}
 
 -- ---- the tasks at places
 
-got : {X : Type 0} (xs : List X) (i : ℕ) → i < length xs → (x : X) × (slice_get xs i ≡ Some x)
+pub got : {X : Type 0} (xs : List X) (i : ℕ) → i < length xs → (x : X) × (slice_get xs i ≡ Some x)
 got [] i below = absurd (omega (arith, below))
 got (x ∷ xs) zero below = (x, refl)
 got (x ∷ xs) (suc i) below = got xs i (omega (arith, below))

@@ -10,15 +10,16 @@ use Rattle.lifecycle_core.specs.Holdings.{Holding, Holdings, holding_of}
 use Rattle.lifecycle_core.specs.Setting.{Setting}
 use Rattle.lifecycle_core.specs.Tasks.{End}
 use Rattle.script_running.specs.Begun.{WasKept}
+use Rattle.script_running.specs.Lending.{Loan}
 use Rattle.script_running.specs.Sights.{Sees}
 use Rattle.script_running.specs.Tasks.{WhenDone}
 use Rattle.script_running.specs.Workers.{AreParts, IsBrokenOff, Post}
 use Rattle.script_running.specs.declared.came.Broken.TheVariants as broken
 use Rattle.script_running.specs.declared.worker.WorkerEnd.{WorkerEnd}
 
--- a worker's job, by the script that these bytes spell, with what its gateway sees by, by what that holds
-pub record IsPostOf (bytes : List ℕ) (number : ℕ) (before : Holdings) (worker : Worker) (post : Post) : Type 0 where
-  pub text_is : post.text ≡ bytes
+-- a worker's job, by what is lent, with what its gateway sees by, by what that holds
+pub record IsPostOf (loan : Loan) (number : ℕ) (before : Holdings) (worker : Worker) (post : Post) : Type 0 where
+  pub loan_is : post.loan ≡ loan
   pub phase_is : post.phase ≡ number
   pub worker_is : post.worker ≡ worker
   pub sees : Sees (holding_of before worker.gateway) post.sight

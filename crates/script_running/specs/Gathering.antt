@@ -62,7 +62,7 @@ pub record AreEmpty (count : ℕ) (column : Column) : Type 0 where
 
 -- empty slots for so many tasks, for those of no gateway and for the workers of so many gateways
 pub record AreAllEmpty (tasks gateways : ℕ) (slots : Slots) : Type 0 where
-  pub uploads : AreEmpty tasks slots.uploads
+  pub alone : AreEmpty tasks slots.alone
   pub wide : length slots.gateways.items ≡ gateways
   pub columns : All (AreEmpty tasks) slots.gateways.items
 
@@ -72,7 +72,7 @@ slot_in (Some column) place = slice_get column.slots.items place
 
 -- the slot of a worker, by its gateway, for the task at a place
 abbrev pub slot_at : Slots → Option ℕ → ℕ → Option (Option Part)
-slot_at slots None place = slot_in (Some slots.uploads) place
+slot_at slots None place = slot_in (Some slots.alone) place
 slot_at slots (Some gateway) place = slot_in (slice_get slots.gateways.items gateway) place
 
 -- there is such a slot

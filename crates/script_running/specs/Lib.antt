@@ -2,6 +2,8 @@ pub mod Outcomes
 pub mod Given
 pub mod Drives
 pub mod Sights
+pub mod Shelves
+pub mod Lending
 pub mod Tasks
 pub mod Workers
 pub mod Cutting

@@ -8,6 +8,10 @@ use Rattle.shipper.specs.declared.upload_end.UploadEnd.{UploadEnd}
 use Rattle.shipper.specs.declared.upload_end.UploadEnd.TheVariants as shipped
 use Rattle.meta_fetcher.specs.declared.sync_end.SyncEnd.{SyncEnd}
 use Rattle.meta_fetcher.specs.declared.sync_end.SyncEnd.TheVariants as fetched
+use Rattle.compactor.specs.declared.compact_end.CompactEnd.{CompactEnd}
+use Rattle.compactor.specs.declared.compact_end.CompactEnd.TheVariants as merged
+use Rattle.cleaner.specs.declared.clean_end.CleanEnd.{CleanEnd}
+use Rattle.cleaner.specs.declared.clean_end.CleanEnd.TheVariants as swept
 use Rattle.series_calls.specs.declared.series_end.SeriesEnd.{SeriesEnd}
 use Rattle.series_calls.specs.declared.series_end.SeriesEnd.TheVariants as called
 use Rattle.script_workers.specs.Hands.{gateway_count, gateway_of, hands_of_task}
@@ -19,13 +23,17 @@ use Rattle.script_workers.specs.declared.work.Work.{Work}
 use Rattle.script_workers.specs.declared.work.Work.TheVariants as work
 use Rattle.script_workers.specs.declared.worker.Worker.{Worker}
 use Rattle.lifecycle_core.specs.Conducts.{CameTo}
-use Rattle.lifecycle_core.specs.Tasks.{End, uploaded, synced, answered, not_asked, refused, without_view, stopped}
+use Rattle.lifecycle_core.specs.Tasks.{End, uploaded, synced, compacted, cleaned, answered, not_asked, refused, without_view, stopped}
 use Rattle.script_running.specs.declared.outcome.Outcome.{Outcome}
 use Rattle.script_running.specs.declared.outcome.Outcome.TheVariants as outcome
 use Rattle.script_running.specs.declared.outcome.UploadOutcome.{UploadOutcome}
 use Rattle.script_running.specs.declared.outcome.UploadOutcome.TheVariants as upload
 use Rattle.script_running.specs.declared.outcome.SyncOutcome.{SyncOutcome}
 use Rattle.script_running.specs.declared.outcome.SyncOutcome.TheVariants as sync
+use Rattle.script_running.specs.declared.outcome.CompactOutcome.{CompactOutcome}
+use Rattle.script_running.specs.declared.outcome.CompactOutcome.TheVariants as compact
+use Rattle.script_running.specs.declared.outcome.CleanOutcome.{CleanOutcome}
+use Rattle.script_running.specs.declared.outcome.CleanOutcome.TheVariants as clean
 use Rattle.script_running.specs.declared.outcome.QueryOutcome.{QueryOutcome}
 use Rattle.script_running.specs.declared.outcome.QueryOutcome.TheVariants as query
 use Rattle.script_running.specs.declared.outcome.NoAnswer.{NoAnswer}
@@ -46,6 +54,20 @@ sync_outcome (fetched.Fault entry) = sync.Fault entry
 sync_outcome (fetched.Damaged entry) = sync.Damaged entry
 sync_outcome fetched.TooMany = sync.TooMany
 
+abbrev pub compact_outcome : CompactEnd → CompactOutcome
+compact_outcome (merged.Done collected joined expired) = compact.Done collected joined expired
+compact_outcome (merged.Fault entry) = compact.Fault entry
+compact_outcome (merged.Missing entry) = compact.Missing entry
+compact_outcome (merged.Damaged entry) = compact.Damaged entry
+compact_outcome merged.TooMany = compact.TooMany
+compact_outcome merged.TooLarge = compact.TooLarge
+
+abbrev pub clean_outcome : CleanEnd → CleanOutcome
+clean_outcome (swept.Done blocks partials) = clean.Done blocks partials
+clean_outcome (swept.Fault entry) = clean.Fault entry
+clean_outcome (swept.Damaged entry) = clean.Damaged entry
+clean_outcome swept.TooMany = clean.TooMany
+
 -- how a gateway's call came out
 abbrev pub call_part : SeriesEnd → QueryPart
 call_part (called.Answer series sources) = given.Answer (answer series sources)
@@ -59,6 +81,10 @@ IsPart (work.Upload ulid stop) (uploaded end) p = p ≡ part.Upload (upload_outc
 IsPart (work.Upload ulid stop) (refused cause) p = p ≡ part.Upload (upload.Refused cause)
 IsPart (work.Upload ulid stop) (stopped count) p = p ≡ part.Upload (upload.Stopped count)
 IsPart (work.Sync gateway) (synced end) p = p ≡ part.Sync (sync_outcome end)
+IsPart (work.Compact stop) (compacted end) p = p ≡ part.Compact (compact_outcome end)
+IsPart (work.Compact stop) (stopped count) p = p ≡ part.Compact (compact.Stopped count)
+IsPart (work.Clean stop) (cleaned end) p = p ≡ part.Clean (clean_outcome end)
+IsPart (work.Clean stop) (stopped count) p = p ≡ part.Clean (clean.Stopped count)
 IsPart (work.Query low high selector) (answered used end) p = p ≡ part.Query (call_part end)
 IsPart (work.Query low high selector) without_view p = p ≡ part.Query (given.NoAnswer none.NoView)
 IsPart (work.Query low high selector) not_asked p = p ≡ part.Query given.NotAsked
@@ -102,13 +128,17 @@ IsQueryOutcome parts (query.NoAnswer gateway why) = first_none 0 parts ≡ Some 
 IsQueryOutcome parts (query.Answer own names) =
     (first_none 0 parts ≡ None) × IsGathered (answers_of parts) own × (names ≡ names_of 0 parts)
 
--- How a task comes out, by the parts of those who did it, in their order: an upload by its worker's, a sync by its gateway's, and a
--- query by those of all gateways.
+-- How a task comes out, by the parts of those who did it, in their order: an upload, a compaction and a cleaning by its worker's,
+-- a sync by its gateway's, and a query by those of all gateways.
 abbrev pub IsOutcomeOf : Work → List Part → Outcome → Type 0
 IsOutcomeOf (work.Upload ulid stop) parts o =
     (end : UploadOutcome) × (parts ≡ part.Upload end ∷ []) × (o ≡ outcome.Upload end)
 IsOutcomeOf (work.Sync gateway) parts o =
     (end : SyncOutcome) × (parts ≡ part.Sync end ∷ []) × (o ≡ outcome.Sync end)
+IsOutcomeOf (work.Compact stop) parts o =
+    (end : CompactOutcome) × (parts ≡ part.Compact end ∷ []) × (o ≡ outcome.Compact end)
+IsOutcomeOf (work.Clean stop) parts o =
+    (end : CleanOutcome) × (parts ≡ part.Clean end ∷ []) × (o ≡ outcome.Clean end)
 IsOutcomeOf (work.Query low high selector) parts o =
     (own : List QueryPart) × (end : QueryOutcome) × (parts ≡ map part.Query own) × IsQueryOutcome own end
     × (o ≡ outcome.Query end)
@@ -117,6 +147,8 @@ IsOutcomeOf (work.Query low high selector) parts o =
 abbrev pub AreAllParts : Work → List Part → Type 0
 AreAllParts (work.Upload ulid stop) parts = (end : UploadOutcome) × (parts ≡ part.Upload end ∷ [])
 AreAllParts (work.Sync gateway) parts = (end : SyncOutcome) × (parts ≡ part.Sync end ∷ [])
+AreAllParts (work.Compact stop) parts = (end : CompactOutcome) × (parts ≡ part.Compact end ∷ [])
+AreAllParts (work.Clean stop) parts = (end : CleanOutcome) × (parts ≡ part.Clean end ∷ [])
 AreAllParts (work.Query low high selector) parts = (own : List QueryPart) × (parts ≡ map part.Query own)
 
 -- How a task comes out, by the ends of those who did it, in their order.
@@ -158,5 +190,17 @@ is_as_asked (outcome.Sync (sync.Blocks count)) = true
 is_as_asked (outcome.Sync (sync.Fault entry)) = false
 is_as_asked (outcome.Sync (sync.Damaged entry)) = false
 is_as_asked (outcome.Sync sync.TooMany) = false
+is_as_asked (outcome.Compact (compact.Done collected joined expired)) = true
+is_as_asked (outcome.Compact (compact.Fault entry)) = false
+is_as_asked (outcome.Compact (compact.Missing entry)) = false
+is_as_asked (outcome.Compact (compact.Damaged entry)) = false
+is_as_asked (outcome.Compact compact.TooMany) = false
+is_as_asked (outcome.Compact compact.TooLarge) = false
+is_as_asked (outcome.Compact (compact.Stopped count)) = true
+is_as_asked (outcome.Clean (clean.Done blocks partials)) = true
+is_as_asked (outcome.Clean (clean.Fault entry)) = false
+is_as_asked (outcome.Clean (clean.Damaged entry)) = false
+is_as_asked (outcome.Clean clean.TooMany) = false
+is_as_asked (outcome.Clean (clean.Stopped count)) = true
 is_as_asked (outcome.Query (query.Answer own names)) = true
 is_as_asked (outcome.Query (query.NoAnswer gateway why)) = false

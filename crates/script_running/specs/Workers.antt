@@ -3,20 +3,17 @@ use Rattle.std.specs.Prelude.{◌≡◌, ℕ, ◌<◌, Bool, true, false, List, 
 use Rattle.world_core.specs.Keeping.{IsFull}
 use Rattle.world_core.specs.declared.entry.Entry.{Entry}
 use Rattle.script_core.specs.Lawful.{IsLawfulScript}
-use Rattle.script_core.specs.Reading.{script_of}
-use Rattle.script_core.specs.declared.block.Block.{Block}
 use Rattle.script_core.specs.declared.script.Script.{Script}
 use Rattle.script_workers.specs.declared.phase.Phase.{Phase}
 use Rattle.script_workers.specs.declared.task.Task.{Task}
-use Rattle.script_workers.specs.declared.work.Work.{Work}
-use Rattle.script_workers.specs.declared.work.Work.TheVariants as works
 use Rattle.script_workers.specs.declared.worker.Worker.{Worker}
 use Rattle.lifecycle_core.specs.Conducts.{Assigned, TasksAt, TasksRun, Who, who_of}
 use Rattle.lifecycle_core.specs.Holdings.{Holding}
 use Rattle.lifecycle_core.specs.Phases.{by_script}
-use Rattle.lifecycle_core.specs.Setting.{Setting, setting_of}
+use Rattle.lifecycle_core.specs.Setting.{Setting}
 use Rattle.lifecycle_core.specs.Tasks.{End}
 use Rattle.script_running.specs.Outcomes.{IsPart}
+use Rattle.script_running.specs.Lending.{Loan, setting_in}
 use Rattle.script_running.specs.Sights.{Sees}
 use Rattle.script_running.specs.Tasks.{IsDueAfter, WhenDone}
 use Rattle.script_running.specs.declared.came.Broken.{Broken}
@@ -25,39 +22,20 @@ use Rattle.script_running.specs.declared.part.Part.{Part}
 use Rattle.script_running.specs.declared.sight.Sight.{Sight}
 use Rattle.script_running.specs.declared.worker.WorkerEnd.{WorkerEnd}
 
--- what a worker is sent to do: by the script that a text spells, in the phase at a place, with what its gateway sees by
+-- What a worker is sent to do: by what it is lent, in the phase at a place, with what its gateway sees by.
 pub record Post : Type 0 where
-  pub text : List ℕ
+  pub loan : Loan
   pub phase : ℕ
   pub worker : Worker
   pub sight : Sight
 
-abbrev pub is_upload : Work → Bool
-is_upload (works.Upload ulid stop) = true
-is_upload (works.Sync gateway) = false
-is_upload (works.Query low high selector) = false
-
--- the tasks at these places are uploads
-abbrev pub AreUploads : List Task → List ℕ → Type 0
-AreUploads tasks places = All (λ place. IfSome (slice_get tasks place) (λ task. is_upload task.work ≡ true)) places
-
--- The text spells a lawful script, whose phase at this place has tasks at the worker's places. A worker of no gateway has uploads.
-pub record IsAtWork (text : List ℕ) (number : ℕ) (worker : Worker) : Type 0 where
-  pub script : Script
-  pub spelled : script_of text ≡ Ok script
+-- The script is lawful, and its phase at this place has these tasks, some at the worker's places.
+pub record IsAtWork (script : Script) (number : ℕ) (worker : Worker) (tasks : List Task) : Type 0 where
   pub lawful : IsLawfulScript script
   pub phase : Phase
   pub at : slice_get script.phases number ≡ Some phase
-  pub within : All (λ place. place < length phase.tasks) worker.tasks
-  pub ships : worker.gateway ≡ None → AreUploads phase.tasks worker.tasks
-
--- What is lent of a script that the text spells: the blocks that it declares, and the tasks of its phase at this place.
-pub record IsLent (text : List ℕ) (number : ℕ) (script : Script) (blocks : List Block) (tasks : List Task) : Type 0 where
-  pub spelled : script_of text ≡ Ok script
-  pub declared : blocks ≡ script.blocks
-  pub phase : Phase
-  pub at : slice_get script.phases number ≡ Some phase
   pub own : tasks ≡ phase.tasks
+  pub within : All (λ place. place < length tasks) worker.tasks
 
 -- A worker's parts of its first tasks, by the ends to which they came.
 abbrev pub AreParts : List Assigned → List End → List Part → Type 0
@@ -101,10 +79,9 @@ pub record HasWorked (setting : Setting) (tasks : List Task) (who : Who) (places
   pub sees : WhenDone end.came (Sees last end.sight)
   pub broken : IsBrokenOff setting who seat before own made ends end.came
 
--- What the job of a worker may do, by the script that its text spells. Where the full journal broke it off, it has seen that the
+-- What the job of a worker may do, by the script of which it is lent. Where the full journal broke it off, it has seen that the
 -- journal is full.
 pub record MayWork (post : Post) (seat : ℕ) (made : List Entry) (front : Option (List Entry)) (end : WorkerEnd) : Type 0 where
-  pub worked : (script : Script) (phase : Phase) (held : Holding) → script_of post.text ≡ Ok script
-      → slice_get script.phases post.phase ≡ Some phase → Sees held post.sight
-      → HasWorked (setting_of script) phase.tasks (who_of post.worker) post.worker.tasks held seat [] made end
+  pub worked : (phase : Phase) (held : Holding) → slice_get post.loan.script.phases post.phase ≡ Some phase → Sees held post.sight
+      → HasWorked (setting_in post.loan) phase.tasks (who_of post.worker) post.worker.tasks held seat [] made end
   pub full : end.came ≡ Err broken.Full → IfSome front IsFull

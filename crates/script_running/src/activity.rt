@@ -1,4 +1,4 @@
-ghost use Rattle.std.specs.Prelude.{◌≡◌, ◌≤◌, ◌||◌, ◌⊎◌, ℕ, ℤ, Option, Some, Err, option_map, IfSome, IsTrue};
+ghost use Rattle.std.specs.Prelude.{◌≡◌, ◌≤◌, ◌||◌, ◌⊎◌, ℕ, ℤ, false, Option, Some, Err, option_map, IfSome, IsTrue, slice_get, unwrap_or};
 ghost use Rattle.world_core.specs.Machines.{end_of};
 ghost use Rattle.world_core.specs.Keeping.{IsFull};
 ghost use Rattle.meta_fetcher.specs.declared.sync_end.SyncEnd.{SyncEnd};
@@ -7,33 +7,44 @@ ghost use Rattle.index_cache.specs.Caches.{held};
 ghost use Rattle.series_calls.specs.SeriesCalls.{CallEnd, SeriesRun, asking};
 ghost use Rattle.script_core.specs.Lawful.{IsLawfulBlock};
 ghost use Rattle.script_workers.specs.declared.work.Work.TheVariants as works;
-ghost use Rattle.lifecycle_core.specs.Tasks.{End, ShipTask, answered, partition_of, sync_rules, synced};
+ghost use Rattle.lifecycle_core.specs.Tasks.{End, ShipTask, all_times, answered, sync_rules, synced};
 ghost use Rattle.lifecycle_core.specs.Holdings.{Use};
-ghost use Rattle.lifecycle_core.specs.Setting.{Setting, setting_of};
+ghost use Rattle.lifecycle_core.specs.Setting.{Setting};
+ghost use Rattle.script_running.specs.Lending.{setting_in};
 ghost use Rattle.script_running.specs.Outcomes.{call_part, sync_outcome, upload_outcome};
-ghost use Rattle.script_running.specs.Drives.{driven_end, sync_came, upload_came};
+ghost use Rattle.script_running.specs.Drives.{sync_came, unshipped_came, upload_came};
+ghost use Rattle.script_running.specs.Shelves.{Knows};
 ghost use Rattle.script_running.specs.Sights.{cache_of};
 ghost use Rattle.script_running.specs.Tasks.{Adds, CameBy, is_full_came, view_by};
 
 use crate::plan::objects_of;
-use crate::{Broken, Came, NoAnswer, Part, QueryPart, SyncOutcome, UploadOutcome};
-use block_files::BuildRefusal;
+use crate::shelf::ShelfBlock;
+use crate::unshipped::Unshipped;
+use crate::{Broken, Came, Means, NoAnswer, Part, QueryPart, SyncOutcome, UploadOutcome};
+use activity_runs::{CallLeft, run_call, run_sync, run_upload};
 use index_cache::IndexCache;
 use matchers::Selector;
-use meta_fetcher::{Sync, SyncEnd, SyncRules, View};
-use moment_core::{Partition, Rules};
+use meta_fetcher::{SyncEnd, SyncRules, View};
+use moment_core::{Partition, PartitionList, Rules};
 use querier::Answer;
-use script_core::{Block, Script};
-use series_calls::{SeriesCall, SeriesEnd};
-use shipper::{Upload, UploadEnd};
+use script_core::Block;
+use series_calls::SeriesEnd;
+use shipper::UploadEnd;
 use std::alloc::Global;
-use world_core::{Driven, Hand, drive};
+use world_core::{Driven, Hand};
 
 /// Ships a declared block, and stops after so many operations where the script says so.
-#[tactic(auto, using(crate::proofs::Uploads::nothing_shipped, crate::proofs::Uploads::refused_told))]
-pub(crate) fn upload<H: Hand>(alloc: Global, block: &Block, stop: Option<u32>, hand: &mut H) -> Came
-    requires { IsLawfulBlock block.now }
-    ensures ran { (setting : Setting) (ulid : ℕ) → (end : Option End)
+pub(crate) fn upload<H: Hand>(
+    alloc: Global,
+    block: &Block,
+    shelf: &[ShelfBlock],
+    stop: Option<u32>,
+    hand: &mut H,
+) -> Came
+    requires lawful { IsLawfulBlock block.now }
+    requires known { (setting : Setting) × Knows setting shelf.now block.now }
+    ensures ran { (setting : Setting) (ulid : ℕ) → Knows setting shelf.now block.now
+        → (end : Option End)
         × Adds (ShipTask setting block.now stop) (H.seat hand.old) (H.entries hand.old)
         (H.entries hand.new) end result
         × CameBy (works.Upload ulid stop) end result }
@@ -44,15 +55,21 @@ pub(crate) fn upload<H: Hand>(alloc: Global, block: &Block, stop: Option<u32>, h
     ensures wanted { IsTrue (H.wanted hand.new)
         → IsTrue (H.wanted hand.old) ⊎ (result ≡ Err Broken.NoMemory) }
 {
-    let objects = match objects_of(alloc, block) {
-        Ok(objects) => objects,
-        Err(BuildRefusal::TooLarge) => return Ok(Part::Upload(UploadOutcome::Refused(7))),
-        Err(BuildRefusal::NoMemory) => return Err(Broken::NoMemory),
-    };
-    let Ok(mut machine) = Upload::start(objects) else {
-        return Err(Broken::NoMemory);
-    };
-    upload_came(drive(&mut machine, hand, stop))
+    match objects_of(alloc, block, shelf) {
+        Ok(objects) => upload_came(run_upload(objects, stop, hand)),
+        Err(why) => unshipped_came(why),
+    }
+}
+
+/// What an upload came to whose block has no objects.
+fn unshipped_came(why: Unshipped) -> Came
+    ensures came { result ≡ unshipped_came why }
+    ensures other { is_full_came result ≡ false }
+{
+    match why {
+        Unshipped::Refused(number) => Ok(Part::Upload(UploadOutcome::Refused(number))),
+        Unshipped::NoMemory => Err(Broken::NoMemory),
+    }
 }
 
 /// What a drive of an upload came to.
@@ -78,17 +95,15 @@ fn upload_outcome(end: UploadEnd) -> UploadOutcome
 }
 
 /// A sync of the gateway at a place, whose view it sets where it ends with one.
-#[tactic(auto, using(crate::proofs::Syncs::nothing_synced))]
 pub(crate) fn sync<H: Hand>(
     alloc: Global,
-    script: &Script,
+    means: &Means<'_>,
     place: u32,
     view: &mut Option<View>,
     hand: &mut H,
 ) -> Came
-    requires { 1 ≤ script.now.rules.page_limit }
     ensures ran { (end : Option SyncEnd)
-        × Adds (SyncRun (sync_rules (setting_of script.now) place)) (H.seat hand.old)
+        × Adds (SyncRun (sync_rules (setting_in means.now) place)) (H.seat hand.old)
         (H.entries hand.old) (H.entries hand.new) end result
         × CameBy (works.Sync place) (option_map synced end) result
         × (view.new ≡ view_by view.old end) }
@@ -99,30 +114,28 @@ pub(crate) fn sync<H: Hand>(
     ensures wanted { IsTrue (H.wanted hand.new)
         → IsTrue (H.wanted hand.old) ⊎ (result ≡ Err Broken.NoMemory) }
 {
-    let Ok(mut machine) = Sync::start(alloc, sync_rules(script, place)) else {
-        return Err(Broken::NoMemory);
-    };
-    take_view(drive(&mut machine, hand, None), view)
+    take_view(run_sync(alloc, sync_rules(means, place), hand), view)
 }
 
 /// By what the gateway at a place syncs.
-fn sync_rules(script: &Script, place: u32) -> SyncRules
-    ensures { result ≡ sync_rules (setting_of script.now) place }
+fn sync_rules(means: &Means<'_>, place: u32) -> SyncRules
+    ensures rules { result ≡ sync_rules (setting_in means.now) place }
+    ensures pages { 1 ≤ result.page_limit }
 {
-    let rules = &script.rules;
+    let rules = means.rules();
     SyncRules {
         consistency: rules.consistency,
         mark_delay: rules.ignore,
         page_limit: rules.page_limit,
-        partition: partition_of(script, place),
+        partition: partition_of(means.partitions(), place),
     }
 }
 
 /// The times for which the gateway at a place answers.
-fn partition_of(script: &Script, place: u32) -> Partition
-    ensures { result ≡ partition_of (setting_of script.now) place }
+fn partition_of(partitions: &PartitionList, place: u32) -> Partition
+    ensures { result ≡ unwrap_or (slice_get partitions.now place) all_times }
 {
-    match script.partitions.get(place as usize) {
+    match partitions.get(place as usize) {
         Some(partition) => *partition,
         None => Partition::all_times(),
     }
@@ -133,7 +146,11 @@ fn take_view(driven: Driven<SyncEnd>, view: &mut Option<View>) -> Came
     ensures came { result ≡ sync_came driven }
     ensures view { view.new ≡ view_by view.old (end_of driven) }
 {
-    Ok(Part::Sync(sync_outcome(driven_end(driven)?, view)))
+    match driven {
+        Driven::Ended(end) => Ok(Part::Sync(sync_outcome(end, view))),
+        Driven::Full => Err(Broken::Full),
+        Driven::Stopped(_) | Driven::NoMemory => Err(Broken::NoMemory),
+    }
 }
 
 fn sync_outcome(end: SyncEnd, view: &mut Option<View>) -> SyncOutcome
@@ -177,14 +194,19 @@ pub(crate) fn call<H: Hand>(
     ensures wanted { IsTrue (H.wanted hand.new)
         → IsTrue (H.wanted hand.old) ⊎ (result.0 ≡ Err Broken.NoMemory) }
 {
-    let begun = SeriesCall::start(alloc, view, selector, &rules.replicas, low, high, cache);
-    let Ok(mut machine) = begun else {
-        return (Err(Broken::NoMemory), None);
-    };
-    match drive(&mut machine, hand, None) {
-        Driven::Ended(end) => {
-            let left = machine.into_cache();
-            (Ok(Part::Query(call_part(end))), Some(left))
+    match run_call(
+        alloc,
+        view,
+        selector,
+        &rules.replicas,
+        low,
+        high,
+        cache,
+        hand,
+    ) {
+        Driven::Ended(left) => {
+            let CallLeft { end, cache } = left;
+            (Ok(Part::Query(call_part(end))), Some(cache))
         }
         Driven::Full => (Err(Broken::Full), None),
         Driven::Stopped(_) | Driven::NoMemory => (Err(Broken::NoMemory), None),
@@ -199,16 +221,5 @@ fn call_part(end: SeriesEnd) -> QueryPart
         SeriesEnd::Missing(entry) => QueryPart::NoAnswer(NoAnswer::Missing(entry)),
         SeriesEnd::Damaged(entry) => QueryPart::NoAnswer(NoAnswer::Damaged(entry)),
         SeriesEnd::Fault(entry) => QueryPart::NoAnswer(NoAnswer::Fault(entry)),
-    }
-}
-
-/// The end to which a machine was driven that nothing stops, or why it was broken off.
-fn driven_end<E: Drop>(driven: Driven<E>) -> Result<E, Broken>
-    ensures { result ≡ driven_end driven }
-{
-    match driven {
-        Driven::Ended(end) => Ok(end),
-        Driven::Full => Err(Broken::Full),
-        Driven::Stopped(_) | Driven::NoMemory => Err(Broken::NoMemory),
     }
 }

@@ -1,4 +1,4 @@
-//! A script's phases one after another, each with a thread for each of its workers.
+//! A script's phases one after another, the workers of each beside each other in threads.
 
 ghost use Rattle.std.specs.Prelude.{◌≡◌, ◌≢◌, ◌+◌, ◌++◌, ◌<◌, ◌^◌, ◌||◌, List, [], Ok, Err, Some, IfOk, IfErr, OnOk, false, length, slice_get, take};
 ghost use Rattle.std.specs.List.{All};
@@ -6,10 +6,9 @@ ghost use Rattle.bucket_core.specs.Asking.{Call};
 ghost use Rattle.world_core.specs.Asking.{IsAllAsked};
 ghost use Rattle.world_core.specs.Worlds.{failed_count};
 ghost use Rattle.script_core.specs.Lawful.{IsLawfulScript};
-ghost use Rattle.script_core.specs.Reading.{script_of};
 ghost use Rattle.script_core.specs.Workers.{seats_before};
 ghost use Rattle.script_workers.specs.declared.task.Task.{Task};
-ghost use Rattle.lifecycle_core.specs.Setting.{setting_of};
+ghost use Rattle.script_running.specs.Shelves.{AreAllAtHand, setting_by};
 ghost use Rattle.script_running.specs.Beside.{HasRunBeside};
 ghost use Rattle.script_running.specs.Reporting.{TellsFirst};
 ghost use Rattle.script_running.specs.Going.{HasCome, HasGone, IsClockSet};
@@ -20,7 +19,7 @@ ghost use Rattle.world_turn.specs.Passes.{table_of, view_of};
 ghost use Rattle.world_turn.specs.Turns.{IsLater, IsSame};
 
 use crate::gathering::{gather, jobs_of};
-use crate::{Broken, OutcomeList, Report, Sight};
+use crate::{Broken, Means, OutcomeList, Report, ShelfBlock, Sight, selector_texts};
 use bucket_core::Bucket;
 use list_core::NoMemory;
 use phase_runner::{Gate, run_phase};
@@ -48,25 +47,25 @@ struct Standing {
     outcomes: OutcomeList,
 }
 
-/// Runs a script over a world: each phase's workers beside each other, and the phases one after another. No phase is begun
-/// after one that broke off. For want of memory nothing may be begun.
+/// Runs a script over a world, with what was read of the shelf for its blocks: each phase's workers beside each other, and the
+/// phases one after another. No phase is begun after one that broke off. For want of memory nothing may be begun.
 ///
 /// The tasks of a phase are added to the report when all its workers came to their ends, before the next phase is begun.
 pub fn run_beside<B: Bucket + Send, G: Gate + Sync, P: Report, R: Threads + Wait + Sync>(
     rt: &R,
     alloc: Global,
     script: &Script,
-    text: &[u8],
+    shelf: &[ShelfBlock],
     world: World<B>,
     gate: &G,
     report: &mut P,
 ) -> Result<(RunEnd, Closed<B>), World<B>>
     requires lawful { IsLawfulScript script.now }
-    requires spelled { script_of text.now ≡ Ok script.now }
+    requires at_hand { AreAllAtHand script.now shelf.now }
     requires fresh { world.journal ≡ [] }
     requires tick { world.tick ≡ script.now.rules.tick.ms }
     requires untold { P.tells report.old script.now [] [] }
-    ensures ran { IfOk result (λ run. HasRunBeside (setting_of script.now) run.1.world.journal
+    ensures ran { IfOk result (λ run. HasRunBeside (setting_by script.now shelf.now) run.1.world.journal
         run.0.outcomes run.0.came) }
     ensures tick { IfOk result (λ run. run.1.world.tick ≡ world.tick) }
 
@@ -92,13 +91,17 @@ pub fn run_beside<B: Bucket + Send, G: Gate + Sync, P: Report, R: Threads + Wait
     let Ok(mut standing) = Standing::new(alloc, script) else {
         return Err(world);
     };
+    let Ok(texts) = selector_texts(alloc, &script.selectors) else {
+        return Err(world);
+    };
+    let means = Means::lend(script, shelf, texts.members());
     match Shared::open(alloc, world) {
         Ok((shared, root)) => {
             let (came, root) = run_phases(
                 rt,
                 alloc,
                 script,
-                text,
+                &means,
                 &shared,
                 root,
                 gate,
@@ -142,7 +145,7 @@ fn run_phases<B: Bucket + Send, G: Gate + Sync, P: Report, R: Threads + Wait + S
     rt: &R,
     alloc: Global,
     script: &Script,
-    text: &[u8],
+    means: &Means<'_>,
     shared: &Shared<B>,
     root: Pass,
     gate: &G,
@@ -150,12 +153,12 @@ fn run_phases<B: Bucket + Send, G: Gate + Sync, P: Report, R: Threads + Wait + S
     report: &mut P,
 ) -> (Result<(), Broken>, Pass)
     requires lawful { IsLawfulScript script.now }
-    requires spelled { script_of text.now ≡ Ok script.now }
+    requires lent { means.now.script ≡ script.now }
     requires own { (table_of root ≡ shared.now.table.shared.table_id) × (root.seat ≡ 0) }
     requires seats { root.splits ≡ seats_before script.now 0 }
     requires unwanted { (view_of root).wanted ≡ false }
     requires all { AllJoined (view_of root) }
-    requires gone { HasGone (setting_of script.now) (view_of root) [] standing.old.sights.items
+    requires gone { HasGone (setting_by script.now means.now.shelf) (view_of root) [] standing.old.sights.items
         standing.old.outcomes }
     requires untold { P.tells report.old script.now [] standing.old.outcomes }
     ensures pass { (table_of result.1 ≡ table_of root) × (result.1.seat ≡ 0) }
@@ -164,7 +167,7 @@ fn run_phases<B: Bucket + Send, G: Gate + Sync, P: Report, R: Threads + Wait + S
         ≡ ((view_of root).refused || is_full_came result.0) }
     ensures unwanted { result.0 ≡ Ok tt → (view_of result.1).wanted ≡ false }
     ensures all { AllJoined (view_of result.1) }
-    ensures came { HasCome (setting_of script.now) (view_of result.1) script.now.phases
+    ensures came { HasCome (setting_by script.now means.now.shelf) (view_of result.1) script.now.phases
         standing.new.sights.items standing.new.outcomes result.0 }
     ensures reported { result.0 ≢ Err Broken.NoMemory
         → TellsFirst P.tells script.now report.new standing.new.outcomes }
@@ -172,7 +175,7 @@ fn run_phases<B: Bucket + Send, G: Gate + Sync, P: Report, R: Threads + Wait + S
     let mut root = root;
     for (place, phase) in script.phases.members().iter().enumerate() {
         let (came, next) = phase_beside(
-            rt, alloc, script, text, shared, root, gate, place, phase, standing, report,
+            rt, alloc, script, means, shared, root, gate, place, phase, standing, report,
         );
         root = next;
         if let Err(broken) = came {
@@ -187,7 +190,7 @@ fn phase_beside<B: Bucket + Send, G: Gate + Sync, P: Report, R: Threads + Wait +
     rt: &R,
     alloc: Global,
     script: &Script,
-    text: &[u8],
+    means: &Means<'_>,
     shared: &Shared<B>,
     root: Pass,
     gate: &G,
@@ -197,13 +200,13 @@ fn phase_beside<B: Bucket + Send, G: Gate + Sync, P: Report, R: Threads + Wait +
     report: &mut P,
 ) -> (Result<(), Broken>, Pass)
     requires lawful { IsLawfulScript script.now }
-    requires spelled { script_of text.now ≡ Ok script.now }
+    requires lent { means.now.script ≡ script.now }
     requires at { slice_get script.now.phases place ≡ Some phase.now }
     requires own { (table_of root ≡ shared.now.table.shared.table_id) × (root.seat ≡ 0) }
     requires seats { root.splits ≡ seats_before script.now place }
     requires unwanted { (view_of root).wanted ≡ false }
     requires all { AllJoined (view_of root) }
-    requires gone { HasGone (setting_of script.now) (view_of root) (take place script.now.phases)
+    requires gone { HasGone (setting_by script.now means.now.shelf) (view_of root) (take place script.now.phases)
         standing.old.sights.items standing.old.outcomes }
     ensures pass { (table_of result.1 ≡ table_of root) × (result.1.seat ≡ 0) }
     ensures tick { (view_of result.1).tick ≡ (view_of root).tick }
@@ -212,7 +215,7 @@ fn phase_beside<B: Bucket + Send, G: Gate + Sync, P: Report, R: Threads + Wait +
     ensures unwanted { result.0 ≡ Ok tt → (view_of result.1).wanted ≡ false }
     ensures seats { OnOk result.0 (result.1.splits ≡ seats_before script.now (place + 1)) }
     ensures all { AllJoined (view_of result.1) }
-    ensures came { HasCome (setting_of script.now) (view_of result.1)
+    ensures came { HasCome (setting_by script.now means.now.shelf) (view_of result.1)
         (take (place + 1) script.now.phases) standing.new.sights.items standing.new.outcomes
         result.0 }
     ensures reported { (before : List Task)
@@ -227,7 +230,7 @@ fn phase_beside<B: Bucket + Send, G: Gate + Sync, P: Report, R: Threads + Wait +
     };
     let workers = staff.members();
     let sights = &mut standing.sights;
-    let Ok(jobs) = jobs_of(alloc, script, text, place, phase, workers, sights) else {
+    let Ok(jobs) = jobs_of(alloc, means, place, phase, workers, sights) else {
         return (Err(Broken::NoMemory), root);
     };
     let (begun, root) = begin_phase(rt, shared, root, phase);

@@ -7,17 +7,7 @@ use script_core::{Block, Script};
 use std::snapshot::Snapshot;
 use ulid_core::Ulid;
 
-/// The declared block of a ULID.
-pub(crate) fn declared_block<'a>(script: &'a Script, ulid: Ulid) -> &'a Block
-    requires lawful { IsLawfulScript script.now }
-    requires declared { IsTrue (declares script.now.blocks ulid) }
-    ensures found { declared script.now ulid ≡ Some result.now }
-    ensures lawful { IsLawfulBlock result.now }
-{
-    block_among(&Snapshot::of(script), script.blocks.members(), ulid)
-}
-
-/// The same, where the blocks of the script are at hand.
+/// The declared block of a ULID, where the blocks of the script are at hand.
 #[tactic(auto, using(crate::proofs::Blocks::is_found))]
 pub(crate) fn block_among<'a>(
     script: &Snapshot<Script>,

@@ -4,7 +4,6 @@ ghost use Rattle.std.specs.Prelude.{◌≡◌, ◌≢◌, ◌<◌, ◌≤◌, []
 ghost use Rattle.std.specs.List.{All, AllZip};
 ghost use Rattle.world_core.specs.declared.entry.Entry.{Entry};
 ghost use Rattle.script_core.specs.Lawful.{IsLawfulScript};
-ghost use Rattle.script_core.specs.Reading.{script_of};
 ghost use Rattle.script_core.specs.Workers.{workers_of};
 ghost use Rattle.script_workers.specs.Hands.{gateway_count};
 ghost use Rattle.script_workers.specs.declared.phase.Phase.{Phase};
@@ -21,7 +20,7 @@ ghost use Rattle.script_running.specs.Workers.{IsAtWork};
 ghost use Rattle.script_running.specs.Tasks.{is_full_came};
 ghost use Rattle.script_running.specs.declared.outcome.Outcome.{Outcome};
 
-use crate::{Broken, OutcomeList, Part, Report, Sight, WorkerEnd, WorkerJob, outcome_of};
+use crate::{Broken, Means, OutcomeList, Part, Report, Sight, WorkerEnd, WorkerJob, outcome_of};
 use list_core::{NoMemory, TryCopy};
 use script_core::{Phase, Script, Task, Work, Worker};
 use std::alloc::Global;
@@ -30,23 +29,21 @@ use std::mem;
 /// A job for each worker of the phase, which takes what its gateway sees.
 pub(crate) fn jobs_of<'a>(
     alloc: Global,
-    script: &'a Script,
-    text: &'a [u8],
+    means: &'a Means<'a>,
     place: usize,
     phase: &'a Phase,
     workers: &[Worker],
     sights: &mut Vec<Sight>,
 ) -> Result<Vec<WorkerJob<'a>>, NoMemory>
-    requires spelled { script_of text.now ≡ Ok script.now }
-    requires at { slice_get script.now.phases place ≡ Some phase.now }
-    requires work { All (IsAtWork text.now place) workers.now }
+    requires work { All (λ worker. IsAtWork means.now.script place worker phase.now.tasks)
+        workers.now }
     requires gateways { All
         (λ worker. IfSome worker.gateway (λ gateway. gateway < length sights.old.items))
         workers.now }
     requires apart { HaveOwnGateways workers.now }
     ensures each { length sights.new.items ≡ length sights.old.items }
     ensures sent { (held : Holdings) → AreSeen held sights.old.items
-        → IfOk result (λ jobs. AllZip (IsPostOf text.now place held) workers.now jobs.items) }
+        → IfOk result (λ jobs. AllZip (IsPostOf means.now place held) workers.now jobs.items) }
     ensures left { (held : Holdings) → AreSeen held sights.old.items
         → OnOk result (AreSeenBeside held workers.now sights.new.items) }
 {
@@ -54,7 +51,7 @@ pub(crate) fn jobs_of<'a>(
     for worker in workers {
         let own = worker.copy()?;
         let sight = take_sight(worker.gateway, sights);
-        jobs.push_reserved(WorkerJob::new(alloc, script, text, place, phase, own, sight));
+        jobs.push_reserved(WorkerJob::new(alloc, means, place, phase, own, sight));
     }
     Ok(jobs)
 }
@@ -144,7 +141,7 @@ fn met_full(end: &WorkerEnd) -> bool
 /// What workers came to in the tasks of a phase, at the places of these: those of no gateway, and the worker of each gateway.
 #[derive(Drop)]
 pub(crate) struct Slots {
-    pub uploads: Column,
+    pub alone: Column,
     pub gateways: Vec<Column>,
 }
 
@@ -212,7 +209,7 @@ fn lay_all(gateway: Option<u32>, places: &[u64], parts: Vec<Part>, slots: &mut S
 {
     match gateway {
         Some(gateway) => lay(places, parts, &mut slots.gateways[gateway as usize].slots),
-        None => lay(places, parts, &mut slots.uploads.slots),
+        None => lay(places, parts, &mut slots.alone.slots),
     }
 }
 
@@ -262,7 +259,7 @@ fn slots_for(alloc: Global, tasks: usize, gateways: usize) -> Result<Slots, NoMe
         columns.push_reserved(empty_slots(alloc, tasks)?);
     }
     Ok(Slots {
-        uploads: empty_slots(alloc, tasks)?,
+        alone: empty_slots(alloc, tasks)?,
         gateways: columns,
     })
 }
@@ -338,7 +335,11 @@ fn take_parts(
 {
     let mut parts = Vec::new(alloc);
     match work {
-        Work::Upload(..) => take_part(&mut slots.uploads, place, &mut parts)?,
+        Work::Upload(..) | Work::Compact(_) | Work::Clean(_) => take_part(
+            &mut slots.alone,
+            place,
+            &mut parts,
+        )?,
         Work::Sync(gateway) => take_of(slots, *gateway as usize, place, &mut parts)?,
         Work::Query { .. } => {
             for gateway in 0..slots.gateways.len() {

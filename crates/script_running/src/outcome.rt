@@ -8,6 +8,8 @@ use querier::{Answer, NamesList};
 pub enum Outcome {
     Upload(UploadOutcome),
     Sync(SyncOutcome),
+    Compact(CompactOutcome),
+    Clean(CleanOutcome),
     Query(QueryOutcome),
 }
 
@@ -40,6 +42,44 @@ pub enum SyncOutcome {
     Damaged(u64),
     /// The bucket has more names than a sync reads.
     TooMany,
+}
+
+/// How a compaction ended.
+#[derive(Clone, Copy, Debug, PartialEq, Eq)]
+pub enum CompactOutcome {
+    /// So many covered blocks were marked, so many groups were compacted, and so many expired blocks were marked.
+    Done {
+        collected: u64,
+        compacted: u64,
+        expired: u64,
+    },
+    /// A call to the bucket failed.
+    Fault(u64),
+    /// An index or a segment of a block that it compacted was not there.
+    Missing(u64),
+    /// What was read was not of its form, or the new block stood already.
+    Damaged(u64),
+    /// The bucket has more names than a compaction reads.
+    TooMany,
+    /// The index of a new block would be too large.
+    TooLarge,
+    /// It was stopped after so many operations, as the script asked.
+    Stopped(u32),
+}
+
+/// How a cleaning ended.
+#[derive(Clone, Copy, Debug, PartialEq, Eq)]
+pub enum CleanOutcome {
+    /// So many blocks were deleted, and so many partials of blocks.
+    Done { blocks: u64, partials: u64 },
+    /// A call to the bucket failed.
+    Fault(u64),
+    /// A mark was not of its form, or a page not in order.
+    Damaged(u64),
+    /// The bucket, or one block, has more names than a cleaning reads.
+    TooMany,
+    /// It was stopped after so many operations, as the script asked.
+    Stopped(u32),
 }
 
 /// How a query ended.
@@ -78,6 +118,10 @@ impl Outcome {
             Outcome::Upload(UploadOutcome::Fault(_) | UploadOutcome::Refused(_)) => false,
             Outcome::Sync(SyncOutcome::Blocks(_)) => true,
             Outcome::Sync(_) => false,
+            Outcome::Compact(CompactOutcome::Done { .. } | CompactOutcome::Stopped(_)) => true,
+            Outcome::Compact(_) => false,
+            Outcome::Clean(CleanOutcome::Done { .. } | CleanOutcome::Stopped(_)) => true,
+            Outcome::Clean(_) => false,
             Outcome::Query(QueryOutcome::Answer(..)) => true,
             Outcome::Query(QueryOutcome::NoAnswer(..)) => false,
         }

@@ -1,11 +1,14 @@
-use crate::{NoAnswer, SyncOutcome, UploadOutcome};
+use crate::{CleanOutcome, CompactOutcome, NoAnswer, SyncOutcome, UploadOutcome};
 use querier::Answer;
 
-/// What a worker's part of a task came to: the whole of an upload or a sync, and of a query its gateway's part.
+/// What a worker's part of a task came to: the whole of an upload, a sync, a compaction or a cleaning, and of a query
+/// its gateway's part.
 #[derive(Drop)]
 pub enum Part {
     Upload(UploadOutcome),
     Sync(SyncOutcome),
+    Compact(CompactOutcome),
+    Clean(CleanOutcome),
     Query(QueryPart),
 }
 

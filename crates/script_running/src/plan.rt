@@ -1,4 +1,4 @@
-ghost use Rattle.std.specs.Prelude.{◌≡◌, ◌≢◌, Err, IfOk};
+ghost use Rattle.std.specs.Prelude.{◌≡◌, ◌≢◌, Err, IfErr, IfOk};
 ghost use Rattle.std.specs.List.{AllByRecursion};
 ghost use Rattle.reading_core.specs.Grammar.{IsBytes};
 ghost use Rattle.block_keys.specs.Blocks.{IsBlock};
@@ -11,7 +11,10 @@ ghost use Rattle.script_core.specs.Lawful.{IsLawfulBlock};
 ghost use Rattle.script_core.specs.declared.body.Body.TheVariants.{Inline};
 ghost use Rattle.lifecycle_core.specs.Setting.{Setting};
 ghost use Rattle.lifecycle_core.specs.Shipped.{IsPlanOf, IsRefused, IsShipped};
+ghost use Rattle.script_running.specs.Shelves.{Knows, WhereRefused, from_built};
 
+use crate::shelf::{ShelfBlock, shelf_objects};
+use crate::unshipped::Unshipped;
 use block_files::{BlockFiles, BuildRefusal, files_objects};
 use block_keys::ObjectList;
 use block_meta::{BlockPlan, ParentList, own_sources};
@@ -22,21 +25,40 @@ use script_core::{Block, Body};
 use std::alloc::Global;
 use wire_bytes::Blob;
 
-/// The objects of a declared block, in the order of their upload. It is not shipped where its index would be too large.
-pub(crate) fn objects_of(alloc: Global, block: &Block) -> Result<ObjectList, BuildRefusal>
-    requires { IsLawfulBlock block.now }
+/// The objects of a declared block, in the order of their upload. An inline block is not shipped where its index would be too large;
+/// one of the shelf, where the shelf has none that passes.
+pub(crate) fn objects_of(
+    alloc: Global,
+    block: &Block,
+    shelf: &[ShelfBlock],
+) -> Result<ObjectList, Unshipped>
+    requires lawful { IsLawfulBlock block.now }
+    requires known { (setting : Setting) × Knows setting shelf.now block.now }
     ensures block { IfOk result (λ objects. IsBlock block.now.ulid objects) }
-    ensures shipped { (setting : Setting)
+    ensures shipped { (setting : Setting) → Knows setting shelf.now block.now
         → IfOk result (λ objects. IsShipped setting block.now objects) }
-    ensures refused { (setting : Setting) → result ≡ Err BuildRefusal.TooLarge
-        → IsRefused setting block.now 7 }
+    ensures refused { (setting : Setting) → Knows setting shelf.now block.now
+        → IfErr result (WhereRefused (IsRefused setting block.now)) }
 {
-    let Body::Inline {
-        min_time,
-        max_time,
-        series,
-    } = &block.body;
-    inline_objects(alloc, block, *min_time, *max_time, series)
+    match &block.body {
+        Body::Inline {
+            min_time,
+            max_time,
+            series,
+        } => from_built(inline_objects(alloc, block, *min_time, *max_time, series)),
+        Body::OnShelf => shelf_objects(shelf, block.ulid),
+    }
+}
+
+/// What comes of a block that was to be built.
+fn from_built(built: Result<ObjectList, BuildRefusal>) -> Result<ObjectList, Unshipped>
+    ensures { result ≡ from_built built }
+{
+    match built {
+        Ok(objects) => Ok(objects),
+        Err(BuildRefusal::TooLarge) => Err(Unshipped::Refused(7)),
+        Err(BuildRefusal::NoMemory) => Err(Unshipped::NoMemory),
+    }
 }
 
 /// The objects of an inline block with these times and series.
@@ -79,7 +101,7 @@ fn built_objects(alloc: Global, files: BlockFiles) -> Result<ObjectList, BuildRe
 }
 
 /// The files of a block are bytes.
-fn are_bytes(files: &BlockFiles)
+pub(crate) fn are_bytes(files: &BlockFiles)
     ensures { AreBytes files.now }
 {
     is_bytes(files.index.bytes());

@@ -12,9 +12,9 @@ use list_core::{NoMemory, TryCopy};
 use querier::{Gather, Names, NamesList};
 use std::alloc::Global;
 
-/// How a task came out, by the parts of all who did it, in their order: an upload by its worker's, a sync by its gateway's, and
-/// a query by those of all gateways.
-#[tactic(auto, using(crate::proofs::GivenParts::query_whole, crate::proofs::GivenParts::upload_whole, crate::proofs::GivenParts::sync_whole))]
+/// How a task came out, by the parts of all who did it, in their order: an upload, a compaction and a cleaning by its worker's,
+/// a sync by its gateway's, and a query by those of all gateways.
+#[tactic(auto, using(crate::proofs::GivenParts::query_whole))]
 pub fn outcome_of(alloc: Global, parts: Vec<Part>) -> Result<Outcome, NoMemory>
     requires few { length parts.items < 2 ^ 32 }
     ensures whole { (work : Work) → AreAllParts work parts.items
@@ -26,6 +26,8 @@ pub fn outcome_of(alloc: Global, parts: Vec<Part>) -> Result<Outcome, NoMemory>
         match part {
             Part::Upload(end) => return Ok(Outcome::Upload(end)),
             Part::Sync(end) => return Ok(Outcome::Sync(end)),
+            Part::Compact(end) => return Ok(Outcome::Compact(end)),
+            Part::Clean(end) => return Ok(Outcome::Clean(end)),
             Part::Query(own) => given.add(gateway, own)?,
         }
         gateway += 1;

@@ -4,51 +4,44 @@ ghost use Rattle.std.specs.Prelude.{◌≡◌, ◌<◌, ◌||◌, ◌⊎◌, [],
 ghost use Rattle.std.specs.List.{All};
 ghost use Rattle.world_core.specs.Keeping.{IsFull};
 ghost use Rattle.script_core.specs.Lawful.{IsLawfulScript};
-ghost use Rattle.script_core.specs.Reading.{script_of};
 ghost use Rattle.lifecycle_core.specs.Conducts.{Who};
 ghost use Rattle.lifecycle_core.specs.Holdings.{Holding};
-ghost use Rattle.lifecycle_core.specs.Setting.{setting_of};
+ghost use Rattle.script_running.specs.Lending.{setting_in};
 ghost use Rattle.script_running.specs.Sights.{Sees};
 ghost use Rattle.script_running.specs.Tasks.{Allows, is_full_came};
 ghost use Rattle.script_running.specs.Workers.{IsAtWork, HasWorked};
 
-use crate::task::{Means, Shipping};
-use crate::{Broken, Part, Sight};
+use crate::{Broken, Means, Part, Sight, run_task};
 use phase_runner::Job;
-use script_core::{Block, Phase, Script, Task, Worker};
+use script_core::{Phase, Task, Worker};
 use std::alloc::Global;
 use std::marker::Model;
-use std::snapshot::Snapshot;
 use world_core::Hand;
 
-/// A worker of a phase and what its gateway sees. It borrows the blocks and the tasks that it needs to ship. To sync and to ask
-/// it lends the script as a text, and reads it for itself, since the patterns of a script that was read do not cross threads.
+/// A worker of a phase and what its gateway sees.
 #[derive(Drop)]
 pub struct WorkerJob<'a> {
     alloc: Global,
-    text: &'a [u8],
-    blocks: &'a [Block],
+    means: &'a Means<'a>,
     tasks: &'a [Task],
     phase: usize,
     worker: Worker,
     sight: Sight,
-    script: Snapshot<Script>,
 }
 
 impl<'a> Model for WorkerJob<'a> {
-    ghost use Rattle.script_running.specs.Workers.{IsAtWork, IsLent, Post};
+    ghost use Rattle.script_running.specs.Workers.{IsAtWork, Post};
 
     ghost Value = { Post };
 
     ghost view = { λ job. record {
-      text = job.text.now;
+      loan = job.means.now;
       phase = job.phase;
       worker = job.worker;
       sight = job.sight;
     } };
 
-    ghost invariant = { λ job. IsAtWork job.text.now job.phase job.worker
-        × IsLent job.text.now job.phase job.script.value job.blocks.now job.tasks.now };
+    ghost invariant = { λ job. IsAtWork job.means.now.script job.phase job.worker job.tasks.now };
 }
 
 /// What a worker leaves.
@@ -63,31 +56,26 @@ pub struct WorkerEnd {
 }
 
 impl<'a> WorkerJob<'a> {
-    /// The job of a worker of the phase at a place, by the script that the text spells.
+    /// The job of a worker of the phase at a place.
     pub fn new(
         alloc: Global,
-        script: &'a Script,
-        text: &'a [u8],
+        means: &'a Means<'a>,
         place: usize,
         phase: &'a Phase,
         worker: Worker,
         sight: Sight,
     ) -> WorkerJob<'a>
-        requires work { IsAtWork text.now place worker }
-        requires spelled { script_of text.now ≡ Ok script.now }
-        requires at { slice_get script.now.phases place ≡ Some phase.now }
-        ensures { (result.text ≡ text.now) × (result.phase ≡ place) × (result.worker ≡ worker)
+        requires work { IsAtWork means.now.script place worker phase.now.tasks }
+        ensures { (result.loan ≡ means.now) × (result.phase ≡ place) × (result.worker ≡ worker)
             × (result.sight ≡ sight) }
     {
         WorkerJob {
             alloc,
-            text,
-            blocks: script.blocks.members(),
+            means,
             tasks: phase.tasks.members(),
             phase: place,
             worker,
             sight,
-            script: Snapshot::of(script),
         }
     }
 }
@@ -107,25 +95,14 @@ impl<'a> Job for WorkerJob<'a> {
     fn run<H: Hand>(self, hand: &mut H) -> WorkerEnd {
         let WorkerJob {
             alloc,
-            text,
-            blocks,
+            means,
             tasks,
             phase: _,
             worker,
             sight,
-            script,
         } = self;
         let places = worker.tasks.members();
-        match worker.gateway {
-            None => {
-                let shipping = Shipping { blocks, script };
-                do_tasks(alloc, &shipping, None, tasks, places, sight, hand)
-            }
-            Some(gateway) => match Script::read(alloc, text) {
-                Ok(script) => do_tasks(alloc, &script, Some(gateway), tasks, places, sight, hand),
-                Err(_) => wanting(alloc, sight),
-            },
-        }
+        do_tasks(alloc, means, worker.gateway, tasks, places, sight, hand)
     }
 }
 
@@ -143,22 +120,20 @@ fn wanting(alloc: Global, sight: Sight) -> WorkerEnd
 
 /// Does a worker's parts of the tasks at these places one after another, until one of them is broken off. It takes its memory
 /// for what they come to first.
-fn do_tasks<M: Means, H: Hand>(
+fn do_tasks<H: Hand>(
     alloc: Global,
-    means: &M,
+    means: &Means<'_>,
     gateway: Option<u32>,
     tasks: &[Task],
     places: &[u64],
     sight: Sight,
     hand: &mut H,
 ) -> WorkerEnd
-    requires lawful { IsLawfulScript (M.script means.now) }
-    requires tasks { All (λ task. Allows (M.script means.now) task.work) tasks.now }
+    requires lawful { IsLawfulScript means.now.script }
+    requires tasks { All (λ task. Allows means.now.script task.work) tasks.now }
     requires places { All (λ place. place < length tasks.now) places.now }
-    requires serves { All (λ place.
-        IfSome (slice_get tasks.now place) (λ task. M.serves means.now task.work)) places.now }
     ensures worked { (who : Who) (held : Holding) → who.gateway ≡ gateway → Sees held sight
-        → HasWorked (setting_of (M.script means.now)) tasks.now who places.now held
+        → HasWorked (setting_in means.now) tasks.now who places.now held
         (H.seat hand.old) (H.entries hand.old) (H.entries hand.new) result }
     ensures seat { H.seat hand.new ≡ H.seat hand.old }
     ensures keeps { H.keeps hand.old hand.new }
@@ -175,7 +150,7 @@ fn do_tasks<M: Means, H: Hand>(
     };
     for number in 0..places.len() {
         let task = &tasks[places[number] as usize];
-        match means.do_task(alloc, gateway, &task.work, &mut sight, hand) {
+        match run_task(alloc, means, gateway, &task.work, &mut sight, hand) {
             Ok(part) => parts.push_reserved(part),
             Err(broken) => {
                 return WorkerEnd {

@@ -1,19 +1,25 @@
-use Rattle.std.proofs.Common.{Err, ap, refl}
-use Rattle.block_files.specs.declared.build_refusal.BuildRefusal.{BuildRefusal}
+use Rattle.std.proofs.Common.{◌||◌, refl, sym, ◌∙◌, ap}
 use Rattle.script_running.specs.Drives.{upload_came}
+use Rattle.script_running.specs.Tasks.{is_full_came}
+use Rattle.script_running.proofs.Refused.{or_none}
 use Rattle.script_running.proofs.Syncs.{wanted_by}
-use Rattle.script_running.proofs.Uploads.{refused_told, upload_told}
+use Rattle.script_running.proofs.Uploads.{unshipped_told, upload_told}
 use Rattle.script_running.proofs.activity.upload.Goals as goal
 
-pub returns-clause-ran : goal.returns-clause-ran
-returns-clause-ran g c = λ setting ulid.
-    upload_told setting _ c.args.block.now c.in-Ok.objects c.args.stop (g.H.Hand.seat c.args.hand.now) c.drive.result (g.H.Hand.entries c.args.hand.now) (g.H.Hand.entries c.drive.new.hand) c.upload_came.result ulid
-    c.upload_came.ensures (c.in-Ok.ensures.shipped setting) (λ made end run. c.in-Ok-start.ensures.run c.args.block.now.ulid c.in-Ok.ensures.block made end c.drive.new.machine run) c.drive.ensures.run
+pub returns-in-Ok-clause-ran : goal.returns-in-Ok-clause-ran
+returns-in-Ok-clause-ran g c = λ setting ulid known.
+    upload_told setting c.args.block.now c.in-Ok.objects c.args.stop (g.H.Hand.seat c.args.hand.now) c.run_upload.result (g.H.Hand.entries c.args.hand.now) (g.H.Hand.entries c.run_upload.new.hand) c.upload_came.result ulid
+    c.upload_came.ensures (c.in-Ok.ensures.shipped setting known) (c.run_upload.ensures.run c.args.block.now.ulid c.in-Ok.ensures.block)
 
-pub returns-clause-wanted : goal.returns-clause-wanted
-returns-clause-wanted g c = wanted_by upload_came c.drive.result c.upload_came.result refl c.upload_came.ensures c.drive.ensures.wanted
+pub returns-in-Ok-clause-wanted : goal.returns-in-Ok-clause-wanted
+returns-in-Ok-clause-wanted g c = wanted_by upload_came c.run_upload.result c.upload_came.result refl c.upload_came.ensures c.run_upload.ensures.wanted
 
-pub returns-in-Err-TooLarge-clause-ran : goal.returns-in-Err-TooLarge-clause-ran
-returns-in-Err-TooLarge-clause-ran g c = λ setting ulid.
-    refused_told setting c.args.block.now c.args.stop (g.H.Hand.seat c.args.hand.now) (g.H.Hand.entries c.args.hand.now) ulid 7
-    (c.in-Err-TooLarge.ensures.refused setting (ap (λ (r : BuildRefusal). Err r) c.in-Err-TooLarge.field-0-is))
+pub returns-in-Err-clause-ran : goal.returns-in-Err-clause-ran
+returns-in-Err-clause-ran g c = λ setting ulid known.
+    unshipped_told setting c.args.block.now c.args.stop (g.H.Hand.seat c.args.hand.now) (g.H.Hand.entries c.args.hand.now) ulid c.in-Err.why c.unshipped_came.result c.unshipped_came.ensures.came (c.in-Err.ensures.refused setting known)
+
+pub returns-in-Err-clause-refused : goal.returns-in-Err-clause-refused
+returns-in-Err-clause-refused g c = sym (ap (λ b. g.H.Hand.refused c.args.hand.now || b) c.unshipped_came.ensures.other ∙ or_none (g.H.Hand.refused c.args.hand.now))
+
+pub returns-in-Err-clause-full : goal.returns-in-Err-clause-full
+returns-in-Err-clause-full g c = λ full. absurd (cc (c.unshipped_came.ensures.other, ap is_full_came full))

@@ -5,45 +5,47 @@ use Rattle.world_core.specs.declared.entry.Entry.{Entry}
 use Rattle.world_turn.specs.Passes.{view_of}
 use Rattle.world_turn.specs.declared.pass.Pass.{Pass}
 use Rattle.phase_runner.specs.Phases.{HasRun, Runs}
-use Rattle.lifecycle_core.specs.Setting.{setting_of}
+use Rattle.script_running.specs.Shelves.{setting_by}
 use Rattle.script_running.specs.Ended.{IsPostOf}
 use Rattle.script_running.specs.Gathering.{HaveOwnGateways}
 use Rattle.script_running.specs.Going.{HasStopped, IsClockSet}
 use Rattle.script_running.specs.Workers.{MayWork, Post}
 use Rattle.script_running.specs.declared.came.Broken.TheVariants as broken
 use Rattle.script_running.specs.declared.worker.WorkerEnd.{WorkerEnd}
+use denote.Param.Send.{sendable}
+use Rattle.script_running.proofs.Crossing.{job_send}
 use Rattle.script_running.proofs.Gathers.{gateways_counted}
 use Rattle.script_running.proofs.Phasing.{always, as_many, at_work, clock_refused, ends_long, few_seats, idled, if_false, if_true, joined_on, moment_lawful, next_seats, no_room, phase_apart, phase_comes, within_gateways, within_tasks, workers_here}
 use Rattle.script_running.proofs.Refused.{clock_done, clock_tells, clock_unwanted, come_tells, come_unwanted, or_none, phase_tells, phase_unwanted}
 use Rattle.script_running.proofs.beside.phase_beside.Goals as goal
 
 pub returns-in_default-clause-came : goal.returns-in_default-clause-came
-returns-in_default-clause-came g c = no_room c.args.script.now c.args.place c.args.phase.now c.requires.at (view_of c.args.root) c.args.standing.now.sights.items c.args.standing.now.outcomes c.requires.gone
+returns-in_default-clause-came g c = no_room c.args.script.now c.args.means.now.shelf c.args.place c.args.phase.now c.requires.at (view_of c.args.root) c.args.standing.now.sights.items c.args.standing.now.outcomes c.requires.gone
 
 pub jobs_of-requires-clause-work : goal.jobs_of-requires-clause-work
 jobs_of-requires-clause-work g c =
     let are = workers_here c.args.script.now c.args.place c.splits.result c.in-Ok.staff c.members-workers.result.now c.members-workers.ensures c.in-Ok.ensures (c.splits.ensures ∙ c.requires.seats) in
-    at_work c.args.script.now c.args.text.now c.requires.lawful c.requires.spelled c.args.place c.args.phase.now c.requires.at c.members-workers.result.now are
+    at_work c.args.script.now c.requires.lawful c.args.place c.args.phase.now c.requires.at c.members-workers.result.now c.args.means.now c.requires.lent are
 
 pub jobs_of-requires-clause-gateways : goal.jobs_of-requires-clause-gateways
 jobs_of-requires-clause-gateways g c =
     let are = workers_here c.args.script.now c.args.place c.splits.result c.in-Ok.staff c.members-workers.result.now c.members-workers.ensures c.in-Ok.ensures (c.splits.ensures ∙ c.requires.seats) in
-    within_gateways c.args.script.now c.args.text.now c.requires.lawful c.requires.spelled c.args.place c.args.phase.now c.requires.at c.members-workers.result.now (length c.args.standing.now.sights.items) are c.requires.gone.each
+    within_gateways c.args.script.now c.requires.lawful c.args.place c.args.phase.now c.requires.at c.members-workers.result.now (length c.args.standing.now.sights.items) are c.requires.gone.each
 
 pub jobs_of-requires-clause-apart : goal.jobs_of-requires-clause-apart
 jobs_of-requires-clause-apart g c =
     let are = workers_here c.args.script.now c.args.place c.splits.result c.in-Ok.staff c.members-workers.result.now c.members-workers.ensures c.in-Ok.ensures (c.splits.ensures ∙ c.requires.seats) in
-    subst HaveOwnGateways (sym are) (phase_apart (setting_of c.args.script.now) c.args.place)
+    subst HaveOwnGateways (sym are) (phase_apart (setting_by c.args.script.now c.args.means.now.shelf) c.args.place)
 
 pub returns-in_default-jobs_of-clause-came : goal.returns-in_default-jobs_of-clause-came
-returns-in_default-jobs_of-clause-came g c = no_room c.args.script.now c.args.place c.args.phase.now c.requires.at (view_of c.args.root) c.args.standing.now.sights.items c.args.standing.now.outcomes c.requires.gone
+returns-in_default-jobs_of-clause-came g c = no_room c.args.script.now c.args.means.now.shelf c.args.place c.args.phase.now c.requires.at (view_of c.args.root) c.args.standing.now.sights.items c.args.standing.now.outcomes c.requires.gone
 
 pub begin_phase-begun-requires-clause-moment : goal.begin_phase-begun-requires-clause-moment
 begin_phase-begun-requires-clause-moment g c = moment_lawful c.args.script.now c.requires.lawful c.args.place c.args.phase.now c.requires.at
 
 pub returns-in-Err-clause-came : goal.returns-in-Err-clause-came
 returns-in-Err-clause-came g c =
-    clock_refused c.args.script.now c.args.place c.args.phase.now c.requires.at (view_of c.args.root) c.args.standing.now.sights.items c.args.standing.now.outcomes c.requires.gone (view_of c.begin_phase-begun.result.1) c.in-Err.broken
+    clock_refused c.args.script.now c.args.means.now.shelf c.args.place c.args.phase.now c.requires.at (view_of c.args.root) c.args.standing.now.sights.items c.args.standing.now.outcomes c.requires.gone (view_of c.begin_phase-begun.result.1) c.in-Err.broken
     (subst (IsClockSet c.args.phase.now (view_of c.args.root) (view_of c.begin_phase-begun.result.1)) c.in-Err.is c.begin_phase-begun.ensures.clock) c.begin_phase-begun.ensures.later
 
 pub returns-in-Err-clause-all : goal.returns-in-Err-clause-all
@@ -53,7 +55,7 @@ pub run_phase-end-requires-clause-few : goal.run_phase-end-requires-clause-few
 run_phase-end-requires-clause-few g c = λ κs lives.
     let are = workers_here c.args.script.now c.args.place c.splits.result c.in-Ok.staff c.members-workers.result.now c.members-workers.ensures c.in-Ok.ensures (c.splits.ensures ∙ c.requires.seats) in
     let sent = c.in-Ok-jobs_of.ensures.sent c.requires.gone.held c.requires.gone.seen in
-    let zipped = as_many (IsPostOf c.args.text.now c.args.place c.requires.gone.held) c.members-workers.result.now c.in-Ok-jobs_of.jobs.items sent in
+    let zipped = as_many (IsPostOf c.args.means.now c.args.place c.requires.gone.held) c.members-workers.result.now c.in-Ok-jobs_of.jobs.items sent in
     let counted : vec_len c.in-Ok-jobs_of.jobs ≡ length c.members-workers.result.now = (let ok = c.in-Ok-jobs_of.jobs.ok in omega (arith, zipped)) in
     few_seats c.args.script.now c.requires.lawful c.args.place c.args.phase.now c.requires.at c.begin_phase-begun.result.1.splits (vec_len c.in-Ok-jobs_of.jobs) (c.begin_phase-begun.ensures.pass.2 ∙ c.requires.seats) (counted ∙ ap length are)
 
@@ -65,20 +67,20 @@ returns-then-end-clause-came g c =
     let clock = subst (IsClockSet c.args.phase.now (view_of c.args.root) (view_of c.begin_phase-begun.result.1)) c.in_default-begun.is c.begin_phase-begun.ensures.clock in
     let same = if_true {P = ((c.run_phase-end.result.root ≡ c.begin_phase-begun.result.1) × (c.run_phase-end.result.ends.items ≡ []))}
     ((kept : List (ℕ × List Entry)) × HasRun c.begin_phase-begun.result.1 c.run_phase-end.result.root (vec_len c.in-Ok-jobs_of.jobs) kept × Runs {J = Post} {E = WorkerEnd} MayWork (view_of c.begin_phase-begun.result.1).known (view_of c.run_phase-end.result.root).front (c.begin_phase-begun.result.1.splits + 1) c.in-Ok-jobs_of.jobs.items c.run_phase-end.result.ends.items kept) c.run_phase-end.result.memory c.if-end.true c.run_phase-end.ensures.run in
-    subst (λ (p : Pass). HasStopped (setting_of c.args.script.now) (view_of p) c.args.standing.now.outcomes broken.NoMemory) (sym same.0)
-    (idled c.args.script.now c.args.place c.args.phase.now c.requires.at c.args.root c.args.standing.now.sights.items c.args.standing.now.outcomes c.requires.gone c.requires.own.1 c.begin_phase-begun.result.1 clock.0 clock.1 (c.begin_phase-begun.ensures.pass.1 ∙ c.requires.own.1))
+    subst (λ (p : Pass). HasStopped (setting_by c.args.script.now c.args.means.now.shelf) (view_of p) c.args.standing.now.outcomes broken.NoMemory) (sym same.0)
+    (idled c.args.script.now c.args.means.now.shelf c.args.place c.args.phase.now c.requires.at c.args.root c.args.standing.now.sights.items c.args.standing.now.outcomes c.requires.gone c.requires.own.1 c.begin_phase-begun.result.1 clock.0 clock.1 (c.begin_phase-begun.ensures.pass.1 ∙ c.requires.own.1))
 
 pub gather-came-requires-clause-many : goal.gather-came-requires-clause-many
 gather-came-requires-clause-many g c =
     let sent = c.in-Ok-jobs_of.ensures.sent c.requires.gone.held c.requires.gone.seen in
     let run = if_false {Q = ((kept : List (ℕ × List Entry)) × HasRun c.begin_phase-begun.result.1 c.run_phase-end.result.root (vec_len c.in-Ok-jobs_of.jobs) kept × Runs {J = Post} {E = WorkerEnd} MayWork (view_of c.begin_phase-begun.result.1).known (view_of c.run_phase-end.result.root).front (c.begin_phase-begun.result.1.splits + 1) c.in-Ok-jobs_of.jobs.items c.run_phase-end.result.ends.items kept)}
     ((c.run_phase-end.result.root ≡ c.begin_phase-begun.result.1) × (c.run_phase-end.result.ends.items ≡ [])) c.run_phase-end.result.memory c.if-end.false c.run_phase-end.ensures.run in
-    ends_long c.args.text.now c.args.place c.requires.gone.held c.members-workers.result.now (view_of c.begin_phase-begun.result.1).known (view_of c.run_phase-end.result.root).front (c.begin_phase-begun.result.1.splits + 1) c.in-Ok-jobs_of.jobs.items c.run_phase-end.result.ends.items run.0 sent run.2
+    ends_long c.args.means.now c.args.place c.requires.gone.held c.members-workers.result.now (view_of c.begin_phase-begun.result.1).known (view_of c.run_phase-end.result.root).front (c.begin_phase-begun.result.1.splits + 1) c.in-Ok-jobs_of.jobs.items c.run_phase-end.result.ends.items run.0 sent run.2
 
 pub gather-came-requires-clause-gateways : goal.gather-came-requires-clause-gateways
 gather-came-requires-clause-gateways g c =
     let are = workers_here c.args.script.now c.args.place c.splits.result c.in-Ok.staff c.members-workers.result.now c.members-workers.ensures c.in-Ok.ensures (c.splits.ensures ∙ c.requires.seats) in
-    within_gateways c.args.script.now c.args.text.now c.requires.lawful c.requires.spelled c.args.place c.args.phase.now c.requires.at c.members-workers.result.now (length c.jobs_of.new.sights.items) are (c.jobs_of.ensures.each ∙ c.requires.gone.each)
+    within_gateways c.args.script.now c.requires.lawful c.args.place c.args.phase.now c.requires.at c.members-workers.result.now (length c.jobs_of.new.sights.items) are (c.jobs_of.ensures.each ∙ c.requires.gone.each)
 
 pub gather-came-requires-clause-few : goal.gather-came-requires-clause-few
 gather-came-requires-clause-few g c = (let each = c.jobs_of.ensures.each in let gone = c.requires.gone.each in let few = c.requires.lawful.few_gateways in omega (arith, each, gone, few))
@@ -86,7 +88,7 @@ gather-came-requires-clause-few g c = (let each = c.jobs_of.ensures.each in let 
 pub gather-came-requires-clause-places : goal.gather-came-requires-clause-places
 gather-came-requires-clause-places g c =
     let are = workers_here c.args.script.now c.args.place c.splits.result c.in-Ok.staff c.members-workers.result.now c.members-workers.ensures c.in-Ok.ensures (c.splits.ensures ∙ c.requires.seats) in
-    within_tasks c.args.script.now c.args.text.now c.requires.lawful c.requires.spelled c.args.place c.args.phase.now c.requires.at c.members-workers.result.now c.members.result.now are c.members.ensures
+    within_tasks c.args.script.now c.requires.lawful c.args.place c.args.phase.now c.requires.at c.members-workers.result.now c.members.result.now are c.members.ensures
 
 pub returns-clause-seats : goal.returns-clause-seats
 returns-clause-seats g c =
@@ -94,7 +96,7 @@ returns-clause-seats g c =
     let sent = c.in-Ok-jobs_of.ensures.sent c.requires.gone.held c.requires.gone.seen in
     let run = if_false {Q = ((kept : List (ℕ × List Entry)) × HasRun c.begin_phase-begun.result.1 c.run_phase-end.result.root (vec_len c.in-Ok-jobs_of.jobs) kept × Runs {J = Post} {E = WorkerEnd} MayWork (view_of c.begin_phase-begun.result.1).known (view_of c.run_phase-end.result.root).front (c.begin_phase-begun.result.1.splits + 1) c.in-Ok-jobs_of.jobs.items c.run_phase-end.result.ends.items kept)}
     ((c.run_phase-end.result.root ≡ c.begin_phase-begun.result.1) × (c.run_phase-end.result.ends.items ≡ [])) c.run_phase-end.result.memory c.if-end.false c.run_phase-end.ensures.run in
-    let zipped = as_many (IsPostOf c.args.text.now c.args.place c.requires.gone.held) c.members-workers.result.now c.in-Ok-jobs_of.jobs.items sent in
+    let zipped = as_many (IsPostOf c.args.means.now c.args.place c.requires.gone.held) c.members-workers.result.now c.in-Ok-jobs_of.jobs.items sent in
     let counted : vec_len c.in-Ok-jobs_of.jobs ≡ length c.members-workers.result.now = (let ok = c.in-Ok-jobs_of.jobs.ok in omega (arith, zipped)) in
     always c.gather-came.result
     (next_seats c.args.script.now c.requires.lawful c.args.place c.args.phase.now c.requires.at c.begin_phase-begun.result.1.splits c.run_phase-end.result.root.splits (vec_len c.in-Ok-jobs_of.jobs) (c.begin_phase-begun.ensures.pass.2 ∙ c.requires.seats) (counted ∙ ap length are) (run.1).splits)
@@ -109,10 +111,10 @@ returns-clause-came g c =
     let clock = subst (IsClockSet c.args.phase.now (view_of c.args.root) (view_of c.begin_phase-begun.result.1)) c.in_default-begun.is c.begin_phase-begun.ensures.clock in
     let run = if_false {Q = ((kept : List (ℕ × List Entry)) × HasRun c.begin_phase-begun.result.1 c.run_phase-end.result.root (vec_len c.in-Ok-jobs_of.jobs) kept × Runs {J = Post} {E = WorkerEnd} MayWork (view_of c.begin_phase-begun.result.1).known (view_of c.run_phase-end.result.root).front (c.begin_phase-begun.result.1.splits + 1) c.in-Ok-jobs_of.jobs.items c.run_phase-end.result.ends.items kept)}
     ((c.run_phase-end.result.root ≡ c.begin_phase-begun.result.1) × (c.run_phase-end.result.ends.items ≡ [])) c.run_phase-end.result.memory c.if-end.false c.run_phase-end.ensures.run in
-    phase_comes c.args.script.now c.args.place c.args.phase.now c.requires.at c.args.root c.args.standing.now.sights.items c.args.standing.now.outcomes c.requires.gone c.requires.own.1 c.begin_phase-begun.result.1 clock.0 clock.1
-    c.args.text.now c.requires.lawful c.requires.spelled c.begin_phase-begun.result.1.splits (c.begin_phase-begun.ensures.pass.2 ∙ c.requires.seats) c.members-workers.result.now are c.in-Ok-jobs_of.jobs.items sent
+    phase_comes c.args.script.now c.args.means.now.shelf c.args.place c.args.phase.now c.requires.at c.args.root c.args.standing.now.sights.items c.args.standing.now.outcomes c.requires.gone c.requires.own.1 c.begin_phase-begun.result.1 clock.0 clock.1
+    c.args.means.now c.requires.lent refl c.requires.lawful c.begin_phase-begun.result.1.splits (c.begin_phase-begun.ensures.pass.2 ∙ c.requires.seats) c.members-workers.result.now are c.in-Ok-jobs_of.jobs.items sent
     c.run_phase-end.result.root (vec_len c.in-Ok-jobs_of.jobs) run.0 run.1 c.run_phase-end.result.ends.items run.2 c.gather-came.new.sights.items c.gather-came.new.outcomes c.gather-came.result (c.gather-came.ensures.each ∙ c.jobs_of.ensures.each)
-    (λ after own lasts have left. c.gather-came.ensures.gathers (setting_of c.args.script.now) c.args.place c.args.phase.now c.requires.gone.held after (view_of c.run_phase-end.result.root).front run.0 own lasts c.requires.lawful (gateways_counted c.args.script.now c.requires.lawful c.jobs_of.new.sights.items (c.jobs_of.ensures.each ∙ c.requires.gone.each)) c.requires.at c.members.ensures are have left
+    (λ after own lasts have left. c.gather-came.ensures.gathers (setting_by c.args.script.now c.args.means.now.shelf) c.args.place c.args.phase.now c.requires.gone.held after (view_of c.run_phase-end.result.root).front run.0 own lasts c.requires.lawful (gateways_counted c.args.script.now c.requires.lawful c.jobs_of.new.sights.items (c.jobs_of.ensures.each ∙ c.requires.gone.each)) c.requires.at c.members.ensures are have left
     (c.in-Ok-jobs_of.ensures.left c.requires.gone.held c.requires.gone.seen))
 
 -- ---- whether the full journal was met
@@ -191,3 +193,8 @@ returns-clause-reported g c = λ before told.
 
 pub returns-clause-unreported : goal.returns-clause-unreported
 returns-clause-unreported g c = c.gather-came.ensures.unreported
+
+-- ---- jobs cross threads
+
+pub run_phase-end-requires-send-J : goal.run_phase-end-requires-send-J
+run_phase-end-requires-send-J g c κs within = search (sendable, job_send)

@@ -1,13 +1,16 @@
 use Rattle.std.proofs.Common.{◌∙◌, ◌||◌, ℕ, List, [], sym, ap, subst}
-use Rattle.lifecycle_core.specs.Setting.{setting_of}
+use Rattle.script_running.specs.Lending.{AreTextsOf}
+use Rattle.script_running.specs.Shelves.{setting_by}
 use Rattle.world_core.specs.Asking.{IsAllAsked}
 use Rattle.world_core.specs.Worlds.{IsJournal}
 use Rattle.world_core.specs.declared.entry.Entry.{Entry}
 use Rattle.world_turn.specs.Opening.{opening_of}
 use Rattle.world_turn.specs.Passes.{view_of}
 use Rattle.world_turn.specs.declared.pass.Pass.{Pass}
+use Rattle.script_running.specs.Beside.{HasRunBeside}
 use Rattle.script_running.specs.Tasks.{is_full_came}
 use Rattle.script_running.specs.declared.outcome.Outcome.{Outcome}
+use Rattle.script_running.specs.declared.shelf.ShelfBlock.{ShelfBlock}
 use Rattle.script_running.proofs.Running.{first_gone, none_before, run_came}
 use Rattle.script_running.proofs.beside.run_beside.Goals as goal
 
@@ -16,7 +19,7 @@ run_phases-came-requires-clause-seats g c = λ κs lives. c.in-Ok-open.ensures.p
 
 pub run_phases-came-requires-clause-gone : goal.run_phases-came-requires-clause-gone
 run_phases-came-requires-clause-gone g c = λ κs lives.
-    first_gone (setting_of c.args.script.now) (opening_of g.B.Bucket.faults g.B.Bucket.asked c.args.world) (view_of c.in-Ok-open.root) c.in-Ok.standing.sights.items c.in-Ok.standing.outcomes c.in-Ok-open.ensures.pass.3 c.in-Ok.ensures.each c.in-Ok.ensures.unseen c.in-Ok.ensures.empty
+    first_gone (setting_by c.args.script.now c.lend-means.result.shelf) (opening_of g.B.Bucket.faults g.B.Bucket.asked c.args.world) (view_of c.in-Ok-open.root) c.in-Ok.standing.sights.items c.in-Ok.standing.outcomes c.in-Ok-open.ensures.pass.3 c.in-Ok.ensures.each c.in-Ok.ensures.unseen c.in-Ok.ensures.empty
 
 pub returns-in-Ok-open-clause-tick : goal.returns-in-Ok-open-clause-tick
 returns-in-Ok-open-clause-tick g c = c.close-closed.ensures.closes.ticks ∙ c.run_phases-came.ensures.tick ∙ ap (λ v. v.tick) c.in-Ok-open.ensures.pass.3
@@ -27,8 +30,9 @@ returns-in-Ok-open-clause-ran g c =
     let kept : IsJournal c.close-closed.result.world.tick c.close-closed.result.world.journal =
     subst (λ (n : ℕ). IsJournal n c.close-closed.result.world.journal) (ap (λ w. w.tick) c.world-kept.ensures)
     (subst (λ (es : List Entry). IsJournal c.world-kept.result.now.tick es) (ap (λ w. w.journal) c.world-kept.ensures) c.journal-after.ensures.holds.journal) in
-    run_came (setting_of c.args.script.now) (view_of c.run_phases-came.result.1) c.close-closed.result.world.tick c.close-closed.result.world.journal c.run_phases-came.new.standing.sights.items c.run_phases-came.new.standing.outcomes c.run_phases-came.result.0 c.requires.lawful c.close-closed.ensures.closes c.run_phases-came.ensures.all
-    kept tick c.run_phases-came.ensures.came
+    subst (λ (s : List ShelfBlock). HasRunBeside (setting_by c.args.script.now s) c.close-closed.result.world.journal c.run_phases-came.new.standing.outcomes c.run_phases-came.result.0) c.lend-means.ensures.shelf
+    (run_came (setting_by c.args.script.now c.lend-means.result.shelf) (view_of c.run_phases-came.result.1) c.close-closed.result.world.tick c.close-closed.result.world.journal c.run_phases-came.new.standing.sights.items c.run_phases-came.new.standing.outcomes c.run_phases-came.result.0 c.requires.lawful c.close-closed.ensures.closes c.run_phases-came.ensures.all
+    kept tick c.run_phases-came.ensures.came)
 
 pub returns-in-Ok-open-clause-refused : goal.returns-in-Ok-open-clause-refused
 returns-in-Ok-open-clause-refused g c =
@@ -49,3 +53,6 @@ run_phases-came-requires-clause-untold g c = λ κs lives. subst (λ (os : List 
 
 pub returns-in-Ok-open-clause-reported : goal.returns-in-Ok-open-clause-reported
 returns-in-Ok-open-clause-reported g c = c.run_phases-came.ensures.reported
+
+pub lend-means-requires-clause-texts : goal.lend-means-requires-clause-texts
+lend-means-requires-clause-texts g c = subst (AreTextsOf c.args.script.now.selectors) (sym c.members.ensures) c.in-Ok-selector_texts.ensures

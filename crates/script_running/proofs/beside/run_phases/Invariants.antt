@@ -1,6 +1,6 @@
 use Rattle.std.proofs.Common.{◌≡◌, false, take}
 use Rattle.script_core.specs.Workers.{seats_before}
-use Rattle.lifecycle_core.specs.Setting.{setting_of}
+use Rattle.script_running.specs.Shelves.{setting_by}
 use Rattle.world_turn.specs.Closing.{AllJoined}
 use Rattle.world_turn.specs.Passes.{table_of, view_of}
 use Rattle.script_running.specs.Going.{HasGone}
@@ -18,5 +18,5 @@ invariant-loop-place g l = record {
   seats : l.root.splits ≡ seats_before l.script l.place;
   all : AllJoined (view_of l.root);
   reported : g.P.Report.tells l.report l.script (tasks_in (take l.place l.script.phases)) l.standing.outcomes;
-  gone : HasGone (setting_of l.script) (view_of l.root) (take l.place l.script.phases) l.standing.sights.items l.standing.outcomes;
+  gone : HasGone (setting_by l.script l.means.shelf) (view_of l.root) (take l.place l.script.phases) l.standing.sights.items l.standing.outcomes;
 }

@@ -8,5 +8,5 @@ invariant-loop-worker l = record {
   each : length l.sights.items ≡ length l.initial.sights.items;
   count : length l.jobs.items ≡ l.worker-index;
   room : length l.workers ≤ l.jobs.cap;
-  sent : AreSent l.text l.place (take l.worker-index l.workers) l.initial.sights.items l.sights.items l.jobs.items;
+  sent : AreSent l.means l.place (take l.worker-index l.workers) l.initial.sights.items l.sights.items l.jobs.items;
 }

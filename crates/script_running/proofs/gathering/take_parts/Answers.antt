@@ -1,5 +1,5 @@
 use Rattle.std.proofs.Common.{◌≡◌, length, ap, ◌∙◌, arith}
-use Rattle.script_running.proofs.Telling.{of_query, of_sync, of_upload, parts_more, then_taken}
+use Rattle.script_running.proofs.Telling.{of_alone, of_query, of_sync, parts_more, then_taken}
 use Rattle.script_running.proofs.gathering.take_parts.Goals.{in-Upload+in_ok-take_part-in-Upload, in-Sync+in_ok-take_of-in-Sync, in-Query+else-loop-gateway-test}
 use Rattle.script_running.proofs.gathering.take_parts.Goals as goal
 
@@ -17,7 +17,7 @@ pub returns-clause-parts : goal.returns-clause-parts
 returns-clause-parts c = elim c.match-work.branch [
   | in-Upload+in_ok-take_part-in-Upload w ↦
       ap (λ v. v.items) w.parts-is
-      ∙ of_upload c.args.slots.now c.args.place w.in-Upload.field-0 w.in-Upload.field-1 c.args.work.now w.take_part.new.parts.items c.new-parts.result.items w.in-Upload.is c.new-parts.ensures.items w.in_ok-take_part-in-Upload.ensures.parts
+      ∙ of_alone c.args.slots.now c.args.place c.args.work.now w.take_part.new.parts.items c.new-parts.result.items w.in-Upload.is c.new-parts.ensures.items w.in_ok-take_part-in-Upload.ensures.parts
   | in-Sync+in_ok-take_of-in-Sync w ↦
       ap (λ v. v.items) w.parts-is
       ∙ of_sync c.args.slots.now c.args.place w.in-Sync.gateway c.args.work.now w.take_of.new.parts.items c.new-parts.result.items w.in-Sync.is c.new-parts.ensures.items w.in_ok-take_of-in-Sync.ensures.parts

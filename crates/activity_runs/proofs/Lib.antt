@@ -1,0 +1,2 @@
+mod Driving
+mod Ended

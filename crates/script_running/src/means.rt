@@ -1,0 +1,141 @@
+ghost use Rattle.std.specs.Prelude.{◌≡◌, ◌<◌, ℕ, List, Some, IfOk, length, slice_get};
+ghost use Rattle.matchers.specs.SelectorRefusals.{IsReadable};
+ghost use Rattle.matchers.specs.declared.matcher.Matcher.{Matcher};
+ghost use Rattle.script_running.specs.Lending.{AreTextsOf};
+
+use crate::ShelfBlock;
+use crate::declared::block_among;
+use label_sets::{Text, TextList};
+use list_core::NoMemory;
+use matchers::{Selector, SelectorList};
+use moment_core::{PartitionList, Rules};
+use script_core::{Block, Script};
+use std::alloc::Global;
+use std::marker::Model;
+use std::snapshot::Snapshot;
+use ulid_core::Ulid;
+
+/// What the workers of a script are lent of it, and what was read of the shelf for its blocks. All this crosses threads. A selector
+/// that was read does not, since it has patterns, so its text is lent.
+#[derive(Drop)]
+pub struct Means<'a> {
+    rules: &'a Rules,
+    partitions: &'a PartitionList,
+    blocks: &'a [Block],
+    shelf: &'a [ShelfBlock],
+    /// The texts of the selectors, in their order.
+    texts: &'a [Text],
+    script: Snapshot<Script>,
+}
+
+impl<'a> Model for Means<'a> {
+    ghost use Rattle.script_running.specs.Lending.{AreParts, Loan};
+
+    ghost Value = { Loan };
+
+    ghost view = { λ means. record { script = means.script.value; shelf = means.shelf.now } };
+
+    ghost invariant = { λ means. AreParts means.script.value means.shelf.now means.rules.now
+        means.partitions.now means.blocks.now means.texts.now };
+}
+
+/// The texts of selectors.
+pub fn selector_texts(alloc: Global, selectors: &SelectorList) -> Result<TextList, NoMemory>
+    ensures { IfOk result (AreTextsOf selectors.now) }
+{
+    texts_of(alloc, selectors.members())
+}
+
+fn texts_of(alloc: Global, selectors: &[Selector]) -> Result<TextList, NoMemory>
+    ensures { IfOk result (AreTextsOf selectors.now) }
+{
+    let mut texts = TextList::new(alloc);
+    for selector in selectors {
+        let own = Text::from_str(alloc, selector.text())?;
+        texts.push(own)?;
+    }
+    Ok(texts)
+}
+
+impl<'a> Means<'a> {
+    ghost use Rattle.std.specs.Prelude.{◌≡◌, ◌<◌, Some, IfOk, IsTrue, length, slice_get};
+    ghost use Rattle.script_core.specs.Blocks.{declares};
+    ghost use Rattle.script_core.specs.Lawful.{AreLawfulRules, IsLawfulBlock, IsLawfulScript};
+    ghost use Rattle.lifecycle_core.specs.Held.{declared};
+    ghost use Rattle.script_running.specs.Lending.{setting_in};
+    ghost use Rattle.script_running.specs.Shelves.{AreAllAtHand, Knows};
+
+    /// What is lent of a script whose selectors have these texts.
+    pub fn lend(script: &'a Script, shelf: &'a [ShelfBlock], texts: &'a [Text]) -> Means<'a>
+        requires lawful { IsLawfulScript script.now }
+        requires at_hand { AreAllAtHand script.now shelf.now }
+        requires texts { AreTextsOf script.now.selectors texts.now }
+        ensures script { result.script ≡ script.now }
+        ensures shelf { result.shelf ≡ shelf.now }
+    {
+        Means {
+            rules: &script.rules,
+            partitions: &script.partitions,
+            blocks: script.blocks.members(),
+            shelf,
+            texts,
+            script: Snapshot::of(script),
+        }
+    }
+
+    pub(crate) fn rules(&self) -> &Rules
+        ensures are { result.now ≡ self.now.script.rules }
+        ensures lawful { AreLawfulRules result.now }
+    {
+        self.rules
+    }
+
+    pub(crate) fn partitions(&self) -> &PartitionList
+        ensures are { result.now ≡ self.now.script.partitions }
+        ensures lawful { IsLawfulScript self.now.script }
+    {
+        self.partitions
+    }
+
+    pub(crate) fn shelf(&self) -> &[ShelfBlock]
+        ensures { result.now ≡ self.now.shelf }
+    {
+        self.shelf
+    }
+
+    /// The declared block of a ULID.
+    pub(crate) fn block(&self, ulid: Ulid) -> &Block
+        requires { IsTrue (declares self.now.script.blocks ulid) }
+        ensures found { declared self.now.script ulid ≡ Some result.now }
+        ensures lawful { IsLawfulBlock result.now }
+        ensures known { Knows (setting_in self.now) self.now.shelf result.now }
+    {
+        block_among(&self.script, self.blocks, ulid)
+    }
+
+    /// The selector at a place, which is read from its text.
+    pub(crate) fn selector(&self, alloc: Global, place: usize) -> Result<Selector, NoMemory>
+        requires { place < length self.now.script.selectors }
+        ensures { IfOk result
+            (λ selector. slice_get self.now.script.selectors place ≡ Some selector) }
+    {
+        read_at(alloc, self.texts, &self.rules.replicas, place)
+    }
+}
+
+/// Reads the text at a place, of a selector that was read once. Where a pattern is too large now, it is given up as for want of memory.
+fn read_at(
+    alloc: Global,
+    texts: &[Text],
+    replicas: &TextList,
+    place: usize,
+) -> Result<Selector, NoMemory>
+    requires { place < length texts.now }
+    ensures { (text : List ℕ) (selector : List Matcher) → slice_get texts.now place ≡ Some text
+        → IsReadable text replicas.now selector → IfOk result (λ read. read ≡ selector) }
+{
+    match Selector::read(alloc, texts[place].as_str(), replicas) {
+        Ok(selector) => Ok(selector),
+        Err(_) => Err(NoMemory),
+    }
+}
