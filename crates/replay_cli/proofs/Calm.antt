@@ -6,24 +6,17 @@ use Rattle.std.proofs.lemmas.List.Elements.{All-head}
 use Rattle.bucket_core.specs.Causes.{Rose}
 use Rattle.bucket_core.specs.Contents.{Contents, nothing}
 use Rattle.bucket_core.specs.Pages.{IsName, IsPage}
-use Rattle.world_core.specs.Keeping.{IsFull}
-use Rattle.world_core.specs.Standing.{IsHonest}
-use Rattle.world_core.specs.Worlds.{failed_count}
 use Rattle.world_core.specs.declared.entry.Entry.{Entry}
 use Rattle.script_core.specs.GivenUp.{HasPatternLine}
 use Rattle.script_core.specs.Reading.{script_of}
 use Rattle.script_core.specs.declared.script_refusal.ScriptRefusal.{ScriptRefusal}
 use Rattle.script_core.specs.declared.script_refusal.ScriptRefusal.TheVariants.{TooLong}
-use Rattle.lifecycle_core.specs.Setting.{Setting, setting_of}
-use Rattle.lifecycle_core.proofs.journals.UnbrokenHonest.{unbroken_is_honest}
-use Rattle.replay_cli.specs.Statuses.{number_of}
-use Rattle.replay_cli.specs.Kept.{IsHandedBack, IsTrueOfStore}
-use Rattle.replay_cli.specs.Shippable.{RefusesNone}
-use Rattle.replay_cli.specs.Verdicts.{Around, IsAdded, IsBegun, IsCalm, IsCaused, IsFullRun, IsSaid, IsTrusted, IsUnread, IsWholeRun, IsWorked, Saying, TellsRefused, status_of, text_of}
-use Rattle.replay_cli.specs.declared.status.Status.{Status}
-use Rattle.replay_cli.specs.declared.verdict.Verdict.{Verdict}
-use Rattle.replay_cli.specs.declared.verdict.Verdict.TheVariants.{WordsRefused, SourceFault, ScriptRefused, SiteFault, NotEmpty, Full, Report, Checked, NoMemory}
-use Rattle.replay_cli.proofs.CalmRuns.{calm_run}
+use Rattle.call_verdicts.specs.Statuses.{number_of}
+use Rattle.call_verdicts.specs.Verdicts.{Around, IsAdded, IsBegun, IsCalm, IsCalmJournal, IsCaused, IsFullRun, IsRunOfText, IsSaid, IsUnread, IsWholeRun, IsWorked, MeetsLimit, Saying, TellsRefused, status_of, text_of}
+use Rattle.call_verdicts.specs.declared.status.Status.{Status}
+use Rattle.call_verdicts.specs.declared.verdict.Verdict.{Verdict}
+use Rattle.call_verdicts.specs.declared.verdict.Verdict.TheVariants.{WordsRefused, SourceFault, ScriptRefused, SiteFault, NotEmpty, Full, Report, Checked, NoMemory}
+use Rattle.replay_cli.proofs.CalmRuns.{calm_run, well_run}
 
 -- some query of the text asks by a lawful pattern
 abbrev HasPatterns : Around → Type 0
@@ -72,50 +65,53 @@ no_name_first : (around : Around) (name : List ℕ) → IsBegun around → IfSom
 no_name_first around name (inl ready) first none = no_name name (subst (λ (o : Option Contents). IfSome o (λ contents. IsPage contents [] [] 1 (name ∷ []))) ready.empty first)
 no_name_first around name (inr some) first none = unlike around.journal (λ entries. entries ≡ []) some none
 
-abbrev Rests : List Entry → Type 0
-Rests entries = (¬ IsFull entries) × IsHonest entries × (failed_count entries ≡ 0)
+-- of what there is, what follows from both
+some_both : (o : Option (List Entry)) (P Q R : List Entry → Type 0) → ((entries : List Entry) → P entries → Q entries → R entries) → IfSome o P → IsSomeAnd o Q → IsSomeAnd o R
+some_both None P Q R both if_any some = absurd some
+some_both (Some entries) P Q R both if_any some = both entries if_any some
 
--- what no rule refuses is honest
-trusted_is_honest : {B : Type 0} (contents : B → Option Contents) (faults : B → ℕ) (setting : Setting) (entries : List Entry) (store : B)
-    → IsTrueOfStore contents faults entries store → IsTrusted setting entries → IsHonest entries
-trusted_is_honest contents faults setting entries store is (inl honest) = honest
-trusted_is_honest contents faults setting entries store is (inr unbroken) = unbroken_is_honest setting (is.journal).0 entries (is.journal).1 is.bytes unbroken
+-- a whole run that did not end as asked met a limit
+limit_met : {verdict : Verdict} (around : Around) (ran : IsRunOfText around verdict) (text : List ℕ) (entries : List Entry) → IsCalmJournal around entries → around.is_done ran.setting entries → IsWholeRun ran.setting false text entries
+    → MeetsLimit ran.setting text entries
+limit_met around ran text entries rests done whole =
+    let trusted = rests.trusted ran.setting (record { read = ran.read; lawful = ran.lawful; done = done }) in
+    record {
+      run = whole;
+      well = well_run ran.setting false text entries whole trusted rests.unfailed;
+      meets = λ none. true≢false (sym (calm_run ran.setting false text entries whole trusted rests.unfailed none.0 none.1));
+    }
 
-pub at_rest : {B : Type 0} (contents : B → Option Contents) (faults : B → ℕ) (setting : Setting) (journal : Option (List Entry)) (store : Option B)
-    → IsHandedBack contents faults journal store → IfSome journal (λ entries. (¬ IsFull entries) × IsTrusted setting entries × (failed_count entries ≡ 0)) → IfSome journal Rests
-at_rest contents faults setting None store back rests = tt
-at_rest contents faults setting (Some entries) None back rests = absurd back
-at_rest contents faults setting (Some entries) (Some b) back rests = (rests.0, trusted_is_honest contents faults setting entries b back rests.1, rests.2)
-
-calm_worked : {setting : Setting} (around : Around) (saying : Saying) (verdict : Verdict) (status : Status) → IsCalm around saying setting → IfSome around.journal Rests → IsWorked around verdict → IsSaid verdict saying status → IsGood around saying status
-calm_worked around saying WordsRefused status calm rests (inl (unread, none, unasked)) said = absurd unread
-calm_worked around saying WordsRefused status calm rests (inr run) said = absurd run.run
-calm_worked around saying SourceFault status calm rests (inl (unread, none, unasked)) said = absurd (calm.source unread)
-calm_worked around saying SourceFault status calm rests (inr run) said = absurd run.run
-calm_worked around saying (ScriptRefused refusal) status calm rests (inl (unread, none, unasked)) said =
+calm_worked : (around : Around) (saying : Saying) (verdict : Verdict) (status : Status) → IsCalm around saying → IsWorked around verdict → IsSaid verdict saying status → IsGood around saying status
+calm_worked around saying WordsRefused status calm (inl (unread, none, unasked)) said = absurd unread
+calm_worked around saying WordsRefused status calm (inr run) said = absurd run.run
+calm_worked around saying SourceFault status calm (inl (unread, none, unasked)) said = absurd (calm.source unread)
+calm_worked around saying SourceFault status calm (inr run) said = absurd run.run
+calm_worked around saying (ScriptRefused refusal) status calm (inl (unread, none, unasked)) said =
     said_well around (ScriptRefused refusal) saying status calm.sink (λ added. inr (inr (inl (refl, refused_for_size around refusal calm.begins unread none)))) said
-calm_worked around saying (ScriptRefused refusal) status calm rests (inr run) said = absurd run.run
-calm_worked around saying SiteFault status calm rests (inl (unread, none, unasked)) said = absurd unread
-calm_worked around saying SiteFault status calm rests (inr run) said = absurd (calm.site run.run.0)
-calm_worked around saying (NotEmpty name) status calm rests (inl (unread, none, unasked)) said = absurd unread
-calm_worked around saying (NotEmpty name) status calm rests (inr run) said = absurd (no_name_first around name calm.begins run.run.0 run.run.1)
-calm_worked around saying (Full lines) status calm rests (inl (unread, none, unasked)) said = absurd unread
-calm_worked around saying (Full lines) status calm rests (inr run) said =
-    let both = joined around.journal Rests (λ entries. around.is_done (setting_of run.script) entries × IsFullRun (setting_of run.script) lines.items entries) rests run.run.1 in
-    absurd ((both.1).0 (both.2).1.full)
-calm_worked around saying (Report lines as_asked) status calm rests (inl (unread, none, unasked)) said = absurd unread
-calm_worked around saying (Report lines true) status calm rests (inr run) said = said_well around (Report lines true) saying status calm.sink (λ added. inl refl) said
-calm_worked around saying (Report lines false) status calm rests (inr run) said =
-    let both = joined around.journal Rests (λ entries. around.is_done (setting_of run.script) entries × IsWholeRun (setting_of run.script) false lines.items entries) rests run.run.1 in
-    let at = both.1 in
-    let refuses : ¬ RefusesNone (setting_of run.script) = λ none. true≢false (sym (calm_run (setting_of run.script) false lines.items both.0 (both.2).1 at.1 at.2 none)) in
+calm_worked around saying (ScriptRefused refusal) status calm (inr run) said = absurd run.run
+calm_worked around saying SiteFault status calm (inl (unread, none, unasked)) said = absurd unread
+calm_worked around saying SiteFault status calm (inr run) said = elim run.run.0 [
+  | inl site ↦ absurd (calm.site site)
+  | inr shelf ↦ absurd (calm.shelf shelf)
+]
+calm_worked around saying (NotEmpty name) status calm (inl (unread, none, unasked)) said = absurd unread
+calm_worked around saying (NotEmpty name) status calm (inr run) said = absurd (no_name_first around name calm.begins run.run.0 run.run.1)
+calm_worked around saying (Full lines) status calm (inl (unread, none, unasked)) said = absurd unread
+calm_worked around saying (Full lines) status calm (inr run) said =
+    let both = joined around.journal (IsCalmJournal around) (λ entries. around.is_done run.setting entries × IsFullRun run.setting lines.items entries) calm.journal run.run.1 in
+    absurd ((both.1).room (both.2).1.full)
+calm_worked around saying (Report lines as_asked) status calm (inl (unread, none, unasked)) said = absurd unread
+calm_worked around saying (Report lines true) status calm (inr run) said = said_well around (Report lines true) saying status calm.sink (λ added. inl refl) said
+calm_worked around saying (Report lines false) status calm (inr run) said =
+    let limit = some_both around.journal (IsCalmJournal around) (λ entries. around.is_done run.setting entries × IsWholeRun run.setting false lines.items entries) (MeetsLimit run.setting lines.items)
+    (λ entries rests ran. limit_met around run lines.items entries rests ran.0 ran.1) calm.journal run.run.1 in
     said_well around (Report lines false) saying status calm.sink
-    (λ added. inr (inr (inr (refl, record { verdict = Report lines false; ran = run; fails = refl; refuses = refuses; written = added })))) said
-calm_worked around saying (Checked block outcome) status calm rests (inl (unread, none, unasked)) said = absurd unread
-calm_worked around saying (Checked block outcome) status calm rests (inr run) said = absurd run.run
-calm_worked around saying NoMemory status calm rests worked said = said_well around NoMemory saying status calm.sink (λ added. inr (inl refl)) said
+    (λ added. inr (inr (inr (refl, record { verdict = Report lines false; ran = run; fails = refl; limit = limit; written = added })))) said
+calm_worked around saying (Checked block outcome) status calm (inl (unread, none, unasked)) said = absurd unread
+calm_worked around saying (Checked block outcome) status calm (inr run) said = absurd run.run
+calm_worked around saying NoMemory status calm worked said = said_well around NoMemory saying status calm.sink (λ added. inr (inl refl)) said
 
-pub calm_end : {setting : Setting} (around : Around) (saying : Saying) (verdict : Verdict) (status : Status) → IsCalm around saying setting → IfSome around.journal Rests → IsCaused around verdict → IsSaid verdict saying status → IsGood around saying status
-calm_end around saying verdict status calm rests (inl (run, none, worked), short) said = calm_worked around saying verdict status calm rests worked said
-calm_end around saying verdict status calm rests (inr (inl (no_run, checked, opened)), short) said = absurd (no_run.none calm.accepts)
-calm_end around saying verdict status calm rests (inr (inr (no_run, block, refused, unasked)), short) said = absurd (no_run.none calm.accepts)
+pub calm_end : (around : Around) (saying : Saying) (verdict : Verdict) (status : Status) → IsCalm around saying → IsCaused around verdict → IsSaid verdict saying status → IsGood around saying status
+calm_end around saying verdict status calm (inl (run, none, worked), short) said = calm_worked around saying verdict status calm worked said
+calm_end around saying verdict status calm (inr (inl (no_run, checked, opened)), short) said = absurd (no_run.none calm.accepts)
+calm_end around saying verdict status calm (inr (inr (no_run, block, refused, unasked)), short) said = absurd (no_run.none calm.accepts)

@@ -3,13 +3,16 @@ use Rattle.std.proofs.Common.{◌≡◌, inl, inr, ℕ, zero, suc, ◌+◌, Bool
 use Rattle.std.specs.List.{AllZip, list_all, zip, AllByRecursion}
 use Rattle.std.proofs.lemmas.List.Folds.{list_all-append}
 use Rattle.std.proofs.lemmas.Bool.{and_from}
-use Rattle.world_core.specs.Standing.{IsHonest}
 use Rattle.world_core.specs.Worlds.{failed_count}
 use Rattle.world_core.specs.declared.entry.Entry.{Entry}
 use Rattle.shipper.specs.declared.upload_end.UploadEnd.{UploadEnd}
 use Rattle.shipper.specs.declared.upload_end.UploadEnd.TheVariants as shipped
 use Rattle.meta_fetcher.specs.declared.sync_end.SyncEnd.{SyncEnd}
 use Rattle.meta_fetcher.specs.declared.sync_end.SyncEnd.TheVariants as fetched
+use Rattle.compactor.specs.declared.compact_end.CompactEnd.{CompactEnd}
+use Rattle.compactor.specs.declared.compact_end.CompactEnd.TheVariants as merged
+use Rattle.cleaner.specs.declared.clean_end.CleanEnd.{CleanEnd}
+use Rattle.cleaner.specs.declared.clean_end.CleanEnd.TheVariants as swept
 use Rattle.series_calls.specs.declared.series_end.SeriesEnd.{SeriesEnd}
 use Rattle.series_calls.specs.declared.series_end.SeriesEnd.TheVariants as called
 use Rattle.script_workers.specs.Hands.{gateway_count, gateway_of, hands_of_task}
@@ -21,21 +24,22 @@ use Rattle.script_workers.specs.declared.task.Task.{Task}
 use Rattle.script_workers.specs.declared.work.Work.{Work}
 use Rattle.script_workers.specs.declared.work.Work.TheVariants as work
 use Rattle.script_workers.specs.declared.worker.Worker.{Worker}
-use Rattle.lifecycle_core.specs.Causes.{IsWell}
+use Rattle.lifecycle_core.specs.Causes.{AreWell as AllWell, IsWell}
 use Rattle.lifecycle_core.specs.Conducts.{CameTo}
 use Rattle.lifecycle_core.specs.Holdings.{Use}
-use Rattle.lifecycle_core.specs.Phases.{by_workers}
 use Rattle.lifecycle_core.specs.Setting.{Setting}
-use Rattle.lifecycle_core.specs.Tasks.{End, answered, not_asked, refused, stopped, synced, uploaded, without_view}
-use Rattle.lifecycle_core.specs.Ways.{AreFinished, AreInTurn, Way}
+use Rattle.lifecycle_core.specs.Tasks.{End, answered, cleaned, compacted, not_asked, refused, stopped, synced, uploaded, without_view}
+use Rattle.lifecycle_core.proofs.phases.Turns.{finished_in_turn}
 use Rattle.list_core.proofs.Membership.{contains_first, contains_later, member_cases, no_member}
-use Rattle.script_running.specs.Outcomes.{IsOutcome, IsOutcomeOf, IsPart, IsQueryOutcome, PhasesCame, TasksCame, call_part, first_none, sync_outcome, upload_outcome, why_none}
+use Rattle.script_running.specs.Outcomes.{IsOutcome, IsOutcomeOf, IsPart, IsQueryOutcome, PhasesCame, TasksCame, call_part, clean_outcome, compact_outcome, first_none, sync_outcome, upload_outcome, why_none}
 use Rattle.script_running.specs.Outcomes.{is_as_asked}
-use Rattle.replay_cli.specs.Shippable.{RefusesNone}
-use Rattle.replay_cli.specs.Verdicts.{IsWholeRun}
+use Rattle.call_verdicts.specs.Shippable.{IsTooGreat, RefusesNone, StaysWithin}
+use Rattle.call_verdicts.specs.Verdicts.{IsTrusted, IsWholeRun}
 use Rattle.replay_cli.proofs.Refusals.{none_refused}
 use Rattle.script_running.specs.declared.outcome.Outcome.{Outcome}
 use Rattle.script_running.specs.declared.outcome.Outcome.TheVariants as outcome
+use Rattle.script_running.specs.declared.outcome.CompactOutcome.TheVariants as compact
+use Rattle.script_running.specs.declared.outcome.CleanOutcome.TheVariants as clean
 use Rattle.script_running.specs.declared.outcome.QueryOutcome.{QueryOutcome}
 use Rattle.script_running.specs.declared.outcome.QueryOutcome.TheVariants as query
 use Rattle.script_running.specs.declared.outcome.UploadOutcome.TheVariants as upload
@@ -46,9 +50,9 @@ use Rattle.script_running.specs.declared.part.QueryPart.TheVariants as given
 
 -- ---- one task
 
--- it came to what it is for, and its block is not refused
+-- it came to what it is for, its block is not refused, and it met no limit
 abbrev Calm : End → Type 0
-Calm end = IsWell end × ((cause : ℕ) → ¬ (end ≡ refused cause))
+Calm end = IsWell end × ((cause : ℕ) → ¬ (end ≡ refused cause)) × (¬ IsTooGreat end)
 
 upload_asked : (end : UploadEnd) → IsWell (uploaded end) → is_as_asked (outcome.Upload (upload_outcome end)) ≡ true
 upload_asked (shipped.Done count) well = refl
@@ -61,10 +65,26 @@ sync_asked (fetched.Fault entry) well = absurd well
 sync_asked (fetched.Damaged entry) well = absurd well
 sync_asked fetched.TooMany well = absurd well
 
+compact_asked : (end : CompactEnd) → IsWell (compacted end) → ¬ IsTooGreat (compacted end) → is_as_asked (outcome.Compact (compact_outcome end)) ≡ true
+compact_asked (merged.Done collected groups expired) well fits = refl
+compact_asked (merged.Fault entry) well fits = absurd well
+compact_asked (merged.Missing entry) well fits = absurd well
+compact_asked (merged.Damaged entry) well fits = absurd well
+compact_asked merged.TooMany well fits = absurd well
+compact_asked merged.TooLarge well fits = absurd (fits tt)
+
+clean_asked : (end : CleanEnd) → IsWell (cleaned end) → ¬ IsTooGreat (cleaned end) → is_as_asked (outcome.Clean (clean_outcome end)) ≡ true
+clean_asked (swept.Done blocks partials) well fits = refl
+clean_asked (swept.Fault entry) well fits = absurd well
+clean_asked (swept.Damaged entry) well fits = absurd well
+clean_asked swept.TooMany well fits = absurd (fits tt)
+
 -- a part that is as asked
 abbrev IsFine : Part → Type 0
 IsFine (part.Upload end) = is_as_asked (outcome.Upload end) ≡ true
 IsFine (part.Sync end) = is_as_asked (outcome.Sync end) ≡ true
+IsFine (part.Compact end) = is_as_asked (outcome.Compact end) ≡ true
+IsFine (part.Clean end) = is_as_asked (outcome.Clean end) ≡ true
 IsFine (part.Query own) = why_none own ≡ None
 
 call_fine : (used : Use) (end : SeriesEnd) → IsWell (answered used end) → why_none (call_part end) ≡ None
@@ -81,6 +101,10 @@ part_fine (work.Upload ulid stop) (uploaded e) one well is = fine_as one (part.U
 part_fine (work.Upload ulid stop) (refused cause) one well is = absurd (well.1 cause refl)
 part_fine (work.Upload ulid stop) (stopped count) one well is = fine_as one (part.Upload (upload.Stopped count)) is refl
 part_fine (work.Sync gateway) (synced e) one well is = fine_as one (part.Sync (sync_outcome e)) is (sync_asked e well.0)
+part_fine (work.Compact stop) (compacted e) one well is = fine_as one (part.Compact (compact_outcome e)) is (compact_asked e well.0 well.2)
+part_fine (work.Compact stop) (stopped count) one well is = fine_as one (part.Compact (compact.Stopped count)) is refl
+part_fine (work.Clean stop) (cleaned e) one well is = fine_as one (part.Clean (clean_outcome e)) is (clean_asked e well.0 well.2)
+part_fine (work.Clean stop) (stopped count) one well is = fine_as one (part.Clean (clean.Stopped count)) is refl
 part_fine (work.Query low high n) (answered used e) one well is = fine_as one (part.Query (call_part e)) is (call_fine used e well.0)
 part_fine (work.Query low high n) without_view one well is = absurd well.0
 part_fine (work.Query low high n) not_asked one well is = fine_as one (part.Query given.NotAsked) is refl
@@ -112,6 +136,8 @@ asked_as o p is asked = ap is_as_asked is ∙ asked
 of_asked : (w : Work) (parts : List Part) (o : Outcome) → AllByRecursion IsFine parts → IsOutcomeOf w parts o → is_as_asked o ≡ true
 of_asked (work.Upload ulid stop) parts o fine (end, are, is) = asked_as o (outcome.Upload end) is (subst (AllByRecursion IsFine) are fine).0
 of_asked (work.Sync gateway) parts o fine (end, are, is) = asked_as o (outcome.Sync end) is (subst (AllByRecursion IsFine) are fine).0
+of_asked (work.Compact stop) parts o fine (end, are, is) = asked_as o (outcome.Compact end) is (subst (AllByRecursion IsFine) are fine).0
+of_asked (work.Clean stop) parts o fine (end, are, is) = asked_as o (outcome.Clean end) is (subst (AllByRecursion IsFine) are fine).0
 of_asked (work.Query low high n) parts o fine (own, end, are, is, same) = asked_as o (outcome.Query end) same (query_asked own end (subst (AllByRecursion IsFine) are fine) is)
 
 outcome_asked : (w : Work) (own : List End) (o : Outcome) → AreWell own → IsOutcome w own o → is_as_asked o ≡ true
@@ -153,17 +179,15 @@ phases_asked script number (phase ∷ phases) (first ∷ later) outcomes well (o
     ∙ and_from _ _ (tasks_asked (workers_of script number) first (λ es end among came. well first es end (contains_first first later) among came) script 0 phase.tasks own here)
     (phases_asked script (number + 1) phases later others (λ p es end here' among came. well p es end (contains_later first p later here') among came) rest)
 
--- where every phase came to all its ends, each did before the next one
-pub finished_turns : {State Ends : Type 0} (way : Way State Ends) (number : ℕ) (phases : List Phase) (ends : List Ends) → AreFinished way number phases ends → AreInTurn way number phases ends
-finished_turns way number [] [] finished = tt
-finished_turns way number [] (own ∷ ends) finished = absurd (cc (finished))
-finished_turns way number (phase ∷ phases) [] finished = tt
-finished_turns way number (phase ∷ phases) (own ∷ ends) finished = (λ more. finished.0, finished_turns way (number + 1) phases ends finished.1)
+pub well_run : (setting : Setting) (as_asked : Bool) (text : List ℕ) (journal : List Entry) (run : IsWholeRun setting as_asked text journal) → IsTrusted setting journal → failed_count journal ≡ 0 → AllWell run.ends
+well_run setting as_asked text journal run trusted none = run.guaranteed.complete (finished_in_turn setting run.ends run.finished) trusted none
 
-pub calm_run : (setting : Setting) (as_asked : Bool) (text : List ℕ) (journal : List Entry) → IsWholeRun setting as_asked text journal → IsHonest journal → failed_count journal ≡ 0 → RefusesNone setting → as_asked ≡ true
-calm_run setting as_asked text journal run honest none ships =
+pub calm_run : (setting : Setting) (as_asked : Bool) (text : List ℕ) (journal : List Entry) (run : IsWholeRun setting as_asked text journal) → IsTrusted setting journal → failed_count journal ≡ 0 → RefusesNone setting → StaysWithin run.ends
+    → as_asked ≡ true
+calm_run setting as_asked text journal run trusted none ships within =
     run.report.flag ∙ phases_asked setting.script 0 setting.script.phases run.ends run.report.outcomes
     (λ phase own end in_ends in_phase in_own. (
-      run.guaranteed.complete (finished_turns (by_workers setting) 0 setting.script.phases run.ends run.finished) honest none end (phase, own, in_ends, in_phase, in_own),
+      well_run setting as_asked text journal run trusted none end (phase, own, in_ends, in_phase, in_own),
       none_refused setting journal run.ends ships run.run end (phase, own, in_ends, in_phase, in_own),
+      within end (phase, own, in_ends, in_phase, in_own),
     )) run.report.came

@@ -2,7 +2,7 @@
 use Rattle.std.proofs.Common.{◌≡◌, ℕ, List, sym, subst}
 use Rattle.std.specs.Prelude.{Option}
 use Rattle.world_core.specs.declared.entry.Entry.{Entry}
-use Rattle.replay_cli.specs.declared.run.Run.{Run}
+use Rattle.call_verdicts.specs.declared.run.Run.{Run}
 use Rattle.run_notes.specs.declared.run_note.RunNote.{RunNote}
 
 -- what holds of the parts holds of what was made of them

@@ -12,7 +12,7 @@ use Rattle.std.proofs.lemmas.List.Elements.{All-contains}
 use Rattle.label_sets.specs.declared.series.Series.{Series}
 use Rattle.world_core.specs.declared.entry.Entry.{Entry}
 use Rattle.script_workers.specs.Hands.{gateway_count, gateway_of, hands_of, hands_of_task, places_from, same_hand, seats_after, worker_of, workers_from}
-use Rattle.script_workers.specs.Whose.{IsFor, IsTaskOf, asks, ships, syncs}
+use Rattle.script_workers.specs.Whose.{IsFor, IsTaskOf, asks, cleans, compacts, ships, syncs}
 use Rattle.script_workers.specs.declared.hand.Hand.{Hand}
 use Rattle.script_workers.specs.declared.hand.Hand.TheVariants as hands
 use Rattle.script_workers.specs.declared.phase.Phase.{Phase}
@@ -25,7 +25,7 @@ use Rattle.script_core.specs.Workers.{seats_before, workers_after, workers_of}
 use Rattle.script_core.specs.declared.script.Script.{Script}
 use Rattle.lifecycle_core.specs.Conducts.{CameTo}
 use Rattle.lifecycle_core.specs.Setting.{Setting}
-use Rattle.lifecycle_core.specs.Tasks.{End, answered, not_asked, refused, stopped, synced, uploaded, without_view}
+use Rattle.lifecycle_core.specs.Tasks.{End, answered, cleaned, compacted, not_asked, refused, stopped, synced, uploaded, without_view}
 use Rattle.vertical_merge.proofs.OneMerge.{one_merge}
 use Rattle.lifecycle_core.proofs.phases.Duties.{same_self}
 use Rattle.lifecycle_core.proofs.phases.HandLists.{Apart, joins_from}
@@ -43,7 +43,12 @@ use Rattle.script_running.specs.declared.part.QueryPart.{QueryPart}
 use Rattle.querier.specs.Gathered.{IsGathered, gathered_samples}
 use Rattle.querier.specs.declared.answer.Answer.{Answer}
 use Rattle.querier.specs.declared.answer.Names.{Names}
-use Rattle.replay_cli.specs.Verdicts.{IsFullRun, IsReport, IsWholeRun, report_of, tasks_of}
+use Rattle.breach_finding.specs.declared.found.Breach.{Breach}
+use Rattle.breach_finding.proofs.OneAnswer.{one_answer}
+use Rattle.script_core.specs.Lawful.{IsLawfulScript}
+use Rattle.report_lines.specs.BreachLines.{breach_text}
+use Rattle.call_verdicts.specs.Verdicts.{IsFullRun, IsReport, IsWholeRun}
+use Rattle.report_lines.specs.Telling.{report_of, tasks_of}
 
 -- ---- one worker does a task
 
@@ -72,15 +77,17 @@ zip_once (p ∷ ps) (x ∷ own) place one other up a b =
     ]
 
 module _ (gateways : ℕ) (tasks : List Task) where
-  upload_at : (own place : ℕ) (w : Work) → IsFor gateways (hands.Upload own) place w → own ≡ place
-  upload_at own place w (ships ulid stop is hand) = cc (hand)
-  upload_at own place w (syncs gateway is hand) = absurd (cc (hand))
-  upload_at own place w (asks low high selector gateway is hand below) = absurd (cc (hand))
+  alone_at : (own place : ℕ) (w : Work) → IsFor gateways (hands.Alone own) place w → own ≡ place
+  alone_at own place w (ships ulid stop is hand) = cc (hand)
+  alone_at own place w (syncs gateway is hand) = absurd (cc (hand))
+  alone_at own place w (compacts stop is hand) = cc (hand)
+  alone_at own place w (cleans stop is hand) = cc (hand)
+  alone_at own place w (asks low high selector gateway is hand below) = absurd (cc (hand))
 
   hand_by : (one other : Hand) (place : ℕ) (w v : Work) → gateway_of one ≡ gateway_of other → IsFor gateways one place w → IsFor gateways other place v → one ≡ other
-  hand_by (hands.Upload a) (hands.Upload b) place w v same is so = ap hands.Upload (upload_at a place w is ∙ sym (upload_at b place v so))
-  hand_by (hands.Upload a) (hands.Gateway b) place w v same is so = absurd (cc (same))
-  hand_by (hands.Gateway a) (hands.Upload b) place w v same is so = absurd (cc (same))
+  hand_by (hands.Alone a) (hands.Alone b) place w v same is so = ap hands.Alone (alone_at a place w is ∙ sym (alone_at b place v so))
+  hand_by (hands.Alone a) (hands.Gateway b) place w v same is so = absurd (cc (same))
+  hand_by (hands.Gateway a) (hands.Alone b) place w v same is so = absurd (cc (same))
   hand_by (hands.Gateway a) (hands.Gateway b) place w v same is so = ap hands.Gateway (cc (same))
 
   -- of one gateway, or of none, one hand does the task at a place
@@ -160,6 +167,10 @@ part_once (work.Upload ulid stop) (uploaded end) one other is so = is ∙ sym so
 part_once (work.Upload ulid stop) (refused cause) one other is so = is ∙ sym so
 part_once (work.Upload ulid stop) (stopped count) one other is so = is ∙ sym so
 part_once (work.Sync gateway) (synced end) one other is so = is ∙ sym so
+part_once (work.Compact stop) (compacted end) one other is so = is ∙ sym so
+part_once (work.Compact stop) (stopped count) one other is so = is ∙ sym so
+part_once (work.Clean stop) (cleaned end) one other is so = is ∙ sym so
+part_once (work.Clean stop) (stopped count) one other is so = is ∙ sym so
 part_once (work.Query low high selector) (answered used end) one other is so = is ∙ sym so
 part_once (work.Query low high selector) without_view one other is so = is ∙ sym so
 part_once (work.Query low high selector) not_asked one other is so = is ∙ sym so
@@ -195,6 +206,10 @@ of_once (work.Upload ulid stop) parts one other (end, is, o) (also, so, p) =
     let same : end ≡ also = cc (is, so) in o ∙ ap outcome.Upload same ∙ sym p
 of_once (work.Sync gateway) parts one other (end, is, o) (also, so, p) =
     let same : end ≡ also = cc (is, so) in o ∙ ap outcome.Sync same ∙ sym p
+of_once (work.Compact stop) parts one other (end, is, o) (also, so, p) =
+    let same : end ≡ also = cc (is, so) in o ∙ ap outcome.Compact same ∙ sym p
+of_once (work.Clean stop) parts one other (end, is, o) (also, so, p) =
+    let same : end ≡ also = cc (is, so) in o ∙ ap outcome.Clean same ∙ sym p
 of_once (work.Query low high selector) parts one other (own, end, are, is, o) (too, also, so_are, so, p) =
     let same : own ≡ too = same_parts own too (sym are ∙ so_are) in
     o ∙ ap outcome.Query (query_once own end also is (subst (λ (l : List QueryPart). IsQueryOutcome l also) (sym same) so)) ∙ sym p
@@ -253,10 +268,14 @@ report_once script phases ends one other text also a b =
       a.lines ∙ ap (report_of script (tasks_of phases)) same ∙ sym b.lines,
     )
 
-pub journal_tells : (setting : Setting) (journal : List Entry) (one other : Bool) (text also : List ℕ) → IsWholeRun setting one text journal → IsWholeRun setting other also journal → (one ≡ other) × (text ≡ also)
-journal_tells setting journal one other text also a b =
+pub journal_tells : (setting : Setting) (journal : List Entry) (one other : Bool) (text also : List ℕ) → IsLawfulScript setting.script → IsWholeRun setting one text journal → IsWholeRun setting other also journal → (one ≡ other) × (text ≡ also)
+journal_tells setting journal one other text also lawful a b =
     let same = ends_tell setting journal a.ends b.ends a.run b.run a.finished b.finished in
-    report_once setting.script setting.script.phases a.ends one other text also a.report (subst (λ (ends : List (List (List End))). IsReport setting.script setting.script.phases ends other also) (sym same) b.report)
+    let told = report_once setting.script setting.script.phases a.ends one other a.lines b.lines a.report (subst (λ (ends : List (List (List End))). IsReport setting.script setting.script.phases ends other b.lines) (sym same) b.report) in
+    let breach = one_answer setting setting.script.rules.tick.ms journal lawful (a.run).kept a.breach b.breach (a.breaks setting.shelf) (b.breaks setting.shelf) in (
+      told.0,
+      a.text_is ∙ ap (λ (l : List ℕ). l ++ breach_text a.breach) told.1 ∙ ap (λ (o : Option Breach). b.lines ++ breach_text o) breach ∙ sym b.text_is,
+    )
 
 -- ---- runs that the full journal broke off
 

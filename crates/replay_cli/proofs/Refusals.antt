@@ -1,21 +1,30 @@
 -- Where no block of a script is refused, no task of a run comes to such an end.
 use Rattle.std.proofs.Common.{◌≡◌, ℕ, List, Option, Some, None, inl, inr, sym, subst}
+use Rattle.world_core.specs.Plans.{Plan}
 use Rattle.world_core.specs.declared.entry.Entry.{Entry}
+use Rattle.compactor.specs.Compactions.{compaction}
+use Rattle.cleaner.specs.Cleanings.{cleaning}
 use Rattle.block_ranges.specs.Reads.{Query as Question}
 use Rattle.querier.specs.declared.ask.Ask.{Ask}
 use Rattle.script_core.specs.declared.block.Block.{Block}
 use Rattle.script_workers.specs.declared.work.Work.{Work}
-use Rattle.script_workers.specs.declared.work.Work.TheVariants.{Upload, Sync, Query}
+use Rattle.script_workers.specs.declared.work.Work.TheVariants.{Upload, Sync, Compact, Clean, Query}
 use Rattle.lifecycle_core.specs.Causes.{SomeCame}
 use Rattle.lifecycle_core.specs.Conducts.{Who}
 use Rattle.lifecycle_core.specs.Holdings.{Holding, Use}
 use Rattle.lifecycle_core.specs.Phases.{IsRunOf}
 use Rattle.lifecycle_core.specs.Setting.{Setting}
 use Rattle.lifecycle_core.specs.Shipped.{IsRefused}
-use Rattle.lifecycle_core.specs.Tasks.{End, PartTask, QueryTask, ShipTask, TaskRun, ask_to, question_of, refused}
-use Rattle.lifecycle_core.proofs.journals.Telling.{journal_rises}
+use Rattle.lifecycle_core.specs.Tasks.{End, PartTask, QueryTask, ShipTask, StoppedRun, TaskRun, ask_to, cleaned, compacted, question_of, refused}
+use Rattle.lifecycle_core.proofs.journals.Rising.{journal_rises}
 use Rattle.lifecycle_core.proofs.phases.TasksMade.{ends_are_made}
-use Rattle.replay_cli.specs.Shippable.{RefusesNone}
+use Rattle.call_verdicts.specs.Shippable.{RefusesNone}
+
+-- a run that may be stopped does not end so
+stopped_refused : {E : Type 0} (plan : Plan E) (gives : E → End) (stop : Option ℕ) (entries : List Entry) (cause : ℕ) → ((own : E) → gives own ≡ refused cause → ⊥) → ¬ StoppedRun plan gives stop entries (Some (refused cause))
+stopped_refused plan gives stop entries cause never (None, run, inl (is, early)) = cc (is)
+stopped_refused plan gives stop entries cause never (Some own, run, inl (is, early)) = never own (cc (is))
+stopped_refused plan gives stop entries cause never (own, run, inr (n, reached, is)) = cc (is)
 
 -- an upload that ends as refused is of a block that is refused
 ship_refused : (setting : Setting) (block : Block) (stop : Option ℕ) (entries : List Entry) (cause : ℕ) → ShipTask setting block stop entries (Some (refused cause)) → IsRefused setting block cause
@@ -42,6 +51,8 @@ task_refused : (setting : Setting) (who : Who) (place : ℕ) (w : Work) (held af
 task_refused setting who place (Upload ulid stop) held after entries cause none ((block, is, ships), left) = none ulid block cause is (ship_refused setting block stop entries cause ships)
 task_refused setting who place (Sync gateway) held after entries cause none (None, run, same, left) = cc (same)
 task_refused setting who place (Sync gateway) held after entries cause none (Some own, run, same, left) = cc (same)
+task_refused setting who place (Compact stop) held after entries cause none (run, left) = stopped_refused (compaction setting.script.rules) compacted stop entries cause (λ own is. cc (is)) run
+task_refused setting who place (Clean stop) held after entries cause none (run, left) = stopped_refused (cleaning setting.script.rules) cleaned stop entries cause (λ own is. cc (is)) run
 task_refused setting who place (Query low high selector) held after entries cause none run = part_refused setting selector (ask_to setting who.gateway low high) held after entries cause run
 
 pub none_refused : (setting : Setting) (journal : List Entry) (ends : List (List (List End))) → RefusesNone setting → IsRunOf setting journal ends → (end : End) → SomeCame ends end → (cause : ℕ) → ¬ (end ≡ refused cause)

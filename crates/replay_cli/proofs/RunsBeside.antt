@@ -23,15 +23,17 @@ use Rattle.script_running.specs.Outcomes.{PhasesCame, TasksCame, is_as_asked}
 use Rattle.script_running.specs.declared.came.Broken.{Broken}
 use Rattle.script_running.specs.declared.came.Broken.TheVariants as broken
 use Rattle.script_running.specs.declared.outcome.Outcome.{Outcome}
-use Rattle.replay_cli.specs.Reports.{activity_text}
+use Rattle.report_lines.specs.Reports.{activity_text}
 use Rattle.replay_cli.specs.InPhases.{IsInPhases}
-use Rattle.replay_cli.specs.Telling.{AreLinesOf}
-use Rattle.replay_cli.specs.Verdicts.{IsRun, report_of, tasks_of}
-use Rattle.replay_cli.specs.declared.phases.Lines.{Lines}
+use Rattle.report_lines.specs.Telling.{AreLinesOf}
+use Rattle.replay_cli.specs.Endings.{EndsReport}
+use Rattle.call_verdicts.specs.Verdicts.{IsRun}
+use Rattle.report_lines.specs.Telling.{report_of, tasks_of}
+use Rattle.report_lines.specs.declared.lines.Lines.{Lines}
 use Rattle.replay_cli.proofs.NoneInPhases.{none_in_phases}
-use Rattle.replay_cli.proofs.ToldLines.{told_none}
-use Rattle.replay_cli.specs.declared.verdict.Verdict.{Verdict}
-use Rattle.replay_cli.specs.declared.verdict.Verdict.TheVariants as verdict
+use Rattle.report_lines.proofs.ToldLines.{told_none}
+use Rattle.call_verdicts.specs.declared.verdict.Verdict.{Verdict}
+use Rattle.call_verdicts.specs.declared.verdict.Verdict.TheVariants as verdict
 
 -- ---- the report of the finished phases
 
@@ -74,8 +76,8 @@ lines_told script lines outcomes (done, left, is, are) = (
 
 module _ (setting : Setting) (lawful : IsLawfulScript setting.script) (journal : List Entry) (bytes : IsOfBytes journal) (outcomes : List Outcome) (report : Lines) (lines : report.text.items ≡ report_of setting.script (tasks_of setting.script.phases) outcomes) (flag : report.as_asked ≡ list_all is_as_asked outcomes) where
   -- the script was done to its end
-  pub whole_beside : HasRunBeside setting journal outcomes (Ok tt) → IsRun IsInPhases setting (Some nothing) ⊥ (Some journal) (verdict.Report report.text report.as_asked)
-  whole_beside r = (
+  pub whole_beside : HasRunBeside setting journal outcomes (Ok tt) → (v : Verdict) → EndsReport setting.script journal report v → IsRun IsInPhases setting (Some nothing) ⊥ (Some journal) v
+  whole_beside r (verdict.Report text as_asked) (same, breach, breaks, is) = (
     refl,
     (
       (r.ends, r.run, r.turns),
@@ -83,11 +85,17 @@ module _ (setting : Setting) (lawful : IsLawfulScript setting.script) (journal :
         ends = r.ends;
         run = r.run;
         finished = r.far.0;
-        report = record { outcomes = outcomes; came = r.far.1; lines = lines; flag = flag };
+        lines = report.text.items;
+        report = record { outcomes = outcomes; came = r.far.1; lines = lines; flag = same ∙ flag };
+        breach = breach;
+        breaks = breaks;
+        text_is = is;
         guaranteed = all_guaranteed setting journal r.ends lawful r.run bytes;
       },
     ),
   )
+  whole_beside r verdict.NoMemory ends = ((r.ends, r.run, r.turns), (r.ends, r.run, r.turns, all_guaranteed setting journal r.ends lawful r.run bytes))
+  whole_beside r other ends = absurd ends
 
   -- the journal became full
   pub full_beside : HasRunBeside setting journal outcomes (Err broken.Full) → IsRun IsInPhases setting (Some nothing) ⊥ (Some journal) (verdict.Full report.text)
@@ -113,11 +121,11 @@ short_beside setting lawful journal bytes outcomes came r = ((r.ends, r.run, r.t
 
 -- what a run beside comes to has its cause
 pub beside_told : (setting : Setting) → IsLawfulScript setting.script → (journal : List Entry) → IsOfBytes journal → (outcomes : List Outcome) (report : Lines) (came : Result (Unit {0}) Broken) (v : Verdict)
-    → (came ≢ Err broken.NoMemory → TellsFirst AreLinesOf setting.script report outcomes) → HasRunBeside setting journal outcomes came → (came ≡ Ok tt → v ≡ verdict.Report report.text report.as_asked) → (came ≡ Err broken.Full → v ≡ verdict.Full report.text) → (came ≡ Err broken.NoMemory → v ≡ verdict.NoMemory)
+    → (came ≢ Err broken.NoMemory → TellsFirst AreLinesOf setting.script report outcomes) → HasRunBeside setting journal outcomes came → (came ≡ Ok tt → EndsReport setting.script journal report v) → (came ≡ Err broken.Full → v ≡ verdict.Full report.text) → (came ≡ Err broken.NoMemory → v ≡ verdict.NoMemory)
     → IsRun IsInPhases setting (Some nothing) ⊥ (Some journal) v
 beside_told setting lawful journal bytes outcomes report (Ok done) v told ran whole full none =
     let t = lines_told setting.script report outcomes (told (λ e. absurd (cc (e)))) in
-    subst (IsRun IsInPhases setting (Some nothing) ⊥ (Some journal)) (sym (whole refl)) (whole_beside setting lawful journal bytes outcomes report t.0 t.1 ran)
+    whole_beside setting lawful journal bytes outcomes report t.0 t.1 ran v (whole refl)
 beside_told setting lawful journal bytes outcomes report (Err broken.Full) v told ran whole full none =
     let t = lines_told setting.script report outcomes (told (λ e. absurd (cc (e)))) in
     subst (IsRun IsInPhases setting (Some nothing) ⊥ (Some journal)) (sym (full refl)) (full_beside setting lawful journal bytes outcomes report t.0 t.1 ran)

@@ -26,10 +26,11 @@ use Rattle.lifecycle_core.specs.Phases.{IsRunOf}
 use Rattle.lifecycle_core.specs.Setting.{Setting}
 use Rattle.lifecycle_core.proofs.answers.SeveralGateways as Several
 use Rattle.lifecycle_core.proofs.answers.SeveralGateways.{AllAnswered, CameAll, end_of, given_by_all, named_by_all, names_from, names_of_all, series_of}
-use Rattle.lifecycle_core.specs.Tasks.{End, answered, not_asked, refused, stopped, synced, uploaded, without_view}
+use Rattle.lifecycle_core.specs.Tasks.{End, answered, not_asked, refused, stopped, synced, uploaded, without_view, compacted, cleaned}
 use Rattle.script_running.specs.Outcomes.{IsOutcome, IsPart, IsQueryOutcome, PhasesCame, TaskCame, TasksCame, answers_of, call_part, first_none, names_of, why_none}
 use Rattle.replay_cli.specs.ToldAnswers.{IsTold, IsWorth, ToldAnswer, answered_by}
-use Rattle.replay_cli.specs.Verdicts.{IsFullRun, IsWholeRun, tasks_of}
+use Rattle.call_verdicts.specs.Verdicts.{IsFullRun, IsWholeRun}
+use Rattle.report_lines.specs.Telling.{tasks_of}
 use Rattle.script_running.specs.declared.outcome.NoAnswer.TheVariants as nothing
 use Rattle.script_running.specs.declared.outcome.Outcome.{Outcome}
 use Rattle.script_running.specs.declared.outcome.Outcome.TheVariants as outcome
@@ -132,6 +133,8 @@ by_call used (called.Fault n) own is none = absurd (let w = ap why_none is in cc
 by_part : (low high : ℤ) (n : ℕ) (end : End) (own : QueryPart) → IsPart (work.Query low high n) end (part.Query own) → why_none own ≡ None → (p : Option Several.Part) × (end ≡ end_of p) × (own ≡ query_part p)
 by_part low high n (uploaded e) own is none = absurd is
 by_part low high n (synced e) own is none = absurd is
+by_part low high n (compacted e) own is none = absurd is
+by_part low high n (cleaned e) own is none = absurd is
 by_part low high n (answered used e) own is none = by_call used e own (inner own (call_part e) is) none
 by_part low high n without_view own is none = absurd (let w = ap why_none (inner own (given.NoAnswer nothing.NoView) is) in cc (w, none))
 by_part low high n not_asked own is none = (None, refl, inner own given.NotAsked is)

@@ -1,9 +1,11 @@
--- A missing object that a report tells of is one that a call found missing.
+-- A missing object that a report tells of is one that a call or a compaction found missing.
 use Rattle.list_core.proofs.Membership.{contains_first, contains_later, member_cases, no_member}
-use Rattle.std.proofs.Common.{◌≡◌, inl, inr, ℕ, zero, suc, ◌+◌, ℤ, Bool, List, [], ◌∷◌, ◌++◌, Contains, refl, sym, ap, subst, arith, Some, map}
+use Rattle.std.proofs.Common.{◌≡◌, inl, inr, ℕ, zero, suc, ◌+◌, ℤ, Bool, List, [], ◌∷◌, ◌++◌, Contains, Option, refl, sym, ◌∙◌, ap, subst, arith, Some, map}
 use Rattle.std.specs.List.{AllZip}
 use Rattle.std.proofs.lemmas.List.Elements.{Contains-append_cases, Contains-append_left}
 use Rattle.world_core.specs.declared.entry.Entry.{Entry}
+use Rattle.compactor.specs.declared.compact_end.CompactEnd.{CompactEnd}
+use Rattle.compactor.specs.declared.compact_end.CompactEnd.TheVariants as merged
 use Rattle.series_calls.specs.declared.series_end.SeriesEnd.{SeriesEnd}
 use Rattle.series_calls.specs.declared.series_end.SeriesEnd.TheVariants as called
 use Rattle.script_workers.specs.Hands.{gateway_count, gateway_of, hands_of_task}
@@ -15,15 +17,19 @@ use Rattle.script_workers.specs.declared.task.Task.{Task}
 use Rattle.script_workers.specs.declared.work.Work.{Work}
 use Rattle.script_workers.specs.declared.work.Work.TheVariants as work
 use Rattle.script_workers.specs.declared.worker.Worker.{Worker}
-use Rattle.lifecycle_core.specs.Causes.{IsExplained, SomeCame}
+use Rattle.lifecycle_core.specs.Breaches.{watched}
+use Rattle.lifecycle_core.specs.Causes.{IsBlamedInCompaction, IsExplained, IsExplainedBy, SomeCame}
 use Rattle.lifecycle_core.specs.Conducts.{CameTo}
 use Rattle.lifecycle_core.specs.Holdings.{Use}
 use Rattle.lifecycle_core.specs.Setting.{Setting}
-use Rattle.lifecycle_core.specs.Tasks.{End, answered, not_asked, refused, stopped, synced, uploaded, without_view}
-use Rattle.script_running.specs.Outcomes.{IsOutcome, IsPart, IsQueryOutcome, PhasesCame, TaskCame, TasksCame, call_part, first_none}
-use Rattle.replay_cli.specs.Verdicts.{IsFullRun, IsWholeRun}
+use Rattle.lifecycle_core.specs.Tasks.{End, answered, cleaned, compacted, not_asked, refused, stopped, synced, uploaded, without_view}
+use Rattle.lifecycle_core.proofs.phases.Turns.{cut_in_turn, finished_in_turn}
+use Rattle.script_running.specs.Outcomes.{IsOutcome, IsPart, IsQueryOutcome, PhasesCame, TaskCame, TasksCame, call_part, compact_outcome, first_none}
+use Rattle.call_verdicts.specs.Verdicts.{IsFullRun, IsWholeRun}
 use Rattle.script_running.specs.declared.outcome.Outcome.{Outcome}
 use Rattle.script_running.specs.declared.outcome.Outcome.TheVariants as outcome
+use Rattle.script_running.specs.declared.outcome.CompactOutcome.{CompactOutcome}
+use Rattle.script_running.specs.declared.outcome.CompactOutcome.TheVariants as compact
 use Rattle.script_running.specs.declared.outcome.QueryOutcome.{QueryOutcome}
 use Rattle.script_running.specs.declared.outcome.QueryOutcome.TheVariants as query
 use Rattle.script_running.specs.declared.outcome.NoAnswer.{NoAnswer}
@@ -59,6 +65,8 @@ part_missed low high n number without_view is = absurd (let same = inner (given.
 part_missed low high n number not_asked is = absurd (let same = inner (given.NoAnswer (none.Missing number)) given.NotAsked is in cc (same))
 part_missed low high n number (uploaded e) is = absurd is
 part_missed low high n number (synced e) is = absurd is
+part_missed low high n number (compacted e) is = absurd is
+part_missed low high n number (cleaned e) is = absurd is
 part_missed low high n number (refused cause) is = absurd is
 part_missed low high n number (stopped count) is = absurd is
 
@@ -80,66 +88,133 @@ query_missed low high n first (end ∷ ends) (given.NoAnswer why ∷ own) gatewa
 end_is : (gateway number : ℕ) (end : QueryOutcome) → missing gateway number ≡ outcome.Query end → end ≡ query.NoAnswer gateway (none.Missing number)
 end_is gateway number end is = cc (is)
 
-all_missed : (w : Work) (own : List End) (gateway number : ℕ) → IsOutcome w own (missing gateway number) → Missed own number
-all_missed (work.Upload ulid stop) own gateway number (parts, zipped, (end, are, is)) = absurd (cc (is))
-all_missed (work.Sync g) own gateway number (parts, zipped, (end, are, is)) = absurd (cc (is))
-all_missed (work.Query low high n) own gateway number (parts, zipped, (given_parts, end, are, is, same)) =
-    query_missed low high n 0 own given_parts gateway number (subst (AllZip (IsPart (work.Query low high n)) own) are zipped) (subst (IsQueryOutcome given_parts) (end_is gateway number end same) is)
+-- some end of a task is such a one
+abbrev HasEnd : (End → Type 0) → List End → Type 0
+HasEnd P own = (end : End) × Contains own end × P end
+
+-- a call that found an object missing at the entry of the number
+abbrev IsCallMiss : ℕ → End → Type 0
+IsCallMiss number end = (used : Use) × (end ≡ answered used (called.Missing number))
+
+abbrev IsCompactionMiss : ℕ → End → Type 0
+IsCompactionMiss number end = end ≡ compacted (merged.Missing number)
+
+all_missed : (gateway number : ℕ) (w : Work) (own : List End) → IsOutcome w own (missing gateway number) → HasEnd (IsCallMiss number) own
+all_missed gateway number (work.Upload ulid stop) own (parts, zipped, (end, are, is)) = absurd (cc (is))
+all_missed gateway number (work.Sync g) own (parts, zipped, (end, are, is)) = absurd (cc (is))
+all_missed gateway number (work.Compact stop) own (parts, zipped, (end, are, is)) = absurd (cc (is))
+all_missed gateway number (work.Clean stop) own (parts, zipped, (end, are, is)) = absurd (cc (is))
+all_missed gateway number (work.Query low high n) own (parts, zipped, (given_parts, end, are, is, same)) =
+    let m = query_missed low high n 0 own given_parts gateway number (subst (AllZip (IsPart (work.Query low high n)) own) are zipped) (subst (IsQueryOutcome given_parts) (end_is gateway number end same) is) in
+    (answered m.0 (called.Missing number), m.1, (m.0, refl))
+
+-- ---- compactions
+
+-- a line that tells of a compaction's missing object
+abbrev missing_input : ℕ → Outcome
+missing_input number = outcome.Compact (compact.Missing number)
+
+merge_missed : (number : ℕ) (end : CompactEnd) → compact.Missing number ≡ compact_outcome end → IsCompactionMiss number (compacted end)
+merge_missed number (merged.Done collected groups expired) is = absurd (cc (is))
+merge_missed number (merged.Fault m) is = absurd (cc (is))
+merge_missed number (merged.Missing m) is = let same : m ≡ number = cc (is) in ap (λ (k : ℕ). compacted (merged.Missing k)) same
+merge_missed number (merged.Damaged m) is = absurd (cc (is))
+merge_missed number merged.TooMany is = absurd (cc (is))
+merge_missed number merged.TooLarge is = absurd (cc (is))
+
+part_compact : (one other : CompactOutcome) → part.Compact one ≡ part.Compact other → one ≡ other
+part_compact one other is = cc (is)
+
+input_missed : (stop : Option ℕ) (number : ℕ) (end : End) → IsPart (work.Compact stop) end (part.Compact (compact.Missing number)) → IsCompactionMiss number end
+input_missed stop number (compacted e) is = merge_missed number e (part_compact (compact.Missing number) (compact_outcome e) is)
+input_missed stop number (stopped count) is = absurd (let same = part_compact (compact.Missing number) (compact.Stopped count) is in cc (same))
+input_missed stop number (cleaned e) is = absurd is
+input_missed stop number (answered used e) is = absurd is
+input_missed stop number without_view is = absurd is
+input_missed stop number not_asked is = absurd is
+input_missed stop number (uploaded e) is = absurd is
+input_missed stop number (synced e) is = absurd is
+input_missed stop number (refused cause) is = absurd is
+
+one_missed : (stop : Option ℕ) (number : ℕ) (own : List End) → AllZip (IsPart (work.Compact stop)) own (part.Compact (compact.Missing number) ∷ []) → HasEnd (IsCompactionMiss number) own
+one_missed stop number [] all = absurd all
+one_missed stop number (end ∷ own) all = (end, contains_first end own, input_missed stop number end all.0)
+
+all_inputs_missed : (number : ℕ) (w : Work) (own : List End) → IsOutcome w own (missing_input number) → HasEnd (IsCompactionMiss number) own
+all_inputs_missed number (work.Upload ulid stop) own (parts, zipped, (end, are, is)) = absurd (cc (is))
+all_inputs_missed number (work.Sync g) own (parts, zipped, (end, are, is)) = absurd (cc (is))
+all_inputs_missed number (work.Compact stop) own (parts, zipped, (end, are, is)) =
+    let same : end ≡ compact.Missing number = cc (is) in
+    one_missed stop number own (subst (AllZip (IsPart (work.Compact stop)) own) (are ∙ ap (λ (x : CompactOutcome). part.Compact x ∷ []) same) zipped)
+all_inputs_missed number (work.Clean stop) own (parts, zipped, (end, are, is)) = absurd (cc (is))
+all_inputs_missed number (work.Query low high n) own (parts, zipped, (given_parts, end, are, is, same)) = absurd (cc (same))
 
 -- ---- among the ends of a run
 
--- some worker of the phase came to such an end
-abbrev PhaseMissed : List (List End) → ℕ → Type 0
-PhaseMissed ends number = (used : Use) × (own : List End) × Contains ends own × Contains own (answered used (called.Missing number))
+module _ (o : Outcome) (P : End → Type 0) (tells : (w : Work) (own : List End) → IsOutcome w own o → HasEnd P own) where
+  -- some worker of the phase came to such an end
+  abbrev PhaseHas : List (List End) → Type 0
+  PhaseHas ends = (end : End) × (own : List End) × Contains ends own × Contains own end × P end
 
-hand_missed : (workers : List Worker) (ends : List (List End)) (place : ℕ) (hs : List Hand) (own : List End) (used : Use) (number : ℕ) → AllZip (λ hand end. CameTo workers ends (gateway_of hand) place end) hs own → Contains own (answered used (called.Missing number)) → PhaseMissed ends number
-hand_missed workers ends place [] [] used number all among = absurd (no_member (answered used (called.Missing number)) among)
-hand_missed workers ends place [] (e ∷ own) used number all among = absurd all
-hand_missed workers ends place (h ∷ hs) [] used number all among = absurd all
-hand_missed workers ends place (h ∷ hs) (e ∷ own) used number all among = elim (member_cases e (answered used (called.Missing number)) own among) [
-  | inl same ↦
-      let came = end_came workers ends (gateway_of h) place (answered used (called.Missing number)) (subst (CameTo workers ends (gateway_of h) place) same all.0) in
-      (used, came.0, came.1, came.2)
-  | inr later ↦ hand_missed workers ends place hs own used number all.1 later
-]
+  hand_has : (workers : List Worker) (ends : List (List End)) (place : ℕ) (hs : List Hand) (own : List End) (end : End) → AllZip (λ hand e. CameTo workers ends (gateway_of hand) place e) hs own → Contains own end → P end → PhaseHas ends
+  hand_has workers ends place [] [] end all among is = absurd (no_member end among)
+  hand_has workers ends place [] (e ∷ own) end all among is = absurd all
+  hand_has workers ends place (h ∷ hs) [] end all among is = absurd all
+  hand_has workers ends place (h ∷ hs) (e ∷ own) end all among is = elim (member_cases e end own among) [
+    | inl same ↦ let came = end_came workers ends (gateway_of h) place end (subst (CameTo workers ends (gateway_of h) place) same all.0) in (end, came.0, came.1, came.2, is)
+    | inr later ↦ hand_has workers ends place hs own end all.1 later is
+  ]
 
-task_missed : (script : Script) (workers : List Worker) (ends : List (List End)) (place : ℕ) (task : Task) (gateway number : ℕ) → TaskCame script workers ends place task (missing gateway number) → PhaseMissed ends number
-task_missed script workers ends place task gateway number t =
-    let m = all_missed task.work t.own gateway number t.is in
-    hand_missed workers ends place (hands_of_task (gateway_count script.gateways) place task.work) t.own m.0 number t.came m.1
+  task_has : (script : Script) (workers : List Worker) (ends : List (List End)) (place : ℕ) (task : Task) → TaskCame script workers ends place task o → PhaseHas ends
+  task_has script workers ends place task t =
+      let m = tells task.work t.own t.is in
+      hand_has workers ends place (hands_of_task (gateway_count script.gateways) place task.work) t.own m.0 t.came m.1 m.2
 
-tasks_missed : (script : Script) (workers : List Worker) (ends : List (List End)) (place : ℕ) (tasks : List Task) (outcomes : List Outcome) (gateway number : ℕ) → TasksCame script workers ends place tasks outcomes
-    → Contains outcomes (missing gateway number) → PhaseMissed ends number
-tasks_missed script workers ends place [] outcomes gateway number came among = let none = subst (λ (os : List Outcome). Contains os (missing gateway number)) came among in absurd (omega (arith, none.1))
-tasks_missed script workers ends place (task ∷ tasks) [] gateway number came among = absurd came
-tasks_missed script workers ends place (task ∷ tasks) (o ∷ outcomes) gateway number came (zero, below, at) = task_missed script workers ends place task gateway number (subst (TaskCame script workers ends place task) at came.0)
-tasks_missed script workers ends place (task ∷ tasks) (o ∷ outcomes) gateway number came (suc k, below, at) = tasks_missed script workers ends (place + 1) tasks outcomes gateway number came.1 (k, omega (arith, below), at)
+  tasks_have : (script : Script) (workers : List Worker) (ends : List (List End)) (place : ℕ) (tasks : List Task) (outcomes : List Outcome) → TasksCame script workers ends place tasks outcomes → Contains outcomes o → PhaseHas ends
+  tasks_have script workers ends place [] outcomes came among = let none = subst (λ (os : List Outcome). Contains os o) came among in absurd (omega (arith, none.1))
+  tasks_have script workers ends place (task ∷ tasks) [] came among = absurd came
+  tasks_have script workers ends place (task ∷ tasks) (first ∷ outcomes) came (zero, below, at) = task_has script workers ends place task (subst (TaskCame script workers ends place task) at came.0)
+  tasks_have script workers ends place (task ∷ tasks) (first ∷ outcomes) came (suc k, below, at) = tasks_have script workers ends (place + 1) tasks outcomes came.1 (k, omega (arith, below), at)
 
-abbrev RunMissed : List (List (List End)) → ℕ → Type 0
-RunMissed ends number = (used : Use) × SomeCame ends (answered used (called.Missing number))
+  phases_have : (script : Script) (place : ℕ) (phases : List Phase) (ends : List (List (List End))) (outcomes : List Outcome) → PhasesCame script place phases ends outcomes → Contains outcomes o → (end : End) × SomeCame ends end × P end
+  phases_have script place [] ends outcomes came among = let none = subst (λ (os : List Outcome). Contains os o) came.1 among in absurd (omega (arith, none.1))
+  phases_have script place (phase ∷ phases) [] outcomes came among = absurd came
+  phases_have script place (phase ∷ phases) (first ∷ later) outcomes (own, others, parts, here, rest) among =
+      elim (Contains-append_cases own others o (subst (λ (os : List Outcome). Contains os o) parts among)) [
+        | inl one ↦ let m = tasks_have script (workers_of script place) first 0 phase.tasks own here one in (m.0, (first, m.1, (0, omega arith, refl), m.2, m.3), m.4)
+        | inr other ↦
+            let m = phases_have script (place + 1) phases later others rest other in
+            let s = m.1 in (m.0, (s.0, s.1, contains_later first s.0 later s.2, s.3, s.4), m.2)
+      ]
 
-phases_missed : (script : Script) (place : ℕ) (phases : List Phase) (ends : List (List (List End))) (outcomes : List Outcome) (gateway number : ℕ) → PhasesCame script place phases ends outcomes
-    → Contains outcomes (missing gateway number) → RunMissed ends number
-phases_missed script place [] ends outcomes gateway number came among = let none = subst (λ (os : List Outcome). Contains os (missing gateway number)) came.1 among in absurd (omega (arith, none.1))
-phases_missed script place (phase ∷ phases) [] outcomes gateway number came among = absurd came
-phases_missed script place (phase ∷ phases) (first ∷ later) outcomes gateway number (own, others, parts, here, rest) among =
-    elim (Contains-append_cases own others (missing gateway number) (subst (λ (os : List Outcome). Contains os (missing gateway number)) parts among)) [
-      | inl one ↦ let m = tasks_missed script (workers_of script place) first 0 phase.tasks own gateway number here one in (m.0, (first, m.1, (0, omega arith, refl), m.2, m.3))
-      | inr other ↦
-          let m = phases_missed script (place + 1) phases later others gateway number rest other in
-          let s = m.1 in (m.0, (s.0, s.1, contains_later first s.0 later s.2, s.3, s.4))
-    ]
+-- an end of some first phases is one of all
+more_came : (told untold : List (List (List End))) (end : End) → SomeCame told end → SomeCame (told ++ untold) end
+more_came told untold end s = (s.0, s.1, Contains-append_left told untold s.0 s.2, s.3, s.4)
+
+-- ---- the laws
 
 pub whole_misses : (setting : Setting) (as_asked : Bool) (text : List ℕ) (journal : List Entry) (run : IsWholeRun setting as_asked text journal) (gateway number : ℕ)
     → Contains run.report.outcomes (missing gateway number) → IsExplained setting journal number
 whole_misses setting as_asked text journal run gateway number among =
-    let m = phases_missed setting.script 0 setting.script.phases run.ends run.report.outcomes gateway number run.report.came among in
-    run.guaranteed.explained (answered m.0 (called.Missing number)) number m.1 refl
+    let m = phases_have (missing gateway number) (IsCallMiss number) (all_missed gateway number) setting.script 0 setting.script.phases run.ends run.report.outcomes run.report.came among in
+    run.guaranteed.explained (finished_in_turn setting run.ends run.finished) (answered (m.2).0 (called.Missing number)) number (subst (SomeCame run.ends) (m.2).1 m.1) refl
 
 pub full_misses : (setting : Setting) (text : List ℕ) (journal : List Entry) (run : IsFullRun setting text journal) (gateway number : ℕ)
     → Contains run.report.outcomes (missing gateway number) → IsExplained setting journal number
 full_misses setting text journal run gateway number among =
-    let m = phases_missed setting.script 0 run.done run.told run.report.outcomes gateway number run.report.came among in
-    let s = m.1 in
-    let all : Contains (run.told ++ (run.cut).untold) s.0 = Contains-append_left run.told (run.cut).untold s.0 s.2 in
-    run.guaranteed.explained (answered m.0 (called.Missing number)) number (s.0, s.1, all, s.3, s.4) refl
+    let m = phases_have (missing gateway number) (IsCallMiss number) (all_missed gateway number) setting.script 0 run.done run.told run.report.outcomes run.report.came among in
+    run.guaranteed.explained (cut_in_turn setting journal run.done run.told run.cut) (answered (m.2).0 (called.Missing number)) number
+    (more_came run.told (run.cut).untold (answered (m.2).0 (called.Missing number)) (subst (SomeCame run.told) (m.2).1 m.1)) refl
+
+pub whole_misses_compacting : (setting : Setting) (as_asked : Bool) (text : List ℕ) (journal : List Entry) (run : IsWholeRun setting as_asked text journal) (number : ℕ)
+    → Contains run.report.outcomes (missing_input number) → IsExplainedBy setting (watched setting journal) IsBlamedInCompaction journal number
+whole_misses_compacting setting as_asked text journal run number among =
+    let m = phases_have (missing_input number) (IsCompactionMiss number) (all_inputs_missed number) setting.script 0 setting.script.phases run.ends run.report.outcomes run.report.came among in
+    run.guaranteed.explained (finished_in_turn setting run.ends run.finished) (compacted (merged.Missing number)) number (subst (SomeCame run.ends) m.2 m.1) refl
+
+pub full_misses_compacting : (setting : Setting) (text : List ℕ) (journal : List Entry) (run : IsFullRun setting text journal) (number : ℕ)
+    → Contains run.report.outcomes (missing_input number) → IsExplainedBy setting (watched setting journal) IsBlamedInCompaction journal number
+full_misses_compacting setting text journal run number among =
+    let m = phases_have (missing_input number) (IsCompactionMiss number) (all_inputs_missed number) setting.script 0 run.done run.told run.report.outcomes run.report.came among in
+    run.guaranteed.explained (cut_in_turn setting journal run.done run.told run.cut) (compacted (merged.Missing number)) number
+    (more_came run.told (run.cut).untold (compacted (merged.Missing number)) (subst (SomeCame run.told) m.2 m.1)) refl

@@ -14,7 +14,7 @@ use Rattle.script_workers.specs.declared.work.Work.TheVariants as work
 use Rattle.lifecycle_core.specs.Guarantees.{Answered, IsGiven, IsSound, Named, names_by}
 use Rattle.lifecycle_core.specs.Setting.{Setting}
 use Rattle.lifecycle_core.specs.Tasks.{End}
-use Rattle.replay_cli.specs.Verdicts.{tasks_of}
+use Rattle.report_lines.specs.Telling.{tasks_of}
 use Rattle.script_running.specs.declared.outcome.Outcome.{Outcome}
 use Rattle.script_running.specs.declared.outcome.Outcome.TheVariants as outcome
 use Rattle.script_running.specs.declared.outcome.QueryOutcome.TheVariants as query

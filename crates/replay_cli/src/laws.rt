@@ -3,12 +3,14 @@ ghost use Rattle.world_core.specs.Standing.{IsHonest};
 ghost use Rattle.world_core.specs.Worlds.{failed_count};
 ghost use Rattle.world_core.specs.declared.entry.Entry.{Entry};
 ghost use Rattle.script_core.specs.Lawful.{IsLawfulScript};
-ghost use Rattle.lifecycle_core.specs.Causes.{IsExplained};
+ghost use Rattle.lifecycle_core.specs.Breaches.{watched};
+ghost use Rattle.lifecycle_core.specs.Causes.{AreWell, IsBlamedInCompaction, IsExplained, IsExplainedBy};
 ghost use Rattle.lifecycle_core.specs.Setting.{Setting};
 ghost use Rattle.replay_cli.specs.ToldAnswers.{IsTold, IsWorth, ToldAnswer};
-ghost use Rattle.replay_cli.specs.Shippable.{RefusesNone};
-ghost use Rattle.replay_cli.specs.Verdicts.{IsFullRun, IsWholeRun};
+ghost use Rattle.call_verdicts.specs.Shippable.{RefusesNone, StaysWithin};
+ghost use Rattle.call_verdicts.specs.Verdicts.{IsFullRun, IsTrusted, IsWholeRun};
 ghost use Rattle.script_running.specs.declared.outcome.Outcome.TheVariants as outcome;
+ghost use Rattle.script_running.specs.declared.outcome.CompactOutcome.TheVariants as compact;
 ghost use Rattle.script_running.specs.declared.outcome.QueryOutcome.TheVariants as query;
 ghost use Rattle.script_running.specs.declared.outcome.NoAnswer.TheVariants as none;
 
@@ -29,11 +31,12 @@ pub fn told_answers_are_sound()
         → IsWorth setting journal (run.told ++ run.cut.untold) answer }
 {}
 
-/// A law: a journal tells the report. Two whole runs of one script that leave one journal print the same, and end as asked or not;
+/// A law: a journal tells the report. Two whole runs of one lawful script that leave one journal print the same, also of its breach,
+/// and end as asked or not;
 /// two runs that the full journal broke off print the same; and no journal is that of a whole run and of one that was broken off.
 pub fn journals_tell_the_report()
     ensures whole { (setting : Setting) (journal : List Entry) (as_asked also : Bool)
-        (text other : List ℕ)
+        (text other : List ℕ) → IsLawfulScript setting.script
         → IsWholeRun setting as_asked text journal → IsWholeRun setting also other journal
         → (as_asked ≡ also) × (text ≡ other) }
     ensures full { (setting : Setting) (journal : List Entry) (text other : List ℕ)
@@ -43,7 +46,7 @@ pub fn journals_tell_the_report()
         → IsWholeRun setting as_asked text journal → ¬ IsFullRun setting other journal }
 {}
 
-/// A law: where a query's line tells of a missing object, the journal shows why.
+/// A law: where the line of a query or of a compaction tells of a missing object, the journal shows why.
 pub fn told_misses_are_explained()
     ensures whole { (setting : Setting) (as_asked : Bool) (text : List ℕ) (journal : List Entry)
         (run : IsWholeRun setting as_asked text journal) (gateway number : ℕ)
@@ -55,12 +58,26 @@ pub fn told_misses_are_explained()
         → Contains run.report.outcomes
         (outcome.Query (query.NoAnswer gateway (none.Missing number)))
         → IsExplained setting journal number }
+    ensures compaction { (setting : Setting) (as_asked : Bool) (text : List ℕ)
+        (journal : List Entry) (run : IsWholeRun setting as_asked text journal) (number : ℕ)
+        → Contains run.report.outcomes (outcome.Compact (compact.Missing number))
+        → IsExplainedBy setting (watched setting journal) IsBlamedInCompaction journal number }
+    ensures compaction_of_full { (setting : Setting) (text : List ℕ) (journal : List Entry)
+        (run : IsFullRun setting text journal) (number : ℕ)
+        → Contains run.report.outcomes (outcome.Compact (compact.Missing number))
+        → IsExplainedBy setting (watched setting journal) IsBlamedInCompaction journal number }
 {}
 
-/// A law: where the bucket is honest and no call to it failed, a whole run ends as asked, if no block of its script is refused: no
-/// line tells of a fault, of something missing, damaged or too many, or of a view that is not there.
+/// A law: where no rule refuses an entry, or the bucket is honest and no line of the script is a cleaning, and no call to the bucket
+/// failed, each task of a whole run ends well. It ends as asked, if no block of its script is refused, no index of a compacted block
+/// is too long, and no block has a million objects: no line tells of a fault, of something missing, damaged, too many or too
+/// large, or of a view that is not there.
 pub fn calm_runs_end_as_asked()
-    ensures { (setting : Setting) (as_asked : Bool) (text : List ℕ) (journal : List Entry)
-        → IsWholeRun setting as_asked text journal → IsHonest journal → failed_count journal ≡ 0
-        → RefusesNone setting → as_asked ≡ true }
+    ensures well { (setting : Setting) (as_asked : Bool) (text : List ℕ) (journal : List Entry)
+        (run : IsWholeRun setting as_asked text journal) → IsTrusted setting journal
+        → failed_count journal ≡ 0 → AreWell run.ends }
+    ensures asked { (setting : Setting) (as_asked : Bool) (text : List ℕ) (journal : List Entry)
+        (run : IsWholeRun setting as_asked text journal) → IsTrusted setting journal
+        → failed_count journal ≡ 0 → RefusesNone setting → StaysWithin run.ends
+        → as_asked ≡ true }
 {}

@@ -1,25 +1,24 @@
 ghost use Rattle.std.specs.Prelude.{◌≡◌, ◌≢◌, false, [], Some, None, IfSome, is_some};
 ghost use Rattle.replay_cli.specs.InPhases.{IsInPhases};
-ghost use Rattle.replay_cli.specs.Noted.{IsFullSaid, IsNoted};
-ghost use Rattle.replay_cli.specs.Kept.{IsHandedBack, IsHandedOut, IsNotAsked, IsShelfOf, IsUnfailed, IsUntouched, told_of};
-ghost use Rattle.replay_cli.specs.Asked.{IsBucketAsked, WasAsked};
-ghost use Rattle.replay_cli.specs.Progress.{tells_full};
-ghost use Rattle.replay_cli.specs.Statuses.{number_of};
-ghost use Rattle.replay_cli.specs.Verdicts.{EndsCalmly, IfShort, IsCaused, IsSaid, IsWorked, around_call, saying_to};
-ghost use Rattle.replay_cli.specs.Words.{named_by, replay_shelf, replay_word};
+ghost use Rattle.call_verdicts.specs.Noted.{IsFullSaid, IsNoted};
+ghost use Rattle.call_verdicts.specs.Kept.{IsHandedBack, IsHandedOut, IsNotAsked, IsShelfOf, IsUnfailed, IsUntouched, told_of};
+ghost use Rattle.call_verdicts.specs.Asked.{IsBucketAsked, WasReadFor};
+ghost use Rattle.call_verdicts.specs.Noted.{tells_full};
+ghost use Rattle.call_verdicts.specs.Statuses.{number_of};
+ghost use Rattle.call_verdicts.specs.Verdicts.{EndsCalmly, IfShort, IsCaused, IsSaid, IsWorked, around_call, saying_to};
+ghost use Rattle.call_verdicts.specs.Words.{named_by, replay_shelf, replay_word};
 
-use crate::conclusion::{Conclusion, Ended};
-use crate::opening::{Ready, read_and_open};
-use crate::runner::run_with_threads;
-use crate::words::read_replay;
-use crate::{Run, Status, Verdict};
+use crate::runner::run_read_with_threads;
 use bucket_core::{Sink, Site, Source};
+use call_verdicts::{
+    Conclusion, Ended, Ready, Run, Status, Verdict, read_and_open, read_blocks, read_replay,
+};
 use phase_runner::Gate;
 use std::alloc::Global;
 use std::sync::Wait;
 use std::thread::Threads;
 
-/// Does all that `run_tool` does for a script, with a thread for each worker of a phase. The words are `replay BUCKET SHELF`.
+/// Does all that `run_tool` does for a script, with the workers of a phase beside each other in threads. The words are `replay BUCKET SHELF`.
 ///
 /// It may wait, and its promise holds if it returns.
 pub fn run_replay<S: Site, R: Source, K: Sink, G: Gate + Sync, T: Threads + Wait + Sync>(
@@ -55,7 +54,8 @@ where
     ensures full { IfSome result.note (λ note. IsFullSaid note.full
         (saying_to K.faults K.written out.old out.new) result.status) }
 
-    // A calm call ends as asked, unless there is no memory, a pattern of its script is too large, or a block of it is refused.
+    // A calm call ends as asked, unless there is no memory, a pattern of its script is too large, a block of it is refused, or
+    // a task met a limit.
     ensures calm { EndsCalmly
         (around_call IsInPhases R.left R.faults script.old script.new
         S.buckets S.next_bucket S.shelves S.next_shelf S.faults
@@ -74,7 +74,7 @@ where
         → IsNotAsked S.buckets S.next_bucket site.old site.new }
     ensures shelf { IsShelfOf S.shelves S.next_shelf S.Files.files (replay_shelf words.now)
         site.old site.new result.shelf }
-    ensures asked { IfSome result.shelf (WasAsked S.Files.asked []) }
+    ensures asked { IfSome result.shelf (WasReadFor S.Files.asked (R.left script.old)) }
 {
     come_to(rt, alloc, gate, words, site, script).into_run(alloc, out)
 }
@@ -113,7 +113,7 @@ where
         → IsNotAsked S.buckets S.next_bucket site.old site.new }
     ensures shelf { IsShelfOf S.shelves S.next_shelf S.Files.files (replay_shelf words.now)
         site.old site.new result.shelf }
-    ensures asked { IfSome result.shelf (WasAsked S.Files.asked []) }
+    ensures asked { IfSome result.shelf (WasReadFor S.Files.asked (R.left script.old)) }
 {
     match read_replay(words) {
         Some(named) => read_and_run(rt, alloc, gate, named.bucket, named.shelf, site, script),
@@ -148,7 +148,7 @@ where
         ((R.faults script.new ≡ R.faults script.old) × (S.faults site.new ≡ S.faults site.old)
         × IsUnfailed S.Store.faults 0 result.conclusion.journal result.conclusion.store
         × IfSome result.shelf (λ files. S.Files.faults files ≡ 0)) }
-    ensures unasked { IfSome result.shelf (WasAsked S.Files.asked []) }
+    ensures asked { IfSome result.shelf (WasReadFor S.Files.asked (R.left script.old)) }
     ensures handed { IsHandedOut S.buckets site.old site.new result.conclusion.store }
     ensures kept { is_some result.conclusion.journal ≡ is_some result.conclusion.store }
     ensures back { IsHandedBack S.Store.contents S.Store.faults result.conclusion.journal
@@ -168,12 +168,13 @@ where
         Ok(
             Ready {
                 script,
-                text,
                 world,
                 shelf,
             },
         ) => {
-            let (verdict, finished) = run_with_threads(rt, alloc, gate, &script, &text, world);
+            let (read, shelf) = read_blocks(alloc, &script, shelf);
+            let (verdict, finished) = run_read_with_threads(rt, alloc, gate, &script, read, world);
+            drop(script);
             let (conclusion, note) = Conclusion::of_run(verdict, finished);
             Ended {
                 conclusion,

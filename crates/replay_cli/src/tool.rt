@@ -1,26 +1,27 @@
-ghost use Rattle.std.specs.Prelude.{◌≡◌, ◌≢◌, ℕ, [], Some, None, IfSome, is_some};
-ghost use Rattle.replay_cli.specs.Checks.{files_of};
-ghost use Rattle.replay_cli.specs.Noted.{IsFullSaid, IsNoted};
-ghost use Rattle.replay_cli.specs.Kept.{IsHandedBack, IsHandedOut, IsNotAsked, IsShelfOf, IsUnfailed, IsUntouched, told_of};
-ghost use Rattle.replay_cli.specs.Asked.{IsBroken, IsBucketAsked, IsUndecided, WasAsked, WasAskedFor};
-ghost use Rattle.replay_cli.specs.Statuses.{number_of};
-ghost use Rattle.replay_cli.specs.Verdicts.{EndsCalmly, IfShort, IsCaused, IsCheckSaid, IsSaid, IsWorked, around_call, saying_to};
-ghost use Rattle.replay_cli.specs.Words.{block_word, bucket_word, named_by, shelf_word};
+ghost use Rattle.std.specs.Prelude.{◌≡◌, ◌≢◌, ℕ, [], Some, None, IfSome, IsSome, is_some};
+ghost use Rattle.call_verdicts.specs.Checks.{files_of};
+ghost use Rattle.call_verdicts.specs.Noted.{IsFullSaid, IsNoted};
+ghost use Rattle.call_verdicts.specs.Kept.{IsHandedBack, IsHandedOut, IsNotAsked, IsShelfOf, IsUnfailed, IsUntouched, told_of};
+ghost use Rattle.call_verdicts.specs.Asked.{IsBroken, IsBucketAsked, IsUndecided, WasAskedFor, WasReadFor};
+ghost use Rattle.call_verdicts.specs.Statuses.{number_of};
+ghost use Rattle.call_verdicts.specs.Verdicts.{EndsCalmly, IfShort, IsCaused, IsCheckSaid, IsSaid, IsWorked, around_call, saying_to};
+ghost use Rattle.call_verdicts.specs.Words.{block_word, bucket_word, named_by, number_word, shelf_word};
+ghost use Rattle.replay_cli.specs.Days.{IsToolCaused};
 ghost use Rattle.lifecycle_core.specs.InLine.{IsInLine};
 
-use crate::check::check_block;
-use crate::conclusion::{Conclusion, Ended};
-use crate::opening::{Ready, read_and_open};
-use crate::runner::run_in_line;
-use crate::words::{read_check, read_serial};
-use crate::{Run, Status, Verdict};
+use crate::day::run_day;
+use crate::runner::run_read_in_line;
 use bucket_core::{Sink, Site, Source};
-use run_notes::Finished;
+use call_verdicts::{
+    Conclusion, Ended, Ready, Run, Status, Verdict, check_block, read_and_open, read_blocks,
+    read_check, read_generate, read_serial,
+};
 use std::alloc::Global;
 
-/// Does what the words `serial BUCKET SHELF` and `check SHELF ULID` ask for: it reads the script to its end, runs it over the bucket
-/// that the site hands out, one task after another, and writes the report; or it checks a block of a shelf. The words are those
-/// of the command line after the program's name, and no others have a meaning here. It waits for nobody.
+/// Does what the words `serial BUCKET SHELF`, `check SHELF ULID` and `generate NUMBER` ask for: it reads the script to its end, runs
+/// it over the bucket that the site hands out, one task after another, and writes the report; or it checks a block of a shelf; or it
+/// runs the generated day over a bucket of its own, and writes its summary. The words are those of the command line after the
+/// program's name, and no others have a meaning here. It waits for nobody.
 pub fn run_tool<S: Site, R: Source, K: Sink>(
     alloc: Global,
     words: &[String],
@@ -33,7 +34,7 @@ pub fn run_tool<S: Site, R: Source, K: Sink>(
     // the page that opens it, and for nothing else. The note of the run is of its journal and its bucket, and tells of an
     // operation that was answered with the full journal just where the verdict does.
     ensures verdict { (verdict : Verdict) × (status : Status)
-        × IsCaused
+        × IsToolCaused (number_word words.now)
         (around_call IsInLine R.left R.faults script.old script.new
         S.buckets S.next_bucket S.shelves S.next_shelf S.faults
         (bucket_word words.now) (shelf_word words.now)
@@ -43,14 +44,20 @@ pub fn run_tool<S: Site, R: Source, K: Sink>(
         × (result.status ≡ number_of status)
         × (verdict ≢ Verdict.NoMemory
         → IsBucketAsked S.Store.asked verdict result.journal result.store)
-        × IsNoted verdict result.journal result.store result.note }
+        × (number_word words.now ≡ None
+        → IsNoted verdict result.journal result.store result.note) }
+
+    // The bucket of a generated day is its own: the journal alone is handed out.
+    ensures day { IsSome (number_word words.now)
+        → (result.store ≡ None) × (result.note ≡ None) }
 
     // Where an operation of the run was answered that the journal is full, the status says that, unless the sink failed: want
     // of memory is never told in its place.
     ensures full { IfSome result.note (λ note. IsFullSaid note.full
         (saying_to K.faults K.written out.old out.new) result.status) }
 
-    // A calm call ends as asked, unless there is no memory, a pattern of its script is too large, or a block of it is refused.
+    // A calm call ends as asked, unless there is no memory, a pattern of its script is too large, a block of it is refused, or
+    // a task met a limit.
     ensures calm { EndsCalmly
         (around_call IsInLine R.left R.faults script.old script.new
         S.buckets S.next_bucket S.shelves S.next_shelf S.faults
@@ -65,11 +72,13 @@ pub fn run_tool<S: Site, R: Source, K: Sink>(
         (saying_to K.faults K.written out.old out.new) result.status }
 
     ensures handed { IsHandedOut S.buckets site.old site.new result.store }
-    ensures kept { is_some result.journal ≡ is_some result.store }
+    ensures kept { number_word words.now ≡ None
+        → is_some result.journal ≡ is_some result.store }
 
     // The journal is true of the bucket that is handed back, and without an entry that is as the site opened it under the
     // name of its word.
-    ensures back { IsHandedBack S.Store.contents S.Store.faults result.journal result.store }
+    ensures back { number_word words.now ≡ None
+        → IsHandedBack S.Store.contents S.Store.faults result.journal result.store }
     ensures untouched { IfSome (told_of (S.next_bucket site.old) (bucket_word words.now))
         (λ c. IsUntouched S.Store.contents c result.journal result.store) }
 
@@ -82,15 +91,19 @@ pub fn run_tool<S: Site, R: Source, K: Sink>(
         site.old site.new result.shelf }
 
     // A check asks its shelf for files of the block, each once; for all that are reached, where it says how it ended. A run
-    // asks for none.
+    // asks it for files of the blocks that its script takes from there, each once.
     ensures asked { IfSome result.shelf (WasAskedFor S.Files.asked
-        (files_of (S.next_shelf site.old) (shelf_word words.now)) (block_word words.now)
+        (files_of (S.next_shelf site.old) (shelf_word words.now)) (R.left script.old)
+        (block_word words.now)
         (IsUndecided result.status)) }
 {
-    come_to(alloc, words, site, script).into_run(alloc, out)
+    match read_generate(words) {
+        Some(number) => run_day(alloc, number).into_run(alloc, out),
+        None => come_to(alloc, words, site, script).into_run(alloc, out),
+    }
 }
 
-/// Does all but the writing.
+/// Does all but the writing, where the words name no generated day.
 fn come_to<S: Site, R: Source>(
     alloc: Global,
     words: &[String],
@@ -120,7 +133,8 @@ fn come_to<S: Site, R: Source>(
     ensures shelf { IsShelfOf S.shelves S.next_shelf S.Files.files (shelf_word words.now)
         site.old site.new result.shelf }
     ensures asked { IfSome result.shelf (WasAskedFor S.Files.asked
-        (files_of (S.next_shelf site.old) (shelf_word words.now)) (block_word words.now)
+        (files_of (S.next_shelf site.old) (shelf_word words.now)) (R.left script.old)
+        (block_word words.now)
         (IsBroken result.conclusion.verdict)) }
 {
     if let Some(named) = read_serial(words) {
@@ -155,7 +169,7 @@ fn read_and_run<S: Site, R: Source>(
         ((R.faults script.new ≡ R.faults script.old) × (S.faults site.new ≡ S.faults site.old)
         × IsUnfailed S.Store.faults 0 result.conclusion.journal result.conclusion.store
         × IfSome result.shelf (λ files. S.Files.faults files ≡ 0)) }
-    ensures unasked { IfSome result.shelf (WasAsked S.Files.asked []) }
+    ensures asked { IfSome result.shelf (WasReadFor S.Files.asked (R.left script.old)) }
     ensures handed { IsHandedOut S.buckets site.old site.new result.conclusion.store }
     ensures kept { is_some result.conclusion.journal ≡ is_some result.conclusion.store }
     ensures back { IsHandedBack S.Store.contents S.Store.faults result.conclusion.journal
@@ -174,13 +188,13 @@ fn read_and_run<S: Site, R: Source>(
         Ok(
             Ready {
                 script,
-                text: _text,
                 world,
                 shelf,
             },
         ) => {
-            let (verdict, hand) = run_in_line(alloc, &script, world);
-            let finished = Finished::of_hand(hand);
+            let (read, shelf) = read_blocks(alloc, &script, shelf);
+            let (verdict, finished) = run_read_in_line(alloc, &script, read, world);
+            drop(script);
             let (conclusion, note) = Conclusion::of_run(verdict, finished);
             Ended {
                 conclusion,

@@ -1,7 +1,7 @@
 //! What standard error is told of a call.
 ghost use Rattle.std.specs.Prelude.{◌≡◌, OnOk};
 ghost use Rattle.std.specs.Io.KnownBytes.{Appends};
-ghost use Rattle.replay_cli.specs.Statuses.{number_of};
+ghost use Rattle.call_verdicts.specs.Statuses.{number_of};
 ghost use Rattle.tosraem.specs.Advice.{advice_of};
 
 use replay_cli::Status;
@@ -12,6 +12,7 @@ use std::io::Write;
 const USAGE: &str = "usage: tosraem serial BUCKET SHELF < SCRIPT
        tosraem replay BUCKET SHELF < SCRIPT
        tosraem check SHELF ULID
+       tosraem generate NUMBER
 ";
 
 /// Says on standard error, or to another writer, what is to be said of a call that ended with this number.

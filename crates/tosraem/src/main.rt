@@ -1,16 +1,26 @@
 //! The program: it makes the real things, and the tool does the rest.
 #![tactic(auto)]
 
-ghost use Rattle.std.specs.Prelude.{◌≡◌};
-ghost use Rattle.replay_cli.specs.Statuses.{number_of};
-ghost use Rattle.tosraem.specs.Calls.{names_replay};
+ghost use Rattle.std.specs.Prelude.{◌≡◌, ◌≢◌, true, false, None, is_some};
+ghost use Rattle.lifecycle_core.specs.InLine.{IsInLine};
+ghost use Rattle.call_verdicts.specs.Asked.{IsBucketAsked};
+ghost use Rattle.replay_cli.specs.InPhases.{IsInPhases};
+ghost use Rattle.call_verdicts.specs.Kept.{IsHandedBack, IsHandedOut, IsNotAsked, IsShelfOf};
+ghost use Rattle.call_verdicts.specs.Noted.{IsNoted};
+ghost use Rattle.call_verdicts.specs.Noted.{tells_full};
+ghost use Rattle.call_verdicts.specs.Verdicts.{IsCaused, around_call, saying_to};
+ghost use Rattle.call_verdicts.specs.Words.{block_word, bucket_word, number_word, replay_shelf, replay_word, shelf_word};
+ghost use Rattle.replay_cli.specs.Days.{IsToolCaused};
+ghost use Rattle.call_verdicts.specs.declared.verdict.Verdict.TheVariants.{NoMemory};
+ghost use Rattle.tosraem.specs.Calls.{IsServed, names_replay};
 
 mod advice;
 
 use crate::advice::tell;
+use bucket_core::{Sink, Site, Source};
 use dir_bucket::HostSite;
 use phase_runner::Open;
-use replay_cli::{ReaderSource, Status, WriterSink, run_replay, run_tool};
+use replay_cli::{ReaderSource, Run, Status, WriterSink, run_replay, run_tool};
 use std::alloc::Global;
 use std::process::ExitCode;
 use std::sync::Wait;
@@ -18,47 +28,85 @@ use std::thread::Threads;
 use std::{env, io};
 
 fn main(rt: HostRuntime) -> ExitCode {
-    let number = run(&rt, &rt);
+    let alloc = rt.alloc();
+    let host: Result<_, _> = rt.clone();
+    let number = match (words_of(alloc, &rt), host) {
+        (Ok(words), Ok(host)) => {
+            run(
+                &rt,
+                alloc,
+                &words,
+                &mut HostSite::new(host),
+                &mut ReaderSource::new(rt.reader()),
+                &mut WriterSink::new(io::writer(&rt)),
+            )
+            .status
+        }
+        _ => Status::NoMemory.number(),
+    };
     // A failure to say it changes nothing.
     let _ = tell(number, &mut rt.stderr());
     ExitCode::from(number)
 }
 
-/// Runs the tool over the real things, and gives the number of its status. Threads are started by the second handle.
-fn run<T: Threads + Wait + Sync>(rt: &HostRuntime, threads: &T) -> u8
-    ensures { (status : Status) × (result ≡ number_of status) }
+/// Does what the words ask for: with threads where they name a replay, and else one task after another. It hands back the run, of
+/// which all holds that holds of the call that made it; here its verdict is said once more.
+fn run<S: Site, R: Source, K: Sink, T: Threads + Wait + Sync>(
+    threads: &T,
+    alloc: Global,
+    words: &[String],
+    site: &mut S,
+    script: &mut R,
+    out: &mut K,
+) -> Run<S::Store, S::Files>
+where
+    S::Store: Send,
+    ensures serial { names_replay words.now ≡ false → IsServed
+        (IsToolCaused (number_word words.now)
+        (around_call IsInLine R.left R.faults script.old script.new
+        S.buckets S.next_bucket S.shelves S.next_shelf S.faults
+        (bucket_word words.now) (shelf_word words.now)
+        (block_word words.now) site.old site.new S.Store.faults S.Files.faults
+        result.store result.shelf result.journal))
+        (saying_to K.faults K.written out.old out.new)
+        (λ verdict. verdict ≢ NoMemory
+        → IsBucketAsked S.Store.asked verdict result.journal result.store)
+        (λ verdict. number_word words.now ≡ None
+        → IsNoted verdict result.journal result.store result.note) result.status }
+    ensures replay { names_replay words.now ≡ true → IsServed
+        (IsCaused (around_call IsInPhases R.left R.faults script.old script.new
+        S.buckets S.next_bucket S.shelves S.next_shelf S.faults
+        (replay_word words.now) (replay_shelf words.now)
+        None site.old site.new S.Store.faults S.Files.faults
+        result.store result.shelf result.journal))
+        (saying_to K.faults K.written out.old out.new)
+        (λ verdict. verdict ≢ NoMemory → tells_full verdict ≡ false
+        → IsBucketAsked S.Store.asked verdict result.journal result.store)
+        (λ verdict. IsNoted verdict result.journal result.store result.note) result.status }
+
+    // The bucket and the shelf are those of that call, as it left them; a generated day has a bucket of its own.
+    ensures handed { IsHandedOut S.buckets site.old site.new result.store }
+    ensures kept { number_word words.now ≡ None
+        → is_some result.journal ≡ is_some result.store }
+    ensures back { number_word words.now ≡ None
+        → IsHandedBack S.Store.contents S.Store.faults result.journal result.store }
+    ensures closed { bucket_word words.now ≡ None → replay_word words.now ≡ None
+        → IsNotAsked S.buckets S.next_bucket site.old site.new }
+    ensures shelf { names_replay words.now ≡ false
+        → IsShelfOf S.shelves S.next_shelf S.Files.files (shelf_word words.now)
+        site.old site.new result.shelf }
+    ensures lent { names_replay words.now ≡ true
+        → IsShelfOf S.shelves S.next_shelf S.Files.files (replay_shelf words.now)
+        site.old site.new result.shelf }
 {
-    let alloc = rt.alloc();
-    let words = match words_of(alloc, rt) {
-        Ok(words) => words,
-        Err(error) if error.kind() == io::ErrorKind::OutOfMemory => {
-            return Status::NoMemory.number();
-        }
-        // words that are no text are no form of a call
-        Err(_) => Vec::new(alloc),
-    };
-    let Ok(host) = rt.clone() else {
-        return Status::NoMemory.number();
-    };
-    let mut site = HostSite::new(host);
-    let mut script = ReaderSource::new(rt.reader());
-    let mut out = WriterSink::new(io::writer(rt));
-    if asks_for_threads(&words) {
-        return run_replay(
-            threads,
-            alloc,
-            &words,
-            &mut site,
-            &mut script,
-            &mut out,
-            &Open,
-        )
-        .status;
+    if asks_for_threads(words) {
+        run_replay(threads, alloc, words, site, script, out, &Open)
+    } else {
+        run_tool(alloc, words, site, script, out)
     }
-    run_tool(alloc, &words, &mut site, &mut script, &mut out).status
 }
 
-/// Whether the words ask for a thread for each worker of a phase.
+/// Whether the words ask for the workers of a phase beside each other in threads.
 fn asks_for_threads(words: &[String]) -> bool
     ensures { result ≡ names_replay words.now }
 {
@@ -68,7 +116,11 @@ fn asks_for_threads(words: &[String]) -> bool
     }
 }
 
-/// The words after the program's name.
+/// The words after the program's name; none, which are no form of a call, where one of them is no text.
 fn words_of(alloc: Global, rt: &HostRuntime) -> io::Result<Vec<String>> {
-    Ok(env::args(rt)?.skip(1).collect(alloc)?)
+    match env::args(rt) {
+        Ok(words) => Ok(words.skip(1).collect(alloc)?),
+        Err(error) if error.kind() == io::ErrorKind::OutOfMemory => Err(error),
+        Err(_) => Ok(Vec::new(alloc)),
+    }
 }

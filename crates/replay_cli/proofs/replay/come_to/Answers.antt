@@ -1,17 +1,17 @@
 use Rattle.std.proofs.Common.{◌≡◌, sym, ◌∙◌, ap, refl}
 use Rattle.std.specs.Prelude.{Some, None, option_map}
 use Rattle.replay_cli.specs.InPhases.{IsInPhases}
-use Rattle.replay_cli.specs.Verdicts.{around_call}
-use Rattle.replay_cli.specs.Words.{named_by, replay_shelf, replay_word}
-use Rattle.replay_cli.specs.declared.words.Named.{Named}
-use Rattle.replay_cli.proofs.Checks.{caused_run, caused_words, not_named}
-use Rattle.replay_cli.proofs.BucketAsked.{none_asked}
-use Rattle.replay_cli.specs.Progress.{tells_full}
-use Rattle.replay_cli.proofs.Noted.{without_journal}
-use Rattle.replay_cli.proofs.Openings.{shelf_named, untouched_named}
-use Rattle.replay_cli.proofs.Verdicts.{is_named}
-use Rattle.replay_cli.specs.declared.verdict.Verdict.TheVariants.{WordsRefused}
-use Rattle.replay_cli.proofs.Unfailed.{not_short}
+use Rattle.call_verdicts.specs.Verdicts.{around_call}
+use Rattle.call_verdicts.specs.Words.{named_by, replay_shelf, replay_word}
+use Rattle.call_verdicts.specs.declared.words.Named.{Named}
+use Rattle.call_verdicts.proofs.Checks.{caused_run, caused_words, not_named}
+use Rattle.call_verdicts.proofs.BucketAsked.{none_asked}
+use Rattle.call_verdicts.specs.Noted.{tells_full}
+use Rattle.call_verdicts.proofs.Noted.{without_journal}
+use Rattle.call_verdicts.proofs.Openings.{shelf_named, untouched_named}
+use Rattle.call_verdicts.proofs.Verdicts.{is_named}
+use Rattle.call_verdicts.specs.declared.verdict.Verdict.TheVariants.{WordsRefused}
+use Rattle.call_verdicts.proofs.Unfailed.{not_short}
 use Rattle.replay_cli.proofs.replay.come_to.Goals as goal
 
 -- ---- a run

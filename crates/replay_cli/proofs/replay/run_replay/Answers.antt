@@ -1,19 +1,19 @@
 use Rattle.std.proofs.Common.{◌≡◌, ◌≢◌, false, [], refl}
 use Rattle.std.specs.Prelude.{None, IfSome, is_some}
 use Rattle.replay_cli.specs.InPhases.{IsInPhases}
-use Rattle.replay_cli.specs.Kept.{IsHandedBack, IsHandedOut, IsShelfOf, IsUntouched, told_of}
-use Rattle.replay_cli.specs.Asked.{IsBucketAsked, WasAsked}
-use Rattle.replay_cli.specs.Progress.{tells_full}
-use Rattle.replay_cli.specs.Noted.{IsFullSaid, IsNoted}
-use Rattle.replay_cli.specs.Statuses.{number_of}
-use Rattle.replay_cli.specs.Verdicts.{EndsCalmly, IsCaused, IsSaid, around_call, saying_to}
-use Rattle.replay_cli.specs.Words.{replay_shelf, replay_word}
-use Rattle.replay_cli.specs.declared.status.Status.{Status}
-use Rattle.replay_cli.specs.declared.verdict.Verdict.{Verdict}
-use Rattle.replay_cli.specs.declared.verdict.Verdict.TheVariants.{NoMemory}
-use Rattle.replay_cli.proofs.Calm.{at_rest, calm_end}
+use Rattle.call_verdicts.specs.Kept.{IsHandedBack, IsHandedOut, IsShelfOf, IsUntouched, told_of}
+use Rattle.call_verdicts.specs.Asked.{IsBucketAsked, WasReadFor}
+use Rattle.call_verdicts.specs.Noted.{tells_full}
+use Rattle.call_verdicts.specs.Noted.{IsFullSaid, IsNoted}
+use Rattle.call_verdicts.specs.Statuses.{number_of}
+use Rattle.call_verdicts.specs.Verdicts.{EndsCalmly, IsCaused, IsSaid, around_call, saying_to}
+use Rattle.call_verdicts.specs.Words.{replay_shelf, replay_word}
+use Rattle.call_verdicts.specs.declared.status.Status.{Status}
+use Rattle.call_verdicts.specs.declared.verdict.Verdict.{Verdict}
+use Rattle.call_verdicts.specs.declared.verdict.Verdict.TheVariants.{NoMemory}
+use Rattle.replay_cli.proofs.Calm.{calm_end}
 use Rattle.replay_cli.proofs.Leaving.{left_by}
-use Rattle.replay_cli.proofs.Noted.{full_said}
+use Rattle.call_verdicts.proofs.Noted.{full_said}
 use Rattle.replay_cli.proofs.replay.run_replay.Goals as goal
 
 pub returns-clause-verdict : goal.returns-clause-verdict
@@ -28,9 +28,7 @@ returns-clause-calm g c =
     left_by c.into_run.result _ _ _ _ _ c.into_run.ensures.2
     (λ status journal store shelf note. EndsCalmly (around_call IsInPhases g.R.Source.left g.R.Source.faults c.args.script.now c.come_to.new.script g.S.Site.buckets g.S.Site.next_bucket g.S.Site.shelves g.S.Site.next_shelf g.S.Site.faults (replay_word c.args.words.now) (replay_shelf c.args.words.now) None
     c.args.site.now c.come_to.new.site g.S.Store.Bucket.faults g.S.Files.Shelf.faults store shelf journal) (saying_to g.K.Sink.faults g.K.Sink.written c.args.out.now c.into_run.new.out) status)
-    (λ setting calm. calm_end _ _ c.come_to.result.conclusion.verdict c.into_run.ensures.0 calm
-    (at_rest g.S.Store.Bucket.contents g.S.Store.Bucket.faults setting c.come_to.result.conclusion.journal c.come_to.result.conclusion.store c.come_to.ensures.back calm.journal)
-    c.come_to.ensures.cause c.into_run.ensures.1)
+    (λ calm. calm_end _ _ c.come_to.result.conclusion.verdict c.into_run.ensures.0 calm c.come_to.ensures.cause c.into_run.ensures.1)
 
 pub returns-clause-full : goal.returns-clause-full
 returns-clause-full g c =
@@ -71,5 +69,5 @@ returns-clause-shelf g c =
 pub returns-clause-asked : goal.returns-clause-asked
 returns-clause-asked g c =
     left_by c.into_run.result _ _ _ _ _ c.into_run.ensures.2
-    (λ status journal store shelf note. IfSome shelf (WasAsked g.S.Files.Shelf.asked []))
+    (λ status journal store shelf note. IfSome shelf (WasReadFor g.S.Files.Shelf.asked (g.R.Source.left c.args.script.now)))
     c.come_to.ensures.asked

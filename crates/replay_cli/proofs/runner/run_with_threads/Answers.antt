@@ -1,43 +1,51 @@
 use Rattle.std.proofs.Common.{List, Some, refl, sym, ◌∙◌, ap, subst}
 use Rattle.world_core.specs.Asking.{IsAllAsked}
-use Rattle.world_core.specs.Worlds.{IsOfBytes, failed_count}
+use Rattle.world_core.specs.Worlds.{IsJournal, IsOfBytes, failed_count}
 use Rattle.world_core.specs.declared.entry.Entry.{Entry}
-use Rattle.lifecycle_core.specs.Setting.{setting_of}
+use Rattle.script_running.specs.Shelves.{setting_by}
 use Rattle.script_running.specs.Beside.{HasRunBeside}
-use Rattle.replay_cli.specs.declared.verdict.Verdict.TheVariants as verdict
-use Rattle.replay_cli.proofs.Noted.{noted_world, unnoted}
-use Rattle.replay_cli.proofs.Runs.{full_told}
+use Rattle.call_verdicts.specs.declared.verdict.Verdict.TheVariants as verdict
+use Rattle.call_verdicts.proofs.Noted.{noted_world, unnoted}
+use Rattle.replay_cli.proofs.Runs.{ends_over, full_told}
 use Rattle.replay_cli.proofs.RunsBeside.{beside_told, none_beside}
-use Rattle.replay_cli.proofs.ToldLines.{no_lines}
+use Rattle.report_lines.proofs.ToldLines.{no_lines}
 use Rattle.replay_cli.proofs.Wanted.{whole_told}
 use Rattle.replay_cli.proofs.runner.run_with_threads.Goals as goal
 
 pub run_beside-requires-clause-untold : goal.run_beside-requires-clause-untold
 run_beside-requires-clause-untold g c = λ κs lives. no_lines c.new-report.result c.args.script.now c.new-report.ensures
 
-pub of_closed-finished-requires : goal.of_closed-finished-requires
-of_closed-finished-requires g c = record { told = c.in-Ok.ensures.refused ∙ sym c.is_full.ensures }
+pub of_closed-requires : goal.of_closed-requires
+of_closed-requires g c = record { told = c.in-Ok.ensures.refused ∙ sym c.is_full.ensures }
 
 pub returns-in-Ok-clause-cause : goal.returns-in-Ok-clause-cause
 returns-in-Ok-clause-cause g c =
-    let bytes = subst IsOfBytes (ap (λ w. w.journal) (c.world-kept.ensures ∙ sym c.of_closed-finished.ensures.world)) c.journal-after.ensures.holds.bytes in
-    beside_told (setting_of c.args.script.now) c.requires.lawful c.of_closed-finished.result.world.journal bytes c.in-Ok.end.outcomes c.run_beside.new.report c.in-Ok.end.came c.verdict_of.result c.in-Ok.ensures.reported
-    (subst (λ (es : List Entry). HasRunBeside (setting_of c.args.script.now) es c.in-Ok.end.outcomes c.in-Ok.end.came) (sym (ap (λ w. w.journal) c.of_closed-finished.ensures.world)) c.in-Ok.ensures.ran)
-    c.verdict_of.ensures.whole c.verdict_of.ensures.full c.verdict_of.ensures.none
+    let bytes = subst IsOfBytes (ap (λ w. w.journal) (c.world-world.ensures ∙ sym c.of_closed.ensures.world)) c.journal-journal.ensures.holds.bytes in
+    beside_told (setting_by c.args.script.now c.args.shelf.now) c.requires.lawful c.of_closed.result.world.journal bytes c.in-Ok.end.outcomes c.run_beside.new.report c.in-Ok.end.came c.verdict_of-verdict.result c.in-Ok.ensures.reported
+    (subst (λ (es : List Entry). HasRunBeside (setting_by c.args.script.now c.args.shelf.now) es c.in-Ok.end.outcomes c.in-Ok.end.came) (sym (ap (λ w. w.journal) c.of_closed.ensures.world)) c.in-Ok.ensures.ran)
+    (ends_over c.args.script.now c.entries.result.now c.of_closed.result.world.journal c.run_beside.new.report c.verdict_of-verdict.result
+    (c.entries.ensures ∙ c.journal-journal.ensures.journal ∙ ap (λ w. w.journal) c.world-world.ensures ∙ sym (ap (λ w. w.journal) c.of_closed.ensures.world)) c.verdict_of-verdict.ensures.whole)
+    c.verdict_of-verdict.ensures.full c.verdict_of-verdict.ensures.none
 
 pub returns-in-Ok-clause-unfailed : goal.returns-in-Ok-clause-unfailed
 returns-in-Ok-clause-unfailed g c = λ none.
-    ap (λ w. g.B.Bucket.faults w.bucket) c.of_closed-finished.ensures.world ∙ c.in-Ok.ensures.unfailed (sym (ap (λ w. failed_count w.journal) c.of_closed-finished.ensures.world) ∙ none)
+    ap (λ w. g.B.Bucket.faults w.bucket) c.of_closed.ensures.world ∙ c.in-Ok.ensures.unfailed (sym (ap (λ w. failed_count w.journal) c.of_closed.ensures.world) ∙ none)
 
 pub returns-in-Ok-clause-all : goal.returns-in-Ok-clause-all
 returns-in-Ok-clause-all g c = λ never told before was.
-    subst (IsAllAsked g.B.Bucket.asked before) (sym c.of_closed-finished.ensures.world)
-    (c.in-Ok.ensures.all (whole_told c.run_beside.new.report c.in-Ok.end.came c.verdict_of.result c.verdict_of.ensures.full c.verdict_of.ensures.none never told) before was)
+    subst (IsAllAsked g.B.Bucket.asked before) (sym c.of_closed.ensures.world)
+    (c.in-Ok.ensures.all (whole_told c.run_beside.new.report c.in-Ok.end.came c.verdict_of-verdict.result c.verdict_of-verdict.ensures.full c.verdict_of-verdict.ensures.none never told) before was)
 
 pub returns-in-Ok-clause-noted : goal.returns-in-Ok-clause-noted
 returns-in-Ok-clause-noted g c =
-    noted_world c.verdict_of.result c.of_closed-finished.result.world c.is_full.result c.of_closed-finished.result.note c.of_closed-finished.ensures.note
-    (c.is_full.ensures ∙ full_told c.run_beside.new.report c.in-Ok.end.came c.verdict_of.result c.verdict_of.ensures.whole c.verdict_of.ensures.full c.verdict_of.ensures.none)
+    noted_world c.verdict_of-verdict.result c.of_closed.result.world c.is_full.result c.of_closed.result.note c.of_closed.ensures.note
+    (c.is_full.ensures ∙ full_told c.args.script.now c.entries.result.now c.run_beside.new.report c.in-Ok.end.came c.verdict_of-verdict.result c.verdict_of-verdict.ensures.whole c.verdict_of-verdict.ensures.full c.verdict_of-verdict.ensures.none)
+
+pub verdict_of-verdict-requires-clause-bytes : goal.verdict_of-verdict-requires-clause-bytes
+verdict_of-verdict-requires-clause-bytes g c = subst IsOfBytes (sym (c.entries.ensures ∙ c.journal-journal.ensures.journal)) c.journal-journal.ensures.holds.bytes
+
+pub verdict_of-verdict-requires-clause-kept : goal.verdict_of-verdict-requires-clause-kept
+verdict_of-verdict-requires-clause-kept g c = subst (IsJournal c.args.script.now.rules.tick.ms) (sym (c.entries.ensures ∙ c.journal-journal.ensures.journal ∙ ap (λ w. w.journal) c.world-world.ensures)) ((c.in-Ok.ensures.ran).run).kept
 
 -- ---- nothing was begun
 
@@ -46,7 +54,7 @@ unbegun-requires g c = record { fresh = ap (λ w. w.journal) c.in-Err.ensures.un
 
 pub returns-in-Err-clause-cause : goal.returns-in-Err-clause-cause
 returns-in-Err-clause-cause g c =
-    none_beside (setting_of c.args.script.now) c.unbegun.result.world.journal (ap (λ w. w.journal) c.unbegun.ensures.world ∙ ap (λ w. w.journal) c.in-Err.ensures.unbegun ∙ c.requires.fresh)
+    none_beside (setting_by c.args.script.now c.args.shelf.now) c.unbegun.result.world.journal (ap (λ w. w.journal) c.unbegun.ensures.world ∙ ap (λ w. w.journal) c.in-Err.ensures.unbegun ∙ c.requires.fresh)
 
 pub returns-in-Err-clause-unfailed : goal.returns-in-Err-clause-unfailed
 returns-in-Err-clause-unfailed g c = λ none. ap (λ w. g.B.Bucket.faults w.bucket) c.unbegun.ensures.world ∙ ap (λ w. g.B.Bucket.faults w.bucket) c.in-Err.ensures.unbegun

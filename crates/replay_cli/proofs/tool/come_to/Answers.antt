@@ -1,20 +1,20 @@
 use Rattle.std.proofs.Common.{◌≡◌, sym, ◌∙◌, ap, refl}
 use Rattle.std.specs.Prelude.{Some, None, is_some, option_map}
 use Rattle.lifecycle_core.specs.InLine.{IsInLine}
-use Rattle.replay_cli.specs.Verdicts.{around_call}
-use Rattle.replay_cli.specs.Words.{block_word, bucket_word, named_by, shelf_word}
-use Rattle.replay_cli.specs.declared.words.Named.{Named}
-use Rattle.replay_cli.proofs.Checks.{back_none, behind_map, caused_check, caused_run, caused_words, handed_none, not_named, untouched_none}
-use Rattle.replay_cli.proofs.BucketAsked.{none_asked}
-use Rattle.replay_cli.specs.Progress.{tells_full}
-use Rattle.replay_cli.proofs.Noted.{checked_tells, without_journal}
-use Rattle.replay_cli.proofs.Openings.{shelf_named, untouched_named}
-use Rattle.replay_cli.proofs.Verdicts.{is_named}
-use Rattle.replay_cli.specs.declared.verdict.Verdict.TheVariants.{WordsRefused}
-use Rattle.replay_cli.proofs.Unfailed.{not_short, short_map, unfailed_none}
-use Rattle.replay_cli.specs.Checks.{files_of}
-use Rattle.replay_cli.specs.Asked.{IsBroken}
-use Rattle.replay_cli.proofs.ShelfAsked.{check_asked, run_asked}
+use Rattle.call_verdicts.specs.Verdicts.{around_call}
+use Rattle.call_verdicts.specs.Words.{block_word, bucket_word, named_by, shelf_word}
+use Rattle.call_verdicts.specs.declared.words.Named.{Named}
+use Rattle.call_verdicts.proofs.Checks.{back_none, behind_map, caused_check, caused_run, caused_words, handed_none, not_named, untouched_none}
+use Rattle.call_verdicts.proofs.BucketAsked.{none_asked}
+use Rattle.call_verdicts.specs.Noted.{tells_full}
+use Rattle.call_verdicts.proofs.Noted.{checked_tells, without_journal}
+use Rattle.call_verdicts.proofs.Openings.{shelf_named, untouched_named}
+use Rattle.call_verdicts.proofs.Verdicts.{is_named}
+use Rattle.call_verdicts.specs.declared.verdict.Verdict.TheVariants.{WordsRefused}
+use Rattle.call_verdicts.proofs.Unfailed.{not_short, short_map, unfailed_none}
+use Rattle.call_verdicts.specs.Checks.{files_of}
+use Rattle.call_verdicts.specs.Asked.{IsBroken}
+use Rattle.call_verdicts.proofs.ShelfAsked.{check_asked, run_asked}
 use Rattle.replay_cli.proofs.tool.come_to.Goals as goal
 
 -- ---- a run
@@ -42,8 +42,8 @@ returns-in-Some-clause-shelf g c =
 
 pub returns-in-Some-clause-asked : goal.returns-in-Some-clause-asked
 returns-in-Some-clause-asked g c =
-    run_asked g.S.Files.Shelf.asked (files_of (g.S.Site.next_shelf c.args.site.now) (shelf_word c.args.words.now)) (block_word c.args.words.now) (IsBroken c.read_and_run.result.conclusion.verdict) c.read_and_run.result.shelf
-    c.in-Some.ensures.block c.read_and_run.ensures.unasked
+    run_asked g.S.Files.Shelf.asked (files_of (g.S.Site.next_shelf c.args.site.now) (shelf_word c.args.words.now)) (g.R.Source.left c.args.script.now) (block_word c.args.words.now) (IsBroken c.read_and_run.result.conclusion.verdict) c.read_and_run.result.shelf
+    c.in-Some.ensures.block c.read_and_run.ensures.asked
 
 -- ---- the check of a block
 
@@ -86,7 +86,7 @@ returns-in-Some-read_check-clause-shelf g c =
 
 pub returns-in-Some-read_check-clause-asked : goal.returns-in-Some-read_check-clause-asked
 returns-in-Some-read_check-clause-asked g c =
-    check_asked g.S.Files.Shelf.asked (g.S.Site.next_shelf c.args.site.now) (named_by c.in-Some-read_check.asked.shelf.now) (shelf_word c.args.words.now) c.in-Some-read_check.asked.block (block_word c.args.words.now)
+    check_asked g.S.Files.Shelf.asked (g.S.Site.next_shelf c.args.site.now) (g.R.Source.left c.args.script.now) (named_by c.in-Some-read_check.asked.shelf.now) (shelf_word c.args.words.now) c.in-Some-read_check.asked.block (block_word c.args.words.now)
     (IsBroken c.check_block.result.conclusion.verdict) c.check_block.result.shelf c.in-Some-read_check.ensures.shelf c.in-Some-read_check.ensures.block c.check_block.ensures.asked
 
 -- ---- words that are no form of a call

@@ -1,0 +1,13 @@
+pub mod Pieces
+pub mod Verdicts
+pub mod Unfailed
+pub mod HandedBack
+pub mod Opened
+pub mod Openings
+pub mod Checks
+pub mod CheckedShelf
+pub mod ShelfAsked
+pub mod ShelfReads
+pub mod BucketAsked
+pub mod Noted
+pub mod Saying

@@ -1,0 +1,128 @@
+-- What a call says of the answers to its run's operations.
+use Rattle.std.proofs.Common.{◌≡◌, ◌⊎◌, inl, inr, ℕ, Bool, true, false, List, [], Option, Some, None, refl, sym, ◌∙◌, ap, subst, arith}
+use Rattle.std.specs.Prelude.{IfSome, IsSomeAnd}
+use Rattle.world_core.specs.Keeping.{IsFull}
+use Rattle.world_core.specs.Worlds.{WorldView}
+use Rattle.world_core.specs.declared.entry.Entry.{Entry}
+use Rattle.lifecycle_core.specs.Setting.{Setting}
+use Rattle.bucket_core.specs.Contents.{Contents}
+use Rattle.call_verdicts.specs.Noted.{IsFullSaid, IsNoted}
+use Rattle.call_verdicts.specs.Noted.{tells_full}
+use Rattle.call_verdicts.specs.Statuses.{number_of}
+use Rattle.call_verdicts.specs.Undone.{IsUndone}
+use Rattle.call_verdicts.specs.Verdicts.{Around, IsChecked, IsFullRun, IsRun, IsSaid, IsUnread, IsWorked, Saying, status_of}
+use Rattle.run_notes.specs.declared.run_note.RunNote.{RunNote}
+use Rattle.call_verdicts.specs.declared.status.Status.{Status}
+use Rattle.report_lines.specs.declared.check_outcome.CheckOutcome.TheVariants.{Passed, Refused}
+use Rattle.call_verdicts.specs.declared.verdict.Verdict.{Verdict}
+use Rattle.call_verdicts.specs.declared.verdict.Verdict.TheVariants.{WordsRefused, SourceFault, ScriptRefused, SiteFault, NotEmpty, Full, Report, Checked, NoMemory}
+
+-- ---- the status of a call with a note
+
+-- a status that is not that of the full journal
+other_status : (v : Verdict) (saying : Saying) (said : Status) → (number_of (status_of v) ≡ 8 → ⊥) → IsSaid v saying said → number_of said ≡ 8 → ⊥
+other_status v saying said other (inl (is, added)) eight = other (sym (ap number_of is) ∙ eight)
+other_status v saying said other (inr (inl (is, some, rose, part))) eight = let n : number_of said ≡ 4 = ap number_of is in absurd (omega (arith, n, eight))
+other_status v saying said other (inr (inr (is, mute, kept, same))) eight = let n : number_of said ≡ 6 = ap number_of is in absurd (omega (arith, n, eight))
+
+said_by : (v : Verdict) (saying : Saying) (said : Status) → IsSaid v saying said → IsFullSaid (tells_full v) saying (number_of said)
+said_by (Full lines) saying said (inl (is, added)) = inl (ap number_of is)
+said_by (Full lines) saying said (inr (inl (is, some, rose, part))) = inr (ap number_of is, rose)
+said_by (Full lines) saying said (inr (inr (is, mute, kept, same))) = absurd (cc (mute))
+said_by WordsRefused saying said is = other_status WordsRefused saying said (λ e. absurd (cc (e))) is
+said_by SourceFault saying said is = other_status SourceFault saying said (λ e. absurd (cc (e))) is
+said_by (ScriptRefused refusal) saying said is = other_status (ScriptRefused refusal) saying said (λ e. absurd (cc (e))) is
+said_by SiteFault saying said is = other_status SiteFault saying said (λ e. absurd (cc (e))) is
+said_by (NotEmpty name) saying said is = other_status (NotEmpty name) saying said (λ e. absurd (cc (e))) is
+said_by (Report lines true) saying said is = other_status (Report lines true) saying said (λ e. absurd (cc (e))) is
+said_by (Report lines false) saying said is = other_status (Report lines false) saying said (λ e. absurd (cc (e))) is
+said_by (Checked block (Passed series samples)) saying said is = other_status (Checked block (Passed series samples)) saying said (λ e. absurd (cc (e))) is
+said_by (Checked block (Refused number)) saying said is = other_status (Checked block (Refused number)) saying said (λ e. absurd (cc (e))) is
+said_by NoMemory saying said is = other_status NoMemory saying said (λ e. absurd (cc (e))) is
+
+pub full_said : {B : Type 0} (v : Verdict) (saying : Saying) (said : Status) (journal : Option (List Entry)) (store : Option B) (told : Option (RunNote B)) → IsNoted v journal store told → IsSaid v saying said → IfSome told (λ n. IsFullSaid n.full saying (number_of said))
+full_said v saying said journal store None noted is = tt
+full_said v saying said journal store (Some n) noted is = subst (λ (b : Bool). IsFullSaid b saying (number_of said)) (sym noted.2) (said_by v saying said is)
+
+-- a run whose note is of the world that it left
+pub noted_world : {B : Type 0} (v : Verdict) (world : WorldView B) (full : Bool) (told : Option (RunNote B)) → IsSomeAnd told (λ n. (n.full ≡ full) × (n.world.value ≡ world)) → full ≡ tells_full v → IsNoted v (Some world.journal) (Some world.bucket) told
+noted_world v world full None some is = absurd some
+noted_world v world full (Some n) some is = (ap (λ w. Some w.journal) (sym some.1), ap (λ w. Some w.bucket) (sym some.1), some.0 ∙ is)
+
+-- the same verdict, journal, bucket and note
+pub noted_as : {B : Type 0} (v w : Verdict) (world : WorldView B) (journal : Option (List Entry)) (store : Option B) (told note : Option (RunNote B)) → w ≡ v → journal ≡ Some world.journal → store ≡ Some world.bucket → note ≡ told
+    → IsNoted v (Some world.journal) (Some world.bucket) told → IsNoted w journal store note
+noted_as {B} v w world journal store told note is kept handed same noted =
+    subst (λ (n : Option (RunNote B)). IsNoted w journal store n) (sym same)
+    (subst (λ (x : Verdict). IsNoted x journal store told) (sym is)
+    (subst (λ (o : Option (List Entry)). IsNoted v o store told) (sym kept) (subst (λ (o : Option B). IsNoted v (Some world.journal) o told) (sym handed) noted)))
+
+-- ---- a call whose run did not begin
+
+empty_not_full : ¬ IsFull []
+empty_not_full (inl many) = absurd (omega (arith, many))
+empty_not_full (inr much) = absurd (omega (arith, much))
+
+empty_is_not_full : (entries : List Entry) → entries ≡ [] → ¬ IsFull entries
+empty_is_not_full entries none full = empty_not_full (subst IsFull none full)
+
+-- without a note
+pub unnoted : {B : Type 0} (v : Verdict) (journal : Option (List Entry)) (store : Option B) (told : Option (RunNote B)) → told ≡ None → IfSome journal (λ entries. entries ≡ []) → tells_full v ≡ false → IsNoted v journal store told
+unnoted v journal store told none empty other = subst (IsNoted v journal store) (sym none) (empty, other)
+
+pub without_journal : {B : Type 0} (v : Verdict) (journal : Option (List Entry)) (store : Option B) (told : Option (RunNote B)) → told ≡ None → journal ≡ None → tells_full v ≡ false → IsNoted v journal store told
+without_journal v journal store told none gone other = unnoted v journal store told none (subst (λ (o : Option (List Entry)). IfSome o (λ entries. entries ≡ [])) (sym gone) tt) other
+
+if_first : (journal : Option (List Entry)) (P : List Entry → Type 0) → IfSome journal (λ entries. (entries ≡ []) × P entries) → IfSome journal (λ entries. entries ≡ [])
+if_first None P both = tt
+if_first (Some entries) P both = both.0
+
+and_first : (journal : Option (List Entry)) (P : List Entry → Type 0) → IsSomeAnd journal (λ entries. (entries ≡ []) × P entries) → IfSome journal (λ entries. entries ≡ [])
+and_first None P both = tt
+and_first (Some entries) P both = both.0
+
+and_if : (journal : Option (List Entry)) → IsSomeAnd journal (λ entries. entries ≡ []) → IfSome journal (λ entries. entries ≡ [])
+and_if None some = tt
+and_if (Some entries) some = some
+
+never_full : (setting : Setting) (text : List ℕ) (journal : Option (List Entry)) → IsSomeAnd journal (λ entries. (entries ≡ []) × IsFullRun setting text entries) → ⊥
+never_full setting text None run = run
+never_full setting text (Some entries) run = empty_is_not_full entries run.0 run.1.full
+
+undone_run : {B : Type 0} (setting : Setting) (before : Option Contents) (failed : Type 0) (journal : Option (List Entry)) (v : Verdict) (store : Option B) (told : Option (RunNote B)) → told ≡ None → IsRun IsUndone setting before failed journal v → IsNoted v journal store told
+undone_run setting before failed journal WordsRefused store told none run = absurd run
+undone_run setting before failed journal SourceFault store told none run = absurd run
+undone_run setting before failed journal (ScriptRefused refusal) store told none run = absurd run
+undone_run setting before failed journal SiteFault store told none run = unnoted SiteFault journal store told none run.1 refl
+undone_run setting before failed journal (NotEmpty name) store told none run = unnoted (NotEmpty name) journal store told none (and_if journal run.1) refl
+undone_run setting before failed journal (Full lines) store told none run = absurd (never_full setting lines.items journal run.1)
+undone_run setting before failed journal (Report lines as_asked) store told none run = unnoted (Report lines as_asked) journal store told none (and_first journal _ run.1) refl
+undone_run setting before failed journal (Checked block outcome) store told none run = absurd run
+undone_run setting before failed journal NoMemory store told none run = unnoted NoMemory journal store told none (if_first journal _ run) refl
+
+unread_tells : (told left : Option (List ℕ)) (failed : Type 0) (v : Verdict) → IsUnread told left failed v → tells_full v ≡ false
+unread_tells told left failed WordsRefused is = refl
+unread_tells told left failed SourceFault is = refl
+unread_tells told left failed (ScriptRefused refusal) is = refl
+unread_tells told left failed SiteFault is = refl
+unread_tells told left failed (NotEmpty name) is = refl
+unread_tells told left failed (Full lines) is = absurd is
+unread_tells told left failed (Report lines as_asked) is = refl
+unread_tells told left failed (Checked block outcome) is = refl
+unread_tells told left failed NoMemory is = refl
+
+-- the check of a block has no journal to be full
+pub checked_tells : (files : Option Contents) (block : ℕ) (failed : Type 0) (v : Verdict) → IsChecked files block failed v → tells_full v ≡ false
+checked_tells files block failed WordsRefused is = refl
+checked_tells files block failed SourceFault is = refl
+checked_tells files block failed (ScriptRefused refusal) is = refl
+checked_tells files block failed SiteFault is = refl
+checked_tells files block failed (NotEmpty name) is = refl
+checked_tells files block failed (Full lines) is = absurd is
+checked_tells files block failed (Report lines as_asked) is = refl
+checked_tells files block failed (Checked own outcome) is = refl
+checked_tells files block failed NoMemory is = refl
+
+pub undone_noted : {B : Type 0} (around : Around) (v : Verdict) (store : Option B) (told : Option (RunNote B)) → told ≡ None → IsWorked (record around { is_done = IsUndone }) v → IsNoted v around.journal store told
+undone_noted around v store told none (inl (unread, gone, unasked)) = without_journal v around.journal store told none gone (unread_tells around.text around.left around.source_failed v unread)
+undone_noted around v store told none (inr work) = undone_run work.setting around.before (around.site_failed ⊎ around.shelf_failed) around.journal v store told none work.run

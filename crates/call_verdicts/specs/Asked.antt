@@ -1,0 +1,80 @@
+-- What a call asked of the bucket and of the shelf that it was handed.
+use Rattle.std.specs.Prelude.{◌≡◌, ◌⊎◌, ℕ, ◌<◌, List, [], ◌∷◌, ◌++◌, map, filter, Bool, true, false, Option, Some, None, IfSome, Ok}
+use Rattle.bucket_core.specs.Asking.{Asks, Call}
+use Rattle.bucket_core.specs.Contents.{Contents}
+use Rattle.world_core.specs.Asking.{calls_of, opening}
+use Rattle.world_core.specs.declared.entry.Entry.{Entry}
+use Rattle.script_core.specs.Reading.{script_of}
+use Rattle.script_core.specs.declared.block.Block.{Block}
+use Rattle.script_core.specs.declared.body.Body.{Body}
+use Rattle.script_core.specs.declared.body.Body.TheVariants.{Inline, OnShelf}
+use Rattle.script_core.specs.declared.script.Script.{Script}
+use Rattle.block_loading.specs.Loading.{Reaches, key_after, names_read}
+use Rattle.call_verdicts.specs.declared.verdict.Verdict.{Verdict}
+use Rattle.call_verdicts.specs.declared.verdict.Verdict.TheVariants.{SiteFault, NoMemory}
+
+-- What was handed out was asked for these since then, in this order, where it tells.
+abbrev pub WasAsked : {F X : Type 0} → (F → Option (List X)) → List X → F → Type 0
+WasAsked {F} {X} asked since now = (opened : F) × IfSome (asked opened) (λ before. before ≡ []) × Asks asked opened now since
+
+-- ---- the bucket
+
+-- what a world asks as it is opened
+abbrev pub for_opening : List Call
+for_opening = opening ∷ []
+
+-- By what the call comes to, and what it journaled: the bucket was asked for the page that opens it, and then for the calls of the
+-- journal, each once and in their order, and for nothing else. If the site failed, it may have been asked for nothing.
+abbrev pub IsAskedBy : {B : Type 0} → (B → Option (List Call)) → Verdict → List Entry → B → Type 0
+IsAskedBy asked SiteFault entries store = WasAsked asked [] store ⊎ WasAsked asked (opening ∷ calls_of entries) store
+IsAskedBy asked other entries store = WasAsked asked (opening ∷ calls_of entries) store
+
+-- the same of what was handed back: a journal and a bucket, or neither
+abbrev pub IsBucketAsked : {B : Type 0} → (B → Option (List Call)) → Verdict → Option (List Entry) → Option B → Type 0
+IsBucketAsked asked verdict (Some entries) (Some store) = IsAskedBy asked verdict entries store
+IsBucketAsked asked verdict journal store = Unit {0}
+
+-- ---- the shelf
+
+abbrev pub is_on_shelf : Body → Bool
+is_on_shelf (Inline min_time max_time series) = false
+is_on_shelf OnShelf = true
+
+-- the blocks that are taken from the shelf, in the order of their lines
+abbrev pub shelf_ulids : List Block → List ℕ
+shelf_ulids blocks = map (λ (block : Block). block.ulid) (filter (λ (block : Block). is_on_shelf block.body) blocks)
+
+-- The check of a block asked for so many of its files, each once, in the order of reading. Where the files are told, each of these
+-- is reached. If one more is reached, then the check was broken off.
+pub record WasChecked {F : Type 0} (asked : F → Option (List (List ℕ))) (told : Option Contents) (ulid : ℕ) (broken : Type 0) (shelf : F) : Type 0 where
+  pub count : ℕ
+  pub names : WasAsked asked (names_read ulid count) shelf
+  pub reached : IfSome told (λ c. (place : ℕ) → place < count → Reaches c ulid (key_after ulid place))
+  pub all : IfSome told (λ c. Reaches c ulid (key_after ulid count) → broken)
+
+-- the names are of files of these blocks, block after block, and of each block in the order of reading
+abbrev pub AreNamesOf : List ℕ → List (List ℕ) → Type 0
+AreNamesOf [] names = names ≡ []
+AreNamesOf (ulid ∷ ulids) names = (count : ℕ) × (later : List (List ℕ)) × (names ≡ names_read ulid count ++ later) × AreNamesOf ulids later
+
+-- the shelf was asked for files of these blocks, each once
+abbrev pub WasRead : {F : Type 0} → (F → Option (List (List ℕ))) → List ℕ → F → Type 0
+WasRead asked ulids shelf = (names : List (List ℕ)) × AreNamesOf ulids names × WasAsked asked names shelf
+
+-- The shelf was asked for files of the blocks that a script takes from it, and for no others. The text of the source spells the
+-- script, where the source tells it.
+abbrev pub WasReadFor : {F : Type 0} → (F → Option (List (List ℕ))) → Option (List ℕ) → F → Type 0
+WasReadFor asked text shelf = (script : Script) × IfSome text (λ bytes. script_of bytes ≡ Ok script) × WasRead asked (shelf_ulids script.blocks) shelf
+
+-- A call asked for files of the block that its words name. Where they name none, it asked for those of the blocks of its script.
+abbrev pub WasAskedFor : {F : Type 0} → (F → Option (List (List ℕ))) → Option Contents → Option (List ℕ) → Option ℕ → Type 0 → F → Type 0
+WasAskedFor asked told text None broken shelf = WasReadFor asked text shelf
+WasAskedFor asked told text (Some ulid) broken shelf = WasChecked asked told ulid broken shelf
+
+-- the verdict of a check that was broken off
+abbrev pub IsBroken : Verdict → Type 0
+IsBroken verdict = (verdict ≡ SiteFault) ⊎ (verdict ≡ NoMemory)
+
+-- a status that says nothing of a block
+abbrev pub IsUndecided : ℕ → Type 0
+IsUndecided number = ¬ ((number ≡ 0) ⊎ (number ≡ 5))

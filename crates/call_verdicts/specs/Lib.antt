@@ -1,0 +1,15 @@
+pub mod Asked
+pub mod Checks
+pub mod CheckVerdicts
+pub mod Kept
+pub mod Noted
+pub mod Output
+pub mod Statuses
+pub mod Undone
+pub mod Shippable
+pub mod ShelfReads
+pub mod Verdicts
+pub mod Words
+pub use Rattle.world_core.specs.Worlds
+pub use Rattle.world_core.specs.Standing
+pub use Rattle.world_core.specs.Keeping

@@ -1,0 +1,130 @@
+//! The check of one block of a shelf.
+ghost use Rattle.std.specs.Prelude.{◌≡◌, [], None, IfSome, is_some, option_map};
+ghost use Rattle.bucket_core.specs.Causes.{Rose};
+ghost use Rattle.call_verdicts.specs.CheckVerdicts.{refused_for, verdict_on};
+ghost use Rattle.call_verdicts.specs.Checks.{cause_number, files_in, files_of, HasFailed};
+ghost use Rattle.call_verdicts.specs.Kept.{IsNotAsked, IsShelfOf};
+ghost use Rattle.call_verdicts.specs.Asked.{IsBroken, WasAsked, WasChecked};
+ghost use Rattle.call_verdicts.specs.Verdicts.{BehindOpening, IfShort, IsChecked, SiteFailed};
+ghost use Rattle.call_verdicts.specs.Words.{named_by};
+
+use crate::Verdict;
+use crate::conclusion::{Conclusion, Ended};
+use crate::opening::{open_shelf, refused};
+use block_content::{CheckRefusal, Checked};
+use block_keys::Key;
+use block_loading::{LoadRefusal, check_on_shelf};
+use bucket_core::{Shelf, Site};
+use report_lines::CheckOutcome;
+use script_running::cause_number;
+use std::alloc::Global;
+use ulid_core::Ulid;
+
+/// Checks a block of the shelf that the word names, as the shipper does. Without a shelf there is no block.
+pub fn check_block<S: Site>(
+    alloc: Global,
+    shelf: &str,
+    block: Ulid,
+    site: &mut S,
+) -> Ended<S::Store, S::Files>
+    ensures cause { IsChecked (files_of (S.next_shelf site.old) (named_by shelf.now)) block
+        (SiteFailed S.faults site.old site.new S.Files.faults result.shelf)
+        result.conclusion.verdict }
+    ensures opened { BehindOpening result.conclusion.verdict
+        (is_some result.shelf ≡ is_some (named_by shelf.now)) }
+    ensures bucket { IsNotAsked S.buckets S.next_bucket site.old site.new }
+    ensures shelf { IsShelfOf S.shelves S.next_shelf S.Files.files (named_by shelf.now)
+        site.old site.new result.shelf }
+    ensures short { IfShort result.conclusion.verdict
+        ((S.faults site.new ≡ S.faults site.old)
+        × IfSome result.shelf (λ files. S.Files.faults files ≡ 0)) }
+    ensures asked { IfSome result.shelf (WasChecked S.Files.asked
+        (files_of (S.next_shelf site.old) (named_by shelf.now)) block
+        (IsBroken result.conclusion.verdict)) }
+    ensures store { result.conclusion.store ≡ None }
+    ensures journal { result.conclusion.journal ≡ None }
+    ensures note { result.note ≡ None }
+{
+    match open_shelf(site, shelf) {
+        Ok(files) => {
+            let (verdict, files) = check_opened(alloc, block, files);
+            Ended {
+                conclusion: Conclusion::without_bucket(verdict),
+                shelf: files,
+                note: None,
+            }
+        }
+        Err(refusal) => Ended {
+            conclusion: Conclusion::without_bucket(refused(refusal)),
+            shelf: None,
+            note: None,
+        },
+    }
+}
+
+/// Checks a block of a shelf that was opened. Without a shelf there is no block.
+fn check_opened<F: Shelf>(alloc: Global, block: Ulid, shelf: Option<F>) -> (Verdict, Option<F>)
+    ensures cause { IsChecked (files_in F.files shelf) block
+        (HasFailed F.faults shelf result.1) result.0 }
+    ensures short { IfSome shelf (λ files. F.faults files ≡ 0)
+        → IfShort result.0 (IfSome result.1 (λ files. F.faults files ≡ 0)) }
+    ensures asked { IfSome shelf (WasAsked F.asked [])
+        → IfSome result.1
+        (WasChecked F.asked (files_in F.files shelf) block (IsBroken result.0)) }
+    ensures same { option_map F.files result.1 ≡ option_map F.files shelf }
+{
+    match shelf {
+        Some(shelf) => {
+            let (verdict, shelf) = check_files(alloc, block, shelf);
+            (verdict, Some(shelf))
+        }
+        None => (absent(block), None),
+    }
+}
+
+/// What a check comes to where there is no file.
+fn absent(block: Ulid) -> Verdict
+    ensures { result ≡ refused_for block (cause_number (CheckRefusal.NoFile (Key.Meta block))) }
+{
+    refused_for(block, &CheckRefusal::NoFile(Key::Meta(block)))
+}
+
+/// Checks a block of a shelf.
+fn check_files<F: Shelf>(alloc: Global, block: Ulid, shelf: F) -> (Verdict, F)
+    ensures cause { IsChecked (F.files shelf) block (Rose (F.faults shelf) (F.faults result.1))
+        result.0 }
+    ensures short { IfShort result.0 (F.faults result.1 ≡ F.faults shelf) }
+    ensures asked { WasAsked F.asked [] shelf
+        → WasChecked F.asked (F.files shelf) block (IsBroken result.0) result.1 }
+    ensures same { F.files result.1 ≡ F.files shelf }
+{
+    let mut shelf = shelf;
+    let checked = check_on_shelf(alloc, &mut shelf, block);
+    (verdict_on(block, checked), shelf)
+}
+
+/// What a check comes to by its end.
+fn verdict_on(block: Ulid, checked: Result<Checked, LoadRefusal>) -> Verdict
+    ensures { result ≡ verdict_on block checked }
+{
+    match checked {
+        Ok(checked) => {
+            let passed = CheckOutcome::Passed(checked.series(), checked.samples());
+            drop(checked);
+            Verdict::Checked(block, passed)
+        }
+        Err(LoadRefusal::Refused(refusal)) => refused_for(block, &refusal),
+        Err(LoadRefusal::ShelfFault) => Verdict::SiteFault,
+        Err(LoadRefusal::NoMemory) => Verdict::NoMemory,
+    }
+}
+
+/// What a check comes to that ended with a refusal.
+fn refused_for(block: Ulid, refusal: &CheckRefusal) -> Verdict
+    ensures { result ≡ refused_for block (cause_number refusal.now) }
+{
+    match cause_number(refusal) {
+        Some(number) => Verdict::Checked(block, CheckOutcome::Refused(number)),
+        None => Verdict::NoMemory,
+    }
+}

@@ -1,0 +1,127 @@
+ghost use Rattle.std.specs.Prelude.{◌≡◌, ◌++◌, OnErr, OnOk, Some, None, option_map};
+ghost use Rattle.bucket_core.specs.Causes.{Rose};
+ghost use Rattle.bucket_core.specs.Contents.{nothing};
+ghost use Rattle.call_verdicts.specs.Kept.{IsHandedBack, IsUntouched};
+ghost use Rattle.call_verdicts.specs.Output.{IsWrittenInPart};
+ghost use Rattle.call_verdicts.specs.Statuses.{number_of};
+ghost use Rattle.call_verdicts.specs.Verdicts.{IsSaid, saying_to};
+
+use crate::output::write_all;
+use crate::{Run, SinkFault, Status, Verdict};
+use bucket_core::{Bucket, Sink};
+use run_notes::{Finished, RunNote};
+use std::alloc::Global;
+use world_core::Journal;
+
+/// What a call comes to, with the shelf that the site handed out, and the note of its run, where one began.
+#[derive(Drop)]
+pub struct Ended<B: Bucket, F> {
+    pub conclusion: Conclusion<B>,
+    pub shelf: Option<F>,
+    pub note: Option<RunNote<B>>,
+}
+
+/// A verdict, with the bucket that the site handed out and the journal over it.
+#[derive(Drop)]
+pub struct Conclusion<B> {
+    pub verdict: Verdict,
+    pub journal: Option<Journal>,
+    pub store: Option<B>,
+}
+
+impl<B: Bucket, F> Ended<B, F> {
+    /// Says what the call comes to, and hands over what it leaves.
+    pub fn into_run<K: Sink>(self, alloc: Global, out: &mut K) -> Run<B, F>
+        ensures { (status : Status)
+            × IsSaid self.conclusion.verdict (saying_to K.faults K.written out.old out.new) status
+            × (result ≡ record {
+              status = number_of status;
+              journal = self.conclusion.journal;
+              store = self.conclusion.store;
+              shelf = self.shelf;
+              note = self.note;
+            }) }
+    {
+        let Ended {
+            conclusion,
+            shelf,
+            note,
+        } = self;
+        let status = say(alloc, conclusion.verdict, out);
+        Run {
+            status: status.number(),
+            journal: conclusion.journal,
+            store: conclusion.store,
+            shelf,
+            note,
+        }
+    }
+}
+
+/// Writes a verdict's text. Its status is that of the call, unless the sink failed or there was no memory for the text.
+fn say<K: Sink>(alloc: Global, verdict: Verdict, out: &mut K) -> Status
+    ensures { IsSaid verdict (saying_to K.faults K.written out.old out.new) result }
+{
+    let status = verdict.status();
+    let last = verdict.last_line();
+    let Ok(text) = verdict.into_text(alloc) else {
+        return Status::NoMemory;
+    };
+    match write_both(out, &text, last.as_bytes()) {
+        Ok(()) => status,
+        Err(_) => Status::SinkFault,
+    }
+}
+
+/// Writes all of the one text, and then all of the other.
+fn write_both<K: Sink>(out: &mut K, first: &[u8], last: &[u8]) -> Result<(), SinkFault>
+    ensures whole { OnOk result (K.written out.new
+        ≡ option_map (λ before. before ++ (first.now ++ last.now)) (K.written out.old)) }
+    ensures part { OnErr result
+        (IsWrittenInPart (first.now ++ last.now) (K.written out.old) (K.written out.new)) }
+    ensures cause { OnErr result (Rose (K.faults out.old) (K.faults out.new)) }
+{
+    write_all(out, first)?;
+    write_all(out, last)
+}
+
+impl<B> Conclusion<B> {
+    pub fn without_bucket(verdict: Verdict) -> Conclusion<B>
+        ensures verdict { result.verdict ≡ verdict }
+        ensures journal { result.journal ≡ None }
+        ensures store { result.store ≡ None }
+    {
+        Conclusion {
+            verdict,
+            journal: None,
+            store: None,
+        }
+    }
+
+    pub fn with_bucket(verdict: Verdict, journal: Journal, store: B) -> Conclusion<B>
+        ensures verdict { result.verdict ≡ verdict }
+        ensures journal { result.journal ≡ Some journal }
+        ensures store { result.store ≡ Some store }
+    {
+        Conclusion {
+            verdict,
+            journal: Some(journal),
+            store: Some(store),
+        }
+    }
+}
+
+impl<B: Bucket> Conclusion<B> {
+    /// What a run comes to that is finished, and the note of it.
+    pub fn of_run(verdict: Verdict, run: Finished<B>) -> (Conclusion<B>, Option<RunNote<B>>)
+        ensures verdict { result.0.verdict ≡ verdict }
+        ensures journal { result.0.journal ≡ Some run.world.journal }
+        ensures store { result.0.store ≡ Some run.world.bucket }
+        ensures note { result.1 ≡ run.note }
+        ensures back { IsHandedBack B.contents B.faults result.0.journal result.0.store }
+        ensures untouched { IsUntouched B.contents nothing result.0.journal result.0.store }
+    {
+        let (note, journal, store) = run.into_parts();
+        (Conclusion::with_bucket(verdict, journal, store), note)
+    }
+}

@@ -1,0 +1,36 @@
+ghost use Rattle.std.specs.Prelude.{◌≡◌, ◌≤◌, ◌++◌, List, ℕ, length, drop, option_map, OnOk, OnErr};
+ghost use Rattle.bucket_core.specs.Causes.{Rose};
+ghost use Rattle.call_verdicts.specs.Output.{IsWrittenInPart};
+
+use bucket_core::{Sink, WriteAnswer};
+
+/// The sink failed.
+#[derive(Clone, Copy, Debug, PartialEq, Eq)]
+pub struct SinkFault;
+
+/// Writes all of the text, piece by piece.
+pub fn write_all<K: Sink>(out: &mut K, text: &[u8]) -> Result<(), SinkFault>
+    ensures whole { OnOk result
+        (K.written out.new ≡ option_map (λ before. before ++ text.now) (K.written out.old)) }
+    ensures part { OnErr result (IsWrittenInPart text.now (K.written out.old) (K.written out.new)) }
+    ensures later { K.faults out.old ≤ K.faults out.new }
+    ensures cause { OnErr result (Rose (K.faults out.old) (K.faults out.new)) }
+{
+    let mut left = text;
+    while !left.is_empty() {
+        match out.write(left) {
+            WriteAnswer::Took(count) => left = past(left, count),
+            WriteAnswer::Failed => return Err(SinkFault),
+        }
+    }
+    Ok(())
+}
+
+/// What is left of the bytes after the first ones.
+fn past(bytes: &[u8], count: usize) -> &[u8]
+    requires { count ≤ length bytes.now }
+    ensures { result.now ≡ drop count bytes.now }
+{
+    let (_, rest) = bytes.split_at(count);
+    rest
+}

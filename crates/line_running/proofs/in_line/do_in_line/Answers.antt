@@ -1,0 +1,38 @@
+use Rattle.std.proofs.Common.{[], ap, sym, ◌∙◌, subst}
+use Rattle.script_running.specs.Shelves.{setting_by}
+use Rattle.script_running.specs.declared.shelf.ShelfBlock.{ShelfBlock}
+use Rattle.line_running.specs.Progress.{RunCame}
+use Rattle.line_running.proofs.Keeping.{kept_since, kept_still}
+use Rattle.line_running.proofs.PhaseLists.{no_run, no_seats, reached_none}
+use Rattle.line_running.proofs.in_line.do_in_line.Goals as goal
+use Rattle.std.specs.Prelude.{List}
+
+pub returns-in_default-clause-came : goal.returns-in_default-clause-came
+returns-in_default-clause-came g c = ([], no_run (setting_by c.args.script.now c.args.shelf.now) c.new-hand.result.world.journal (ap (λ w. w.journal) c.new-hand.ensures.world ∙ c.requires.fresh))
+
+pub returns-in_default-new-clause-came : goal.returns-in_default-new-clause-came
+returns-in_default-new-clause-came g c = ([], no_run (setting_by c.args.script.now c.args.shelf.now) c.new-hand.result.world.journal (ap (λ w. w.journal) c.new-hand.ensures.world ∙ c.requires.fresh))
+
+pub returns-in_default-clause-keeps : goal.returns-in_default-clause-keeps
+returns-in_default-clause-keeps g c = kept_still g.B.Bucket.faults g.B.Bucket.quiet g.B.Bucket.asked c.args.world c.new-hand.result.world c.new-hand.result.opened.value c.new-hand.result.wanted c.new-hand.ensures.world c.new-hand.ensures.opened c.new-hand.ensures.wanted
+
+pub returns-in_default-new-clause-keeps : goal.returns-in_default-new-clause-keeps
+returns-in_default-new-clause-keeps g c = kept_still g.B.Bucket.faults g.B.Bucket.quiet g.B.Bucket.asked c.args.world c.new-hand.result.world c.new-hand.result.opened.value c.new-hand.result.wanted c.new-hand.ensures.world c.new-hand.ensures.opened c.new-hand.ensures.wanted
+
+pub run_phases-came-requires-clause-workers : goal.run_phases-came-requires-clause-workers
+run_phases-came-requires-clause-workers g c = no_seats (setting_by c.args.script.now c.lend-means.result.shelf) c.in-Ok-new.progress.workers c.in-Ok-new.ensures.workers
+
+pub run_phases-came-requires-clause-reached : goal.run_phases-came-requires-clause-reached
+run_phases-came-requires-clause-reached g c =
+    reached_none g.R.Report.tells (setting_by c.args.script.now c.lend-means.result.shelf) c.in-Ok-new.progress.gateways.items c.new-hand.result.world.journal c.in-Ok-new.progress.report c.in-Ok-new.ensures.unseen (ap (λ w. w.journal) c.new-hand.ensures.world ∙ c.requires.fresh) c.in-Ok-new.ensures.empty
+
+pub returns-clause-came : goal.returns-clause-came
+returns-clause-came g c = (
+  c.run_phases-came.new.progress.gateways.items,
+  rw c.into_report.ensures (subst (λ (s : List ShelfBlock). RunCame g.R.Report.tells (setting_by c.args.script.now s) c.run_phases-came.new.progress.gateways.items c.run_phases-came.result.1.world.journal c.run_phases-came.new.progress.report c.run_phases-came.result.0) c.lend-means.ensures.shelf c.run_phases-came.ensures.came),
+)
+
+pub returns-clause-keeps : goal.returns-clause-keeps
+returns-clause-keeps g c =
+    kept_since g.B.Bucket.faults g.B.Bucket.quiet g.B.Bucket.asked c.args.world c.new-hand.result.world c.new-hand.result.opened.value c.run_phases-came.result.1.opened.value c.new-hand.result.wanted c.run_phases-came.result.1.wanted c.run_phases-came.result.1.world
+    c.new-hand.ensures.world c.new-hand.ensures.opened c.new-hand.ensures.wanted c.run_phases-came.ensures.keeps

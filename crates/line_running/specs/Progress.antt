@@ -1,0 +1,149 @@
+-- How far a run in the order of the lines has come, as the contracts of its parts say it.
+use Rattle.std.specs.Prelude.{◌≡◌, ◌≢◌, ℕ, ◌+◌, ◌<◌, Bool, true, false, List, [], ◌∷◌, ◌++◌, length, take, drop, All, Option, Some, slice_get, Result, Ok, Err}
+use Rattle.world_core.specs.declared.entry.Entry.{Entry}
+use Rattle.script_core.specs.declared.script.Script.{Script}
+use Rattle.script_workers.specs.Hands.{gateway_count, gateway_of}
+use Rattle.script_workers.specs.declared.hand.Hand.{Hand}
+use Rattle.script_workers.specs.declared.phase.Phase.{Phase}
+use Rattle.script_workers.specs.declared.task.Task.{Task}
+use Rattle.lifecycle_core.specs.Holdings.{Holding, Holdings, holding_of, none_held, with_holding}
+use Rattle.lifecycle_core.specs.InLine.{Duty, duties_from, InLine, in_line, who_does}
+use Rattle.lifecycle_core.specs.Setting.{Setting}
+use Rattle.lifecycle_core.specs.Tasks.{End, TaskRun}
+use Rattle.lifecycle_core.specs.Ways.{AreInTurn, AreUnfinished, IsOperationDue, PhasesRun}
+use Rattle.script_running.specs.Outcomes.{IsOutcome, PhasesTold}
+use Rattle.script_running.specs.Sights.{Sees}
+use Rattle.script_running.specs.Tasks.{CameBy, Does, IsDueAfter, WhenDone, WhenFull}
+use Rattle.script_running.specs.declared.sight.Sight.{Sight}
+use Rattle.report_lines.specs.Telling.{tasks_of}
+use Rattle.script_running.specs.declared.came.Broken.{Broken}
+use Rattle.script_running.specs.declared.came.Broken.TheVariants as broken
+use Rattle.script_running.specs.Drives.{Came}
+use Rattle.script_running.specs.declared.outcome.Outcome.{Outcome}
+
+-- ---- one task
+
+-- gateways that hold this see by these
+abbrev pub Shows : Holdings → List Sight → Type 0
+Shows views gateways = (place : ℕ) (gateway : Sight) → slice_get gateways place ≡ Some gateway → Sees (views place) gateway
+
+-- the duties of the task at a place
+abbrev pub duties_at : Setting → ℕ → List Task → List Duty
+duties_at setting place tasks = duties_from (gateway_count setting.script.gateways) place tasks
+
+-- a worker's part of the task at a place: its entries and what it came to
+pub record PartStep (setting : Setting) (seat : Hand → ℕ) (place : ℕ) (task : Task) (hand : Hand) (views : Holdings) (gateways : List Sight) (old new : List Entry) (came : Came) : Type 0 where
+  pub made : List Entry
+  pub entries : new ≡ old ++ made
+  pub seats : All (λ e. e.seat ≡ seat hand) made
+  pub end : Option End
+  pub after : Holding
+  pub run : TaskRun setting (who_does seat hand) place task.work (holding_of views (gateway_of hand)) made end after
+  pub shows : WhenDone came (Shows (with_holding views (gateway_of hand) after) gateways)
+  pub by : CameBy task.work end came
+  pub due : WhenFull came (IsDueAfter (Does setting (who_does seat hand) place task.work (holding_of views (gateway_of hand))) (seat hand) made)
+
+-- the task has come to all its ends, or the full journal left one out
+abbrev pub IsWhole : Setting → ℕ → Task → List End → Result Outcome Broken → Type 0
+IsWhole setting place task ends (Ok o) = (length ends ≡ length (duties_at setting place (task ∷ []))) × IsOutcome task.work ends o
+IsWhole setting place task ends (Err broken.Full) = length ends < length (duties_at setting place (task ∷ []))
+IsWhole setting place task ends (Err broken.NoMemory) = Unit {0}
+
+-- an operation of some seat is due after these entries of duties
+abbrev pub IsDueInLine : Setting → (Hand → ℕ) → Holdings → List Duty → List Entry → Type 0
+IsDueInLine setting seat views duties made = (at : ℕ) × IsDueAfter (λ entries (run : List End × Holdings). InLine setting seat views duties entries run.0 run.1) at made
+
+-- a task's entries and what it came to
+pub record TaskStep (setting : Setting) (seat : Hand → ℕ) (place : ℕ) (task : Task) (views : Holdings) (gateways : List Sight) (old new : List Entry) (came : Result Outcome Broken) : Type 0 where
+  pub made : List Entry
+  pub entries : new ≡ old ++ made
+  pub ends : List End
+  pub after : Holdings
+  pub run : InLine setting seat views (duties_at setting place (task ∷ [])) made ends after
+  pub shows : WhenDone came (Shows after gateways)
+  pub whole : IsWhole setting place task ends came
+  pub due : WhenFull came (IsDueInLine setting seat views (duties_at setting place (task ∷ [])) made)
+
+-- ---- the tasks of a phase
+
+-- How tasks from a place on came out, by the ends of their duties. These stand in the order of the lines, so a task has the next ones;
+-- among the ends of workers, by which `TasksCame` says the same, each has to be found.
+abbrev pub TasksTold : Setting → ℕ → List Task → List End → List Outcome → Type 0
+TasksTold setting place [] ends outcomes = (ends ≡ []) × (outcomes ≡ [])
+TasksTold setting place (task ∷ tasks) ends outcomes =
+    (own : List End) × (others : List End) × (o : Outcome) × (later : List Outcome)
+    × (ends ≡ own ++ others) × (length own ≡ length (duties_at setting place (task ∷ []))) × IsOutcome task.work own o
+    × (outcomes ≡ o ∷ later) × TasksTold setting (place + 1) tasks others later
+
+-- tasks that were done to their ends, and what is reported of them
+pub record TasksDone {R : Type 0} (tells : R → Script → List Task → List Outcome → Type 0) (setting : Setting) (seat : Hand → ℕ) (tasks : List Task) (views : Holdings) (gateways : List Sight) (old new : List Entry) (report : R) : Type 0 where
+  pub made : List Entry
+  pub entries : new ≡ old ++ made
+  pub ends : List End
+  pub after : Holdings
+  pub run : InLine setting seat views (duties_at setting 0 tasks) made ends after
+  pub shows : Shows after gateways
+  pub outcomes : List Outcome
+  pub told : TasksTold setting 0 tasks ends outcomes
+  pub report_is : tells report setting.script tasks outcomes
+
+-- where the journal is full, some duty has no end, and an operation is due
+abbrev pub IsShort : Broken → List End → List Duty → Type 0 → Type 0
+IsShort broken.Full ends duties is_due = (length ends < length duties) × is_due
+IsShort broken.NoMemory ends duties is_due = Unit {0}
+
+-- tasks that were broken off
+pub record TasksBroken (setting : Setting) (seat : Hand → ℕ) (tasks : List Task) (views : Holdings) (old new : List Entry) (why : Broken) : Type 0 where
+  pub made : List Entry
+  pub entries : new ≡ old ++ made
+  pub ends : List End
+  pub after : Holdings
+  pub run : InLine setting seat views (duties_at setting 0 tasks) made ends after
+  pub short : IsShort why ends (duties_at setting 0 tasks) (IsDueInLine setting seat views (duties_at setting 0 tasks) made)
+
+-- ---- phases
+
+-- how phases came out, by the ends of their duties
+abbrev pub PhasesDone : Setting → ℕ → List Phase → List (List End) → List Outcome → Type 0
+PhasesDone setting number phases ends outcomes = PhasesTold (λ number phase own first. TasksTold setting 0 phase.tasks own first) number phases ends outcomes
+
+-- The phases before a place were done to their ends, and this is their report. What completes the rest completes the run.
+pub record Reached {R : Type 0} (tells : R → Script → List Task → List Outcome → Type 0) (setting : Setting) (place : ℕ) (gateways : List Sight) (journal : List Entry) (report : R) : Type 0 where
+  pub views : Holdings
+  pub shows : Shows views gateways
+  pub ends : List (List End)
+  pub onward : (entries : List Entry) (later : List (List End)) → PhasesRun (in_line setting) place views (drop place setting.script.phases) entries later
+      → PhasesRun (in_line setting) 0 none_held setting.script.phases (journal ++ entries) (ends ++ later)
+  pub outcomes : List Outcome
+  pub told : PhasesDone setting 0 (take place setting.script.phases) ends outcomes
+  pub report_is : tells report setting.script (tasks_of (take place setting.script.phases)) outcomes
+
+-- A run that was broken off in the phase at a place, where an operation is due, or before that phase was begun. By the words for runs of
+-- workers beside each other this is `IsCutBehind`.
+pub record IsBrokenAt {R : Type 0} (tells : R → Script → List Task → List Outcome → Type 0) (setting : Setting) (place : ℕ) (journal : List Entry) (report : R) : Type 0 where
+  pub ends : List (List End)
+  pub unfinished : List (List End)
+  pub left : AreUnfinished (in_line setting) place (drop place setting.script.phases) unfinished
+  pub due : unfinished ≢ [] → IsOperationDue (in_line setting) none_held setting.script.phases journal ends
+  pub run : PhasesRun (in_line setting) 0 none_held setting.script.phases journal (ends ++ unfinished)
+  pub outcomes : List Outcome
+  pub told : PhasesDone setting 0 (take place setting.script.phases) ends outcomes
+  pub report_is : tells report setting.script (tasks_of (take place setting.script.phases)) outcomes
+
+-- a run so far
+abbrev pub HasRun : Setting → List Entry → Type 0
+HasRun setting journal =
+    (ends : List (List End)) × PhasesRun (in_line setting) 0 none_held setting.script.phases journal ends
+    × AreInTurn (in_line setting) 0 setting.script.phases ends
+
+-- what a phase leaves
+abbrev pub PhaseStep : {R : Type 0} → (R → Script → List Task → List Outcome → Type 0) → Setting → ℕ → List Sight → List Entry → R → Result (Unit {0}) Broken → Type 0
+PhaseStep tells setting place gateways journal report (Ok done) = Reached tells setting (place + 1) gateways journal report
+PhaseStep tells setting place gateways journal report (Err broken.Full) = IsBrokenAt tells setting place journal report
+PhaseStep tells setting place gateways journal report (Err broken.NoMemory) = HasRun setting journal
+
+-- what all phases leave
+abbrev pub RunCame : {R : Type 0} → (R → Script → List Task → List Outcome → Type 0) → Setting → List Sight → List Entry → R → Result (Unit {0}) Broken → Type 0
+RunCame tells setting gateways journal report (Ok done) = Reached tells setting (length setting.script.phases) gateways journal report
+RunCame tells setting gateways journal report (Err broken.Full) = (place : ℕ) × (place < length setting.script.phases) × IsBrokenAt tells setting place journal report
+RunCame tells setting gateways journal report (Err broken.NoMemory) = HasRun setting journal

@@ -1,0 +1,54 @@
+//! A script's tasks are done one after another.
+
+ghost use Rattle.std.specs.Prelude.{◌≡◌, [], List, Err, IsTrue, false};
+ghost use Rattle.world_core.specs.Keeping.{IsFull};
+ghost use Rattle.script_core.specs.Lawful.{IsLawfulScript};
+ghost use Rattle.script_running.specs.Shelves.{AreAllAtHand, setting_by};
+ghost use Rattle.script_running.specs.Tasks.{is_full_came};
+ghost use Rattle.script_running.specs.declared.sight.Sight.{Sight};
+ghost use Rattle.run_notes.specs.LineHands.{KeepsRun};
+ghost use Rattle.line_running.specs.Progress.{RunCame};
+
+use crate::phases::{Progress, run_phases};
+use bucket_core::Bucket;
+use report_lines::PhaseReport;
+use run_notes::LineHand;
+use script_core::Script;
+use script_running::{Broken, Means, ShelfBlock, selector_texts};
+use std::alloc::Global;
+use world_core::World;
+
+/// Does the tasks one after another, in the order of their lines, and reports those of the phases that are finished. What broke the
+/// run off, if anything did, comes with the report and with the hand that did it all.
+pub fn do_in_line<B: Bucket, R: PhaseReport + Drop>(
+    alloc: Global,
+    script: &Script,
+    shelf: &[ShelfBlock],
+    world: World<B>,
+) -> (Result<(), Broken>, R, LineHand<B>)
+    requires lawful { IsLawfulScript script.now }
+    requires at_hand { AreAllAtHand script.now shelf.now }
+    requires fresh { world.journal ≡ [] }
+    ensures came { (gateways : List Sight) × RunCame R.tells (setting_by script.now shelf.now) gateways
+        result.2.world.journal result.1 result.0 }
+
+    // The full journal broke the run off just where an operation was answered so.
+    ensures full { result.0 ≡ Err Broken.Full → IsFull result.2.world.journal }
+    ensures refused { result.2.refused ≡ is_full_came result.0 }
+
+    // The hand was made over this world.
+    ensures wanted { IsTrue result.2.wanted → result.0 ≡ Err Broken.NoMemory }
+    ensures keeps { KeepsRun B.faults B.quiet B.asked world false world
+        result.2.opened.value result.2.wanted result.2.world }
+{
+    let hand = LineHand::new(world);
+    let Ok(texts) = selector_texts(alloc, &script.selectors) else {
+        return (Err(Broken::NoMemory), R::empty(alloc), hand);
+    };
+    let Ok(mut progress) = Progress::new(alloc, script) else {
+        return (Err(Broken::NoMemory), R::empty(alloc), hand);
+    };
+    let means = Means::lend(script, shelf, texts.members());
+    let (came, hand) = run_phases(alloc, script, &means, &mut progress, hand);
+    (came, progress.into_report(), hand)
+}

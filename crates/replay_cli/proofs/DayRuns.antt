@@ -1,0 +1,100 @@
+-- What a run of the generated day comes to.
+use Rattle.std.proofs.Common.{◌≡◌, ℕ, Bool, List, [], ◌++◌, length, take, refl, sym, ◌∙◌, ap, subst, inl, inr}
+use Rattle.std.specs.Prelude.{Option, Result, Ok, Err}
+use Rattle.std.specs.List.{list_all}
+use Rattle.bucket_core.specs.Contents.{Contents}
+use Rattle.world_core.specs.Keeping.{IsFull}
+use Rattle.world_core.specs.Standing.{IsHonest, Tells, stands}
+use Rattle.world_core.specs.Worlds.{IsJournal, IsOfBytes, IsWorld, WorldGoesOn, WorldView, failed_count}
+use Rattle.world_core.specs.declared.entry.Entry.{Entry}
+use Rattle.world_core.proofs.Growing.{Each-none}
+use Rattle.script_core.specs.Lawful.{IsLawfulScript}
+use Rattle.script_core.specs.declared.script.Script.{Script}
+use Rattle.script_running.specs.Outcomes.{is_as_asked}
+use Rattle.script_running.specs.Shelves.{setting_by}
+use Rattle.script_running.specs.declared.came.Broken.{Broken}
+use Rattle.script_running.specs.declared.came.Broken.TheVariants as broken
+use Rattle.script_running.specs.declared.outcome.Outcome.{Outcome}
+use Rattle.script_running.specs.declared.sight.Sight.{Sight}
+use Rattle.report_lines.specs.BreachLines.{breach_text}
+use Rattle.report_lines.specs.Telling.{report_of, tasks_of}
+use Rattle.line_running.specs.Progress.{Reached, RunCame}
+use Rattle.line_running.proofs.PhaseLists.{guaranteed_run, run_in_line, run_so_far}
+use Rattle.day_tally.specs.Summed.{IsDayText}
+use Rattle.day_tally.specs.Tallies.{AreTallied}
+use Rattle.day_tally.specs.declared.tally.Tally.{Tally}
+use Rattle.breach_finding.specs.declared.found.Breach.{Breach}
+use Rattle.call_verdicts.specs.Kept.{IsTrueOfStore}
+use Rattle.call_verdicts.proofs.HandedBack.{true_of}
+use Rattle.call_verdicts.specs.declared.verdict.Verdict.{Verdict}
+use Rattle.call_verdicts.specs.declared.verdict.Verdict.TheVariants as verdict
+use Rattle.replay_cli.specs.Days.{EndsDay, IsBareFull, IsDay, IsDayRun}
+use Rattle.replay_cli.proofs.WholeRuns.{all_told, full_run, whole_run_of}
+
+-- memory was wanted before the script was made
+pub short_day : (number : ℕ) (entries : List Entry) → entries ≡ [] → IsDayRun number entries verdict.NoMemory
+short_day number entries none =
+    subst (λ (es : List Entry). IsDayRun number es verdict.NoMemory) (sym none) (record { honest = Each-none (λ before e. Tells (stands before) e.op e.reply); unfailed = refl; came = inl (refl, refl) })
+
+module _ (script : Script) (lawful : IsLawfulScript script) (gateways : List Sight) (journal : List Entry) (kept : IsJournal script.rules.tick.ms journal) (bytes : IsOfBytes journal) (tally : Tally) where
+  -- the run was done to its end
+  whole_day : Reached AreTallied (setting_by script []) (length script.phases) gateways journal tally → (v : Verdict) → EndsDay script journal tally v → IsDay script journal v
+  whole_day r (verdict.Report text as_asked) (same, summed, sums, breach, breaks, is) =
+      let setting = setting_by script [] in
+      let told = all_told AreTallied setting gateways journal tally r in
+      let report = report_of script (tasks_of script.phases) r.outcomes in
+      let whole = whole_run_of AreTallied setting gateways journal tally as_asked report (report ++ breach_text breach) lawful kept bytes r (same ∙ told.flag) refl breach breaks refl in
+      let text_of : IsDayText script (tasks_of script.phases) r.outcomes as_asked summed =
+      subst (λ (b : Bool). IsDayText script (tasks_of script.phases) r.outcomes b summed) (sym same) (sums (tasks_of script.phases) r.outcomes told) in (
+        run_in_line AreTallied setting gateways journal tally (Ok tt) kept r,
+        record {
+          told = report ++ breach_text breach;
+          run = whole.0;
+          summed = summed;
+          sums = subst (λ (os : List Outcome). IsDayText script (tasks_of script.phases) os as_asked summed) (sym whole.1) text_of;
+          text_is = is ∙ ap (λ (b : Option Breach). summed ++ breach_text b) (sym whole.2);
+        },
+      )
+  whole_day r verdict.NoMemory ends =
+      let setting = setting_by script [] in (
+        run_in_line AreTallied setting gateways journal tally (Ok tt) kept r,
+        guaranteed_run setting journal lawful kept bytes (run_so_far AreTallied setting (length script.phases) gateways journal tally r),
+      )
+  whole_day r other ends = absurd ends
+
+  -- the full journal broke it off
+  full_day : IsFull journal → RunCame AreTallied (setting_by script []) gateways journal tally (Err broken.Full) → (v : Verdict) → IsBareFull v → IsDay script journal v
+  full_day full (place, below, b) (verdict.Full lines) bare =
+      let setting = setting_by script [] in
+      let report = report_of script (tasks_of (take place script.phases)) b.outcomes in (
+        run_in_line AreTallied setting gateways journal tally (Err broken.Full) kept (place, below, b),
+        report,
+        full_run AreTallied setting place journal tally (list_all is_as_asked b.outcomes) report lawful kept bytes full below b refl refl,
+        bare,
+      )
+  full_day full came other bare = absurd bare
+
+  pub day_by : (r : Result (Unit {0}) Broken) (v : Verdict) → (r ≡ Err broken.Full → IsFull journal) → RunCame AreTallied (setting_by script []) gateways journal tally r
+      → (r ≡ Ok tt → EndsDay script journal tally v) → (r ≡ Err broken.Full → IsBareFull v) → (r ≡ Err broken.NoMemory → v ≡ verdict.NoMemory) → IsDay script journal v
+  day_by (Ok done) v full came whole filled short = whole_day came v (whole refl)
+  day_by (Err broken.Full) v full came whole filled short = full_day (full refl) came v (filled refl)
+  day_by (Err broken.NoMemory) v full came whole filled short =
+      let setting = setting_by script [] in
+      subst (IsDay script journal) (sym (short refl)) (run_in_line AreTallied setting gateways journal tally (Err broken.NoMemory) kept came, guaranteed_run setting journal lawful kept bytes came)
+
+-- a day over a journal that is told by another name
+pub ends_over : {P : Type 0} (script : Script) (one other : List Entry) (tally : Tally) (v : Verdict) → one ≡ other → (P → EndsDay script one tally v) → P → EndsDay script other tally v
+ends_over script one other tally v same ends holds = subst (λ (es : List Entry). EndsDay script es tally v) same (ends holds)
+
+pub day_over : (script : Script) (one other : List Entry) (v : Verdict) → other ≡ one → IsDay script one v → IsDay script other v
+day_over script one other v same day = subst (λ (es : List Entry). IsDay script es v) (sym same) day
+
+-- ---- what was left
+
+pub true_parts : {B : Type 0} (contents : B → Option Contents) (faults : B → ℕ) (world : WorldView B) (a : List Entry) (b : B) → a ≡ world.journal → b ≡ world.bucket → IsWorld contents faults world → IsTrueOfStore contents faults a b
+true_parts {B} contents faults world a b journal bucket is =
+    subst (λ (x : List Entry). IsTrueOfStore contents faults x b) (sym journal) (subst (λ (y : B). IsTrueOfStore contents faults world.journal y) (sym bucket) (true_of contents faults world is))
+
+-- a quiet bucket has not failed
+pub never_failed : {B : Type 0} (faults : B → ℕ) (quiet : B → Type 0) (old new : WorldView B) (a : List Entry) → old.journal ≡ [] → a ≡ new.journal → WorldGoesOn faults quiet old new → quiet old.bucket → failed_count a ≡ 0
+never_failed faults quiet old new a fresh is on q = ap failed_count is ∙ (on.calm q).1 ∙ ap failed_count fresh

@@ -1,5 +1,0 @@
-use Rattle.std.proofs.Common.{length}
-use Rattle.replay_cli.proofs.report.+are_parted.Given as goal
-
-abbrev pub decreases-are_parted : goal.decreases-are_parted
-decreases-are_parted l = length l.partitions.now

@@ -1,7 +1,0 @@
-use Rattle.std.proofs.Common.{◌≡◌, ◌++◌, take}
-use Rattle.std.specs.List.{flat_map}
-use Rattle.replay_cli.specs.Reports.{named_lines}
-use Rattle.replay_cli.proofs.report.put_all_named.Given as goal
-
-abbrev pub invariant-loop-one : goal.invariant-loop-one
-invariant-loop-one l = l.out.items ≡ l.initial.out.items ++ flat_map (named_lines l.script) (take l.one-index l.names)

@@ -1,5 +1,0 @@
-use Rattle.std.proofs.Common.{length}
-use Rattle.replay_cli.proofs.seats.+seat_among.Given as goal
-
-abbrev pub decreases-seat_among : goal.decreases-seat_among
-decreases-seat_among l = length l.workers.now

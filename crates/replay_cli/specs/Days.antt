@@ -1,0 +1,78 @@
+-- The run of the generated day, over a bucket of its own. A summary takes the place of its report.
+use Rattle.std.specs.Prelude.{◌≡◌, ◌⊎◌, ℕ, Bool, List, [], ◌++◌, Option, Some, None, IsSomeAnd}
+use Rattle.world_core.specs.Standing.{IsHonest}
+use Rattle.world_core.specs.Worlds.{failed_count}
+use Rattle.world_core.specs.declared.entry.Entry.{Entry}
+use Rattle.script_core.specs.Lawful.{IsLawfulScript}
+use Rattle.script_core.specs.Spelling.{Spells}
+use Rattle.script_core.specs.declared.script.Script.{Script}
+use Rattle.lifecycle_core.specs.Guarantees.{IsGuaranteedJournal}
+use Rattle.lifecycle_core.specs.InLine.{IsInLine}
+use Rattle.lifecycle_core.specs.Setting.{setting_of}
+use Rattle.breach_finding.specs.declared.found.Breach.{Breach}
+use Rattle.report_lines.specs.BreachLines.{HasBreach, breach_text}
+use Rattle.report_lines.specs.Telling.{tasks_of}
+use Rattle.generated_day.specs.Day.{day_text}
+use Rattle.day_tally.specs.Summed.{IsDayText}
+use Rattle.day_tally.specs.Tallies.{AreTallied}
+use Rattle.day_tally.specs.declared.tally.Tally.{Tally}
+use Rattle.script_workers.specs.declared.task.Task.{Task}
+use Rattle.script_running.specs.declared.outcome.Outcome.{Outcome}
+use Rattle.call_verdicts.specs.Verdicts.{Around, IfShort, IsCaused, IsFullRun, IsWholeRun}
+use Rattle.call_verdicts.specs.declared.verdict.Verdict.{Verdict}
+use Rattle.call_verdicts.specs.declared.verdict.Verdict.TheVariants as verdict
+
+-- ---- the run
+
+-- The run of the script was done to its end. What is written in place of its report is what the report adds up to, with the line of
+-- the journal's breach behind it.
+pub record IsWholeDay (script : Script) (as_asked : Bool) (text : List ℕ) (journal : List Entry) : Type 0 where
+  pub told : List ℕ
+  pub run : IsWholeRun (setting_of script) as_asked told journal
+  pub summed : List ℕ
+  pub sums : IsDayText script (tasks_of script.phases) run.report.outcomes as_asked summed
+  pub text_is : text ≡ summed ++ breach_text run.breach
+
+-- what the run of the script comes to, one task after another
+abbrev pub IsDay : Script → List Entry → Verdict → Type 0
+IsDay script entries (verdict.Report text as_asked) = IsInLine (setting_of script) entries × IsWholeDay script as_asked text.items entries
+IsDay script entries (verdict.Full lines) = IsInLine (setting_of script) entries × (told : List ℕ) × IsFullRun (setting_of script) told entries × (lines.items ≡ [])
+IsDay script entries verdict.NoMemory = IsInLine (setting_of script) entries × IsGuaranteedJournal (setting_of script) entries
+IsDay script entries other = ⊥
+
+-- The run of the day with this number comes to the verdict: of the script that the day's text spells, over a bucket that tells what it
+-- holds and never fails. Where memory is wanted, that may be before the script is made.
+pub record IsDayRun (number : ℕ) (entries : List Entry) (v : Verdict) : Type 0 where
+  pub honest : IsHonest entries
+  pub unfailed : failed_count entries ≡ 0
+  pub came : ((v ≡ verdict.NoMemory) × (entries ≡ [])) ⊎ ((script : Script) × Spells (day_text number) script × IsLawfulScript script × IsDay script entries v)
+
+-- ---- the call
+
+-- the generated day was run; nothing was read, and the site was asked for nothing
+pub record IsDayDone (number : ℕ) (around : Around) (v : Verdict) : Type 0 where
+  pub run : IsSomeAnd around.journal (λ entries. IsDayRun number entries v)
+  pub unread : around.left ≡ around.text
+  pub unasked : around.unasked
+  pub short : IfShort v around.unfailed
+
+-- Why a call comes to a verdict, by the number of a generated day, where its words name one.
+abbrev pub IsToolCaused : Option ℕ → Around → Verdict → Type 0
+IsToolCaused (Some number) around v = IsDayDone number around v
+IsToolCaused None around v = IsCaused around v
+
+-- ---- parts
+
+-- the text of the tally, with the line of the journal's breach behind it; or memory was wanted
+abbrev pub EndsDay : Script → List Entry → Tally → Verdict → Type 0
+EndsDay script journal tally (verdict.Report text as_asked) =
+    (as_asked ≡ tally.as_asked) × (summed : List ℕ)
+    × ((tasks : List Task) (outcomes : List Outcome) → AreTallied tally script tasks outcomes → IsDayText script tasks outcomes tally.as_asked summed)
+    × (breach : Option Breach) × HasBreach script journal breach × (text.items ≡ summed ++ breach_text breach)
+EndsDay script journal tally verdict.NoMemory = Unit {0}
+EndsDay script journal tally other = ⊥
+
+-- the full journal is told, and no line
+abbrev pub IsBareFull : Verdict → Type 0
+IsBareFull (verdict.Full lines) = lines.items ≡ []
+IsBareFull other = ⊥

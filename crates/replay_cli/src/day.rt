@@ -1,0 +1,119 @@
+//! The generated day: its script is run over a bucket in memory, and a summary takes the place of the report.
+
+ghost use Rattle.std.specs.Prelude.{◌≡◌, ◌++◌, [], List, None, Ok, Err, Option, IfSome, IsSomeAnd, OnOk};
+ghost use Rattle.world_core.specs.Worlds.{IsJournal, IsOfBytes, failed_count};
+ghost use Rattle.script_core.specs.Lawful.{IsLawfulScript};
+ghost use Rattle.call_verdicts.specs.Kept.{IsTrueOfStore};
+ghost use Rattle.replay_cli.specs.Days.{EndsDay, IsBareFull, IsDay, IsDayRun};
+
+use bucket_core::{Bucket, FailList, MemoryBucket};
+use call_verdicts::{Conclusion, Ended, Verdict};
+use day_tally::Tally;
+use generated_day::generated;
+use line_running::do_in_line;
+use list_core::NoMemory;
+use report_lines::put_breach_of;
+use run_notes::Finished;
+use script_core::Script;
+use script_running::Broken;
+use std::alloc::Global;
+use world_core::{Entry, Journal, World};
+
+/// Runs the generated day with this number. The bucket is its own, and is not handed back.
+pub(crate) fn run_day<B: Bucket, F>(alloc: Global, number: u64) -> Ended<B, F>
+    ensures came { IsSomeAnd result.conclusion.journal
+        (λ entries. IsDayRun number entries result.conclusion.verdict) }
+    ensures store { result.conclusion.store ≡ None }
+    ensures shelf { result.shelf ≡ None }
+    ensures note { result.note ≡ None }
+{
+    let (verdict, journal) = run_alone(alloc, number);
+    Ended {
+        conclusion: Conclusion {
+            verdict,
+            journal: Some(journal),
+            store: None,
+        },
+        shelf: None,
+        note: None,
+    }
+}
+
+/// What the day comes to, and the journal over its bucket.
+fn run_alone(alloc: Global, number: u64) -> (Verdict, Journal)
+    ensures { IsDayRun number result.1 result.0 }
+{
+    let Ok(script) = generated(alloc, number) else {
+        return (Verdict::NoMemory, Journal::empty(alloc));
+    };
+    let bucket = MemoryBucket::new(alloc, FailList::new(alloc));
+    match World::open(alloc, bucket, script.rules.tick) {
+        Ok(world) => {
+            let (verdict, journal, bucket) = run_script(alloc, &script, world);
+            drop(bucket);
+            drop(script);
+            (verdict, journal)
+        }
+        Err(refused) => {
+            drop(refused);
+            drop(script);
+            (Verdict::NoMemory, Journal::empty(alloc))
+        }
+    }
+}
+
+/// Does the tasks of a script that takes nothing from a shelf, one after another.
+fn run_script<B: Bucket>(alloc: Global, script: &Script, world: World<B>) -> (Verdict, Journal, B)
+    requires lawful { IsLawfulScript script.now }
+    requires fresh { world.journal ≡ [] }
+    requires tick { world.tick ≡ script.now.rules.tick.ms }
+    ensures came { IsDay script.now result.1 result.0 }
+    ensures back { IsTrueOfStore B.contents B.faults result.1 result.2 }
+    ensures unfailed { B.quiet world.bucket → failed_count result.1 ≡ 0 }
+{
+    let (came, tally, hand) = do_in_line(alloc, script, &[], world);
+    let world = hand.world();
+    let journal = world.journal();
+    let verdict = verdict_on(alloc, script, journal.entries(), came, tally);
+    let (_, journal, bucket) = Finished::of_hand(hand).into_parts();
+    (verdict, journal, bucket)
+}
+
+/// What the run comes to that left this journal, by what broke it off.
+fn verdict_on(
+    alloc: Global,
+    script: &Script,
+    journal: &[Entry],
+    came: Result<(), Broken>,
+    tally: Tally,
+) -> Verdict
+    requires lawful { IsLawfulScript script.now }
+    requires kept { IsJournal script.now.rules.tick.ms journal.now }
+    requires bytes { IsOfBytes journal.now }
+    ensures whole { came ≡ Ok tt → EndsDay script.now journal.now tally result }
+    ensures full { came ≡ Err Broken.Full → IsBareFull result }
+    ensures none { came ≡ Err Broken.NoMemory → result ≡ Verdict.NoMemory }
+{
+    match came {
+        Ok(()) => whole_day(alloc, script, journal, tally),
+        Err(Broken::Full) => Verdict::Full(Vec::new(alloc)),
+        Err(Broken::NoMemory) => Verdict::NoMemory,
+    }
+}
+
+/// The summary of a day that came to its end.
+fn whole_day(alloc: Global, script: &Script, journal: &[Entry], tally: Tally) -> Verdict
+    requires lawful { IsLawfulScript script.now }
+    requires kept { IsJournal script.now.rules.tick.ms journal.now }
+    requires bytes { IsOfBytes journal.now }
+    ensures { EndsDay script.now journal.now tally result }
+{
+    let as_asked = tally.as_asked;
+    let Ok(mut text) = tally.into_text(alloc, script) else {
+        return Verdict::NoMemory;
+    };
+    match put_breach_of(alloc, script, journal, &mut text) {
+        Ok(()) => Verdict::Report(text, as_asked),
+        Err(NoMemory) => Verdict::NoMemory,
+    }
+}

@@ -1,0 +1,4 @@
+pub mod BreachLines
+pub mod CheckLines
+pub mod Reports
+pub mod Telling
