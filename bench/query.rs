@@ -3,8 +3,9 @@
 // twelve blocks, and merge each series' samples, block by block; the proved call also reads each index, through a world that keeps a
 // journal of what it reads, tests each chunk against its place, and merges the samples of all blocks under their final labels.
 //
-// With the word `times` it prints the times of both sides, with `reads` what a query of one series reads, and with SIDE ROUNDS it does
-// so many rounds of one side alone, whose instructions can then be counted.
+// With the word `times` it prints the times of both sides, with `reads` what a query of one series reads, with `apart` how long a block
+// of 8,000 series takes, of which all match or every second one, and with SIDE ROUNDS it does so many rounds of one side alone, whose
+// instructions can then be counted.
 
 unsafe extern "C" {
     fn query_run(pairs: *const Pair, count: usize, blocks: u32, series: usize, even: usize, odd: usize, selector: *const u8, length: usize, rounds: u64, what: u32) -> u64;
@@ -73,6 +74,22 @@ fn calls(pairs: &[Pair], blocks: u32, series: usize, selector: &str, rounds: u64
     (now() - begun, told)
 }
 
+/// How long one query takes over a block of 8,000 series of two samples, of which those match whose number has this pattern.
+fn one_of_many(pattern: &str, matching: u64) -> f64 {
+    let pairs: Vec<Pair> = (0..8000).flat_map(|s| samples(0, 0, s).into_iter().take(2)).map(|(time, pattern)| Pair { time, pattern }).collect();
+    let selector = format!("{{__name__=\"m\",i=~\"{pattern}\"}}");
+    let least = |rounds| {
+        let one = || {
+            let begun = now();
+            let told = unsafe { query_run(pairs.as_ptr(), pairs.len(), 1, 8000, 2, 2, selector.as_ptr(), selector.len(), rounds, 0) };
+            assert_eq!(told, 2 * matching);
+            now() - begun
+        };
+        (0..5).map(|_| one()).fold(f64::INFINITY, f64::min)
+    };
+    (least(3) - least(1)) / 2.0
+}
+
 fn pairs_of(blocks: &[Vec<Vec<(i64, u64)>>]) -> Vec<Pair> {
     blocks.iter().flatten().flatten().map(|&(time, pattern)| Pair { time, pattern }).collect()
 }
@@ -87,6 +104,10 @@ fn main() {
         assert_eq!(told(one, 1, 0), samples(0, 0, 0).len() as u64);
         let files = unsafe { query_files(pairs.as_ptr(), pairs.len(), samples(0, 0, 0).len()) };
         println!("bytes {files} {} {} {} {}", told(one, 1, 2), told(one, 1, 3), told(one, 2, 2), told(one, 2, 3));
+        return;
+    }
+    if words == ["apart"] {
+        println!("apart {:.0} {:.0}", one_of_many(".*", 8000), one_of_many(".*[02468]", 4000));
         return;
     }
     let generated = all(24, 100);

@@ -1,8 +1,9 @@
 #!/usr/bin/env bash
 # Measures the proved answer to one query beside tight unverified loops that decode and merge the same samples, in one run, and prints
 # tables, and whether every bar is met: a query over 24 blocks of 100 series, two replicas of each of twelve, takes at most four times
-# the loops' time; a query of one series out of 1,000 reads less than a fifth of the bytes of the block's index and segment; and a
-# second query reads less than the first one, as it asks the gateway's cache.
+# the loops' time; a query of one series out of 1,000 reads less than a fifth of the bytes of the block's index and segment; a second
+# query reads less than the first one, as it asks the gateway's cache; and of a block of 8,000 series every second one, read one by one,
+# takes at most four times as long as all of them, which are read at once.
 # The loops' source, limit.rs, is the first argument; without one, ../shared/bench/limit.rs beside the repository.
 # With COUNT=1 it counts instructions by valgrind and takes no times, which a busy machine does not spoil.
 # CPU names the processor that the proved code is built for, LIMIT_CPU that of the loops.
@@ -45,6 +46,7 @@ if [ "$count" ]; then
     echo "time $(instructions loops) $(instructions proved)" >"$made/lines"
 else
     "$made/query" times >"$made/lines"
+    "$made/query" apart >>"$made/lines"
 fi
 "$made/query" reads >>"$made/lines"
 awk -v unit="${count:+instructions}" '
@@ -53,6 +55,12 @@ $1 == "time" {
     print "| Query | Loops | Proved | Unit | Ratio | Bar |\n|---|---|---|---|---|---|"
     printf "| 24 blocks of 100 series, all samples | %.1f | %.1f | %s a sample | %.2f | 4 |\n\n", $2, $3, unit, $3 / $2
     if ($3 > 4 * $2) missed = missed "24 blocks of 100 series; "
+}
+$1 == "apart" {
+    print "| Of a block of 8,000 series | ms | By all | Bar |\n|---|---|---|---|"
+    printf "| all, in one run | %.1f | 1 | - |\n", $2 / 1e6
+    printf "| every second one, in 4,000 runs | %.1f | %.2f | 4 |\n\n", $3 / 1e6, $3 / $2
+    if ($3 > 4 * $2) missed = missed "every second series; "
 }
 $1 == "bytes" {
     print "| What is read | Reads | Bytes | Of the files |\n|---|---|---|---|"

@@ -25,12 +25,14 @@ pub(crate) fn print_run(rt: &HostRuntime, words: &str) -> io::Result<()> {
     }
 }
 
-/// Runs the script of an example over a bucket in memory, and prints its status, and what it wrote unless that is what stands
-/// beside the script.
-pub(crate) fn print_example(rt: &HostRuntime, name: &str) -> io::Result<()> {
+/// Runs the script of an example over a bucket in memory and the shelf that the row names, if it names one, and prints its status,
+/// and what it wrote unless that is what stands beside the script.
+pub(crate) fn print_example(rt: &HostRuntime, row: &str) -> io::Result<()> {
+    let (name, shelf) = row.split_once(' ').unwrap_or((row, "none"));
+    let words = format!(in rt.alloc(); "serial memory {shelf}")?;
     let script = fs::read(rt, format!(in rt.alloc(); "examples/{name}.script")?)?;
     let output = fs::read(rt, format!(in rt.alloc(); "examples/{name}.output")?)?;
-    match run(rt, "serial memory none", &script) {
+    match run(rt, words.as_str(), &script) {
         Ok((status, text)) if text.as_slice() == output.as_slice() => {
             println!(rt; "status {status}, the output beside it")
         }

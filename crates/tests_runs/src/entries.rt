@@ -2,6 +2,7 @@
 use crate::says::{put, put_number, say};
 use block_keys::Key;
 use label_sets::{Text, TextList};
+use std::str;
 use ulid_core::Ulid;
 use world_core::{Entry, Op, Reply};
 
@@ -20,10 +21,7 @@ pub(crate) fn print_entries(rt: &HostRuntime, entries: &[Entry]) {
 fn print_op(rt: &HostRuntime, op: &Op) {
     match op {
         Op::Clock(moment) => put_number(rt, " clock ", moment.ms),
-        Op::Put(key, bytes) => {
-            put_key(rt, " put ", key);
-            put_number(rt, " ", bytes.bytes().len() as u64);
-        }
+        Op::Put(key, bytes) => print_put(rt, key, bytes.bytes()),
         Op::Get(key) => put_key(rt, " get ", key),
         Op::GetRange(key, from, len) => {
             put_key(rt, " range ", key);
@@ -35,7 +33,24 @@ fn print_op(rt: &HostRuntime, op: &Op) {
             put_name(rt, after);
             put_number(rt, " ", u64::from(*limit));
         }
-        _ => put(rt, " other"),
+        Op::Delete(key) => put_key(rt, " delete ", key),
+        Op::BlockPage(ulid, after, limit) => {
+            put_object(rt, " page of ", *ulid);
+            put_name(rt, after);
+            put_number(rt, " ", u64::from(*limit));
+        }
+    }
+}
+
+/// Prints a put: the text of a mark, of another object how many bytes it has.
+fn print_put(rt: &HostRuntime, key: &Key, bytes: &[u8]) {
+    put_key(rt, " put ", key);
+    match key {
+        Key::Mark(_) => {
+            put(rt, " ");
+            put(rt, str::from_utf8(bytes).unwrap_or("no text"));
+        }
+        _ => put_number(rt, " ", bytes.len() as u64),
     }
 }
 

@@ -1,5 +1,6 @@
-//! Lets passes and workers act on one world from threads of their own, and runs scripts whose workers do so. Each line of standard input names a case and how many
-//! times it is tried; what is printed is how many times it came out as it has to.
+//! Lets passes and workers act on one world from threads of their own, and runs scripts whose workers do so. A line of standard input
+//! names a case and how many times it is tried; what is printed is how many times it came out as it has to. `script TIMES / LINE / LINE ..`
+//! is a script that is run by one thread, and then so many times with threads; its report was worked out apart from this program.
 #![tactic(auto)]
 
 mod faults;
@@ -10,15 +11,14 @@ mod phases;
 mod puts;
 mod ranges;
 mod replays;
+mod scripts;
 mod worlds;
 
 use crate::faults::a_fault_stops_no_other;
 use crate::passes::passes_share_a_journal;
 use crate::phases::{workers_meet, workers_share_a_journal};
-use crate::replays::{
-    a_fault_stops_one_upload, a_young_block_is_told, one_block_is_told, partitions_are_told,
-    serial_runs_are_told, the_sink_fails, the_source_fails, two_blocks_are_told, uploads_meet,
-};
+use crate::replays::{a_fault_stops_one_upload, the_sink_fails, the_source_fails, uploads_meet};
+use crate::scripts::{print_script, say};
 use std::alloc::Global;
 use std::io;
 use std::sync::Wait;
@@ -26,14 +26,25 @@ use std::thread::Threads;
 
 fn main(rt: HostRuntime) -> io::Result<()> {
     for line in rt.lines(rt.alloc()) {
-        let line = line?;
-        let Some((name, times)) = line.as_str().split_once(' ') else {
-            continue;
-        };
-        let good = tried(&rt, rt.alloc(), name, times.parse().unwrap_or(0));
-        println!(rt; "{name}: {good} of {times}")?;
+        print_row(&rt, &rt, line?.as_str());
     }
     Ok(())
+}
+
+/// Does what a row says, and prints what came of it.
+fn print_row<R: Threads + Wait + Sync>(threads: &R, rt: &HostRuntime, row: &str) {
+    let (name, rest) = row.split_once(' ').unwrap_or((row, ""));
+    match name {
+        "=" => say(rt, row),
+        "script" => {
+            say(rt, row);
+            print_script(threads, rt, rest);
+        }
+        _ => {
+            let good = tried(threads, rt.alloc(), name, rest.parse().unwrap_or(0));
+            let _ = println!(rt; "{name}: {good} of {rest}");
+        }
+    }
 }
 
 /// How many times a case came out as it has to.
@@ -53,11 +64,6 @@ fn is_good<R: Threads + Wait + Sync>(rt: &R, alloc: Global, name: &str) -> bool 
         "workers" => workers_share_a_journal(rt, alloc),
         "meeting" => workers_meet(rt, alloc),
         "fault" => a_fault_stops_no_other(rt, alloc),
-        "serial" => serial_runs_are_told(alloc),
-        "one_block" => one_block_is_told(rt, alloc),
-        "young_block" => a_young_block_is_told(rt, alloc),
-        "two_blocks" => two_blocks_are_told(rt, alloc),
-        "partitions" => partitions_are_told(rt, alloc),
         "uploads" => uploads_meet(rt, alloc),
         "failing_call" => a_fault_stops_one_upload(rt, alloc),
         "source" => the_source_fails(rt, alloc),

@@ -28,28 +28,6 @@ source 0000000000000000000000000A
 series {__name__=\"up\"} 1000:3ff0000000000000
 ";
 
-/// The upload and the gateway run beside each other. The block is too young to be seen in its own phase.
-const YOUNG_BLOCK: &str = "gateway g
-block 0000000000000000000000000A 1000 2000 {}
-series {__name__=\"up\"} 1000:3ff0000000000000
-at 0
-sync g
-upload 0000000000000000000000000A
-query 0 5000 {}
-at 1800000
-sync g
-query 0 5000 {}
-";
-
-const YOUNG_BLOCK_REPORT: &str = "sync g: 0 blocks
-upload 0000000000000000000000000A: ok 3 objects
-query 0 5000: 0 series 0 samples 0 sources
-sync g: 1 blocks
-query 0 5000: 1 series 1 samples 1 sources
-source 0000000000000000000000000A
-series {__name__=\"up\"} 1000:3ff0000000000000
-";
-
 /// Two uploads beside each other, of blocks with one series, whose samples are joined.
 const TWO_BLOCKS: &str = "gateway g
 block 0000000000000000000000000A 1000 4000 {}
@@ -71,50 +49,6 @@ query 0 5000: 1 series 3 samples 2 sources
 source 0000000000000000000000000A
 source 0000000000000000000000000B
 series {a=\"x\"} 1000:0000000000000001 2000:0000000000000002 3000:0000000000000003
-";
-
-/// Three gateways, each for times of its own, beside each other: the last one keeps no block, and queries ask those whose times
-/// they meet.
-const PARTITIONS: &str = "rule replica-label replica
-gateway old 0 1999
-gateway new 2000 5000
-gateway late 4001 9000
-block 0000000000000000000000000A 1000 4000 {replica=\"0\"}
-series {a=\"x\"} 1000:0000000000000001 3000:0000000000000003
-block 0000000000000000000000000B 1000 4000 {replica=\"1\"}
-series {a=\"x\"} 1000:0000000000000001 2000:0000000000000002
-at 0
-upload 0000000000000000000000000A
-upload 0000000000000000000000000B
-at 1800000
-sync old
-sync new
-sync late
-query 0 5000 {}
-query 0 1500 {}
-query 2500 2900 {}
-query -9 -1 {}
-";
-
-const PARTITIONS_REPORT: &str = "upload 0000000000000000000000000A: ok 3 objects
-upload 0000000000000000000000000B: ok 3 objects
-sync old: 2 blocks
-sync new: 2 blocks
-sync late: 0 blocks
-query 0 5000: 1 series 3 samples 4 sources
-source old 0000000000000000000000000A
-source old 0000000000000000000000000B
-source new 0000000000000000000000000A
-source new 0000000000000000000000000B
-series {a=\"x\"} 1000:0000000000000001 2000:0000000000000002 3000:0000000000000003
-query 0 1500: 1 series 1 samples 2 sources
-source old 0000000000000000000000000A
-source old 0000000000000000000000000B
-series {a=\"x\"} 1000:0000000000000001
-query 2500 2900: 0 series 0 samples 2 sources
-source new 0000000000000000000000000A
-source new 0000000000000000000000000B
-query -9 -1: 0 series 0 samples 0 sources
 ";
 
 /// The call of the bucket that fails in the end: the first one opens it.
@@ -139,33 +73,9 @@ const NOTHING: Failing = Failing {
 
 /// How a run ended, and what it wrote.
 #[derive(Drop)]
-struct Ended {
-    status: u8,
-    text: Vec<u8>,
-}
-
-/// The four scripts that follow, by one thread.
-pub fn serial_runs_are_told(alloc: Global) -> bool {
-    is_told_by_one(alloc, ONE_BLOCK, ONE_BLOCK_REPORT)
-        && is_told_by_one(alloc, YOUNG_BLOCK, YOUNG_BLOCK_REPORT)
-        && is_told_by_one(alloc, TWO_BLOCKS, TWO_BLOCKS_REPORT)
-        && is_told_by_one(alloc, PARTITIONS, PARTITIONS_REPORT)
-}
-
-pub fn one_block_is_told<R: Threads + Wait + Sync>(rt: &R, alloc: Global) -> bool {
-    is_told(rt, alloc, &Open, ONE_BLOCK, ONE_BLOCK_REPORT)
-}
-
-pub fn a_young_block_is_told<R: Threads + Wait + Sync>(rt: &R, alloc: Global) -> bool {
-    is_told(rt, alloc, &Open, YOUNG_BLOCK, YOUNG_BLOCK_REPORT)
-}
-
-pub fn two_blocks_are_told<R: Threads + Wait + Sync>(rt: &R, alloc: Global) -> bool {
-    is_told(rt, alloc, &Open, TWO_BLOCKS, TWO_BLOCKS_REPORT)
-}
-
-pub fn partitions_are_told<R: Threads + Wait + Sync>(rt: &R, alloc: Global) -> bool {
-    is_told(rt, alloc, &Open, PARTITIONS, PARTITIONS_REPORT)
+pub(crate) struct Ended {
+    pub(crate) status: u8,
+    pub(crate) text: Vec<u8>,
 }
 
 /// Two uploads wait for each other before their operation number 2, so neither comes past it unless both run.
@@ -246,16 +156,23 @@ fn is_told<R: Threads + Wait + Sync, G: Gate + Sync>(
     }
 }
 
-fn is_told_by_one(alloc: Global, script: &str, report: &str) -> bool {
-    match by_one(alloc, script) {
-        Some(ended) => has_told(&ended, report),
-        None => false,
-    }
-}
-
 /// Whether a run ended as asked, with this report.
 fn has_told(ended: &Ended, report: &str) -> bool {
     ended.status == 0 && ended.text.as_slice() == report.as_bytes()
+}
+
+/// Whether a run with threads, in which nothing fails, ends as another one did, with the same report.
+pub(crate) fn ends_so<R: Threads + Wait + Sync>(
+    rt: &R,
+    alloc: Global,
+    script: &str,
+    other: &Ended,
+) -> bool {
+    match replayed(rt, alloc, &Open, script, NOTHING) {
+        Some(ended) => ended.status == other.status
+            && ended.text.as_slice() == other.text.as_slice(),
+        None => false,
+    }
 }
 
 /// A run over memory, with threads.
@@ -280,7 +197,7 @@ fn replayed<R: Threads + Wait + Sync, G: Gate + Sync>(
 }
 
 /// A run over memory by one thread, in which nothing fails.
-fn by_one(alloc: Global, script: &str) -> Option<Ended> {
+pub(crate) fn by_one(alloc: Global, script: &str) -> Option<Ended> {
     let words = words_of(alloc, "serial")?;
     let script = Blob::from_bytes(alloc, script.as_bytes()).ok()?;
     let mut site = memory_site(alloc, None)?;

@@ -13,7 +13,7 @@ use Rattle.script_core.specs.Workers.{workers_of}
 use Rattle.script_workers.specs.declared.task.Task.{Task}
 use Rattle.script_workers.specs.declared.work.Work.TheVariants as works
 use Rattle.script_workers.specs.declared.worker.Worker.{Worker}
-use Rattle.lifecycle_core.specs.Acting.{IsActing, IsReading, acting, uploaders}
+use Rattle.lifecycle_core.specs.Acting.{IsActing, IsReading, acting, actors}
 use Rattle.lifecycle_core.specs.Conducts.{PhaseRun, working}
 use Rattle.lifecycle_core.specs.Holdings.{none_held, nothing_held}
 use Rattle.lifecycle_core.specs.Phases.{IsLawfulJournal, by_script, by_workers}
@@ -44,7 +44,7 @@ moved by = record { seat = by 1; gateway = None; tasks = 0 ∷ [] }
 abbrev moved_by : (ℕ → ℕ) → List Worker → List Worker
 moved_by by ws = map (λ (worker : Worker). record { seat = by worker.seat; gateway = worker.gateway; tasks = worker.tasks }) ws
 
-acting_workers : (by : ℕ → ℕ) → uploaders late.setting by 0 ≡ moved by ∷ []
+acting_workers : (by : ℕ → ℕ) → actors late.setting by 0 ≡ moved by ∷ []
 unfolding hands_of_task with_hands hands_from places_from workers_from seats_from
 acting_workers by = refl
 
@@ -55,7 +55,7 @@ only_member one other (suc k, below, is) = absurd (omega (arith, below))
 no_member_of : (seat : ℕ) → ¬ Contains {X = ℕ} [] seat
 no_member_of seat (k, below, is) = absurd (omega (arith, below))
 
-stranger_seat : (number : ℕ) → ¬ Contains (map (λ (worker : Worker). worker.seat) (uploaders late.setting seats number)) 7
+stranger_seat : (number : ℕ) → ¬ Contains (map (λ (worker : Worker). worker.seat) (actors late.setting seats number)) 7
 stranger_seat zero among =
     let same = only_member 5 7 (subst (λ (ws : List Worker). Contains (map (λ (worker : Worker). worker.seat) ws) 7) (acting_workers seats) among) in
     omega (arith, same)
@@ -74,7 +74,7 @@ made = strange.made_with strange.lists
 
 -- an upload's own entry, or the stranger's
 abbrev IsSeated : Entry → Type 0
-IsSeated e = Contains (5 ∷ []) e.seat ⊎ ((e.seat ≢ 0) × IsReading e.op × ((number : ℕ) → ¬ Contains (map (λ (worker : Worker). worker.seat) (uploaders late.setting seats number)) e.seat))
+IsSeated e = Contains (5 ∷ []) e.seat ⊎ ((e.seat ≢ 0) × IsReading e.op × ((number : ℕ) → ¬ Contains (map (λ (worker : Worker). worker.seat) (actors late.setting seats number)) e.seat))
 
 own_seat : (e : Entry) → e.seat ≡ 5 → IsSeated e
 own_seat e is = inl (0, lit< tt, sym is)
@@ -166,13 +166,13 @@ not_lawful lawful = no_run lawful.0 lawful.1.phases
 -- ---- where the stranger puts
 
 -- an entry of a phase that puts has the seat of its upload
-put_seat : (by : ℕ → ℕ) (seat : ℕ) (e : Entry) → e.seat ≡ seat → ¬ IsReading e.op → Contains (by 1 ∷ []) e.seat ⊎ ((e.seat ≢ 0) × IsReading e.op × ((number : ℕ) → ¬ Contains (map (λ (worker : Worker). worker.seat) (uploaders late.setting by number)) e.seat)) → by 1 ≡ seat
+put_seat : (by : ℕ → ℕ) (seat : ℕ) (e : Entry) → e.seat ≡ seat → ¬ IsReading e.op → Contains (by 1 ∷ []) e.seat ⊎ ((e.seat ≢ 0) × IsReading e.op × ((number : ℕ) → ¬ Contains (map (λ (worker : Worker). worker.seat) (actors late.setting by number)) e.seat)) → by 1 ≡ seat
 put_seat by seat e is puts (inl own) = only_member (by 1) e.seat own ∙ is
 put_seat by seat e is puts (inr stands) = absurd (puts stands.1)
 
 -- the seats of a phase under this numbering
 abbrev IsSeatedBy : (ℕ → ℕ) → Entry → Type 0
-IsSeatedBy by e = Contains (by 1 ∷ []) e.seat ⊎ ((e.seat ≢ 0) × IsReading e.op × ((number : ℕ) → ¬ Contains (map (λ (worker : Worker). worker.seat) (uploaders late.setting by number)) e.seat))
+IsSeatedBy by e = Contains (by 1 ∷ []) e.seat ⊎ ((e.seat ≢ 0) × IsReading e.op × ((number : ℕ) → ¬ Contains (map (λ (worker : Worker). worker.seat) (actors late.setting by number)) e.seat))
 
 two_seats : (by : ℕ → ℕ) → All (IsSeatedBy by) (strange.made_with strange.puts) → ⊥
 two_seats by all =

@@ -46,7 +46,7 @@ either_of false true segment m i s some = inr (inl refl)
 either_of false false true m i s some = inr (inr refl)
 either_of false false false m i s some = absurd (cc)
 
-pub first_part : List ℕ → List ℕ
+unfoldable pub first_part : List ℕ → List ℕ
 first_part = before_first (λ byte. byte == 47)
 
 meta_folder : first_part (key_text (key.Meta small.a)) ≡ small.a_text
@@ -61,10 +61,14 @@ pub segment_folder : first_part (key_text (key.Segment small.a 1)) ≡ small.a_t
 unfolding first_part key_text name_of six_digits text_of character alphabet fixed_digits
 segment_folder = refl
 
+pub mark_folder : first_part (key_text (key.Mark small.a)) ≡ small.a_text
+unfolding first_part key_text name_of text_of character alphabet fixed_digits
+mark_folder = refl
+
 pub one_folder : (k text : List ℕ) → bytes_eq k text ≡ true → first_part k ≡ small.a_text → first_part text ≡ small.a_text
 one_folder k text same folder = ap first_part (sym ((bytes_eq-Decides k text).0 same)) ∙ folder
 
-folder_of : (text : List ℕ) → is_some (full text) ≡ true → first_part text ≡ small.a_text
+pub folder_of : (text : List ℕ) → is_some (full text) ≡ true → first_part text ≡ small.a_text
 folder_of text some =
     elim (either_of (bytes_eq (key_text (key.Meta small.a)) text) (bytes_eq (key_text (key.Index small.a)) text) (bytes_eq (key_text (key.Segment small.a 1)) text) small.meta small.index small.segment some) [
       | inl h ↦ one_folder (key_text (key.Meta small.a)) text h meta_folder

@@ -18,7 +18,9 @@ use Rattle.block_writing.specs.Put.{IsPut, IsStored, Put, PutChunk, PutSeries}
 use Rattle.block_writing.specs.Segments.{segment_text}
 use Rattle.block_writing.specs.Writing.{plan_fields}
 use Rattle.block_writing.specs.WrittenMeta.{counts_of, meta_with, names_from, sizes_from, sizes_of}
+use Rattle.block_content.specs.Content.{IsContent}
 use Rattle.block_laws.specs.PutContent.{AreBytes}
+use Rattle.block_laws.proofs.Content.{built_holds}
 use Rattle.lifecycle_core.specs.Setting.{Setting}
 use Rattle.lifecycle_core.specs.Shipped.{IsShipped}
 use Rattle.tests_worked.specs.SmallBlock as small
@@ -28,10 +30,10 @@ use Rattle.tests_worked.proofs.SmallIndex.{index_is, is_index, listed}
 
 -- ---- what is put
 
-abbrev chunk : PutChunk
+abbrev pub chunk : PutChunk
 chunk = record { content = files.content; min = pos 1000; max = pos 1000 }
 
-abbrev series : PutSeries
+abbrev pub series : PutSeries
 series = record { labels = files.up.labels; chunks = chunk ∷ [] }
 
 unfoldable plan_of : ℕ → BlockPlan
@@ -54,7 +56,7 @@ put_of ulid = record { plan = plan_fields (plan_of ulid); series = series ∷ []
 encoded : IsEncoded files.up.samples chunk
 encoded = record { text_is = stands_filled; bytes = content_bytes; bits = bits_are; begins = refl; ends = refl }
 
-put_as : IsPutAs files.up series
+pub put_as : IsPutAs files.up series
 put_as = record { parts = files.up.samples ∷ []; whole = refl; cut = ((lit< tt, lit≤ tt), tt); chunks = (encoded, tt); labels = refl }
 
 put_is : (ulid : ℕ) → IsPutOf (plan_fields (plan_of ulid)) (files.up ∷ []) (put_of ulid)
@@ -75,19 +77,19 @@ lawful ulid = record {
 
 -- ---- what is written
 
-segment_is : files.segment ≡ segment_text (files.content ∷ [])
+pub segment_is : files.segment ≡ segment_text (files.content ∷ [])
 unfolding files.segment
 segment_is = ap (λ (c : List ℕ). 0x85 ∷ 0xbd ∷ 0x40 ∷ 0xdd ∷ 1 ∷ 0 ∷ 0 ∷ 0 ∷ c) (chunk_is ∙ sym (append-nil (frame_text files.content)))
 
-segment_fits : length files.segment ≤ greatest
+pub segment_fits : length files.segment ≤ greatest
 unfolding files.segment files.chunk files.content
 segment_fits = lit≤ tt
 
-index_fits : length files.index ≤ greatest
+pub index_fits : length files.index ≤ greatest
 unfolding files.index files.symbols files.series files.label_index files.lists files.label_offsets files.table files.contents
 index_fits = lit≤ tt
 
-files_are : AreFilesOf (series ∷ []) files.index (files.segment ∷ [])
+unfoldable pub files_are : AreFilesOf (series ∷ []) files.index (files.segment ∷ [])
 files_are = record {
   listed = listed ∷ [];
   series_are = (record { labels_are = refl; times_are = refl }, tt);
@@ -100,7 +102,7 @@ files_are = record {
   index_is = index_is;
 }
 
-abbrev files_of : ℕ → BlockFiles
+abbrev pub files_of : ℕ → BlockFiles
 files_of ulid = record { meta = small.said_of ulid; index = files.index; segments = files.segment ∷ []; numbered = lit≤ tt }
 
 said_is : (ulid : ℕ) → fields_of (small.said_of ulid) ≡ meta_with (plan_fields (plan_of ulid)) (counts_of (put_of ulid)) files.index (files.segment ∷ [])
@@ -116,12 +118,16 @@ built ulid = record {
   block_is = record { lawful = lawful ulid; files = files_are; indexed = is_index; small = index_fits; meta = said_is ulid };
 }
 
-bytes : (ulid : ℕ) → AreBytes (files_of ulid)
+-- so they hold the series
+pub content : (ulid : ℕ) → IsContent (files_of ulid) (files.up ∷ [])
+content ulid = built_holds (plan_of ulid) (files.up ∷ []) (files_of ulid) (built ulid)
+
+pub bytes : (ulid : ℕ) → AreBytes (files_of ulid)
 bytes ulid = record { index = index_bytes; segments = (segment_bytes, tt) }
 
 -- ---- its objects
 
-same_objects : (ulid : ℕ) (text other : List ℕ) → text ≡ other → small.objects_with ulid other ≡ objects_of ulid (files.segment ∷ []) files.index text
+pub same_objects : (ulid : ℕ) (text other : List ℕ) → text ≡ other → small.objects_with ulid other ≡ objects_of ulid (files.segment ∷ []) files.index text
 unfolding objects_of segment_objects
 same_objects ulid text other is = ap (λ (t : List ℕ). small.objects_with ulid t) (sym is)
 

@@ -41,7 +41,7 @@ abbrev second_phase : Phase
 second_phase = record { line = 7; moment = record { ms = 1_800_000 }; tasks = second_tasks }
 
 abbrev first_duties : List Duty
-first_duties = duty_at 0 (hands.Upload 0) (record { line = 6; work = works.Upload small.a None }) ∷ []
+first_duties = duty_at 0 (hands.Alone 0) (record { line = 6; work = works.Upload small.a None }) ∷ []
 
 abbrev second_duties : List Duty
 second_duties =
@@ -63,7 +63,7 @@ first_seats hand = seat_of (workers_of one.script 0) hand
 abbrev second_seats : Hand → ℕ
 second_seats hand = seat_of (workers_of one.script 1) hand
 
-upload_seat : first_seats (hands.Upload 0) ≡ 1
+upload_seat : first_seats (hands.Alone 0) ≡ 1
 unfolding seat_of hands_of_task with_hands hands_from places_from workers_from seats_from
 upload_seat = refl
 
@@ -92,7 +92,7 @@ first_run = inl (
   [],
   nothing_held,
   refl,
-  All-from_recursion (λ (e : Entry). e.seat ≡ first_seats (hands.Upload 0)) one.upload (sym upload_seat, (sym upload_seat, (sym upload_seat, (sym upload_seat, tt)))),
+  All-from_recursion (λ (e : Entry). e.seat ≡ first_seats (hands.Alone 0)) one.upload (sym upload_seat, (sym upload_seat, (sym upload_seat, (sym upload_seat, tt)))),
   (upload_end, refl),
   refl,
   (refl, refl, refl),
@@ -174,8 +174,8 @@ abbrev side_duties : List Duty
 side_duties =
     duty_at 0 (hands.Gateway 0) (record { line = 8; work = works.Sync 0 })
     ∷ duty_at 1 (hands.Gateway 0) (record { line = 9; work = works.Query (pos 0) (pos 5000) 0 })
-    ∷ duty_at 2 (hands.Upload 2) (record { line = 10; work = works.Upload small.a None })
-    ∷ duty_at 3 (hands.Upload 3) (record { line = 11; work = works.Upload side.b None })
+    ∷ duty_at 2 (hands.Alone 2) (record { line = 10; work = works.Upload small.a None })
+    ∷ duty_at 3 (hands.Alone 3) (record { line = 11; work = works.Upload side.b None })
     ∷ []
 
 side_are : duties_of side.setting side_phase ≡ side_duties

@@ -106,4 +106,4 @@ names = All-cons (λ (n : Named). All (λ ulid. IsUploadedBefore one.setting one
     (All-nil (λ (n : Named). All (λ ulid. IsUploadedBefore one.setting one.journal ulid n.used.last) n.sources))
 
 pub settled : IsSettled one.setting one.journal (sync_rules one.setting 0) one.used small.a
-settled = record { uploaded = uploaded_before 7 (lit< tt); old = lit≤ tt; passes = record { from = omega (arith, ints); upto = omega (arith, ints) } }
+settled = record { uploaded = uploaded_before 7 (lit< tt); old = lit≤ tt; fresh = λ expired. expired; passes = record { from = omega (arith, ints); upto = omega (arith, ints) } }

@@ -29,24 +29,25 @@ use Rattle.script_workers.specs.declared.worker.Worker.{Worker}
 use Rattle.script_workers.specs.declared.phase.Phase.{Phase}
 use Rattle.script_workers.specs.declared.task.Task.{Task}
 use Rattle.script_workers.specs.declared.work.Work.TheVariants as works
-use Rattle.lifecycle_core.specs.Breaches.{honesty}
-use Rattle.lifecycle_core.specs.Causes.{IsDamaged, IsExplained, IsFault, IsMissing, IsWell}
+use Rattle.lifecycle_core.specs.Breaches.{IsUnbroken, honesty, watched}
+use Rattle.lifecycle_core.specs.Causes.{IsDamaged, IsExplained, IsExplainedBy, IsFault, IsMissing, IsWell, blamed_for}
 use Rattle.lifecycle_core.specs.Conducts.{CameTo}
 use Rattle.lifecycle_core.specs.Guarantees.{Answered, IsGiven, IsGuaranteed, IsPartGiven, IsSound, Named, NamesAll, ask_by}
 use Rattle.lifecycle_core.specs.Holdings.{Use, empty_cache}
 use Rattle.lifecycle_core.specs.Phases.{IsFinished, IsRunOf}
+use Rattle.lifecycle_core.specs.Quiet.{DeletesNothing}
 use Rattle.lifecycle_core.specs.Tasks.{End, QueryTask, answered, asks_in, sync_rules, synced}
 use Rattle.tests_worked.specs.LostIndex as lost
 use Rattle.tests_worked.specs.OneBlock as one
 use Rattle.tests_worked.specs.SmallBlock as small
-use Rattle.tests_worked.proofs.Ends.{of_each}
+use Rattle.tests_worked.proofs.Ends.{came_among, of_each, one_of_two}
 use Rattle.tests_worked.proofs.OneAnswer.{exact, names, one_named}
 use Rattle.tests_worked.proofs.Bucket.{full, shows_index}
 use Rattle.tests_worked.proofs.OneBlock.{first_tasks, gateway, holding, second_ends, second_tasks, second_workers}
 use Rattle.tests_worked.proofs.OtherReads.{broken, finished_with, run_with}
 use Rattle.world_core.specs.declared.reply.Reply.TheVariants.{Absent}
 use Rattle.tests_worked.proofs.OneInTime.{leaves_none_out}
-use Rattle.tests_worked.proofs.OneOutcomes.{came_among, one_of_two}
+use Rattle.tests_worked.proofs.OneHeld.{held}
 use Rattle.tests_worked.proofs.OneUnbroken.{front, lost_is_lie}
 
 all_ends : (Q : End → Type 0) (one two three : End) → Q one → Q two → Q three → All (All (All Q)) (((one ∷ []) ∷ []) ∷ ((two ∷ three ∷ []) ∷ []) ∷ [])
@@ -191,10 +192,11 @@ sound = record { exact = exact; named = names; covered = λ uploaded. in_time }
 
 pub guaranteed : IsGuaranteed one.setting one.journal one.ends
 guaranteed = record {
-  explained = λ end number came none. absurd (of_each (λ end. (n : ℕ) → ¬ IsMissing end n) one.ends end (all_ends (λ end. (n : ℕ) → ¬ IsMissing end n) _ _ _ (λ n f. f) (λ n f. f) (λ n f. f)) came number none);
+  explained = λ turns end number came none. absurd (of_each (λ end. (n : ℕ) → ¬ IsMissing end n) one.ends end (all_ends (λ end. (n : ℕ) → ¬ IsMissing end n) _ _ _ (λ n f. f) (λ n f. f) (λ n f. f)) came number none);
   faults = λ end number came fault. absurd (of_each (λ end. (n : ℕ) → ¬ IsFault end n) one.ends end (all_ends (λ end. (n : ℕ) → ¬ IsFault end n) _ _ _ (λ n f. f) (λ n f. f) (λ n f. f)) came number fault);
   undamaged = λ honest end came. of_each (λ end. ¬ IsDamaged end) one.ends end (all_ends (λ end. ¬ IsDamaged end) _ _ _ (λ d. d) (λ d. d) (λ d. d)) came;
   sound = λ honest query given. subst (IsSound one.setting one.journal) (given_is query given) sound;
+  held = held;
   complete = λ turns honest none end came. of_each IsWell one.ends end (all_ends IsWell _ _ _ tt tt tt) came;
 }
 
@@ -231,13 +233,21 @@ lost_explained = record {
 lost_is_dishonest : ¬ IsHonest lost.journal
 lost_is_dishonest honest = let told : full (key_text (key.Index small.a)) ≡ None = honest front [] lost.lost refl in cc (told, shows_index)
 
+lost_not_whole : ¬ (IsUnbroken one.setting lost.journal ⊎ (IsHonest lost.journal × DeletesNothing one.script))
+lost_not_whole (inl unbroken) = unbroken front [] lost.lost refl honesty 65 70 lost_is_lie
+lost_not_whole (inr whole) = lost_is_dishonest whole.0
+
+-- its misses are explained
+abbrev Explained : End → Type 0
+Explained end = (n : ℕ) → IsMissing end n → IsExplainedBy one.setting (watched one.setting lost.journal) (blamed_for end) lost.journal n
+
 pub lost_guaranteed : IsGuaranteed one.setting lost.journal lost.ends
 lost_guaranteed = record {
-  explained = λ end number came misses. of_each (λ end. (n : ℕ) → IsMissing end n → IsExplained one.setting lost.journal n) lost.ends end
-      (all_ends (λ end. (n : ℕ) → IsMissing end n → IsExplained one.setting lost.journal n) _ _ _ (λ n f. absurd f) (λ n f. absurd f)
-      (λ n same. subst (IsExplained one.setting lost.journal) same lost_explained)) came number misses;
+  explained = λ turns end number came misses. of_each Explained lost.ends end
+      (all_ends Explained _ _ _ (λ n f. absurd f) (λ n f. absurd f) (λ n same. subst (IsExplained one.setting lost.journal) same lost_explained)) came number misses;
   faults = λ end number came fault. absurd (of_each (λ end. (n : ℕ) → ¬ IsFault end n) lost.ends end (all_ends (λ end. (n : ℕ) → ¬ IsFault end n) _ _ _ (λ n f. f) (λ n f. f) (λ n f. f)) came number fault);
   undamaged = λ honest end came. absurd (lost_is_dishonest honest);
   sound = λ honest query given. absurd (lost_is_dishonest honest);
-  complete = λ turns honest none end came. absurd (lost_is_dishonest honest);
+  held = λ honest ulid seq meta complete. absurd (lost_is_dishonest honest);
+  complete = λ turns either. absurd (lost_not_whole either);
 }

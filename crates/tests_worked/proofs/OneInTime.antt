@@ -52,7 +52,7 @@ read_in_time = All-from_recursion (IsReadInTime one.script.rules one.used.view) 
 
 -- ---- what has to be named
 
-same_ulid : (ulid : ℕ) (b : Bool) → b ≡ (small.a == ulid) → is_some (cond b (Some small.block) None) ≡ true → small.a ≡ ulid
+pub same_ulid : (ulid : ℕ) (b : Bool) → b ≡ (small.a == ulid) → is_some (cond b (Some small.block) None) ≡ true → small.a ≡ ulid
 same_ulid ulid true is some = grind (arith, nat_tests)
 same_ulid ulid false is some = absurd (cc)
 

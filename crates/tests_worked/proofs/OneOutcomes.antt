@@ -1,7 +1,7 @@
 -- The script of one block has one report at the ends of its run.
 use Rattle.list_core.proofs.Membership.{only_member}
-use Rattle.std.proofs.Common.{◌≡◌, ◌⊎◌, inl, inr, ℕ, zero, suc, pos, Bool, List, [], ◌∷◌, ◌++◌, length, Contains, Option, Some, None, refl, sym, ap, subst, ◌∙◌, arith}
-use Rattle.std.specs.List.{AllZip, zip}
+use Rattle.std.proofs.Common.{◌≡◌, inl, inr, ℕ, pos, Bool, List, [], ◌∷◌, ◌++◌, length, Some, None, refl, sym, ap, subst, ◌∙◌, arith}
+use Rattle.std.specs.List.{AllZip}
 use Rattle.shipper.specs.declared.upload_end.UploadEnd.TheVariants as shipped
 use Rattle.meta_fetcher.specs.declared.sync_end.SyncEnd.TheVariants as fetched
 use Rattle.series_calls.specs.declared.series_end.SeriesEnd.TheVariants as called
@@ -14,7 +14,8 @@ use Rattle.script_workers.specs.declared.worker.Worker.{Worker}
 use Rattle.lifecycle_core.specs.Conducts.{CameTo}
 use Rattle.lifecycle_core.specs.Tasks.{End, answered, synced, uploaded}
 use Rattle.script_running.specs.Outcomes.{IsOutcome, TaskCame, TasksCame, PhasesCame}
-use Rattle.replay_cli.specs.Verdicts.{IsReport, report_of}
+use Rattle.call_verdicts.specs.Verdicts.{IsReport}
+use Rattle.report_lines.specs.Telling.{report_of}
 use Rattle.script_running.specs.declared.outcome.Outcome.{Outcome}
 use Rattle.script_running.specs.declared.outcome.Outcome.TheVariants as outcome
 use Rattle.script_running.specs.declared.outcome.UploadOutcome.TheVariants as uploads
@@ -22,24 +23,13 @@ use Rattle.script_running.specs.declared.outcome.SyncOutcome.TheVariants as sync
 use Rattle.tests_worked.specs.SmallBlock as small
 use Rattle.tests_worked.specs.OneBlock as one
 use Rattle.tests_worked.specs.OneBlockChanged as changed
+use Rattle.tests_worked.proofs.Ends.{came_among, one_of_two}
 use Rattle.tests_worked.proofs.OneBlock.{uploader, gateway, first_workers, second_workers, first_tasks, second_tasks, first_ends, second_ends}
 use Rattle.replay_cli.proofs.OneReport.{outcome_once}
 use Rattle.tests_worked.proofs.OneReport.{outcomes, lines}
 use Rattle.tests_worked.proofs.SmallOutcomes.{small_out, small_outcome, sync_out, upload_out}
 
--- ---- lists of two
-
-pub one_of_two : {X : Type 0} (x z y : X) → Contains (x ∷ z ∷ []) y → (x ≡ y) ⊎ (z ≡ y)
-one_of_two x z y (zero, below, is) = inl is
-one_of_two x z y (suc zero, below, is) = inr is
-one_of_two x z y (suc (suc k), below, is) = absurd (omega (arith, below))
-
 -- ---- the ends of tasks
-
-pub came_among : (worker : Worker) (own : List End) (hand : Option ℕ) (place : ℕ) (end : End) → CameTo (worker ∷ []) (own ∷ []) hand place end → Contains (zip worker.tasks own) (place, end)
-came_among worker own hand place end came =
-    let same : (worker, own) ≡ (came.worker, came.own) = only_member (worker, own) (came.worker, came.own) came.among in
-    subst (λ (p : Worker × List End). Contains (zip p.0.tasks p.1) (place, end)) (sym same) came.came
 
 upload_came : (end : End) → CameTo (uploader ∷ []) first_ends None 0 end → uploaded (shipped.Done 3) ≡ end
 upload_came end came = ap (λ (p : ℕ × End). p.1) (only_member (0, uploaded (shipped.Done 3)) (0, end) (came_among uploader (uploaded (shipped.Done 3) ∷ []) None 0 end came))
@@ -80,7 +70,7 @@ query = record { line = 9; work = works.Query (pos 0) (pos 5000) 0 }
 upload_outcome : (o : Outcome) → TaskCame one.script (uploader ∷ []) first_ends 0 upload o → o ≡ outcome.Upload (uploads.Done 3)
 unfolding hands_of_task
 upload_outcome o came =
-    let own = one_end (hands.Upload 0) (λ hand end. CameTo (uploader ∷ []) first_ends (gateway_of hand) 0 end) came.own came.came in
+    let own = one_end (hands.Alone 0) (λ hand end. CameTo (uploader ∷ []) first_ends (gateway_of hand) 0 end) came.own came.came in
     outcome_once upload.work (uploaded (shipped.Done 3) ∷ []) o (outcome.Upload (uploads.Done 3)) (subst (λ (ends : List End). IsOutcome upload.work ends o) (own.1 ∙ ap (λ end. end ∷ []) (sym (upload_came own.0 own.2))) came.is) (upload_out small.a None)
 
 sync_outcome : (o : Outcome) → TaskCame one.script (gateway ∷ []) second_ends 0 sync o → o ≡ outcome.Sync (syncs.Blocks 1)

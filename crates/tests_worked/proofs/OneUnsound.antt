@@ -13,6 +13,7 @@ use Rattle.lifecycle_core.specs.Causes.{IsExplained}
 use Rattle.lifecycle_core.specs.Completed.{IsUploadedBefore}
 use Rattle.lifecycle_core.specs.Guarantees.{IsExact, IsGuaranteed, LeavesNoneOut, Named, NamesAll, NamesUploads}
 use Rattle.lifecycle_core.specs.Held.{held, held_by}
+use Rattle.lifecycle_core.specs.Phases.{IsInTurn}
 use Rattle.tests_worked.proofs.OtherReads.{query_came}
 use Rattle.lifecycle_core.proofs.journals.Unbroken.{explains_nothing}
 use Rattle.tests_worked.specs.LostIndex as lost
@@ -20,6 +21,7 @@ use Rattle.tests_worked.specs.OneBlock as one
 use Rattle.tests_worked.specs.OneBlockChanged as changed
 use Rattle.tests_worked.specs.SmallBlock as small
 use Rattle.tests_worked.proofs.OneAnswer.{settled}
+use Rattle.tests_worked.proofs.OneBlock.{first_done}
 use Rattle.tests_worked.proofs.OneUnbroken.{unbroken}
 
 -- the gateway's part of another answer
@@ -47,5 +49,9 @@ strange_refused named =
 pub no_cause : (number : ℕ) → ¬ IsExplained one.setting one.journal number
 no_cause number = explains_nothing one.setting one.journal number unbroken
 
+-- both phases were done
+in_turn : IsInTurn one.setting lost.ends
+in_turn = (λ more. first_done, (λ more. absurd (more refl), tt))
+
 pub no_guarantee : ¬ IsGuaranteed one.setting one.journal lost.ends
-no_guarantee guaranteed = no_cause 10 (guaranteed.explained lost.missing 10 (query_came (called.Missing 10)) refl)
+no_guarantee guaranteed = no_cause 10 (guaranteed.explained in_turn lost.missing 10 (query_came (called.Missing 10)) refl)

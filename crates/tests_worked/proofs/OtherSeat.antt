@@ -13,10 +13,11 @@ use Rattle.shipper.specs.declared.upload_end.UploadEnd.TheVariants as shipped
 use Rattle.script_workers.specs.Hands.{hands_of_task, with_hands, hands_from, places_from, workers_from, seats_from}
 use Rattle.script_core.specs.Workers.{workers_of}
 use Rattle.script_workers.specs.declared.worker.Worker.{Worker}
-use Rattle.lifecycle_core.specs.Acting.{IsActing, IsReading, acting, uploaders}
+use Rattle.lifecycle_core.specs.Acting.{IsActing, IsReading, acting, actors}
 use Rattle.lifecycle_core.specs.Breaches.{IsSeatOf, Refuses, RefusesUnder, view_time, watched_call}
 use Rattle.lifecycle_core.specs.Conducts.{PhaseRun, working}
 use Rattle.index_cache.specs.declared.range.Range.{Range}
+use Rattle.series_calls.specs.Asking.{IsReadOf}
 use Rattle.series_calls.specs.KeptRanges.{IsReadIn}
 use Rattle.lifecycle_core.specs.Holdings.{empty_cache, none_held, nothing_held}
 use Rattle.lifecycle_core.specs.Phases.{IsLawfulJournal, by_workers}
@@ -42,11 +43,11 @@ use Rattle.tests_worked.proofs.SmallTasks.{sync_run, upload_task}
 abbrev seats : ℕ → ℕ
 seats seat = seat
 
-first_uploaders : uploaders one.setting seats 0 ≡ uploader ∷ []
+first_uploaders : actors one.setting seats 0 ≡ uploader ∷ []
 unfolding hands_of_task with_hands hands_from places_from workers_from seats_from
 first_uploaders = refl
 
-second_uploaders : uploaders one.setting seats 1 ≡ []
+second_uploaders : actors one.setting seats 1 ≡ []
 unfolding hands_of_task with_hands hands_from places_from workers_from seats_from
 second_uploaders = refl
 
@@ -54,7 +55,7 @@ abbrev seats_of : List Worker → List ℕ
 seats_of ws = map (λ (worker : Worker). worker.seat) ws
 
 -- no upload has a seat but the first
-no_upload : (seat number : ℕ) → 1 < seat → ¬ Contains (seats_of (uploaders one.setting seats number)) seat
+no_upload : (seat number : ℕ) → 1 < seat → ¬ Contains (seats_of (actors one.setting seats number)) seat
 no_upload seat zero above among =
     let same = only_member 1 seat (subst (λ (ws : List Worker). Contains (seats_of ws) seat) first_uploaders among) in
     absurd (omega (arith, same, above))
@@ -75,7 +76,7 @@ no_worker seat (suc (suc number)) above among = no_member seat among
 
 -- an upload's own entry, or that of somebody who reads
 abbrev IsSeated : List ℕ → Entry → Type 0
-IsSeated own e = Contains own e.seat ⊎ ((e.seat ≢ 0) × IsReading e.op × ((number : ℕ) → ¬ Contains (seats_of (uploaders one.setting seats number)) e.seat))
+IsSeated own e = Contains own e.seat ⊎ ((e.seat ≢ 0) × IsReading e.op × ((number : ℕ) → ¬ Contains (seats_of (actors one.setting seats number)) e.seat))
 
 reads : (e : Entry) → 1 < e.seat → IsReading e.op → IsSeated [] e
 reads e above reading = inr (λ none. omega (arith, above, none), reading, λ number. no_upload e.seat number above)
@@ -221,6 +222,7 @@ call_is = record {
   cache = empty_cache;
   earlier = [];
   known = All-nil (λ (one : Entry). Contains other.journal one × All (λ (e : Entry). one.seq < e.seq) other.query);
+  reads = All-nil (λ (one : Entry). (ulid : ℕ) × IsReadOf ulid one.op);
   cached = All-nil (λ (kept : Range × List ℕ). IsReadIn [] kept.0 kept.1);
   own = Some (answer left);
   run = call_run one.selector (pos 5000) refl refl up_asked 7 1_800_001 1_800_003 1_800_002 1_800_003 10 9 1_800_004;

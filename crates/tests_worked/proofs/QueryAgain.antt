@@ -25,7 +25,7 @@ use Rattle.tests_worked.specs.SmallBlock as small
 use Rattle.tests_worked.specs.SmallRuns as runs
 use Rattle.tests_worked.proofs.Bucket.{contents_told, chunk_told, full, page, query_told, shows_meta, shows_index, shows_segment, shows_no_mark}
 use Rattle.tests_worked.proofs.Each.{each_after, each_of, by_workers_alone}
-use Rattle.tests_worked.proofs.OneBlock.{gateway, uploader}
+use Rattle.tests_worked.proofs.OneBlock.{uploader}
 use Rattle.tests_worked.proofs.SmallCalls.{answer, call_again, called_by, left_again, query_task, question, synced_by, up_asked}
 use Rattle.tests_worked.proofs.SmallTasks.{sync_run, upload_task}
 use Rattle.tests_worked.proofs.YoungBlock.{kept_else, with_held}
@@ -39,21 +39,21 @@ second_query = (Some (answer left_again), call_again one.selector (pos 5000) ref
 
 -- ---- the phases
 
-abbrev worker : Worker
+abbrev pub worker : Worker
 worker = record { seat = 2; gateway = Some 0; tasks = 0 ∷ 1 ∷ 2 ∷ [] }
 
-first_workers : workers_of again.script 0 ≡ uploader ∷ []
+pub first_workers : workers_of again.script 0 ≡ uploader ∷ []
 unfolding hands_of_task with_hands hands_from places_from workers_from seats_from
 first_workers = refl
 
-second_workers : workers_of again.script 1 ≡ worker ∷ []
+pub second_workers : workers_of again.script 1 ≡ worker ∷ []
 unfolding hands_of_task with_hands hands_from places_from workers_from seats_from
 second_workers = refl
 
-abbrev at : ℕ → Task → Assigned
+abbrev pub at : ℕ → Task → Assigned
 at place task = record { place = place; task = task }
 
-abbrev first_tasks : List Task
+abbrev pub first_tasks : List Task
 first_tasks = record { line = 6; work = works.Upload small.a None } ∷ []
 
 abbrev first_ends : List (List End)

@@ -18,7 +18,7 @@ use Rattle.tests_worked.specs.SmallFiles as files
 
 -- ---- bytes
 
-are_bytes : (bytes : List ℕ) → list_all (λ byte. nat_lt byte 256) bytes ≡ true → IsBytes bytes
+pub are_bytes : (bytes : List ℕ) → list_all (λ byte. nat_lt byte 256) bytes ≡ true → IsBytes bytes
 are_bytes [] all i = lit< tt
 are_bytes (byte ∷ bytes) all zero = ltb-true byte 256 (and_parts (nat_lt byte 256) (list_all (λ b. nat_lt b 256) bytes) all).0
 are_bytes (byte ∷ bytes) all (suc i) = are_bytes bytes (and_parts (nat_lt byte 256) (list_all (λ b. nat_lt b 256) bytes) all).1 i

@@ -108,15 +108,15 @@ series_read = refl
 
 -- ---- the whole is read
 
-abbrev opened : Opened
+abbrev pub opened : Opened
 opened = record { bytes = files.index; toc = toc; symbols = texts; rows = rows }
 
-opened_read : opened_at files.index ≡ Ok opened
+pub opened_read : opened_at files.index ≡ Ok opened
 unfolding files.index files.symbols files.series files.label_index files.lists files.label_offsets files.table files.contents
     opened_at contents_at toc_at references_at list_at turns_at framed_at summed_at members_at symbol_at row_at text_at bytes_at number_at uvarint_at groups_of crc remainder is_utf8 chars encode
 opened_read = refl
 
-whole_read : whole_at (whole_file opened) ≡ Ok (listed ∷ [])
+pub whole_read : whole_at (whole_file opened) ≡ Ok (listed ∷ [])
 unfolding files.index files.symbols files.series files.label_index files.lists files.label_offsets files.table files.contents
     whole_at row_of present_at all_at behind_at lists_at stray_from gap_among gap_of gap_from belongs value_of
     labelled_at labels_of label_of series_at labels_begin_at labels_at label_at chunks_at chunk_at begin_at later_at reference_at

@@ -16,7 +16,7 @@ use Rattle.script_core.specs.Samples.{has_small_number, samples_from}
 use Rattle.script_core.specs.Values.{time_field, moment_field, ulid_field}
 use Rattle.script_workers.specs.Hands.{hands_of_task, with_hands}
 use Rattle.script_core.specs.State.{start, end_block, add_gateway, begin_block, add_series, begin_phase, add_task, add_query, note_sync, finish}
-use Rattle.script_core.specs.Lines.{partition_field, gateway_line, last_labels, block_line, first_labels, series_line, at_line, upload_line, sync_line, question_at, selector_field, query_line, fields_line}
+use Rattle.script_core.specs.Lines.{partition_field, gateway_line, last_labels, block_line, first_labels, series_line, at_line, upload_line, sync_line, question_at, selector_field, query_line, fields_line, stop_field}
 use Rattle.script_core.specs.Reading.{kind_line, text_line, spoken_line, line_at, lines_at, script_of}
 use Rattle.script_core.specs.Lawful.{IsLawfulScript}
 use Rattle.script_core.specs.Spelling.{Spells}
@@ -31,7 +31,7 @@ unfolding one.text is_utf8 chars encode is_decimal is_signed_decimal unsigned_of
     is_hex_sign hex_number pattern_of sample_with sample_of metric_matcher after_start after_metric after_comma step ended read_from moment_of
     next_field only_field after_space has_small_number samples_from time_field moment_field ulid_field hands_of_task with_hands
     start end_block add_gateway begin_block add_series begin_phase add_task add_query note_sync finish
-    partition_field gateway_line last_labels block_line first_labels series_line at_line upload_line sync_line question_at selector_field query_line fields_line
+    partition_field gateway_line last_labels block_line first_labels series_line at_line stop_field upload_line sync_line question_at selector_field query_line fields_line
     kind_line text_line spoken_line line_at lines_at script_of
 one_read = refl
 
@@ -41,7 +41,7 @@ unfolding young.text is_utf8 chars encode is_decimal is_signed_decimal unsigned_
     is_hex_sign hex_number pattern_of sample_with sample_of metric_matcher after_start after_metric after_comma step ended read_from moment_of
     next_field only_field after_space has_small_number samples_from time_field moment_field ulid_field hands_of_task with_hands
     start end_block add_gateway begin_block add_series begin_phase add_task add_query note_sync finish
-    partition_field gateway_line last_labels block_line first_labels series_line at_line upload_line sync_line question_at selector_field query_line fields_line
+    partition_field gateway_line last_labels block_line first_labels series_line at_line stop_field upload_line sync_line question_at selector_field query_line fields_line
     kind_line text_line spoken_line line_at lines_at script_of
 young_read = refl
 

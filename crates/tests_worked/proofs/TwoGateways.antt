@@ -52,9 +52,10 @@ use Rattle.script_running.specs.declared.outcome.SyncOutcome.TheVariants as sync
 use Rattle.script_running.specs.declared.outcome.UploadOutcome.TheVariants as uploads
 use Rattle.script_running.specs.declared.part.Part.TheVariants as part
 use Rattle.script_running.specs.declared.part.QueryPart.TheVariants as gave
-use Rattle.replay_cli.specs.Reports.{upload_words, sync_words, source_line, series_line, counts_text, answer_text, parted_text, named_lines, named_line, named_count, query_text, activity_text}
-use Rattle.replay_cli.specs.Verdicts.{IsReport, report_of}
-use Rattle.tests_worked.specs.Entries.{clock, found}
+use Rattle.report_lines.specs.Reports.{upload_words, sync_words, source_line, series_line, counts_text, answer_text, parted_text, named_lines, named_line, named_count, query_text, activity_text}
+use Rattle.call_verdicts.specs.Verdicts.{IsReport}
+use Rattle.report_lines.specs.Telling.{report_of}
+use Rattle.tests_worked.specs.Entries.{clock}
 use Rattle.tests_worked.specs.OneBlock as one
 use Rattle.tests_worked.specs.SmallBlock as small
 use Rattle.tests_worked.specs.SmallRuns as runs

@@ -13,8 +13,9 @@ use Rattle.script_workers.specs.declared.worker.Worker.{Worker}
 use Rattle.lifecycle_core.specs.Holdings.{Use}
 use Rattle.lifecycle_core.specs.Tasks.{End, synced, uploaded}
 use Rattle.script_running.specs.Outcomes.{TasksCame}
-use Rattle.replay_cli.specs.Reports.{upload_words, sync_words, source_line, series_line, counts_text, answer_text, parted_text, named_lines, named_line, named_count, query_text, activity_text}
-use Rattle.replay_cli.specs.Verdicts.{IsReport, report_of}
+use Rattle.report_lines.specs.Reports.{upload_words, sync_words, source_line, series_line, counts_text, answer_text, parted_text, named_lines, named_line, named_count, query_text, activity_text}
+use Rattle.call_verdicts.specs.Verdicts.{IsReport}
+use Rattle.report_lines.specs.Telling.{report_of}
 use Rattle.script_running.specs.declared.outcome.Outcome.{Outcome}
 use Rattle.script_running.specs.declared.outcome.Outcome.TheVariants as outcome
 use Rattle.script_running.specs.declared.outcome.UploadOutcome.TheVariants as uploads

@@ -34,6 +34,9 @@ in_range seq seat moment key from len bytes = entry seq seat moment (op.GetRange
 abbrev pub absent : ℕ → ℕ → ℕ → Key → Entry
 absent seq seat moment key = entry seq seat moment (op.Get key) reply.Absent
 
+abbrev pub deleted : ℕ → ℕ → ℕ → Key → Entry
+deleted seq seat moment key = entry seq seat moment (op.Delete key) reply.Deleted
+
 -- the first page of the names of blocks, by the standard limit
 abbrev pub listed : ℕ → ℕ → ℕ → List (List ℕ) → Entry
 listed seq seat moment names = entry seq seat moment (op.RootPage [] 1_000) (reply.Names names)

@@ -19,3 +19,10 @@ pub mod SecondPage
 pub mod TwoGateways
 pub mod TwoReplicas
 pub mod QueryAgain
+pub mod ShelfBlock
+pub mod ExpiredBlock
+pub mod CompactedPair
+pub mod StoppedCompaction
+pub mod MissedInput
+pub mod LateCompaction
+pub mod DeletedUpload

@@ -1,6 +1,7 @@
 -- The script of one block, with its query twice. The second one finds in what its gateway kept all that it needs of the index but the
 -- table of contents.
 use Rattle.std.specs.Prelude.{pos, List, [], ◌∷◌, ◌++◌, None}
+use Rattle.block_keys.specs.declared.key.Key.TheVariants as key
 use Rattle.world_core.specs.declared.entry.Entry.{Entry}
 use Rattle.shipper.specs.declared.upload_end.UploadEnd.TheVariants as shipped
 use Rattle.meta_fetcher.specs.declared.sync_end.SyncEnd.TheVariants as fetched
@@ -10,9 +11,10 @@ use Rattle.script_workers.specs.declared.task.Task.{Task}
 use Rattle.script_workers.specs.declared.work.Work.TheVariants.{Upload, Sync, Query}
 use Rattle.lifecycle_core.specs.Setting.{Setting, setting_of}
 use Rattle.lifecycle_core.specs.Tasks.{End, uploaded, synced, answered}
-use Rattle.tests_worked.specs.Entries.{clock}
+use Rattle.tests_worked.specs.Entries.{clock, in_range}
 use Rattle.tests_worked.specs.OneBlock as one
 use Rattle.tests_worked.specs.SmallBlock as small
+use Rattle.tests_worked.specs.SmallFiles as files
 use Rattle.tests_worked.specs.SmallRuns as runs
 
 abbrev pub tasks : List Task
@@ -53,6 +55,16 @@ made = one.sync ++ (one.query ++ again)
 
 abbrev pub journal : List Entry
 journal = clock 1 0 ∷ one.upload ++ clock 6 1_800_000 ∷ made
+
+-- the second query reads the symbols a second time, which its gateway has kept
+abbrev pub symbols_read : Entry
+symbols_read = in_range 17 2 1_800_011 (key.Index small.a) 5 27 files.symbols
+
+abbrev pub asked_twice : List Entry
+asked_twice =
+    clock 1 0
+    ∷ one.upload ++ clock 6 1_800_000
+    ∷ one.sync ++ (one.query ++ runs.contents_read 16 2 1_800_010 ∷ symbols_read ∷ [])
 
 abbrev pub answer : End
 answer = answered one.used (called.Answer (small.up ∷ []) (small.a ∷ []))

@@ -64,15 +64,18 @@ contents_read seq seat moment = in_range seq seat moment (key.Index small.a) 153
 abbrev pub chunk_read : ℕ → ℕ → ℕ → Entry
 chunk_read seq seat moment = in_range seq seat moment (key.Segment small.a 1) 8 4096 files.chunk
 
-abbrev pub query : ℕ → ℕ → ℕ → List Entry
-query seq seat moment =
-    contents_read seq seat moment
-    ∷ in_range (seq + 1) seat (moment + 1) (key.Index small.a) 5 27 files.symbols
+-- behind the table of contents
+abbrev pub query_rest : ℕ → ℕ → ℕ → List Entry
+query_rest seq seat moment =
+    in_range (seq + 1) seat (moment + 1) (key.Index small.a) 5 27 files.symbols
     ∷ in_range (seq + 2) seat (moment + 2) (key.Index small.a) 123 30 files.table
     ∷ in_range (seq + 3) seat (moment + 3) (key.Index small.a) 68 32 files.lists
     ∷ in_range (seq + 4) seat (moment + 4) (key.Index small.a) 32 16 files.series
     ∷ chunk_read (seq + 5) seat (moment + 5)
     ∷ []
+
+abbrev pub query : ℕ → ℕ → ℕ → List Entry
+query seq seat moment = contents_read seq seat moment ∷ query_rest seq seat moment
 
 -- the same, by a gateway that has kept the four ranges
 abbrev pub query_again : ℕ → ℕ → ℕ → List Entry

@@ -1,13 +1,14 @@
 ghost use Rattle.std.specs.Prelude.{◌≡◌, []};
 ghost use Rattle.block_keys.specs.declared.key.Key.TheVariants as key;
 ghost use Rattle.world_core.specs.Worlds.{failed_count};
-ghost use Rattle.lifecycle_core.specs.Breaches.{IsBreach, honesty, upload_time, mark_time, sync_time, view_time};
+ghost use Rattle.lifecycle_core.specs.Breaches.{IsBreach, honesty, upload_time, mark_time, sync_time, view_time, read_time};
 ghost use Rattle.lifecycle_core.specs.Causes.{AreWell, IsBlamed, IsExplained};
 ghost use Rattle.lifecycle_core.specs.Guarantees.{IsGuaranteed};
 ghost use Rattle.lifecycle_core.specs.Phases.{IsFinished, IsRunOf};
 ghost use Rattle.tests_worked.specs.Entries.{stored};
 ghost use Rattle.tests_worked.specs.LostIndex.{journal, ends, lost};
 ghost use Rattle.tests_worked.specs.OneBlock.{setting};
+ghost use Rattle.tests_worked.specs.OneStrict.{last_read};
 ghost use Rattle.tests_worked.specs.SmallBlock.{a};
 
 /// A law: a gateway says that the object at entry 10 is missing, in a lawful journal in which no call failed.
@@ -33,8 +34,9 @@ pub fn lost_index_is_explained()
 pub fn lost_index_has_no_other_cause()
     ensures unwell { ¬ AreWell ends }
     ensures lie { (cause : IsExplained setting journal 10) → cause.rule ≡ honesty }
-    ensures other_put { ¬ IsBlamed a 10 upload_time (stored 2 1 1 (key.Index 11) []) }
-    ensures other_mark { ¬ IsBlamed a 10 mark_time (stored 2 1 1 (key.Mark 11) []) }
-    ensures no_sync { ¬ IsBlamed a 10 sync_time lost }
-    ensures other_read { ¬ IsBlamed a 9 view_time lost }
+    ensures other_put { ¬ IsBlamed lost a upload_time (stored 2 1 1 (key.Index 11) []) }
+    ensures other_mark { ¬ IsBlamed lost a mark_time (stored 2 1 1 (key.Mark 11) []) }
+    ensures no_sync { ¬ IsBlamed lost a sync_time lost }
+    ensures other_read { ¬ IsBlamed lost a view_time last_read }
+    ensures no_compaction { ¬ IsBlamed lost a read_time lost }
 {}

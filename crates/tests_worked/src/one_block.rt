@@ -10,8 +10,8 @@ ghost use Rattle.lifecycle_core.specs.Shipped.{IsShipped};
 ghost use Rattle.lifecycle_core.specs.SyncsAndCalls.{IsViewOf};
 ghost use Rattle.lifecycle_core.specs.Tasks.{sync_rules};
 ghost use Rattle.lifecycle_core.specs.TimeRules.{IsMarkedInTime, IsReadInTime, IsSyncedInTime, IsUploadedInTime};
-ghost use Rattle.replay_cli.specs.Shippable.{RefusesNone};
-ghost use Rattle.replay_cli.specs.Verdicts.{IsReport, IsWholeRun};
+ghost use Rattle.call_verdicts.specs.Shippable.{RefusesNone};
+ghost use Rattle.call_verdicts.specs.Verdicts.{IsReport, IsWholeRun};
 ghost use Rattle.tests_worked.specs.OneBlock.{text, setting, script, journal, ends, report, sync, query, used, asked};
 ghost use Rattle.tests_worked.specs.SmallBlock.{a, block, meta, objects_with};
 

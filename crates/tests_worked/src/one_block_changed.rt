@@ -4,7 +4,7 @@ ghost use Rattle.world_core.specs.Standing.{IsHonest};
 ghost use Rattle.lifecycle_core.specs.Causes.{IsExplained};
 ghost use Rattle.lifecycle_core.specs.Guarantees.{IsExact, IsGuaranteed, LeavesNoneOut, NamesUploads};
 ghost use Rattle.lifecycle_core.specs.Phases.{IsLawfulJournal};
-ghost use Rattle.replay_cli.specs.Verdicts.{IsReport};
+ghost use Rattle.call_verdicts.specs.Verdicts.{IsReport};
 ghost use Rattle.tests_worked.specs.LostIndex as lost;
 ghost use Rattle.tests_worked.specs.OneBlock.{setting, script, journal, ends};
 ghost use Rattle.tests_worked.specs.OneBlockChanged.{at_gateways_seat, clock_stands, index_first, meta_absent, no_look};

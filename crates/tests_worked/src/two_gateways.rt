@@ -2,7 +2,7 @@ ghost use Rattle.std.specs.Prelude.{true, [], ◌∷◌};
 ghost use Rattle.world_core.specs.Standing.{IsHonest};
 ghost use Rattle.lifecycle_core.specs.Guarantees.{IsGiven};
 ghost use Rattle.lifecycle_core.specs.Phases.{IsRunOf};
-ghost use Rattle.replay_cli.specs.Verdicts.{IsReport};
+ghost use Rattle.call_verdicts.specs.Verdicts.{IsReport};
 ghost use Rattle.tests_worked.specs.TwoGateways.{answered_by, asked, by_g, ends, journal, report, script, setting};
 
 /// A law: two gateways, one of which has a partition, answer a query together. The answer has a part of each, for the times that

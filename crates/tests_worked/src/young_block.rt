@@ -7,7 +7,7 @@ ghost use Rattle.lifecycle_core.specs.Guarantees.{IsExact, IsGiven};
 ghost use Rattle.lifecycle_core.specs.Phases.{IsFinished, IsRunOf};
 ghost use Rattle.lifecycle_core.specs.Holdings.{Use};
 ghost use Rattle.lifecycle_core.specs.Tasks.{sync_rules};
-ghost use Rattle.replay_cli.specs.Verdicts.{IsReport};
+ghost use Rattle.call_verdicts.specs.Verdicts.{IsReport};
 ghost use Rattle.tests_worked.specs.YoungBlock.{IsUploadedEarly, NamesAll, text, setting, script, report, first_asked, second_asked};
 ghost use Rattle.tests_worked.specs.YoungBlock.{journal, ends, early, late, journal_turned, ends_turned, early_turned, late_turned};
 

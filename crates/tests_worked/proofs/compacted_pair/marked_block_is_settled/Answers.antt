@@ -1,0 +1,5 @@
+use Rattle.tests_worked.proofs.PairBlocks as row
+use Rattle.tests_worked.proofs.compacted_pair.marked_block_is_settled.Goals as goal
+
+pub returns : goal.returns
+returns c = record { settled = row.settled; short = row.left_out; covered = row.none_left_out }

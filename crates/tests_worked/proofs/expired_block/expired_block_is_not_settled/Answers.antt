@@ -1,0 +1,5 @@
+use Rattle.tests_worked.proofs.ExpiredBreach as row
+use Rattle.tests_worked.proofs.expired_block.expired_block_is_not_settled.Goals as goal
+
+pub returns : goal.returns
+returns c = record { unsettled = row.unsettled; covered = row.covered }

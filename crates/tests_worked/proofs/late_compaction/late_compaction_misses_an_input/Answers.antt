@@ -1,0 +1,6 @@
+use Rattle.tests_worked.proofs.LateCompaction.{finished, honest, run}
+use Rattle.tests_worked.proofs.LateRules.{lawful}
+use Rattle.tests_worked.proofs.late_compaction.late_compaction_misses_an_input.Goals as goal
+
+pub returns : goal.returns
+returns c = record { lawful = lawful; run = run; finished = finished; honest = honest }
