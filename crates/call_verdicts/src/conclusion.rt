@@ -86,6 +86,7 @@ fn write_both<K: Sink>(out: &mut K, first: &[u8], last: &[u8]) -> Result<(), Sin
 }
 
 impl<B> Conclusion<B> {
+    /// A call that came to its verdict before a bucket was handed out.
     pub fn without_bucket(verdict: Verdict) -> Conclusion<B>
         ensures verdict { result.verdict ≡ verdict }
         ensures journal { result.journal ≡ None }
@@ -98,6 +99,7 @@ impl<B> Conclusion<B> {
         }
     }
 
+    /// A call that came to its verdict with a bucket, whose journal and which it hands back.
     pub fn with_bucket(verdict: Verdict, journal: Journal, store: B) -> Conclusion<B>
         ensures verdict { result.verdict ≡ verdict }
         ensures journal { result.journal ≡ Some journal }

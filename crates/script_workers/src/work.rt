@@ -20,6 +20,7 @@ impl Work {
     ghost use Rattle.std.specs.Prelude.{◌≡◌};
     ghost use Rattle.script_workers.specs.Works.{is_compaction};
 
+    /// Whether the task is a compaction, of which a phase has at most one.
     pub fn is_compaction(&self) -> bool
         ensures { result ≡ is_compaction self.now }
     {
