@@ -18,3 +18,5 @@ pub mod SamplesRead
 pub mod TextsRead
 pub mod Appending
 pub mod SpansRead
+pub mod Followed
+pub mod BitPlaces

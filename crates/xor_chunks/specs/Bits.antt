@@ -1,5 +1,5 @@
 -- Bits of numbers and of bytes, the most significant first.
-use Rattle.std.specs.Prelude.{ℕ, zero, suc, ◌+◌, ◌-◌, ◌^◌, ◌%◌, ◌==◌, Bool, false, List, [], ◌∷◌, ◌++◌, length, if◌then◌else◌, replicate}
+use Rattle.std.specs.Prelude.{◌≡◌, ℕ, zero, suc, ◌+◌, ◌-◌, ◌^◌, ◌%◌, ◌==◌, Bool, false, List, [], ◌∷◌, ◌++◌, length, if◌then◌else◌, replicate}
 use Rattle.std.specs.Int.{bit_at}
 use Rattle.std.specs.List.{flat_map}
 
@@ -20,3 +20,7 @@ bits_in bytes = flat_map (bits_of 8) bytes
 -- bits up to the end of a byte: zero bits are added to the last one
 abbrev pub filled : List Bool → List Bool
 filled bits = bits ++ replicate ((8 - length bits % 8) % 8) false
+
+-- These bits end with those.
+abbrev pub EndWith : List Bool → List Bool → Type 0
+EndWith bits end = (front : List Bool) × (bits ≡ front ++ end)

@@ -4,7 +4,8 @@ use Rattle.reading_core.specs.Reading.{◌>>=◌}
 use Rattle.label_sets.specs.declared.sample.Sample.{Sample}
 use Rattle.xor_chunks.specs.declared.sample_span.SampleSpan.{SampleSpan}
 use Rattle.xor_chunks.specs.declared.refusal.XorRefusal.{XorRefusal}
-use Rattle.xor_chunks.specs.Data.{data_at}
+use Rattle.xor_chunks.specs.State.{State}
+use Rattle.xor_chunks.specs.Data.{others_at, data_at}
 
 -- the time of the last of the samples that follow on a time
 abbrev pub end_of : ℤ → List Sample → ℤ
@@ -18,6 +19,10 @@ span_of (first ∷ others) = Some (record { count = suc (length others); first =
 -- the end of the samples that are read, and the bits after them
 abbrev pub with_end : ℤ → Result (List Sample × List Bool) XorRefusal → Result (ℤ × List Bool) XorRefusal
 with_end time read = read >>= λ x. Ok (end_of time x.0, x.1)
+
+-- the end of so many samples after the second, and the bits after them
+abbrev pub end_at : ℕ → State → List Bool → Result (ℤ × List Bool) XorRefusal
+end_at count second bits = with_end second.time (others_at count second bits)
 
 -- the span of the samples that are read, and the bits after them
 abbrev pub with_span : Result (List Sample × List Bool) XorRefusal → Result (Option SampleSpan × List Bool) XorRefusal

@@ -8,3 +8,7 @@ pub record State : Type 0 where
   pub delta : ℕ
   pub pattern : ℕ
   pub window : Window
+
+-- the same with another pattern
+abbrev pub with_pattern : ℕ → State → State
+with_pattern pattern state = record { time = state.time; delta = state.delta; pattern = pattern; window = state.window }

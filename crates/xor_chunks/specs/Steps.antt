@@ -1,5 +1,5 @@
 -- What reading the bits of one sample gives: it and the bits after it, or the first of the cases that refuse it.
-use Rattle.std.specs.Prelude.{◌≡◌, ℕ, zero, suc, ◌-◌, ◌^◌, Bool, true, false, List, ◌∷◌, length, take, drop, Result, Ok, Err, MatchResult, nat_lt, if◌then◌else◌, ℤ, pos, negsuc, ◌+ℤ◌}
+use Rattle.std.specs.Prelude.{◌≡◌, ℕ, zero, suc, Bool, true, false, List, ◌∷◌, length, take, drop, Result, Ok, Err, MatchResult, nat_lt, if◌then◌else◌, ℤ, pos, negsuc, ◌+ℤ◌}
 use Rattle.std.specs.Int.{cast_signed, w64}
 use Rattle.reading_core.specs.Reading.{◌>>=◌, ◌>>◌, unless}
 use Rattle.reading_core.specs.Decimal.{fits_signed}

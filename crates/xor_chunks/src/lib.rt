@@ -8,6 +8,7 @@ mod encoding;
 mod fitting;
 mod last;
 mod last_written;
+mod passing;
 mod pending_bits;
 mod refill;
 mod refusal;

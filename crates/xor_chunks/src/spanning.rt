@@ -4,24 +4,26 @@ ghost use Rattle.label_sets.specs.declared.sample.Sample.{Sample};
 ghost use Rattle.reading_core.specs.Reading.{Answers};
 ghost use Rattle.reading_core.specs.Grammar.{IsBytes};
 ghost use Rattle.xor_chunks.specs.Grammar.{IsText};
+ghost use Rattle.xor_chunks.specs.Bits.{bits_in, EndWith};
 ghost use Rattle.xor_chunks.specs.Known.{state_of};
-ghost use Rattle.xor_chunks.specs.Data.{others_at, rest_at, samples_at};
-ghost use Rattle.xor_chunks.specs.Spans.{span_of, with_end, with_span, span_at};
+ghost use Rattle.xor_chunks.specs.Data.{rest_at, samples_at};
+ghost use Rattle.xor_chunks.specs.Spans.{span_of, with_end, end_at, with_span, span_at};
 
 use crate::decoding::{count_of, first_of, gap_of, is_filling};
 use crate::last::Last;
+use crate::passing::pass_most;
 use crate::step::{follow, next};
 use crate::{BitReader, SampleSpan, XorRefusal};
 use label_sets::Sample;
 
-/// Passes over `count` samples after the second, and gives the last one.
-fn pass_others<'a>(
+/// Passes over `count` samples after the second one by one, and gives the last one.
+fn pass_each<'a>(
     count: u16,
     second: Last,
     mut reader: BitReader<'a>,
 ) -> Result<(Last, BitReader<'a>), XorRefusal>
     ensures { Answers (λ x. (x.0.time, x.1)) result
-        (with_end second.time (others_at count (state_of second) reader.entry)) }
+        (end_at count (state_of second) reader.entry) }
 {
     let mut last = second;
     for _ in 0..count {
@@ -30,6 +32,21 @@ fn pass_others<'a>(
         reader = left;
     }
     Ok((last, reader))
+}
+
+/// Passes over `count` samples after the second, and gives the last one.
+fn pass_others<'a>(
+    count: u16,
+    second: Last,
+    bytes: &'a [u8],
+    reader: BitReader<'a>,
+) -> Result<(Last, BitReader<'a>), XorRefusal>
+    requires { EndWith (bits_in bytes.now) reader }
+    ensures { Answers (λ x. (x.0.time, x.1)) result
+        (end_at count (state_of second) reader.entry) }
+{
+    let (left, last, rest) = pass_most(count, second, bytes, reader);
+    pass_each(left, last, rest)
 }
 
 /// Passes over `count` samples after the first, and gives the last one.
@@ -48,7 +65,7 @@ fn pass_rest<'a>(
     let (gap, bytes) = gap_of(bytes)?;
     let mut reader = BitReader::new(bytes);
     let second = follow(&mut reader, first, i128::from(gap))?;
-    pass_others(count - 1, second, reader)
+    pass_others(count - 1, second, bytes, reader)
 }
 
 fn span(count: u16, first: Sample, last: Last) -> SampleSpan

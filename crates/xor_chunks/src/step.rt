@@ -37,7 +37,7 @@ fn is_near(number: i64) -> bool
 
 /// The time after a step, computed in 64 bits, where these hold all sums and no refusal is due.
 #[inline(always)]
-fn near_time(time: i64, delta: u64, change: i128) -> Option<(i64, u64)>
+pub(crate) fn near_time(time: i64, delta: u64, change: i128) -> Option<(i64, u64)>
     ensures { IfSome result (λ x. time_after time (pos delta +ℤ change) ≡ Ok x) }
 {
     let Ok(change) = i64::try_from(change) else {
@@ -200,7 +200,7 @@ fn row_in(word: u64, known: u32, width: u32) -> (i64, u32)
 
 /// By how much a step has changed, and how many bits tell it, where fewer than 64 bits do.
 #[inline(always)]
-fn short_change(word: u64) -> Option<(i64, u32)>
+pub(crate) fn short_change(word: u64) -> Option<(i64, u32)>
     requires { word / 2 ^ 63 ≡ 1 }
     ensures told { IfSome result (λ x. (bits : List Bool) → Shows word 24 bits
         → change_at bits ≡ behind x.1 (λ after. Ok (x.0, after)) bits) }

@@ -3,8 +3,13 @@ use Rattle.std.proofs.lemmas.Int.{ints}
 use Rattle.reading_core.specs.Reading.{Answers}
 use Rattle.xor_chunks.specs.declared.refusal.XorRefusal.{XorRefusal}
 use Rattle.xor_chunks.specs.Known.{state_of}
+use Rattle.xor_chunks.specs.Bits.{bits_in}
 use Rattle.xor_chunks.proofs.SpansRead.{rest_ends}
+use Rattle.xor_chunks.proofs.Followed.{followed_end}
 use Rattle.xor_chunks.proofs.spanning.pass_rest.Goals as goal
+
+pub pass_others-requires : goal.pass_others-requires
+pass_others-requires c = followed_end (bits_in c.in_ok-gap.bytes.now) c.new-reader.result c.follow.new.reader (state_of c.args.first) (state_of c.in_ok-second.second) _ c.new-reader.ensures c.in_ok-second.ensures
 
 pub returns : goal.returns
 returns c =

@@ -1,0 +1,11 @@
+use Rattle.std.proofs.Common.{◌*◌, ◌≤◌, drop, length}
+use Rattle.xor_chunks.specs.Bits.{bits_in}
+use Rattle.xor_chunks.specs.Known.{state_of}
+use Rattle.xor_chunks.proofs.BitPlaces.{EndsAlike}
+use Rattle.xor_chunks.proofs.passing.pass_near.Given as goal
+
+abbrev pub invariant-loop-left : goal.invariant-loop-left
+invariant-loop-left l = EndsAlike l.fn.count (state_of l.fn.second) (drop l.fn.begin (bits_in l.bytes)) l.left (state_of l.last) (drop l.place (bits_in l.bytes)) × (l.place ≤ 8 * length l.bytes)
+
+abbrev pub decreases-loop-left : goal.decreases-loop-left
+decreases-loop-left l = l.left
