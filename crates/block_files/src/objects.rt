@@ -23,14 +23,17 @@ pub fn files_objects(alloc: Global, files: BlockFiles) -> Result<ObjectList, NoM
         index,
         segments,
     } = files;
-    let text = meta.write(alloc)?;
-    let mut objects = segment_objects(alloc, meta.ulid, segments.into_vec())?;
+    let ulid = meta.ulid;
+    let text = meta.write(alloc);
+    drop(meta);
+    let text = text?;
+    let mut objects = segment_objects(alloc, ulid, segments.into_vec())?;
     objects.push(Object {
-        key: Key::Index(meta.ulid),
+        key: Key::Index(ulid),
         bytes: index,
     })?;
     objects.push(Object {
-        key: Key::Meta(meta.ulid),
+        key: Key::Meta(ulid),
         bytes: text,
     })?;
     Ok(objects)
