@@ -1,7 +1,8 @@
 -- How many operations a marking asks for.
 use Rattle.std.proofs.Common.{ℕ, ◌+◌, ◌^◌, ◌<◌, length, arith}
 use Rattle.block_marking.specs.MarkCounts.{held}
-use Rattle.block_marking.specs.MarkStates.{count_at, count_of}
+use Rattle.block_marking.specs.MarkStates.{count_at}
+use Rattle.block_marking.specs.contracts.marks.MarksMachine.TheImpl.{ghosts}
 use Rattle.block_marking.specs.declared.mark_stage.MarkStage.{MarkStage}
 use Rattle.block_marking.specs.declared.mark_stage.MarkStage.TheVariants.{Fresh, Looking, Putting}
 use Rattle.block_marking.specs.declared.marks.Marks.{Marks}
@@ -12,5 +13,5 @@ marks_at (Looking ulid) put waiting few = omega (arith, few)
 marks_at (Putting ulid looked) put waiting few = omega (arith, few)
 
 -- they are fewer than so many
-pub marks_few : (m : Marks) → count_of m < 2 ^ 100
+pub marks_few : (m : Marks) → ghosts.measure m < 2 ^ 100
 marks_few m = marks_at m.stage m.put (length m.waiting.items) m.counted

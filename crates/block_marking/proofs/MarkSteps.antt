@@ -1,5 +1,5 @@
 -- A marking is a run of its plan, and then of what follows.
-use Rattle.std.proofs.Common.{◌≡◌, ℕ, ◌+◌, List, [], ◌∷◌, refl, sym, subst, Some, Result}
+use Rattle.std.proofs.Common.{◌≡◌, ℕ, ◌+◌, List, [], ◌∷◌, refl, sym, subst, Some, None, Result}
 use Rattle.list_core.specs.declared.memory.NoMemory.{NoMemory}
 use Rattle.block_keys.specs.declared.key.Key.TheVariants as key
 use Rattle.world_core.specs.Plans.{Plan, Keeps, ends, puts, and_then, asked}
@@ -8,10 +8,11 @@ use Rattle.world_core.specs.Operations.{entry_of}
 use Rattle.world_core.specs.declared.op.Op.{Op}
 use Rattle.world_core.specs.declared.seen.Seen.{Seen}
 use Rattle.world_core.specs.declared.act.Act.{Act}
-use Rattle.world_core.specs.Leads.{after_entry, LeadsBy}
+use Rattle.world_core.specs.Leads.{after_entry, does, LeadsBy}
 use Rattle.block_marking.specs.NewMarks.{new_mark_text}
 use Rattle.block_marking.specs.Marking.{details_of, marking, marks_of}
-use Rattle.block_marking.specs.MarkStates.{left_at, left_of, may_mark, asked_at, asked_mark}
+use Rattle.block_marking.specs.MarkStates.{left_at, left_of, asked_at, asked_mark}
+use Rattle.block_marking.specs.contracts.marks.MarksMachine.TheImpl.{ghosts}
 use Rattle.block_marking.specs.declared.reason.Reason.{Reason}
 use Rattle.block_marking.specs.declared.mark_stage.MarkStage.{MarkStage}
 use Rattle.block_marking.specs.declared.mark_stage.MarkStage.TheVariants.{Fresh, Looking, Putting}
@@ -19,6 +20,7 @@ use Rattle.block_marking.specs.declared.marks.Marks.{Marks}
 use Rattle.block_marking.specs.declared.marks_end.MarksEnd.{MarksEnd}
 use Rattle.block_marking.specs.declared.marks_end.MarksEnd.TheVariants as marked
 use Rattle.world_core.proofs.LeadSteps.{opens_by, steps_by}
+use Rattle.world_core.proofs.PlanLaws.{answered, breaks_off}
 use Rattle.world_core.proofs.PlanWords.{gets_then, puts_then, gets_keeps, puts_keeps}
 
 -- what is left begins with the operation that is waited for
@@ -30,15 +32,22 @@ asked_as (Putting ulid looked) reason put waiting o is = is
 pub asked_left : (marks : Marks) (o : Op) → asked_mark marks ≡ Some o → asked (left_of marks) ≡ Some o
 asked_left marks o is = asked_as marks.stage marks.reason marks.put marks.waiting.items o is
 
+-- it may be stopped wherever it stands, and as soon as its operation is answered
+pub rests : (m : Marks) → ghosts.may m [] None m
+rests m = breaks_off (left_of m)
+
+pub answers : (m : Marks) (seat : ℕ) (o : Op) (seen : Seen) → ghosts.asked m ≡ Some o → ghosts.may m (entry_of seat o seen ∷ []) None m
+answers m seat o seen is = answered (left_of m) (entry_of seat o seen) (asked_left m o is)
+
 module _ (old new : Marks) (r : Result (Act MarksEnd) NoMemory) (stage : MarkStage) (is : old.stage ≡ stage) where
   -- a first call goes on
-  pub mark_opens : LeadsBy left_of asked_mark (left_at stage old.reason old.put old.waiting.items) r new → GoesOn may_mark asked_mark old [] r new
+  pub mark_opens : LeadsBy left_of asked_mark (left_at stage old.reason old.put old.waiting.items) r new → GoesOn (does left_of) asked_mark old [] r new
   mark_opens leads = opens_by left_of asked_mark asked_left old new r (subst (λ s. LeadsBy left_of asked_mark (left_at s old.reason old.put old.waiting.items) r new) (sym is) leads)
 
   -- a step goes on
   pub mark_steps : (seat : ℕ) (o : Op) (seen : Seen) → asked_mark old ≡ Some o
       → LeadsBy left_of asked_mark (after_entry (left_at stage old.reason old.put old.waiting.items) (entry_of seat o seen)) r new
-      → GoesOn may_mark asked_mark old (entry_of seat o seen ∷ []) r new
+      → GoesOn (does left_of) asked_mark old (entry_of seat o seen ∷ []) r new
   mark_steps seat o seen waits leads =
       steps_by left_of asked_mark asked_left old new seat o seen r waits
       (subst (λ s. LeadsBy left_of asked_mark (after_entry (left_at s old.reason old.put old.waiting.items) (entry_of seat o seen)) r new) (sym is) leads)

@@ -1,11 +1,9 @@
--- What is left of a marking in each of its states. The machine's steps alone speak of this. What a marking is from its start on,
--- Marking says.
-use Rattle.std.specs.Prelude.{◌≡◌, ℕ, ◌+◌, ◌*◌, List, ◌∷◌, length, Option, Some, None}
+-- The plan at which a marking stands in each of its states, and what it waits for. The machine's steps alone speak of this.
+use Rattle.std.specs.Prelude.{ℕ, ◌+◌, ◌*◌, List, ◌∷◌, length, Option, Some, None}
 use Rattle.block_keys.specs.declared.key.Key.TheVariants as key
-use Rattle.world_core.specs.Plans.{Plan, Runs, puts}
+use Rattle.world_core.specs.Plans.{Plan, puts}
 use Rattle.world_core.specs.declared.op.Op.{Op}
 use Rattle.world_core.specs.declared.op.Op.TheVariants as op
-use Rattle.world_core.specs.declared.entry.Entry.{Entry}
 use Rattle.block_marking.specs.NewMarks.{new_mark_text}
 use Rattle.block_marking.specs.Marking.{details_of, marks_of}
 use Rattle.block_marking.specs.declared.reason.Reason.{Reason}
@@ -15,27 +13,15 @@ use Rattle.block_marking.specs.declared.marks.Marks.{Marks}
 use Rattle.block_marking.specs.declared.marks_end.MarksEnd.{MarksEnd}
 use Rattle.block_marking.specs.declared.marks_end.MarksEnd.TheVariants.{Fault}
 
--- the put of a block's mark, and then the marking of the blocks that wait
-abbrev pub put_of : Reason → ℕ → List ℕ → ℕ → List ℕ → Plan MarksEnd
-put_of reason put waiting ulid text = puts Fault (key.Mark ulid) text (λ stored. marks_of reason (put + 1) waiting)
-
 abbrev pub left_at : MarkStage → Reason → ℕ → List ℕ → Plan MarksEnd
 left_at Fresh reason put waiting = marks_of reason put waiting
 left_at (Looking ulid) reason put waiting = marks_of reason put (ulid ∷ waiting)
-left_at (Putting ulid looked) reason put waiting = put_of reason put waiting ulid (new_mark_text ulid looked (details_of reason))
+left_at (Putting ulid looked) reason put waiting =
+    puts Fault (key.Mark ulid) (new_mark_text ulid looked (details_of reason)) (λ stored. marks_of reason (put + 1) waiting)
 
 abbrev pub left_of : Marks → Plan MarksEnd
 left_of marks = left_at marks.stage marks.reason marks.put marks.waiting.items
 
--- it was not begun
-abbrev pub IsFresh : Marks → Type 0
-IsFresh marks = marks.stage ≡ Fresh
-
--- what it may still do
-abbrev pub may_mark : Marks → List Entry → Option MarksEnd → Marks → Type 0
-may_mark marks entries end last = Runs (left_of marks) entries end
-
--- the operation that is waited for
 abbrev pub asked_at : MarkStage → Reason → Option Op
 asked_at Fresh reason = None
 asked_at (Looking ulid) reason = Some (op.Get (key.Mark ulid))

@@ -128,15 +128,17 @@ impl Marks {
 impl Machine for Marks {
     type End = MarksEnd;
 
-    ghost use Rattle.block_marking.specs.MarkStates.{IsFresh, may_mark, asked_mark, count_of};
+    ghost use Rattle.world_core.specs.Leads.{does};
+    ghost use Rattle.block_marking.specs.MarkStates.{left_of, asked_mark, count_of};
+    ghost use Rattle.block_marking.specs.declared.mark_stage.MarkStage.TheVariants.{Fresh};
 
-    ghost may = { may_mark };
+    ghost may = { does left_of };
 
     ghost asked = { asked_mark };
 
     ghost measure = { count_of };
 
-    ghost fresh = { IsFresh };
+    ghost fresh = { λ marks. marks.stage ≡ Fresh };
 
     fn first(&mut self) -> Result<Act<MarksEnd>, NoMemory> {
         self.look_next()

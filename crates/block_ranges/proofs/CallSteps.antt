@@ -33,7 +33,7 @@ use Rattle.block_ranges.specs.declared.work.Step.TheVariants.{Wait, Done}
 use Rattle.block_ranges.proofs.Leading.{keeps_all, leads_where, breaks}
 
 abbrev left_in : Asked → Work → Cache → Plan BlockEnd
-left_in question = left_at (query_asked question) (block_asked question)
+left_in question = left_at question
 
 -- the plan that is left asks for what is waited for
 pub plan_asks : (question : Asked) (work : Work) (cache : Cache) (op : Op) → asked_at question.ulid work ≡ Some op → plan.asked (left_in question work cache) ≡ Some op

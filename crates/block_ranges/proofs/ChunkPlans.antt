@@ -30,7 +30,7 @@ use Rattle.block_ranges.specs.ToRead.{group_read, AreGroupsToRead}
 use Rattle.block_ranges.specs.Glimpsed.{pending_chunk, Pends}
 use Rattle.block_ranges.specs.ChunksRead.{reads_of, references_in}
 use Rattle.block_ranges.specs.BlockRuns.{Leading, IsEnd}
-use Rattle.block_ranges.specs.WorkStates.{Where, Leads, most, count_at, AreInOrder, IsGroupWork, IsSingleWork, ArePending, references_left, references_pending, shows_all, shows_groups, shows_out, later_groups, with_group, with_single, chunks_left, shown_first}
+use Rattle.block_ranges.specs.WorkStates.{Where, Leads, most, count_at, AreInOrder, IsGroupWork, IsSingleWork, ArePending, references_left, references_pending, shows_all, shows_groups, shows_out, later_groups, with_group, with_single, chunks_left}
 use Rattle.block_ranges.specs.declared.asked.Asked.{Asked}
 use Rattle.block_ranges.specs.declared.block_outcome.BlockOutcome.{BlockOutcome}
 use Rattle.block_ranges.specs.declared.block_outcome.BlockOutcome.TheVariants as outcome
@@ -39,7 +39,7 @@ use Rattle.block_ranges.specs.declared.glimpses.Pending.{Pending}
 use Rattle.block_ranges.specs.declared.shown.ChunkRead.{ChunkRead}
 use Rattle.block_ranges.specs.declared.work.ChunkWork.{ChunkWork}
 use Rattle.block_ranges.specs.declared.work.Work.TheVariants as work
-use Rattle.block_ranges.specs.ChunkFindings.{ShowsFirst}
+use Rattle.block_ranges.specs.ChunkFindings.{ShowsFirst, shown_first}
 use Rattle.block_ranges.specs.declared.chunk_steps.Shown.{Shown}
 use Rattle.block_ranges.specs.declared.chunk_steps.Shown.TheVariants.{SticksOut, All}
 use Rattle.block_ranges.specs.declared.work.Step.{Step}
@@ -134,10 +134,10 @@ module _ (asked : Asked) where
 
   -- the next group is asked for
   pub group_asked : (cache : Cache) (groups : List GroupRead) (one : ChunkWork) → groups ≡ one.group ∷ one.later.items
-      → Leads asked cache (most * length groups + 1) (Where (AreInOrder one.places.items one.found.items (references_left groups)) (Leading (shows_groups Q B cache one.series.items one.places.items groups (reads_of one.found.items))))
+      → Leads asked cache (most * length groups + 1) (Where (AreInOrder one.places.items one.found.items (references_left groups)) (Leading (shows_groups asked cache one.series.items one.places.items groups (reads_of one.found.items))))
       (Ok (Wait (GetRange (Segment asked.ulid one.group.segment) one.group.range.from one.group.range.len) (work.Group one)))
   group_asked cache groups one is =
-      subst (λ (gs : List GroupRead). Leads asked cache (most * length gs + 1) (Where (AreInOrder one.places.items one.found.items (references_left gs)) (Leading (shows_groups Q B cache one.series.items one.places.items gs (reads_of one.found.items)))) (Ok (Wait (GetRange (Segment asked.ulid one.group.segment) one.group.range.from one.group.range.len) (work.Group one)))) (sym is)
+      subst (λ (gs : List GroupRead). Leads asked cache (most * length gs + 1) (Where (AreInOrder one.places.items one.found.items (references_left gs)) (Leading (shows_groups asked cache one.series.items one.places.items gs (reads_of one.found.items)))) (Ok (Wait (GetRange (Segment asked.ulid one.group.segment) one.group.range.from one.group.range.len) (work.Group one)))) (sym is)
       (record {
         lawful = (one.group.lowest, one.group.highest);
         asks = refl;
@@ -148,18 +148,18 @@ module _ (asked : Asked) where
   -- all groups were read
   pub all_read : (cache : Cache) (series : List IndexSeries) (places : List ChunkPlace) (groups : List GroupRead) (found : List ChunkRead) (made : List Series) → groups ≡ []
       → (IsStrictlyIncreasing (references_in found) → triples_of made ≡ flat_map (shown Q B (reads_of found)) series)
-      → Where (AreInOrder places found (references_left groups)) (Leading (shows_groups Q B cache series places groups (reads_of found))) [] (Some (outcome.Taken made)) cache
+      → Where (AreInOrder places found (references_left groups)) (Leading (shows_groups asked cache series places groups (reads_of found))) [] (Some (outcome.Taken made)) cache
   all_read cache series places groups found made is triples =
-      subst (λ (gs : List GroupRead). Where (AreInOrder places found (references_left gs)) (Leading (shows_groups Q B cache series places gs (reads_of found))) [] (Some (outcome.Taken made)) cache) (sym is)
+      subst (λ (gs : List GroupRead). Where (AreInOrder places found (references_left gs)) (Leading (shows_groups asked cache series places gs (reads_of found))) [] (Some (outcome.Taken made)) cache) (sym is)
       (λ order. (gives (flat_map (shown Q B (reads_of found)) series) cache, (refl, inr refl), ((made, refl, triples (subst IsStrictlyIncreasing (append-nil (references_in found)) order.rise)), refl)))
 
   -- the read of a group shows its chunks
   pub group_shown : (cache : Cache) (one : ChunkWork) (pending : List Pending) (seq : ℕ) (bytes : List ℕ) (r : Result Step NoMemory) → length pending + 1 ≤ most
       → (IsNonDecreasingBy reference_of one.places.items → Pends (λ (l : List Pending). l) one.group.references (each_at (glimpse_at (tests_at B one.places.items) (group_read one.group) bytes) one.group.references) (Some pending))
-      → Leads asked cache (most * length one.later.items + length pending + 1) (Where (ArePending one pending) (Leading (shows_out Q B cache one (map pending_chunk pending) (reads_of one.found.items)))) r
+      → Leads asked cache (most * length one.later.items + length pending + 1) (Where (ArePending one pending) (Leading (shows_out asked cache one (map pending_chunk pending) (reads_of one.found.items)))) r
       → Leads asked cache (most * length one.later.items + most) (Where (IsGroupWork one) (Leading (with_group asked cache one seq bytes))) r
   group_shown cache one pending seq bytes r few pends leads =
-      leads_where asked cache (most * length one.later.items + length pending + 1) (most * length one.later.items + most) (ArePending one pending) (IsGroupWork one) (shows_out Q B cache one (map pending_chunk pending) (reads_of one.found.items)) (with_group asked cache one seq bytes) r
+      leads_where asked cache (most * length one.later.items + length pending + 1) (most * length one.later.items + most) (ArePending one pending) (IsGroupWork one) (shows_out asked cache one (map pending_chunk pending) (reads_of one.found.items)) (with_group asked cache one seq bytes) r
       (omega (arith, few))
       (λ order. let are = pends order.ascend in record {
         ascend = order.ascend;
@@ -167,7 +167,7 @@ module _ (asked : Asked) where
             (sym (firsts_zip one.group.references are.0 (each_many _ one.group.references are.0 are.1)) ∙ sym (ap firsts are.2) ∙ firsts_pending pending) order.rise;
       })
       (λ order. let are = pends order.ascend in
-      subst (λ (l : List (ℕ × Glimpse)). Keeps (shows_out Q B cache one l (reads_of one.found.items)) (with_group asked cache one seq bytes)) (sym are.2)
+      subst (λ (l : List (ℕ × Glimpse)). Keeps (shows_out asked cache one l (reads_of one.found.items)) (with_group asked cache one seq bytes)) (sym are.2)
       (keeps_read (each_at (glimpse_at (tests_at B one.places.items) (group_read one.group) bytes) one.group.references) are.0 _ _ are.1))
       leads
 
@@ -181,7 +181,7 @@ module _ (asked : Asked) where
   -- a chunk sticks out
   abbrev AsksSingle : Cache → ChunkWork → List Pending → Shown → Type 0
   AsksSingle cache one chunks (SticksOut found reference len pending) =
-      Leads asked cache (most * length one.later.items + length chunks + 1) (Where (ArePending one chunks) (Leading (shows_out Q B cache one (map pending_chunk chunks) (reads_of one.found.items))))
+      Leads asked cache (most * length one.later.items + length chunks + 1) (Where (ArePending one chunks) (Leading (shows_out asked cache one (map pending_chunk chunks) (reads_of one.found.items))))
       (Ok (Wait (GetRange (Segment asked.ulid one.group.segment) (offset_of reference) len) (work.Single (with_found one found) reference len pending)))
   AsksSingle cache one chunks (All found) = Unit {0}
 
@@ -194,9 +194,9 @@ module _ (asked : Asked) where
         asks = refl;
         falls = omega (arith, less);
         onward = λ entries end left run order.
-            comes_kept (shows_out Q B cache one ((reference, sticks_out len) ∷ map pending_chunk pending.items) (reads_of found.items)) (shows_out Q B cache one (map pending_chunk chunks) (reads_of one.found.items)) (IsEnd left)
-            (subst (λ (p : List Read × List (ℕ × Glimpse)). Keeps (shows_out Q B cache one p.1 p.0) (shows_out Q B cache one (map pending_chunk chunks) (reads_of one.found.items))) is
-            (out_first breaks_off B.ulid (tests_at B one.places.items) cache (group_read one.group) (later_groups Q B one cache) (map pending_chunk chunks) (reads_of one.found.items))) entries end
+            comes_kept (shows_out asked cache one ((reference, sticks_out len) ∷ map pending_chunk pending.items) (reads_of found.items)) (shows_out asked cache one (map pending_chunk chunks) (reads_of one.found.items)) (IsEnd left)
+            (subst (λ (p : List Read × List (ℕ × Glimpse)). Keeps (shows_out asked cache one p.1 p.0) (shows_out asked cache one (map pending_chunk chunks) (reads_of one.found.items))) is
+            (out_first breaks_off B.ulid (tests_at B one.places.items) cache (group_read one.group) (later_groups asked one cache) (map pending_chunk chunks) (reads_of one.found.items))) entries end
             (run (record {
               ascend = order.ascend;
               rise = subst (λ (l : List ℕ). IsStrictlyIncreasing (references_in found.items ++ (reference ∷ (l ++ references_left one.later.items)))) (firsts_pending pending.items)
@@ -207,26 +207,26 @@ module _ (asked : Asked) where
   -- all of them were shown
   pub all_shown_on : (cache : Cache) (one : ChunkWork) (found : Vec ChunkRead Global) (chunks : List Pending) (r : Result Step NoMemory)
       → shown_first (map pending_chunk chunks) (reads_of one.found.items) ≡ (reads_of found.items, [])
-      → Leads asked cache (most * length one.later.items + 1) (Where (AreInOrder one.places.items found.items (references_left one.later.items)) (Leading (shows_groups Q B cache one.series.items one.places.items one.later.items (reads_of found.items)))) r
-      → Leads asked cache (most * length one.later.items + length chunks + 1) (Where (ArePending one chunks) (Leading (shows_out Q B cache one (map pending_chunk chunks) (reads_of one.found.items)))) r
+      → Leads asked cache (most * length one.later.items + 1) (Where (AreInOrder one.places.items found.items (references_left one.later.items)) (Leading (shows_groups asked cache one.series.items one.places.items one.later.items (reads_of found.items)))) r
+      → Leads asked cache (most * length one.later.items + length chunks + 1) (Where (ArePending one chunks) (Leading (shows_out asked cache one (map pending_chunk chunks) (reads_of one.found.items)))) r
   all_shown_on cache one found chunks r is leads =
       leads_where asked cache (most * length one.later.items + 1) (most * length one.later.items + length chunks + 1) (AreInOrder one.places.items found.items (references_left one.later.items)) (ArePending one chunks)
-      (shows_groups Q B cache one.series.items one.places.items one.later.items (reads_of found.items)) (shows_out Q B cache one (map pending_chunk chunks) (reads_of one.found.items)) r
+      (shows_groups asked cache one.series.items one.places.items one.later.items (reads_of found.items)) (shows_out asked cache one (map pending_chunk chunks) (reads_of one.found.items)) r
       (omega (arith))
       (λ order. record { ascend = order.ascend; rise = still_rise chunks one.found.items found.items [] (references_left one.later.items) is order.rise })
-      (λ order. subst (λ (p : List Read × List (ℕ × Glimpse)). Keeps (shows_out Q B cache one p.1 p.0) (shows_out Q B cache one (map pending_chunk chunks) (reads_of one.found.items))) is
-      (out_first breaks_off B.ulid (tests_at B one.places.items) cache (group_read one.group) (later_groups Q B one cache) (map pending_chunk chunks) (reads_of one.found.items)))
+      (λ order. subst (λ (p : List Read × List (ℕ × Glimpse)). Keeps (shows_out asked cache one p.1 p.0) (shows_out asked cache one (map pending_chunk chunks) (reads_of one.found.items))) is
+      (out_first breaks_off B.ulid (tests_at B one.places.items) cache (group_read one.group) (later_groups asked one cache) (map pending_chunk chunks) (reads_of one.found.items)))
       leads
 
   -- a chunk that stuck out was read
   pub single_read : (cache : Cache) (one : ChunkWork) (found : Vec ChunkRead Global) (reference : ℕ) (samples : List Sample) (pending : List Pending) (added : ChunkRead) (seq : ℕ) (bytes : List ℕ) (r : Result Step NoMemory)
       → found.items ≡ one.found.items ++ added ∷ [] → added.reference ≡ reference → added.samples ≡ samples
       → (IsNonDecreasingBy reference_of one.places.items → tests_at B one.places.items reference bytes ≡ Ok samples)
-      → Leads asked cache (most * length one.later.items + length pending + 1) (Where (ArePending (with_found one found) pending) (Leading (shows_out Q B cache (with_found one found) (map pending_chunk pending) (reads_of found.items)))) r
+      → Leads asked cache (most * length one.later.items + length pending + 1) (Where (ArePending (with_found one found) pending) (Leading (shows_out asked cache (with_found one found) (map pending_chunk pending) (reads_of found.items)))) r
       → Leads asked cache (most * length one.later.items + length pending + 1) (Where (IsSingleWork one reference pending) (Leading (with_single asked cache one reference pending seq bytes))) r
   single_read cache one found reference samples pending added seq bytes r more is held tested leads =
       leads_where asked cache (most * length one.later.items + length pending + 1) (most * length one.later.items + length pending + 1) (ArePending (with_found one found) pending) (IsSingleWork one reference pending)
-      (shows_out Q B cache (with_found one found) (map pending_chunk pending) (reads_of found.items)) (with_single asked cache one reference pending seq bytes) r
+      (shows_out asked cache (with_found one found) (map pending_chunk pending) (reads_of found.items)) (with_single asked cache one reference pending seq bytes) r
       (omega (arith))
       (λ order. record {
         ascend = order.ascend;
@@ -236,7 +236,7 @@ module _ (asked : Asked) where
             (ap (λ (n : ℕ). references_in one.found.items ++ n ∷ []) (sym is) ∙ sym (map_push (λ (c : ChunkRead). c.reference) one.found.items added) ∙ ap references_in (sym more))) order.rise;
       })
       (λ order.
-      subst (λ (l : List Read). Keeps (shows_out Q B cache one (map pending_chunk pending) l) (with_single asked cache one reference pending seq bytes))
+      subst (λ (l : List Read). Keeps (shows_out asked cache one (map pending_chunk pending) l) (with_single asked cache one reference pending seq bytes))
       (ap₂ (λ (n : ℕ) (s : List Sample). reads_of one.found.items ++ read n s ∷ []) (sym is) (sym held) ∙ sym (map_push (λ (c : ChunkRead). read c.reference c.samples) one.found.items added) ∙ ap reads_of (sym more))
       (keeps_read (tests_at B one.places.items reference bytes) samples _ _ (tested order.ascend)))
       leads
@@ -265,7 +265,7 @@ module _ (asked : Asked) where
 
   groups_kept : (cache : Cache) (last : ℕ) (series : List IndexSeries) (sorted : List ChunkPlace) (references : List ℕ) (groups : List GroupRead) → have_keys (places_of series) ≡ true
       → IsSetOf (map reference_of (places_of series)) references → AreGroupsToRead references groups → IsPermutation (places_of series) sorted
-      → Keeps (shows_groups Q B cache series sorted groups []) (chunks_left asked (reached last cache) series)
+      → Keeps (shows_groups asked cache series sorted groups []) (chunks_left asked (reached last cache) series)
   groups_kept cache last series sorted references groups keys set (cut, are, same) permuted =
       subst (λ (t : Tests). Keeps (reads_groups breaks_off B.ulid t cache (shows_all Q B cache series) (map group_read groups) []) (chunks_left asked (reached last cache) series)) (same_tests B (places_of series) sorted permuted)
       (subst (λ (gs : List Group). Keeps (reads_groups breaks_off B.ulid (tests_at B (places_of series)) cache (shows_all Q B cache series) gs []) (chunks_left asked (reached last cache) series)) (sym same)
@@ -280,10 +280,10 @@ module _ (asked : Asked) where
 
   pub chunks_begun : (cache : Cache) (last : ℕ) (series : List IndexSeries) (sorted : List ChunkPlace) (references : List ℕ) (groups : List GroupRead) (found : List ChunkRead) (r : Result Step NoMemory) → have_keys (places_of series) ≡ true
       → IsSetOf (map reference_of (places_of series)) references → AreGroupsToRead references groups → IsPermutation (places_of series) sorted → IsNonDecreasingBy reference_of sorted → found ≡ [] → length groups ≤ most
-      → Leads asked cache (most * length groups + 1) (Where (AreInOrder sorted found (references_left groups)) (Leading (shows_groups Q B cache series sorted groups (reads_of found)))) r
+      → Leads asked cache (most * length groups + 1) (Where (AreInOrder sorted found (references_left groups)) (Leading (shows_groups asked cache series sorted groups (reads_of found)))) r
       → Leads asked cache (3 * most * most) (Leading (chunks_left asked (reached last cache) series)) r
   chunks_begun cache last series sorted references groups found r keys set are permuted ascend none few leads =
-      leads_held asked cache (most * length groups + 1) (3 * most * most) (AreInOrder sorted [] (references_left groups)) (shows_groups Q B cache series sorted groups []) (chunks_left asked (reached last cache) series) r
+      leads_held asked cache (most * length groups + 1) (3 * most * most) (AreInOrder sorted [] (references_left groups)) (shows_groups asked cache series sorted groups []) (chunks_left asked (reached last cache) series) r
       (omega (arith, few)) (record { ascend = ascend; rise = subst IsStrictlyIncreasing (sym (left_are references groups are)) set.increasing })
       (groups_kept cache last series sorted references groups keys set are permuted)
-      (subst (λ (l : List ChunkRead). Leads asked cache (most * length groups + 1) (Where (AreInOrder sorted l (references_left groups)) (Leading (shows_groups Q B cache series sorted groups (reads_of l)))) r) none leads)
+      (subst (λ (l : List ChunkRead). Leads asked cache (most * length groups + 1) (Where (AreInOrder sorted l (references_left groups)) (Leading (shows_groups asked cache series sorted groups (reads_of l)))) r) none leads)

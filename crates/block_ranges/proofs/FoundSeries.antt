@@ -15,8 +15,8 @@ use Rattle.block_ranges.specs.IndexReads.{Tables, tables_of, part_at}
 use Rattle.block_ranges.specs.Findings.{ReadsAs}
 use Rattle.block_ranges.specs.Selecting.{tables_held, Selects}
 use Rattle.block_ranges.specs.ToRead.{AreRunsToRead}
-use Rattle.block_ranges.specs.WorkStates.{SelectsRuns, tables_in, texts_of, rows_in, read_or_none, table_piece, lists_piece}
-use Rattle.block_ranges.specs.RunFindings.{FindsSeries}
+use Rattle.block_ranges.specs.WorkStates.{tables_in, texts_of, rows_in, read_or_none, table_piece, lists_piece}
+use Rattle.block_ranges.specs.RunFindings.{FindsSeries, SelectsRuns}
 use Rattle.block_ranges.specs.declared.selection.Selection.{Selection}
 use Rattle.block_ranges.specs.declared.run_read.RunRead.{RunRead}
 use Rattle.block_ranges.specs.declared.work.TablesRead.{TablesRead}

@@ -25,8 +25,8 @@ use Rattle.block_ranges.specs.IndexReads.{Tables, tables_of, IsTakenBy, Goes, re
 use Rattle.block_ranges.specs.BlockReads.{BlockEnd, breaks_off, block_call}
 use Rattle.block_ranges.specs.Asking.{query_asked, block_asked}
 use Rattle.block_ranges.specs.ToRead.{run_read, AreRunsToRead}
-use Rattle.block_ranges.specs.WorkStates.{after_index, contents_left, whole_left, range_left, sized_left, runs_left, chunks_left, with_symbols, with_table, with_lists, with_run, symbols_piece, table_piece, lists_piece, rows_in, texts_of, tables_in, read_or_none, AreSelectedRuns, TakesRun}
-use Rattle.block_ranges.specs.RunFindings.{FindsSections, TestsSymbols, TestsTable, FindsRuns, FindsSeries}
+use Rattle.block_ranges.specs.WorkStates.{after_index, contents_left, whole_left, range_left, sized_left, runs_left, chunks_left, with_symbols, with_table, with_lists, with_run, symbols_piece, table_piece, lists_piece, rows_in, texts_of, tables_in, read_or_none}
+use Rattle.block_ranges.specs.RunFindings.{FindsSections, TestsSymbols, TestsTable, FindsRuns, FindsSeries, AreSelectedRuns, TakesRun}
 use Rattle.block_ranges.specs.declared.asked.Asked.{Asked}
 use Rattle.block_ranges.specs.declared.sections.Sections.{Sections}
 use Rattle.block_ranges.specs.declared.run_read.RunRead.{RunRead}

@@ -115,11 +115,11 @@ keeps_cached asked old new last piece next bytes has same =
 -- it has not got it
 pub keeps_waits : (asked : Asked) (old new : Cache) (last : ℕ) (piece : Piece) (next : Reached → List ℕ → Plan BlockEnd)
     → lookup (same_range (range_of (Index asked.ulid) piece)) old.entries ≡ None → new ≡ old
-    → Keeps (waits (query_asked asked) (block_asked asked) piece new next) (range_left asked piece (reached last old) next)
+    → Keeps (waits asked piece new next) (range_left asked piece (reached last old) next)
 keeps_waits asked old new last piece next none same =
-    subst (λ c. Keeps (waits (query_asked asked) (block_asked asked) piece c next) (range_left asked piece (reached last old) next)) (sym same)
-    (subst (λ found. Keeps (waits (query_asked asked) (block_asked asked) piece old next) (by_cache breaks_off found (Index asked.ulid) piece (reached last old) (sized piece (falls_back breaks_off (query_asked asked) (block_asked asked) (after_index (query_asked asked) (block_asked asked))) next)))
-    (sym none) (keeps_all (waits (query_asked asked) (block_asked asked) piece old next)))
+    subst (λ c. Keeps (waits asked piece c next) (range_left asked piece (reached last old) next)) (sym same)
+    (subst (λ found. Keeps (waits asked piece old next) (by_cache breaks_off found (Index asked.ulid) piece (reached last old) (sized piece (falls_back breaks_off (query_asked asked) (block_asked asked) (after_index (query_asked asked) (block_asked asked))) next)))
+    (sym none) (keeps_all (waits asked piece old next)))
 
 -- a call waits for a range
 pub leads_wait : (asked : Asked) (cache : Cache) (limit : ℕ) (piece : Piece) (work : Work) (follows : Onward) (r : Step)

@@ -10,7 +10,8 @@ use Rattle.block_ranges.specs.IndexReads.{reached}
 use Rattle.block_ranges.specs.BlockReads.{BlockEnd}
 use Rattle.block_ranges.specs.Asking.{piece_of}
 use Rattle.block_ranges.specs.ToRead.{run_read}
-use Rattle.block_ranges.specs.WorkStates.{runs_left, chunks_left, whole_left, with_run, sized_left, range_left, TakesRun}
+use Rattle.block_ranges.specs.WorkStates.{runs_left, chunks_left, whole_left, with_run, sized_left, range_left}
+use Rattle.block_ranges.specs.RunFindings.{TakesRun}
 use Rattle.block_ranges.specs.declared.asked.Asked.{Asked}
 use Rattle.block_ranges.specs.declared.run_read.RunRead.{RunRead}
 use Rattle.block_ranges.proofs.Leading.{keeps_on, keeps_cached}

@@ -12,8 +12,8 @@ use Rattle.block_ranges.specs.BlockReads.{BlockEnd}
 use Rattle.block_ranges.specs.Asking.{query_asked, block_asked, piece_of}
 use Rattle.block_ranges.specs.ToRead.{run_read}
 use Rattle.block_ranges.specs.BlockRuns.{Leading, IsEnd}
-use Rattle.block_ranges.specs.WorkStates.{most, Leads, waits, left_at, runs_left, with_run, with_lists, sized_left, texts_of, lists_piece, TakesRun}
-use Rattle.block_ranges.specs.RunFindings.{GoesOnRuns, FindsRuns}
+use Rattle.block_ranges.specs.WorkStates.{most, Leads, waits, left_at, runs_left, with_run, with_lists, sized_left, texts_of, lists_piece}
+use Rattle.block_ranges.specs.RunFindings.{GoesOnRuns, FindsRuns, TakesRun}
 use Rattle.block_ranges.specs.declared.asked.Asked.{Asked}
 use Rattle.block_ranges.specs.declared.run_read.RunRead.{RunRead}
 use Rattle.block_ranges.specs.declared.run_steps.Taken.{Taken}
@@ -38,7 +38,7 @@ runs_wait asked old new last runs series one r (none, fewer, keeps) is =
     (λ entries end left run.
     comes_kept (runs_left asked (texts_of one.read) (run_read one.run ∷ map run_read one.later.items) (reached last new) one.series.items)
     (runs_left asked (texts_of one.read) (map run_read runs) (reached last old) series) (IsEnd left) keeps entries end
-    (comes_kept (left_at (query_asked asked) (block_asked asked) (work.Run one) new)
+    (comes_kept (left_at asked (work.Run one) new)
     (runs_left asked (texts_of one.read) (run_read one.run ∷ map run_read one.later.items) (reached last new) one.series.items) (IsEnd left)
     (keeps_waits asked new new last (piece_of one.run.range) (with_run asked (texts_of one.read) (run_read one.run) (map run_read one.later.items) one.series.items) none refl) entries end (run tt)))
 

@@ -4,7 +4,7 @@ use Rattle.std.proofs.lemmas.List.{map_push}
 use Rattle.block_ranges.specs.ChunkReads.{Read, read, Glimpse, sticks_out}
 use Rattle.block_ranges.specs.ChunksRead.{reads_of}
 use Rattle.block_ranges.specs.Glimpsed.{glimpse_seen, pending_chunk}
-use Rattle.block_ranges.specs.WorkStates.{shown_first}
+use Rattle.block_ranges.specs.ChunkFindings.{shown_first}
 use Rattle.block_ranges.specs.declared.glimpses.Glimpse.{Glimpse as Seen}
 use Rattle.block_ranges.specs.declared.glimpses.Glimpse.TheVariants.{Shows, SticksOut}
 use Rattle.block_ranges.specs.declared.glimpses.Pending.{Pending}

@@ -30,11 +30,11 @@ module _ (asked : Asked) (old new : Cache) (last : ℕ) (piece : Piece) (next : 
   -- it has not got it
   pub leads_absent : (limit : ℕ) (one : Work) (r : Step) → IsFromCache (range_of (Index asked.ulid) piece) old None new → r ≡ Wait (GetRange (Index asked.ulid) piece.from piece.len) one
       → asked_at asked.ulid one ≡ Some (GetRange (Index asked.ulid) piece.from piece.len) → count_at one < limit
-      → Holds one → Keeps (left_at (query_asked asked) (block_asked asked) one new) (waits (query_asked asked) (block_asked asked) piece new next)
+      → Holds one → Keeps (left_at asked one new) (waits asked piece new next)
       → Leads asked new limit (Leading (range_left asked piece (reached last old) next)) (Ok r)
   leads_absent limit one r none is asks falls holds same =
       leads_wait asked new limit piece one (Leading (range_left asked piece (reached last old) next)) r is asks falls
       (λ entries end left run.
-      comes_kept (waits (query_asked asked) (block_asked asked) piece new next) (range_left asked piece (reached last old) next) (IsEnd left)
+      comes_kept (waits asked piece new next) (range_left asked piece (reached last old) next) (IsEnd left)
       (keeps_waits asked old new last piece next none.0 none.1) entries end
-      (comes_kept (left_at (query_asked asked) (block_asked asked) one new) (waits (query_asked asked) (block_asked asked) piece new next) (IsEnd left) same entries end (run holds)))
+      (comes_kept (left_at asked one new) (waits asked piece new next) (IsEnd left) same entries end (run holds)))

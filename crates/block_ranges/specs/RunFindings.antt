@@ -1,5 +1,5 @@
 -- What the steps of a call find of an index, as the code has it.
-use Rattle.std.specs.Prelude.{◌≡◌, ◌⊎◌, ℕ, ◌<◌, ◌==◌, Bool, true, false, List, [], ◌∷◌, length, map, slice_get, Option, Some, None, Result, Ok, Err, IsOk, IsErr}
+use Rattle.std.specs.Prelude.{◌≡◌, ◌⊎◌, ℕ, ◌<◌, ◌==◌, true, false, List, ◌∷◌, ◌++◌, length, map, slice_get, Option, Some, None, Ok, IsOk, IsErr}
 use Rattle.std.specs.List.{list_all}
 use Rattle.std.specs.Map.{lookup}
 use Rattle.world_core.specs.Plans.{Keeps}
@@ -18,12 +18,12 @@ use Rattle.index_v2.specs.WholeReading.{lists_at}
 use Rattle.index_v2.specs.SeriesLabels.{numbered_at}
 use Rattle.series_selection.specs.Selections.{rows_read}
 use Rattle.block_content.specs.Firsts.{each_at}
-use Rattle.block_ranges.specs.IndexRanges.{has_bytes, has_sections}
+use Rattle.block_ranges.specs.IndexRanges.{Run, has_bytes, has_sections}
 use Rattle.block_ranges.specs.Reads.{Query, Block, Cache, range_of}
-use Rattle.block_ranges.specs.IndexReads.{reached, part_at, tables_of, IsTakenBy}
+use Rattle.block_ranges.specs.IndexReads.{Tables, reached, part_at, tables_of, IsTakenBy}
 use Rattle.block_ranges.specs.Asking.{query_asked, block_asked, piece_of}
-use Rattle.block_ranges.specs.ToRead.{run_read}
-use Rattle.block_ranges.specs.WorkStates.{AreSelectedRuns, SelectsRuns, whole_left, runs_left, chunks_left, tables_in, texts_of, symbols_piece, table_piece, lists_piece}
+use Rattle.block_ranges.specs.ToRead.{run_read, AreRunsToRead}
+use Rattle.block_ranges.specs.WorkStates.{whole_left, runs_left, chunks_left, tables_in, texts_of, symbols_piece, table_piece, lists_piece}
 use Rattle.block_ranges.specs.declared.asked.Asked.{Asked}
 use Rattle.block_ranges.specs.declared.sections.Sections.{Sections}
 use Rattle.block_ranges.specs.declared.run_read.RunRead.{RunRead}
@@ -60,6 +60,20 @@ TestsTable first bytes (Some read) =
 TestsTable first bytes None =
     ((length bytes == (table_piece first.places).len) ≡ false) ⊎ IsErr (postings_table_at (known (part_at (table_piece first.places) bytes)) first.places.toc.postings_table)
 
+-- The runs of the series that the selector takes, or one of the lists that it needs is refused.
+pub record AreSelectedRuns (query : Query) (block : Block) (toc : Toc) (size : ℕ) (tables : Tables) (runs : List RunRead) : Type 0 where
+  pub all : List ℕ
+  pub all_are : list_of tables.lists (slice_get tables.rows 0) ≡ Ok all
+  pub lists : IsOk (lists_at tables.lists (rows_read block.external tables.rows query.selector))
+  pub numbers : List ℕ
+  pub taken : IsTakenBy query block tables numbers
+  pub runs_are : AreRunsToRead toc size all numbers runs
+
+abbrev pub SelectsRuns : Query → Block → Toc → ℕ → Tables → Option (List RunRead) → Type 0
+SelectsRuns query block toc size tables (Some runs) = AreSelectedRuns query block toc size tables runs
+SelectsRuns query block toc size tables None =
+    IsErr (list_of tables.lists (slice_get tables.rows 0)) ⊎ IsErr (lists_at tables.lists (rows_read block.external tables.rows query.selector))
+
 -- the runs that are to be read by the bytes of the postings lists
 abbrev pub FindsRuns : Asked → TablesRead → List ℕ → Option (List RunRead) → Type 0
 FindsRuns asked read lists (Some runs) =
@@ -71,6 +85,13 @@ FindsRuns asked read lists None =
     ⊎ SelectsRuns (query_asked asked) (block_asked asked) read.first.places.toc read.first.places.size (tables_in read lists) None
     ⊎ ((runs : List RunRead) × AreSelectedRuns (query_asked asked) (block_asked asked) read.first.places.toc read.first.places.size (tables_in read lists) runs
     × (list_all (λ run. has_bytes run.piece) (map run_read runs) ≡ false))
+
+-- The bytes of a run are as many as were asked for, and its series stand behind others.
+abbrev pub TakesRun : List (List ℕ) → Run → List ℕ → List IndexSeries → Option (List IndexSeries) → Type 0
+TakesRun symbols run bytes series (Some all) =
+    (length bytes ≡ run.piece.len) × (more : List IndexSeries) × (each_at (numbered_at (known (part_at run.piece bytes)) symbols) run.numbers ≡ Ok more) × (all ≡ series ++ more)
+TakesRun symbols run bytes series None =
+    ((length bytes == run.piece.len) ≡ false) ⊎ IsErr (each_at (numbered_at (known (part_at run.piece bytes)) symbols) run.numbers)
 
 -- The cache was asked for runs, up to one that it has not got.
 abbrev pub GoesOnRuns : Asked → List (List ℕ) → ℕ → Cache → Cache → List RunRead → List IndexSeries → Taken → Type 0

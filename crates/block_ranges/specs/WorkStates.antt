@@ -1,5 +1,5 @@
 -- What is left of the reads of a block in each of their states. The machine's steps alone speak of this.
-use Rattle.std.specs.Prelude.{◌≡◌, ◌⊎◌, ℕ, ◌+◌, ◌*◌, ◌^◌, ◌<◌, ◌==◌, Bool, true, false, List, [], ◌∷◌, ◌++◌, length, map, zip, slice_get, Option, Some, None, Result, Ok, Err, IsOk, IsErr}
+use Rattle.std.specs.Prelude.{◌≡◌, ℕ, ◌+◌, ◌*◌, ◌^◌, ◌<◌, List, [], ◌∷◌, ◌++◌, length, map, zip, Option, Some, None, Result, Ok, Err}
 use Rattle.std.specs.List.{flat_map}
 use Rattle.std.specs.List.Sorted.{IsNonDecreasingBy, IsStrictlyIncreasing}
 use Rattle.list_core.specs.declared.memory.NoMemory.{NoMemory}
@@ -12,11 +12,6 @@ use Rattle.world_core.specs.declared.op.Op.TheVariants.{Get, GetRange}
 use Rattle.world_core.specs.declared.entry.Entry.{Entry}
 use Rattle.index_parts.specs.declared.postings_row.PostingsRow.{PostingsRow}
 use Rattle.index_parts.specs.declared.chunk_place.ChunkPlace.{ChunkPlace}
-use Rattle.index_parts.specs.declared.toc.Toc.{Toc}
-use Rattle.index_v2.specs.PostingsLists.{list_of}
-use Rattle.index_v2.specs.WholeReading.{lists_at}
-use Rattle.index_v2.specs.SeriesLabels.{numbered_at}
-use Rattle.series_selection.specs.Selections.{rows_read}
 use Rattle.block_content.specs.Firsts.{each_at}
 use Rattle.index_parts.specs.SeriesEntry.{reference_of}
 use Rattle.index_parts.specs.RowsReading.{postings_table_at}
@@ -25,22 +20,20 @@ use Rattle.index_file.specs.declared.index_series.IndexSeries.{IndexSeries}
 use Rattle.block_ranges.specs.IndexRanges.{Piece, Run, contents_piece, section_piece}
 use Rattle.block_ranges.specs.ChunkRanges.{offset_of}
 use Rattle.block_ranges.specs.Reads.{Query, Block, Cache, damaged, Reached, kept, range_of, sized, by_cache, takes, if_read}
-use Rattle.block_ranges.specs.IndexReads.{Tables, IsTakenBy, Goes, reached, part_at, falls_back, after_symbols, after_table, after_lists, after_run, reads_runs, reads_whole, reads_contents, after_contents, after_whole}
-use Rattle.block_ranges.specs.ChunkReads.{Read, read, Glimpse, shows, sticks_out, glimpse_at, tests_at, reads_one, reads_out, reads_group, reads_groups, reads_chunks}
+use Rattle.block_ranges.specs.IndexReads.{Tables, Goes, reached, part_at, falls_back, after_symbols, after_table, after_lists, after_run, reads_runs, reads_whole, reads_contents, after_contents, after_whole}
+use Rattle.block_ranges.specs.ChunkReads.{Read, read, Glimpse, glimpse_at, tests_at, reads_one, reads_out, reads_group, reads_groups, reads_chunks}
 use Rattle.block_ranges.specs.BlockReads.{BlockEnd, gives, breaks_off, taken, shown, block_call}
 use Rattle.block_ranges.specs.BlockRuns.{Onward, Leading}
 use Rattle.block_ranges.specs.Asking.{query_asked, block_asked, piece_of}
-use Rattle.block_ranges.specs.ToRead.{group_read, run_read, AreRunsToRead}
+use Rattle.block_ranges.specs.ToRead.{group_read, run_read}
 use Rattle.block_ranges.specs.Glimpsed.{pending_chunk}
 use Rattle.block_ranges.specs.ChunksRead.{reads_of, references_in}
 use Rattle.block_ranges.specs.declared.asked.Asked.{Asked}
 use Rattle.block_ranges.specs.declared.sections.Sections.{Sections}
 use Rattle.block_ranges.specs.declared.block_outcome.BlockOutcome.{BlockOutcome}
 use Rattle.block_ranges.specs.declared.work.ChunkWork.{ChunkWork}
-use Rattle.block_ranges.specs.declared.work.RunWork.{RunWork}
 use Rattle.block_ranges.specs.declared.work.SymbolsRead.{SymbolsRead}
 use Rattle.block_ranges.specs.declared.work.TablesRead.{TablesRead}
-use Rattle.block_ranges.specs.declared.run_read.RunRead.{RunRead}
 use Rattle.block_ranges.specs.declared.work.Work.{Work}
 use Rattle.block_ranges.specs.declared.work.Work.TheVariants.{Fresh, Contents, Symbols, Table, Lists, Run as AtRun, Whole, Group, Single, Over}
 use Rattle.block_ranges.specs.declared.group_read.GroupRead.{GroupRead}
@@ -109,21 +102,63 @@ ArePending work pending = AreInOrder work.places.items work.found.items (referen
 abbrev pub IsSingleWork : ChunkWork → ℕ → List Pending → Type 0
 IsSingleWork work reference pending = AreInOrder work.places.items work.found.items (reference ∷ (references_pending pending ++ references_left work.later.items))
 
--- ---- the plan that is left in each state
+-- ---- the plan that is left in each state, and what follows the bytes that are waited for
 
-module _ (query : Query) (block : Block) where
-  abbrev Next : Goes {E = BlockEnd} breaks_off query block
-  Next = after_index query block
+module _ (asked : Asked) where
+  abbrev its_query : Query
+  its_query = query_asked asked
+
+  abbrev its_block : Block
+  its_block = block_asked asked
+
+  -- what follows the series of the index
+  abbrev pub chunks_left : Goes {E = BlockEnd} breaks_off its_query its_block
+  chunks_left = after_index its_query its_block
+
+  abbrev pub contents_left : ℕ → Cache → Plan BlockEnd
+  contents_left size cache = reads_contents breaks_off its_query its_block size chunks_left cache
+
+  abbrev pub whole_left : Cache → Plan BlockEnd
+  whole_left cache = reads_whole breaks_off its_query its_block chunks_left cache
+
+  -- what follows the bytes of a range, as many as were asked for or not
+  abbrev pub sized_left : Piece → Reached → (Reached → List ℕ → Plan BlockEnd) → List ℕ → Plan BlockEnd
+  sized_left piece at next bytes = sized piece (falls_back breaks_off its_query its_block chunks_left) next at bytes
+
+  -- the same, where they were read and kept
+  abbrev pub kept_left : Piece → Cache → (Reached → List ℕ → Plan BlockEnd) → ℕ → List ℕ → Plan BlockEnd
+  kept_left piece cache next seq bytes = sized_left piece (reached seq (kept (range_of (Index its_block.ulid) piece) bytes cache)) next bytes
+
+  -- the read of a range by the cache, and what follows
+  abbrev pub range_left : Piece → Reached → (Reached → List ℕ → Plan BlockEnd) → Plan BlockEnd
+  range_left piece at next = takes breaks_off (Index its_block.ulid) piece at (falls_back breaks_off its_query its_block chunks_left) next
 
   -- the read of a range that the cache has not got, and what follows
   abbrev pub waits : Piece → Cache → (Reached → List ℕ → Plan BlockEnd) → Plan BlockEnd
   waits piece cache next =
-      by_cache breaks_off None (Index block.ulid) piece (reached 0 cache) (sized piece (falls_back breaks_off query block Next) next)
+      by_cache breaks_off None (Index its_block.ulid) piece (reached 0 cache) (sized piece (falls_back breaks_off its_query its_block chunks_left) next)
+
+  abbrev pub with_symbols : Sections → Reached → List ℕ → Plan BlockEnd
+  with_symbols places = after_symbols breaks_off its_query its_block places.size places.toc chunks_left
+
+  abbrev pub with_table : SymbolsRead → Reached → List ℕ → Plan BlockEnd
+  with_table read = after_table breaks_off its_query its_block read.places.size read.places.toc chunks_left (texts_of read)
+
+  abbrev pub with_lists : TablesRead → Reached → List ℕ → Plan BlockEnd
+  with_lists read =
+      after_lists breaks_off its_query its_block read.first.places.size read.first.places.toc chunks_left (texts_of read.first) (rows_in read.first.places read.table)
+
+  abbrev pub runs_left : List (List ℕ) → List Run → Reached → List IndexSeries → Plan BlockEnd
+  runs_left symbols runs at series = reads_runs breaks_off its_query its_block symbols chunks_left runs at series
+
+  -- what follows the bytes of a run
+  abbrev pub with_run : List (List ℕ) → Run → List Run → List IndexSeries → Reached → List ℕ → Plan BlockEnd
+  with_run symbols run runs series = after_run breaks_off its_query its_block symbols chunks_left run (reads_runs breaks_off its_query its_block symbols chunks_left runs) series
 
   -- the chunks of these groups, behind those that were read, and then the end
   abbrev pub shows_groups : Cache → List IndexSeries → List ChunkPlace → List GroupRead → List Read → Plan BlockEnd
   shows_groups cache series places groups =
-      reads_groups breaks_off block.ulid (tests_at block places) cache (shows_all query block cache series) (map group_read groups)
+      reads_groups breaks_off its_block.ulid (tests_at its_block places) cache (shows_all its_query its_block cache series) (map group_read groups)
 
   -- the groups behind the one at hand
   abbrev pub later_groups : ChunkWork → Cache → List Read → Plan BlockEnd
@@ -132,26 +167,48 @@ module _ (query : Query) (block : Block) where
   -- the chunks of the group at hand that are left
   abbrev pub shows_out : Cache → ChunkWork → List (ℕ × Glimpse) → List Read → Plan BlockEnd
   shows_out cache work pending =
-      reads_out breaks_off block.ulid (tests_at block work.places.items) cache (group_read work.group) (later_groups work cache) pending
+      reads_out breaks_off its_block.ulid (tests_at its_block work.places.items) cache (group_read work.group) (later_groups work cache) pending
+
+  -- what follows the bytes of a group
+  abbrev pub with_group : Cache → ChunkWork → ℕ → List ℕ → Plan BlockEnd
+  with_group cache work seq bytes =
+      if_read (each_at (glimpse_at (tests_at its_block work.places.items) (group_read work.group) bytes) work.group.references)
+      (λ glimpses. shows_out cache work (zip work.group.references glimpses) (reads_of work.found.items))
+      (ends (breaks_off (damaged seq) cache))
+
+  -- what follows the bytes of a chunk that stuck out
+  abbrev pub with_single : Cache → ChunkWork → ℕ → List Pending → ℕ → List ℕ → Plan BlockEnd
+  with_single cache work reference pending seq bytes =
+      if_read (tests_at its_block work.places.items reference bytes)
+      (λ samples. shows_out cache work (map pending_chunk pending) (reads_of work.found.items ++ read reference samples ∷ []))
+      (ends (breaks_off (damaged seq) cache))
 
   abbrev pub left_at : Work → Cache → Plan BlockEnd
-  left_at Fresh cache = block_call query block cache
-  left_at (Contents size) cache = reads_contents breaks_off query block size.bytes Next cache
-  left_at (Symbols places) cache = waits (symbols_piece places) cache (after_symbols breaks_off query block places.size places.toc Next)
-  left_at (Table read) cache = waits (table_piece read.places) cache (after_table breaks_off query block read.places.size read.places.toc Next (texts_of read))
-  left_at (Lists read) cache =
-      waits (lists_piece read.first.places) cache
-      (after_lists breaks_off query block read.first.places.size read.first.places.toc Next (texts_of read.first) (rows_in read.first.places read.table))
-  left_at (AtRun work) cache =
-      waits (piece_of work.run.range) cache
-      (after_run breaks_off query block (texts_of work.read) Next (run_read work.run) (reads_runs breaks_off query block (texts_of work.read) Next (map run_read work.later.items)) work.series.items)
-  left_at Whole cache = reads_whole breaks_off query block Next cache
+  left_at Fresh cache = block_call its_query its_block cache
+  left_at (Contents size) cache = contents_left size.bytes cache
+  left_at (Symbols places) cache = waits (symbols_piece places) cache (with_symbols places)
+  left_at (Table read) cache = waits (table_piece read.places) cache (with_table read)
+  left_at (Lists read) cache = waits (lists_piece read.first.places) cache (with_lists read)
+  left_at (AtRun work) cache = waits (piece_of work.run.range) cache (with_run (texts_of work.read) (run_read work.run) (map run_read work.later.items) work.series.items)
+  left_at Whole cache = whole_left cache
   left_at (Group work) cache =
-      reads_group breaks_off block.ulid (tests_at block work.places.items) cache (group_read work.group) (later_groups work cache) (reads_of work.found.items)
+      reads_group breaks_off its_block.ulid (tests_at its_block work.places.items) cache (group_read work.group) (later_groups work cache) (reads_of work.found.items)
   left_at (Single work reference len pending) cache =
-      reads_one breaks_off block.ulid (tests_at block work.places.items) cache (group_read work.group) reference len
+      reads_one breaks_off its_block.ulid (tests_at its_block work.places.items) cache (group_read work.group) reference len
       (shows_out cache work (map pending_chunk pending.items)) (reads_of work.found.items)
   left_at Over cache = never
+
+  abbrev pub with_bytes : Work → Cache → ℕ → List ℕ → Plan BlockEnd
+  with_bytes (Contents size) cache seq bytes = after_contents breaks_off its_query its_block size.bytes chunks_left cache seq bytes
+  with_bytes (Symbols places) cache seq bytes = kept_left (symbols_piece places) cache (with_symbols places) seq bytes
+  with_bytes (Table read) cache seq bytes = kept_left (table_piece read.places) cache (with_table read) seq bytes
+  with_bytes (Lists read) cache seq bytes = kept_left (lists_piece read.first.places) cache (with_lists read) seq bytes
+  with_bytes (AtRun work) cache seq bytes =
+      kept_left (piece_of work.run.range) cache (with_run (texts_of work.read) (run_read work.run) (map run_read work.later.items) work.series.items) seq bytes
+  with_bytes Whole cache seq bytes = after_whole breaks_off its_query its_block cache chunks_left seq bytes
+  with_bytes (Group work) cache seq bytes = with_group cache work seq bytes
+  with_bytes (Single work reference len pending) cache seq bytes = with_single cache work reference pending.items seq bytes
+  with_bytes other cache seq bytes = never
 
 -- what holds of a state
 abbrev pub Holds : Work → Type 0
@@ -165,7 +222,7 @@ Where Is follows entries end left = Is → follows entries end left
 
 -- a run of what is left
 abbrev pub may_at : Asked → Work → Cache → Onward
-may_at asked work cache = Where (Holds work) (Leading (left_at (query_asked asked) (block_asked asked) work cache))
+may_at asked work cache = Where (Holds work) (Leading (left_at asked work cache))
 
 -- ---- what is waited for
 
@@ -218,118 +275,4 @@ Leads asked cache limit follows (Err none) = Unit {0}
 
 -- a run of what is left after the entry that was waited for
 abbrev pub goes_after : Asked → Work → Cache → Entry → Onward
-goes_after asked work cache e = Where (Holds work) (Leading (after_entry (left_at (query_asked asked) (block_asked asked) work cache) e))
-
--- ---- the plans that the calls go on with
-
-module _ (asked : Asked) where
-  abbrev its_query : Query
-  its_query = query_asked asked
-
-  abbrev its_block : Block
-  its_block = block_asked asked
-
-  -- what follows the series of the index
-  abbrev after_series : Goes {E = BlockEnd} breaks_off its_query its_block
-  after_series = after_index its_query its_block
-
-  abbrev pub contents_left : ℕ → Cache → Plan BlockEnd
-  contents_left size cache = reads_contents breaks_off its_query its_block size after_series cache
-
-  abbrev pub whole_left : Cache → Plan BlockEnd
-  whole_left cache = reads_whole breaks_off its_query its_block after_series cache
-
-  -- the read of a range by the cache, and what follows
-  abbrev pub range_left : Piece → Reached → (Reached → List ℕ → Plan BlockEnd) → Plan BlockEnd
-  range_left piece at next = takes breaks_off (Index its_block.ulid) piece at (falls_back breaks_off its_query its_block after_series) next
-
-  -- what follows the bytes of such a range
-  abbrev pub sized_left : Piece → Reached → (Reached → List ℕ → Plan BlockEnd) → List ℕ → Plan BlockEnd
-  sized_left piece at next bytes = sized piece (falls_back breaks_off its_query its_block after_series) next at bytes
-
-  -- the same, where they were read and kept
-  abbrev pub kept_left : Piece → Cache → (Reached → List ℕ → Plan BlockEnd) → ℕ → List ℕ → Plan BlockEnd
-  kept_left piece cache next seq bytes =
-      sized_left piece (reached seq (kept (range_of (Index its_block.ulid) piece) bytes cache)) next bytes
-
-  abbrev pub with_symbols : Sections → Reached → List ℕ → Plan BlockEnd
-  with_symbols places =
-      after_symbols breaks_off its_query its_block places.size places.toc after_series
-
-  abbrev pub with_table : SymbolsRead → Reached → List ℕ → Plan BlockEnd
-  with_table read =
-      after_table breaks_off its_query its_block read.places.size read.places.toc after_series (texts_of read)
-
-  abbrev pub with_lists : TablesRead → Reached → List ℕ → Plan BlockEnd
-  with_lists read =
-      after_lists breaks_off its_query its_block read.first.places.size read.first.places.toc after_series
-      (texts_of read.first) (rows_in read.first.places read.table)
-
-  abbrev pub runs_left : List (List ℕ) → List Run → Reached → List IndexSeries → Plan BlockEnd
-  runs_left symbols runs at series = reads_runs breaks_off its_query its_block symbols after_series runs at series
-
-  -- what follows the bytes of a run
-  abbrev pub with_run : List (List ℕ) → Run → List Run → List IndexSeries → Reached → List ℕ → Plan BlockEnd
-  with_run symbols run runs series =
-      after_run breaks_off its_query its_block symbols after_series run
-      (reads_runs breaks_off its_query its_block symbols after_series runs) series
-
-  abbrev pub chunks_left : Reached → List IndexSeries → Plan BlockEnd
-  chunks_left at series = after_series at series
-
-  -- what follows the bytes of a group
-  abbrev pub with_group : Cache → ChunkWork → ℕ → List ℕ → Plan BlockEnd
-  with_group cache work seq bytes =
-      if_read (each_at (glimpse_at (tests_at its_block work.places.items) (group_read work.group) bytes) work.group.references)
-      (λ glimpses. shows_out its_query its_block cache work (zip work.group.references glimpses) (reads_of work.found.items))
-      (ends (breaks_off (damaged seq) cache))
-
-  -- what follows the bytes of a chunk that stuck out
-  abbrev pub with_single : Cache → ChunkWork → ℕ → List Pending → ℕ → List ℕ → Plan BlockEnd
-  with_single cache work reference pending seq bytes =
-      if_read (tests_at its_block work.places.items reference bytes)
-      (λ samples. shows_out its_query its_block cache work (map pending_chunk pending) (reads_of work.found.items ++ read reference samples ∷ []))
-      (ends (breaks_off (damaged seq) cache))
-
-  -- what follows the bytes that are waited for
-  abbrev pub with_bytes : Work → Cache → ℕ → List ℕ → Plan BlockEnd
-  with_bytes (Contents size) cache seq bytes = after_contents breaks_off its_query its_block size.bytes after_series cache seq bytes
-  with_bytes (Symbols places) cache seq bytes = kept_left (symbols_piece places) cache (with_symbols places) seq bytes
-  with_bytes (Table read) cache seq bytes = kept_left (table_piece read.places) cache (with_table read) seq bytes
-  with_bytes (Lists read) cache seq bytes = kept_left (lists_piece read.first.places) cache (with_lists read) seq bytes
-  with_bytes (AtRun work) cache seq bytes =
-      kept_left (piece_of work.run.range) cache
-      (with_run (texts_of work.read) (run_read work.run) (map run_read work.later.items) work.series.items) seq bytes
-  with_bytes Whole cache seq bytes = after_whole breaks_off its_query its_block cache after_series seq bytes
-  with_bytes (Group work) cache seq bytes = with_group cache work seq bytes
-  with_bytes (Single work reference len pending) cache seq bytes = with_single cache work reference pending.items seq bytes
-  with_bytes other cache seq bytes = never
-
--- ---- findings of the steps
-
--- The runs of the series that the selector takes, or one of the lists that it needs is refused.
-pub record AreSelectedRuns (query : Query) (block : Block) (toc : Toc) (size : ℕ) (tables : Tables) (runs : List RunRead) : Type 0 where
-  pub all : List ℕ
-  pub all_are : list_of tables.lists (slice_get tables.rows 0) ≡ Ok all
-  pub lists : IsOk (lists_at tables.lists (rows_read block.external tables.rows query.selector))
-  pub numbers : List ℕ
-  pub taken : IsTakenBy query block tables numbers
-  pub runs_are : AreRunsToRead toc size all numbers runs
-
-abbrev pub SelectsRuns : Query → Block → Toc → ℕ → Tables → Option (List RunRead) → Type 0
-SelectsRuns query block toc size tables (Some runs) = AreSelectedRuns query block toc size tables runs
-SelectsRuns query block toc size tables None =
-    IsErr (list_of tables.lists (slice_get tables.rows 0)) ⊎ IsErr (lists_at tables.lists (rows_read block.external tables.rows query.selector))
-
--- The bytes of a run are as many as were asked for, and its series stand behind others.
-abbrev pub TakesRun : List (List ℕ) → Run → List ℕ → List IndexSeries → Option (List IndexSeries) → Type 0
-TakesRun symbols run bytes series (Some all) =
-    (length bytes ≡ run.piece.len) × (more : List IndexSeries) × (each_at (numbered_at (known (part_at run.piece bytes)) symbols) run.numbers ≡ Ok more) × (all ≡ series ++ more)
-TakesRun symbols run bytes series None =
-    ((length bytes == run.piece.len) ≡ false) ⊎ IsErr (each_at (numbered_at (known (part_at run.piece bytes)) symbols) run.numbers)
-
--- the chunks of a group that were shown, up to the first that sticks out, behind those that were read before
-abbrev pub shown_first : List (ℕ × Glimpse) → List Read → List Read × List (ℕ × Glimpse)
-shown_first [] found = (found, [])
-shown_first ((reference, shows samples) ∷ chunks) found = shown_first chunks (found ++ read reference samples ∷ [])
-shown_first ((reference, sticks_out len) ∷ chunks) found = (found, (reference, sticks_out len) ∷ chunks)
+goes_after asked work cache e = Where (Holds work) (Leading (after_entry (left_at asked work cache) e))

@@ -94,7 +94,7 @@ impl<'a> BlockCall<'a> {
     {
         match step {
             Step::Wait(op, work) => {
-                self.work = work;
+                drop(mem::replace(&mut self.work, work));
                 Act::Do(op)
             }
             Step::Done(end) => Act::Done(end),

@@ -2,7 +2,6 @@
 ghost use Rattle.std.specs.Prelude.{◌≡◌, ◌+◌, ◌*◌, length, map, IfOk};
 ghost use Rattle.block_ranges.specs.Reads.{Cache};
 ghost use Rattle.block_ranges.specs.IndexReads.{reached};
-ghost use Rattle.block_ranges.specs.Asking.{query_asked, block_asked};
 ghost use Rattle.block_ranges.specs.ChunksRead.{reads_of};
 ghost use Rattle.block_ranges.specs.Glimpsed.{pending_chunk};
 ghost use Rattle.block_ranges.specs.BlockRuns.{Leading};
@@ -75,8 +74,7 @@ fn go_on_groups(
 ) -> Result<Step, NoMemory>
     ensures { (cache : Cache) → Leads asked.now cache (most * length groups.items + 1)
         (Where (AreInOrder places.items found.items (references_left groups.items))
-        (Leading (shows_groups (query_asked asked.now)
-        (block_asked asked.now) cache series.items places.items groups.items
+        (Leading (shows_groups asked.now cache series.items places.items groups.items
         (reads_of found.items)))) result }
 {
     let mut later = groups;
@@ -125,7 +123,7 @@ fn go_on_chunks(
     ensures { (cache : Cache)
         → Leads asked.now cache (most * length work.later.items + length chunks.items + 1)
         (Where (ArePending work chunks.items)
-        (Leading (shows_out (query_asked asked.now) (block_asked asked.now) cache work
+        (Leading (shows_out asked.now cache work
         (map pending_chunk chunks.items) (reads_of work.found.items)))) result }
 {
     let ChunkWork {

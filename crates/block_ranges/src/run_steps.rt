@@ -8,8 +8,8 @@ ghost use Rattle.block_ranges.specs.IndexRanges.{has_bytes};
 ghost use Rattle.block_ranges.specs.IndexReads.{reached};
 ghost use Rattle.block_ranges.specs.Asking.{query_asked, block_asked};
 ghost use Rattle.block_ranges.specs.ToRead.{run_read};
-ghost use Rattle.block_ranges.specs.WorkStates.{SelectsRuns, TakesRun, tables_in, texts_of};
-ghost use Rattle.block_ranges.specs.RunFindings.{GoesOnRuns, FindsSeries};
+ghost use Rattle.block_ranges.specs.WorkStates.{tables_in, texts_of};
+ghost use Rattle.block_ranges.specs.RunFindings.{GoesOnRuns, FindsSeries, SelectsRuns, TakesRun};
 
 use crate::asked::Asked;
 use crate::cache_reads::from_cache;

@@ -15,7 +15,7 @@ use Rattle.cleaner.specs.Marks.{is_old_mark, is_old_block}
 use Rattle.block_meta.specs.OfBlocks.{block_mark}
 use Rattle.cleaner.specs.Pages.{page_of}
 use Rattle.cleaner.specs.Cleanings.{Counts, if_mark, reads_meta, deletion, looking, none_deleted, one_block_more, listing}
-use Rattle.cleaner.specs.CleanStates.{AreBlocks, Onward, Leads, counts_of, blocks_left, blocks_after_partial, may_at, goes_after, goes_by_blocks, goes_to_blocks}
+use Rattle.cleaner.specs.CleanStates.{AreListed, Onward, Leads, counts_of, blocks_left, blocks_after_partial, may_at, goes_after, goes_by_blocks, goes_to}
 use Rattle.cleaner.specs.declared.page.Page.{Page}
 use Rattle.cleaner.specs.declared.page.Page.TheVariants as page_is
 use Rattle.cleaner.specs.declared.stage.Stage.TheVariants.{Listing, Marking, Reading}
@@ -47,10 +47,10 @@ all_wait before page names waiting added listed = added ∙ ap (λ l. l ++ ulids
 
 module _ (c : Clean) (seq : ℕ) (page : List (List ℕ)) where
   by_kind : (kind : Page) (entries : List Entry) (end : Option CleanEnd) → kind ≡ page_of c.rules.page_limit c.walk.listed c.walk.last page
-      → ((names : List (List ℕ)) (more : ℕ) → (counts_of c ≡ none_deleted) × AreBlocks c.walk c.waiting.items names more → Runs (followed kind seq (looking c.rules none_deleted (ulids_in (names ++ page))) (listing c.rules more (names ++ page))) entries end)
+      → ((names : List (List ℕ)) (more : ℕ) → (counts_of c ≡ none_deleted) × AreListed c.walk ulids_in c.waiting.items names more → Runs (followed kind seq (looking c.rules none_deleted (ulids_in (names ++ page))) (listing c.rules more (names ++ page))) entries end)
       → goes_by_blocks seq c page entries end
   by_kind kind entries end is run = λ names more blocks.
-      page_follows c.rules.page_limit seq c.walk names page more (λ all. looking c.rules none_deleted (ulids_in all)) (listing c.rules more) kind entries end blocks.1.walked is (run names more blocks)
+      page_follows ulids_in c.waiting.items c.rules.page_limit seq c.walk names page more (λ all. looking c.rules none_deleted (ulids_in all)) (listing c.rules more) kind entries end blocks.1 is (run names more blocks)
 
   pub blocks_unordered : page_is.Unordered ≡ page_of c.rules.page_limit c.walk.listed c.walk.last page → goes_by_blocks seq c page [] (Some (Damaged seq))
   blocks_unordered is = by_kind page_is.Unordered [] (Some (Damaged seq)) is (λ names more blocks. ended (Damaged seq))
@@ -65,23 +65,22 @@ module _ (c : Clean) (seq : ℕ) (page : List (List ℕ)) where
   blocks_last waiting entries end is short added run = by_kind page_is.Last entries end is (λ names more blocks.
       let no_blocks : c.blocks ≡ 0 = ap (λ (n : Counts). n.blocks) blocks.0 in
       let no_partials : c.partials ≡ 0 = ap (λ (n : Counts). n.partials) blocks.0 in
-      let all : waiting ≡ ulids_in (names ++ page) = all_wait c.waiting.items page names waiting added blocks.1.blocks in
+      let all : waiting ≡ ulids_in (names ++ page) = all_wait c.waiting.items page names waiting added blocks.1.reads in
       let many : length waiting ≤ length (names ++ page) = subst (λ l. length l ≤ length (names ++ page)) (sym all) (length-ulids_in (names ++ page)) in
       let both : length (names ++ page) ≡ length names + length page = length-append names page in
-      let few : length names < 1_000_000 = blocks.1.walked.few in
+      let few : length names < 1_000_000 = blocks.1.few in
       subst (λ n. Runs (looking c.rules n (ulids_in (names ++ page))) entries end) blocks.0
       (subst (λ l. Runs (looking c.rules (counts_of c) l) entries end) all (run (omega (arith, no_blocks, no_partials, many, both, few, short)))))
 
   -- any other page
   pub blocks_full : (walk : Walk) (waiting : List ℕ) (entries : List Entry) (end : Option CleanEnd) → page_is.Full ≡ page_of c.rules.page_limit c.walk.listed c.walk.last page
       → waiting ≡ c.waiting.items ++ ulids_in page → walk.listed ≡ c.walk.listed + length page → walk.listed < 1_000_000 → 0 < length page → walk.last ≡ last_listed page
-      → ((names : List (List ℕ)) (more : ℕ) → (counts_of c ≡ none_deleted) × AreBlocks walk waiting names more → Runs (listing c.rules (suc more) names) entries end)
+      → ((names : List (List ℕ)) (more : ℕ) → (counts_of c ≡ none_deleted) × AreListed walk ulids_in waiting names more → Runs (listing c.rules (suc more) names) entries end)
       → goes_by_blocks seq c page entries end
   blocks_full walk waiting entries end is added counted few some last run = by_kind page_is.Full entries end is (λ names more blocks.
-      let on : WalksOn walk (names ++ page) more = walks_on c.walk walk names page more blocks.1.walked counted few some last in
-      let now : AreBlocks walk waiting (names ++ page) on.one_less =
-      record { walked = on.listed; blocks = sym (all_wait c.waiting.items page names waiting added blocks.1.blocks) } in
-      subst (λ n. Runs (listing c.rules n (names ++ page)) entries end) (sym on.is) (run (names ++ page) on.one_less (blocks.0, now)))
+      let all : ulids_in (names ++ page) ≡ waiting = sym (all_wait c.waiting.items page names waiting added blocks.1.reads) in
+      let on : WalksOn walk ulids_in waiting (names ++ page) more = walks_on ulids_in c.waiting.items waiting c.walk walk names page more blocks.1 all counted few some last in
+      subst (λ n. Runs (listing c.rules n (names ++ page)) entries end) (sym on.is) (run (names ++ page) on.one_less (blocks.0, on.listed)))
 
   -- the looks are fewer than what was left before the last page
   pub blocks_last_falls : (waiting : List ℕ) → waiting ≡ c.waiting.items ++ ulids_in page → length page < 2 ^ 32
@@ -102,12 +101,12 @@ module _ (c : Clean) (seq : ℕ) (page : List (List ℕ)) where
 -- ---- the next block
 
 pub next_block : (c : Clean) (ulid : ℕ) (waiting : List ℕ) (entries : List Entry) (end : Option CleanEnd) → c.waiting.items ≡ ulid ∷ waiting
-    → (c.blocks + c.partials + length waiting + 1 ≤ 2 ^ 63 → Runs (looking c.rules (counts_of c) (ulid ∷ waiting)) entries end) → goes_to_blocks c entries end
+    → (c.blocks + c.partials + length waiting + 1 ≤ 2 ^ 63 → Runs (looking c.rules (counts_of c) (ulid ∷ waiting)) entries end) → goes_to c (blocks_left c) entries end
 next_block c ulid waiting entries end is run = λ can.
     let one_more : length c.waiting.items ≡ length (ulid ∷ waiting) = ap length is in
     subst (λ l. Runs (looking c.rules (counts_of c) l) entries end) (sym is) (run (omega (arith, can, one_more)))
 
-pub no_block : (c : Clean) → c.waiting.items ≡ [] → goes_to_blocks c [] (Some (Done c.blocks c.partials))
+pub no_block : (c : Clean) → c.waiting.items ≡ [] → goes_to c (blocks_left c) [] (Some (Done c.blocks c.partials))
 no_block c none = λ can. subst (λ l. Runs (looking c.rules (counts_of c) l) [] (Some (Done c.blocks c.partials))) (sym none) (ended (Done c.blocks c.partials))
 
 -- ---- replies to gets
@@ -161,9 +160,9 @@ module _ (c : Clean) (ulid seat : ℕ) (o : Op) (seen : Seen) where
       (λ entries end run. λ names more can. get_absent Marked Unmarked seen.seq seen.reply entries end is (run names more can)) leads
 
   pub mark_young : (bytes : List ℕ) (mark : MarkFields) (r : Result (Act CleanEnd) NoMemory) (new : Clean) → seen.reply ≡ reply.Found bytes → block_mark ulid bytes ≡ Some mark
-      → is_old_mark mark seen.moment c.rules.delete ≡ false → Leads (goes_to_blocks c) r new → Leads After_mark r new
+      → is_old_mark mark seen.moment c.rules.delete ≡ false → Leads (goes_to c (blocks_left c)) r new → Leads After_mark r new
   mark_young bytes mark r new is read young leads =
-      leads_as (goes_to_blocks c) After_mark r new
+      leads_as (goes_to c (blocks_left c)) After_mark r new
       (λ entries end run. λ names more can. get_found Marked Unmarked seen.seq seen.reply bytes entries end is
       (runs_marked seen.seq (block_mark ulid bytes) By_mark mark entries end read
       (runs_else (is_old_mark mark seen.moment c.rules.delete) _ _ entries end young (run (omega (arith, can)))))) leads
@@ -195,13 +194,13 @@ module _ (c : Clean) (ulid seat : ℕ) (o : Op) (seen : Seen) where
   pub meta_failed : (landed : Bool) → seen.reply ≡ reply.Failed landed → After_meta [] (Some (Fault seen.seq))
   meta_failed landed is = λ names more can. get_failed Kept No_meta seen.seq seen.reply landed is
 
-  pub meta_found : (bytes : List ℕ) (r : Result (Act CleanEnd) NoMemory) (new : Clean) → seen.reply ≡ reply.Found bytes → Leads (goes_to_blocks c) r new → Leads After_meta r new
+  pub meta_found : (bytes : List ℕ) (r : Result (Act CleanEnd) NoMemory) (new : Clean) → seen.reply ≡ reply.Found bytes → Leads (goes_to c (blocks_left c)) r new → Leads After_meta r new
   meta_found bytes r new is leads =
-      leads_as (goes_to_blocks c) After_meta r new (λ entries end run. λ names more can. get_found Kept No_meta seen.seq seen.reply bytes entries end is (run (omega (arith, can)))) leads
+      leads_as (goes_to c (blocks_left c)) After_meta r new (λ entries end run. λ names more can. get_found Kept No_meta seen.seq seen.reply bytes entries end is (run (omega (arith, can)))) leads
 
-  pub partial_young : (r : Result (Act CleanEnd) NoMemory) (new : Clean) → seen.reply ≡ reply.Absent → is_old_block ulid seen.moment c.rules.partial ≡ false → Leads (goes_to_blocks c) r new → Leads After_meta r new
+  pub partial_young : (r : Result (Act CleanEnd) NoMemory) (new : Clean) → seen.reply ≡ reply.Absent → is_old_block ulid seen.moment c.rules.partial ≡ false → Leads (goes_to c (blocks_left c)) r new → Leads After_meta r new
   partial_young r new is young leads =
-      leads_as (goes_to_blocks c) After_meta r new
+      leads_as (goes_to c (blocks_left c)) After_meta r new
       (λ entries end run. λ names more can. get_absent Kept No_meta seen.seq seen.reply entries end is
       (runs_else (is_old_block ulid seen.moment c.rules.partial) _ _ entries end young (run (omega (arith, can))))) leads
 

@@ -15,9 +15,9 @@ use Rattle.world_core.specs.declared.entry.Entry.{Entry}
 use Rattle.world_core.specs.declared.act.Act.{Act}
 use Rattle.cleaner.specs.Objects.{data_named, data_keys, objects_of}
 use Rattle.cleaner.specs.Pages.{page_of}
-use Rattle.cleaner.specs.Cleanings.{deleting, walking}
+use Rattle.cleaner.specs.Cleanings.{deleting, deletion, walking}
 use Rattle.world_core.specs.Leads.{after_entry}
-use Rattle.cleaner.specs.CleanStates.{AreObjects, CanCount, Onward, Leads, blocks_left, goes_after, goes_by_objects, goes_to_blocks, goes_to_delete, goes_to_objects, goes_to_deletes, first_delete, asked_at, asked_clean}
+use Rattle.cleaner.specs.CleanStates.{AreListed, CanCount, Onward, Leads, blocks_left, goes_after, goes_by_objects, goes_to, first_delete, asked_at, asked_clean}
 use Rattle.cleaner.specs.declared.page.Page.{Page}
 use Rattle.cleaner.specs.declared.page.Page.TheVariants as page_is
 use Rattle.cleaner.specs.declared.stage.Stage.TheVariants.{Walking, Deleting}
@@ -34,10 +34,10 @@ use Rattle.cleaner.proofs.Walked.{followed, page_follows, page_came, page_failed
 
 -- it begins
 pub walk_begins : (ulid : ℕ) (c : Clean) (walk : Walk) (doomed : List Key) (entries : List Entry) (end : Option CleanEnd) → walk.listed ≡ 0 → walk.last ≡ None → doomed ≡ []
-    → ((names : List (List ℕ)) (more : ℕ) → CanCount c 0 × AreObjects ulid walk doomed names more → Runs (walking c.rules ulid (blocks_left c) (suc more) names) entries end)
-    → goes_to_delete ulid c entries end
+    → ((names : List (List ℕ)) (more : ℕ) → CanCount c 0 × AreListed walk (data_keys ulid) doomed names more → Runs (walking c.rules ulid (blocks_left c) (suc more) names) entries end)
+    → goes_to c (deletion c.rules ulid (blocks_left c)) entries end
 walk_begins ulid c walk doomed entries end listed last none run = λ can.
-    run [] 999_999 (can, record { walked = record { many = sym listed; ends = sym last; few = omega arith; enough = omega arith }; objects = sym none })
+    run [] 999_999 (can, record { many = sym listed; ends = sym last; reads = sym none; few = omega arith; enough = omega arith })
 
 module _ (c : Clean) (ulid seat : ℕ) (o : Op) (seen : Seen) where
   pub objects_came : (page : List (List ℕ)) (r : Result (Act CleanEnd) NoMemory) (new : Clean) → seen.reply ≡ reply.Names page
@@ -62,10 +62,10 @@ all_doomed ulid before page names doomed added listed = added ∙ ap (λ l. l ++
 
 module _ (c : Clean) (ulid seq : ℕ) (page : List (List ℕ)) where
   by_kind : (kind : Page) (entries : List Entry) (end : Option CleanEnd) → kind ≡ page_of c.rules.page_limit c.walk.listed c.walk.last page
-      → ((names : List (List ℕ)) (more : ℕ) → CanCount c 0 × AreObjects ulid c.walk c.doomed.items names more → Runs (followed kind seq (deleting (objects_of ulid (names ++ page)) (blocks_left c)) (walking c.rules ulid (blocks_left c) more (names ++ page))) entries end)
+      → ((names : List (List ℕ)) (more : ℕ) → CanCount c 0 × AreListed c.walk (data_keys ulid) c.doomed.items names more → Runs (followed kind seq (deleting (objects_of ulid (names ++ page)) (blocks_left c)) (walking c.rules ulid (blocks_left c) more (names ++ page))) entries end)
       → goes_by_objects seq ulid c page entries end
   by_kind kind entries end is run = λ names more objects.
-      page_follows c.rules.page_limit seq c.walk names page more (λ all. deleting (objects_of ulid all) (blocks_left c)) (walking c.rules ulid (blocks_left c) more) kind entries end objects.1.walked is (run names more objects)
+      page_follows (data_keys ulid) c.doomed.items c.rules.page_limit seq c.walk names page more (λ all. deleting (objects_of ulid all) (blocks_left c)) (walking c.rules ulid (blocks_left c) more) kind entries end objects.1 is (run names more objects)
 
   pub objects_unordered : page_is.Unordered ≡ page_of c.rules.page_limit c.walk.listed c.walk.last page → goes_by_objects seq ulid c page [] (Some (Damaged seq))
   objects_unordered is = by_kind page_is.Unordered [] (Some (Damaged seq)) is (λ names more objects. ended (Damaged seq))
@@ -79,18 +79,17 @@ module _ (c : Clean) (ulid seq : ℕ) (page : List (List ℕ)) where
       → (CanCount c 0 → Runs (deleting (key.Meta ulid ∷ doomed ++ key.Mark ulid ∷ []) (blocks_left c)) entries end) → goes_by_objects seq ulid c page entries end
   objects_last doomed entries end is added run = by_kind page_is.Last entries end is (λ names more objects.
       subst (λ l. Runs (deleting (key.Meta ulid ∷ l ++ key.Mark ulid ∷ []) (blocks_left c)) entries end)
-      (all_doomed ulid c.doomed.items page names doomed added objects.1.objects) (run objects.0))
+      (all_doomed ulid c.doomed.items page names doomed added objects.1.reads) (run objects.0))
 
   -- any other page
   pub objects_full : (walk : Walk) (doomed : List Key) (entries : List Entry) (end : Option CleanEnd) → page_is.Full ≡ page_of c.rules.page_limit c.walk.listed c.walk.last page
       → doomed ≡ c.doomed.items ++ data_keys ulid page → walk.listed ≡ c.walk.listed + length page → walk.listed < 1_000_000 → 0 < length page → walk.last ≡ last_listed page
-      → ((names : List (List ℕ)) (more : ℕ) → CanCount c 0 × AreObjects ulid walk doomed names more → Runs (walking c.rules ulid (blocks_left c) (suc more) names) entries end)
+      → ((names : List (List ℕ)) (more : ℕ) → CanCount c 0 × AreListed walk (data_keys ulid) doomed names more → Runs (walking c.rules ulid (blocks_left c) (suc more) names) entries end)
       → goes_by_objects seq ulid c page entries end
   objects_full walk doomed entries end is added counted few some last run = by_kind page_is.Full entries end is (λ names more objects.
-      let on : WalksOn walk (names ++ page) more = walks_on c.walk walk names page more objects.1.walked counted few some last in
-      let now : AreObjects ulid walk doomed (names ++ page) on.one_less =
-      record { walked = on.listed; objects = sym (all_doomed ulid c.doomed.items page names doomed added objects.1.objects) } in
-      subst (λ n. Runs (walking c.rules ulid (blocks_left c) n (names ++ page)) entries end) (sym on.is) (run (names ++ page) on.one_less (objects.0, now)))
+      let all : data_keys ulid (names ++ page) ≡ doomed = sym (all_doomed ulid c.doomed.items page names doomed added objects.1.reads) in
+      let on : WalksOn walk (data_keys ulid) doomed (names ++ page) more = walks_on (data_keys ulid) c.doomed.items doomed c.walk walk names page more objects.1 all counted few some last in
+      subst (λ n. Runs (walking c.rules ulid (blocks_left c) n (names ++ page)) entries end) (sym on.is) (run (names ++ page) on.one_less (objects.0, on.listed)))
 
   pub objects_last_falls : (doomed : List Key) → doomed ≡ c.doomed.items ++ data_keys ulid page → length page < 2 ^ 32
       → 2 ^ 34 * length c.waiting.items + length doomed + 4 ≤ 2 ^ 34 * length c.waiting.items + 2 * (1_000_000 - c.walk.listed) + length c.doomed.items + 2 ^ 33
@@ -109,11 +108,11 @@ module _ (c : Clean) (ulid seq : ℕ) (page : List (List ℕ)) where
 
 -- ---- the deletes
 
-pub no_object : (c : Clean) (entries : List Entry) (end : Option CleanEnd) → c.doomed.items ≡ [] → goes_to_blocks c entries end → goes_to_deletes c entries end
+pub no_object : (c : Clean) (entries : List Entry) (end : Option CleanEnd) → c.doomed.items ≡ [] → goes_to c (blocks_left c) entries end → goes_to c (deleting c.doomed.items (blocks_left c)) entries end
 no_object c entries end none run = λ can. subst (λ l. Runs (deleting l (blocks_left c)) entries end) (sym none) (run can)
 
 pub objects_begin : (c : Clean) (ulid : ℕ) (doomed : List Key) (entries : List Entry) (end : Option CleanEnd) → doomed ≡ key.Meta ulid ∷ c.doomed.items ++ key.Mark ulid ∷ []
-    → (CanCount c 0 → Runs (deleting doomed (blocks_left c)) entries end) → goes_to_objects ulid c entries end
+    → (CanCount c 0 → Runs (deleting doomed (blocks_left c)) entries end) → goes_to c (deleting (key.Meta ulid ∷ c.doomed.items ++ key.Mark ulid ∷ []) (blocks_left c)) entries end
 objects_begin c ulid doomed entries end is run = λ can. subst (λ l. Runs (deleting l (blocks_left c)) entries end) is (run can)
 
 -- the object whose delete is waited for, and those after it

@@ -29,10 +29,10 @@ asked_first (key ∷ keys) next o is = is
 -- what is left begins with the operation that is waited for
 asked_left : (stage : Stage) (c : Clean) (names : List (List ℕ)) (more : ℕ) (o : Op) → HasListed stage c names more → asked_at stage c ≡ Some o → asked (left_at stage c names more) ≡ Some o
 asked_left Fresh c names more o listed is = absurd (cc (is))
-asked_left Listing c names more o listed is = ap (λ l. Some (op.RootPage (unwrap_or l []) c.rules.page_limit)) listed.1.walked.ends ∙ is
+asked_left Listing c names more o listed is = ap (λ l. Some (op.RootPage (unwrap_or l []) c.rules.page_limit)) listed.1.ends ∙ is
 asked_left (Marking ulid) c names more o listed is = is
 asked_left (Reading ulid) c names more o listed is = is
-asked_left (Walking ulid) c names more o listed is = ap (λ l. Some (op.BlockPage ulid (unwrap_or l []) c.rules.page_limit)) listed.1.walked.ends ∙ is
+asked_left (Walking ulid) c names more o listed is = ap (λ l. Some (op.BlockPage ulid (unwrap_or l []) c.rules.page_limit)) listed.1.ends ∙ is
 asked_left Deleting c names more o listed is = asked_first c.doomed.items (blocks_left c) o is
 
 -- ---- calls

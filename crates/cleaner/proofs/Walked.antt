@@ -34,11 +34,11 @@ by_tests true false true seq last more entries end run = run
 by_tests true false false seq last more entries end run = run
 
 -- it is the page that the walk makes of it
-pub page_follows : (limit seq : ℕ) (walk : Walk) (names page : List (List ℕ)) (left : ℕ) (next others : List (List ℕ) → Plan CleanEnd) (kind : Page) (entries : List Entry) (end : Option CleanEnd)
-    → AreListed walk names left → kind ≡ page_of limit walk.listed walk.last page
+pub page_follows : {A : Type 0} (read : List (List ℕ) → List A) (kept : List A) (limit seq : ℕ) (walk : Walk) (names page : List (List ℕ)) (left : ℕ) (next others : List (List ℕ) → Plan CleanEnd) (kind : Page) (entries : List Entry) (end : Option CleanEnd)
+    → AreListed walk read kept names left → kind ≡ page_of limit walk.listed walk.last page
     → Runs (followed kind seq (next (names ++ page)) (others (names ++ page))) entries end
     → Runs (after_page walk_ends limit names seq (reply.Names page) next others) entries end
-page_follows limit seq walk names page left next others kind entries end listed is run =
+page_follows read kept limit seq walk names page left next others kind entries end listed is run =
     let all : length (names ++ page) ≡ walk.listed + length page = length-append names page ∙ ap (λ n. n + length page) listed.many in
     let same : page_of limit walk.listed walk.last page ≡ page_by (ascends (last_listed names) page) (nat_lt (length page) limit) (nat_le most_listed (length (names ++ page))) =
     ap (λ l. page_by (ascends l page) (nat_lt (length page) limit) (nat_le most_listed (walk.listed + length page))) (sym listed.ends)
@@ -58,20 +58,20 @@ page_failed limit seq names next others given landed is =
     subst (λ r. Runs (after_page walk_ends limit names seq r next others) [] (Some (Fault seq))) (sym is) (ended (Fault seq))
 
 -- the walk after a page that another follows
-pub record WalksOn (new : Walk) (names : List (List ℕ)) (left : ℕ) : Type 0 where
+pub record WalksOn {A : Type 0} (new : Walk) (read : List (List ℕ) → List A) (kept : List A) (names : List (List ℕ)) (left : ℕ) : Type 0 where
   pub one_less : ℕ
   pub is : left ≡ suc one_less
-  pub listed : AreListed new names one_less
+  pub listed : AreListed new read kept names one_less
 
-pub walks_on : (walk new : Walk) (names page : List (List ℕ)) (left : ℕ) → AreListed walk names left
+pub walks_on : {A : Type 0} (read : List (List ℕ) → List A) (before kept : List A) (walk new : Walk) (names page : List (List ℕ)) (left : ℕ) → AreListed walk read before names left → read (names ++ page) ≡ kept
     → new.listed ≡ walk.listed + length page → new.listed < 1_000_000 → 0 < length page → new.last ≡ last_listed page
-    → WalksOn new (names ++ page) left
-walks_on walk new names page left listed counted few some last =
+    → WalksOn new read kept (names ++ page) left
+walks_on {A} read before kept walk new names page left listed reads counted few some last =
     let both : length (names ++ page) ≡ length names + length page = length-append names page in
     let many : length (names ++ page) ≡ new.listed = both ∙ ap (λ n. n + length page) listed.many ∙ sym counted in
     less left listed.enough both many
   where
-    less : (left : ℕ) → 1_000_000 ≤ length names + suc left → length (names ++ page) ≡ length names + length page → length (names ++ page) ≡ new.listed → WalksOn new (names ++ page) left
+    less : (left : ℕ) → 1_000_000 ≤ length names + suc left → length (names ++ page) ≡ length names + length page → length (names ++ page) ≡ new.listed → WalksOn new read kept (names ++ page) left
     less zero enough both many = absurd (omega (arith, enough, both, many, few, some))
     less (suc n) enough both many = record {
       one_less = n;
@@ -79,6 +79,7 @@ walks_on walk new names page left listed counted few some last =
       listed = record {
         many = many;
         ends = last_listed-append names page some ∙ sym last;
+        reads = reads;
         few = omega (arith, many, few);
         enough = omega (arith, enough, both, some);
       };

@@ -1,6 +1,5 @@
--- What is left of a cleaning in each of its states. The machine's steps alone speak of this. What a cleaning is from its start on,
--- Cleanings says.
-use Rattle.std.specs.Prelude.{◌≡◌, ℕ, suc, ◌+◌, ◌-◌, ◌*◌, ◌^◌, ◌≤◌, ◌<◌, List, [], ◌∷◌, ◌++◌, length, Option, Some, None, unwrap_or, Result}
+-- The plan at which a cleaning stands in each of its states. The machine's steps alone speak of this.
+use Rattle.std.specs.Prelude.{◌≡◌, ℕ, suc, ◌+◌, ◌-◌, ◌*◌, ◌^◌, ◌≤◌, ◌<◌, List, [], ◌∷◌, length, Option, Some, None, unwrap_or, Result}
 use Rattle.list_core.specs.declared.memory.NoMemory.{NoMemory}
 use Rattle.block_keys.specs.declared.key.Key.{Key}
 use Rattle.block_keys.specs.declared.key.Key.TheVariants as key
@@ -22,26 +21,19 @@ use Rattle.cleaner.specs.declared.stage.Stage.TheVariants.{Fresh, Listing, Marki
 use Rattle.cleaner.specs.declared.walk.Walk.{Walk}
 use Rattle.cleaner.specs.declared.clean.Clean.{Clean}
 
--- it was not begun
-abbrev pub IsFresh : Clean → Type 0
-IsFresh clean = clean.stage ≡ Fresh
-
--- the name after which a walk's next page begins
-abbrev pub cursor_of : Walk → List ℕ
-cursor_of walk = unwrap_or walk.last []
+-- ---- what it waits for
 
 -- the delete of the first object
 abbrev pub first_delete : List Key → Option Op
 first_delete [] = None
 first_delete (object ∷ objects) = Some (op.Delete object)
 
--- the operation that is waited for
 abbrev pub asked_at : Stage → Clean → Option Op
 asked_at Fresh clean = None
-asked_at Listing clean = Some (op.RootPage (cursor_of clean.walk) clean.rules.page_limit)
+asked_at Listing clean = Some (op.RootPage (unwrap_or clean.walk.last []) clean.rules.page_limit)
 asked_at (Marking ulid) clean = Some (op.Get (key.Mark ulid))
 asked_at (Reading ulid) clean = Some (op.Get (key.Meta ulid))
-asked_at (Walking ulid) clean = Some (op.BlockPage ulid (cursor_of clean.walk) clean.rules.page_limit)
+asked_at (Walking ulid) clean = Some (op.BlockPage ulid (unwrap_or clean.walk.last []) clean.rules.page_limit)
 asked_at Deleting clean = first_delete clean.doomed.items
 
 abbrev pub asked_clean : Clean → Option Op
@@ -69,10 +61,14 @@ left_at (Reading ulid) clean names more = reads_meta clean.rules ulid (blocks_le
 left_at (Walking ulid) clean names more = walking clean.rules ulid (blocks_left clean) (suc more) names
 left_at Deleting clean names more = deleting clean.doomed.items (blocks_left clean)
 
--- A cleaning keeps of the names that a walk listed how many there were and the last one. It does not count pages.
-pub record AreListed (walk : Walk) (names : List (List ℕ)) (more : ℕ) : Type 0 where
+-- ---- what it keeps of the names
+
+-- A cleaning keeps of the names that a walk listed how many there were, the last one, and what it reads in them: of the names of
+-- blocks the ULIDs, of a block's names the keys of its segments and its index. It does not count pages.
+pub record AreListed {A : Type 0} (walk : Walk) (read : List (List ℕ) → List A) (kept : List A) (names : List (List ℕ)) (more : ℕ) : Type 0 where
   pub many : length names ≡ walk.listed
   pub ends : last_listed names ≡ walk.last
+  pub reads : read names ≡ kept
   pub few : length names < most_listed
   -- each page lists a name at least, and so does the next one
   pub enough : most_listed ≤ length names + suc more
@@ -81,23 +77,13 @@ pub record AreListed (walk : Walk) (names : List (List ℕ)) (more : ℕ) : Type
 abbrev pub CanCount : Clean → ℕ → Type 0
 CanCount clean here = clean.blocks + clean.partials + length clean.waiting.items + here ≤ 2 ^ 63
 
--- of the names of blocks it keeps beside the ULIDs among them
-pub record AreBlocks (walk : Walk) (waiting : List ℕ) (names : List (List ℕ)) (more : ℕ) : Type 0 where
-  pub walked : AreListed walk names more
-  pub blocks : ulids_in names ≡ waiting
-
--- of a block's names it keeps beside the keys of the segments and the index among them
-pub record AreObjects (ulid : ℕ) (walk : Walk) (doomed : List Key) (names : List (List ℕ)) (more : ℕ) : Type 0 where
-  pub walked : AreListed walk names more
-  pub objects : data_keys ulid names ≡ doomed
-
 -- the names that were listed may be these, and the pages that follow so many
 abbrev pub HasListed : Stage → Clean → List (List ℕ) → ℕ → Type 0
-HasListed Fresh clean names more = (counts_of clean ≡ none_deleted) × AreBlocks clean.walk clean.waiting.items names more
-HasListed Listing clean names more = (counts_of clean ≡ none_deleted) × AreBlocks clean.walk clean.waiting.items names more
+HasListed Fresh clean names more = (counts_of clean ≡ none_deleted) × AreListed clean.walk ulids_in clean.waiting.items names more
+HasListed Listing clean names more = (counts_of clean ≡ none_deleted) × AreListed clean.walk ulids_in clean.waiting.items names more
 HasListed (Marking ulid) clean names more = CanCount clean 1
 HasListed (Reading ulid) clean names more = CanCount clean 1
-HasListed (Walking ulid) clean names more = CanCount clean 0 × AreObjects ulid clean.walk clean.doomed.items names more
+HasListed (Walking ulid) clean names more = CanCount clean 0 × AreListed clean.walk (data_keys ulid) clean.doomed.items names more
 HasListed Deleting clean names more = CanCount clean 0
 
 -- ---- what it may still do
@@ -106,49 +92,34 @@ HasListed Deleting clean names more = CanCount clean 0
 abbrev pub Onward : Type 1
 Onward = List Entry → Option CleanEnd → Type 0
 
--- a run of what is left in a stage, whatever names were listed
+-- in a stage a run of a plan, whatever names were listed
+abbrev pub RunsIn : Stage → Clean → (List (List ℕ) → ℕ → Plan CleanEnd) → Onward
+RunsIn stage clean plan entries end = (names : List (List ℕ)) (more : ℕ) → HasListed stage clean names more → Runs (plan names more) entries end
+
+-- of what is left there
 abbrev pub may_at : Stage → Clean → Onward
-may_at stage clean entries end =
-    (names : List (List ℕ)) (more : ℕ) → HasListed stage clean names more → Runs (left_at stage clean names more) entries end
+may_at stage clean = RunsIn stage clean (left_at stage clean)
 
 abbrev pub may_clean : Clean → List Entry → Option CleanEnd → Clean → Type 0
 may_clean clean entries end last = may_at clean.stage clean entries end
 
--- ---- calls
-
--- a run of what is left after the entry that was waited for
+-- of what follows the entry that was waited for
 abbrev pub goes_after : Stage → Clean → Entry → Onward
-goes_after stage clean e entries end =
-    (names : List (List ℕ)) (more : ℕ) → HasListed stage clean names more → Runs (after_entry (left_at stage clean names more) e) entries end
+goes_after stage clean e = RunsIn stage clean (λ names more. after_entry (left_at stage clean names more) e)
 
--- a run of what is left after a page of these names, which came at the entry of that number
+-- of what follows a page of these names, which came at the entry of that number
 abbrev pub goes_by_blocks : ℕ → Clean → List (List ℕ) → Onward
-goes_by_blocks seq clean page entries end =
-    (names : List (List ℕ)) (more : ℕ) → HasListed Listing clean names more
-    → Runs (after_page walk_ends clean.rules.page_limit names seq (reply.Names page) (λ all. looking clean.rules none_deleted (ulids_in all)) (listing clean.rules more)) entries end
+goes_by_blocks seq clean page = RunsIn Listing clean (λ names more.
+    after_page walk_ends clean.rules.page_limit names seq (reply.Names page) (λ all. looking clean.rules none_deleted (ulids_in all)) (listing clean.rules more))
 
 -- the same of a block's names
 abbrev pub goes_by_objects : ℕ → ℕ → Clean → List (List ℕ) → Onward
-goes_by_objects seq ulid clean page entries end =
-    (names : List (List ℕ)) (more : ℕ) → HasListed (Walking ulid) clean names more
-    → Runs (after_page walk_ends clean.rules.page_limit names seq (reply.Names page) (λ all. deleting (objects_of ulid all) (blocks_left clean)) (walking clean.rules ulid (blocks_left clean) more)) entries end
+goes_by_objects seq ulid clean page = RunsIn (Walking ulid) clean (λ names more.
+    after_page walk_ends clean.rules.page_limit names seq (reply.Names page) (λ all. deleting (objects_of ulid all) (blocks_left clean)) (walking clean.rules ulid (blocks_left clean) more))
 
--- a run of the looks at the blocks that wait
-abbrev pub goes_to_blocks : Clean → Onward
-goes_to_blocks clean entries end = CanCount clean 0 → Runs (blocks_left clean) entries end
-
--- a run of the deletion of a block, and then of the looks
-abbrev pub goes_to_delete : ℕ → Clean → Onward
-goes_to_delete ulid clean entries end = CanCount clean 0 → Runs (deletion clean.rules ulid (blocks_left clean)) entries end
-
--- a run of the deletes of a block's objects, of which these are the segments and the index, and then of the looks
-abbrev pub goes_to_objects : ℕ → Clean → Onward
-goes_to_objects ulid clean entries end =
-    CanCount clean 0 → Runs (deleting (key.Meta ulid ∷ clean.doomed.items ++ key.Mark ulid ∷ []) (blocks_left clean)) entries end
-
--- a run of the deletes that are left of a block, and then of the looks
-abbrev pub goes_to_deletes : Clean → Onward
-goes_to_deletes clean entries end = CanCount clean 0 → Runs (deleting clean.doomed.items (blocks_left clean)) entries end
+-- a run of a plan, where the counts hold what the blocks that wait may add
+abbrev pub goes_to : Clean → Plan CleanEnd → Onward
+goes_to clean plan entries end = CanCount clean 0 → Runs plan entries end
 
 -- a call goes on as may follow
 abbrev pub Leads : Onward → Result (Act CleanEnd) NoMemory → Clean → Type 0

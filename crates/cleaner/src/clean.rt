@@ -1,10 +1,11 @@
-ghost use Rattle.std.specs.Prelude.{◌≡◌, ◌+◌, ◌-◌, ◌*◌, ◌≤◌, ℕ, List, [], length, Option, Some, IfOk, IsTrue, IsSomeAnd};
+ghost use Rattle.std.specs.Prelude.{◌≡◌, ◌+◌, ◌-◌, ◌*◌, ◌≤◌, ℕ, List, [], ◌∷◌, ◌++◌, length, Option, Some, IfOk, IsTrue, IsSomeAnd};
 ghost use Rattle.world_core.specs.Machines.{GoesOn, Falls};
 ghost use Rattle.world_core.specs.Operations.{IsAnswer, entry_of};
 ghost use Rattle.world_core.specs.declared.op.Op.{Op};
 ghost use Rattle.world_core.specs.declared.entry.Entry.{Entry};
+ghost use Rattle.block_keys.specs.declared.key.Key.TheVariants as key;
 ghost use Rattle.cleaner.specs.Objects.{have_lawful_keys};
-ghost use Rattle.cleaner.specs.Cleanings.{CleanRun};
+ghost use Rattle.cleaner.specs.Cleanings.{CleanRun, deleting, deletion};
 ghost use Rattle.cleaner.specs.declared.clean_end.CleanEnd.{CleanEnd};
 
 use crate::CleanEnd;
@@ -45,7 +46,7 @@ pub struct Clean {
 }
 
 impl Clean {
-    ghost use Rattle.cleaner.specs.CleanStates.{asked_clean, may_at, goes_after, goes_by_blocks, goes_by_objects, goes_to_blocks, goes_to_delete, goes_to_objects, goes_to_deletes, Leads, most_asked, count_at, count_of};
+    ghost use Rattle.cleaner.specs.CleanStates.{asked_clean, may_at, goes_after, blocks_left, goes_by_blocks, goes_by_objects, goes_to, Leads, most_asked, count_at, count_of};
 
     /// Begins a cleaning. It takes no memory today.
     pub fn start(alloc: Global, rules: &Rules) -> Result<Clean, NoMemory>
@@ -119,7 +120,7 @@ impl Clean {
 
     /// Asks for the mark of the next block, or ends where there is none.
     fn look_next(&mut self) -> Result<Act<CleanEnd>, NoMemory>
-        ensures leads { Leads (goes_to_blocks self.old) result self.new }
+        ensures leads { Leads (goes_to self.old (blocks_left self.old)) result self.new }
         ensures falls { Falls (most_asked * length self.old.waiting.items + 1) result
             (count_of self.new) }
     {
@@ -194,7 +195,9 @@ impl Clean {
 
     /// Begins the deletion of a block.
     fn delete_block(&mut self, ulid: Ulid) -> Result<Act<CleanEnd>, NoMemory>
-        ensures leads { Leads (goes_to_delete ulid self.old) result self.new }
+        ensures leads { Leads
+            (goes_to self.old (deletion self.old.rules ulid (blocks_left self.old))) result
+            self.new }
         ensures falls { Falls (count_at (Stage.Reading ulid) self.old) result (count_of self.new) }
     {
         self.walk = Walk::new();
@@ -261,7 +264,9 @@ impl Clean {
 
     /// Begins the deletes of a block's objects: its meta, its segments and its index, and last its mark.
     fn delete_objects(&mut self, ulid: Ulid) -> Result<Act<CleanEnd>, NoMemory>
-        ensures leads { Leads (goes_to_objects ulid self.old) result self.new }
+        ensures leads { Leads (goes_to self.old
+            (deleting (key.Meta ulid ∷ self.old.doomed.items ++ key.Mark ulid ∷ [])
+            (blocks_left self.old))) result self.new }
         ensures falls { Falls (most_asked * length self.old.waiting.items
             + length self.old.doomed.items + 4) result (count_of self.new) }
     {
@@ -290,7 +295,9 @@ impl Clean {
 
     /// Asks for the delete of the next object, or goes on to the next block where there is none.
     fn delete_next(&mut self) -> Result<Act<CleanEnd>, NoMemory>
-        ensures leads { Leads (goes_to_deletes self.old) result self.new }
+        ensures leads { Leads
+            (goes_to self.old (deleting self.old.doomed.items (blocks_left self.old))) result
+            self.new }
         ensures falls { Falls
             (most_asked * length self.old.waiting.items + length self.old.doomed.items + 2)
             result (count_of self.new) }
@@ -308,7 +315,8 @@ impl Clean {
 impl Machine for Clean {
     type End = CleanEnd;
 
-    ghost use Rattle.cleaner.specs.CleanStates.{IsFresh, may_clean, asked_clean, count_of};
+    ghost use Rattle.cleaner.specs.CleanStates.{may_clean, asked_clean, count_of};
+    ghost use Rattle.cleaner.specs.declared.stage.Stage.TheVariants.{Fresh};
 
     ghost may = { may_clean };
 
@@ -316,7 +324,7 @@ impl Machine for Clean {
 
     ghost measure = { count_of };
 
-    ghost fresh = { IsFresh };
+    ghost fresh = { λ clean. clean.stage ≡ Fresh };
 
     fn first(&mut self) -> Result<Act<CleanEnd>, NoMemory> {
         self.ask_blocks()

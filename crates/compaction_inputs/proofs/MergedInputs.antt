@@ -1,13 +1,11 @@
 -- What becomes of blocks that were read.
-use Rattle.std.proofs.Common.{◌≡◌, ◌≤◌, ℕ, suc, List, [], ◌∷◌, map, length, refl, ap, subst, ◌∙◌, arith}
-use Rattle.std.specs.List.{AllByRecursion, AllZip}
+use Rattle.std.proofs.Common.{◌≡◌, ◌≤◌, ℕ, suc, List, [], ◌∷◌, map, length, refl, ap, ◌∙◌, arith}
+use Rattle.std.specs.List.{AllZip}
 use Rattle.label_sets.specs.declared.label.Label.{Label}
 use Rattle.block_meta.specs.declared.meta.Meta.{Meta}
 use Rattle.block_meta.specs.declared.block_plan.BlockPlan.{BlockPlan}
 use Rattle.block_files.specs.declared.block_files.BlockFiles.{BlockFiles}
 use Rattle.vertical_merge.specs.Compacted.{IsCompactedPlan}
-use Rattle.block_merging.specs.Inputs.{LiesWithin}
-use Rattle.block_merging.proofs.PlansFit.{compacted_lie}
 use Rattle.compaction_inputs.specs.Inputs.{IsInput}
 use Rattle.block_writing.specs.WrittenMeta.{meta_with}
 use Rattle.block_meta.specs.MetaFields.{MetaFields}
@@ -15,21 +13,18 @@ use Rattle.compaction_inputs.specs.Merges.{Given, IsMerging}
 use Rattle.compaction_inputs.specs.declared.merging.Merging.TheVariants.{Merged}
 use Rattle.compaction_inputs.specs.declared.input.Input.{Input}
 
-same_count : (inputs : List Input) (blocks : List BlockFiles) → AllZip IsInput inputs blocks → length (map (λ (b : BlockFiles). b.meta) blocks) ≡ length inputs
+same_count : (inputs : List Input) (blocks : List BlockFiles) → AllZip IsInput inputs blocks → length blocks ≡ length inputs
 same_count [] [] are = refl
 same_count [] (b ∷ bs) are = absurd are
 same_count (i ∷ inputs) [] are = absurd are
 same_count (i ∷ inputs) (b ∷ bs) are = ap (λ n. suc n) (same_count inputs bs are.1)
 
-pub metas_many : (inputs : List Input) (blocks : List BlockFiles) (metas : List Meta) → AllZip IsInput inputs blocks → metas ≡ map (λ (b : BlockFiles). b.meta) blocks → 2 ≤ length inputs → 2 ≤ length metas
-metas_many inputs blocks metas are made many = omega (arith, many, ap length made, same_count inputs blocks are)
+pub blocks_many : (inputs : List Input) (blocks : List BlockFiles) → AllZip IsInput inputs blocks → 2 ≤ length inputs → 2 ≤ length blocks
+blocks_many inputs blocks are many = omega (arith, many, same_count inputs blocks are)
 
-abbrev pub given_so : (inputs : List Input) (blocks : List BlockFiles) (metas : List Meta) (ulid : ℕ) (labels : List Label) (plan : BlockPlan) → AllZip IsInput inputs blocks → metas ≡ map (λ (b : BlockFiles). b.meta) blocks
-    → IsCompactedPlan metas ulid labels plan → Given ulid labels inputs
-given_so inputs blocks metas ulid labels plan are made planned = record { blocks = blocks; read = are; plan = plan; planned = subst (λ (l : List Meta). IsCompactedPlan l ulid labels plan) made planned }
-
-pub lie_so : (blocks : List BlockFiles) (metas : List Meta) (ulid : ℕ) (labels : List Label) (plan : BlockPlan) → metas ≡ map (λ (b : BlockFiles). b.meta) blocks → IsCompactedPlan metas ulid labels plan → AllByRecursion (LiesWithin plan) blocks
-lie_so blocks metas ulid labels plan made planned = compacted_lie blocks ulid labels plan (subst (λ (l : List Meta). IsCompactedPlan l ulid labels plan) made planned)
+abbrev pub given_so : (inputs : List Input) (blocks : List BlockFiles) (ulid : ℕ) (labels : List Label) (plan : BlockPlan) → AllZip IsInput inputs blocks
+    → IsCompactedPlan (map (λ (b : BlockFiles). b.meta) blocks) ulid labels plan → Given ulid labels inputs
+given_so inputs blocks ulid labels plan are planned = record { blocks = blocks; read = are; plan = plan; planned = planned }
 
 pub merged_ulid : (replicas : List (List ℕ)) (ulid : ℕ) (labels : List Label) (inputs : List Input) (block : BlockFiles) → IsMerging replicas ulid labels inputs (Merged block) → block.meta.ulid ≡ ulid
 unfolding meta_with

@@ -1,7 +1,8 @@
 -- How many operations the reads of blocks ask for.
 use Rattle.std.proofs.Common.{ℕ, ◌^◌, ◌<◌, ◌≤◌, length, arith}
 use Rattle.compaction_inputs.specs.ReadRoom.{last_segment}
-use Rattle.compaction_inputs.specs.ReadStates.{count_at, count_of}
+use Rattle.compaction_inputs.specs.ReadStates.{count_at}
+use Rattle.compaction_inputs.specs.contracts.reads.ReadsMachine.TheImpl.{ghosts}
 use Rattle.compaction_inputs.specs.declared.read_stage.ReadStage.{ReadStage}
 use Rattle.compaction_inputs.specs.declared.read_stage.ReadStage.TheVariants.{Fresh, Indexing, Segmenting, Over}
 use Rattle.compaction_inputs.specs.declared.reads.Reads.{Reads}
@@ -13,5 +14,5 @@ reads_at (Segmenting input more) waiting room few = omega (arith, room, few)
 reads_at Over waiting room few = omega (arith, few)
 
 -- they are fewer than so many
-pub reads_few : (r : Reads) → count_of r < 2 ^ 100
+pub reads_few : (r : Reads) → ghosts.measure r < 2 ^ 100
 reads_few r = reads_at r.stage (length r.waiting.items) r.room (omega (arith, r.waiting.ok.0, r.waiting.small.0, r.waiting.small.1))

@@ -6,17 +6,18 @@ use Rattle.block_keys.specs.declared.key.Key.TheVariants as key
 use Rattle.block_meta.specs.declared.meta.Meta.{Meta}
 use Rattle.world_core.specs.Machines.{GoesOn}
 use Rattle.world_core.specs.Operations.{entry_of}
-use Rattle.world_core.specs.Plans.{Plan, Runs, ends, and_then, after_get, asked}
+use Rattle.world_core.specs.Plans.{Plan, ends, and_then, after_get, asked}
 use Rattle.world_core.specs.declared.op.Op.{Op}
 use Rattle.world_core.specs.declared.seen.Seen.{Seen}
 use Rattle.world_core.specs.declared.reply.Reply.TheVariants.{Found}
 use Rattle.world_core.specs.declared.entry.Entry.{Entry}
 use Rattle.world_core.specs.declared.act.Act.{Act}
 use Rattle.world_core.specs.declared.act.Act.TheVariants as act
-use Rattle.world_core.specs.Leads.{after_entry, LeadsBy}
+use Rattle.world_core.specs.Leads.{after_entry, does, LeadsBy}
 use Rattle.compaction_inputs.specs.Named.{named_segments}
-use Rattle.compaction_inputs.specs.Reading.{ReadEnds, read_at, reads, reads_segments, after_index, reads_block, reads_blocks, read_ends, all_read, blocks_after, block_of}
+use Rattle.compaction_inputs.specs.Reading.{ReadEnds, read_at, reads, reads_segments, after_index, reads_block, reads_blocks, read_ends, all_read, blocks_after, block_of, FitsEnd}
 use Rattle.compaction_inputs.specs.ReadStates.{input_of, segments_of, segment_of, left_at, left_of, may_read, asked_at, asked_read, Fits}
+use Rattle.compaction_inputs.specs.contracts.reads.ReadsMachine.TheImpl.{ghosts}
 use Rattle.compaction_inputs.specs.declared.input.Input.{Input}
 use Rattle.compaction_inputs.specs.declared.input.Read.{Read}
 use Rattle.compaction_inputs.specs.declared.read_stage.ReadStage.{ReadStage}
@@ -25,6 +26,7 @@ use Rattle.compaction_inputs.specs.declared.reads.Reads.{Reads}
 use Rattle.compaction_inputs.specs.declared.reads_end.ReadsEnd.{ReadsEnd}
 use Rattle.compaction_inputs.specs.declared.reads_end.ReadsEnd.TheVariants as read
 use Rattle.world_core.proofs.LeadSteps.{opens_by, steps_by}
+use Rattle.world_core.proofs.PlanLaws.{answered, breaks_off}
 use Rattle.world_core.proofs.PlanWords.{gets_then}
 
 -- what is left begins with the operation that is waited for
@@ -37,12 +39,20 @@ asked_as Over inputs waiting o is = absurd (cc (is))
 pub asked_left : (reads : Reads) (o : Op) → asked_read reads ≡ Some o → asked (left_of reads) ≡ Some o
 asked_left reads o is = asked_as reads.stage reads.inputs reads.waiting.items o is
 
-abbrev plain : Reads → List Entry → Option ReadsEnd → Reads → Type 0
-plain reads entries end last = Runs (left_of reads) entries end
+-- they may be stopped wherever they stand, and as soon as their operation is answered
+pub rests : (r : Reads) → ghosts.may r [] None r
+rests r = (breaks_off (left_of r), tt)
+
+pub answers : (r : Reads) (seat : ℕ) (o : Op) (seen : Seen) → ghosts.asked r ≡ Some o → ghosts.may r (entry_of seat o seen ∷ []) None r
+answers r seat o seen is = (answered (left_of r) (entry_of seat o seen) (asked_left r o is), tt)
+
+-- they come to an end that may be merged
+pub ends_fit : (old new : Reads) (made : List Entry) (came : ReadsEnd) → ghosts.may old made (Some came) new → FitsEnd came
+ends_fit old new made came may = may.1
 
 module _ (old new : Reads) where
   -- and comes to an end upon which an upload may follow
-  fitted : (made : List Entry) (r : Result (Act ReadsEnd) NoMemory) → GoesOn plain asked_read old made r new → Fits r → GoesOn may_read asked_read old made r new
+  fitted : (made : List Entry) (r : Result (Act ReadsEnd) NoMemory) → GoesOn (does left_of) asked_read old made r new → Fits r → GoesOn may_read asked_read old made r new
   fitted made (Ok (act.Do op)) goes fits = record {
     lawful = goes.lawful;
     waits = goes.waits;

@@ -1,7 +1,5 @@
--- What is left of the reads of blocks in each of their states. The machine's steps alone speak of this. What the reads are from
--- their start on, Reading says.
-use Rattle.std.specs.Prelude.{◌≡◌, ℕ, ◌+◌, ◌*◌, ◌<◌, ◌≤◌, ◌^◌, List, [], ◌∷◌, ◌++◌, length, Option, Some, None, Result, Ok, Err}
-use Rattle.std.specs.List.{AllByRecursion}
+-- The plan at which the reads of blocks stand in each of their states. The machine's steps alone speak of this.
+use Rattle.std.specs.Prelude.{ℕ, ◌+◌, ◌*◌, List, [], ◌∷◌, ◌++◌, length, Option, Some, None, IfSome, Result, Ok, Err}
 use Rattle.list_core.specs.declared.memory.NoMemory.{NoMemory}
 use Rattle.block_keys.specs.declared.key.Key.TheVariants as key
 use Rattle.block_meta.specs.declared.meta.Meta.{Meta}
@@ -11,16 +9,13 @@ use Rattle.world_core.specs.declared.op.Op.TheVariants as op
 use Rattle.world_core.specs.declared.entry.Entry.{Entry}
 use Rattle.world_core.specs.declared.act.Act.{Act}
 use Rattle.world_core.specs.declared.act.Act.TheVariants as act
-use Rattle.compaction_inputs.specs.Reading.{read_at, reads, reads_segments, read_ends, blocks_after, block_of}
-use Rattle.compaction_inputs.specs.Inputs.{HasFew}
+use Rattle.compaction_inputs.specs.Reading.{read_at, reads, reads_segments, read_ends, blocks_after, block_of, FitsEnd}
 use Rattle.compaction_inputs.specs.declared.input.Input.{Input}
 use Rattle.compaction_inputs.specs.declared.input.Read.{Read}
 use Rattle.compaction_inputs.specs.declared.read_stage.ReadStage.{ReadStage}
 use Rattle.compaction_inputs.specs.declared.read_stage.ReadStage.TheVariants.{Fresh, Indexing, Segmenting, Over}
 use Rattle.compaction_inputs.specs.declared.reads.Reads.{Reads}
-use Rattle.compaction_inputs.specs.declared.reads_end.Gathered.{Gathered}
 use Rattle.compaction_inputs.specs.declared.reads_end.ReadsEnd.{ReadsEnd}
-use Rattle.compaction_inputs.specs.declared.reads_end.ReadsEnd.TheVariants as read
 
 -- what follows the segments of a block
 abbrev pub input_of : List Input → List Meta → Input → List Read → Entry → Plan ReadsEnd
@@ -45,29 +40,9 @@ left_at Over inputs waiting = never
 abbrev pub left_of : Reads → Plan ReadsEnd
 left_of reads = left_at reads.stage reads.inputs reads.waiting.items
 
--- it was not begun
-abbrev pub IsFresh : Reads → Type 0
-IsFresh reads = (meta : Meta) × (reads.stage ≡ Fresh meta)
-
--- the blocks that were read may be merged into one, and its upload may follow the last entry, whose moment fits a ULID
-pub record MayMerge (all : Gathered) : Type 0 where
-  pub moment : all.moment.ms < 2 ^ 48
-  pub many : 2 ≤ length all.inputs
-  pub few : AllByRecursion HasFew all.inputs
-
-abbrev pub FitsEnd : ReadsEnd → Type 0
-FitsEnd (read.Done all) = MayMerge all
-FitsEnd (read.Fault number) = Unit {0}
-FitsEnd (read.Missing number) = Unit {0}
-FitsEnd (read.Damaged number) = Unit {0}
-
-abbrev pub FitsIfEnded : Option ReadsEnd → Type 0
-FitsIfEnded None = Unit {0}
-FitsIfEnded (Some end) = FitsEnd end
-
--- what it may still do
+-- a run of that plan, whose end may be merged
 abbrev pub may_read : Reads → List Entry → Option ReadsEnd → Reads → Type 0
-may_read reads entries end last = Runs (left_of reads) entries end × FitsIfEnded end
+may_read reads entries end last = Runs (left_of reads) entries end × IfSome end FitsEnd
 
 -- a call that comes to an end comes to such a one
 abbrev pub Fits : Result (Act ReadsEnd) NoMemory → Type 0

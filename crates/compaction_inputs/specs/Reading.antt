@@ -1,13 +1,16 @@
 -- The reads of blocks: of each its index, and then its segments.
-use Rattle.std.specs.Prelude.{ℕ, zero, suc, ◌+◌, List, [], ◌∷◌, ◌++◌, length, Option, Some, None}
+use Rattle.std.specs.Prelude.{ℕ, zero, suc, ◌+◌, ◌<◌, ◌≤◌, ◌^◌, List, [], ◌∷◌, ◌++◌, length, Option, Some, None}
+use Rattle.std.specs.List.{AllByRecursion}
 use Rattle.block_keys.specs.declared.key.Key.{Key}
 use Rattle.block_keys.specs.declared.key.Key.TheVariants as key
 use Rattle.block_meta.specs.declared.meta.Meta.{Meta}
 use Rattle.world_core.specs.Plans.{Plan, ends, gets}
 use Rattle.world_core.specs.declared.entry.Entry.{Entry}
+use Rattle.compaction_inputs.specs.Inputs.{HasFew}
 use Rattle.compaction_inputs.specs.Named.{named_segments}
 use Rattle.compaction_inputs.specs.declared.input.Input.{Input}
 use Rattle.compaction_inputs.specs.declared.input.Read.{Read}
+use Rattle.compaction_inputs.specs.declared.reads_end.Gathered.{Gathered}
 use Rattle.compaction_inputs.specs.declared.reads_end.ReadsEnd.{ReadsEnd}
 use Rattle.compaction_inputs.specs.declared.reads_end.ReadsEnd.TheVariants as read
 
@@ -68,3 +71,17 @@ blocks_after inputs waiting input last = blocks_of (inputs ++ input ∷ []) wait
 -- the reads of a block, and of those that wait
 abbrev pub block_of : List Input → List Meta → Meta → Plan ReadsEnd
 block_of inputs waiting meta = reads_block read_ends meta (blocks_after inputs waiting)
+
+-- ---- what the reads give
+
+-- the blocks that were read may be merged into one, and its upload may follow the last entry, whose moment fits a ULID
+pub record MayMerge (all : Gathered) : Type 0 where
+  pub moment : all.moment.ms < 2 ^ 48
+  pub many : 2 ≤ length all.inputs
+  pub few : AllByRecursion HasFew all.inputs
+
+abbrev pub FitsEnd : ReadsEnd → Type 0
+FitsEnd (read.Done all) = MayMerge all
+FitsEnd (read.Fault number) = Unit {0}
+FitsEnd (read.Missing number) = Unit {0}
+FitsEnd (read.Damaged number) = Unit {0}

@@ -8,15 +8,17 @@ ghost use Rattle.block_content.specs.ContentReading.{fitted};
 ghost use Rattle.block_content.specs.ContentRefusals.{RefusesContent};
 ghost use Rattle.block_merging.specs.Inputs.{IsFirstRefused};
 ghost use Rattle.compaction_inputs.specs.Inputs.{IsInput, HasFew};
-ghost use Rattle.compaction_inputs.specs.InputFiles.{numbers_of, IsShownBy};
+ghost use Rattle.vertical_merge.specs.Compacted.{IsCompactedPlan};
+ghost use Rattle.compaction_inputs.specs.InputFiles.{numbers_of, AreFiles, IsShownBy};
 ghost use Rattle.compaction_inputs.specs.Merges.{IsMerging, IsRefused};
 ghost use Rattle.compaction_inputs.specs.declared.input.Input.{Input};
 
 use crate::input::InputList;
-use crate::input_files::{Numbers, all_files};
+use crate::input_files::{InputFiles, Numbers, all_files};
 use block_content::{CheckRefusal, read_index};
 use block_files::BlockFiles;
 use block_merging::{MergeRefusal, merge_blocks};
+use block_meta::BlockPlan;
 use group_planner::MetaList;
 use index_parts::ChunkPlace;
 use label_sets::{LabelSet, TextList};
@@ -49,9 +51,27 @@ pub fn merge_inputs(
     ensures { IfOk result (IsMerging replicas.now ulid labels.now inputs) }
 {
     let files = all_files(alloc, inputs)?;
-    let metas = metas_of(alloc, files.blocks.members())?;
-    let plan = compacted_plan(alloc, &metas, ulid, labels)?;
-    match merge_blocks(alloc, &plan, files.blocks.members(), replicas) {
+    let merging = merge_files(alloc, replicas, labels, ulid, &files);
+    drop(files);
+    merging
+}
+
+/// Merges the files of blocks that were read.
+fn merge_files(
+    alloc: Global,
+    replicas: &TextList,
+    labels: &LabelSet,
+    ulid: Ulid,
+    files: &InputFiles,
+) -> Result<Merging, NoMemory>
+    requires many { 2 ≤ length files.now.blocks }
+    ensures { (inputs : List Input) → AreFiles inputs files.now.blocks files.now.numbers
+        → IfOk result (IsMerging replicas.now ulid labels.now inputs) }
+{
+    let plan = plan_of(alloc, files.blocks.members(), ulid, labels)?;
+    let merged = merge_blocks(alloc, &plan, files.blocks.members(), replicas);
+    drop(plan);
+    match merged {
         Ok(block) => Ok(Merging::Merged(block)),
         Err(MergeRefusal::Input(place, cause)) => {
             let number = refused_at(alloc, &files.blocks, &files.numbers, place, cause)?;
@@ -60,6 +80,23 @@ pub fn merge_inputs(
         Err(MergeRefusal::TooLarge) => Ok(Merging::TooLarge),
         Err(MergeRefusal::NoMemory) => Err(NoMemory),
     }
+}
+
+/// What the block will say of itself that these become.
+fn plan_of(
+    alloc: Global,
+    blocks: &[BlockFiles],
+    ulid: Ulid,
+    labels: &LabelSet,
+) -> Result<BlockPlan, NoMemory>
+    requires many { 2 ≤ length blocks.now }
+    ensures { IfOk result
+        (IsCompactedPlan (map (λ block. block.meta) blocks.now) ulid labels.now) }
+{
+    let metas = metas_of(alloc, blocks)?;
+    let plan = compacted_plan(alloc, &metas, ulid, labels);
+    drop(metas);
+    plan
 }
 
 fn metas_of(alloc: Global, blocks: &[BlockFiles]) -> Result<MetaList, NoMemory>

@@ -66,7 +66,7 @@ impl Reads {
             (count_of self.new) }
     {
         let key = Key::Index(meta.ulid);
-        self.stage = ReadStage::Indexing(meta);
+        drop(mem::replace(&mut self.stage, ReadStage::Indexing(meta)));
         Ok(Act::Do(Op::Get(key)))
     }
 
@@ -173,7 +173,7 @@ impl Reads {
         match self.waiting.pop_front() {
             Some(meta) => self.ask_index(meta),
             None => {
-                self.stage = ReadStage::Over;
+                drop(mem::replace(&mut self.stage, ReadStage::Over));
                 let inputs = mem::replace(&mut self.inputs, InputList::new(self.alloc));
                 Ok(Act::Done(ReadsEnd::Done(Gathered {
                     inputs,
@@ -196,7 +196,9 @@ fn next_key(input: &Input) -> Key
 impl Machine for Reads {
     type End = ReadsEnd;
 
-    ghost use Rattle.compaction_inputs.specs.ReadStates.{IsFresh, may_read, asked_read, count_of};
+    ghost use Rattle.block_meta.specs.declared.meta.Meta.{Meta};
+    ghost use Rattle.compaction_inputs.specs.ReadStates.{may_read, asked_read, count_of};
+    ghost use Rattle.compaction_inputs.specs.declared.read_stage.ReadStage.TheVariants.{Fresh};
 
     ghost may = { may_read };
 
@@ -204,7 +206,7 @@ impl Machine for Reads {
 
     ghost measure = { count_of };
 
-    ghost fresh = { IsFresh };
+    ghost fresh = { λ reads. (meta : Meta) × (reads.stage ≡ Fresh meta) };
 
     fn first(&mut self) -> Result<Act<ReadsEnd>, NoMemory> {
         let stage = mem::replace(&mut self.stage, ReadStage::Over);

@@ -1,33 +1,16 @@
 -- How many operations a compaction still asks for.
 use Rattle.std.proofs.Common.{◌≡◌, ◌+◌, ◌*◌, ◌^◌, ◌<◌, ◌≤◌, ℕ, List, ◌∷◌, ◌++◌, length, length-append, Result, Ok, Err, sym, ap, subst, ◌∙◌, arith}
 use Rattle.list_core.specs.declared.memory.NoMemory.{NoMemory}
-use Rattle.block_keys.specs.declared.object.Object.{Object}
 use Rattle.world_core.specs.Machines.{Falls}
 use Rattle.world_core.specs.declared.op.Op.{Op}
 use Rattle.world_core.specs.declared.act.Act.{Act}
 use Rattle.world_core.specs.declared.act.Act.TheVariants as act
-use Rattle.shipper.specs.Limits.{most_objects}
-use Rattle.shipper.specs.UploadStates as shipped
-use Rattle.shipper.specs.declared.stage.Stage as uploading
-use Rattle.shipper.specs.declared.stage.Stage.TheVariants as upload_is
-use Rattle.shipper.specs.declared.upload.Upload.{Upload}
 use Rattle.group_planner.specs.declared.group.Group.{Group}
 use Rattle.compactor.specs.CompactStates.{most_asked, count_at, count_of}
 use Rattle.compaction_inputs.specs.Jobs.{Skips, TakesJob}
 use Rattle.compactor.specs.declared.compact.Compact.{Compact}
 use Rattle.compaction_inputs.specs.declared.job.Job.{Job}
 use Rattle.compactor.specs.declared.stage.Stage.{Stage}
-
--- ---- an upload asks for fewer than the most
-
-uploads_at : (stage : uploading.Stage) (objects : List Object) (place : ℕ) → length objects ≤ most_objects → shipped.count_at stage objects place < most_asked
-uploads_at upload_is.Looking objects place few = omega (arith, few)
-uploads_at upload_is.Putting objects place few = omega (arith, few)
-
-pub upload_few : (u : Upload) → shipped.count_of u < most_asked
-upload_few u = uploads_at u.stage u.objects.value.items u.place u.few
-
--- ---- the measure falls
 
 -- a part on a lower level than that
 pub part_under : (level above count : ℕ) → level < above → count < most_asked → most_asked * level + count < most_asked * above

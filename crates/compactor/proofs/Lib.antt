@@ -2,7 +2,6 @@ mod JobRuns
 mod CompactCounts
 mod CompactSteps
 mod Beginnings
-mod MarksLeft
 mod Uploading
 mod Rounds
 mod AfterMerge

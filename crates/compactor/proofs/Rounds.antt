@@ -11,7 +11,7 @@ use Rattle.group_planner.proofs.GroupLaws.{one_answer}
 use Rattle.world_core.specs.Plans.{finds, ends}
 use Rattle.block_marking.specs.FoundNames.{names_of, expired_at}
 use Rattle.compactor.specs.Compactions.{metas_of, compacting_groups, rounds}
-use Rattle.compactor.specs.CompactStates.{groups_from, groups_left, expired_left, Begins}
+use Rattle.compactor.specs.CompactStates.{groups_from, groups_left, marks_left, Begins}
 use Rattle.compactor.specs.Compactions.{compacting}
 use Rattle.compaction_inputs.specs.Jobs.{Skips, TakesJob, metas_of as job_metas}
 use Rattle.compactor.specs.declared.compact.Compact.{Compact}
@@ -57,5 +57,5 @@ group_begins c new r left compacted job takes more begins =
     (subst (λ (n : ℕ). Begins (compacting c.replicas job.labels (groups_from c.replicas c.expired.items c.collected n left) (groups_from c.replicas c.expired.items c.collected n left) (job_metas job)) r new) more begins)
 
 -- no group has one
-pub none_begins : (c new : Compact) (r : Result (Act CompactEnd) NoMemory) → Skips c.groups.items [] → Begins (expired_left c) r new → Begins (groups_left c) r new
-none_begins c new r skips begins = begins_as (expired_left c) (groups_left c) r new (all_skipped c.replicas c.compacted (last_plan c) c.groups.items skips) begins
+pub none_begins : (c new : Compact) (r : Result (Act CompactEnd) NoMemory) → Skips c.groups.items [] → Begins (marks_left Expired c c.expired.items) r new → Begins (groups_left c) r new
+none_begins c new r skips begins = begins_as (marks_left Expired c c.expired.items) (groups_left c) r new (all_skipped c.replicas c.compacted (last_plan c) c.groups.items skips) begins

@@ -4,13 +4,10 @@ ghost use Rattle.world_core.specs.Operations.{IsAnswer, entry_of};
 ghost use Rattle.world_core.specs.declared.op.Op.{Op};
 ghost use Rattle.world_core.specs.declared.entry.Entry.{Entry};
 ghost use Rattle.world_core.specs.Plans.{Runs};
-ghost use Rattle.meta_fetcher.specs.SyncStates.{asked_sync, IsFresh as IsFreshSync};
-ghost use Rattle.shipper.specs.UploadStates.{asked_upload};
 ghost use Rattle.group_planner.specs.Members.{ulids_of};
 ghost use Rattle.compactor.specs.Compactions.{after_sync as sync_led_to, after_merge, after_upload as upload_led_to, compacting, merging, rounds, CompactRun};
 ghost use Rattle.compaction_inputs.specs.Jobs.{metas_of};
-ghost use Rattle.block_marking.specs.MarkStates.{asked_mark};
-ghost use Rattle.compaction_inputs.specs.ReadStates.{asked_read, FitsEnd, MayMerge};
+ghost use Rattle.compaction_inputs.specs.Reading.{FitsEnd, MayMerge};
 ghost use Rattle.compactor.specs.declared.compact_end.CompactEnd.{CompactEnd};
 
 use crate::CompactEnd;
@@ -53,7 +50,7 @@ pub struct Compact {
 }
 
 impl Compact {
-    ghost use Rattle.compactor.specs.CompactStates.{may_at, Begins, Goes, groups_left, expired_left, parents_left, marks_left, after_marks as marks_led_to, after_covered, after_reads as reads_led_to, after_retired, after_expired, most_asked, level_of, count_at, count_of};
+    ghost use Rattle.compactor.specs.CompactStates.{may_at, goes_after, Begins, Goes, groups_left, marks_left, after_marks as marks_led_to, after_reads as reads_led_to, most_asked, level_of, count_at, count_of};
 
     /// Begins a compaction by these rules.
     pub fn start(alloc: Global, rules: &Rules) -> Result<Compact, NoMemory>
@@ -82,13 +79,13 @@ impl Compact {
     fn wait_in(&mut self, stage: Stage)
         ensures { self.new ≡ record self.old { stage = stage } }
     {
-        self.stage = stage;
+        drop(mem::replace(&mut self.stage, stage));
     }
 
     /// Asks for the sync's first operation.
     fn first_sync(&mut self, mut sync: Sync) -> Result<Act<CompactEnd>, NoMemory>
-        requires fresh { IsFreshSync sync }
-        ensures goes_on { Goes (may_at (Stage.Syncing sync) self.old) [] result self.new }
+        requires fresh { ⟦<Sync as Machine>⟧.fresh sync }
+        ensures goes_on { Goes (may_at (Stage.Syncing sync) self.old) result self.new }
     {
         let act = sync.first()?;
         match act {
@@ -102,9 +99,9 @@ impl Compact {
 
     /// Goes on after the reply to the sync's operation.
     fn step_sync(&mut self, mut sync: Sync, seen: Seen) -> Result<Act<CompactEnd>, NoMemory>
-        requires answer { IsSomeAnd (asked_sync sync) (λ op. IsAnswer op seen) }
-        ensures goes_on { (seat : ℕ) (op : Op) → asked_sync sync ≡ Some op
-            → Goes (may_at (Stage.Syncing sync) self.old) (entry_of seat op seen ∷ []) result
+        requires answer { IsSomeAnd (⟦<Sync as Machine>⟧.asked sync) (λ op. IsAnswer op seen) }
+        ensures goes_on { (seat : ℕ) (op : Op) → ⟦<Sync as Machine>⟧.asked sync ≡ Some op
+            → Goes (goes_after (Stage.Syncing sync) self.old (entry_of seat op seen)) result
             self.new }
         ensures falls { Falls (count_at (Stage.Syncing sync) (length self.old.groups.items)) result
             (count_of self.new) }
@@ -172,9 +169,9 @@ impl Compact {
         mut marks: Marks,
         seen: Seen,
     ) -> Result<Act<CompactEnd>, NoMemory>
-        requires answer { IsSomeAnd (asked_mark marks) (λ op. IsAnswer op seen) }
-        ensures goes_on { (seat : ℕ) (op : Op) → asked_mark marks ≡ Some op
-            → Goes (may_at (Stage.Marking reason marks) self.old) (entry_of seat op seen ∷ [])
+        requires answer { IsSomeAnd (⟦<Marks as Machine>⟧.asked marks) (λ op. IsAnswer op seen) }
+        ensures goes_on { (seat : ℕ) (op : Op) → ⟦<Marks as Machine>⟧.asked marks ≡ Some op
+            → Goes (goes_after (Stage.Marking reason marks) self.old (entry_of seat op seen))
             result self.new }
         ensures falls { Falls
             (count_at (Stage.Marking reason marks) (length self.old.groups.items)) result
@@ -205,7 +202,7 @@ impl Compact {
 
     /// Goes on after the marks of the covered blocks.
     fn after_collect(&mut self, end: MarksEnd) -> Result<Act<CompactEnd>, NoMemory>
-        ensures leads { Begins (after_covered self.old end) result self.new }
+        ensures leads { Begins (marks_led_to Reason.Covered self.old end) result self.new }
         ensures falls { Falls (most_asked * (3 * length self.old.groups.items + 2)) result
             (count_of self.new) }
     {
@@ -270,10 +267,10 @@ impl Compact {
         parents: VecDeque<Ulid>,
         seen: Seen,
     ) -> Result<Act<CompactEnd>, NoMemory>
-        requires answer { IsSomeAnd (asked_read reads) (λ op. IsAnswer op seen) }
-        ensures goes_on { (seat : ℕ) (op : Op) → asked_read reads ≡ Some op
-            → Goes (may_at (Stage.Reading reads labels parents) self.old)
-            (entry_of seat op seen ∷ []) result self.new }
+        requires answer { IsSomeAnd (⟦<Reads as Machine>⟧.asked reads) (λ op. IsAnswer op seen) }
+        ensures goes_on { (seat : ℕ) (op : Op) → ⟦<Reads as Machine>⟧.asked reads ≡ Some op
+            → Goes (goes_after (Stage.Reading reads labels parents) self.old
+            (entry_of seat op seen)) result self.new }
         ensures falls { Falls (count_at (Stage.Reading reads labels parents)
             (length self.old.groups.items)) result (count_of self.new) }
     {
@@ -369,9 +366,9 @@ impl Compact {
         parents: VecDeque<Ulid>,
         seen: Seen,
     ) -> Result<Act<CompactEnd>, NoMemory>
-        requires answer { IsSomeAnd (asked_upload upload) (λ op. IsAnswer op seen) }
-        ensures goes_on { (seat : ℕ) (op : Op) → asked_upload upload ≡ Some op
-            → Goes (may_at (Stage.Uploading upload parents) self.old) (entry_of seat op seen ∷ [])
+        requires answer { IsSomeAnd (⟦<Upload as Machine>⟧.asked upload) (λ op. IsAnswer op seen) }
+        ensures goes_on { (seat : ℕ) (op : Op) → ⟦<Upload as Machine>⟧.asked upload ≡ Some op
+            → Goes (goes_after (Stage.Uploading upload parents) self.old (entry_of seat op seen))
             result self.new }
         ensures falls { Falls (count_at (Stage.Uploading upload parents)
             (length self.old.groups.items)) result (count_of self.new) }
@@ -394,7 +391,7 @@ impl Compact {
         number: u64,
         parents: VecDeque<Ulid>,
     ) -> Result<Act<CompactEnd>, NoMemory>
-        ensures leads { Begins (upload_led_to (parents_left self.old parents.items)
+        ensures leads { Begins (upload_led_to (marks_left Reason.Compacted self.old parents.items)
             (end, Some number)) result self.new }
         ensures falls { Falls (most_asked * (3 * length self.old.groups.items + 3)) result
             (count_of self.new) }
@@ -409,7 +406,7 @@ impl Compact {
 
     /// Goes on after the marks of the blocks that were compacted.
     fn after_retire(&mut self, end: MarksEnd) -> Result<Act<CompactEnd>, NoMemory>
-        ensures leads { Begins (after_retired self.old end) result self.new }
+        ensures leads { Begins (marks_led_to Reason.Compacted self.old end) result self.new }
         ensures falls { Falls (most_asked * (3 * length self.old.groups.items + 2)) result
             (count_of self.new) }
     {
@@ -421,7 +418,8 @@ impl Compact {
 
     /// Begins the marks of the expired blocks.
     fn expire(&mut self) -> Result<Act<CompactEnd>, NoMemory>
-        ensures leads { Begins (expired_left self.old) result self.new }
+        ensures leads { Begins (marks_left Reason.Expired self.old self.old.expired.items) result
+            self.new }
         ensures falls { Falls (most_asked * 2) result (count_of self.new) }
     {
         let expired = mem::replace(&mut self.expired, VecDeque::new(self.alloc));
@@ -438,7 +436,7 @@ impl Compact {
 
     /// The end of a compaction, by that of the marks of expired blocks.
     fn last_end(&self, end: MarksEnd) -> CompactEnd
-        ensures { Runs (after_expired self.now end) [] (Some result) }
+        ensures { Runs (marks_led_to Reason.Expired self.now end) [] (Some result) }
     {
         match end {
             MarksEnd::Done(expired) => CompactEnd::Done {

@@ -22,8 +22,7 @@ use Rattle.world_core.proofs.PlanLaws.{nothing_given}
 use Rattle.sync_filters.specs.Filters.{is_consistent, is_covered, is_in_partition, is_unmarked}
 use Rattle.sync_filters.specs.declared.found.Found.{Found}
 use Rattle.meta_fetcher.specs.Sightings.{Sighting, sighting_of, passed_by, kept_by, covered_by}
-use Rattle.meta_fetcher.specs.Syncs.{Synced, sighted, fault, damaged, too_many, Course, sync}
-use Rattle.meta_fetcher.specs.SyncStates.{Ascend}
+use Rattle.meta_fetcher.specs.Syncs.{Synced, sighted, fault, damaged, too_many, Course, sync, Ascend}
 use Rattle.meta_fetcher.specs.declared.rules.SyncRules.{SyncRules}
 use Rattle.meta_fetcher.proofs.SyncLaws.{KeptByPages, KeptByReads, sighting_at, told}
 

@@ -1,7 +1,7 @@
 pub mod SyncLaws
 pub mod Ascending
 mod Begin
-mod Steps
+pub mod Steps
 mod Pages
 mod Metas
 mod SplitBlocks

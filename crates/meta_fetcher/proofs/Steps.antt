@@ -14,8 +14,9 @@ use Rattle.world_core.specs.declared.act.Act.TheVariants.{Do}
 use Rattle.world_core.proofs.LeadSteps.{leads_kept, opens as begins, steps}
 use Rattle.world_core.proofs.PlanLaws.{breaks_off}
 use Rattle.meta_fetcher.specs.Sightings.{Sighting, IsView}
-use Rattle.meta_fetcher.specs.Syncs.{Synced, sighted, Course, with_entry, reading, IsEnd}
-use Rattle.meta_fetcher.specs.SyncStates.{asked_at, asked_sync, course_at, left_at, HasListed, Onward, Ascend, Goes, may_sync, goes_after, Leads}
+use Rattle.meta_fetcher.specs.Syncs.{Synced, sighted, Course, with_entry, reading, IsEnd, Ascend}
+use Rattle.meta_fetcher.specs.SyncStates.{asked_at, asked_sync, course_at, left_at, HasListed, Onward, Goes, may_at, may_sync, goes_after, Leads}
+use Rattle.meta_fetcher.specs.contracts.sync.SyncMachine.TheImpl.{ghosts}
 use Rattle.meta_fetcher.specs.declared.rules.SyncRules.{SyncRules}
 use Rattle.meta_fetcher.specs.declared.stage.Stage.{Stage}
 use Rattle.meta_fetcher.specs.declared.stage.Stage.TheVariants.{Fresh, Opening, Listing, Marking, Reading}
@@ -58,17 +59,16 @@ entry_at : (s : Sync) (seat : ℕ) (o : Op) (seen : Seen) (entries : List Entry)
 entry_at s seat o seen entries end waits after = λ names more listed.
     on_entry s.rules (course_at s.stage s) (left_at s.stage s names more) (entry_of seat o seen) entries end (asked_left s.stage s names more o listed waits) (after names more listed)
 
-abbrev MayAt : Stage → Sync → Onward
-MayAt stage s entries end = (names : List (List ℕ)) (more : ℕ) → HasListed stage s names more → Goes s.rules (course_at stage s) (left_at stage s names more) entries end
-
 -- what may come from a state
 abbrev now : Sync → Onward
-now s = MayAt s.stage s
+now s = may_at s.stage s
 
-rests : (s : Sync) → now s [] None
+-- It may be stopped there,
+pub rests : (s : Sync) → ghosts.may s [] None s
 rests s = λ names more listed. stops s.rules (course_at s.stage s) (left_at s.stage s names more)
 
-answers : (s : Sync) (seat : ℕ) (o : Op) (seen : Seen) → asked_sync s ≡ Some o → now s (entry_of seat o seen ∷ []) None
+-- and as soon as its operation is answered.
+pub answers : (s : Sync) (seat : ℕ) (o : Op) (seen : Seen) → ghosts.asked s ≡ Some o → ghosts.may s (entry_of seat o seen ∷ []) None s
 answers s seat o seen waits =
     entry_at s seat o seen [] None waits
     (λ names more listed. stops s.rules (with_entry (course_at s.stage s) (entry_of seat o seen)) (after_entry (left_at s.stage s names more) (entry_of seat o seen)))
@@ -89,11 +89,11 @@ steps_on stage s new seat o seen r is waits leads =
 
 -- the first page is asked for
 pub opens : (s new : Sync) (o : Op) → s.stage ≡ Fresh → IsLawful o → asked_sync new ≡ Some o
-    → ((entries : List Entry) (end : Option SyncEnd) → may_sync new entries end new → MayAt Fresh s entries end) → Asks may_sync asked_sync s [] o new
+    → ((entries : List Entry) (end : Option SyncEnd) → may_sync new entries end new → may_at Fresh s entries end) → Asks may_sync asked_sync s [] o new
 opens s new o fresh lawful waits onward = begins now asked_sync rests answers s new (Ok (Do o)) (record {
   lawful = lawful;
   asks = waits;
-  onward = λ entries end run. subst (λ stage. MayAt stage s entries end) (sym fresh) (onward entries end run);
+  onward = λ entries end run. subst (λ stage. may_at stage s entries end) (sym fresh) (onward entries end run);
 })
 
 -- no block waits, and the view is that of the sightings

@@ -1,6 +1,5 @@
--- What is left of a sync in each of its states. The machine's steps alone speak of this. What a sync is from its start on, Syncs says.
+-- The plan at which a sync stands in each of its states. The machine's steps alone speak of this.
 use Rattle.std.specs.Prelude.{◌≡◌, ℕ, suc, ◌+◌, ◌-◌, ◌*◌, ◌^◌, ◌≤◌, true, List, [], ◌∷◌, ◌++◌, length, map, Option, Some, None, option_map, Result}
-use Rattle.std.specs.List.Sorted.{IsStrictlyIncreasing}
 use Rattle.block_keys.specs.declared.key.Key.TheVariants as key
 use Rattle.block_meta.specs.MetaFields.{mark_fields_of}
 use Rattle.list_core.specs.declared.memory.NoMemory.{NoMemory}
@@ -16,18 +15,15 @@ use Rattle.world_core.specs.declared.entry.Entry.{Entry}
 use Rattle.world_core.specs.declared.act.Act.{Act}
 use Rattle.sync_filters.specs.declared.found.Found.{Found}
 use Rattle.meta_fetcher.specs.Sightings.{Sighting, sighting_of}
-use Rattle.meta_fetcher.specs.Syncs.{Synced, sighted, fault, damaged, too_many, Course, with_entry, reads_meta, reading, walk_ends, listing, IsEnd}
+use Rattle.meta_fetcher.specs.Syncs.{Synced, Course, with_entry, reads_meta, reading, walk_ends, listing, IsEnd, Ascend}
 use Rattle.meta_fetcher.specs.declared.rules.SyncRules.{SyncRules}
 use Rattle.meta_fetcher.specs.declared.stage.Stage.{Stage}
 use Rattle.meta_fetcher.specs.declared.stage.Stage.TheVariants.{Fresh, Opening, Listing, Marking, Reading}
 use Rattle.meta_fetcher.specs.declared.sync.Sync.{Sync}
 use Rattle.meta_fetcher.specs.declared.sync_end.SyncEnd.{SyncEnd}
 
--- it was not begun
-abbrev pub IsFresh : Sync → Type 0
-IsFresh sync = sync.stage ≡ Fresh
+-- ---- what it waits for
 
--- the operation that is waited for
 abbrev pub asked_at : Stage → Sync → Option Op
 asked_at Fresh sync = None
 asked_at Opening sync = Some (op.RootPage [] sync.rules.page_limit)
@@ -42,17 +38,6 @@ asked_sync sync = asked_at sync.stage sync
 
 abbrev pub sightings_of : Sync → List Sighting
 sightings_of sync = map sighting_of sync.found.items
-
--- when its entries were made
-abbrev pub course_of : Sync → Course
-course_of sync = record { first = sync.first; begin = sync.begin; end = sync.last }
-
-abbrev pub course_at : Stage → Sync → Option Course
-course_at Fresh sync = None
-course_at Opening sync = None
-course_at Listing sync = Some (course_of sync)
-course_at (Marking ulid) sync = Some (course_of sync)
-course_at (Reading ulid) sync = Some (course_of sync)
 
 -- the reads of the blocks that wait
 abbrev pub blocks_left : Sync → Plan Synced
@@ -72,6 +57,17 @@ left_at Opening sync names more = listing sync.rules (suc more) names
 left_at Listing sync names more = listing sync.rules (suc more) names
 left_at (Marking ulid) sync names more = reading (sightings_of sync) (ulid ∷ sync.waiting.items)
 left_at (Reading ulid) sync names more = meta_left ulid sync
+
+-- when its entries were made, if any was
+abbrev pub course_of : Sync → Course
+course_of sync = record { first = sync.first; begin = sync.begin; end = sync.last }
+
+abbrev pub course_at : Stage → Sync → Option Course
+course_at Fresh sync = None
+course_at Opening sync = None
+course_at Listing sync = Some (course_of sync)
+course_at (Marking ulid) sync = Some (course_of sync)
+course_at (Reading ulid) sync = Some (course_of sync)
 
 -- A sync keeps of the names that it listed how many there were, the last one, and the blocks among them, of which it read none
 -- until now. It does not count pages.
@@ -96,13 +92,6 @@ HasListed (Reading ulid) sync names more = Unit {0}
 
 -- ---- what it may still do
 
--- the sightings ascend by ULID, if it came to any
-abbrev pub Ascend : Synced × Option Course → Type 0
-Ascend (sighted sightings, course) = IsStrictlyIncreasing (map (λ sighting. sighting.ulid) sightings)
-Ascend (fault number, course) = Unit {0}
-Ascend (damaged number, course) = Unit {0}
-Ascend (too_many, course) = Unit {0}
-
 -- what may follow, by entries and an end
 abbrev pub Onward : Type 1
 Onward = List Entry → Option SyncEnd → Type 0
@@ -112,19 +101,21 @@ Onward = List Entry → Option SyncEnd → Type 0
 abbrev pub Goes : SyncRules → Option Course → Plan Synced → Onward
 Goes rules course plan = ComesTo (noting with_entry course plan) (λ told end. Ascend told → IsEnd rules told end)
 
--- a run of what is left, whatever names were listed
+-- in a stage such a run, whatever names were listed
+abbrev pub GoesIn : Stage → Sync → Option Course → (List (List ℕ) → ℕ → Plan Synced) → Onward
+GoesIn stage sync course plan entries end =
+    (names : List (List ℕ)) (more : ℕ) → HasListed stage sync names more → Goes sync.rules course (plan names more) entries end
+
+-- of what is left there
+abbrev pub may_at : Stage → Sync → Onward
+may_at stage sync = GoesIn stage sync (course_at stage sync) (left_at stage sync)
+
 abbrev pub may_sync : Sync → List Entry → Option SyncEnd → Sync → Type 0
-may_sync sync entries end last =
-    (names : List (List ℕ)) (more : ℕ) → HasListed sync.stage sync names more
-    → Goes sync.rules (course_at sync.stage sync) (left_at sync.stage sync names more) entries end
+may_sync sync entries end last = may_at sync.stage sync entries end
 
--- ---- calls
-
--- a run of what is left after the entry that was waited for
+-- of what follows the entry that was waited for
 abbrev pub goes_after : Stage → Sync → Entry → Onward
-goes_after stage sync e entries end =
-    (names : List (List ℕ)) (more : ℕ) → HasListed stage sync names more
-    → Goes sync.rules (with_entry (course_at stage sync) e) (after_entry (left_at stage sync names more) e) entries end
+goes_after stage sync e = GoesIn stage sync (with_entry (course_at stage sync) e) (λ names more. after_entry (left_at stage sync names more) e)
 
 -- a run of what is left after a page of these names, which ascend
 abbrev pub goes_by_names : Sync → List (List ℕ) → Onward

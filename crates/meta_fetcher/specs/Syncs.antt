@@ -1,6 +1,7 @@
 -- A sync: a walk over the names of the bucket's blocks, then of each block a read of its mark and after it one of its meta,
 -- whatever the mark's read found. It comes to a view of the blocks that were found and pass the filters.
-use Rattle.std.specs.Prelude.{◌≡◌, ℕ, List, [], ◌∷◌, ◌++◌, Option, Some, None}
+use Rattle.std.specs.Prelude.{◌≡◌, ℕ, List, [], ◌∷◌, ◌++◌, map, Option, Some, None}
+use Rattle.std.specs.List.Sorted.{IsStrictlyIncreasing}
 use Rattle.block_keys.specs.declared.key.Key.TheVariants as key
 use Rattle.block_meta.specs.MetaFields.{MetaFields, MarkFields}
 use Rattle.moment_core.specs.declared.moment.Moment.{Moment}
@@ -88,6 +89,13 @@ with_entry (Some course) e = Some (record { first = course.first; begin = course
 -- a sync by these rules, which takes note of when its entries are made
 abbrev pub sync : SyncRules → Plan (Synced × Option Course)
 sync rules = noting with_entry None (listing rules most_listed [])
+
+-- the sightings ascend by ULID, if it came to any
+abbrev pub Ascend : Synced × Option Course → Type 0
+Ascend (sighted sightings, course) = IsStrictlyIncreasing (map (λ sighting. sighting.ulid) sightings)
+Ascend (fault number, course) = Unit {0}
+Ascend (damaged number, course) = Unit {0}
+Ascend (too_many, course) = Unit {0}
 
 -- what a sync comes to gives this end
 abbrev pub IsEnd : SyncRules → Synced × Option Course → SyncEnd → Type 0

@@ -243,7 +243,8 @@ impl Sync {
 impl Machine for Sync {
     type End = SyncEnd;
 
-    ghost use Rattle.meta_fetcher.specs.SyncStates.{IsFresh, may_sync, asked_sync, count_of};
+    ghost use Rattle.meta_fetcher.specs.SyncStates.{may_sync, asked_sync, count_of};
+    ghost use Rattle.meta_fetcher.specs.declared.stage.Stage.TheVariants.{Fresh};
 
     ghost may = { may_sync };
 
@@ -251,7 +252,7 @@ impl Machine for Sync {
 
     ghost measure = { count_of };
 
-    ghost fresh = { IsFresh };
+    ghost fresh = { λ sync. sync.stage ≡ Fresh };
 
     fn first(&mut self) -> Result<Act<SyncEnd>, NoMemory> {
         let cursor = Text::from_str(self.alloc, "")?;

@@ -8,8 +8,7 @@ use Rattle.label_sets.proofs.LabelValues.{by_bool}
 use Rattle.label_sets.proofs.StableSorts.{filter_hit, filter_miss}
 use Rattle.sync_filters.specs.declared.found.Found.{Found}
 use Rattle.block_ranges.specs.Reads.{Query, Block, block_of}
-use Rattle.series_calls.specs.SeriesCalls.{meets, to_read}
-use Rattle.series_calls.specs.CallStates.{StartsMeeting}
+use Rattle.series_calls.specs.SeriesCalls.{meets, to_read, StartsMeeting}
 
 abbrev pub read_of : Found → Block
 read_of block = block_of block.ulid block.meta

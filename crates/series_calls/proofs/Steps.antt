@@ -18,9 +18,10 @@ use Rattle.index_cache.specs.declared.cache.IndexCache.{IndexCache}
 use Rattle.block_ranges.specs.ChunkRanges.{IsSetOf}
 use Rattle.block_ranges.specs.Reads.{Query, Block, Cache, missing, damaged, fault}
 use Rattle.block_ranges.specs.BlockReads.{BlockEnd, gives, breaks_off as broken, block_call}
-use Rattle.series_calls.specs.SeriesCalls.{CallEnd, Gives, took, broke, after_block, asking, reading, sources_of, to_read}
-use Rattle.series_calls.specs.BlockRuns.{BlockRun, IsEnd, asked_block, cache_of, may_block}
-use Rattle.series_calls.specs.CallStates.{Leads, Onward, StartsMeeting, Waits, after_reads, asked_at, asked_call, beyond, left_at, left_of, may_call, query_of, reads_of, told_by}
+use Rattle.series_calls.specs.SeriesCalls.{CallEnd, Gives, StartsMeeting, took, broke, after_block, asking, reading, sources_of, to_read}
+use Rattle.block_ranges.specs.BlockRuns.{BlockRun, IsEnd, cache_of}
+use Rattle.block_ranges.specs.contracts.block_call.BlockCallMachine.TheImpl.{ghosts as reads}
+use Rattle.series_calls.specs.CallStates.{Leads, Onward, Waits, after_reads, asked_at, asked_call, beyond, left_at, left_of, may_call, query_of, reads_of, told_by}
 use Rattle.series_calls.specs.Endings.{ended_with, with_cache}
 use Rattle.block_ranges.specs.declared.block_call.BlockCall.{BlockCall}
 use Rattle.block_ranges.specs.declared.block_outcome.BlockOutcome.{BlockOutcome}
@@ -46,7 +47,7 @@ told_is (broken (fault number) cache) came left (is, same) = ap (λ o. told_by o
 -- what a machine may do is the reads of this block
 abbrev pub AreOf : BlockCall → Query → Block → Cache → Type 0
 AreOf part query block cache =
-    (entries : List Entry) (end : Option BlockOutcome) (last : BlockCall) → may_block part entries end last → BlockRun query block cache entries end (cache_of last)
+    (entries : List Entry) (end : Option BlockOutcome) (last : BlockCall) → reads.may part entries end last → BlockRun query block cache entries end (cache_of last)
 
 -- the reads of the first block and what follows them are the reads of all
 block_first : (call : SeriesCall) (block : Block) (cache : Cache) (part : BlockCall) → AreOf part (query_of call.wanted) block cache
@@ -64,14 +65,14 @@ block_first call block cache part are entries end (inr (own, others, came, last,
 
 -- these are the reads that the contract tells, whose times are as they were passed on
 pub are_of : (part : BlockCall) (selector : List Matcher) (replicas : List (List ℕ)) (low high first last : ℤ) (block : Block) (cache : Cache) → first ≡ low → last ≡ high
-    → ((entries : List Entry) (end : Option BlockOutcome) (left : BlockCall) → may_block part entries end left ↔ BlockRun (asking selector replicas first last) block cache entries end (cache_of left))
+    → ((entries : List Entry) (end : Option BlockOutcome) (left : BlockCall) → reads.may part entries end left ↔ BlockRun (asking selector replicas first last) block cache entries end (cache_of left))
     → AreOf part (asking selector replicas low high) block cache
 are_of part selector replicas low high first last block cache from to run entries end left may =
     subst (λ (z : ℤ). BlockRun (asking selector replicas z high) block cache entries end (cache_of left)) from
     (subst (λ (z : ℤ). BlockRun (asking selector replicas first z) block cache entries end (cache_of left)) to ((run entries end left).0 may))
 
 -- a machine that begins the reads of a block asks for an operation
-pub asks_first : (part last : BlockCall) (query : Query) (block : Block) (cache : Cache) (came : BlockOutcome) → AreOf part query block cache → may_block part [] (Some came) last → ⊥
+pub asks_first : (part last : BlockCall) (query : Query) (block : Block) (cache : Cache) (came : BlockOutcome) → AreOf part query block cache → reads.may part [] (Some came) last → ⊥
 asks_first part last query block cache came are may = by_told (are [] (Some came) last may)
   where
     by_told : BlockRun query block cache [] (Some came) (cache_of last) → ⊥
@@ -80,7 +81,7 @@ asks_first part last query block cache came are may = by_told (are [] (Some came
 -- ---- they go on
 
 -- the part asks for an operation, after these entries
-part_asks : (call : SeriesCall) (part next : BlockCall) (made : List Entry) (op : Op) → Asks may_block asked_block part made op next
+part_asks : (call : SeriesCall) (part next : BlockCall) (made : List Entry) (op : Op) → Asks reads.may reads.asked part made op next
     → Waits (λ entries end. beyond part (after_reads call) (made ++ entries) end) op (record call { stage = Reading next })
 part_asks call part next made op asks = record {
   lawful = asks.lawful;
@@ -97,7 +98,7 @@ part_asks call part next made op asks = record {
 
 -- the reads of a block are begun
 pub begins : (call : SeriesCall) (block : Block) (cache : Cache) (part next : BlockCall) (op : Op) → AreOf part (query_of call.wanted) block cache
-    → Asks may_block asked_block part [] op next → Waits (reads_of call (block ∷ left_of call) cache) op (record call { stage = Reading next })
+    → Asks reads.may reads.asked part [] op next → Waits (reads_of call (block ∷ left_of call) cache) op (record call { stage = Reading next })
 begins call block cache part next op are asks =
     let waits = part_asks call part next [] op asks in
     record {
@@ -150,22 +151,22 @@ abbrev pub at_reading : SeriesCall → BlockCall → SeriesCall
 at_reading call part = record call { stage = Reading part }
 
 -- what the part did, by what its call answered
-pub does : (part next : BlockCall) (made : List Entry) (act : Act BlockOutcome) (op : Op) → act ≡ Do op → GoesOn may_block asked_block part made (Ok act) next → Asks may_block asked_block part made op next
-does part next made act op is goes = subst (λ (a : Act BlockOutcome). GoesOn may_block asked_block part made (Ok a) next) is goes
+pub does : (part next : BlockCall) (made : List Entry) (act : Act BlockOutcome) (op : Op) → act ≡ Do op → GoesOn reads.may reads.asked part made (Ok act) next → Asks reads.may reads.asked part made op next
+does part next made act op is goes = subst (λ (a : Act BlockOutcome). GoesOn reads.may reads.asked part made (Ok a) next) is goes
 
-pub came_to : (part next : BlockCall) (made : List Entry) (act : Act BlockOutcome) (came : BlockOutcome) → act ≡ Done came → GoesOn may_block asked_block part made (Ok act) next
-    → may_block part made (Some came) next
-came_to part next made act came is goes = subst (λ (a : Act BlockOutcome). GoesOn may_block asked_block part made (Ok a) next) is goes
+pub came_to : (part next : BlockCall) (made : List Entry) (act : Act BlockOutcome) (came : BlockOutcome) → act ≡ Done came → GoesOn reads.may reads.asked part made (Ok act) next
+    → reads.may part made (Some came) next
+came_to part next made act came is goes = subst (λ (a : Act BlockOutcome). GoesOn reads.may reads.asked part made (Ok a) next) is goes
 
 -- the block's reads go on
-pub reads_on : (call : SeriesCall) (part next : BlockCall) (made : List Entry) (op : Op) → Asks may_block asked_block part made op next
+pub reads_on : (call : SeriesCall) (part next : BlockCall) (made : List Entry) (op : Op) → Asks reads.may reads.asked part made op next
     → GoesOn may_call asked_call (at_reading call part) made (Ok (Do op)) (at_reading call next)
 reads_on call part next made op asks =
     goes_as (at_reading call part) (at_reading call next) made (Ok (Do op))
-    (inl (next, subst (λ es. may_block part es None next) (append-nil made) (asks.onward [] None next asks.stopped), refl)) (part_asks call part next made op asks)
+    (inl (next, subst (λ es. reads.may part es None next) (append-nil made) (asks.onward [] None next asks.stopped), refl)) (part_asks call part next made op asks)
 
 -- they want memory
-pub reads_stop : (call new : SeriesCall) (part last : BlockCall) (made : List Entry) (r : Result (Act SeriesEnd) NoMemory) (none : NoMemory) → r ≡ Err none → may_block part made None last
+pub reads_stop : (call new : SeriesCall) (part last : BlockCall) (made : List Entry) (r : Result (Act SeriesEnd) NoMemory) (none : NoMemory) → r ≡ Err none → reads.may part made None last
     → GoesOn may_call asked_call (at_reading call part) made r new
 reads_stop call new part last made r none is may =
     subst (λ (q : Result (Act SeriesEnd) NoMemory). GoesOn may_call asked_call (at_reading call part) made q new) (sym is)
@@ -173,7 +174,7 @@ reads_stop call new part last made r none is may =
 
 -- they come to their end, and the call goes on
 pub reads_end : (call new : SeriesCall) (part last : BlockCall) (made : List Entry) (came : BlockOutcome) (cache : Cache) (r : Result (Act SeriesEnd) NoMemory)
-    → may_block part made (Some came) last → cache ≡ cache_of last → Leads (after_reads call came cache) r new → GoesOn may_call asked_call (at_reading call part) made r new
+    → reads.may part made (Some came) last → cache ≡ cache_of last → Leads (after_reads call came cache) r new → GoesOn may_call asked_call (at_reading call part) made r new
 reads_end call new part last made came cache r may left leads =
     goes_as (at_reading call part) new made r
     (inr (made, [], came, last, sym (append-nil made), may, breaks_off (after_block call.merger (reading (query_of call.wanted) (left_of call)) (told_by came (cache_of last)))))
@@ -186,7 +187,7 @@ pub in_reading : (call new : SeriesCall) (part : BlockCall) (made : List Entry) 
 in_reading call new part made r is goes = subst (λ (s : Stage). GoesOn may_call asked_call (record call { stage = s }) made r new) (sym is) goes
 
 -- what such a call waits for, its block's reads wait for
-pub asks_part : (call : SeriesCall) (part : BlockCall) (op : Op) → call.stage ≡ Reading part → asked_call call ≡ Some op → asked_block part ≡ Some op
+pub asks_part : (call : SeriesCall) (part : BlockCall) (op : Op) → call.stage ≡ Reading part → asked_call call ≡ Some op → reads.asked part ≡ Some op
 asks_part call part op is asks = subst (λ (s : Stage). asked_at s ≡ Some op) is asks
 
 -- ---- ends

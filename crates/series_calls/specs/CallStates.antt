@@ -1,8 +1,8 @@
 -- A series call as a machine: what it waits for, and what it may still do. The machine's steps alone speak of this. What a call is
 -- from its start on, SeriesCalls says.
-use Rattle.std.specs.Prelude.{◌≡◌, ◌⊎◌, true, ℕ, ◌+◌, List, [], ◌∷◌, ◌++◌, Option, Some, None, Result, Ok, Err}
+use Rattle.std.specs.Prelude.{◌≡◌, ◌⊎◌, ℕ, ◌+◌, List, [], ◌∷◌, ◌++◌, Option, Some, None, Result, Ok, Err}
 use Rattle.list_core.specs.declared.memory.NoMemory.{NoMemory}
-use Rattle.label_sets.specs.Triples.{Triple, triples_of}
+use Rattle.label_sets.specs.Triples.{triples_of}
 use Rattle.world_core.specs.Operations.{IsAnswer, IsLawful, entry_of}
 use Rattle.world_core.specs.Plans.{ComesTo}
 use Rattle.world_core.specs.declared.act.Act.{Act}
@@ -10,13 +10,13 @@ use Rattle.world_core.specs.declared.act.Act.TheVariants.{Do, Done}
 use Rattle.world_core.specs.declared.op.Op.{Op}
 use Rattle.world_core.specs.declared.entry.Entry.{Entry}
 use Rattle.world_core.specs.declared.seen.Seen.{Seen}
-use Rattle.sync_filters.specs.declared.found.Found.{Found}
 use Rattle.index_cache.specs.Caches.{held}
 use Rattle.index_cache.specs.declared.cache.IndexCache.{IndexCache}
 use Rattle.block_ranges.specs.Reads.{Query, Block, Cache, missing, damaged, fault}
 use Rattle.block_ranges.specs.BlockReads.{BlockEnd, gives, breaks_off}
-use Rattle.series_calls.specs.SeriesCalls.{CallEnd, Gives, after_block, asking, meets, reading, sources_of, to_read}
-use Rattle.series_calls.specs.BlockRuns.{asked_block, cache_of, count_block, may_block, most_reads}
+use Rattle.series_calls.specs.SeriesCalls.{CallEnd, Gives, after_block, asking, reading, sources_of, to_read}
+use Rattle.block_ranges.specs.BlockRuns.{cache_of, most_reads}
+use Rattle.block_ranges.specs.contracts.block_call.BlockCallMachine.TheImpl.{ghosts as reads}
 use Rattle.series_calls.specs.Endings.{IsOver, ended_with, with_cache}
 use Rattle.block_ranges.specs.declared.block_call.BlockCall.{BlockCall}
 use Rattle.block_ranges.specs.declared.block_outcome.BlockOutcome.{BlockOutcome}
@@ -31,11 +31,6 @@ use Rattle.series_calls.specs.declared.stage.Stage.TheVariants.{Fresh, Reading, 
 abbrev pub query_of : Wanted → Query
 query_of wanted = asking wanted.selector.now wanted.replicas.now wanted.low wanted.high
 
--- the first of these blocks meets the range, if there is one
-abbrev pub StartsMeeting : Query → List Found → Type 0
-StartsMeeting query [] = Unit {0}
-StartsMeeting query (block ∷ blocks) = meets query block ≡ true
-
 -- the blocks behind the one that a call reads
 abbrev pub left_of : SeriesCall → List Block
 left_of call = to_read (query_of call.wanted) call.left.now
@@ -49,20 +44,16 @@ IsFresh call = (cache : IndexCache) × (call.stage ≡ Fresh cache)
 abbrev pub Onward : Type 1
 Onward = List Entry → Option CallEnd → Type 0
 
--- the reads of these blocks, where these samples were taken
-abbrev pub Reads : Query → List ℕ → List Block → List Triple → Cache → Onward
-Reads query sources blocks taken cache = ComesTo (reading query blocks taken cache) (Gives sources)
-
 -- the reads of these blocks by a call, behind what it took
 abbrev pub reads_of : SeriesCall → List Block → Cache → Onward
-reads_of call blocks cache = Reads (query_of call.wanted) (sources_of call.kept.now) blocks call.merger cache
+reads_of call blocks cache = ComesTo (reading (query_of call.wanted) blocks call.merger cache) (Gives (sources_of call.kept.now))
 
 -- the reads of a block are broken off, or come to their end, from which the call goes on
 abbrev pub beyond : BlockCall → (BlockOutcome → Cache → Onward) → Onward
 beyond part next entries end =
-    ((last : BlockCall) × may_block part entries None last × (end ≡ None))
+    ((last : BlockCall) × reads.may part entries None last × (end ≡ None))
     ⊎ ((own : List Entry) × (others : List Entry) × (came : BlockOutcome) × (last : BlockCall)
-    × (entries ≡ own ++ others) × may_block part own (Some came) last × next came (cache_of last) others end)
+    × (entries ≡ own ++ others) × reads.may part own (Some came) last × next came (cache_of last) others end)
 
 -- what a block's reads came to, by the end that the code gives
 abbrev pub told_by : BlockOutcome → Cache → BlockEnd
@@ -95,7 +86,7 @@ pub record may_call (call : SeriesCall) (entries : List Entry) (end : Option Ser
 
 -- the operation that is waited for
 abbrev pub asked_at : Stage → Option Op
-asked_at (Reading part) = asked_block part
+asked_at (Reading part) = reads.asked part
 asked_at stage = None
 
 abbrev pub asked_call : SeriesCall → Option Op
@@ -108,7 +99,7 @@ count_left (block ∷ blocks) = count_left blocks + (most_reads + 1)
 
 abbrev pub count_at : Stage → List Block → ℕ
 count_at (Fresh cache) blocks = count_left blocks
-count_at (Reading part) blocks = count_left blocks + count_block part
+count_at (Reading part) blocks = count_left blocks + reads.measure part
 count_at stage blocks = 0
 
 abbrev pub count_call : SeriesCall → ℕ

@@ -7,6 +7,5 @@ pub mod Asking
 pub mod KeptRanges
 pub mod LastEntries
 pub mod Exact
-pub mod BlockRuns
 pub mod Endings
 pub mod CallStates

@@ -1,7 +1,7 @@
 -- A series call by ranges: of each kept block that meets the range of times, one after another, the reads of its ranges. What a gateway
 -- has in its cache stands for a read, and each block's reads hand the cache on to those of the next. The call comes to the samples
 -- that the blocks gave, whose merge is the answer.
-use Rattle.std.specs.Prelude.{◌≡◌, ℕ, ℤ, int_le, int_lt, Bool, ◌&&◌, List, [], ◌∷◌, ◌++◌, map, Option}
+use Rattle.std.specs.Prelude.{◌≡◌, ℕ, ℤ, int_le, int_lt, Bool, true, ◌&&◌, List, [], ◌∷◌, ◌++◌, map, Option}
 use Rattle.std.specs.List.{filter, flat_map}
 use Rattle.label_sets.specs.declared.series.Series.{Series}
 use Rattle.label_sets.specs.Triples.{Triple}
@@ -29,6 +29,11 @@ meets query block = int_le block.meta.min_time query.high && int_lt query.low bl
 -- the blocks that meet the range, in their order
 abbrev pub to_read : Query → List Found → List Block
 to_read query blocks = map (λ block. block_of block.ulid block.meta) (filter (meets query) blocks)
+
+-- the first of these blocks meets the range, if there is one
+abbrev pub StartsMeeting : Query → List Found → Type 0
+StartsMeeting query [] = Unit {0}
+StartsMeeting query (block ∷ blocks) = meets query block ≡ true
 
 -- the sources of all these blocks
 abbrev pub sources_of : List Found → List ℕ

@@ -3,8 +3,8 @@ ghost use Rattle.std.specs.Prelude.{◌≡◌, ◌<◌, length, IfOk, IfSome, Fi
 ghost use Rattle.std.specs.Int.{w64};
 ghost use Rattle.std.specs.List.{position};
 ghost use Rattle.block_ranges.specs.ChunkRanges.{IsSetOf};
-ghost use Rattle.series_calls.specs.SeriesCalls.{meets, sources_of, to_read};
-ghost use Rattle.series_calls.specs.CallStates.{StartsMeeting, query_of};
+ghost use Rattle.series_calls.specs.SeriesCalls.{meets, sources_of, to_read, StartsMeeting};
+ghost use Rattle.series_calls.specs.CallStates.{query_of};
 
 use label_sets::TextList;
 use list_core::NoMemory;

@@ -7,7 +7,7 @@ ghost use Rattle.world_core.specs.declared.act.Act.TheVariants as act;
 ghost use Rattle.index_cache.specs.Caches.{held};
 ghost use Rattle.block_ranges.specs.Reads.{block_of};
 ghost use Rattle.series_calls.specs.SeriesCalls.{SeriesRun, asking};
-ghost use Rattle.series_calls.specs.BlockRuns.{asked_block, count_block, most_reads};
+ghost use Rattle.block_ranges.specs.BlockRuns.{most_reads};
 ghost use Rattle.series_calls.specs.declared.stage.Stage.TheVariants as stage;
 ghost use Rattle.series_calls.specs.declared.series_end.SeriesEnd.{SeriesEnd};
 
@@ -160,11 +160,14 @@ impl<'a> SeriesCall<'a> {
 
     /// Goes on with the reads of a block.
     fn go_on(&mut self, mut part: BlockCall<'a>, seen: Seen) -> Result<Act<SeriesEnd>, NoMemory>
-        requires answer { IsSomeAnd (asked_block part) (λ op. IsAnswer op seen) }
-        ensures goes_on { (seat : ℕ) (op : Op) → asked_block part.entry ≡ Some op
+        requires answer { IsSomeAnd (⟦<BlockCall<'a> as Machine>⟧.asked part)
+            (λ op. IsAnswer op seen) }
+        ensures goes_on { (seat : ℕ) (op : Op)
+            → ⟦<BlockCall<'a> as Machine>⟧.asked part.entry ≡ Some op
             → GoesOn may_call asked_call (record self.old { stage = stage.Reading part.entry })
             (entry_of seat op seen ∷ []) result self.new }
-        ensures falls { Falls (count_left (left_of self.old) + count_block part.entry) result
+        ensures falls { Falls
+            (count_left (left_of self.old) + ⟦<BlockCall<'a> as Machine>⟧.measure part.entry) result
             (count_call self.new) }
     {
         match part.step(seen)? {

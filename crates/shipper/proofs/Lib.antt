@@ -1,2 +1,3 @@
 mod Begin
-mod Steps
+pub mod Steps
+pub mod UploadCounts

@@ -9,8 +9,9 @@ use Rattle.block_keys.specs.declared.key.Key.{Key}
 use Rattle.block_keys.specs.declared.key.Key.TheVariants as key
 use Rattle.block_keys.specs.declared.object.Object.{Object}
 use Rattle.world_core.proofs.LeadSteps.{on_entry, opens_by, steps_by}
+use Rattle.world_core.proofs.PlanLaws.{answered, breaks_off}
 use Rattle.world_core.proofs.Replies.{answer_of}
-use Rattle.world_core.specs.Leads.{LeadsBy, after_entry}
+use Rattle.world_core.specs.Leads.{LeadsBy, after_entry, does}
 use Rattle.world_core.specs.Machines.{GoesOn, Falls}
 use Rattle.world_core.specs.Operations.{IsAnswer, IsReplyTo, IsLawful, entry_of}
 use Rattle.world_core.specs.Plans.{Runs, ends, after_get, after_put, asked}
@@ -21,8 +22,9 @@ use Rattle.world_core.specs.declared.reply.Reply.TheVariants as reply
 use Rattle.world_core.specs.declared.seen.Seen.{Seen}
 use Rattle.world_core.specs.declared.act.Act.{Act}
 use Rattle.world_core.specs.declared.act.Act.TheVariants.{Do, Done as Over}
-use Rattle.shipper.specs.UploadStates.{PutsNext, asked_upload, count_at, left_at, left_of, may_upload}
+use Rattle.shipper.specs.UploadStates.{PutsNext, asked_upload, count_at, left_at, left_of}
 use Rattle.shipper.specs.Uploads.{putting}
+use Rattle.shipper.specs.contracts.upload.UploadMachine.TheImpl.{ghosts}
 use Rattle.shipper.specs.declared.stage.Stage.{Stage}
 use Rattle.shipper.specs.declared.stage.Stage.TheVariants.{Looking, Putting}
 use Rattle.shipper.specs.declared.upload.Upload.{Upload}
@@ -57,6 +59,13 @@ object_at (o ∷ os) (suc place) lt =
 -- what is left begins with the operation that is waited for
 asks_own : (u : Upload) (o : Op) → asked_upload u ≡ Some o → asked (left_of u) ≡ Some o
 asks_own u o is = is
+
+-- it may be stopped wherever it stands, and as soon as its operation is answered
+pub rests : (u : Upload) → ghosts.may u [] None u
+rests u = breaks_off (left_of u)
+
+pub answers : (u : Upload) (seat : ℕ) (o : Op) (seen : Seen) → ghosts.asked u ≡ Some o → ghosts.may u (entry_of seat o seen ∷ []) None u
+answers u seat o seen is = answered (left_of u) (entry_of seat o seen) is
 
 -- what waits, from the object at the place on
 pub waits_first : (stage : Stage) (objects waiting : List Object) (at place : ℕ) → waiting ≡ drop (begun stage at) objects → begun stage at ≡ place → waiting ≡ drop place objects
@@ -131,7 +140,7 @@ absent_reply k reply.Deleted kind found failed = absurd kind
 absent_reply k (reply.Names ns) kind found failed = absurd kind
 
 -- the look is asked for
-pub asks_look : (u : Upload) → u.stage ≡ Looking → GoesOn may_upload asked_upload u [] (Ok (Do (op.Get (key.Meta u.ulid)))) u
+pub asks_look : (u : Upload) → u.stage ≡ Looking → GoesOn (does left_of) asked_upload u [] (Ok (Do (op.Get (key.Meta u.ulid)))) u
 asks_look u looking = opens_by left_of asked_upload asks_own u u (Ok (Do (op.Get (key.Meta u.ulid)))) (record {
   lawful = tt;
   asks = ap (λ s. asked (left_at s u.ulid u.objects.value.items u.place)) looking;
@@ -142,7 +151,7 @@ asks_look u looking = opens_by left_of asked_upload asks_own u u (Ok (Do (op.Get
 pub look_goes : (u new : Upload) (seat : ℕ) (o : Op) (seen : Seen) (act : Act UploadEnd) → u.stage ≡ Looking
     → IsSomeAnd (asked_upload u) (λ p. IsAnswer p seen) → ((b : List ℕ) → seen.reply ≡ reply.Found b → ⊥) → ((l : Bool) → seen.reply ≡ reply.Failed l → ⊥)
     → PutsNext u.objects.value.items 0 act → new.stage ≡ Putting → new.objects.value.items ≡ u.objects.value.items → new.place ≡ 0
-    → asked_upload u ≡ Some o → GoesOn may_upload asked_upload u (entry_of seat o seen ∷ []) (Ok act) new
+    → asked_upload u ≡ Some o → GoesOn (does left_of) asked_upload u (entry_of seat o seen ∷ []) (Ok act) new
 look_goes u new seat o seen act looking answer found failed puts waits same_objects same_place asks =
     let is : Some o ≡ Some (op.Get (key.Meta u.ulid)) = sym asks ∙ ap (λ s. asked (left_at s u.ulid u.objects.value.items u.place)) looking in
     let get : o ≡ op.Get (key.Meta u.ulid) = cc (is) in
@@ -179,7 +188,7 @@ after_this u seat o seen putting' =
 -- an end to which this reply leads
 comes_to : (u : Upload) (seat : ℕ) (o : Op) (seen : Seen) (r : Reply) (end : UploadEnd) → u.stage ≡ Putting → asked_upload u ≡ Some o → seen.reply ≡ r
     → Runs (after_put r (putting (length u.objects.value.items) (drop (u.place + 1) u.objects.value.items)) (ends (Fault seen.seq))) [] (Some end)
-    → may_upload u (entry_of seat o seen ∷ []) (Some end) u
+    → Runs (left_of u) (entry_of seat o seen ∷ []) (Some end)
 comes_to u seat o seen r end putting' asks is run =
     let left : after_entry (left_of u) (entry_of seat o seen) ≡ after_put r (putting (length u.objects.value.items) (drop (u.place + 1) u.objects.value.items)) (ends (Fault seen.seq)) =
     after_this u seat o seen putting' ∙ ap (λ q. after_put q (putting (length u.objects.value.items) (drop (u.place + 1) u.objects.value.items)) (ends (Fault seen.seq))) is in
@@ -187,7 +196,7 @@ comes_to u seat o seen r end putting' asks is run =
 
 -- a put that failed
 pub put_fails : (u : Upload) (seat : ℕ) (o : Op) (seen : Seen) (landed : Bool) → u.stage ≡ Putting → asked_upload u ≡ Some o → seen.reply ≡ reply.Failed landed
-    → may_upload u (entry_of seat o seen ∷ []) (Some (Fault seen.seq)) u
+    → Runs (left_of u) (entry_of seat o seen ∷ []) (Some (Fault seen.seq))
 put_fails u seat o seen landed putting' asks failed = comes_to u seat o seen (reply.Failed landed) (Fault seen.seq) putting' asks failed (refl, inr refl)
 
 module _ (u : Upload) (seat : ℕ) (o : Op) (seen : Seen) (putting' : u.stage ≡ Putting) (answer : IsSomeAnd (asked_upload u) (λ p. IsAnswer p seen)) (failed : (l : Bool) → seen.reply ≡ reply.Failed l → ⊥) (asks : asked_upload u ≡ Some o) where
@@ -199,7 +208,7 @@ module _ (u : Upload) (seat : ℕ) (o : Op) (seen : Seen) (putting' : u.stage �
       stored_reply o at.object.key at.object.bytes seen.reply (cc (is)) (answer_of seen (asked_upload u) o answer asks).kind failed
 
   -- the last put was stored
-  pub put_last : u.place + 1 ≡ length u.objects.value.items → may_upload u (entry_of seat o seen ∷ []) (Some (Done (u.place + 1))) u
+  pub put_last : u.place + 1 ≡ length u.objects.value.items → Runs (left_of u) (entry_of seat o seen ∷ []) (Some (Done (u.place + 1)))
   put_last last =
       comes_to u seat o seen reply.Stored (Done (u.place + 1)) putting' asks was_stored
       (subst (λ (l : List Object). Runs (putting (length u.objects.value.items) l) [] (Some (Done (u.place + 1)))) (sym (drop_all (u.place + 1) u.objects.value.items (omega arith)))
@@ -207,7 +216,7 @@ module _ (u : Upload) (seat : ℕ) (o : Op) (seen : Seen) (putting' : u.stage �
 
   -- the next put follows one that was stored
   pub put_goes : (new : Upload) (act : Act UploadEnd) → PutsNext u.objects.value.items (u.place + 1) act → new.stage ≡ Putting
-      → new.objects.value.items ≡ u.objects.value.items → new.place ≡ u.place + 1 → GoesOn may_upload asked_upload u (entry_of seat o seen ∷ []) (Ok act) new
+      → new.objects.value.items ≡ u.objects.value.items → new.place ≡ u.place + 1 → GoesOn (does left_of) asked_upload u (entry_of seat o seen ∷ []) (Ok act) new
   put_goes new act puts waits same_objects same_place =
       let left : after_entry (left_of u) (entry_of seat o seen) ≡ putting (length u.objects.value.items) (drop (u.place + 1) u.objects.value.items) =
       after_this u seat o seen putting' ∙ ap (λ q. after_put q (putting (length u.objects.value.items) (drop (u.place + 1) u.objects.value.items)) (ends (Fault seen.seq))) was_stored in

@@ -1,12 +1,10 @@
--- What is left of an upload in each of its states. The machine's steps alone speak of this. What an upload is from its start on,
--- Uploads says.
+-- The plan at which an upload stands in each of its states. The machine's steps alone speak of this.
 use Rattle.std.specs.Prelude.{◌≡◌, ℕ, ◌+◌, ◌-◌, List, length, drop, Option, Some}
 use Rattle.block_keys.specs.declared.object.Object.{Object}
-use Rattle.world_core.specs.Plans.{Plan, Runs, asked}
+use Rattle.world_core.specs.Plans.{Plan, asked}
 use Rattle.world_core.specs.declared.op.Op.{Op}
 use Rattle.world_core.specs.declared.act.Act.{Act}
 use Rattle.world_core.specs.declared.act.Act.TheVariants.{Do, Done}
-use Rattle.world_core.specs.declared.entry.Entry.{Entry}
 use Rattle.shipper.specs.declared.stage.Stage.{Stage}
 use Rattle.shipper.specs.declared.stage.Stage.TheVariants.{Looking, Putting}
 use Rattle.shipper.specs.declared.upload.Upload.{Upload}
@@ -21,15 +19,6 @@ left_at Putting ulid objects place = putting (length objects) (drop place object
 abbrev pub left_of : Upload → Plan UploadEnd
 left_of upload = left_at upload.stage upload.ulid upload.objects.value.items upload.place
 
--- it was not begun
-abbrev pub IsFresh : Upload → Type 0
-IsFresh upload = upload.stage ≡ Looking
-
--- what it may still do
-abbrev pub may_upload : Upload → List Entry → Option UploadEnd → Upload → Type 0
-may_upload upload entries end last = Runs (left_of upload) entries end
-
--- what it waits for
 abbrev pub asked_upload : Upload → Option Op
 asked_upload upload = asked (left_of upload)
 

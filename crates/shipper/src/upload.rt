@@ -47,7 +47,8 @@ fn take_first(waiting: &mut VecDeque<Object>) -> Object
 }
 
 impl Upload {
-    ghost use Rattle.shipper.specs.UploadStates.{PutsNext, may_upload, asked_upload, count_of};
+    ghost use Rattle.world_core.specs.Leads.{does};
+    ghost use Rattle.shipper.specs.UploadStates.{PutsNext, left_of, asked_upload, count_of};
 
     /// An upload of a block's objects, segments first, then the index, then the meta. It takes no memory today.
     pub fn start(objects: ObjectList) -> Result<Upload, NoMemory>
@@ -91,7 +92,8 @@ impl Upload {
         requires stage { self.old.stage ≡ Stage.Looking }
         requires answer { IsSomeAnd (asked_upload self.old) (λ op. IsAnswer op seen) }
         ensures goes_on { (seat : ℕ) (op : Op) → asked_upload self.old ≡ Some op
-            → GoesOn may_upload asked_upload self.old (entry_of seat op seen ∷ []) result self.new }
+            → GoesOn (does left_of) asked_upload self.old (entry_of seat op seen ∷ []) result
+            self.new }
         ensures falls { Falls (count_of self.old) result (count_of self.new) }
     {
         match seen.reply {
@@ -106,7 +108,8 @@ impl Upload {
         requires stage { self.old.stage ≡ Stage.Putting }
         requires answer { IsSomeAnd (asked_upload self.old) (λ op. IsAnswer op seen) }
         ensures goes_on { (seat : ℕ) (op : Op) → asked_upload self.old ≡ Some op
-            → GoesOn may_upload asked_upload self.old (entry_of seat op seen ∷ []) result self.new }
+            → GoesOn (does left_of) asked_upload self.old (entry_of seat op seen ∷ []) result
+            self.new }
         ensures falls { Falls (count_of self.old) result (count_of self.new) }
     {
         if let Reply::Failed(_) = seen.reply {
@@ -123,15 +126,17 @@ impl Upload {
 impl Machine for Upload {
     type End = UploadEnd;
 
-    ghost use Rattle.shipper.specs.UploadStates.{IsFresh, may_upload, asked_upload, count_of};
+    ghost use Rattle.world_core.specs.Leads.{does};
+    ghost use Rattle.shipper.specs.UploadStates.{left_of, asked_upload, count_of};
+    ghost use Rattle.shipper.specs.declared.stage.Stage.TheVariants.{Looking};
 
-    ghost may = { may_upload };
+    ghost may = { does left_of };
 
     ghost asked = { asked_upload };
 
     ghost measure = { count_of };
 
-    ghost fresh = { IsFresh };
+    ghost fresh = { λ upload. upload.stage ≡ Looking };
 
     fn first(&mut self) -> Result<Act<UploadEnd>, NoMemory> {
         Ok(Act::Do(Op::Get(Key::Meta(self.ulid))))

@@ -1,7 +1,6 @@
 ghost use Rattle.std.specs.Prelude.{◌≡◌, Some, IfOk};
 ghost use Rattle.world_core.specs.Operations.{IsLawful};
 ghost use Rattle.world_core.specs.declared.op.Op.{Op};
-ghost use Rattle.meta_fetcher.specs.SyncStates.{asked_sync};
 
 use bucket_core::MemoryBucket;
 use list_core::NoMemory;
@@ -14,10 +13,10 @@ pub(crate) fn turn(
     world: &mut World<MemoryBucket>,
     op: Op,
 ) -> Result<Act<SyncEnd>, NoMemory>
-    requires asked { asked_sync sync.old ≡ Some op }
+    requires asked { ⟦<Sync as Machine>⟧.asked sync.old ≡ Some op }
     requires lawful { IsLawful op }
     ensures asks { IfOk result (λ act.
-        (next : Op) → act ≡ Act.Do next → asked_sync sync.new ≡ Some next) }
+        (next : Op) → act ≡ Act.Do next → ⟦<Sync as Machine>⟧.asked sync.new ≡ Some next) }
     ensures lawful { IfOk result (λ act. (next : Op) → act ≡ Act.Do next → IsLawful next) }
 {
     match world.act(2, op) {
@@ -32,7 +31,8 @@ pub(crate) fn finish(
     world: &mut World<MemoryBucket>,
     first: Act<SyncEnd>,
 ) -> Result<SyncEnd, NoMemory>
-    requires asks { (next : Op) → first ≡ Act.Do next → asked_sync sync.old ≡ Some next }
+    requires asks { (next : Op) → first ≡ Act.Do next
+        → ⟦<Sync as Machine>⟧.asked sync.old ≡ Some next }
     requires lawful { (next : Op) → first ≡ Act.Do next → IsLawful next }
 {
     let mut act = first;

@@ -1,7 +1,7 @@
 use Rattle.std.proofs.Common.{refl, sym, map}
 use Rattle.block_ranges.specs.ChunksRead.{reads_of}
 use Rattle.block_ranges.specs.Glimpsed.{pending_chunk}
-use Rattle.block_ranges.specs.WorkStates.{shown_first}
+use Rattle.block_ranges.specs.ChunkFindings.{shown_first}
 use Rattle.block_ranges.proofs.ShownLoop.{shows_more, sticks_there}
 use Rattle.block_ranges.proofs.chunk_steps.shown_chunks.Goals as goal
 

@@ -3,7 +3,8 @@ use Rattle.index_cache.specs.Caches.{held}
 use Rattle.block_ranges.specs.Asking.{piece_of}
 use Rattle.block_ranges.specs.ToRead.{run_read}
 use Rattle.block_ranges.specs.IndexReads.{reached}
-use Rattle.block_ranges.specs.WorkStates.{most, sized_left, runs_left, with_run, whole_left, texts_of, TakesRun}
+use Rattle.block_ranges.specs.WorkStates.{most, sized_left, runs_left, with_run, whole_left, texts_of}
+use Rattle.block_ranges.specs.RunFindings.{TakesRun}
 use Rattle.block_ranges.proofs.Leading.{leads_kept}
 use Rattle.block_ranges.proofs.IndexPlans.{run_read_on, run_refused}
 use Rattle.block_ranges.proofs.index_steps.take_run.Goals as goal

@@ -26,4 +26,4 @@ returns-in-None c =
     (subst (λ found. IsFromCache (range_of (Index c.args.asked.now.ulid) (symbols_piece c.args.places)) (held c.args.cache.now) found (held c.from_cache.new.cache)) c.in-None.is
     (subst (λ p. IsFromCache (range_of (Index c.args.asked.now.ulid) p) (held c.args.cache.now) c.in_ok-bytes.field-0 (held c.from_cache.new.cache)) c.symbols_range-range.ensures.value c.in_ok-bytes.ensures))
     (c.ask_range.ensures ∙ ap (λ (p : Piece). Wait (GetRange (Index c.args.asked.now.ulid) p.from p.len) (Symbols c.args.places)) c.symbols_range-range.ensures.value)
-    refl (omega arith) tt (keeps_all (left_at (query_asked c.args.asked.now) (block_asked c.args.asked.now) (Symbols c.args.places) (held c.from_cache.new.cache)))
+    refl (omega arith) tt (keeps_all (left_at c.args.asked.now (Symbols c.args.places) (held c.from_cache.new.cache)))

@@ -7,7 +7,8 @@ use Rattle.block_ranges.specs.declared.run_read.RunRead.{RunRead}
 use Rattle.block_ranges.specs.Reads.{range_of}
 use Rattle.block_ranges.specs.Caching.{IsFromCache}
 use Rattle.block_ranges.specs.IndexReads.{reached}
-use Rattle.block_ranges.specs.WorkStates.{runs_left, texts_of, TakesRun}
+use Rattle.block_ranges.specs.WorkStates.{runs_left, texts_of}
+use Rattle.block_ranges.specs.RunFindings.{TakesRun}
 use Rattle.block_ranges.proofs.RunLoop.{run_goes_on, run_breaks}
 use Rattle.block_ranges.proofs.run_steps.cached_runs.Goals as goal
 

@@ -5,13 +5,13 @@ use Rattle.world_core.specs.declared.op.Op.{Op}
 use Rattle.world_core.specs.declared.entry.Entry.{Entry}
 use Rattle.world_core.specs.declared.act.Act.{Act}
 use Rattle.world_core.specs.declared.act.Act.TheVariants.{Do, Done}
-use Rattle.meta_fetcher.specs.SyncStates.{may_sync, asked_sync}
+use Rattle.meta_fetcher.specs.contracts.sync.SyncMachine.TheImpl.{ghosts as syncs}
 use Rattle.meta_fetcher.specs.declared.sync.Sync.{Sync}
 use Rattle.meta_fetcher.specs.declared.sync_end.SyncEnd.{SyncEnd}
 use Rattle.tests_syncs.proofs.turns.turn.Goals as goal
 
-asks_next : (s new : Sync) (made : List Entry) (act : Act SyncEnd) (next : Op) → GoesOn may_sync asked_sync s made (Ok act) new → act ≡ Do next
-    → (asked_sync new ≡ Some next) × IsLawful next
+asks_next : (s new : Sync) (made : List Entry) (act : Act SyncEnd) (next : Op) → GoesOn syncs.may syncs.asked s made (Ok act) new → act ≡ Do next
+    → (syncs.asked new ≡ Some next) × IsLawful next
 asks_next s new made (Do op) next goes is = let same : op ≡ next = cc in (goes.waits ∙ ap (λ o. Some o) same, rw (← same) goes.lawful)
 asks_next s new made (Done end) next goes is = absurd (cc)
 

@@ -1,5 +1,6 @@
 use Rattle.std.proofs.Common.{ap, []}
-use Rattle.cleaner.specs.CleanStates.{goes_to_deletes, first_delete}
+use Rattle.cleaner.specs.Cleanings.{deleting}
+use Rattle.cleaner.specs.CleanStates.{blocks_left, goes_to, first_delete}
 use Rattle.cleaner.proofs.Deletions.{no_object}
 use Rattle.cleaner.proofs.Keys.{lawful_first}
 use Rattle.cleaner.proofs.Steps.{leads_as}
@@ -14,6 +15,6 @@ returns-in-Some-clause-leads c = record {
 
 pub returns-in-None-clause-leads : goal.returns-in-None-clause-leads
 returns-in-None-clause-leads c =
-    leads_as _ (goes_to_deletes c.args.self.now) c.look_next.result c.look_next.new.self
+    leads_as _ (goes_to c.args.self.now (deleting c.args.self.now.doomed.items (blocks_left c.args.self.now))) c.look_next.result c.look_next.new.self
     (λ entries end run. no_object c.args.self.now entries end c.in-None.ensures run)
     c.look_next.ensures.leads

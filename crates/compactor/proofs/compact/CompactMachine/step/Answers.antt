@@ -2,7 +2,7 @@ use Rattle.std.proofs.Common.{sym, [], ◌∷◌, ◌∙◌}
 use Rattle.world_core.specs.Operations.{entry_of}
 use Rattle.compactor.specs.declared.stage.Stage.TheVariants.{Syncing, Reading, Uploading, Marking}
 use Rattle.compactor.proofs.CompactCounts.{stage_falls}
-use Rattle.compactor.proofs.CompactSteps.{stage_goes, asked_in, answer_in}
+use Rattle.compactor.proofs.CompactSteps.{compact_steps, asked_in, answer_in}
 use Rattle.compactor.proofs.compact.CompactMachine.step.Goals as goal
 
 pub step_sync-requires : goal.step_sync-requires
@@ -10,7 +10,7 @@ step_sync-requires c = record { answer = answer_in (Syncing c.in-Syncing.sync) c
 
 pub returns-in-Syncing-clause-goes_on : goal.returns-in-Syncing-clause-goes_on
 returns-in-Syncing-clause-goes_on c = λ seat op asks.
-    stage_goes (Syncing c.in-Syncing.sync) c.args.self.now c.step_sync.new.self (entry_of seat op c.args.seen ∷ []) c.step_sync.result (sym c.replace-stage.ensures.value ∙ c.in-Syncing.is) (c.step_sync.ensures.goes_on seat op (asked_in (Syncing c.in-Syncing.sync) c.args.self.now op (sym c.replace-stage.ensures.value ∙ c.in-Syncing.is) asks))
+    compact_steps (Syncing c.in-Syncing.sync) c.args.self.now c.step_sync.new.self c.step_sync.result (sym c.replace-stage.ensures.value ∙ c.in-Syncing.is) seat op c.args.seen asks (c.step_sync.ensures.goes_on seat op (asked_in (Syncing c.in-Syncing.sync) c.args.self.now op (sym c.replace-stage.ensures.value ∙ c.in-Syncing.is) asks))
 
 pub returns-in-Syncing-clause-falls : goal.returns-in-Syncing-clause-falls
 returns-in-Syncing-clause-falls c = stage_falls (Syncing c.in-Syncing.sync) c.args.self.now c.step_sync.result _ (sym c.replace-stage.ensures.value ∙ c.in-Syncing.is) c.step_sync.ensures.falls
@@ -20,7 +20,7 @@ step_marks-requires c = record { answer = answer_in (Marking c.in-Marking.reason
 
 pub returns-in-Marking-clause-goes_on : goal.returns-in-Marking-clause-goes_on
 returns-in-Marking-clause-goes_on c = λ seat op asks.
-    stage_goes (Marking c.in-Marking.reason c.in-Marking.marks) c.args.self.now c.step_marks.new.self (entry_of seat op c.args.seen ∷ []) c.step_marks.result (sym c.replace-stage.ensures.value ∙ c.in-Marking.is) (c.step_marks.ensures.goes_on seat op (asked_in (Marking c.in-Marking.reason c.in-Marking.marks) c.args.self.now op (sym c.replace-stage.ensures.value ∙ c.in-Marking.is) asks))
+    compact_steps (Marking c.in-Marking.reason c.in-Marking.marks) c.args.self.now c.step_marks.new.self c.step_marks.result (sym c.replace-stage.ensures.value ∙ c.in-Marking.is) seat op c.args.seen asks (c.step_marks.ensures.goes_on seat op (asked_in (Marking c.in-Marking.reason c.in-Marking.marks) c.args.self.now op (sym c.replace-stage.ensures.value ∙ c.in-Marking.is) asks))
 
 pub returns-in-Marking-clause-falls : goal.returns-in-Marking-clause-falls
 returns-in-Marking-clause-falls c = stage_falls (Marking c.in-Marking.reason c.in-Marking.marks) c.args.self.now c.step_marks.result _ (sym c.replace-stage.ensures.value ∙ c.in-Marking.is) c.step_marks.ensures.falls
@@ -30,7 +30,7 @@ step_reads-requires c = record { answer = answer_in (Reading c.in-Reading.reads 
 
 pub returns-in-Reading-clause-goes_on : goal.returns-in-Reading-clause-goes_on
 returns-in-Reading-clause-goes_on c = λ seat op asks.
-    stage_goes (Reading c.in-Reading.reads c.in-Reading.labels c.in-Reading.parents) c.args.self.now c.step_reads.new.self (entry_of seat op c.args.seen ∷ []) c.step_reads.result (sym c.replace-stage.ensures.value ∙ c.in-Reading.is) (c.step_reads.ensures.goes_on seat op (asked_in (Reading c.in-Reading.reads c.in-Reading.labels c.in-Reading.parents) c.args.self.now op (sym c.replace-stage.ensures.value ∙ c.in-Reading.is) asks))
+    compact_steps (Reading c.in-Reading.reads c.in-Reading.labels c.in-Reading.parents) c.args.self.now c.step_reads.new.self c.step_reads.result (sym c.replace-stage.ensures.value ∙ c.in-Reading.is) seat op c.args.seen asks (c.step_reads.ensures.goes_on seat op (asked_in (Reading c.in-Reading.reads c.in-Reading.labels c.in-Reading.parents) c.args.self.now op (sym c.replace-stage.ensures.value ∙ c.in-Reading.is) asks))
 
 pub returns-in-Reading-clause-falls : goal.returns-in-Reading-clause-falls
 returns-in-Reading-clause-falls c = stage_falls (Reading c.in-Reading.reads c.in-Reading.labels c.in-Reading.parents) c.args.self.now c.step_reads.result _ (sym c.replace-stage.ensures.value ∙ c.in-Reading.is) c.step_reads.ensures.falls
@@ -40,7 +40,7 @@ step_upload-requires c = record { answer = answer_in (Uploading c.in-Uploading.u
 
 pub returns-in-Uploading-clause-goes_on : goal.returns-in-Uploading-clause-goes_on
 returns-in-Uploading-clause-goes_on c = λ seat op asks.
-    stage_goes (Uploading c.in-Uploading.upload c.in-Uploading.parents) c.args.self.now c.step_upload.new.self (entry_of seat op c.args.seen ∷ []) c.step_upload.result (sym c.replace-stage.ensures.value ∙ c.in-Uploading.is) (c.step_upload.ensures.goes_on seat op (asked_in (Uploading c.in-Uploading.upload c.in-Uploading.parents) c.args.self.now op (sym c.replace-stage.ensures.value ∙ c.in-Uploading.is) asks))
+    compact_steps (Uploading c.in-Uploading.upload c.in-Uploading.parents) c.args.self.now c.step_upload.new.self c.step_upload.result (sym c.replace-stage.ensures.value ∙ c.in-Uploading.is) seat op c.args.seen asks (c.step_upload.ensures.goes_on seat op (asked_in (Uploading c.in-Uploading.upload c.in-Uploading.parents) c.args.self.now op (sym c.replace-stage.ensures.value ∙ c.in-Uploading.is) asks))
 
 pub returns-in-Uploading-clause-falls : goal.returns-in-Uploading-clause-falls
 returns-in-Uploading-clause-falls c = stage_falls (Uploading c.in-Uploading.upload c.in-Uploading.parents) c.args.self.now c.step_upload.result _ (sym c.replace-stage.ensures.value ∙ c.in-Uploading.is) c.step_upload.ensures.falls
