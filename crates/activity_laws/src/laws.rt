@@ -1,4 +1,4 @@
-ghost use Rattle.std.specs.Prelude.{List, ◌∷◌, ◌++◌, Option, Some};
+ghost use Rattle.std.specs.Prelude.{◌≡◌, ℕ, ◌<◌, ◌^◌, List, ◌∷◌, ◌++◌, Option, Some};
 ghost use Rattle.moment_core.specs.declared.rules.Rules.{Rules};
 ghost use Rattle.world_core.specs.declared.entry.Entry.{Entry};
 ghost use Rattle.meta_fetcher.specs.Syncs.{SyncRun};
@@ -9,6 +9,19 @@ ghost use Rattle.cleaner.specs.Cleanings.{CleanRun};
 ghost use Rattle.cleaner.specs.declared.clean_end.CleanEnd.{CleanEnd};
 ghost use Rattle.activity_laws.specs.CleaningOps.{IsCleanOp};
 ghost use Rattle.activity_laws.specs.Sights.{IsSight};
+ghost use Rattle.std.specs.List.{AllZip, flat_map};
+ghost use Rattle.std.specs.Str.{IsUtf8};
+ghost use Rattle.label_sets.specs.declared.label.Label.{Label};
+ghost use Rattle.label_sets.specs.Triples.{Triple};
+ghost use Rattle.block_meta.specs.MetaFields.{MarkFields};
+ghost use Rattle.block_meta.specs.MetaText.{IsMarkText};
+ghost use Rattle.block_meta.specs.MetaValue.{mark_text};
+ghost use Rattle.block_meta.specs.OfBlocks.{block_mark};
+ghost use Rattle.block_files.specs.declared.block_files.BlockFiles.{BlockFiles};
+ghost use Rattle.compactor.specs.Compactions.{CompactRun};
+ghost use Rattle.compactor.specs.declared.compact_end.CompactEnd.{CompactEnd};
+ghost use Rattle.activity_laws.specs.CompactionOps.{IsCompactOp};
+ghost use Rattle.activity_laws.specs.MergedLabels.{AreMergedAs, Holds};
 
 /// A law: a cleaning deletes nothing but what it decided to delete, and of a block the meta first.
 pub fn cleanings_ask_so()
@@ -20,4 +33,30 @@ pub fn cleanings_ask_so()
 pub fn syncs_see_so()
     ensures { (rules : SyncRules) (entries : List Entry) (view : View)
         → SyncRun rules entries (Some (GivesView view)) → IsSight rules entries view }
+{}
+
+/// A law: what a compaction asks for is told by its entries before: each mark has its look and its reason, each object of a new block
+/// its reads and their merge, and no block is read that was marked.
+pub fn compactions_ask_so()
+    ensures { (rules : Rules) (own : List Entry) (e : Entry) (rest : List Entry)
+        (end : Option CompactEnd) → CompactRun rules (own ++ e ∷ rest) end
+        → IsCompactOp rules own e.op }
+{}
+
+/// A law: the text of a mark is read as that mark, and as no other.
+pub fn marks_are_read_again()
+    ensures again { (mark : MarkFields) → mark.id < 2 ^ 128 → mark.deletion_time < 2 ^ 46
+        → IsUtf8 mark.details → block_mark mark.id (mark_text mark) ≡ Some mark }
+    ensures text { (mark : MarkFields) → mark.id < 2 ^ 128 → mark.deletion_time < 2 ^ 46
+        → IsUtf8 mark.details → IsMarkText (mark_text mark) mark }
+    ensures one { (bytes : List ℕ) (one other : MarkFields) → IsMarkText bytes one
+        → IsMarkText bytes other → one ≡ other }
+{}
+
+/// A law: a block that others are merged into holds, under final labels, what these held.
+pub fn merges_hold_what_was_held()
+    ensures { (replicas : List (List ℕ)) (ulid : ℕ) (labels : List Label)
+        (blocks : List BlockFiles) (block : BlockFiles) (held : List (List Triple))
+        → AreMergedAs replicas ulid labels blocks block → AllZip (Holds replicas) blocks held
+        → Holds replicas block (flat_map (λ one. one) held) }
 {}

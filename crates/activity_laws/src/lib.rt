@@ -1,7 +1,10 @@
-//! What cleanings and syncs ask for and see, by their own entries, and the words for what a compaction does: laws over plans, with no
-//! journal.
+//! What the activities of a journal ask for and see, by their own entries before, the words for what a compaction does, and what the
+//! blocks hold that compactions make: laws over plans, with no journal.
 #![tactic(auto)]
 
 mod laws;
 
-pub use laws::{cleanings_ask_so, syncs_see_so};
+pub use laws::{
+    cleanings_ask_so, compactions_ask_so, marks_are_read_again, merges_hold_what_was_held,
+    syncs_see_so,
+};

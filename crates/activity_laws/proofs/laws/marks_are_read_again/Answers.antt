@@ -1,5 +1,5 @@
-use Rattle.compaction_laws.proofs.MarkTexts.{own_mark, mark_text_is, one_mark}
-use Rattle.compaction_laws.proofs.laws.marks_are_read_again.Goals as goal
+use Rattle.activity_laws.proofs.MarkTexts.{own_mark, mark_text_is, one_mark}
+use Rattle.activity_laws.proofs.laws.marks_are_read_again.Goals as goal
 
 pub returns-clause-again : goal.returns-clause-again
 returns-clause-again c = own_mark

@@ -55,9 +55,9 @@ use Rattle.compactor.specs.declared.compact_end.CompactEnd.{CompactEnd}
 use Rattle.compactor.specs.declared.compact_end.CompactEnd.TheVariants.{Done, Fault}
 use Rattle.activity_laws.specs.CompactionOps.{HasMerged, HasSynced, IsCompactOp, IsKept, IsReason, Stores, WasCompacted, WasRead, compacted, covered, expired}
 use Rattle.activity_laws.proofs.CleaningAsks.{each_at}
-use Rattle.compaction_laws.proofs.CompactionGroups.{AreApart, IsOfNone, IsOfPassed, covered_of_none, groups_apart, member_found, of_sync, plan_among}
-use Rattle.compaction_laws.proofs.CompactionSoFar.{IsFree, IsNoMark, MarksOnly, Reasons, SoFar, may_read, puts_no_mark, reads_mark_none, so_far_more, so_far_weaker}
-use Rattle.compaction_laws.proofs.CompactionWords.{AreNoMarks, IsLast, StaysRead, WasPut, block_asks, blocks_ask, marking_asks, noting_asks, objects_no_marks, then_asks, upload_asks, upload_done}
+use Rattle.activity_laws.proofs.CompactionGroups.{AreApart, IsOfNone, IsOfPassed, covered_of_none, groups_apart, member_found, of_sync, plan_among}
+use Rattle.activity_laws.proofs.CompactionSoFar.{IsFree, IsNoMark, MarksOnly, Reasons, SoFar, may_read, puts_no_mark, reads_mark_none, so_far_more, so_far_weaker}
+use Rattle.activity_laws.proofs.CompactionWords.{AreNoMarks, IsLast, StaysRead, WasPut, block_asks, blocks_ask, marking_asks, noting_asks, objects_no_marks, then_asks, upload_asks, upload_done}
 
 -- ---- behind an upload that put all
 

@@ -32,7 +32,7 @@ use Rattle.compactor.specs.NewBlocks.{block_objects}
 use Rattle.compactor.specs.declared.compact_end.CompactEnd.{CompactEnd}
 use Rattle.compactor.specs.declared.compact_end.CompactEnd.TheVariants.{Fault, Missing}
 use Rattle.activity_laws.specs.CompactionOps.{HasMerged, IsCompactOp, IsInputRead, IsMarkMade, IsObjectMade, ReadsObject, Stores, WasRead}
-use Rattle.compaction_laws.proofs.CompactionSoFar.{AreRead, IsNoMark, MarksOnly, Reasons, SoFar, inputs_more, object_more, object_now, puts_mark_of, reads_mark_none, reasons_more, segments_and, segments_more, so_far_more, zip_push}
+use Rattle.activity_laws.proofs.CompactionSoFar.{AreRead, IsNoMark, MarksOnly, Reasons, SoFar, inputs_more, object_more, object_now, puts_mark_of, reads_mark_none, reasons_more, segments_and, segments_more, so_far_more, zip_push}
 
 -- ---- plans of plans
 

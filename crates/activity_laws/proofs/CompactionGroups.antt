@@ -22,9 +22,8 @@ use Rattle.world_core.specs.declared.entry.Entry.{Entry}
 use Rattle.sync_filters.specs.Filters.{is_consistent, is_covered, is_in_partition, is_unmarked}
 use Rattle.sync_filters.specs.declared.found.Found.{Found}
 use Rattle.meta_fetcher.specs.Sightings.{IsView, Sighting, covered_by, kept_by, passed_by, sighting_of}
-use Rattle.meta_fetcher.specs.Syncs.{Course, IsEnd, SyncRun, Synced, sync}
+use Rattle.meta_fetcher.specs.Syncs.{Ascend, Course, IsEnd, SyncRun, Synced, sync}
 use Rattle.meta_fetcher.specs.Syncs as sync_told
-use Rattle.meta_fetcher.specs.SyncStates.{Ascend}
 use Rattle.meta_fetcher.specs.declared.rules.SyncRules.{SyncRules}
 use Rattle.meta_fetcher.specs.declared.sync_end.SyncEnd.{SyncEnd}
 use Rattle.meta_fetcher.specs.declared.sync_end.SyncEnd.TheVariants as fetched
