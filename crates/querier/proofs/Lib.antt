@@ -1,1 +1,2 @@
 pub mod AskLists
+pub mod ToldOnce

@@ -1,9 +1,9 @@
 -- The answers of several gateways as one.
-use Rattle.std.specs.Prelude.{◌≡◌, ℕ, List}
-use Rattle.std.specs.List.{flat_map}
+use Rattle.std.specs.Prelude.{◌≡◌, ℕ, List, All, Contains}
+use Rattle.std.specs.List.{find, flat_map}
 use Rattle.block_meta.specs.Lawful.{ascending}
 use Rattle.label_sets.specs.declared.series.Series.{Series}
-use Rattle.label_sets.specs.Triples.{Triple, triples_of}
+use Rattle.label_sets.specs.Triples.{Triple, has_same_key, triples_of}
 use Rattle.vertical_merge.specs.Merged.{IsMerge}
 use Rattle.querier.specs.declared.answer.Answer.{Answer}
 
@@ -22,3 +22,8 @@ gathered_sources answers = flat_map (λ one. one.sources) answers
 pub record IsGathered (answers : List Answer) (made : Answer) : Type 0 where
   pub merged : IsMerge (gathered_samples answers) made.series
   pub sources : made.sources ≡ ascending (gathered_sources answers)
+
+-- the first answers have no sample that the others have not, and the sample that is first at a key is the same one
+pub record TellTheSame (answers told : List Answer) : Type 0 where
+  pub nothing_more : All (Contains (gathered_samples told)) (gathered_samples answers)
+  pub first : (t : Triple) → find (has_same_key t) (gathered_samples answers) ≡ find (has_same_key t) (gathered_samples told)

@@ -6,6 +6,7 @@ ghost use Rattle.label_sets.specs.Triples.{triples_of};
 ghost use Rattle.vertical_merge.specs.Merged.{IsMerge, IsDeduplication};
 ghost use Rattle.querier.specs.Gathered.{answer, gathered_samples, gathered_sources, IsGathered};
 
+use crate::repeats::without_repeats;
 use crate::{Answer, AnswerList};
 use label_sets::SeriesList;
 use list_core::{NoMemory, TryCopy};
@@ -108,8 +109,16 @@ fn merged(alloc: Global, answers: AnswerList) -> Result<SeriesList, NoMemory>
     ensures deduplicated { IfOk result
         (λ made. IsDeduplication (triples_of made) (gathered_samples answers)) }
 {
+    let told = without_repeats(alloc, answers.into_vec())?;
+    merged_all(alloc, told)
+}
+
+/// The series of these answers, merged.
+fn merged_all(alloc: Global, told: Vec<Answer>) -> Result<SeriesList, NoMemory>
+    ensures { IfOk result (IsMerge (gathered_samples told.items)) }
+{
     let mut merger = Merger::new(alloc);
-    for answer in answers.into_vec() {
+    for answer in told {
         merger.take_all(answer.series)?;
     }
     merger.finish()

@@ -5,6 +5,7 @@ mod answer;
 mod ask;
 mod asking;
 mod gather;
+mod repeats;
 
 pub use answer::{Answer, AnswerList, Names, NamesList};
 pub use ask::{Ask, AskList};

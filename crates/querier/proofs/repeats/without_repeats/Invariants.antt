@@ -1,0 +1,5 @@
+use Rattle.querier.specs.Gathered.{TellTheSame}
+use Rattle.querier.proofs.repeats.without_repeats.Given as goal
+
+abbrev pub invariant-loop-answer : goal.invariant-loop-answer
+invariant-loop-answer l = TellTheSame l.yielded l.told.items
