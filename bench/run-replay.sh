@@ -1,41 +1,85 @@
 #!/usr/bin/env bash
-# Times work by one thread and with a thread for each worker, prints a table, and says whether the bars are met: eight gateways
-# that sync and are asked one query over 24 blocks take at most one 2.2th of the time on four processors (one 1.5th on two), and
-# a script of 64 uploads of small blocks takes no longer. The job of one gateway's worker is done eight
-# times over one world, each time from an empty view.
-# Each job of a gateway's worker reads the script again, one after another too, which the program's `serial` does not: so a bar that
-# is met here says that the jobs run beside each other, and not that `replay` is so much faster than `serial`.
-# CPU names the processor that the code is built for.
+# Times `serial` and `replay` of the program in turn, whole runs over a bucket in memory, prints a table, and says whether the bars are
+# met: eight gateways that sync and are asked one query over 24 blocks, which lie on the shelf, at least 2.2 times as fast by `replay`
+# on four processors (1.5 on two); and 64 uploads of small blocks no slower. The blocks are those of bench/run-query.sh: two replicas
+# of each of twelve, of 100 series by 411 or 412 samples. The other rows have no bar: the same query where the script has the samples
+# of the blocks, and uploads of other sizes.
+# ROUNDS is how often the first is run each way (9; a third as often from text, and eight times as often each of the uploads). PROGRAM
+# names a program that is built already; without it the program is built. SERIES and SAMPLES are the size of what is asked (100, and
+# 480 less each replica's gaps). KEEP names an empty folder in which the scripts, the shelf and the timing program stay.
 set -euo pipefail
 top=$(cd "$(dirname "$0")/.." && pwd)
-cpu=${CPU:-x86-64-v3}
-made=$(mktemp -d)
-trap 'rm -rf "$made"' EXIT
+rounds=${ROUNDS:-9}
+blocks=24 series=${SERIES:-100} samples=${SAMPLES:-480}
+if [ -n "${KEEP:-}" ]; then
+    made=$KEEP
+else
+    made=$(mktemp -d)
+    trap 'rm -rf "$made"' EXIT
+fi
+program=${PROGRAM:-$top/crates/tosraem/out/tosraem}
+if [ -z "${PROGRAM:-}" ]; then
+    (cd "$top/crates/tosraem" && rt run >"$made/run.log" 2>&1) || { tail -20 "$made/run.log"; exit 1; }
+fi
+rustc --edition 2021 -C opt-level=2 -o "$made/replay" "$top/bench/replay.rs"
 
-# A repository of its own for the program, over this one's crates and what their checks kept.
-own=$made/crates/replay_speed
-mkdir -p "$own/src" "$own/proofs/gateways/jobs_by"
-for name in main uploads gateways; do cp "$top/bench/replay_speed/$name.rt.txt" "$own/src/$name.rt"; done
-cp "$top/bench/replay_speed/jobs_by.antt.txt" "$own/proofs/gateways/jobs_by/Answers.antt"
-touch "$own/proofs/Lib.antt"
-cp "$top/HANDLES" "$made/HANDLES"
-grep -v "^tests_\|^tosraem" "$top/crates.txt" >"$made/crates.txt"
-for name in $(sed -n 's/^\([a-z0-9_]*\):.*/\1/p' "$made/crates.txt"); do cp -al "$top/crates/$name" "$made/crates/$name"; done
-echo "replay_speed: list_core moment_core bucket_core world_core world_turn phase_runner script_core script_running replay_cli wire_bytes" >>"$made/crates.txt"
-(cd "$own" && rt run --cpu "$cpu" >"$made/lines" 2>"$made/run.log") || { tail -20 "$made/run.log"; exit 1; }
-
-awk -v processors="$(nproc)" 'NF == 4 {
-    if ($4 == 0) wrong = 1
-    key = $1 " " $2
-    if (!(key in time) || $3 < time[key]) time[key] = $3
-}
-END {
-    print "| script | serial, ms | replay, ms | ratio |\n|---|---|---|---|"
-    bar["gateways"] = processors >= 4 ? 2.2 : 1.5; bar["uploads"] = 1
-    for (name in bar) {
-        ratio = time[name " serial"] / time[name " replay"]
-        printf "| %s | %.1f | %.1f | %.2f (bar %.1f) |\n", name, time[name " serial"] / 1e6, time[name " replay"] / 1e6, ratio, bar[name]
-        if (ratio < bar[name]) missed = 1
+# Block lines, each with its series: COUNT SERIES SAMPLES REPLICAS. Samples are 15 seconds apart. Where there are two replicas of each
+# range of times, each has gaps of its own.
+blocks() {
+    awk -v count="$1" -v series="$2" -v samples="$3" -v replicas="$4" 'BEGIN {
+        for (block = 0; block < count; block++) {
+            replica = block % replicas
+            start = int(block / replicas) * samples
+            printf "block 000000000000000000000000%02d %d %d %s\n", block, start * 15000, (start + samples) * 15000, labels(replica)
+            for (one = 0; one < series; one++) {
+                printf "series {__name__=\"up\",instance=\"i%04d\"}", one
+                for (place = start; place < start + samples; place++)
+                    if (replicas == 1 || (place + 3 * replica) % 7)
+                        printf " %d:40%014x", place * 15000, (one * 7919 + place * 104729) * 65536
+                print ""
+            }
+        }
     }
-    print wrong ? "A run did not end as asked." : (missed ? "Missed." : "The bars are met.")
-}' "$made/lines"
+    function labels(replica) { return replicas == 1 ? "{}" : sprintf("{replica=\"r%d\"}", replica) }'
+}
+# uploads of so many blocks
+uploads() { for ((block = 0; block < $1; block++)); do printf 'upload 000000000000000000000000%02d\n' "$block"; done; }
+shelf() { for ((block = 0; block < blocks; block++)); do printf 'shelf 000000000000000000000000%02d {replica="r%d"}\n' "$block" $((block % 2)); done; }
+gateways() { for gateway in a b c d e f g h; do echo "$1 $gateway"; done; }
+# the script of eight gateways over the blocks that it is given
+asking() {
+    echo "rule replica-label replica"
+    gateways gateway
+    cat
+    echo "at 0"
+    uploads "$blocks"
+    echo "at 1800000"
+    gateways sync
+    echo "query 0 $((blocks / 2 * samples * 15000)) {}"
+}
+# the script of 64 uploads of blocks of so many series and samples
+small() { blocks 64 "$1" "$2" 1; echo "at 0"; uploads 64; }
+
+blocks "$blocks" "$series" "$samples" 2 >"$made/blocks"
+{ cat "$made/blocks"; echo "at 0"; uploads "$blocks"; } | "$program" serial "$made/shelf" none >/dev/null
+shelf | asking >"$made/gateways"
+asking <"$made/blocks" >"$made/gateways_text"
+small 1 3 >"$made/uploads"
+small 4 4 >"$made/uploads_4"
+small 10 120 >"$made/uploads_10"
+
+{
+    "$made/replay" "$program" "$made/shelf" "$made/gateways" "$rounds" "eight gateways, one query over $blocks blocks of the shelf"
+    "$made/replay" "$program" none "$made/gateways_text" $(((rounds + 2) / 3)) "the same blocks in the script's text"
+    "$made/replay" "$program" none "$made/uploads" $((rounds * 8)) "64 uploads of one series by 3 samples"
+    "$made/replay" "$program" none "$made/uploads_4" $((rounds * 8)) "64 uploads of 4 series by 4 samples"
+    "$made/replay" "$program" none "$made/uploads_10" $((rounds * 8)) "64 uploads of 10 series by 120 samples"
+} >"$made/lines"
+awk -F '\t' -v processors="$(nproc)" '
+BEGIN { print "| Script, whole runs over memory | `serial`, ms | `replay`, ms | the middle ones, ms | Ratio | Bar |\n|---|---|---|---|---|---|" }
+{
+    bar = NR == 1 ? (processors >= 4 ? 2.2 : 1.5) : NR == 3 ? 1 : 0
+    printf "| %s | %.1f | %.1f | %.1f, %.1f | %.2f | %s |\n", $1, $2, $3, $4, $5, $2 / $3, bar ? bar : "-"
+    if ($2 / $3 < bar) missed = missed $1 "; "
+}
+END { print missed ? "\nMissed: " missed : "\nThe bars are met." }' "$made/lines"

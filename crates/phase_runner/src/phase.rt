@@ -24,9 +24,9 @@ pub struct PhaseEnd<E> {
     pub memory: bool,
 }
 
-/// Does jobs beside each other, each with a pass of its own, in at most 16 threads.
+/// Does jobs beside each other, each with a pass of its own, in as many threads as there are processors: two at least, 16 at most.
 ///
-/// Of more than 16 jobs, some are done one after another by one thread.
+/// Of more jobs than threads, some are done one after another by one thread.
 ///
 /// It takes all its memory before the first job begins. A job that wants memory says so in its own end.
 pub fn run_phase<B: Bucket + Send, J: Job + Drop + Send, G: Gate + Sync, R: Threads + Wait + Sync>(

@@ -38,10 +38,27 @@ fn run_one<B: Bucket, J: Job + Drop, G: Gate, R: Wait>(
     work.end = Some(end);
 }
 
-/// So many threads do a phase's jobs at most. Of more jobs than that, some are done one after another by one thread.
+/// So many threads do a phase's jobs at most.
 const MOST_THREADS: usize = 16;
 
-/// Does all jobs beside each other, in at most `MOST_THREADS` threads.
+/// And so many at least, where there are as many jobs, so that workers overlap on one processor too.
+const LEAST_THREADS: usize = 2;
+
+/// How many threads do so many jobs: one for each processor, within these bounds. More would gain nothing, and to start one takes
+/// longer than a small upload does.
+fn threads_for<R: Threads>(rt: &R, jobs: usize) -> usize
+    requires { 0 < jobs }
+    ensures { 0 < result }
+{
+    let processors = match thread::available_parallelism(rt) {
+        Ok(count) => count.get(),
+        Err(_) => LEAST_THREADS,
+    };
+    jobs.min(processors.max(LEAST_THREADS).min(MOST_THREADS))
+}
+
+/// Does all jobs beside each other, in as many threads as `threads_for` says. Of more jobs than that, some are done one after another by
+/// one thread.
 pub(crate) fn run_all<
     B: Bucket + Send,
     J: Job + Drop + Send,
@@ -58,7 +75,7 @@ where
     if works.is_empty() {
         return;
     }
-    let threads = works.len().min(MOST_THREADS);
+    let threads = threads_for(rt, works.len());
     thread::for_each_mut(
         rt,
         works,

@@ -1,0 +1,45 @@
+//! Runs a program's `serial` and `replay` in turn over one script, each in a process of its own: PROGRAM SHELF SCRIPT ROUNDS NAME.
+//! It prints the name, the least times of both in milliseconds, and the middle ones, with tabs between. Both have to write the same.
+use std::fs::File;
+use std::io::Read;
+use std::process::{Command, Stdio};
+use std::time::Instant;
+
+/// How long one run took, in milliseconds, and what it wrote.
+fn run(program: &str, word: &str, shelf: &str, script: &str) -> (f64, Vec<u8>) {
+    let input = File::open(script).expect("the script");
+    let start = Instant::now();
+    let mut child = Command::new(program)
+        .args([word, "memory", shelf])
+        .stdin(input)
+        .stdout(Stdio::piped())
+        .spawn()
+        .expect("the program");
+    let mut written = Vec::new();
+    child.stdout.take().expect("its output").read_to_end(&mut written).expect("its output");
+    let status = child.wait().expect("its end");
+    let time = start.elapsed().as_secs_f64() * 1e3;
+    assert!(status.success(), "{word} ended with {status}");
+    (time, written)
+}
+
+fn main() {
+    let words: Vec<String> = std::env::args().collect();
+    let [_, program, shelf, script, rounds, name] = words.as_slice() else {
+        panic!("PROGRAM SHELF SCRIPT ROUNDS NAME");
+    };
+    let mut times = [Vec::new(), Vec::new()];
+    for _ in 0..rounds.parse().expect("a number of rounds") {
+        let (serial, one) = run(program, "serial", shelf, script);
+        let (replay, all) = run(program, "replay", shelf, script);
+        assert!(one == all, "the reports differ");
+        times[0].push(serial);
+        times[1].push(replay);
+    }
+    for each in &mut times {
+        each.sort_by(f64::total_cmp);
+    }
+    let [serial, replay] = &times;
+    let middle = serial.len() / 2;
+    println!("{name}\t{}\t{}\t{}\t{}", serial[0], replay[0], serial[middle], replay[middle]);
+}
