@@ -122,7 +122,11 @@ all_rounds_text = flat_map round_text (range_with_len 1 15)
 unfoldable pub setup_text : List ℕ
 setup_text = codes "rule replica-label replica\ngateway g1\ngateway g2\n"
 
+-- all phases
+unfoldable pub phases_text : List ℕ
+phases_text =
+    all_uploads_text ++ look_text (day_start + hours 25) ++ all_rounds_text ++ look_text (day_start + hours 26) ++ cleaning_text
+    ++ look_text (day_start + hours 74 + minutes 1)
+
 unfoldable pub day_text : ℕ → List ℕ
-day_text number =
-    setup_text ++ all_blocks_text number ++ all_uploads_text ++ look_text (day_start + hours 25) ++ all_rounds_text
-    ++ look_text (day_start + hours 26) ++ cleaning_text ++ look_text (day_start + hours 74 + minutes 1)
+day_text number = setup_text ++ all_blocks_text number ++ phases_text

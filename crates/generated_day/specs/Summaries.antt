@@ -1,5 +1,5 @@
 -- The summary of a run of the generated day, as text.
-use Rattle.std.specs.Prelude.{ℕ, List, [], ◌∷◌, ◌++◌, codes}
+use Rattle.std.specs.Prelude.{ℕ, List, ◌++◌, codes}
 use Rattle.reading_core.specs.Decimal.{decimal_text}
 use Rattle.generated_day.specs.Day.{newline}
 use Rattle.generated_day.specs.declared.summary.QueryCounts.{QueryCounts}

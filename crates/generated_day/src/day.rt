@@ -2,13 +2,14 @@
 
 ghost use Rattle.std.specs.Prelude.{◌≡◌, ◌++◌, IfOk, OnOk};
 ghost use Rattle.script_core.specs.Lawful.{IsLawfulScript};
+ghost use Rattle.script_core.specs.Parts.{HasRead, Reads};
 ghost use Rattle.script_core.specs.Spelling.{Spells};
-ghost use Rattle.generated_day.specs.Day.{all_blocks_text, all_uploads_text, all_rounds_text, setup_text, cleaning_text, day_text};
+ghost use Rattle.generated_day.specs.Day.{all_blocks_text, all_uploads_text, all_rounds_text, setup_text, cleaning_text, phases_text, day_text};
 
-use crate::lines::{put_at, put_blocks, put_look, put_round, put_uploads};
+use crate::lines::{put_at, put_look, put_round, put_uploads, read_blocks};
 use crate::samples::DAY_START;
 use list_core::NoMemory;
-use script_core::Script;
+use script_core::{PartReader, Script, ScriptRefusal};
 use std::alloc::Global;
 
 const HOUR: u64 = 3_600_000;
@@ -20,43 +21,58 @@ pub fn generated(alloc: Global, number: u64) -> Result<Script, NoMemory>
     ensures spelled { IfOk result (λ script. Spells (day_text number) script) }
     ensures lawful { IfOk result (λ script. IsLawfulScript script) }
 {
-    let mut text = Vec::new(alloc);
-    put_day(&mut text, number)?;
-    match Script::read(alloc, text.as_slice()) {
+    let Ok(reader) = reader_of(alloc, number) else {
+        return Err(NoMemory);
+    };
+    match reader.finish(alloc) {
         Ok(script) => Ok(script),
         Err(_) => Err(NoMemory),
     }
 }
 
-#[tactic(auto, unfolding(crate::specs::Day::day_text))]
-fn put_day(out: &mut Vec<u8>, number: u64) -> Result<(), NoMemory>
-    ensures { OnOk result (out.new.items ≡ out.old.items ++ day_text number) }
+/// What has read the day.
+fn reader_of(alloc: Global, number: u64) -> Result<PartReader, ScriptRefusal>
+    ensures { IfOk result (λ reader. HasRead reader (day_text number)) }
 {
-    put_setup(out)?;
-    put_all_blocks(out, number)?;
+    let mut reader = PartReader::new(alloc);
+    read_day(&mut reader, alloc, number)?;
+    Ok(reader)
+}
+
+/// Reads the lines of the day. No text of its samples is made: it would have 30 MB.
+#[tactic(auto, unfolding(crate::specs::Day::day_text))]
+fn read_day(reader: &mut PartReader, alloc: Global, number: u64) -> Result<(), ScriptRefusal>
+    ensures { OnOk result (Reads reader.old reader.new (day_text number)) }
+{
+    reader.read_lines(
+        alloc,
+        b"rule replica-label replica\ngateway g1\ngateway g2\n",
+    )?;
+    read_all_blocks(reader, alloc, number)?;
+    let mut phases = Vec::new(alloc);
+    put_phases(&mut phases)?;
+    reader.read_lines(alloc, phases.as_slice())
+}
+
+fn read_all_blocks(reader: &mut PartReader, alloc: Global, number: u64) -> Result<(), ScriptRefusal>
+    ensures { OnOk result (Reads reader.old reader.new (all_blocks_text number)) }
+{
+    for block in 0..12 {
+        read_blocks(reader, alloc, number, block)?;
+    }
+    Ok(())
+}
+
+#[tactic(auto, unfolding(crate::specs::Day::phases_text))]
+fn put_phases(out: &mut Vec<u8>) -> Result<(), NoMemory>
+    ensures { OnOk result (out.new.items ≡ out.old.items ++ phases_text) }
+{
     put_all_uploads(out)?;
     put_look(out, DAY_START + 25 * HOUR)?;
     put_rounds(out)?;
     put_look(out, DAY_START + 26 * HOUR)?;
     put_cleaning(out)?;
     put_look(out, DAY_START + 74 * HOUR + MINUTE)
-}
-
-#[tactic(auto, unfolding(crate::specs::Day::setup_text))]
-fn put_setup(out: &mut Vec<u8>) -> Result<(), NoMemory>
-    ensures { OnOk result (out.new.items ≡ out.old.items ++ setup_text) }
-{
-    out.extend_from_slice(b"rule replica-label replica\ngateway g1\ngateway g2\n")?;
-    Ok(())
-}
-
-fn put_all_blocks(out: &mut Vec<u8>, number: u64) -> Result<(), NoMemory>
-    ensures { OnOk result (out.new.items ≡ out.old.items ++ all_blocks_text number) }
-{
-    for block in 0..12 {
-        put_blocks(out, number, block)?;
-    }
-    Ok(())
 }
 
 fn put_all_uploads(out: &mut Vec<u8>) -> Result<(), NoMemory>

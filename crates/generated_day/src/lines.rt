@@ -1,11 +1,14 @@
 //! The lines of the generated day.
 
 ghost use Rattle.std.specs.Prelude.{◌≡◌, ◌<◌, ◌≤◌, ◌*◌, ◌+◌, ◌++◌, OnOk};
+ghost use Rattle.script_core.specs.Parts.{Reads};
 ghost use Rattle.generated_day.specs.Day.{two_digits, labels_text, all_series_text, times_text, external_text, at_line, upload_line, series_line, block_line, block_text, blocks_at, uploads_at, look_text, round_text, ulid_of};
 
-use crate::samples::{DAY_START, block_start, put_samples};
+use crate::samples::{DAY_START, block_start, samples_of};
 use list_core::NoMemory;
 use reading_core::put_unsigned;
+use script_core::{PartReader, ScriptRefusal};
+use std::alloc::Global;
 use ulid_core::Ulid;
 
 const MINUTE: u64 = 60_000;
@@ -41,24 +44,24 @@ fn put_labels(out: &mut Vec<u8>, series: u64) -> Result<(), NoMemory>
     Ok(())
 }
 
-#[tactic(auto, unfolding(crate::specs::Day::series_line))]
-fn put_series(
-    out: &mut Vec<u8>,
+/// Reads the line of a series.
+fn read_series(
+    reader: &mut PartReader,
+    alloc: Global,
     number: u64,
     block: u64,
     replica: u64,
     series: u64,
-) -> Result<(), NoMemory>
+) -> Result<(), ScriptRefusal>
     requires block { block < 12 }
     requires series { series < 100 }
     ensures { OnOk result
-        (out.new.items ≡ out.old.items ++ series_line number block replica series) }
+        (Reads reader.old reader.new (series_line number block replica series)) }
 {
-    out.extend_from_slice(b"series ")?;
-    put_labels(out, series)?;
-    put_samples(out, number, block, replica, series)?;
-    out.push(b'\n')?;
-    Ok(())
+    let mut labels = Vec::new(alloc);
+    put_labels(&mut labels, series)?;
+    let samples = samples_of(alloc, number, block, replica, series)?;
+    reader.read_series(alloc, labels.as_slice(), samples)
 }
 
 /// Appends the times of a block: its first millisecond, and the one behind its last.
@@ -99,36 +102,54 @@ fn put_block_line(out: &mut Vec<u8>, block: u64, replica: u64) -> Result<(), NoM
     Ok(())
 }
 
-/// Appends a block's line and those of its hundred series.
+/// Reads a block's line and those of its hundred series.
 #[tactic(auto, unfolding(crate::specs::Day::block_text))]
-fn put_block(out: &mut Vec<u8>, number: u64, block: u64, replica: u64) -> Result<(), NoMemory>
+fn read_block(
+    reader: &mut PartReader,
+    alloc: Global,
+    number: u64,
+    block: u64,
+    replica: u64,
+) -> Result<(), ScriptRefusal>
     requires block { block < 12 }
     requires replica { replica < 2 }
-    ensures { OnOk result (out.new.items ≡ out.old.items ++ block_text number block replica) }
+    ensures { OnOk result (Reads reader.old reader.new (block_text number block replica)) }
 {
-    put_block_line(out, block, replica)?;
-    put_all_series(out, number, block, replica)
+    let mut line = Vec::new(alloc);
+    put_block_line(&mut line, block, replica)?;
+    reader.read_lines(alloc, line.as_slice())?;
+    read_all_series(reader, alloc, number, block, replica)
 }
 
-fn put_all_series(out: &mut Vec<u8>, number: u64, block: u64, replica: u64) -> Result<(), NoMemory>
+fn read_all_series(
+    reader: &mut PartReader,
+    alloc: Global,
+    number: u64,
+    block: u64,
+    replica: u64,
+) -> Result<(), ScriptRefusal>
     requires block { block < 12 }
-    ensures { OnOk result (out.new.items
-        ≡ out.old.items ++ all_series_text number block replica) }
+    ensures { OnOk result (Reads reader.old reader.new (all_series_text number block replica)) }
 {
     for series in 0..100 {
-        put_series(out, number, block, replica, series)?;
+        read_series(reader, alloc, number, block, replica, series)?;
     }
     Ok(())
 }
 
-/// Appends both replicas' blocks of the same time.
+/// Reads both replicas' blocks of the same time.
 #[tactic(auto, unfolding(crate::specs::Day::blocks_at))]
-pub(crate) fn put_blocks(out: &mut Vec<u8>, number: u64, block: u64) -> Result<(), NoMemory>
+pub(crate) fn read_blocks(
+    reader: &mut PartReader,
+    alloc: Global,
+    number: u64,
+    block: u64,
+) -> Result<(), ScriptRefusal>
     requires { block < 12 }
-    ensures { OnOk result (out.new.items ≡ out.old.items ++ blocks_at number block) }
+    ensures { OnOk result (Reads reader.old reader.new (blocks_at number block)) }
 {
-    put_block(out, number, block, 0)?;
-    put_block(out, number, block, 1)
+    read_block(reader, alloc, number, block, 0)?;
+    read_block(reader, alloc, number, block, 1)
 }
 
 /// Appends the line that begins a phase.

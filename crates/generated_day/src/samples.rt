@@ -1,10 +1,13 @@
 //! The samples of the generated day.
 
-ghost use Rattle.std.specs.Prelude.{◌≡◌, ◌<◌, ◌≤◌, ◌^◌, ◌++◌, OnOk};
+ghost use Rattle.std.specs.Prelude.{◌≡◌, ◌<◌, ◌≤◌, ◌^◌, ◌++◌, IfOk, OnOk};
+ghost use Rattle.std.specs.List.{flat_map};
+ghost use Rattle.label_sets.specs.SampleText.{spaced_sample_text};
 ghost use Rattle.generated_day.specs.Day.{block_start, pattern, sample, has_sample, sample_part, samples_text};
 
-use label_sets::Sample;
+use label_sets::{Sample, SampleList};
 use list_core::NoMemory;
+use std::alloc::Global;
 
 /// The first millisecond of the day.
 pub(crate) const DAY_START: u64 = 1_728_000_000_000;
@@ -14,6 +17,9 @@ const BLOCK_SPAN: u64 = 7_200_000;
 
 /// How far apart samples are.
 const STEP: u64 = 15_000;
+
+/// How many samples a replica's series has at most.
+const MOST_SAMPLES: usize = 412;
 
 const SERIES_SEED: u64 = 1_000_003;
 
@@ -61,10 +67,10 @@ fn has_sample(replica: u64, place: u64) -> bool
     place % 7 != missed
 }
 
-/// Appends the sample at a place, if the replica has it.
-#[tactic(auto, unfolding(crate::specs::Day::sample_part))]
-fn put_sample(
-    out: &mut Vec<u8>,
+/// Adds the sample at a place, if the replica has it.
+#[tactic(auto, using(crate::proofs::Parts::sample_more), unfolding(crate::specs::Day::sample_part))]
+fn push_sample(
+    samples: &mut Vec<Sample>,
     number: u64,
     block: u64,
     replica: u64,
@@ -74,31 +80,33 @@ fn put_sample(
     requires block { block < 12 }
     requires series { series < 100 }
     requires place { place < 480 }
-    ensures { OnOk result
-        (out.new.items ≡ out.old.items ++ sample_part number block replica series place) }
+    ensures { OnOk result (flat_map spaced_sample_text samples.new.items
+        ≡ flat_map spaced_sample_text samples.old.items
+        ++ sample_part number block replica series place) }
 {
     if has_sample(replica, place) {
-        out.push(b' ')?;
-        sample(number, block, series, place).write(out)?;
+        samples.push(sample(number, block, series, place))?;
     }
     Ok(())
 }
 
-/// Appends the samples of a series, each after a space.
-pub(crate) fn put_samples(
-    out: &mut Vec<u8>,
+/// The samples of a series.
+pub(crate) fn samples_of(
+    alloc: Global,
     number: u64,
     block: u64,
     replica: u64,
     series: u64,
-) -> Result<(), NoMemory>
+) -> Result<SampleList, NoMemory>
     requires block { block < 12 }
     requires series { series < 100 }
-    ensures { OnOk result
-        (out.new.items ≡ out.old.items ++ samples_text number block replica series) }
+    ensures { IfOk result (λ samples. flat_map spaced_sample_text samples
+        ≡ samples_text number block replica series) }
 {
+    let mut samples = Vec::new(alloc);
+    samples.reserve(MOST_SAMPLES)?;
     for place in 0..480 {
-        put_sample(out, number, block, replica, series, place)?;
+        push_sample(&mut samples, number, block, replica, series, place)?;
     }
-    Ok(())
+    Ok(SampleList::from_vec(samples))
 }

@@ -38,17 +38,17 @@ read_by : (st before after : State) (number : ℕ) (kind : LineKind) (left : Opt
 unfolding kind_line
 read_by st before after number kind left first read = rw (first, read) refl
 
-read_line : (st before : State) (number : ℕ) (line : List ℕ) (kind : LineKind) (next : SoFar) → cond {A = Result State ScriptRefusal} (is_series (Some kind)) (Ok st) (end_block st) ≡ Ok before → IsRead before number line kind next → IsReadLine st number line next
+pub text_read : (st before : State) (number : ℕ) (line : List ℕ) (kind : LineKind) (next : SoFar) → cond {A = Result State ScriptRefusal} (is_series (Some kind)) (Ok st) (end_block st) ≡ Ok before → (is : IsRead before number line kind next) → text_line st number line ≡ Ok is.after
 unfolding text_line
-read_line st before number line kind next first is =
+text_read st before number line kind next first is =
     let word : (next_field (Some line)).0 ≡ line_word kind = ap (λ p. p.0) is.cut in
     let rest : (next_field (Some line)).1 ≡ is.left = ap (λ p. p.1) is.cut in
     let known : line_kind (next_field (Some line)).0 ≡ Some kind = ap line_kind word ∙ kind_again kind in
-    record {
-      after = is.after;
-      read = (λ i. cond {A = Result State ScriptRefusal} (is_series (known i)) (Ok st) (end_block st) >>= λ s. refused_as (of_line number) (kind_line s number (known i) (rest i))) ∙ read_by st before is.after number kind is.left first is.read;
-      next_is = is.next_is;
-    }
+    (λ i. cond {A = Result State ScriptRefusal} (is_series (known i)) (Ok st) (end_block st) >>= λ s. refused_as (of_line number) (kind_line s number (known i) (rest i))) ∙ read_by st before is.after number kind is.left first is.read
+
+read_line : (st before : State) (number : ℕ) (line : List ℕ) (kind : LineKind) (next : SoFar) → cond {A = Result State ScriptRefusal} (is_series (Some kind)) (Ok st) (end_block st) ≡ Ok before → IsRead before number line kind next → IsReadLine st number line next
+read_line st before number line kind next first is =
+    record { after = is.after; read = text_read st before number line kind next first is; next_is = is.next_is }
 
 says_again : (st : State) (number : ℕ) (line : List ℕ) (next : SoFar) → Kept st → Says (so_far_of st) number line next → IsReadLine st number line next
 says_again st number line next kept (spelling.series says) = read_line st st number line kinds.Series next refl (series_line_again st number line next kept says)
@@ -78,7 +78,7 @@ silent_again : (st : State) (number : ℕ) (line : List ℕ) → is_silent line 
 unfolding line_at
 silent_again st number line silent = rw silent refl
 
-spoken_again : (st after : State) (number : ℕ) (line : List ℕ) → is_silent line ≡ false → is_utf8 line ≡ true → text_line st number line ≡ Ok after → line_at st number line ≡ Ok after
+pub spoken_again : (st after : State) (number : ℕ) (line : List ℕ) → is_silent line ≡ false → is_utf8 line ≡ true → text_line st number line ≡ Ok after → line_at st number line ≡ Ok after
 unfolding line_at spoken_line
 spoken_again st after number line spoken utf8 read = rw (spoken, utf8) read
 
@@ -105,7 +105,7 @@ finish_again : (st : State) → Kept st → HasEnded (all_blocks st.blocks st.la
 unfolding finish
 finish_again st kept ended = let is = end_again st kept ended in rw is refl
 
-read_whole : (text : List ℕ) (after : State) (script : Script) → nat_lt longest_text (length text) ≡ false → lines_at (start standard_rules) 1 (lines_of text) ≡ Ok after → finish after ≡ Ok script → script_of text ≡ Ok script
+pub read_whole : (text : List ℕ) (after : State) (script : Script) → nat_lt longest_text (length text) ≡ false → lines_at (start standard_rules) 1 (lines_of text) ≡ Ok after → finish after ≡ Ok script → script_of text ≡ Ok script
 unfolding script_of
 read_whole text after script short read end = rw (short, read) end
 

@@ -45,13 +45,13 @@ cut_joined (text ∷ next ∷ texts) some free =
 
 -- ---- the samples
 
-each_free : (texts : List (List ℕ)) (samples : List Sample) → AreSampleFields texts samples → list_all no_space texts ≡ true
+pub each_free : (texts : List (List ℕ)) (samples : List Sample) → AreSampleFields texts samples → list_all no_space texts ≡ true
 each_free [] [] are = refl
 each_free [] (sample ∷ samples) are = absurd are
 each_free (text ∷ texts) [] are = absurd are
 each_free (text ∷ texts) (sample ∷ samples) are = rw are.0.field.no_space (each_free texts samples are.1)
 
-each_whole : (texts : List (List ℕ)) (samples : List Sample) → AreSampleFields texts samples → list_all (λ text. not (is_empty text)) texts ≡ true
+pub each_whole : (texts : List (List ℕ)) (samples : List Sample) → AreSampleFields texts samples → list_all (λ text. not (is_empty text)) texts ≡ true
 each_whole [] [] are = refl
 each_whole [] (sample ∷ samples) are = absurd are
 each_whole (text ∷ texts) [] are = absurd are
@@ -72,14 +72,14 @@ unfolding has_small_number
 small_again text sample is =
     small_by text sample (nat_lt (position_or_len is_colon text) (length text)) (near_tested sample.time is.near) (sample_again text sample is)
 
-each_small : (texts : List (List ℕ)) (samples : List Sample) → AreSampleFields texts samples → list_all has_small_number texts ≡ true
+pub each_small : (texts : List (List ℕ)) (samples : List Sample) → AreSampleFields texts samples → list_all has_small_number texts ≡ true
 each_small [] [] are = refl
 each_small [] (sample ∷ samples) are = absurd are
 each_small (text ∷ texts) [] are = absurd are
 each_small (text ∷ texts) (sample ∷ samples) are =
     let small = small_again text sample are.0 in rw small (each_small texts samples are.1)
 
-samples_again : (texts : List (List ℕ)) (samples : List Sample) → AreSampleFields texts samples → samples_from texts ≡ Ok samples
+pub samples_again : (texts : List (List ℕ)) (samples : List Sample) → AreSampleFields texts samples → samples_from texts ≡ Ok samples
 unfolding samples_from
 samples_again [] [] are = refl
 samples_again [] (sample ∷ samples) are = absurd are
@@ -93,7 +93,7 @@ space_again : (front texts : List ℕ) → after_space (drop (length front) (fro
 unfolding after_space
 space_again front texts = ap after_space (drop_at front (32 ∷ texts) (length front) refl)
 
-first_labels_again : (front texts : List ℕ) (labels : List Label) → read_set (front ++ 32 ∷ texts) ≡ Ok (labels, length front) → first_labels (Some (front ++ 32 ∷ texts)) ≡ Ok (labels, texts)
+pub first_labels_again : (front texts : List ℕ) (labels : List Label) → read_set (front ++ 32 ∷ texts) ≡ Ok (labels, length front) → first_labels (Some (front ++ 32 ∷ texts)) ≡ Ok (labels, texts)
 unfolding first_labels
 first_labels_again front texts labels read =
     let size = length-append front (32 ∷ texts) in
@@ -151,7 +151,7 @@ add_again st series block is test =
     let tested : test_block st.continues st.last series.labels series.samples ≡ Ok tt = ap (λ l. test_block st.continues l series.labels series.samples) is ∙ test in
     rw tested refl
 
-read_series : (st : State) (left : List ℕ) (labels : List Label) (texts : List ℕ) (samples : List Sample) (after : State) → first_labels (Some left) ≡ Ok (labels, texts) → are_whole texts ≡ true → have_small_numbers texts ≡ true → samples_from (texts_of texts) ≡ Ok samples → are_rising samples ≡ true → add_series st (record { labels = labels; samples = samples }) ≡ Ok after → series_line st (Some left) ≡ Ok after
+pub read_series : (st : State) (left : List ℕ) (labels : List Label) (texts : List ℕ) (samples : List Sample) (after : State) → first_labels (Some left) ≡ Ok (labels, texts) → are_whole texts ≡ true → have_small_numbers texts ≡ true → samples_from (texts_of texts) ≡ Ok samples → are_rising samples ≡ true → add_series st (record { labels = labels; samples = samples }) ≡ Ok after → series_line st (Some left) ≡ Ok after
 unfolding series_line
 read_series st left labels texts samples after front whole small read rising adds = rw (front, whole, small, read, rising) adds
 

@@ -26,3 +26,6 @@ pub mod AgainSeries
 pub mod AgainPhases
 pub mod AgainLines
 pub mod FewMembers
+pub mod SampleSigns
+pub mod SeriesParts
+pub mod PartLaws

@@ -16,4 +16,5 @@ pub mod Reading
 pub mod Lawful
 pub mod Spelling
 pub mod GivenUp
+pub mod Parts
 pub mod Wording

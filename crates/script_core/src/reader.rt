@@ -54,7 +54,7 @@ fn read_lines(alloc: Global, text: &[u8]) -> Result<Draft, ScriptRefusal>
 }
 
 #[tactic(auto, using(crate::proofs::GivenUpLines::line_given_up), unfolding(crate::specs::Reading::line_at, crate::specs::Reading::spoken_line))]
-fn read_line(
+pub(crate) fn read_line(
     draft: &mut Draft,
     alloc: Global,
     number: u32,
@@ -76,7 +76,7 @@ fn read_line(
 }
 
 /// The bytes as text, where they are UTF-8.
-fn text_of(line: &[u8]) -> Option<&str>
+pub(crate) fn text_of(line: &[u8]) -> Option<&str>
     ensures { option_copied result ≡ (if is_utf8 line.now then Some line.now else None) }
 {
     match str::from_utf8(line) {

@@ -130,7 +130,10 @@ pub(crate) fn shelf_line(
 
 /// The label set that is left of a line, or none where the text is no label set.
 #[tactic(auto, unfolding(crate::specs::Lines::last_labels))]
-fn last_labels(alloc: Global, left: Option<&str>) -> Result<Option<LabelSet>, LineRefusal>
+pub(crate) fn last_labels(
+    alloc: Global,
+    left: Option<&str>,
+) -> Result<Option<LabelSet>, LineRefusal>
     ensures { Gives line_refusals.NoMemory (λ set. set) result
         (last_labels (option_copied left.entry)) }
 {

@@ -1,0 +1,19 @@
+use Rattle.std.proofs.Common.{◌+◌, length, sym, ◌∙◌, arith}
+use Rattle.script_core.specs.Reading.{line_at}
+use Rattle.script_core.specs.View.{state_of}
+use Rattle.script_core.proofs.PartLaws.{no_front, front_more, whole_front, before_one, line_reads, shorter_by}
+use Rattle.script_core.proofs.part_reader.PartReader.read_lines.Goals as goal
+
+pub loop-left-init : goal.loop-left-init
+loop-left-init c = no_front c.args.self.now c.args.text.now
+
+pub loop-left-preserved : goal.loop-left-preserved
+loop-left-preserved c =
+    let line = c.cut_line.result.0.now in
+    let left = c.loop-left.left.now in
+    let one = line_reads c.loop-left.self _ line (length line + 1) (before_one left line c.cut_line.ensures.line) ((λ i. line_at (state_of (sym c.count.ensures.draft i)) (sym c.in_ok-count.ensures.lines i) line) ∙ c.in_ok-read_line.ensures) c.in_ok-count.ensures.lines c.in_ok-count.ensures.bytes (omega arith) in
+    front_more c.args.self.now c.loop-left.self _ c.args.text.now left line c.cut_line.result.1.now c.loop-left.invariant c.cut_line.ensures.line c.cut_line.ensures.rest (shorter_by left line c.cut_line.ensures.line c.if-line-left.false) one
+
+pub returns : goal.returns
+returns c =
+    whole_front c.args.self.now c.loop-left.self c.args.text.now c.loop-left.left.now c.loop-left.invariant (sym c.loop-left-test.ensures)

@@ -1,0 +1,86 @@
+//! A series line that comes as its labels and its samples.
+
+ghost use Rattle.std.specs.Prelude.{◌≡◌, ◌≤◌, ◌+◌, ◌*◌, ℕ, IsTrue, IfOk, OnOk, Ok, length, not};
+ghost use Rattle.std.specs.List.{list_all};
+ghost use Rattle.std.specs.Str.{is_utf8};
+ghost use Rattle.label_sets.specs.SetText.{IsSetText};
+ghost use Rattle.script_core.specs.Fields.{is_newline};
+ghost use Rattle.script_core.specs.Parts.{IsOneLine, has_field, series_front};
+ghost use Rattle.script_core.specs.Reading.{line_at};
+ghost use Rattle.script_core.specs.View.{state_of};
+
+use crate::draft::Draft;
+use crate::line_refusal::LineRefusal;
+use crate::reader::{LONGEST_TEXT, text_of};
+use crate::samples::are_rising;
+use crate::setup_lines::last_labels;
+use crate::values::is_time;
+use crate::{LineCause, ScriptRefusal};
+use label_sets::{LabelSet, Sample, SampleList};
+use std::alloc::Global;
+
+/// How many bytes a sample has at most: a space, a sign, 19 digits of a time, a colon and 16 of a pattern.
+const LONGEST_SAMPLE: usize = 38;
+
+/// How many bytes a series line has at most, with its newline.
+pub(crate) fn line_size(labels: usize, samples: usize) -> Result<usize, ScriptRefusal>
+    ensures { IfOk result (λ size. size ≡ 8 + labels + 38 * samples) }
+{
+    if labels > LONGEST_TEXT || samples > LONGEST_TEXT {
+        return Err(ScriptRefusal::TooLong);
+    }
+    Ok(8 + labels + LONGEST_SAMPLE * samples)
+}
+
+/// Adds to the last block what a series line of these labels and samples adds.
+pub(crate) fn put_series(
+    draft: &mut Draft,
+    alloc: Global,
+    labels: &[u8],
+    samples: SampleList,
+) -> Result<(), LineRefusal>
+    ensures line { OnOk result (IsOneLine (series_front labels.now samples)) }
+    ensures size { OnOk result (length (series_front labels.now samples)
+        ≤ 7 + length labels.now + 38 * length samples) }
+    ensures read { OnOk result ((number : ℕ)
+        → line_at (state_of draft.old) number (series_front labels.now samples)
+        ≡ Ok (state_of draft.new)) }
+{
+    let set = read_labels(alloc, labels)?;
+    LineCause::BadShape.unless(samples.len() > 0)?;
+    LineCause::BadNumber.unless(have_fields(samples.members()))?;
+    LineCause::FallingTimes.unless(are_rising(samples.members()))?;
+    draft.add_series(set, samples)
+}
+
+/// The label set of a text that is one on one line.
+fn read_labels(alloc: Global, text: &[u8]) -> Result<LabelSet, LineRefusal>
+    ensures set { IfOk result (λ set. IsSetText text.now set) }
+    ensures utf8 { OnOk result (IsTrue (is_utf8 text.now)) }
+    ensures line { OnOk result (IsOneLine text.now) }
+{
+    LineCause::BadLabelText.unless(is_one_line(text))?;
+    let text = text_of(text).ok_or(LineCause::NotText)?;
+    let set = last_labels(alloc, Some(text))?.ok_or(LineCause::BadLabelText)?;
+    Ok(set)
+}
+
+fn is_one_line(text: &[u8]) -> bool
+    ensures { result ≡ list_all (λ byte. not (is_newline byte)) text.now }
+{
+    text.iter().all(|byte| *byte != b'\n')
+}
+
+/// Whether a series line can have each of these samples.
+fn have_fields(samples: &[Sample]) -> bool
+    ensures { result ≡ list_all has_field samples.now }
+{
+    samples.iter().all(|sample| has_field(*sample))
+}
+
+/// Whether a series line can have this sample. Each pattern of 64 bits will do.
+fn has_field(sample: Sample) -> bool
+    ensures { result ≡ has_field sample }
+{
+    is_time(sample.time)
+}
