@@ -1,6 +1,6 @@
 -- The steps of a sync that is watched.
-use Rattle.std.proofs.Common.{◌≡◌, inl, inr, ◌≤◌, List, [], ◌∷◌, ◌++◌, Option, Some, None, Result, Ok, refl, sym, ◌∙◌, ap, subst, append_assoc, arith}
-use Rattle.std.specs.Prelude.{map}
+use Rattle.std.proofs.Common.{◌≡◌, inl, inr, ◌≤◌, List, [], ◌∷◌, ◌++◌, Option, Some, None, Result, Ok, Err, refl, sym, ◌∙◌, ap, subst, append_assoc, arith}
+use Rattle.std.specs.Prelude.{IfOk, map}
 use Rattle.std.proofs.lemmas.List.{map-append}
 use Rattle.list_core.specs.declared.memory.NoMemory.{NoMemory}
 use Rattle.block_keys.specs.declared.key.Key.TheVariants as key
@@ -95,22 +95,24 @@ module _ (rules : SyncRules) (old : Sync) (starts : (entries : List Entry) (end 
 entry_is : (e : Entry) (r : Reply) → r ≡ passed_on e.op e.reply → entry_of e.seat e.op (record { seq = e.seq; moment = e.moment; reply = r }) ≡ as_passed e
 entry_is e r same = ap (λ (q : Reply). entry_of e.seat e.op (record { seq = e.seq; moment = e.moment; reply = q })) same
 
-pub first_do : (old new : Sync) (res : Result (Act SyncEnd) NoMemory) (next : Op) → GoesOn may_sync asked_sync old [] res new → res ≡ Ok (Do next) → Asks may_sync asked_sync old [] next new
-first_do old new res next goes is = subst (λ (q : Result (Act SyncEnd) NoMemory). GoesOn may_sync asked_sync old [] q new) is goes
+pub came_do : (old new : Sync) (made : List Entry) (res : Result (Act SyncEnd) NoMemory) (next : Op) → GoesOn may_sync asked_sync old made res new → res ≡ Ok (Do next) → Asks may_sync asked_sync old made next new
+came_do old new made res next goes is = subst (λ (q : Result (Act SyncEnd) NoMemory). GoesOn may_sync asked_sync old made q new) is goes
 
-pub first_done : (old new : Sync) (res : Result (Act SyncEnd) NoMemory) (end : SyncEnd) → GoesOn may_sync asked_sync old [] res new → res ≡ Ok (Done end) → may_sync old [] (Some end) new
-first_done old new res end goes is = subst (λ (q : Result (Act SyncEnd) NoMemory). GoesOn may_sync asked_sync old [] q new) is goes
+pub came_done : (old new : Sync) (made : List Entry) (res : Result (Act SyncEnd) NoMemory) (end : SyncEnd) → GoesOn may_sync asked_sync old made res new → res ≡ Ok (Done end) → may_sync old made (Some end) new
+came_done old new made res end goes is = subst (λ (q : Result (Act SyncEnd) NoMemory). GoesOn may_sync asked_sync old made q new) is goes
+
+-- where a call did not stop for want of memory
+ok_goes : (old : Sync) (made : List Entry) (res : Result (Act SyncEnd) NoMemory) (new : Sync) → GoesOn may_sync asked_sync old made res new → IfOk res (λ act. GoesOn may_sync asked_sync old made (Ok act) new)
+ok_goes old made (Ok act) new goes = goes
+ok_goes old made (Err none) new goes = tt
 
 module _ (old new : Sync) (e : Entry) (r : Reply) (same : r ≡ passed_on e.op e.reply) (res : Result (Act SyncEnd) NoMemory)
     (goes : GoesOn may_sync asked_sync old (entry_of e.seat e.op (record { seq = e.seq; moment = e.moment; reply = r }) ∷ []) res new) where
   by_entry : GoesOn may_sync asked_sync old (as_passed e ∷ []) res new
   by_entry = subst (λ (x : Entry). GoesOn may_sync asked_sync old (x ∷ []) res new) (entry_is e r same) goes
 
-  pub step_do : (next : Op) → res ≡ Ok (Do next) → Asks may_sync asked_sync old (as_passed e ∷ []) next new
-  step_do next is = subst (λ (q : Result (Act SyncEnd) NoMemory). GoesOn may_sync asked_sync old (as_passed e ∷ []) q new) is by_entry
-
-  pub step_done : (end : SyncEnd) → res ≡ Ok (Done end) → may_sync old (as_passed e ∷ []) (Some end) new
-  step_done end is = subst (λ (q : Result (Act SyncEnd) NoMemory). GoesOn may_sync asked_sync old (as_passed e ∷ []) q new) is by_entry
+  pub step_ok : IfOk res (λ act. GoesOn may_sync asked_sync old (as_passed e ∷ []) (Ok act) new)
+  step_ok = ok_goes old (as_passed e ∷ []) res new by_entry
 
 module _ (rules : SyncRules) (made : List Entry) (w : UnderWay) (at : IsAt rules made w.machine w.asks) (e : Entry) (new : Sync) where
   pub went_do : (next : Op) → Asks may_sync asked_sync w.machine (as_passed e ∷ []) next new

@@ -1,11 +1,12 @@
-ghost use Rattle.std.specs.Prelude.{◌≡◌, ◌↔◌, ◌≤◌, ◌<◌, ◌^◌, ℕ, List, [], Some, IfOk, IsTrue};
+ghost use Rattle.std.specs.Prelude.{◌≡◌, ◌↔◌, ◌≤◌, ◌<◌, ◌^◌, ℕ, List, [], ◌∷◌, Some, Ok, IfOk, IsTrue};
+ghost use Rattle.world_core.specs.Machines.{GoesOn};
 ghost use Rattle.world_core.specs.Operations.{IsReplyTo};
 ghost use Rattle.world_core.specs.declared.entry.Entry.{Entry};
 ghost use Rattle.world_core.specs.declared.op.Op.TheVariants as op;
 ghost use Rattle.block_keys.specs.declared.key.Key.TheVariants as key;
-ghost use Rattle.meta_fetcher.specs.SyncStates.{asked_sync};
+ghost use Rattle.meta_fetcher.specs.SyncStates.{asked_sync, may_sync};
 ghost use Rattle.meta_fetcher.specs.declared.rules.SyncRules.{SyncRules};
-ghost use Rattle.breach_finding.specs.Watching.{Begins, IsAt, IsSyncOp, IsTurn, Waits, Went, came_of, passed_on};
+ghost use Rattle.breach_finding.specs.Watching.{Begins, IsAt, IsSyncOp, IsTurn, Waits, Went, as_passed, came_of, passed_on};
 
 use block_keys::Key;
 use block_meta::meta_of;
@@ -137,6 +138,22 @@ fn passed_on(alloc: Global, done: &Op, reply: &Reply) -> Result<Reply, NoMemory>
     }
 }
 
+/// What a sync comes to with the entry that it waits for.
+fn answered(alloc: Global, machine: &mut Sync, e: &Entry) -> Result<Act<SyncEnd>, NoMemory>
+    requires waits { asked_sync machine.old ≡ Some e.now.op }
+    requires kind { IsReplyTo e.now.op e.now.reply }
+    requires small { e.now.moment.ms < 2 ^ 48 }
+    ensures { IfOk result (λ act.
+        GoesOn may_sync asked_sync machine.old (as_passed e.now ∷ []) (Ok act) machine.new) }
+{
+    let reply = passed_on(alloc, &e.op, &e.reply)?;
+    machine.step(Seen {
+        seq: e.seq,
+        moment: e.moment,
+        reply,
+    })
+}
+
 /// Goes on with the entry that a sync waits for.
 fn goes_on(alloc: Global, w: UnderWay, e: &Entry) -> Result<Turn, NoMemory>
     requires waits { asked_sync w.machine ≡ Some e.now.op }
@@ -151,13 +168,11 @@ fn goes_on(alloc: Global, w: UnderWay, e: &Entry) -> Result<Turn, NoMemory>
         asks: _,
         begin,
     } = w;
-    let reply = passed_on(alloc, &e.op, &e.reply)?;
-    let seen = Seen {
-        seq: e.seq,
-        moment: e.moment,
-        reply,
+    let Ok(act) = answered(alloc, &mut machine, e) else {
+        drop(machine);
+        return Err(NoMemory);
     };
-    match machine.step(seen)? {
+    match act {
         Act::Do(asks) => Ok(Turn {
             under: Some(UnderWay {
                 machine,
@@ -169,13 +184,15 @@ fn goes_on(alloc: Global, w: UnderWay, e: &Entry) -> Result<Turn, NoMemory>
                 came: Came::GoesOn,
             }),
         }),
-        Act::Done(end) => Ok(Turn {
-            under: None,
-            told: Some(Told {
-                begin,
-                came: came_to(&end),
-            }),
-        }),
+        Act::Done(end) => {
+            drop(machine);
+            let came = came_to(&end);
+            drop(end);
+            Ok(Turn {
+                under: None,
+                told: Some(Told { begin, came }),
+            })
+        }
     }
 }
 

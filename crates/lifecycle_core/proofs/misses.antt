@@ -1,6 +1,7 @@
 -- What gateways read, why a series call misses an object, and which entry shows a failed call.
 pub mod GatewayEntries
 pub mod Faults
+pub mod RoundEnds
 pub mod RoundFaults
 pub mod RoundHarm
 pub mod Refused

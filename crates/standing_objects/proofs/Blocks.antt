@@ -1,5 +1,5 @@
 -- The names of blocks are the texts of their ULIDs.
-use Rattle.std.proofs.Common.{◌≡◌, ◌⊎◌, inl, inr, ℕ, ◌<◌, ◌≤◌, Bool, true, false, cond, not, List, [], ◌∷◌, ◌++◌, map, length, Option, Some, None, Ok, refl, sym, ◌∙◌, ap, subst, arith, append_assoc, codes}
+use Rattle.std.proofs.Common.{◌≡◌, ◌⊎◌, inl, inr, ℕ, ◌<◌, ◌≤◌, false, List, [], ◌∷◌, ◌++◌, map, Option, Some, None, refl, sym, ◌∙◌, ap, subst, arith, append_assoc, codes}
 use Rattle.std.specs.Prelude.{IsSome, take}
 use Rattle.std.specs.BTreeMap.{get}
 use Rattle.std.specs.List.{before_first}
@@ -11,10 +11,10 @@ use Rattle.std.specs.Cmp.Lexicographic.{slice_cmp}
 use Rattle.std.specs.declared.cmp.Ordering.TheVariants.{Less, Equal, Greater}
 use Rattle.std.proofs.Math.Seq.{take-append_seam}
 use Rattle.std.proofs.lemmas.List.{length-map}
-use Rattle.ulid_core.specs.UlidText.{IsUlidText, character, text_of, ulid_of}
-use Rattle.ulid_core.proofs.UlidLaws.{slice_cmp-ulid_texts, IsUlidText-unique, ulid_of-found}
+use Rattle.ulid_core.specs.UlidText.{IsUlidText, character, text_of}
+use Rattle.ulid_core.proofs.UlidLaws.{slice_cmp-ulid_texts, IsUlidText-unique}
 use Rattle.block_keys.specs.Keys.{key_cmp, key_kind, key_number, key_ulid}
-use Rattle.block_keys.specs.KeyText.{IsKeyText, is_slash, key_text}
+use Rattle.block_keys.specs.KeyText.{is_slash, key_text}
 use Rattle.block_keys.specs.declared.key.Key.{Key}
 use Rattle.block_keys.specs.declared.key.Key.TheVariants.{Meta, Index, Segment, Mark}
 use Rattle.block_keys.proofs.KeyLaws.{before_slash}

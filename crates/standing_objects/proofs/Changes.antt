@@ -1,7 +1,7 @@
 -- What stands after a put and after a delete.
-use Rattle.std.proofs.Common.{◌≡◌, ℕ, Bool, true, false, cond, List, Option, Some, None, Ok, refl, sym, ◌∙◌, ap, subst, ⊎_elim, inl, inr, arith}
-use Rattle.std.specs.Prelude.{IsSome, is_some}
-use Rattle.std.specs.BTreeMap.{BTreeMap, get, Updates, UpdatesBy, is_at}
+use Rattle.std.proofs.Common.{◌≡◌, ℕ, Bool, true, false, cond, List, Option, Ok, refl, sym, ◌∙◌, ap, subst, ⊎_elim, inl, inr, arith}
+use Rattle.std.specs.Prelude.{IsSome}
+use Rattle.std.specs.BTreeMap.{get, is_at}
 use Rattle.std.specs.Ordering.{nat_cmp, is_eq, ordering_then}
 use Rattle.std.specs.declared.cmp.Ordering.{Ordering}
 use Rattle.std.specs.declared.cmp.Ordering.TheVariants.{Less, Equal, Greater}
@@ -14,13 +14,13 @@ use Rattle.std.proofs.lemmas.Slice.Eq.{bytes_eq-Decides}
 use Rattle.ulid_core.specs.UlidText.{IsUlidText, text_of, ulid_of}
 use Rattle.ulid_core.proofs.UlidLaws.{slice_cmp-ulid_texts, IsUlidText-unique, ulid_of-found}
 use Rattle.block_keys.specs.Keys.{IsLawfulKey, key_cmp, key_kind, key_number, key_ulid}
-use Rattle.block_keys.specs.KeyText.{IsKeyText, key_text}
+use Rattle.block_keys.specs.KeyText.{key_text}
 use Rattle.block_keys.specs.declared.key.Key.{Key}
 use Rattle.block_keys.specs.declared.key.Key.TheVariants.{Meta, Index, Segment, Mark}
 use Rattle.block_keys.proofs.KeyLaws.{IsKeyText-key_text, IsLawfulKey-text, slice_cmp-key_text}
-use Rattle.bucket_core.specs.Contents.{Contents, nothing, with_object, without_object}
+use Rattle.bucket_core.specs.Contents.{Contents}
 use Rattle.world_core.specs.declared.entry.Entry.{Entry}
-use Rattle.standing_objects.specs.Held.{Holds, IsWritten, Places, bytes_at, put_at, put_under}
+use Rattle.standing_objects.specs.Held.{Holds, IsWritten, Places, put_under}
 
 -- the block of a key that has a text is written so
 pub block_text : (key : Key) → IsWritten key → IsUlidText (text_of (key_ulid key)) (key_ulid key)

@@ -1,5 +1,5 @@
 -- The next object of a block is the first key behind one of the block's own.
-use Rattle.std.proofs.Common.{◌≡◌, ℕ, suc, ◌≤◌, ◌==◌, ◌&&◌, Bool, true, List, [], ◌∷◌, ◌++◌, length, Option, Some, None, refl, sym, ◌∙◌, ap, subst, arith}
+use Rattle.std.proofs.Common.{◌≡◌, ℕ, suc, ◌==◌, ◌&&◌, Bool, true, List, [], ◌∷◌, ◌++◌, length, Option, Some, None, refl, sym, ◌∙◌, ap, subst, arith}
 use Rattle.std.specs.Prelude.{find}
 use Rattle.std.specs.BTreeMap.{keys, IsOrdered}
 use Rattle.std.specs.Ordering.{nat_cmp, is_gt, is_lt, ordering_then}
@@ -9,7 +9,7 @@ use Rattle.std.proofs.lemmas.Bool.{and_parts, eqb-true, eq-eqb}
 use Rattle.std.proofs.lemmas.Bool.Decides.{Decides-eqb}
 use Rattle.list_core.proofs.Bools.{Less-from_is_lt, nat_cmp-Equal, nat_cmp-Less}
 use Rattle.ulid_core.specs.UlidText.{text_of}
-use Rattle.block_keys.specs.Keys.{IsLawfulKey, key_cmp, key_kind, key_number, key_ulid}
+use Rattle.block_keys.specs.Keys.{IsLawfulKey, key_cmp, key_ulid}
 use Rattle.block_keys.specs.KeyText.{key_text, name_of}
 use Rattle.block_keys.specs.declared.key.Key.{Key}
 use Rattle.block_keys.specs.declared.key.Key.TheVariants.{Meta, Index, Segment, Mark}

@@ -1,5 +1,5 @@
 -- The names of a block's objects are what follows the slash in their keys' texts.
-use Rattle.std.proofs.Common.{◌≡◌, ◌⊎◌, inl, inr, ℕ, zero, suc, ◌+◌, ◌≤◌, ◌==◌, ◌&&◌, Bool, true, false, List, [], ◌∷◌, ◌++◌, map, length, take, drop, Option, Some, None, Result, Ok, Err, refl, sym, ◌∙◌, ap, subst, arith, append_assoc, length-append}
+use Rattle.std.proofs.Common.{◌≡◌, ◌⊎◌, inl, inr, ℕ, ◌+◌, ◌≤◌, ◌==◌, ◌&&◌, true, false, List, [], ◌∷◌, ◌++◌, map, length, drop, Option, Some, None, Result, Ok, Err, refl, sym, ◌∙◌, ap, subst, arith, append_assoc, length-append}
 use Rattle.std.specs.Prelude.{IfOk, IsSome}
 use Rattle.std.specs.BTreeMap.{get}
 use Rattle.std.specs.List.{after_first, position_or_len}
@@ -10,7 +10,7 @@ use Rattle.std.specs.declared.cmp.Ordering.TheVariants.{Less, Equal, Greater}
 use Rattle.std.proofs.Math.Seq.{drop-append_seam}
 use Rattle.std.proofs.lemmas.Bool.{and_parts, eqb-true, eq-eqb}
 use Rattle.std.proofs.lemmas.List.{length-map}
-use Rattle.list_core.proofs.Bools.{Less-from_is_lt, is_lt-from_Less, nat_cmp-Equal}
+use Rattle.list_core.proofs.Bools.{Less-from_is_lt, nat_cmp-Equal}
 use Rattle.ulid_core.specs.UlidText.{IsUlidText, character, text_of, ulid_of}
 use Rattle.ulid_core.proofs.UlidLaws.{IsUlidText-unique, length-text_of, ulid_of-only}
 use Rattle.block_keys.specs.Keys.{key_cmp, key_ulid}

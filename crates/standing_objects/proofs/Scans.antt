@@ -1,23 +1,21 @@
 -- The first key that is due, in a list of keys in order.
 use Rattle.std.proofs.Common.{◌≡◌, ◌⊎◌, inl, inr, ℕ, Bool, true, false, cond, List, [], ◌∷◌, Option, Some, None, refl, sym, ◌∙◌, ap, subst}
 use Rattle.std.specs.Prelude.{IsSome, is_some, find, option_map}
-use Rattle.std.specs.BTreeMap.{get, is_at, keys, IsOrdered}
+use Rattle.std.specs.BTreeMap.{is_at, keys, IsOrdered}
 use Rattle.std.specs.List.{AllByRecursion}
 use Rattle.std.specs.List.Sorted.{IsStrictlySortedBy}
 use Rattle.std.specs.Map.{keys_of, lookup}
 use Rattle.std.specs.Ordering.{is_eq, is_gt}
-use Rattle.std.specs.declared.cmp.Ordering.TheVariants.{Less, Equal}
+use Rattle.std.specs.declared.cmp.Ordering.TheVariants.{Less}
 use Rattle.std.proofs.lemmas.Bool.{cases_Bool}
 use Rattle.std.proofs.lemmas.Map.Keys.{sorted_head, sorted_tail}
 use Rattle.list_core.proofs.Bools.{Less-from_is_lt, is_lt-from_Less}
-use Rattle.ulid_core.specs.UlidText.{text_of}
 use Rattle.block_keys.specs.Keys.{IsLawfulKey, key_cmp, key_ulid}
 use Rattle.block_keys.specs.KeyText.{key_text}
 use Rattle.block_keys.proofs.KeyLaws.{IsLawfulKey-text}
 use Rattle.block_keys.specs.declared.key.Key.{Key}
-use Rattle.bucket_core.specs.Pages.{Before}
 use Rattle.standing_objects.specs.Held.{HaveTexts, Places}
-use Rattle.standing_objects.specs.Next.{IsNextBlock, Stands, is_due_block}
+use Rattle.standing_objects.specs.Next.{IsNextBlock, is_due_block}
 use Rattle.standing_objects.proofs.Changes.{key_itself, same_key}
 use Rattle.standing_objects.proofs.Blocks.{not_greater}
 

@@ -45,7 +45,7 @@ use Rattle.lifecycle_core.specs.Setting.{Setting}
 use Rattle.lifecycle_core.proofs.blocks.FilesPut.{AreFilesPut, new_files}
 use Rattle.lifecycle_core.proofs.blocks.HeldPuts.{IsHeldPut, not_declared, seen_in, shipped_holds}
 use Rattle.lifecycle_core.proofs.blocks.InlineBlocks.{index_told}
-use Rattle.compaction_laws.proofs.MergedBlocks.{HoldsThese, merge_joins}
+use Rattle.activity_laws.proofs.MergedBlocks.{HoldsThese, merge_joins}
 use Rattle.lifecycle_core.proofs.blocks.Known.{IsSoundPut, WasMetaPut, merged_again, read_put, sound_put}
 use Rattle.lifecycle_core.proofs.blocks.NamedContent.{named_content}
 use Rattle.lifecycle_core.proofs.blocks.NewMetas.{given, input_labels, merge, metas_are, source_in, source_of}

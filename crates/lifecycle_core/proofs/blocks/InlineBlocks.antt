@@ -20,7 +20,6 @@ use Rattle.block_meta.specs.MetaReading.{meta_of_text}
 use Rattle.block_meta.specs.MetaValue.{meta_text}
 use Rattle.block_files.specs.Built.{objects_of}
 use Rattle.block_files.specs.declared.block_files.BlockFiles.{BlockFiles}
-use Rattle.block_files.proofs.MetaTexts.{IsReadAgain, meta_read_again}
 use Rattle.chunk_files.specs.Layout.{greatest}
 use Rattle.index_writing.specs.WriteSteps as index_writing
 use Rattle.block_writing.specs.Put.{PlanFields, fitted}
@@ -39,7 +38,8 @@ use Rattle.script_core.specs.declared.block.Block.{Block}
 use Rattle.script_core.specs.declared.body.Body.TheVariants.{Inline}
 use Rattle.lifecycle_core.specs.Held.{given_by}
 use Rattle.lifecycle_core.specs.Setting.{Setting}
-use Rattle.lifecycle_core.specs.Shipped.{IsInlineBlock, IsNotBuilt, IsPlanOf}
+use Rattle.lifecycle_core.specs.Shipped.{FitsParent, IsInlineBlock, IsNotBuilt, IsPlanOf}
+use Rattle.lifecycle_core.proofs.blocks.MetasAgain.{IsReadAgain, meta_read_again}
 use Rattle.lifecycle_core.proofs.blocks.Whole.{IsWholeBlock, Spans, told_size}
 
 -- ---- plans
@@ -180,7 +180,7 @@ module _ (block : Block) (low high : ℤ) (series : List Series) (objects : List
       level = subst (λ n. n < 2 ^ 32) (sym is.planned.level) (omega arith);
       sources = subst (All (λ u. u < 2 ^ 128)) (sym is.planned.sources) (All-cons (λ u. u < 2 ^ 128) block.ulid [] small (All-nil (λ u. u < 2 ^ 128)));
       distinct = is.plan.distinct;
-      parents = is.planned.parents;
+      parents = subst (AllByRecursion FitsParent) (sym is.planned.parents) tt;
       lawful = subst IsLabelSet (sym is.planned.labels) lawful;
       named = subst AreNamed (sym is.planned.labels) named;
       values = subst (All (λ (l : Label). IsUtf8 l.value)) (sym is.planned.labels) values;

@@ -1,4 +1,4 @@
--- The text of a meta that may have parents is read as that meta, where its numbers fit and its texts are UTF-8.
+-- The text of a meta is read as that meta, where its numbers fit and its texts are UTF-8.
 use Rattle.std.proofs.Common.{◌≡◌, ℕ, ℤ, pos, negsuc, ◌^◌, ◌<◌, true, nat_lt, List, [], ◌∷◌, get_or, All, Ok, Less, nat_cmp, FitsSigned, w64, IsUtf8, codes, rules, refl, sym, ap, subst, arith}
 use Rattle.std.specs.Prelude.{◌||◌, IsTrue}
 use Rattle.std.specs.Char.{is_ascii_digit}

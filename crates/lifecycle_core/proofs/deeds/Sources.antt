@@ -35,7 +35,7 @@ use Rattle.lifecycle_core.proofs.blocks.Declared.{declared_ulid}
 use Rattle.lifecycle_core.proofs.blocks.Objects.{object_is, object_ulid}
 use Rattle.lifecycle_core.proofs.blocks.OneShipped.{ends_with_meta}
 use Rattle.lifecycle_core.proofs.blocks.Readable.{is_readable}
-use Rattle.compaction_laws.proofs.CompactionAsks.{compaction_op}
+use Rattle.activity_laws.proofs.CompactionAsks.{compaction_op}
 use Rattle.lifecycle_core.proofs.deeds.Fronts.{at_seat, done_at}
 use Rattle.lifecycle_core.proofs.deeds.Orders.{in_seat}
 use Rattle.lifecycle_core.proofs.deeds.Words.{AreDeeds, Compacts, Deed, Done, IsClock, cleaning, cleans, clocking, clocks, compacting, compacts, reading, reads, shipping, ships}

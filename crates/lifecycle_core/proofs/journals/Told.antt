@@ -3,10 +3,8 @@
 use Rattle.std.specs.Prelude.{◌≡◌, ℕ, ◌<◌, ◌≤◌, ◌^◌, List, [], ◌∷◌, ◌++◌, All, Contains, Some}
 use Rattle.block_keys.specs.Keys.{key_ulid}
 use Rattle.block_keys.specs.declared.key.Key.{Key}
-use Rattle.block_keys.specs.declared.key.Key.TheVariants as key
 use Rattle.block_keys.specs.declared.object.Object.{Object}
 use Rattle.world_core.specs.declared.entry.Entry.{Entry}
-use Rattle.world_core.specs.declared.op.Op.TheVariants as op
 use Rattle.meta_fetcher.specs.Syncs.{SyncRun}
 use Rattle.meta_fetcher.specs.declared.sync_end.SyncEnd.TheVariants as fetched
 use Rattle.series_calls.specs.Asking.{IsReadOf}

@@ -22,7 +22,7 @@ use Rattle.activity_laws.specs.Sights.{IsSeen}
 use Rattle.lifecycle_core.specs.Conducts.{of_seat}
 use Rattle.lifecycle_core.specs.Setting.{Setting}
 use Rattle.lifecycle_core.specs.TimeRules.{PutsMark}
-use Rattle.compaction_laws.proofs.MarkTexts.{own_mark}
+use Rattle.activity_laws.proofs.MarkTexts.{own_mark}
 use Rattle.lifecycle_core.proofs.deeds.Orders.{StandsWhole, stands_whole}
 use Rattle.lifecycle_core.proofs.deeds.Sources.{mark_source, put_is_small}
 use Rattle.lifecycle_core.proofs.deeds.Words.{AreDeeds, Compacts}

@@ -21,7 +21,7 @@ use Rattle.compactor.specs.declared.compact_end.CompactEnd.TheVariants as compac
 use Rattle.script_core.specs.Lawful.{IsLawfulScript}
 use Rattle.activity_laws.specs.CompactionOps.{IsCompactOp, IsInputRead}
 use Rattle.activity_laws.specs.Sights.{IsSeen}
-use Rattle.compaction_laws.proofs.CompactionAsks.{compaction_op}
+use Rattle.activity_laws.proofs.CompactionAsks.{compaction_op}
 use Rattle.lifecycle_core.specs.Acting.{IsReading}
 use Rattle.lifecycle_core.specs.Breaches.{Rule, Watch, honesty, read_key, read_time, upload_time, watched_compaction}
 use Rattle.lifecycle_core.specs.Causes.{IsBlamedInCompaction, IsExplainedBy}
@@ -44,7 +44,8 @@ use Rattle.lifecycle_core.proofs.marks.Reasons.{kept_seen}
 use Rattle.lifecycle_core.proofs.misses.Deleted.{input_is_found}
 use Rattle.lifecycle_core.proofs.misses.Refused.{HasRefused, honest_or, timely_or, within_or}
 use Rattle.lifecycle_core.proofs.phases.TasksMade.{part_filter, part_whole}
-use Rattle.lifecycle_core.proofs.misses.RoundMisses.{IsOwed, ShowsMissing, compaction_misses, owed_index, owed_segment}
+use Rattle.lifecycle_core.proofs.misses.RoundEnds.{IsOwed, ShowsMissing, owed_index, owed_segment}
+use Rattle.lifecycle_core.proofs.misses.RoundMisses.{compaction_misses}
 
 -- ---- an index names no segment that its block has not
 

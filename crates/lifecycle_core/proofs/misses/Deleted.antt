@@ -41,7 +41,7 @@ use Rattle.lifecycle_core.specs.TimeRules.{IsBlockObject, IsMarkedInTime, IsRead
 use Rattle.activity_laws.specs.CompactionOps.{IsCompactOp, IsInputRead}
 use Rattle.activity_laws.specs.Sights.{IsSeen, IsSight, TellsMark}
 use Rattle.activity_laws.proofs.SyncSights.{sync_sight}
-use Rattle.compaction_laws.proofs.CompactionAsks.{compaction_op}
+use Rattle.activity_laws.proofs.CompactionAsks.{compaction_op}
 use Rattle.lifecycle_core.proofs.blocks.Contents.{IsPutWhole, complete_put}
 use Rattle.lifecycle_core.proofs.blocks.Known.{put_is_complete}
 use Rattle.lifecycle_core.proofs.deeds.Fronts.{at_seat}

@@ -1,27 +1,22 @@
 -- What a compaction shows that ended with damage: its sync's, an index that names no segments, a merge of which an input is refused, or
 -- a new block whose meta stands already.
-use Rattle.std.proofs.Common.{◌≡◌, ◌⊎◌, inl, inr, ℕ, zero, suc, ◌+◌, List, [], ◌∷◌, ◌++◌, length, Contains, Option, Some, None, refl, sym, ◌∙◌, ap, subst, append_assoc, append-nil, length-append, arith}
-use Rattle.std.specs.Prelude.{slice_get}
+use Rattle.std.proofs.Common.{◌≡◌, ℕ, zero, suc, ◌+◌, List, [], ◌∷◌, ◌++◌, length, Contains, Option, Some, None, refl, sym, ◌∙◌, ap, subst, append_assoc, append-nil, length-append, arith}
 use Rattle.std.specs.List.{AllZip}
-use Rattle.std.proofs.lemmas.List.Elements.{Contains-append_left, Contains-push}
 use Rattle.block_keys.specs.declared.key.Key.{Key}
 use Rattle.block_keys.specs.declared.key.Key.TheVariants as key
 use Rattle.block_keys.specs.declared.object.Object.{Object}
 use Rattle.block_meta.specs.declared.meta.Meta.{Meta}
 use Rattle.moment_core.specs.declared.rules.Rules.{Rules}
-use Rattle.world_core.specs.Plans.{Plan, Runs, ends, finds, puts, noting}
+use Rattle.world_core.specs.Plans.{Plan, ends, finds, puts, noting}
 use Rattle.world_core.specs.declared.entry.Entry.{Entry}
 use Rattle.world_core.specs.declared.op.Op.TheVariants as op
 use Rattle.world_core.specs.declared.reply.Reply.TheVariants as reply
 use Rattle.world_core.proofs.PlanLaws.{EndsAre, end_is, nothing_given}
-use Rattle.world_core.proofs.PlanParts.{Parts, broken, both, parts}
 use Rattle.world_core.proofs.PlanWords.{gets_are, puts_are}
 use Rattle.shipper.specs.Uploads.{putting, upload}
 use Rattle.shipper.specs.declared.upload_end.UploadEnd.{UploadEnd}
 use Rattle.shipper.specs.declared.upload_end.UploadEnd.TheVariants as shipped
-use Rattle.meta_fetcher.specs.OneView.{one_end_of}
-use Rattle.meta_fetcher.specs.Syncs.{Course, IsEnd, SyncRun, Synced, sync}
-use Rattle.meta_fetcher.specs.declared.sync_end.SyncEnd.{SyncEnd}
+use Rattle.meta_fetcher.specs.Syncs.{SyncRun, sync}
 use Rattle.meta_fetcher.specs.declared.sync_end.SyncEnd.TheVariants as fetched
 use Rattle.meta_fetcher.specs.declared.view.View.{View}
 use Rattle.group_planner.proofs.GroupLaws.{one_answer}
@@ -41,13 +36,14 @@ use Rattle.compaction_inputs.specs.declared.input.Input.{Input}
 use Rattle.compaction_inputs.specs.declared.input.Read.{Read}
 use Rattle.compaction_inputs.specs.declared.merging.Merging.{Merging}
 use Rattle.compaction_inputs.specs.declared.merging.Merging.TheVariants as merging_is
-use Rattle.compactor.specs.Compactions.{CompactRun, after_merge, after_sync, after_upload, compacting, compacting_groups, last_number, merging, metas_of, read_ends, rounds, sync_rules}
+use Rattle.compactor.specs.Compactions.{CompactRun, after_merge, after_upload, compacting, compacting_groups, last_number, merging, metas_of, read_ends, rounds, sync_rules}
 use Rattle.compactor.specs.NewBlocks.{block_objects, new_ulid}
 use Rattle.compactor.specs.declared.compact_end.CompactEnd.{CompactEnd}
 use Rattle.compactor.specs.declared.compact_end.CompactEnd.TheVariants as compact
 use Rattle.activity_laws.specs.CompactionOps.{HasSynced, ReadsObject, WasRead}
+use Rattle.activity_laws.proofs.CompactionSoFar.{AreRead, inputs_more, object_more, object_now, segments_and, synced_more, zip_push}
 use Rattle.list_core.proofs.Membership.{contains_first, contains_later}
-use Rattle.lifecycle_core.proofs.misses.RoundFaults.{both_are, noting_are}
+use Rattle.lifecycle_core.proofs.misses.RoundEnds.{EndsIn, both_are, by_rounds, by_sync, ends_in, noting_are}
 
 -- ---- what is shown
 
@@ -72,72 +68,6 @@ pub data IsHarm (rules : Rules) (own : List Entry) (number : ℕ) : Type 0 where
   no_merge : IsRefusedMerge rules own number → IsHarm rules own number
   -- the last look found the meta of a new block, right behind the read that names it
   stands_already : (front : List Entry) (last e : Entry) (bytes : List ℕ) → own ≡ (front ++ last ∷ []) ++ e ∷ [] → e.op ≡ op.Get (key.Meta (new_ulid last.seq last.moment)) → e.reply ≡ reply.Found bytes → IsHarm rules own number
-
--- ---- what is known stays so as more entries are made
-
-synced_more : (rules : Rules) (view : View) (made : List Entry) (e : Entry) → HasSynced rules made view → HasSynced rules (made ++ e ∷ []) view
-synced_more rules view made e s = record {
-  sync = s.sync;
-  others = s.others ++ e ∷ [];
-  parts = ap (λ es. es ++ e ∷ []) s.parts ∙ append_assoc s.sync s.others (e ∷ []);
-  run = s.run;
-}
-
-object_more : (made : List Entry) (e : Entry) (k : Key) (one : Read) → ReadsObject made k one → ReadsObject (made ++ e ∷ []) k one
-object_more made e k one (x, among, asks, found, number) = (x, Contains-append_left made (e ∷ []) x among, asks, found, number)
-
--- the last entry read it
-object_now : (made : List Entry) (e : Entry) (k : Key) (bytes : List ℕ) → e.op ≡ op.Get k → e.reply ≡ reply.Found bytes → ReadsObject (made ++ e ∷ []) k (read_at e bytes)
-object_now made e k bytes asks found = (e, Contains-push made e, asks, found, refl)
-
--- the segments were read, each under its number
-abbrev AreRead : List Entry → ℕ → List Read → Type 0
-AreRead made ulid segments = (place : ℕ) (one : Read) → slice_get segments place ≡ Some one → ReadsObject made (key.Segment ulid (place + 1)) one
-
-segments_more : (made : List Entry) (e : Entry) (ulid : ℕ) (segments : List Read) → AreRead made ulid segments → AreRead (made ++ e ∷ []) ulid segments
-segments_more made e ulid segments all place one at = object_more made e (key.Segment ulid (place + 1)) one (all place one at)
-
-no_place : (place : ℕ) (one : Read) → slice_get [] place ≡ Some one → ⊥
-no_place place one at = cc (at)
-
-at_push : (xs : List Read) (x : Read) (place : ℕ) (one : Read) → slice_get (xs ++ x ∷ []) place ≡ Some one → (slice_get xs place ≡ Some one) ⊎ ((place ≡ length xs) × (x ≡ one))
-at_push [] x zero one at = inr (refl, cc (at))
-at_push [] x (suc place) one at = absurd (no_place place one at)
-at_push (y ∷ xs) x zero one at = inl at
-at_push (y ∷ xs) x (suc place) one at = elim (at_push xs x place one at) [
-  | inl old ↦ inl old
-  | inr new ↦ inr (ap suc new.0, new.1)
-]
-
--- one segment more
-segments_and : (made : List Entry) (e : Entry) (ulid : ℕ) (segments : List Read) (bytes : List ℕ) → e.op ≡ op.Get (key.Segment ulid (length segments + 1)) → e.reply ≡ reply.Found bytes
-    → AreRead made ulid segments → AreRead (made ++ e ∷ []) ulid (segments ++ read_at e bytes ∷ [])
-segments_and made e ulid segments bytes asks found all place one at = elim (at_push segments (read_at e bytes) place one at) [
-  | inl old ↦ segments_more made e ulid segments all place one old
-  | inr new ↦
-      subst (λ (r : Read). ReadsObject (made ++ e ∷ []) (key.Segment ulid (place + 1)) r) new.1
-      (subst (λ (n : ℕ). ReadsObject (made ++ e ∷ []) (key.Segment ulid (n + 1)) (read_at e bytes)) (sym new.0) (object_now made e (key.Segment ulid (length segments + 1)) bytes asks found))
-]
-
-read_more : (made : List Entry) (e : Entry) (meta : Meta) (input : Input) → WasRead made meta input → WasRead (made ++ e ∷ []) meta input
-read_more made e meta input was = record {
-  meta_is = was.meta_is;
-  index = object_more made e (key.Index meta.ulid) input.index was.index;
-  named = was.named;
-  segments = λ place one at. object_more made e (key.Segment meta.ulid (place + 1)) one (was.segments place one at);
-}
-
-inputs_more : (made : List Entry) (e : Entry) (metas : List Meta) (inputs : List Input) → AllZip (WasRead made) metas inputs → AllZip (WasRead (made ++ e ∷ [])) metas inputs
-inputs_more made e [] [] all = tt
-inputs_more made e [] (input ∷ inputs) all = absurd all
-inputs_more made e (meta ∷ metas) [] all = absurd all
-inputs_more made e (meta ∷ metas) (input ∷ inputs) all = (read_more made e meta input all.0, inputs_more made e metas inputs all.1)
-
-zip_push : {A B : Type 0} (R : A → B → Type 0) (xs : List A) (ys : List B) (x : A) (y : B) → AllZip R xs ys → R x y → AllZip R (xs ++ x ∷ []) (ys ++ y ∷ [])
-zip_push R [] [] x y all one = (one, tt)
-zip_push R [] (b ∷ ys) x y all one = absurd all
-zip_push R (a ∷ xs) [] x y all one = absurd all
-zip_push R (a ∷ xs) (b ∷ ys) x y all one = (all.0, zip_push R xs ys x y all.1 one)
 
 -- it is the last of the entries
 abbrev IsLast : List Entry → Entry → Type 0
@@ -319,28 +249,16 @@ module _ (rules : Rules) (entries : List Entry) (number : ℕ) where
     in_sync : (own others : List Entry) → entries ≡ own ++ others → SyncRun (sync_rules rules) own (Some (fetched.Damaged number)) → HasHarm
     in_rounds : IsHarm rules entries number → HasHarm
 
-  after : (own others : List Entry) (told : Synced × Option Course) (end : SyncEnd) → entries ≡ own ++ others → Runs (sync (sync_rules rules)) own (Some told) → IsEnd (sync_rules rules) told end
-      → Runs (after_sync rules.replicas rules.retention end) others (Some (compact.Damaged number)) → HasHarm
-  after own others told (fetched.View view) same first is run =
-      let synced : SyncRun (sync_rules rules) own (Some (fetched.View view)) = (told, first, is) in
-      let s : HasSynced rules own view = record { sync = own; others = []; parts = sym (append-nil own); run = synced } in
+  of_end : EndsIn rules entries (compact.Damaged number) → HasHarm
+  of_end (by_sync own others (fetched.View view) same first is) = absurd is
+  of_end (by_sync own others (fetched.Fault n) same first is) = absurd (cc (is))
+  of_end (by_sync own others (fetched.Damaged n) same first is) =
+      let one : n ≡ number = cc (is) in in_sync own others same (subst (λ (m : ℕ). SyncRun (sync_rules rules) own (Some (fetched.Damaged m))) one first)
+  of_end (by_sync own others fetched.TooMany same first is) = absurd (cc (is))
+  of_end (by_rounds own others view same first run) =
+      let s : HasSynced rules own view = record { sync = own; others = []; parts = sym (append-nil own); run = first } in
       in_rounds (subst (λ es. IsHarm rules es number) (sym same)
       (end_is Any (Shown rules) (rounds rules.replicas rules.retention view) own others (compact.Damaged number) (rounds_end rules view own s) (nothing_given others) run))
-  after own others told (fetched.Fault n) same first is (nil, inl none) = absurd (cc (none))
-  after own others told (fetched.Fault n) same first is (nil, inr end) = absurd (cc (end))
-  after own others told (fetched.Damaged n) same first is (nil, inl none) = absurd (cc (none))
-  after own others told (fetched.Damaged n) same first is (nil, inr end) =
-      let one : n ≡ number = cc (end) in in_sync own others same (told, first, subst (λ (m : ℕ). IsEnd (sync_rules rules) told (fetched.Damaged m)) one is)
-  after own others told fetched.TooMany same first is (nil, inl none) = absurd (cc (none))
-  after own others told fetched.TooMany same first is (nil, inr end) = absurd (cc (end))
-
-  abbrev next : Synced × Option Course → Plan CompactEnd
-  next told = finds (IsEnd (sync_rules rules) told) (one_end_of (sync_rules rules) told) (after_sync rules.replicas rules.retention)
-
-  by_parts : Parts (sync (sync_rules rules)) next entries (Some (compact.Damaged number)) → HasHarm
-  by_parts (broken one none) = absurd (cc (none))
-  by_parts (both own others told same first (inl none)) = absurd (cc (none.1))
-  by_parts (both own others told same first (inr (end, is, run))) = after own others told end same first is run
 
   pub harm_shown : CompactRun rules entries (Some (compact.Damaged number)) → HasHarm
-  harm_shown run = by_parts (parts (sync (sync_rules rules)) next entries (Some (compact.Damaged number)) run)
+  harm_shown run = of_end (ends_in rules entries (compact.Damaged number) run)

@@ -18,7 +18,7 @@ use Rattle.compactor.specs.declared.compact_end.CompactEnd.TheVariants as compac
 use Rattle.script_core.specs.Lawful.{IsLawfulScript}
 use Rattle.activity_laws.specs.CompactionOps.{IsCompactOp, IsInputRead}
 use Rattle.activity_laws.specs.Sights.{IsSeen}
-use Rattle.compaction_laws.proofs.CompactionAsks.{compaction_op}
+use Rattle.activity_laws.proofs.CompactionAsks.{compaction_op}
 use Rattle.lifecycle_core.specs.Breaches.{IsCompactorSeat, RefusesUnder, Rule, honesty, mark_time, read_time, sync_time, upload_time, view_time, watched, watched_compaction}
 use Rattle.lifecycle_core.specs.Causes.{IsBlamedInCompaction, IsExplainedBy}
 use Rattle.lifecycle_core.specs.Conducts.{of_seat}
@@ -36,7 +36,8 @@ use Rattle.lifecycle_core.proofs.journals.Standing.{parted}
 use Rattle.lifecycle_core.proofs.journals.Told.{Rises}
 use Rattle.lifecycle_core.proofs.marks.Reasons.{kept_seen}
 use Rattle.lifecycle_core.proofs.misses.Deleted.{delete_cleans}
-use Rattle.lifecycle_core.proofs.misses.RoundMisses.{IsOwed, ShowsMissing, compaction_misses, owed_index, owed_segment}
+use Rattle.lifecycle_core.proofs.misses.RoundEnds.{IsOwed, ShowsMissing, owed_index, owed_segment}
+use Rattle.lifecycle_core.proofs.misses.RoundMisses.{compaction_misses}
 use Rattle.lifecycle_core.proofs.phases.TaskRuns.{got}
 use Rattle.lifecycle_core.proofs.views.Undamaged.{put_before_read}
 

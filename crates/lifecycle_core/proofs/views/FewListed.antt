@@ -62,7 +62,7 @@ use Rattle.lifecycle_core.specs.Tasks.{End, QueryTask, TaskRun, answered, ask_to
 use Rattle.lifecycle_core.proofs.blocks.Declared.{declared_ulid}
 use Rattle.lifecycle_core.proofs.blocks.Objects.{object_is, object_ulid}
 use Rattle.lifecycle_core.proofs.blocks.OneShipped.{ends_with_meta}
-use Rattle.compaction_laws.proofs.CompactionAsks.{compaction_op}
+use Rattle.activity_laws.proofs.CompactionAsks.{compaction_op}
 use Rattle.lifecycle_core.proofs.deeds.Fronts.{done_at}
 use Rattle.lifecycle_core.proofs.deeds.Orders.{in_seat}
 use Rattle.lifecycle_core.proofs.deeds.Words.{AreDeeds, Done, IsClock, cleaning as cleans, clocking, compacting, reading, shipping}

@@ -38,7 +38,7 @@ use Rattle.script_core.specs.Lawful.{IsLawfulScript}
 use Rattle.script_core.specs.Values.{is_reserved}
 use Rattle.activity_laws.specs.CompactionOps.{HasSynced, IsCompactOp, IsInputRead, IsObjectMade, ReadsObject, WasRead}
 use Rattle.activity_laws.specs.Sights.{IsSeen}
-use Rattle.compaction_laws.proofs.CompactionAsks.{compaction_op}
+use Rattle.activity_laws.proofs.CompactionAsks.{compaction_op}
 use Rattle.lifecycle_core.specs.Conducts.{of_seat}
 use Rattle.lifecycle_core.specs.PutBlocks.{WasPutBefore}
 use Rattle.lifecycle_core.specs.Setting.{Setting}

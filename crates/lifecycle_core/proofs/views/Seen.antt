@@ -49,7 +49,7 @@ use Rattle.lifecycle_core.specs.TimeRules.{IsSyncedInTime, IsUploadedInTime, Put
 use Rattle.lifecycle_core.proofs.blocks.Contents.{declared_own}
 use Rattle.lifecycle_core.proofs.blocks.Known.{IsKnown, complete_is_known, put_is_complete}
 use Rattle.lifecycle_core.proofs.deeds.Orders.{IsEarlier, front_is_earlier, lower_is_in_front, ordered}
-use Rattle.compaction_laws.proofs.CompactionAsks.{compaction_op}
+use Rattle.activity_laws.proofs.CompactionAsks.{compaction_op}
 use Rattle.lifecycle_core.proofs.deeds.Fronts.{at_seat}
 use Rattle.lifecycle_core.proofs.deeds.Sources.{mark_source, upload_op}
 use Rattle.lifecycle_core.proofs.deeds.Stood.{WasDeleted, absent_stands, deleted_since, found_stands, stood}

@@ -38,7 +38,7 @@ use Rattle.cleaner.specs.declared.clean_end.CleanEnd.{CleanEnd}
 use Rattle.cleaner.specs.declared.clean_end.CleanEnd.TheVariants as clean
 use Rattle.cleaner.specs.declared.clean_rules.CleanRules.{CleanRules}
 use Rattle.script_core.specs.Lawful.{IsLawfulScript}
-use Rattle.compaction_laws.proofs.MarkTexts.{own_mark}
+use Rattle.activity_laws.proofs.MarkTexts.{own_mark}
 use Rattle.lifecycle_core.specs.PutBlocks.{WasPutBefore}
 use Rattle.lifecycle_core.specs.Setting.{Setting}
 use Rattle.lifecycle_core.proofs.blocks.Known.{put_is_complete}

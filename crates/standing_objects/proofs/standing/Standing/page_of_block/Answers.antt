@@ -1,14 +1,12 @@
-use Rattle.std.proofs.Common.{◌≡◌, ℕ, ◌+◌, ◌-◌, Some, None, List, [], ◌∷◌, ◌++◌, refl, sym, ◌∙◌, ap, subst}
+use Rattle.std.proofs.Common.{◌≡◌, ℕ, ◌+◌, ◌-◌, List, [], ◌∷◌, ◌++◌, refl, sym, ◌∙◌, ap, subst}
 use Rattle.ulid_core.specs.UlidText.{IsUlidText, text_of}
 use Rattle.ulid_core.proofs.UlidLaws.{ulid_of-found}
 use Rattle.block_keys.specs.KeyText.{name_of}
-use Rattle.bucket_core.specs.Contents.{Contents}
 use Rattle.bucket_core.specs.Pages.{IsPage}
-use Rattle.standing_objects.specs.Held.{HaveTexts, Holds}
+use Rattle.standing_objects.specs.Held.{HaveTexts}
 use Rattle.standing_objects.specs.Next.{IsDueAt, IsDueIn, IsFirstKey, IsLeast}
 use Rattle.standing_objects.proofs.Objects.{least_object, no_object_due, object_stands}
 use Rattle.standing_objects.proofs.Pages.{page_begun, page_done, page_on, page_over}
-use Rattle.world_core.specs.declared.entry.Entry.{Entry}
 use Rattle.standing_objects.proofs.standing.Standing.page_of_block.Goals.{else-loop-test, then-loop-test+in_ok-key+in_default}
 use Rattle.standing_objects.proofs.standing.Standing.page_of_block.Goals as goal
 

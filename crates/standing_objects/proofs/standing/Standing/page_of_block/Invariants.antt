@@ -1,4 +1,4 @@
-use Rattle.std.proofs.Common.{ℕ, ◌-◌, List, [], ◌++◌}
+use Rattle.std.proofs.Common.{ℕ, ◌-◌, List, ◌++◌}
 use Rattle.ulid_core.specs.UlidText.{text_of}
 use Rattle.bucket_core.specs.Contents.{Contents}
 use Rattle.bucket_core.specs.Pages.{IsPage}
