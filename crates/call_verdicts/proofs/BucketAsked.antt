@@ -10,7 +10,7 @@ use Rattle.world_core.specs.Worlds.{WorldView}
 use Rattle.world_core.specs.declared.entry.Entry.{Entry}
 use Rattle.world_core.specs.declared.open_refusal.OpenRefusal.{OpenRefusal}
 use Rattle.world_core.specs.declared.open_refusal.OpenRefusal.TheVariants as unopened
-use Rattle.call_verdicts.specs.Asked.{IsAskedBy, IsBucketAsked, WasAsked}
+use Rattle.call_verdicts.specs.Asked.{IsAskedBy, IsBucketAsked, WasAsked, WasOnlyOpened}
 use Rattle.call_verdicts.specs.declared.verdict.Verdict.{Verdict}
 use Rattle.call_verdicts.specs.declared.verdict.Verdict.TheVariants.{WordsRefused, SourceFault, ScriptRefused, SiteFault, NotEmpty, Full, Report, Checked, NoMemory}
 use Rattle.call_verdicts.proofs.HandedBack.{if_map}
@@ -73,6 +73,20 @@ module _ {B : Type 0} (asked : B → Option (List Call)) where
       let since : Asks asked old store (opening ∷ []) = elim asks [ inl noted ↦ noted | inr unnoted ↦ absurd (never (short unnoted.1)) ] in
       asked_back v journal back empty store kept handed
       (asked_so v empty store (subst (λ (entries : List Entry). WasAsked asked (opening ∷ calls_of entries) store) (sym none) (asked_first old store (opening ∷ []) was since)))
+
+  -- ---- a bucket that was opened at most
+
+  -- the world was not opened
+  pub only_opened : {A : Type 0} (old store : B) (answer no_memory : A) → AsksOnce asked old store opening answer no_memory → WasAsked asked [] old → WasOnlyOpened asked store
+  only_opened old store answer no_memory (inl noted) was = inr (asked_first old store (opening ∷ []) was noted)
+  only_opened old store answer no_memory (inr unnoted) was =
+      let nothing : Asks asked old store [] = subst (λ (told : Option (List Call)). IfSome (asked old) (λ before. told ≡ Some (before ++ []))) (sym unnoted.0) (asks_none asked old) in inl (asked_first old store [] was nothing)
+
+  pub back_opened : (back : Option B) (store : B) → back ≡ Some store → WasOnlyOpened asked store → IfSome back (WasOnlyOpened asked)
+  back_opened back store handed opened = subst (λ (o : Option B). IfSome o (WasOnlyOpened asked)) (sym handed) opened
+
+  pub none_opened : (back : Option B) → back ≡ None → IfSome back (WasOnlyOpened asked)
+  none_opened back none = subst (λ (o : Option B). IfSome o (WasOnlyOpened asked)) (sym none) tt
 
   -- a run over the world
   pub ended_asked : (old new : WorldView B) (v : Verdict) (journal : Option (List Entry)) (back : Option B) → old.journal ≡ [] → WasAsked asked (opening ∷ []) old.bucket → ((before : List Call) → IsAllAsked asked before old → IsAllAsked asked before new)

@@ -11,3 +11,4 @@ pub mod ShelfReads
 pub mod BucketAsked
 pub mod Noted
 pub mod Saying
+pub mod OneReport

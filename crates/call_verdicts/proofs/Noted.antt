@@ -4,13 +4,16 @@ use Rattle.std.specs.Prelude.{IfSome, IsSomeAnd}
 use Rattle.world_core.specs.Keeping.{IsFull}
 use Rattle.world_core.specs.Worlds.{WorldView}
 use Rattle.world_core.specs.declared.entry.Entry.{Entry}
-use Rattle.lifecycle_core.specs.Setting.{Setting}
+use Rattle.report_lines.specs.lifecycle_core.specs.Setting.{Setting}
+use Rattle.bucket_core.specs.Asking.{Call}
 use Rattle.bucket_core.specs.Contents.{Contents}
+use Rattle.call_verdicts.specs.Asked.{WasOnlyOpened}
 use Rattle.call_verdicts.specs.Noted.{IsFullSaid, IsNoted}
 use Rattle.call_verdicts.specs.Noted.{tells_full}
 use Rattle.call_verdicts.specs.Statuses.{number_of}
 use Rattle.call_verdicts.specs.Undone.{IsUndone}
 use Rattle.call_verdicts.specs.Verdicts.{Around, IsChecked, IsFullRun, IsRun, IsSaid, IsUnread, IsWorked, Saying, status_of}
+use Rattle.call_verdicts.proofs.BucketAsked.{none_opened}
 use Rattle.run_notes.specs.declared.run_note.RunNote.{RunNote}
 use Rattle.call_verdicts.specs.declared.status.Status.{Status}
 use Rattle.report_lines.specs.declared.check_outcome.CheckOutcome.TheVariants.{Passed, Refused}
@@ -40,22 +43,22 @@ said_by (Checked block (Passed series samples)) saying said is = other_status (C
 said_by (Checked block (Refused number)) saying said is = other_status (Checked block (Refused number)) saying said (λ e. absurd (cc (e))) is
 said_by NoMemory saying said is = other_status NoMemory saying said (λ e. absurd (cc (e))) is
 
-pub full_said : {B : Type 0} (v : Verdict) (saying : Saying) (said : Status) (journal : Option (List Entry)) (store : Option B) (told : Option (RunNote B)) → IsNoted v journal store told → IsSaid v saying said → IfSome told (λ n. IsFullSaid n.full saying (number_of said))
-full_said v saying said journal store None noted is = tt
-full_said v saying said journal store (Some n) noted is = subst (λ (b : Bool). IsFullSaid b saying (number_of said)) (sym noted.2) (said_by v saying said is)
+pub full_said : {B : Type 0} (asked : B → Option (List Call)) (v : Verdict) (saying : Saying) (said : Status) (journal : Option (List Entry)) (store : Option B) (told : Option (RunNote B)) → IsNoted asked v journal store told → IsSaid v saying said → IfSome told (λ n. IsFullSaid n.full saying (number_of said))
+full_said asked v saying said journal store None noted is = tt
+full_said asked v saying said journal store (Some n) noted is = subst (λ (b : Bool). IsFullSaid b saying (number_of said)) (sym noted.2) (said_by v saying said is)
 
 -- a run whose note is of the world that it left
-pub noted_world : {B : Type 0} (v : Verdict) (world : WorldView B) (full : Bool) (told : Option (RunNote B)) → IsSomeAnd told (λ n. (n.full ≡ full) × (n.world.value ≡ world)) → full ≡ tells_full v → IsNoted v (Some world.journal) (Some world.bucket) told
-noted_world v world full None some is = absurd some
-noted_world v world full (Some n) some is = (ap (λ w. Some w.journal) (sym some.1), ap (λ w. Some w.bucket) (sym some.1), some.0 ∙ is)
+pub noted_world : {B : Type 0} (asked : B → Option (List Call)) (v : Verdict) (world : WorldView B) (full : Bool) (told : Option (RunNote B)) → IsSomeAnd told (λ n. (n.full ≡ full) × (n.world.value ≡ world)) → full ≡ tells_full v → IsNoted asked v (Some world.journal) (Some world.bucket) told
+noted_world asked v world full None some is = absurd some
+noted_world asked v world full (Some n) some is = (ap (λ w. Some w.journal) (sym some.1), ap (λ w. Some w.bucket) (sym some.1), some.0 ∙ is)
 
 -- the same verdict, journal, bucket and note
-pub noted_as : {B : Type 0} (v w : Verdict) (world : WorldView B) (journal : Option (List Entry)) (store : Option B) (told note : Option (RunNote B)) → w ≡ v → journal ≡ Some world.journal → store ≡ Some world.bucket → note ≡ told
-    → IsNoted v (Some world.journal) (Some world.bucket) told → IsNoted w journal store note
-noted_as {B} v w world journal store told note is kept handed same noted =
-    subst (λ (n : Option (RunNote B)). IsNoted w journal store n) (sym same)
-    (subst (λ (x : Verdict). IsNoted x journal store told) (sym is)
-    (subst (λ (o : Option (List Entry)). IsNoted v o store told) (sym kept) (subst (λ (o : Option B). IsNoted v (Some world.journal) o told) (sym handed) noted)))
+pub noted_as : {B : Type 0} (asked : B → Option (List Call)) (v w : Verdict) (world : WorldView B) (journal : Option (List Entry)) (store : Option B) (told note : Option (RunNote B)) → w ≡ v → journal ≡ Some world.journal → store ≡ Some world.bucket → note ≡ told
+    → IsNoted asked v (Some world.journal) (Some world.bucket) told → IsNoted asked w journal store note
+noted_as {B} asked v w world journal store told note is kept handed same noted =
+    subst (λ (n : Option (RunNote B)). IsNoted asked w journal store n) (sym same)
+    (subst (λ (x : Verdict). IsNoted asked x journal store told) (sym is)
+    (subst (λ (o : Option (List Entry)). IsNoted asked v o store told) (sym kept) (subst (λ (o : Option B). IsNoted asked v (Some world.journal) o told) (sym handed) noted)))
 
 -- ---- a call whose run did not begin
 
@@ -67,11 +70,15 @@ empty_is_not_full : (entries : List Entry) → entries ≡ [] → ¬ IsFull entr
 empty_is_not_full entries none full = empty_not_full (subst IsFull none full)
 
 -- without a note
-pub unnoted : {B : Type 0} (v : Verdict) (journal : Option (List Entry)) (store : Option B) (told : Option (RunNote B)) → told ≡ None → IfSome journal (λ entries. entries ≡ []) → tells_full v ≡ false → IsNoted v journal store told
-unnoted v journal store told none empty other = subst (IsNoted v journal store) (sym none) (empty, other)
+pub unnoted : {B : Type 0} (asked : B → Option (List Call)) (v : Verdict) (journal : Option (List Entry)) (store : Option B) (told : Option (RunNote B)) → told ≡ None → IfSome journal (λ entries. entries ≡ []) → tells_full v ≡ false → IfSome store (WasOnlyOpened asked)
+    → IsNoted asked v journal store told
+unnoted asked v journal store told none empty other opened = subst (IsNoted asked v journal store) (sym none) (empty, other, opened)
 
-pub without_journal : {B : Type 0} (v : Verdict) (journal : Option (List Entry)) (store : Option B) (told : Option (RunNote B)) → told ≡ None → journal ≡ None → tells_full v ≡ false → IsNoted v journal store told
-without_journal v journal store told none gone other = unnoted v journal store told none (subst (λ (o : Option (List Entry)). IfSome o (λ entries. entries ≡ [])) (sym gone) tt) other
+no_entries : (journal : Option (List Entry)) → journal ≡ None → IfSome journal (λ entries. entries ≡ [])
+no_entries journal gone = subst (λ (o : Option (List Entry)). IfSome o (λ entries. entries ≡ [])) (sym gone) tt
+
+pub without_bucket : {B : Type 0} (asked : B → Option (List Call)) (v : Verdict) (journal : Option (List Entry)) (store : Option B) (told : Option (RunNote B)) → told ≡ None → journal ≡ None → store ≡ None → tells_full v ≡ false → IsNoted asked v journal store told
+without_bucket asked v journal store told none gone nothing other = unnoted asked v journal store told none (no_entries journal gone) other (none_opened asked store nothing)
 
 if_first : (journal : Option (List Entry)) (P : List Entry → Type 0) → IfSome journal (λ entries. (entries ≡ []) × P entries) → IfSome journal (λ entries. entries ≡ [])
 if_first None P both = tt
@@ -89,16 +96,16 @@ never_full : (setting : Setting) (text : List ℕ) (journal : Option (List Entry
 never_full setting text None run = run
 never_full setting text (Some entries) run = empty_is_not_full entries run.0 run.1.full
 
-undone_run : {B : Type 0} (setting : Setting) (before : Option Contents) (failed : Type 0) (journal : Option (List Entry)) (v : Verdict) (store : Option B) (told : Option (RunNote B)) → told ≡ None → IsRun IsUndone setting before failed journal v → IsNoted v journal store told
-undone_run setting before failed journal WordsRefused store told none run = absurd run
-undone_run setting before failed journal SourceFault store told none run = absurd run
-undone_run setting before failed journal (ScriptRefused refusal) store told none run = absurd run
-undone_run setting before failed journal SiteFault store told none run = unnoted SiteFault journal store told none run.1 refl
-undone_run setting before failed journal (NotEmpty name) store told none run = unnoted (NotEmpty name) journal store told none (and_if journal run.1) refl
-undone_run setting before failed journal (Full lines) store told none run = absurd (never_full setting lines.items journal run.1)
-undone_run setting before failed journal (Report lines as_asked) store told none run = unnoted (Report lines as_asked) journal store told none (and_first journal _ run.1) refl
-undone_run setting before failed journal (Checked block outcome) store told none run = absurd run
-undone_run setting before failed journal NoMemory store told none run = unnoted NoMemory journal store told none (if_first journal _ run) refl
+undone_run : {B : Type 0} (asked : B → Option (List Call)) (setting : Setting) (before : Option Contents) (failed : Type 0) (journal : Option (List Entry)) (v : Verdict) (store : Option B) (told : Option (RunNote B)) → told ≡ None → IfSome store (WasOnlyOpened asked) → IsRun IsUndone setting before failed journal v → IsNoted asked v journal store told
+undone_run asked setting before failed journal WordsRefused store told none opened run = absurd run
+undone_run asked setting before failed journal SourceFault store told none opened run = absurd run
+undone_run asked setting before failed journal (ScriptRefused refusal) store told none opened run = absurd run
+undone_run asked setting before failed journal SiteFault store told none opened run = unnoted asked SiteFault journal store told none run.1 refl opened
+undone_run asked setting before failed journal (NotEmpty name) store told none opened run = unnoted asked (NotEmpty name) journal store told none (and_if journal run.1) refl opened
+undone_run asked setting before failed journal (Full lines) store told none opened run = absurd (never_full setting lines.items journal run.1)
+undone_run asked setting before failed journal (Report lines as_asked) store told none opened run = unnoted asked (Report lines as_asked) journal store told none (and_first journal _ run.1) refl opened
+undone_run asked setting before failed journal (Checked block outcome) store told none opened run = absurd run
+undone_run asked setting before failed journal NoMemory store told none opened run = unnoted asked NoMemory journal store told none (if_first journal _ run) refl opened
 
 unread_tells : (told left : Option (List ℕ)) (failed : Type 0) (v : Verdict) → IsUnread told left failed v → tells_full v ≡ false
 unread_tells told left failed WordsRefused is = refl
@@ -123,6 +130,7 @@ checked_tells files block failed (Report lines as_asked) is = refl
 checked_tells files block failed (Checked own outcome) is = refl
 checked_tells files block failed NoMemory is = refl
 
-pub undone_noted : {B : Type 0} (around : Around) (v : Verdict) (store : Option B) (told : Option (RunNote B)) → told ≡ None → IsWorked (record around { is_done = IsUndone }) v → IsNoted v around.journal store told
-undone_noted around v store told none (inl (unread, gone, unasked)) = without_journal v around.journal store told none gone (unread_tells around.text around.left around.source_failed v unread)
-undone_noted around v store told none (inr work) = undone_run work.setting around.before (around.site_failed ⊎ around.shelf_failed) around.journal v store told none work.run
+pub undone_noted : {B : Type 0} (asked : B → Option (List Call)) (around : Around) (v : Verdict) (store : Option B) (told : Option (RunNote B)) → told ≡ None → IfSome store (WasOnlyOpened asked) → IsWorked (record around { is_done = IsUndone }) v → IsNoted asked v around.journal store told
+undone_noted asked around v store told none opened (inl (unread, gone, unasked)) =
+    unnoted asked v around.journal store told none (no_entries around.journal gone) (unread_tells around.text around.left around.source_failed v unread) opened
+undone_noted asked around v store told none opened (inr work) = undone_run asked work.setting around.before (around.site_failed ⊎ around.shelf_failed) around.journal v store told none opened work.run

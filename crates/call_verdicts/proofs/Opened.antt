@@ -1,23 +1,17 @@
 -- Calls whose bucket or shelf was not opened.
-use Rattle.std.proofs.Common.{◌≡◌, ◌≢◌, ℕ, Bool, false, List, [], ◌∷◌, length, refl, sym, ◌∙◌, ap, subst, take}
-use Rattle.std.specs.Prelude.{Option, Some, Result, Ok, Err, OnOk, IfSome, IsSomeAnd}
+use Rattle.std.proofs.Common.{◌≡◌, ℕ, List, [], ◌∷◌, refl, sym, ◌∙◌, ap, subst}
+use Rattle.std.specs.Prelude.{Option, Some, IfSome, IsSomeAnd}
 use Rattle.bucket_core.specs.Causes.{Rose}
-use Rattle.bucket_core.specs.Contents.{Contents, nothing}
+use Rattle.bucket_core.specs.Contents.{Contents}
 use Rattle.bucket_core.specs.Pages.{IsPage}
 use Rattle.bucket_core.specs.declared.site_refusal.SiteRefusal.{SiteRefusal}
 use Rattle.bucket_core.specs.declared.site_refusal.SiteRefusal.TheVariants as site
-use Rattle.world_core.specs.Keeping.{IsFull}
-use Rattle.world_core.specs.Worlds.{IsJournal, IsOfBytes, WorldView}
 use Rattle.world_core.specs.declared.entry.Entry.{Entry}
 use Rattle.world_core.specs.declared.open_refusal.OpenRefusal.{OpenRefusal}
 use Rattle.world_core.specs.declared.open_refusal.OpenRefusal.TheVariants as unopened
-use Rattle.script_core.specs.Lawful.{IsLawfulScript}
-use Rattle.lifecycle_core.specs.Guarantees.{IsGuaranteedJournal}
-use Rattle.lifecycle_core.specs.InLine.{IsInLine}
-use Rattle.lifecycle_core.specs.Setting.{Setting}
-use Rattle.lifecycle_core.proofs.Assembling.{none_guaranteed}
-use Rattle.script_core.specs.declared.script.Script.{Script}
-use Rattle.call_verdicts.specs.Verdicts.{IsRun, IsWholeRun}
+use Rattle.report_lines.specs.lifecycle_core.specs.Setting.{Setting}
+use Rattle.report_lines.specs.lifecycle_core.proofs.Assembling.{none_guaranteed}
+use Rattle.call_verdicts.specs.Verdicts.{IsRun}
 use Rattle.call_verdicts.specs.declared.verdict.Verdict.{Verdict}
 use Rattle.call_verdicts.specs.declared.verdict.Verdict.TheVariants as verdict
 

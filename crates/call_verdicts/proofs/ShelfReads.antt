@@ -1,6 +1,6 @@
 -- What was read of the shelf for the blocks of a script, block after block, and what a run knows by it.
-use Rattle.std.proofs.Common.{◌≡◌, ◌≢◌, ◌⊎◌, ◌==◌, inl, inr, ℕ, zero, suc, ◌+◌, ◌<◌, ◌≤◌, Bool, true, false, List, [], ◌∷◌, ◌++◌, length, take, drop, map, cond, nat_eq, Contains, Option, None, Some, Result, Ok, Err, refl, sym, ◌∙◌, ap, subst, arith, append_assoc}
-use Rattle.std.specs.Prelude.{ℤ, All, IfErr, IfOk, IfSome, IsTrue, MatchResult, find, filter, is_some, option_map, slice_get}
+use Rattle.std.proofs.Common.{◌≡◌, ◌≢◌, ◌⊎◌, ◌==◌, inl, inr, ℕ, ◌+◌, ◌≤◌, Bool, true, false, List, [], ◌∷◌, ◌++◌, length, take, drop, map, cond, nat_eq, Contains, Option, None, Some, Result, Ok, Err, refl, sym, ◌∙◌, ap, subst, arith, append_assoc}
+use Rattle.std.specs.Prelude.{ℤ, IfErr, IfOk, IfSome, IsTrue, MatchResult, find, filter, is_some, option_map}
 use Rattle.std.specs.List.{AllByRecursion, IsDistinct}
 use Rattle.std.proofs.lemmas.Bool.Decides.{nat_tests}
 use Rattle.std.proofs.lemmas.List.{append-nil, map-append, take-append-drop}
@@ -9,7 +9,6 @@ use Rattle.std.proofs.lemmas.Map.Keys.{IsDistinct-head, IsDistinct-tail}
 use Rattle.label_sets.specs.declared.series.Series.{Series}
 use Rattle.list_core.proofs.Lists.{find_holds, find_passes, take_none}
 use Rattle.list_core.proofs.Membership.{contains_first, each_member, into_map, member_cases, no_member}
-use Rattle.block_keys.specs.declared.key.Key.TheVariants.{Meta}
 use Rattle.block_keys.specs.declared.object.Object.{Object}
 use Rattle.block_files.specs.declared.block_files.BlockFiles.{BlockFiles}
 use Rattle.block_content.specs.Checked.{checked_files}
@@ -20,7 +19,7 @@ use Rattle.block_loading.specs.LoadReading.{was_fault}
 use Rattle.block_loading.specs.declared.load_refusal.LoadRefusal.{LoadRefusal}
 use Rattle.block_loading.specs.declared.load_refusal.LoadRefusal.TheVariants as load
 use Rattle.block_loading.specs.Loading.{AreWithinLimit, IsLoaded, PassesOnShelf, RefusesOnShelf, names_after, names_read}
-use Rattle.block_loading.proofs.Asked.{asks_none, asks_then}
+use Rattle.block_loading.proofs.Asked.{asks_then}
 use Rattle.bucket_core.specs.Asking.{Asks}
 use Rattle.bucket_core.specs.Causes.{Rose}
 use Rattle.bucket_core.specs.Contents.{Contents, nothing}
@@ -30,12 +29,12 @@ use Rattle.script_core.specs.declared.block.Block.{Block}
 use Rattle.script_core.specs.declared.body.Body.{Body}
 use Rattle.script_core.specs.declared.body.Body.TheVariants.{Inline, OnShelf}
 use Rattle.script_core.specs.declared.script.Script.{Script}
-use Rattle.lifecycle_core.specs.Setting.{holding, refusing}
-use Rattle.lifecycle_core.specs.Shipped.{AreShort}
-use Rattle.script_running.specs.Shelves.{AreAllAtHand, AreObjects, IsAtHand, IsHeld, found_in, read_as, series_in, setting_by}
-use Rattle.script_running.specs.declared.shelf.ShelfBlock.{ShelfBlock}
-use Rattle.script_running.specs.declared.shelf.ShelfFound.{ShelfFound}
-use Rattle.script_running.specs.declared.shelf.ShelfFound.TheVariants.{Objects, Refused}
+use Rattle.report_lines.specs.lifecycle_core.specs.Setting.{holding, refusing}
+use Rattle.report_lines.specs.lifecycle_core.specs.Shipped.{AreShort}
+use Rattle.report_lines.specs.script_running.specs.Shelves.{AreAllAtHand, AreObjects, IsAtHand, IsHeld, found_in, read_as, series_in, setting_by}
+use Rattle.report_lines.specs.script_running.specs.declared.shelf.ShelfBlock.{ShelfBlock}
+use Rattle.report_lines.specs.script_running.specs.declared.shelf.ShelfFound.{ShelfFound}
+use Rattle.report_lines.specs.script_running.specs.declared.shelf.ShelfFound.TheVariants.{Objects, Refused}
 use Rattle.call_verdicts.specs.Asked.{AreNamesOf, WasAsked, WasRead, WasReadFor, is_on_shelf, shelf_ulids}
 use Rattle.call_verdicts.specs.Checks.{HasFailed, files_in, files_of}
 use Rattle.call_verdicts.specs.Kept.{IsShelfBack, told_of}

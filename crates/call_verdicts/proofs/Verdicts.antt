@@ -23,8 +23,8 @@ use Rattle.call_verdicts.specs.Undone.{IsUndone}
 use Rattle.call_verdicts.specs.Verdicts.{Around, BehindOpening, BehindReading, IsEarly, IsFullRun, IsRefused, IsRun, IsScriptRead, IsUnread, IsWholeRun, IsWorked}
 use Rattle.call_verdicts.specs.declared.verdict.Verdict.{Verdict}
 use Rattle.call_verdicts.specs.declared.verdict.Verdict.TheVariants.{WordsRefused, SourceFault, ScriptRefused, SiteFault, NotEmpty, Full, Report, Checked, NoMemory}
-use Rattle.lifecycle_core.specs.Guarantees.{IsGuaranteedJournal}
-use Rattle.lifecycle_core.specs.Setting.{Setting, setting_of}
+use Rattle.report_lines.specs.lifecycle_core.specs.Guarantees.{IsGuaranteedJournal}
+use Rattle.report_lines.specs.lifecycle_core.specs.Setting.{Setting, setting_of}
 
 -- a word that names something names it
 pub is_named : (name : List ℕ) (word : Option (List ℕ)) → Some name ≡ word → IsSome word

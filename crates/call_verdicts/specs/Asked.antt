@@ -23,6 +23,10 @@ WasAsked {F} {X} asked since now = (opened : F) × IfSome (asked opened) (λ bef
 abbrev pub for_opening : List Call
 for_opening = opening ∷ []
 
+-- It was asked for nothing, or for that page alone.
+abbrev pub WasOnlyOpened : {B : Type 0} → (B → Option (List Call)) → B → Type 0
+WasOnlyOpened asked store = WasAsked asked [] store ⊎ WasAsked asked for_opening store
+
 -- By what the call comes to, and what it journaled: the bucket was asked for the page that opens it, and then for the calls of the
 -- journal, each once and in their order, and for nothing else. If the site failed, it may have been asked for nothing.
 abbrev pub IsAskedBy : {B : Type 0} → (B → Option (List Call)) → Verdict → List Entry → B → Type 0

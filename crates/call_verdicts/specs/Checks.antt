@@ -5,7 +5,7 @@ use Rattle.block_content.specs.Checking.{HasPassed}
 use Rattle.block_content.specs.declared.check_refusal.CheckRefusal.{CheckRefusal}
 use Rattle.block_loading.specs.Loading.{IsLoaded, RefusesOnShelf}
 use Rattle.bucket_core.specs.Causes.{Rose}
-pub use Rattle.lifecycle_core.specs.Shipped.{cause_number}
+pub use Rattle.report_lines.specs.lifecycle_core.specs.Shipped.{cause_number}
 use Rattle.bucket_core.specs.Contents.{Contents, nothing}
 use Rattle.report_lines.specs.declared.check_outcome.CheckOutcome.{CheckOutcome}
 use Rattle.report_lines.specs.declared.check_outcome.CheckOutcome.TheVariants.{Passed, Refused}

@@ -13,3 +13,7 @@ pub mod Words
 pub use Rattle.world_core.specs.Worlds
 pub use Rattle.world_core.specs.Standing
 pub use Rattle.world_core.specs.Keeping
+pub use Rattle.report_lines
+pub use Rattle.report_lines.specs.breach_finding
+pub use Rattle.report_lines.specs.script_running
+pub use Rattle.report_lines.specs.lifecycle_core

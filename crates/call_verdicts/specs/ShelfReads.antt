@@ -11,10 +11,10 @@ use Rattle.bucket_core.specs.Contents.{Contents}
 use Rattle.script_core.specs.declared.block.Block.{Block}
 use Rattle.script_core.specs.declared.script.Script.{Script}
 use Rattle.script_core.specs.declared.body.Body.TheVariants.{OnShelf}
-use Rattle.lifecycle_core.specs.Setting.{FromShelf, Setting, holding, refusing, setting_of}
-use Rattle.script_running.specs.Shelves.{IsHeld, found_in, read_as, series_in, setting_by}
-use Rattle.script_running.specs.declared.shelf.ShelfBlock.{ShelfBlock}
-use Rattle.script_running.specs.declared.shelf.ShelfFound.{ShelfFound}
+use Rattle.report_lines.specs.lifecycle_core.specs.Setting.{FromShelf, Setting, holding, refusing, setting_of}
+use Rattle.report_lines.specs.script_running.specs.Shelves.{IsHeld, found_in, read_as, series_in, setting_by}
+use Rattle.report_lines.specs.script_running.specs.declared.shelf.ShelfBlock.{ShelfBlock}
+use Rattle.report_lines.specs.script_running.specs.declared.shelf.ShelfFound.{ShelfFound}
 use Rattle.call_verdicts.specs.declared.verdict.Verdict.{Verdict}
 use Rattle.call_verdicts.specs.declared.verdict.Verdict.TheVariants as verdict
 

@@ -3,11 +3,11 @@ use Rattle.std.specs.Prelude.{◌≡◌, ℕ, List, Some}
 use Rattle.compactor.specs.declared.compact_end.CompactEnd.TheVariants as compacting
 use Rattle.cleaner.specs.declared.clean_end.CleanEnd.TheVariants as cleaning
 use Rattle.script_core.specs.declared.block.Block.{Block}
-use Rattle.lifecycle_core.specs.Held.{declared}
-use Rattle.lifecycle_core.specs.Setting.{Setting}
-use Rattle.lifecycle_core.specs.Causes.{SomeCame}
-use Rattle.lifecycle_core.specs.Shipped.{IsRefused}
-use Rattle.lifecycle_core.specs.Tasks.{End, cleaned, compacted}
+use Rattle.report_lines.specs.lifecycle_core.specs.Held.{declared}
+use Rattle.report_lines.specs.lifecycle_core.specs.Setting.{Setting}
+use Rattle.report_lines.specs.lifecycle_core.specs.Causes.{SomeCame}
+use Rattle.report_lines.specs.lifecycle_core.specs.Shipped.{IsRefused}
+use Rattle.report_lines.specs.lifecycle_core.specs.Tasks.{End, cleaned, compacted}
 
 -- no block that the script declares is refused
 abbrev pub RefusesNone : Setting → Type 0

@@ -1,6 +1,6 @@
 -- What a call of the program comes to, why, and what it then writes.
 use Rattle.std.specs.Prelude.{◌≡◌, ◌≢◌, ◌⊎◌, ◌<◌, ℕ, List, [], ◌∷◌, ◌++◌, Bool, true, false, Option, Some, None, option_map, IfSome, IsSome, IsSomeAnd, Ok, Err, codes}
-use Rattle.std.specs.List.{flat_map, list_all}
+use Rattle.std.specs.List.{list_all}
 use Rattle.bucket_core.specs.Causes.{Rose}
 use Rattle.bucket_core.specs.Contents.{Contents, nothing}
 use Rattle.bucket_core.specs.Pages.{IsPage}
@@ -17,30 +17,29 @@ use Rattle.script_core.specs.declared.script.Script.{Script}
 use Rattle.script_core.specs.declared.cause.LineCause.TheVariants.{PatternSizeText}
 use Rattle.script_core.specs.declared.script_refusal.ScriptRefusal.{ScriptRefusal}
 use Rattle.script_core.specs.declared.script_refusal.ScriptRefusal.TheVariants.{BadLine, TooLong}
-use Rattle.script_workers.specs.declared.task.Task.{Task}
-use Rattle.lifecycle_core.specs.Breaches.{IsUnbroken}
-use Rattle.lifecycle_core.specs.Causes.{AreWell}
-use Rattle.lifecycle_core.specs.Cuts.{IsCutBehind}
-use Rattle.lifecycle_core.specs.Guarantees.{IsGuaranteed, IsGuaranteedJournal}
-use Rattle.lifecycle_core.specs.Phases.{IsFinished, IsRunOf}
-use Rattle.lifecycle_core.specs.Quiet.{DeletesNothing}
-use Rattle.lifecycle_core.specs.Setting.{Setting}
-use Rattle.lifecycle_core.specs.Tasks.{End}
+use Rattle.report_lines.specs.lifecycle_core.specs.Breaches.{IsUnbroken}
+use Rattle.report_lines.specs.lifecycle_core.specs.Causes.{AreWell}
+use Rattle.report_lines.specs.lifecycle_core.specs.Cuts.{IsCutBehind}
+use Rattle.report_lines.specs.lifecycle_core.specs.Guarantees.{IsGuaranteed, IsGuaranteedJournal}
+use Rattle.report_lines.specs.lifecycle_core.specs.Phases.{IsFinished, IsRunOf}
+use Rattle.report_lines.specs.lifecycle_core.specs.Quiet.{DeletesNothing}
+use Rattle.report_lines.specs.lifecycle_core.specs.Setting.{Setting}
+use Rattle.report_lines.specs.lifecycle_core.specs.Tasks.{End}
 use Rattle.report_lines.specs.CheckLines.{check_line}
 use Rattle.call_verdicts.specs.Checks.{check_status, files_of, IsCheckOf}
 use Rattle.call_verdicts.specs.Kept.{HoldsNothing, IsNotAsked, IsOpened, IsUnfailed, told_of}
-use Rattle.script_running.specs.Outcomes.{PhasesCame}
+use Rattle.report_lines.specs.script_running.specs.Outcomes.{PhasesCame}
 use Rattle.call_verdicts.specs.Output.{IsWrittenInPart}
-use Rattle.breach_finding.specs.declared.found.Breach.{Breach}
+use Rattle.report_lines.specs.breach_finding.specs.declared.found.Breach.{Breach}
 use Rattle.report_lines.specs.BreachLines.{HasBreach, breach_text}
 use Rattle.report_lines.specs.Reports.{newline}
 use Rattle.report_lines.specs.Telling.{report_of, tasks_of}
-use Rattle.script_running.specs.Outcomes.{is_as_asked}
+use Rattle.report_lines.specs.script_running.specs.Outcomes.{is_as_asked}
 use Rattle.call_verdicts.specs.ShelfReads.{IsOfShelf}
 use Rattle.call_verdicts.specs.Shippable.{RefusesNone, StaysWithin}
 use Rattle.call_verdicts.specs.Statuses.{number_of}
 use Rattle.report_lines.specs.declared.check_outcome.CheckOutcome.{CheckOutcome}
-use Rattle.script_running.specs.declared.outcome.Outcome.{Outcome}
+use Rattle.report_lines.specs.script_running.specs.declared.outcome.Outcome.{Outcome}
 use Rattle.call_verdicts.specs.declared.status.Status.{Status}
 use Rattle.call_verdicts.specs.declared.status.Status.TheVariants as status
 use Rattle.call_verdicts.specs.declared.verdict.Verdict.{Verdict}

@@ -16,7 +16,7 @@ use block_keys::Key;
 use block_loading::{LoadRefusal, check_on_shelf};
 use bucket_core::{Shelf, Site};
 use report_lines::CheckOutcome;
-use script_running::cause_number;
+use report_lines::script_running::cause_number;
 use std::alloc::Global;
 use ulid_core::Ulid;
 

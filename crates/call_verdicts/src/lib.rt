@@ -20,6 +20,8 @@ pub use input::read_all;
 pub use input_refusal::InputRefusal;
 pub use opening::{Ready, read_and_open};
 pub use output::{SinkFault, write_all};
+pub use report_lines;
+pub use report_lines::script_running;
 pub use run::Run;
 pub use shelf_reading::{ReadBlocks, read_blocks};
 pub use status::Status;

@@ -3,9 +3,9 @@
 ghost use Rattle.std.specs.Prelude.{◌≡◌, ◌≢◌, ◌⊎◌, ◌≤◌, ◌+◌, ℕ, List, [], Some, IfOk, IfErr, IfSome, IsSome, IsSomeAnd, MatchResult, is_some, None};
 ghost use Rattle.bucket_core.specs.Causes.{Rose};
 ghost use Rattle.script_core.specs.Lawful.{IsLawfulScript};
-ghost use Rattle.lifecycle_core.specs.Setting.{setting_of};
+ghost use Rattle.report_lines.specs.lifecycle_core.specs.Setting.{setting_of};
 ghost use Rattle.call_verdicts.specs.Kept.{HoldsNothing, IsHandedBack, IsHandedOut, IsNotAsked, IsOpened, IsShelfOf, IsUnfailed, IsUntouched};
-ghost use Rattle.call_verdicts.specs.Asked.{IsBucketAsked, WasAsked, WasReadFor, for_opening};
+ghost use Rattle.call_verdicts.specs.Asked.{IsBucketAsked, WasAsked, WasOnlyOpened, WasReadFor, for_opening};
 ghost use Rattle.call_verdicts.specs.Undone.{IsUndone};
 ghost use Rattle.call_verdicts.specs.Verdicts.{BehindOpening, IfShort, IsEarly, IsRun, IsScriptRead, IsUnread, IsWorked, SiteFailed, around_call};
 ghost use Rattle.call_verdicts.specs.Words.{named_by};
@@ -27,7 +27,7 @@ pub struct Ready<B: Bucket, F> {
 }
 
 /// Reads the script, and opens the bucket and the shelf; or ends the call.
-#[tactic(auto, using(crate::proofs::Verdicts::worked_early, crate::proofs::Verdicts::unread, crate::proofs::BucketAsked::none_asked))]
+#[tactic(auto, using(crate::proofs::Verdicts::worked_early, crate::proofs::Verdicts::unread, crate::proofs::BucketAsked::none_asked, crate::proofs::BucketAsked::none_opened))]
 pub fn read_and_open<S: Site, R: Source>(
     alloc: Global,
     bucket: &str,
@@ -88,6 +88,8 @@ pub fn read_and_open<S: Site, R: Source>(
     ensures back_shelf { IfErr result
         (λ ended. IsShelfOf S.shelves S.next_shelf S.Files.files (named_by shelf.now)
         site.old site.new ended.shelf) }
+    ensures only_opened { IfErr result
+        (λ ended. IfSome ended.conclusion.store (WasOnlyOpened S.Store.asked)) }
 {
     match read_script(alloc, script) {
         Ok(script) => match open_site(alloc, &script, bucket, shelf, site) {
@@ -139,7 +141,7 @@ fn read_script<R: Source>(alloc: Global, source: &mut R) -> Result<Script, Verdi
 }
 
 /// Opens the bucket and the shelf, and a world over the bucket; or ends the call.
-#[tactic(auto, using(crate::proofs::Verdicts::run_told, crate::proofs::Verdicts::failed_later, crate::proofs::BucketAsked::none_asked))]
+#[tactic(auto, using(crate::proofs::Verdicts::run_told, crate::proofs::Verdicts::failed_later, crate::proofs::BucketAsked::none_asked, crate::proofs::BucketAsked::none_opened))]
 fn open_site<S: Site>(
     alloc: Global,
     script: &Script,
@@ -194,6 +196,8 @@ fn open_site<S: Site>(
     ensures back_shelf { IfErr result
         (λ ended. IsShelfOf S.shelves S.next_shelf S.Files.files (named_by shelf.now)
         site.old site.new ended.shelf) }
+    ensures only_opened { IfErr result
+        (λ ended. IfSome ended.conclusion.store (WasOnlyOpened S.Store.asked)) }
 {
     match site.open_bucket(bucket) {
         Ok(bucket) => open_behind(alloc, script, bucket, shelf, site),
@@ -264,6 +268,8 @@ fn open_behind<S: Site>(
     ensures back_shelf { IfErr result
         (λ ended. IsShelfOf S.shelves S.next_shelf S.Files.files (named_by shelf.now)
         site.old site.new ended.shelf) }
+    ensures only_opened { IfErr result (λ ended. WasAsked S.Store.asked [] bucket
+        → IfSome ended.conclusion.store (WasOnlyOpened S.Store.asked)) }
 {
     match open_shelf(site, shelf) {
         Ok(shelf) => match open_world(alloc, script, bucket) {
@@ -313,6 +319,8 @@ fn open_world<B: Bucket>(
     ensures back_asked { IfErr result (λ ended. WasAsked B.asked [] bucket
         → ended.verdict ≢ Verdict.NoMemory
         → IsBucketAsked B.asked ended.verdict ended.journal ended.store) }
+    ensures only_opened { IfErr result (λ ended. WasAsked B.asked [] bucket
+        → IfSome ended.store (WasOnlyOpened B.asked)) }
 {
     match World::open(alloc, bucket, script.rules.tick) {
         Ok(world) => Ok(world),
@@ -387,6 +395,8 @@ pub fn without_shelf<B: Bucket>(alloc: Global, refusal: SiteRefusal, bucket: B) 
     ensures unfailed { IsUnfailed B.faults (B.faults bucket) result.journal result.store }
     ensures asked { WasAsked B.asked [] bucket → result.verdict ≢ Verdict.NoMemory
         → IsBucketAsked B.asked result.verdict result.journal result.store }
+    ensures only_opened { WasAsked B.asked [] bucket
+        → IfSome result.store (WasOnlyOpened B.asked) }
 {
     Conclusion::with_bucket(refused(refusal), Journal::empty(alloc), bucket)
 }

@@ -7,7 +7,7 @@ ghost use Rattle.block_content.specs.Checking.{HasPassed};
 ghost use Rattle.block_loading.specs.Loading.{AreWithinLimit, names_read};
 ghost use Rattle.block_loading.specs.LoadReading.{was_fault};
 ghost use Rattle.script_core.specs.Lawful.{IsLawfulScript};
-ghost use Rattle.script_running.specs.Shelves.{AreAllAtHand, IsHeld, read_as, setting_by};
+ghost use Rattle.report_lines.specs.script_running.specs.Shelves.{AreAllAtHand, IsHeld, read_as, setting_by};
 ghost use Rattle.call_verdicts.specs.Asked.{WasAsked, WasRead, shelf_ulids};
 ghost use Rattle.call_verdicts.specs.Checks.{HasFailed, files_in};
 ghost use Rattle.call_verdicts.specs.ShelfReads.{AreRead, AsksFor, IsBrokenOff, IsFoundOf, IsOfShelf, IsReadBy, IsReadNext, WhyUnread};
@@ -18,8 +18,8 @@ use block_content::Checked;
 use block_loading::{LoadRefusal, check_on_shelf};
 use bucket_core::Shelf;
 use list_core::NoMemory;
+use report_lines::script_running::{ShelfBlock, ShelfBlockList};
 use script_core::{Block, Body, Script};
-use script_running::{ShelfBlock, ShelfBlockList};
 use std::alloc::Global;
 
 /// What was read of the blocks that a script takes from the shelf, or what broke that off.

@@ -1,15 +1,13 @@
 -- Phases that were done one after another.
-use Rattle.std.proofs.Common.{◌≡◌, ℕ, zero, suc, ◌+◌, ◌-◌, ◌<◌, ◌≤◌, Bool, true, ◌&&◌, List, [], ◌∷◌, ◌++◌, length, take, drop, refl, sym, ◌∙◌, ap, subst, inl, inr, append_assoc, take-append-drop, arith}
-use Rattle.std.proofs.Math.Seq.{take-length}
-use Rattle.std.specs.Prelude.{◌≢◌, ◌^◌, min, Option, Some, Result, Ok, Err, OnOk, slice_get}
-use Rattle.std.specs.List.{All, list_all}
-use Rattle.std.proofs.lemmas.List.{append-nil, length-append}
+use Rattle.std.proofs.Common.{◌≡◌, ℕ, zero, suc, ◌+◌, ◌-◌, ◌<◌, List, [], ◌∷◌, ◌++◌, length, take, drop, refl, sym, ◌∙◌, ap, subst, inr, append_assoc, take-append-drop, arith}
+use Rattle.std.specs.Prelude.{◌≢◌, ◌^◌, min, Some, Result, Ok, Err, OnOk, slice_get}
+use Rattle.std.specs.List.{All}
+use Rattle.std.proofs.lemmas.List.{append-nil, length-append, length-take}
 use Rattle.std.proofs.lemmas.Option.{slice_get_within, get_or_from_slice_get}
-use Rattle.world_core.specs.Keeping.{IsFull}
 use Rattle.world_core.specs.Operations.{entry_of}
 use Rattle.world_core.specs.Worlds.{IsJournal, IsOfBytes}
 use Rattle.world_core.specs.declared.entry.Entry.{Entry}
-use Rattle.script_workers.specs.Hands.{gateway_count, gateway_of, hands_of, seats_after, seats_from, workers_from}
+use Rattle.script_workers.specs.Hands.{gateway_count, seats_after, seats_from}
 use Rattle.script_core.specs.Workers.{seats_before, workers_of}
 use Rattle.script_core.specs.Lawful.{IsLawfulPhase, IsLawfulScript}
 use Rattle.script_workers.specs.declared.hand.Hand.{Hand}
@@ -17,28 +15,27 @@ use Rattle.script_workers.specs.declared.worker.Worker.{Worker}
 use Rattle.script_workers.specs.declared.phase.Phase.{Phase}
 use Rattle.script_core.specs.declared.script.Script.{Script}
 use Rattle.script_workers.specs.declared.task.Task.{Task}
-use Rattle.lifecycle_core.proofs.Assembling.{all_guaranteed}
-use Rattle.lifecycle_core.proofs.phases.PhaseRuns.{ends_of}
-use Rattle.script_core.proofs.SeatLaws.{workers_at}
-use Rattle.lifecycle_core.proofs.phases.FirstPhases.{no_phase}
-use Rattle.lifecycle_core.proofs.phases.RunsInLine.{AreWhole, by_none, by_parts, ends_by_workers, finished, own_came, own_undone, run_by, runs, turns_by}
-use Rattle.script_running.specs.Outcomes.{PhasesCame}
-use Rattle.script_running.specs.Sights.{Sees, no_sight}
-use Rattle.script_running.specs.declared.sight.Sight.{Sight}
+use Rattle.report_lines.specs.lifecycle_core.proofs.Assembling.{all_guaranteed}
+use Rattle.report_lines.specs.lifecycle_core.proofs.phases.FirstPhases.{no_phase}
+use Rattle.report_lines.specs.lifecycle_core.proofs.phases.NextSeats.{seats_behind, upto}
+use Rattle.report_lines.specs.lifecycle_core.proofs.phases.Turns.{none_turns, one_turns, turns_behind, unfinished_turns}
+use Rattle.report_lines.specs.lifecycle_core.proofs.phases.RunsInLine.{AreWhole, ends_by_workers, own_came, run_by, turns_by}
+use Rattle.report_lines.specs.script_running.specs.Outcomes.{PhasesCame}
+use Rattle.report_lines.specs.script_running.specs.Sights.{Sees, no_sight}
+use Rattle.report_lines.specs.script_running.specs.declared.sight.Sight.{Sight}
 use Rattle.line_running.specs.Progress.{HasRun, IsBrokenAt, IsDueInLine, PhaseStep, PhasesDone, Reached, Shows, RunCame, TasksBroken, TasksDone, TasksTold, duties_at}
 use Rattle.report_lines.specs.Telling.{tasks_of}
-use Rattle.script_running.specs.declared.came.Broken.{Broken}
-use Rattle.script_running.specs.declared.came.Broken.TheVariants as broken
-use Rattle.script_running.specs.declared.outcome.Outcome.{Outcome}
+use Rattle.report_lines.specs.script_running.specs.declared.came.Broken.{Broken}
+use Rattle.report_lines.specs.script_running.specs.declared.came.Broken.TheVariants as broken
+use Rattle.report_lines.specs.script_running.specs.declared.outcome.Outcome.{Outcome}
 use Rattle.report_lines.proofs.ReportLists.{tasks_append}
 use Rattle.line_running.proofs.Told.{tasks_came, told_length, told_outcomes}
-use Rattle.lifecycle_core.specs.Guarantees.{IsGuaranteedJournal}
-use Rattle.lifecycle_core.specs.Holdings.{Holdings, none_held, nothing_held, with_holding}
-use Rattle.lifecycle_core.specs.InLine.{Duty, InLine, IsInLine, duties_from, in_line, seat_of}
-use Rattle.lifecycle_core.specs.Phases.{IsRunOf, by_workers}
-use Rattle.lifecycle_core.specs.Setting.{Setting}
-use Rattle.lifecycle_core.specs.Tasks.{End}
-use Rattle.lifecycle_core.specs.Ways.{AreInTurn, AreUnfinished, BeginsPhase, IsOperationDue, PhasesRun}
+use Rattle.report_lines.specs.lifecycle_core.specs.Guarantees.{IsGuaranteedJournal}
+use Rattle.report_lines.specs.lifecycle_core.specs.Holdings.{Holdings, none_held, nothing_held}
+use Rattle.report_lines.specs.lifecycle_core.specs.InLine.{InLine, IsInLine, in_line, seat_of}
+use Rattle.report_lines.specs.lifecycle_core.specs.Setting.{Setting}
+use Rattle.report_lines.specs.lifecycle_core.specs.Tasks.{End}
+use Rattle.report_lines.specs.lifecycle_core.specs.Ways.{AreFinished, AreInTurn, AreUnfinished, BeginsPhase, IsOperationDue, PhasesRun}
 
 -- ---- lists
 
@@ -46,22 +43,6 @@ drop_at : (phases : List Phase) (place : ℕ) (phase : Phase) → slice_get phas
 drop_at [] place phase at = absurd (cc (at))
 drop_at (p ∷ ps) zero phase at = let same : p ≡ phase = cc (at) in ap (λ (x : Phase). x ∷ ps) same
 drop_at (p ∷ ps) (suc place) phase at = let e : suc place + 1 ≡ suc (place + 1) = omega arith in rw e (drop_at ps place phase at)
-
-take_at : (phases : List Phase) (place : ℕ) (phase : Phase) → slice_get phases place ≡ Some phase → take (place + 1) phases ≡ take place phases ++ phase ∷ []
-take_at [] place phase at = absurd (cc (at))
-take_at (p ∷ ps) zero phase at = let same : p ≡ phase = cc (at) in ap (λ (x : Phase). x ∷ []) same
-take_at (p ∷ ps) (suc place) phase at = let e : suc place + 1 ≡ suc (place + 1) = omega arith in rw e (ap (λ l. p ∷ l) (take_at ps place phase at))
-
-front_at : (phases : List Phase) (n k : ℕ) (phase : Phase) → slice_get (take n phases) k ≡ Some phase → slice_get phases k ≡ Some phase
-front_at [] zero k phase at = absurd (cc (at))
-front_at [] (suc n) k phase at = absurd (cc (at))
-front_at (p ∷ ps) zero k phase at = absurd (cc (at))
-front_at (p ∷ ps) (suc n) zero phase at = at
-front_at (p ∷ ps) (suc n) (suc k) phase at = front_at ps n k phase at
-
--- the ends of one phase by worker, from those by duty
-abbrev last_by : ℕ → Phase → List End → List (List End)
-last_by gateways phase own = ends_of (duties_from gateways 0 phase.tasks) own (hands_of gateways phase.tasks)
 
 -- ---- what phases told
 
@@ -108,27 +89,15 @@ phases_came setting lawful number (phase ∷ phases) (first ∷ later) outcomes 
 
 -- ---- phases in turn
 
--- phases that were all done are in turn
-turns_none : (setting : Setting) (number : ℕ) (phases left : List Phase) (ends : List (List End)) → AreWhole (gateway_count setting.script.gateways) phases ends → AreInTurn (in_line setting) number (phases ++ left) (ends ++ [])
-turns_none setting number [] left [] whole = tt
-turns_none setting number [] left (e ∷ es) whole = absurd whole
-turns_none setting number (p ∷ ps) left [] whole = absurd whole
-turns_none setting number (p ∷ ps) left (e ∷ es) whole = (λ more. whole.0, turns_none setting (number + 1) ps left es whole.1)
+-- phases that were all done are finished, and what is begun behind them is in turn
+whole_finished : (setting : Setting) (number : ℕ) (phases : List Phase) (ends : List (List End)) → AreWhole (gateway_count setting.script.gateways) phases ends → AreFinished (in_line setting) number phases ends
+whole_finished setting number [] [] whole = refl
+whole_finished setting number [] (e ∷ es) whole = absurd whole
+whole_finished setting number (p ∷ ps) [] whole = absurd whole
+whole_finished setting number (p ∷ ps) (e ∷ es) whole = (whole.0, whole_finished setting (number + 1) ps es whole.1)
 
--- and with one that was begun behind them
-turns_one : (setting : Setting) (number : ℕ) (phases : List Phase) (phase : Phase) (left : List Phase) (ends : List (List End)) (own : List End) → AreWhole (gateway_count setting.script.gateways) phases ends → AreInTurn (in_line setting) number (phases ++ phase ∷ left) (ends ++ own ∷ [])
-turns_one setting number [] phase left [] own whole = (λ more. absurd (more refl), tt)
-turns_one setting number [] phase left (e ∷ es) own whole = absurd whole
-turns_one setting number (p ∷ ps) phase left [] own whole = absurd whole
-turns_one setting number (p ∷ ps) phase left (e ∷ es) own whole = (λ more. whole.0, turns_one setting (number + 1) ps phase left es own whole.1)
-
--- and with those of which none was begun, or the first one alone
-turns_unfinished : (setting : Setting) (number : ℕ) (phases left : List Phase) (ends unfinished : List (List End)) → AreWhole (gateway_count setting.script.gateways) phases ends → AreUnfinished (in_line setting) number left unfinished
-    → AreInTurn (in_line setting) 0 (phases ++ left) (ends ++ unfinished)
-turns_unfinished setting number phases left ends [] whole short = turns_none setting 0 phases left ends whole
-turns_unfinished setting number phases [] ends (own ∷ more) whole short = absurd short
-turns_unfinished setting number phases (phase ∷ left) ends (own ∷ more) whole short =
-    subst (λ (l : List (List End)). AreInTurn (in_line setting) 0 (phases ++ phase ∷ left) (ends ++ own ∷ l)) (sym short.1) (turns_one setting 0 phases phase left ends own whole)
+whole_turns : (setting : Setting) (place : ℕ) (phases left : List Phase) (ends later : List (List End)) → length phases ≡ place → AreWhole (gateway_count setting.script.gateways) phases ends → AreInTurn (in_line setting) place left later → AreInTurn (in_line setting) 0 (phases ++ left) (ends ++ later)
+whole_turns setting place phases left ends later is whole behind = turns_behind (in_line setting) 0 place phases left ends later (omega (arith, is)) (whole_finished setting 0 phases ends whole) behind
 
 too_few : (m n : ℕ) → m < n → m ≡ n → ⊥
 too_few m n less same = absurd (omega (arith, less, same))
@@ -204,7 +173,8 @@ module _ {R : Type 0} (tells : R → Script → List Task → List Outcome → T
         r.ends ++ t.ends ∷ [],
         broken_run clock new t.made t.ends t.after begins r t.run t.entries,
         subst (λ (ps : List Phase). AreInTurn (in_line setting) 0 ps (r.ends ++ t.ends ∷ [])) (sym front)
-            (turns_one setting 0 (take place setting.script.phases) phase (drop (place + 1) setting.script.phases) r.ends t.ends (told_whole setting 0 (take place setting.script.phases) r.ends r.outcomes r.told)),
+            (whole_turns setting (length (take place setting.script.phases)) (take place setting.script.phases) (phase ∷ drop (place + 1) setting.script.phases) r.ends (t.ends ∷ []) refl (told_whole setting 0 (take place setting.script.phases) r.ends r.outcomes r.told)
+            (one_turns (in_line setting) (length (take place setting.script.phases)) phase (drop (place + 1) setting.script.phases) t.ends)),
       )
 
   -- the phase was done to its end
@@ -214,7 +184,7 @@ module _ {R : Type 0} (tells : R → Script → List Task → List Outcome → T
       → Reached tells setting (place + 1) gateways new more
   reached_more clock new gateways own more begins r tasks joins =
       let t = tasks r.views r.shows in
-      let front = take_at setting.script.phases place phase at in
+      let front = upto setting.script.phases place phase at in
       record {
         views = t.after;
         shows = t.shows;
@@ -243,7 +213,8 @@ run_so_far tells setting place shown journal report r = (
   r.ends ++ [],
   subst (λ (es : List Entry). PhasesRun (in_line setting) 0 none_held setting.script.phases es (r.ends ++ [])) (append-nil journal) (r.onward [] [] (no_phase (in_line setting) place r.views (drop place setting.script.phases))),
   subst (λ (ps : List Phase). AreInTurn (in_line setting) 0 ps (r.ends ++ [])) (take-append-drop place setting.script.phases)
-      (turns_none setting 0 (take place setting.script.phases) (drop place setting.script.phases) r.ends (told_whole setting 0 (take place setting.script.phases) r.ends r.outcomes r.told)),
+      (whole_turns setting (length (take place setting.script.phases)) (take place setting.script.phases) (drop place setting.script.phases) r.ends [] refl (told_whole setting 0 (take place setting.script.phases) r.ends r.outcomes r.told)
+      (none_turns (in_line setting) (length (take place setting.script.phases)) (drop place setting.script.phases))),
 )
 
 -- a phase was done to its end, whether it is reported or not
@@ -300,7 +271,8 @@ run_in_line tells setting gateways journal report (Err broken.Full) kept (place,
     kept = kept;
     phases = b.run;
     turns = subst (λ (ps : List Phase). AreInTurn (in_line setting) 0 ps (b.ends ++ b.unfinished)) (take-append-drop place setting.script.phases)
-        (turns_unfinished setting place (take place setting.script.phases) (drop place setting.script.phases) b.ends b.unfinished (told_whole setting 0 (take place setting.script.phases) b.ends b.outcomes b.told) b.left);
+        (whole_turns setting place (take place setting.script.phases) (drop place setting.script.phases) b.ends b.unfinished (omega (arith, below, length-take place setting.script.phases)) (told_whole setting 0 (take place setting.script.phases) b.ends b.outcomes b.told)
+        (unfinished_turns (in_line setting) place (drop place setting.script.phases) b.unfinished b.left));
   },
 )
 run_in_line tells setting gateways journal report (Err broken.NoMemory) kept came = (came.0, record { kept = kept; phases = came.1; turns = came.2 })
@@ -341,26 +313,13 @@ taken_step tells setting place phase shown gateways journal new report mid own m
 taken_step tells setting place phase shown gateways journal new report mid own more (Err broken.NoMemory) clock never at begins reached tasks same joins =
     phase_done tells setting place phase shown gateways journal new report own clock at begins reached tasks
 
-workers_length : (gateways before : ℕ) (tasks : List Task) (hs : List Hand) → length (workers_from gateways before tasks hs) ≡ length hs
-unfolding workers_from
-workers_length gateways before tasks [] = refl
-workers_length gateways before tasks (h ∷ hs) = ap suc (workers_length gateways (seats_after before 1) tasks hs)
-
-seats_append : (gateways before : ℕ) (one : List Phase) (phase : Phase) → seats_from gateways before (one ++ phase ∷ []) ≡ seats_after (seats_from gateways before one) (length (hands_of gateways phase.tasks))
-unfolding seats_from
-seats_append gateways before [] phase = refl
-seats_append gateways before (p ∷ ps) phase = seats_append gateways (seats_after before (length (hands_of gateways p.tasks))) ps phase
-
 -- the seats before the next phase
 pub seats_next : (setting : Setting) (place : ℕ) (phase : Phase) (workers : List Worker) (before count after : ℕ) → slice_get setting.script.phases place ≡ Some phase → workers ≡ workers_of setting.script place → before ≡ seats_before setting.script place
     → count ≡ min (length workers) (2 ^ 32 - 1) → after ≡ min (before + count) (2 ^ 32 - 1) → after ≡ seats_before setting.script (place + 1)
 seats_next setting place phase workers before count after at are is counted next =
-    let gateways = gateway_count setting.script.gateways in
-    let n : length workers ≡ length (hands_of gateways phase.tasks) = ap (length {A = Worker}) (are ∙ workers_at setting.script place phase at) ∙ workers_length gateways (seats_before setting.script place) phase.tasks (hands_of gateways phase.tasks) in
-    let e : seats_before setting.script (place + 1) ≡ seats_after (seats_before setting.script place) (length (hands_of gateways phase.tasks)) =
-    ap (seats_from gateways 0) (take_at setting.script.phases place phase at) ∙ seats_append gateways 0 (take place setting.script.phases) phase in
-    let f : after ≡ seats_after (seats_before setting.script place) (length (hands_of gateways phase.tasks)) = omega (arith, n, is, counted, next) in
-    f ∙ sym e
+    let n : length workers ≡ length (workers_of setting.script place) = ap (length {A = Worker}) are in
+    let f : after ≡ seats_after (seats_before setting.script place) (length (workers_of setting.script place)) = omega (arith, n, is, counted, next) in
+    f ∙ sym (seats_behind setting.script place phase at)
 
 pub done_from : {R : Type 0} (tells : R → Script → List Task → List Outcome → Type 0) (setting : Setting) (place : ℕ) (phase : Phase) (shown gateways : List Sight) (journal mid new : List Entry) (own : R) (workers : List Worker) (tasks : List Task) (clock : Entry)
     → workers ≡ workers_of setting.script place → tasks ≡ phase.tasks → mid ≡ journal ++ clock ∷ []

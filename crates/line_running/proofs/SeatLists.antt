@@ -3,7 +3,7 @@ use Rattle.std.proofs.Common.{◌≡◌, ℕ, ◌-◌, ◌<◌, ◌≤◌, true,
 use Rattle.std.proofs.lemmas.List.{take_all}
 use Rattle.script_workers.specs.declared.hand.Hand.{Hand}
 use Rattle.script_workers.specs.declared.worker.Worker.{Worker}
-use Rattle.lifecycle_core.specs.InLine.{seat_of, serves}
+use Rattle.report_lines.specs.lifecycle_core.specs.InLine.{seat_of, serves}
 
 pub seat_none : (workers : List Worker) (hand : Hand) → length workers < 1 → 0 ≡ seat_of workers hand
 unfolding seat_of

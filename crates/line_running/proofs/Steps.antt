@@ -19,21 +19,21 @@ use Rattle.script_workers.specs.declared.hand.Hand.TheVariants as hands
 use Rattle.script_workers.specs.declared.task.Task.{Task}
 use Rattle.script_workers.specs.declared.work.Work.{Work}
 use Rattle.script_workers.specs.declared.work.Work.TheVariants as works
-use Rattle.lifecycle_core.specs.Holdings.{Holding, Holdings, holding_of, nothing_held, with_holding}
-use Rattle.lifecycle_core.specs.InLine.{Duty, InLine, duties_from, who_does}
-use Rattle.lifecycle_core.specs.Setting.{Setting}
-use Rattle.lifecycle_core.specs.Tasks.{End, TaskRun}
-use Rattle.lifecycle_core.proofs.phases.Joined.{MayAllBegin, duties_begin, nothing}
-use Rattle.lifecycle_core.proofs.phases.RunsInLine.{may_begin}
-use Rattle.script_running.specs.Drives.{Came}
-use Rattle.script_running.specs.Outcomes.{IsOutcome, IsOutcomeOf, IsPart}
-use Rattle.script_running.specs.Sights.{Sees}
-use Rattle.script_running.specs.Tasks.{CameBy, Does, HasDone, IsDueAfter, WhenDone, WhenFull}
-use Rattle.script_running.specs.declared.came.Broken.{Broken}
-use Rattle.script_running.specs.declared.came.Broken.TheVariants as broken
-use Rattle.script_running.specs.declared.outcome.Outcome.{Outcome}
-use Rattle.script_running.specs.declared.part.Part.{Part}
-use Rattle.script_running.specs.declared.sight.Sight.{Sight}
+use Rattle.report_lines.specs.lifecycle_core.specs.Holdings.{Holding, Holdings, holding_of, nothing_held, with_holding}
+use Rattle.report_lines.specs.lifecycle_core.specs.InLine.{Duty, InLine, duties_from, who_does}
+use Rattle.report_lines.specs.lifecycle_core.specs.Setting.{Setting}
+use Rattle.report_lines.specs.lifecycle_core.specs.Tasks.{End, TaskRun}
+use Rattle.report_lines.specs.lifecycle_core.proofs.phases.Joined.{MayAllBegin, duties_begin, nothing}
+use Rattle.report_lines.specs.lifecycle_core.proofs.phases.RunsInLine.{may_begin}
+use Rattle.report_lines.specs.script_running.specs.Drives.{Came}
+use Rattle.report_lines.specs.script_running.specs.Outcomes.{IsOutcome, IsOutcomeOf, IsPart}
+use Rattle.report_lines.specs.script_running.specs.Sights.{Sees}
+use Rattle.report_lines.specs.script_running.specs.Tasks.{CameBy, Does, HasDone, IsDueAfter, WhenDone, WhenFull}
+use Rattle.report_lines.specs.script_running.specs.declared.came.Broken.{Broken}
+use Rattle.report_lines.specs.script_running.specs.declared.came.Broken.TheVariants as broken
+use Rattle.report_lines.specs.script_running.specs.declared.outcome.Outcome.{Outcome}
+use Rattle.report_lines.specs.script_running.specs.declared.part.Part.{Part}
+use Rattle.report_lines.specs.script_running.specs.declared.sight.Sight.{Sight}
 use Rattle.line_running.specs.Progress.{IsDueInLine, IsWhole, PartStep, Shows, TaskStep, duties_at}
 
 -- ---- one part

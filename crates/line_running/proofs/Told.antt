@@ -1,7 +1,7 @@
 -- Tasks that were done one after another, and how they came out.
-use Rattle.std.proofs.Common.{◌≡◌, ℕ, zero, suc, ◌+◌, ◌<◌, ◌≤◌, Bool, true, false, ◌&&◌, List, [], ◌∷◌, ◌++◌, length, map, get_or, take, drop, refl, sym, ◌∙◌, ap, subst, append_assoc, arith}
+use Rattle.std.proofs.Common.{◌≡◌, ℕ, zero, suc, ◌+◌, ◌<◌, ◌≤◌, List, [], ◌∷◌, ◌++◌, length, map, get_or, take, drop, refl, sym, ◌∙◌, ap, subst, append_assoc, arith}
 use Rattle.std.specs.Prelude.{Result, Ok, Err, OnErr, OnOk}
-use Rattle.std.specs.List.{All, AllZip, list_all}
+use Rattle.std.specs.List.{All, AllZip}
 use Rattle.std.proofs.lemmas.List.{append-nil, length-append, length-map, take_more}
 use Rattle.world_core.specs.Operations.{entry_of}
 use Rattle.world_core.specs.declared.entry.Entry.{Entry}
@@ -10,24 +10,24 @@ use Rattle.script_core.specs.Lawful.{IsLawfulScript, IsLawfulWork}
 use Rattle.script_workers.specs.declared.hand.Hand.{Hand}
 use Rattle.script_workers.specs.declared.task.Task.{Task}
 use Rattle.script_workers.specs.declared.worker.Worker.{Worker}
-use Rattle.lifecycle_core.specs.Conducts.{CameTo}
-use Rattle.lifecycle_core.specs.Holdings.{Holdings}
-use Rattle.lifecycle_core.specs.InLine.{Duty, InLine, duties_from}
-use Rattle.lifecycle_core.specs.Setting.{Setting}
+use Rattle.report_lines.specs.lifecycle_core.specs.Conducts.{CameTo}
+use Rattle.report_lines.specs.lifecycle_core.specs.Holdings.{Holdings}
+use Rattle.report_lines.specs.lifecycle_core.specs.InLine.{Duty, InLine, duties_from}
+use Rattle.report_lines.specs.lifecycle_core.specs.Setting.{Setting}
 use Rattle.script_core.specs.declared.script.Script.{Script}
-use Rattle.script_running.specs.Shelves.{setting_by}
-use Rattle.script_running.specs.declared.shelf.ShelfBlock.{ShelfBlock}
-use Rattle.lifecycle_core.specs.Tasks.{End}
-use Rattle.lifecycle_core.proofs.phases.Joined.{both, cut, duties_begin, duties_more, duties_parts}
-use Rattle.lifecycle_core.proofs.phases.RunsInLine.{may_begin}
-use Rattle.lifecycle_core.proofs.phases.TaskRuns.{MayBegin}
+use Rattle.report_lines.specs.script_running.specs.Shelves.{setting_by}
+use Rattle.report_lines.specs.script_running.specs.declared.shelf.ShelfBlock.{ShelfBlock}
+use Rattle.report_lines.specs.lifecycle_core.specs.Tasks.{End}
+use Rattle.report_lines.specs.lifecycle_core.proofs.phases.Joined.{both, cut, duties_begin, duties_more, duties_parts}
+use Rattle.report_lines.specs.lifecycle_core.proofs.phases.RunsInLine.{may_begin}
+use Rattle.report_lines.specs.lifecycle_core.proofs.phases.TaskRuns.{MayBegin}
 use Rattle.std.proofs.lemmas.List.Elements.{All-drop}
-use Rattle.script_running.specs.Outcomes.{IsOutcome, TasksCame}
-use Rattle.script_running.specs.declared.sight.Sight.{Sight}
+use Rattle.report_lines.specs.script_running.specs.Outcomes.{IsOutcome, TasksCame}
+use Rattle.report_lines.specs.script_running.specs.declared.sight.Sight.{Sight}
 use Rattle.line_running.specs.Progress.{IsDueInLine, Shows, TaskStep, TasksBroken, TasksDone, TasksTold, duties_at}
-use Rattle.script_running.specs.declared.came.Broken.{Broken}
-use Rattle.script_running.specs.declared.came.Broken.TheVariants as broken
-use Rattle.script_running.specs.declared.outcome.Outcome.{Outcome}
+use Rattle.report_lines.specs.script_running.specs.declared.came.Broken.{Broken}
+use Rattle.report_lines.specs.script_running.specs.declared.came.Broken.TheVariants as broken
+use Rattle.report_lines.specs.script_running.specs.declared.outcome.Outcome.{Outcome}
 
 -- one task more
 told_more : (setting : Setting) (place : ℕ) (tasks : List Task) (task : Task) (ends own : List End) (outcomes : List Outcome) (o : Outcome) → TasksTold setting place tasks ends outcomes

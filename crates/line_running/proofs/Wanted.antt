@@ -3,9 +3,9 @@ use Rattle.std.proofs.Common.{◌≡◌, ◌≢◌, ◌⊎◌, inl, inr, Bool, t
 use Rattle.std.specs.Prelude.{Result, Ok, Err}
 use Rattle.world_core.specs.declared.acted.Acted.{Acted}
 use Rattle.world_core.specs.declared.acted.Acted.TheVariants as answer
-use Rattle.script_running.specs.Tasks.{is_full_came}
-use Rattle.script_running.specs.declared.came.Broken.{Broken}
-use Rattle.script_running.specs.declared.came.Broken.TheVariants as broken
+use Rattle.report_lines.specs.script_running.specs.Tasks.{is_full_came}
+use Rattle.report_lines.specs.script_running.specs.declared.came.Broken.{Broken}
+use Rattle.report_lines.specs.script_running.specs.declared.came.Broken.TheVariants as broken
 
 -- a hand that had wanted none, at another seat
 pub wanted_at : {P : Type 0} (before set now : Bool) → set ≡ before → before ≡ false → (IsTrue now → IsTrue set ⊎ P) → IsTrue now → P

@@ -1,25 +1,25 @@
 -- How far a run in the order of the lines has come, as the contracts of its parts say it.
-use Rattle.std.specs.Prelude.{◌≡◌, ◌≢◌, ℕ, ◌+◌, ◌<◌, Bool, true, false, List, [], ◌∷◌, ◌++◌, length, take, drop, All, Option, Some, slice_get, Result, Ok, Err}
+use Rattle.std.specs.Prelude.{◌≡◌, ◌≢◌, ℕ, ◌+◌, ◌<◌, List, [], ◌∷◌, ◌++◌, length, take, drop, All, Option, Some, slice_get, Result, Ok, Err}
 use Rattle.world_core.specs.declared.entry.Entry.{Entry}
 use Rattle.script_core.specs.declared.script.Script.{Script}
 use Rattle.script_workers.specs.Hands.{gateway_count, gateway_of}
 use Rattle.script_workers.specs.declared.hand.Hand.{Hand}
 use Rattle.script_workers.specs.declared.phase.Phase.{Phase}
 use Rattle.script_workers.specs.declared.task.Task.{Task}
-use Rattle.lifecycle_core.specs.Holdings.{Holding, Holdings, holding_of, none_held, with_holding}
-use Rattle.lifecycle_core.specs.InLine.{Duty, duties_from, InLine, in_line, who_does}
-use Rattle.lifecycle_core.specs.Setting.{Setting}
-use Rattle.lifecycle_core.specs.Tasks.{End, TaskRun}
-use Rattle.lifecycle_core.specs.Ways.{AreInTurn, AreUnfinished, IsOperationDue, PhasesRun}
-use Rattle.script_running.specs.Outcomes.{IsOutcome, PhasesTold}
-use Rattle.script_running.specs.Sights.{Sees}
-use Rattle.script_running.specs.Tasks.{CameBy, Does, IsDueAfter, WhenDone, WhenFull}
-use Rattle.script_running.specs.declared.sight.Sight.{Sight}
+use Rattle.report_lines.specs.lifecycle_core.specs.Holdings.{Holding, Holdings, holding_of, none_held, with_holding}
+use Rattle.report_lines.specs.lifecycle_core.specs.InLine.{Duty, duties_from, InLine, in_line, who_does}
+use Rattle.report_lines.specs.lifecycle_core.specs.Setting.{Setting}
+use Rattle.report_lines.specs.lifecycle_core.specs.Tasks.{End, TaskRun}
+use Rattle.report_lines.specs.lifecycle_core.specs.Ways.{AreInTurn, AreUnfinished, IsOperationDue, PhasesRun}
+use Rattle.report_lines.specs.script_running.specs.Outcomes.{IsOutcome, PhasesTold}
+use Rattle.report_lines.specs.script_running.specs.Sights.{Sees}
+use Rattle.report_lines.specs.script_running.specs.Tasks.{CameBy, Does, IsDueAfter, WhenDone, WhenFull}
+use Rattle.report_lines.specs.script_running.specs.declared.sight.Sight.{Sight}
 use Rattle.report_lines.specs.Telling.{tasks_of}
-use Rattle.script_running.specs.declared.came.Broken.{Broken}
-use Rattle.script_running.specs.declared.came.Broken.TheVariants as broken
-use Rattle.script_running.specs.Drives.{Came}
-use Rattle.script_running.specs.declared.outcome.Outcome.{Outcome}
+use Rattle.report_lines.specs.script_running.specs.declared.came.Broken.{Broken}
+use Rattle.report_lines.specs.script_running.specs.declared.came.Broken.TheVariants as broken
+use Rattle.report_lines.specs.script_running.specs.Drives.{Came}
+use Rattle.report_lines.specs.script_running.specs.declared.outcome.Outcome.{Outcome}
 
 -- ---- one task
 

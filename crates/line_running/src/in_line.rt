@@ -3,18 +3,18 @@
 ghost use Rattle.std.specs.Prelude.{◌≡◌, [], List, Err, IsTrue, false};
 ghost use Rattle.world_core.specs.Keeping.{IsFull};
 ghost use Rattle.script_core.specs.Lawful.{IsLawfulScript};
-ghost use Rattle.script_running.specs.Shelves.{AreAllAtHand, setting_by};
-ghost use Rattle.script_running.specs.Tasks.{is_full_came};
-ghost use Rattle.script_running.specs.declared.sight.Sight.{Sight};
+ghost use Rattle.report_lines.specs.script_running.specs.Shelves.{AreAllAtHand, setting_by};
+ghost use Rattle.report_lines.specs.script_running.specs.Tasks.{is_full_came};
+ghost use Rattle.report_lines.specs.script_running.specs.declared.sight.Sight.{Sight};
 ghost use Rattle.run_notes.specs.LineHands.{KeepsRun};
 ghost use Rattle.line_running.specs.Progress.{RunCame};
 
 use crate::phases::{Progress, run_phases};
 use bucket_core::Bucket;
 use report_lines::PhaseReport;
+use report_lines::script_running::{Broken, Means, ShelfBlock, selector_texts};
 use run_notes::LineHand;
 use script_core::Script;
-use script_running::{Broken, Means, ShelfBlock, selector_texts};
 use std::alloc::Global;
 use world_core::World;
 

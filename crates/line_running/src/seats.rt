@@ -1,7 +1,7 @@
 ghost use Rattle.std.specs.Prelude.{◌≡◌, ◌-◌, ◌==◌, ◌^◌, min, length, IfOk};
 ghost use Rattle.std.specs.List.{list_any};
 ghost use Rattle.script_core.specs.Workers.{seats_before, workers_of};
-ghost use Rattle.lifecycle_core.specs.InLine.{seat_of, serves};
+ghost use Rattle.report_lines.specs.lifecycle_core.specs.InLine.{seat_of, serves};
 
 use list_core::NoMemory;
 use script_core::{Hand, Script, Worker, WorkerList};

@@ -5,13 +5,13 @@ ghost use Rattle.world_core.specs.Keeping.{IsFull};
 ghost use Rattle.script_core.specs.Lawful.{IsLawfulScript};
 ghost use Rattle.script_workers.specs.Hands.{gateway_of, hands_of_task};
 ghost use Rattle.script_workers.specs.declared.work.Work.{Work};
-ghost use Rattle.lifecycle_core.specs.Conducts.{Who};
-ghost use Rattle.lifecycle_core.specs.Holdings.{Holding, Holdings};
-ghost use Rattle.lifecycle_core.specs.InLine.{seat_of};
-ghost use Rattle.script_running.specs.Lending.{setting_in};
-ghost use Rattle.script_running.specs.Outcomes.{AreAllParts, IsOutcomeOf};
-ghost use Rattle.script_running.specs.Sights.{Sees};
-ghost use Rattle.script_running.specs.Tasks.{Allows, HasDone, is_full_came};
+ghost use Rattle.report_lines.specs.lifecycle_core.specs.Conducts.{Who};
+ghost use Rattle.report_lines.specs.lifecycle_core.specs.Holdings.{Holding, Holdings};
+ghost use Rattle.report_lines.specs.lifecycle_core.specs.InLine.{seat_of};
+ghost use Rattle.report_lines.specs.script_running.specs.Lending.{setting_in};
+ghost use Rattle.report_lines.specs.script_running.specs.Outcomes.{AreAllParts, IsOutcomeOf};
+ghost use Rattle.report_lines.specs.script_running.specs.Sights.{Sees};
+ghost use Rattle.report_lines.specs.script_running.specs.Tasks.{Allows, HasDone, is_full_came};
 ghost use Rattle.run_notes.specs.LineHands.{KeepsRun};
 ghost use Rattle.line_running.specs.Progress.{PartStep, Shows, TaskStep};
 
@@ -19,9 +19,11 @@ use crate::phases::Progress;
 use crate::seats::Seats;
 use bucket_core::Bucket;
 use list_core::NoMemory;
+use report_lines::script_running::{
+    Broken, Came, Means, Outcome, Part, Sight, outcome_of, run_task,
+};
 use run_notes::LineHand;
 use script_core::{Hand, Task, Work};
-use script_running::{Broken, Came, Means, Outcome, Part, Sight, outcome_of, run_task};
 use std::alloc::Global;
 
 /// Does one task, before the next one begins: those who do it come one after another, and what they came to is gathered.

@@ -24,29 +24,29 @@ use Rattle.script_workers.specs.declared.task.Task.{Task}
 use Rattle.script_workers.specs.declared.work.Work.{Work}
 use Rattle.script_workers.specs.declared.work.Work.TheVariants as work
 use Rattle.script_workers.specs.declared.worker.Worker.{Worker}
-use Rattle.lifecycle_core.specs.Causes.{AreWell as AllWell, IsWell}
-use Rattle.lifecycle_core.specs.Conducts.{CameTo}
-use Rattle.lifecycle_core.specs.Holdings.{Use}
-use Rattle.lifecycle_core.specs.Setting.{Setting}
-use Rattle.lifecycle_core.specs.Tasks.{End, answered, cleaned, compacted, not_asked, refused, stopped, synced, uploaded, without_view}
-use Rattle.lifecycle_core.proofs.phases.Turns.{finished_in_turn}
+use Rattle.call_verdicts.specs.lifecycle_core.specs.Causes.{AreWell as AllWell, IsWell}
+use Rattle.call_verdicts.specs.lifecycle_core.specs.Conducts.{CameTo}
+use Rattle.call_verdicts.specs.lifecycle_core.specs.Holdings.{Use}
+use Rattle.call_verdicts.specs.lifecycle_core.specs.Setting.{Setting}
+use Rattle.call_verdicts.specs.lifecycle_core.specs.Tasks.{End, answered, cleaned, compacted, not_asked, refused, stopped, synced, uploaded, without_view}
+use Rattle.call_verdicts.specs.lifecycle_core.proofs.phases.Turns.{finished_in_turn}
 use Rattle.list_core.proofs.Membership.{contains_first, contains_later, member_cases, no_member}
-use Rattle.script_running.specs.Outcomes.{IsOutcome, IsOutcomeOf, IsPart, IsQueryOutcome, PhasesCame, TasksCame, call_part, clean_outcome, compact_outcome, first_none, sync_outcome, upload_outcome, why_none}
-use Rattle.script_running.specs.Outcomes.{is_as_asked}
+use Rattle.call_verdicts.specs.script_running.specs.Outcomes.{IsOutcome, IsOutcomeOf, IsPart, IsQueryOutcome, PhasesCame, TasksCame, call_part, clean_outcome, compact_outcome, first_none, sync_outcome, upload_outcome, why_none}
+use Rattle.call_verdicts.specs.script_running.specs.Outcomes.{is_as_asked}
 use Rattle.call_verdicts.specs.Shippable.{IsTooGreat, RefusesNone, StaysWithin}
 use Rattle.call_verdicts.specs.Verdicts.{IsTrusted, IsWholeRun}
 use Rattle.replay_cli.proofs.Refusals.{none_refused}
-use Rattle.script_running.specs.declared.outcome.Outcome.{Outcome}
-use Rattle.script_running.specs.declared.outcome.Outcome.TheVariants as outcome
-use Rattle.script_running.specs.declared.outcome.CompactOutcome.TheVariants as compact
-use Rattle.script_running.specs.declared.outcome.CleanOutcome.TheVariants as clean
-use Rattle.script_running.specs.declared.outcome.QueryOutcome.{QueryOutcome}
-use Rattle.script_running.specs.declared.outcome.QueryOutcome.TheVariants as query
-use Rattle.script_running.specs.declared.outcome.UploadOutcome.TheVariants as upload
-use Rattle.script_running.specs.declared.part.Part.{Part}
-use Rattle.script_running.specs.declared.part.Part.TheVariants as part
-use Rattle.script_running.specs.declared.part.QueryPart.{QueryPart}
-use Rattle.script_running.specs.declared.part.QueryPart.TheVariants as given
+use Rattle.call_verdicts.specs.script_running.specs.declared.outcome.Outcome.{Outcome}
+use Rattle.call_verdicts.specs.script_running.specs.declared.outcome.Outcome.TheVariants as outcome
+use Rattle.call_verdicts.specs.script_running.specs.declared.outcome.CompactOutcome.TheVariants as compact
+use Rattle.call_verdicts.specs.script_running.specs.declared.outcome.CleanOutcome.TheVariants as clean
+use Rattle.call_verdicts.specs.script_running.specs.declared.outcome.QueryOutcome.{QueryOutcome}
+use Rattle.call_verdicts.specs.script_running.specs.declared.outcome.QueryOutcome.TheVariants as query
+use Rattle.call_verdicts.specs.script_running.specs.declared.outcome.UploadOutcome.TheVariants as upload
+use Rattle.call_verdicts.specs.script_running.specs.declared.part.Part.{Part}
+use Rattle.call_verdicts.specs.script_running.specs.declared.part.Part.TheVariants as part
+use Rattle.call_verdicts.specs.script_running.specs.declared.part.QueryPart.{QueryPart}
+use Rattle.call_verdicts.specs.script_running.specs.declared.part.QueryPart.TheVariants as given
 
 -- ---- one task
 

@@ -1,29 +1,30 @@
 -- What a run of the generated day comes to.
-use Rattle.std.proofs.Common.{◌≡◌, ℕ, Bool, List, [], ◌++◌, length, take, refl, sym, ◌∙◌, ap, subst, inl, inr}
+use Rattle.std.proofs.Common.{◌≡◌, ℕ, Bool, List, [], ◌++◌, length, take, refl, sym, ◌∙◌, ap, subst, inl}
 use Rattle.std.specs.Prelude.{Option, Result, Ok, Err}
 use Rattle.std.specs.List.{list_all}
 use Rattle.bucket_core.specs.Contents.{Contents}
 use Rattle.world_core.specs.Keeping.{IsFull}
-use Rattle.world_core.specs.Standing.{IsHonest, Tells, stands}
+use Rattle.world_core.specs.Operations.{PutsBytes, ShowsBytes}
+use Rattle.world_core.specs.Standing.{Tells, stands}
 use Rattle.world_core.specs.Worlds.{IsJournal, IsOfBytes, IsWorld, WorldGoesOn, WorldView, failed_count}
 use Rattle.world_core.specs.declared.entry.Entry.{Entry}
 use Rattle.world_core.proofs.Growing.{Each-none}
 use Rattle.script_core.specs.Lawful.{IsLawfulScript}
 use Rattle.script_core.specs.declared.script.Script.{Script}
-use Rattle.script_running.specs.Outcomes.{is_as_asked}
-use Rattle.script_running.specs.Shelves.{setting_by}
-use Rattle.script_running.specs.declared.came.Broken.{Broken}
-use Rattle.script_running.specs.declared.came.Broken.TheVariants as broken
-use Rattle.script_running.specs.declared.outcome.Outcome.{Outcome}
-use Rattle.script_running.specs.declared.sight.Sight.{Sight}
-use Rattle.report_lines.specs.BreachLines.{breach_text}
-use Rattle.report_lines.specs.Telling.{report_of, tasks_of}
+use Rattle.call_verdicts.specs.script_running.specs.Outcomes.{is_as_asked}
+use Rattle.call_verdicts.specs.script_running.specs.Shelves.{setting_by}
+use Rattle.call_verdicts.specs.script_running.specs.declared.came.Broken.{Broken}
+use Rattle.call_verdicts.specs.script_running.specs.declared.came.Broken.TheVariants as broken
+use Rattle.call_verdicts.specs.script_running.specs.declared.outcome.Outcome.{Outcome}
+use Rattle.call_verdicts.specs.script_running.specs.declared.sight.Sight.{Sight}
+use Rattle.call_verdicts.specs.report_lines.specs.BreachLines.{breach_text}
+use Rattle.call_verdicts.specs.report_lines.specs.Telling.{report_of, tasks_of}
 use Rattle.line_running.specs.Progress.{Reached, RunCame}
 use Rattle.line_running.proofs.PhaseLists.{guaranteed_run, run_in_line, run_so_far}
-use Rattle.day_tally.specs.Summed.{IsDayText}
-use Rattle.day_tally.specs.Tallies.{AreTallied}
-use Rattle.day_tally.specs.declared.tally.Tally.{Tally}
-use Rattle.breach_finding.specs.declared.found.Breach.{Breach}
+use Rattle.call_verdicts.specs.report_lines.specs.Summed.{IsDayText}
+use Rattle.call_verdicts.specs.report_lines.specs.Tallies.{AreTallied}
+use Rattle.call_verdicts.specs.report_lines.specs.declared.tally.Tally.{Tally}
+use Rattle.call_verdicts.specs.breach_finding.specs.declared.found.Breach.{Breach}
 use Rattle.call_verdicts.specs.Kept.{IsTrueOfStore}
 use Rattle.call_verdicts.proofs.HandedBack.{true_of}
 use Rattle.call_verdicts.specs.declared.verdict.Verdict.{Verdict}
@@ -34,7 +35,7 @@ use Rattle.replay_cli.proofs.WholeRuns.{all_told, full_run, whole_run_of}
 -- memory was wanted before the script was made
 pub short_day : (number : ℕ) (entries : List Entry) → entries ≡ [] → IsDayRun number entries verdict.NoMemory
 short_day number entries none =
-    subst (λ (es : List Entry). IsDayRun number es verdict.NoMemory) (sym none) (record { honest = Each-none (λ before e. Tells (stands before) e.op e.reply); unfailed = refl; came = inl (refl, refl) })
+    subst (λ (es : List Entry). IsDayRun number es verdict.NoMemory) (sym none) (record { honest = Each-none (λ before e. Tells (stands before) e.op e.reply); bytes = Each-none (λ before e. PutsBytes e.op × ShowsBytes e.reply); unfailed = refl; came = inl (refl, refl) })
 
 module _ (script : Script) (lawful : IsLawfulScript script) (gateways : List Sight) (journal : List Entry) (kept : IsJournal script.rules.tick.ms journal) (bytes : IsOfBytes journal) (tally : Tally) where
   -- the run was done to its end

@@ -1,9 +1,9 @@
 -- A run whose workers are beside each other, of which nothing was done yet.
 use Rattle.std.proofs.Common.{[]}
-use Rattle.lifecycle_core.specs.Holdings.{none_held}
-use Rattle.lifecycle_core.specs.Phases.{by_workers}
-use Rattle.lifecycle_core.specs.Setting.{Setting}
-use Rattle.lifecycle_core.proofs.phases.FirstPhases.{no_phase, none_in_line}
+use Rattle.call_verdicts.specs.lifecycle_core.specs.Holdings.{none_held}
+use Rattle.call_verdicts.specs.lifecycle_core.specs.Phases.{by_workers}
+use Rattle.call_verdicts.specs.lifecycle_core.specs.Setting.{Setting}
+use Rattle.call_verdicts.specs.lifecycle_core.proofs.phases.FirstPhases.{no_phase, none_in_line}
 use Rattle.replay_cli.specs.InPhases.{IsInPhases}
 
 pub none_in_phases : (setting : Setting) → IsInPhases setting []

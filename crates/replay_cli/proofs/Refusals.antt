@@ -9,15 +9,15 @@ use Rattle.querier.specs.declared.ask.Ask.{Ask}
 use Rattle.script_core.specs.declared.block.Block.{Block}
 use Rattle.script_workers.specs.declared.work.Work.{Work}
 use Rattle.script_workers.specs.declared.work.Work.TheVariants.{Upload, Sync, Compact, Clean, Query}
-use Rattle.lifecycle_core.specs.Causes.{SomeCame}
-use Rattle.lifecycle_core.specs.Conducts.{Who}
-use Rattle.lifecycle_core.specs.Holdings.{Holding, Use}
-use Rattle.lifecycle_core.specs.Phases.{IsRunOf}
-use Rattle.lifecycle_core.specs.Setting.{Setting}
-use Rattle.lifecycle_core.specs.Shipped.{IsRefused}
-use Rattle.lifecycle_core.specs.Tasks.{End, PartTask, QueryTask, ShipTask, StoppedRun, TaskRun, ask_to, cleaned, compacted, question_of, refused}
-use Rattle.lifecycle_core.proofs.journals.Rising.{journal_rises}
-use Rattle.lifecycle_core.proofs.phases.TasksMade.{ends_are_made}
+use Rattle.call_verdicts.specs.lifecycle_core.specs.Causes.{SomeCame}
+use Rattle.call_verdicts.specs.lifecycle_core.specs.Conducts.{Who}
+use Rattle.call_verdicts.specs.lifecycle_core.specs.Holdings.{Holding, Use}
+use Rattle.call_verdicts.specs.lifecycle_core.specs.Phases.{IsRunOf}
+use Rattle.call_verdicts.specs.lifecycle_core.specs.Setting.{Setting}
+use Rattle.call_verdicts.specs.lifecycle_core.specs.Shipped.{IsRefused}
+use Rattle.call_verdicts.specs.lifecycle_core.specs.Tasks.{End, PartTask, QueryTask, ShipTask, StoppedRun, TaskRun, ask_to, cleaned, compacted, question_of, refused}
+use Rattle.call_verdicts.specs.lifecycle_core.proofs.journals.Rising.{journal_rises}
+use Rattle.call_verdicts.specs.lifecycle_core.proofs.phases.TasksMade.{ends_are_made}
 use Rattle.call_verdicts.specs.Shippable.{RefusesNone}
 
 -- a run that may be stopped does not end so

@@ -1,38 +1,29 @@
 -- What a run of all phases comes to.
-use Rattle.std.proofs.Common.{◌≡◌, ◌≢◌, ℕ, Bool, false, List, [], ◌∷◌, length, refl, sym, ◌∙◌, ap, subst, take}
-use Rattle.std.specs.Prelude.{Option, Some, Result, Ok, Err, OnOk, IfSome, IsSomeAnd}
-use Rattle.bucket_core.specs.Causes.{Rose}
-use Rattle.bucket_core.specs.Contents.{Contents, nothing}
-use Rattle.bucket_core.specs.Pages.{IsPage}
-use Rattle.bucket_core.specs.declared.site_refusal.SiteRefusal.{SiteRefusal}
-use Rattle.bucket_core.specs.declared.site_refusal.SiteRefusal.TheVariants as site
+use Rattle.std.proofs.Common.{◌≡◌, ℕ, Bool, false, List, [], length, refl, sym, ap, subst}
+use Rattle.std.specs.Prelude.{Option, Some, Result, Ok, Err, IfSome}
+use Rattle.bucket_core.specs.Contents.{nothing}
 use Rattle.world_core.specs.Keeping.{IsFull}
 use Rattle.world_core.specs.Worlds.{IsJournal, IsOfBytes, WorldView}
 use Rattle.world_core.specs.declared.entry.Entry.{Entry}
-use Rattle.world_core.specs.declared.open_refusal.OpenRefusal.{OpenRefusal}
-use Rattle.world_core.specs.declared.open_refusal.OpenRefusal.TheVariants as unopened
-use Rattle.script_workers.specs.Hands.{gateway_count, seats_from}
-use Rattle.script_core.specs.Workers.{seats_before}
 use Rattle.script_core.specs.Lawful.{IsLawfulScript}
-use Rattle.script_workers.specs.declared.phase.Phase.{Phase}
-use Rattle.lifecycle_core.specs.Guarantees.{IsGuaranteedJournal}
-use Rattle.lifecycle_core.specs.InLine.{IsInLine}
-use Rattle.lifecycle_core.specs.Setting.{Setting}
-use Rattle.lifecycle_core.proofs.phases.FirstPhases.{none_in_line}
-use Rattle.lifecycle_core.proofs.Assembling.{none_guaranteed}
-use Rattle.script_running.specs.Tasks.{is_full_came}
-use Rattle.script_running.specs.declared.sight.Sight.{Sight}
+use Rattle.call_verdicts.specs.lifecycle_core.specs.Guarantees.{IsGuaranteedJournal}
+use Rattle.call_verdicts.specs.lifecycle_core.specs.InLine.{IsInLine}
+use Rattle.call_verdicts.specs.lifecycle_core.specs.Setting.{Setting}
+use Rattle.call_verdicts.specs.lifecycle_core.proofs.phases.FirstPhases.{none_in_line}
+use Rattle.call_verdicts.specs.lifecycle_core.proofs.Assembling.{none_guaranteed}
+use Rattle.call_verdicts.specs.script_running.specs.Tasks.{is_full_came}
+use Rattle.call_verdicts.specs.script_running.specs.declared.sight.Sight.{Sight}
 use Rattle.script_core.specs.declared.script.Script.{Script}
 use Rattle.line_running.specs.Progress.{Reached, RunCame}
 use Rattle.call_verdicts.specs.Noted.{tells_full}
 use Rattle.replay_cli.specs.Endings.{EndsReport}
 use Rattle.call_verdicts.specs.Verdicts.{IsRun, IsWholeRun}
-use Rattle.script_running.specs.declared.came.Broken.{Broken}
-use Rattle.script_running.specs.declared.came.Broken.TheVariants as broken
-use Rattle.report_lines.specs.declared.lines.Lines.{Lines}
+use Rattle.call_verdicts.specs.script_running.specs.declared.came.Broken.{Broken}
+use Rattle.call_verdicts.specs.script_running.specs.declared.came.Broken.TheVariants as broken
+use Rattle.call_verdicts.specs.report_lines.specs.declared.lines.Lines.{Lines}
 use Rattle.call_verdicts.specs.declared.verdict.Verdict.{Verdict}
 use Rattle.call_verdicts.specs.declared.verdict.Verdict.TheVariants as verdict
-use Rattle.report_lines.specs.Telling.{AreLinesOf}
+use Rattle.call_verdicts.specs.report_lines.specs.Telling.{AreLinesOf}
 use Rattle.replay_cli.proofs.WholeRuns.{all_told, full_run, whole_run}
 use Rattle.line_running.proofs.PhaseLists.{guaranteed_run, run_in_line, run_so_far}
 

@@ -13,25 +13,25 @@ use Rattle.script_core.specs.declared.script.Script.{Script}
 use Rattle.script_workers.specs.declared.phase.Phase.{Phase}
 use Rattle.script_workers.specs.declared.task.Task.{Task}
 use Rattle.script_workers.specs.declared.worker.Worker.{Worker}
-use Rattle.lifecycle_core.specs.Setting.{Setting}
-use Rattle.lifecycle_core.specs.Tasks.{End}
-use Rattle.lifecycle_core.specs.Guarantees.{IsGuaranteedJournal}
-use Rattle.lifecycle_core.proofs.Assembling.{all_guaranteed, none_guaranteed}
-use Rattle.script_running.specs.Beside.{HasRunBeside}
-use Rattle.script_running.specs.Reporting.{TellsFirst}
-use Rattle.script_running.specs.Outcomes.{PhasesCame, TasksCame, is_as_asked}
-use Rattle.script_running.specs.declared.came.Broken.{Broken}
-use Rattle.script_running.specs.declared.came.Broken.TheVariants as broken
-use Rattle.script_running.specs.declared.outcome.Outcome.{Outcome}
-use Rattle.report_lines.specs.Reports.{activity_text}
+use Rattle.call_verdicts.specs.lifecycle_core.specs.Setting.{Setting}
+use Rattle.call_verdicts.specs.lifecycle_core.specs.Tasks.{End}
+use Rattle.call_verdicts.specs.lifecycle_core.specs.Guarantees.{IsGuaranteedJournal}
+use Rattle.call_verdicts.specs.lifecycle_core.proofs.Assembling.{all_guaranteed, none_guaranteed}
+use Rattle.call_verdicts.specs.script_running.specs.Beside.{HasRunBeside}
+use Rattle.call_verdicts.specs.script_running.specs.Reporting.{TellsFirst}
+use Rattle.call_verdicts.specs.script_running.specs.Outcomes.{PhasesCame, TasksCame, is_as_asked}
+use Rattle.call_verdicts.specs.script_running.specs.declared.came.Broken.{Broken}
+use Rattle.call_verdicts.specs.script_running.specs.declared.came.Broken.TheVariants as broken
+use Rattle.call_verdicts.specs.script_running.specs.declared.outcome.Outcome.{Outcome}
+use Rattle.call_verdicts.specs.report_lines.specs.Reports.{activity_text}
 use Rattle.replay_cli.specs.InPhases.{IsInPhases}
-use Rattle.report_lines.specs.Telling.{AreLinesOf}
+use Rattle.call_verdicts.specs.report_lines.specs.Telling.{AreLinesOf}
 use Rattle.replay_cli.specs.Endings.{EndsReport}
 use Rattle.call_verdicts.specs.Verdicts.{IsRun}
-use Rattle.report_lines.specs.Telling.{report_of, tasks_of}
-use Rattle.report_lines.specs.declared.lines.Lines.{Lines}
+use Rattle.call_verdicts.specs.report_lines.specs.Telling.{report_of, tasks_of}
+use Rattle.call_verdicts.specs.report_lines.specs.declared.lines.Lines.{Lines}
 use Rattle.replay_cli.proofs.NoneInPhases.{none_in_phases}
-use Rattle.report_lines.proofs.ToldLines.{told_none}
+use Rattle.call_verdicts.specs.report_lines.proofs.ToldLines.{told_none}
 use Rattle.call_verdicts.specs.declared.verdict.Verdict.{Verdict}
 use Rattle.call_verdicts.specs.declared.verdict.Verdict.TheVariants as verdict
 

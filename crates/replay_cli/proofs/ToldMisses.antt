@@ -17,26 +17,26 @@ use Rattle.script_workers.specs.declared.task.Task.{Task}
 use Rattle.script_workers.specs.declared.work.Work.{Work}
 use Rattle.script_workers.specs.declared.work.Work.TheVariants as work
 use Rattle.script_workers.specs.declared.worker.Worker.{Worker}
-use Rattle.lifecycle_core.specs.Breaches.{watched}
-use Rattle.lifecycle_core.specs.Causes.{IsBlamedInCompaction, IsExplained, IsExplainedBy, SomeCame}
-use Rattle.lifecycle_core.specs.Conducts.{CameTo}
-use Rattle.lifecycle_core.specs.Holdings.{Use}
-use Rattle.lifecycle_core.specs.Setting.{Setting}
-use Rattle.lifecycle_core.specs.Tasks.{End, answered, cleaned, compacted, not_asked, refused, stopped, synced, uploaded, without_view}
-use Rattle.lifecycle_core.proofs.phases.Turns.{cut_in_turn, finished_in_turn}
-use Rattle.script_running.specs.Outcomes.{IsOutcome, IsPart, IsQueryOutcome, PhasesCame, TaskCame, TasksCame, call_part, compact_outcome, first_none}
+use Rattle.call_verdicts.specs.lifecycle_core.specs.Breaches.{watched}
+use Rattle.call_verdicts.specs.lifecycle_core.specs.Causes.{IsBlamedInCompaction, IsExplained, IsExplainedBy, SomeCame}
+use Rattle.call_verdicts.specs.lifecycle_core.specs.Conducts.{CameTo}
+use Rattle.call_verdicts.specs.lifecycle_core.specs.Holdings.{Use}
+use Rattle.call_verdicts.specs.lifecycle_core.specs.Setting.{Setting}
+use Rattle.call_verdicts.specs.lifecycle_core.specs.Tasks.{End, answered, cleaned, compacted, not_asked, refused, stopped, synced, uploaded, without_view}
+use Rattle.call_verdicts.specs.lifecycle_core.proofs.phases.Turns.{cut_in_turn, finished_in_turn}
+use Rattle.call_verdicts.specs.script_running.specs.Outcomes.{IsOutcome, IsPart, IsQueryOutcome, PhasesCame, TaskCame, TasksCame, call_part, compact_outcome, first_none}
 use Rattle.call_verdicts.specs.Verdicts.{IsFullRun, IsWholeRun}
-use Rattle.script_running.specs.declared.outcome.Outcome.{Outcome}
-use Rattle.script_running.specs.declared.outcome.Outcome.TheVariants as outcome
-use Rattle.script_running.specs.declared.outcome.CompactOutcome.{CompactOutcome}
-use Rattle.script_running.specs.declared.outcome.CompactOutcome.TheVariants as compact
-use Rattle.script_running.specs.declared.outcome.QueryOutcome.{QueryOutcome}
-use Rattle.script_running.specs.declared.outcome.QueryOutcome.TheVariants as query
-use Rattle.script_running.specs.declared.outcome.NoAnswer.{NoAnswer}
-use Rattle.script_running.specs.declared.outcome.NoAnswer.TheVariants as none
-use Rattle.script_running.specs.declared.part.Part.TheVariants as part
-use Rattle.script_running.specs.declared.part.QueryPart.{QueryPart}
-use Rattle.script_running.specs.declared.part.QueryPart.TheVariants as given
+use Rattle.call_verdicts.specs.script_running.specs.declared.outcome.Outcome.{Outcome}
+use Rattle.call_verdicts.specs.script_running.specs.declared.outcome.Outcome.TheVariants as outcome
+use Rattle.call_verdicts.specs.script_running.specs.declared.outcome.CompactOutcome.{CompactOutcome}
+use Rattle.call_verdicts.specs.script_running.specs.declared.outcome.CompactOutcome.TheVariants as compact
+use Rattle.call_verdicts.specs.script_running.specs.declared.outcome.QueryOutcome.{QueryOutcome}
+use Rattle.call_verdicts.specs.script_running.specs.declared.outcome.QueryOutcome.TheVariants as query
+use Rattle.call_verdicts.specs.script_running.specs.declared.outcome.NoAnswer.{NoAnswer}
+use Rattle.call_verdicts.specs.script_running.specs.declared.outcome.NoAnswer.TheVariants as none
+use Rattle.call_verdicts.specs.script_running.specs.declared.part.Part.TheVariants as part
+use Rattle.call_verdicts.specs.script_running.specs.declared.part.QueryPart.{QueryPart}
+use Rattle.call_verdicts.specs.script_running.specs.declared.part.QueryPart.TheVariants as given
 use Rattle.std.proofs.lemmas.Option.{same_Some}
 use Rattle.replay_cli.proofs.CalmRuns.{end_came}
 

@@ -1,22 +1,20 @@
 -- Runs by what was read of the shelf, and those of which the reading was broken off.
-use Rattle.std.proofs.Common.{◌≡◌, ◌⊎◌, inl, inr, ℕ, ◌<◌, false, List, [], Option, None, Some, Result, Ok, Err, refl, sym, ◌∙◌, ap, subst, arith}
+use Rattle.std.proofs.Common.{◌≡◌, inl, inr, ℕ, ◌<◌, false, List, [], Option, None, Some, Result, Ok, Err, sym, ap, subst, arith}
 use Rattle.std.specs.Prelude.{IfErr, IfOk, IfSome, IsSomeAnd, MatchResult}
-use Rattle.bucket_core.specs.Causes.{Rose}
 use Rattle.bucket_core.specs.Contents.{Contents, nothing}
 use Rattle.world_core.specs.declared.entry.Entry.{Entry}
 use Rattle.script_core.specs.declared.script.Script.{Script}
-use Rattle.lifecycle_core.specs.Guarantees.{IsGuaranteedJournal}
-use Rattle.lifecycle_core.specs.Setting.{Setting, setting_of}
-use Rattle.script_running.specs.Shelves.{setting_by}
-use Rattle.script_running.specs.declared.shelf.ShelfBlock.{ShelfBlock}
+use Rattle.call_verdicts.specs.lifecycle_core.specs.Guarantees.{IsGuaranteedJournal}
+use Rattle.call_verdicts.specs.lifecycle_core.specs.Setting.{Setting, setting_of}
+use Rattle.call_verdicts.specs.script_running.specs.Shelves.{setting_by}
+use Rattle.call_verdicts.specs.script_running.specs.declared.shelf.ShelfBlock.{ShelfBlock}
 use Rattle.call_verdicts.specs.Asked.{IsBroken}
 use Rattle.call_verdicts.specs.Checks.{HasFailed}
 use Rattle.call_verdicts.specs.Noted.{tells_full}
 use Rattle.call_verdicts.specs.ShelfReads.{IsBrokenOff, IsOfShelf, setting_read}
 use Rattle.call_verdicts.specs.Verdicts.{BehindReading, IfShort, IsEarly, IsRun}
 use Rattle.call_verdicts.specs.declared.verdict.Verdict.{Verdict}
-use Rattle.call_verdicts.specs.declared.verdict.Verdict.TheVariants as verdict
-use Rattle.lifecycle_core.proofs.Assembling.{none_guaranteed}
+use Rattle.call_verdicts.specs.lifecycle_core.proofs.Assembling.{none_guaranteed}
 use Rattle.call_verdicts.proofs.Unfailed.{short_of}
 use Rattle.call_verdicts.proofs.Verdicts.{before_reading, behind_reading, run_weaker}
 

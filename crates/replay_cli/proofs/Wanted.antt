@@ -1,10 +1,10 @@
 -- Memory was wanted for an operation of a run only where the run is broken off for that.
-use Rattle.std.proofs.Common.{◌≡◌, ◌≢◌, ◌⊎◌, inl, inr, Bool, true, false, IsTrue, refl, ◌∙◌, ap, subst}
+use Rattle.std.proofs.Common.{◌≡◌, ◌≢◌, Bool, true, false, IsTrue, refl, ap}
 use Rattle.std.specs.Prelude.{Result, Ok, Err}
-use Rattle.script_running.specs.declared.came.Broken.{Broken}
-use Rattle.script_running.specs.declared.came.Broken.TheVariants as broken
+use Rattle.call_verdicts.specs.script_running.specs.declared.came.Broken.{Broken}
+use Rattle.call_verdicts.specs.script_running.specs.declared.came.Broken.TheVariants as broken
 use Rattle.call_verdicts.specs.Noted.{tells_full}
-use Rattle.report_lines.specs.declared.lines.Lines.{Lines}
+use Rattle.call_verdicts.specs.report_lines.specs.declared.lines.Lines.{Lines}
 use Rattle.call_verdicts.specs.declared.verdict.Verdict.{Verdict}
 use Rattle.call_verdicts.specs.declared.verdict.Verdict.TheVariants as verdict
 

@@ -1,48 +1,38 @@
 -- Runs in the order of the lines that came to their end, or that the full journal broke off.
-use Rattle.std.proofs.Common.{◌≡◌, ℕ, zero, suc, ◌+◌, ◌-◌, ◌<◌, ◌≤◌, Bool, true, ◌&&◌, List, [], ◌∷◌, ◌++◌, length, take, drop, refl, sym, ◌∙◌, ap, subst, inl, inr, append_assoc, take-append-drop, arith}
+use Rattle.std.proofs.Common.{◌≡◌, ℕ, zero, suc, ◌+◌, ◌-◌, ◌<◌, ◌≤◌, Bool, List, [], ◌∷◌, ◌++◌, length, take, drop, refl, sym, ◌∙◌, ap, subst, inl, inr, take-append-drop, arith}
 use Rattle.std.proofs.Math.Seq.{take-length}
-use Rattle.std.specs.Prelude.{◌≢◌, ◌^◌, min, Option, Some, Result, Ok, Err, OnOk, slice_get}
-use Rattle.std.specs.List.{All, list_all}
-use Rattle.std.proofs.lemmas.List.{append-nil, length-append}
-use Rattle.std.proofs.lemmas.Option.{slice_get_within, get_or_from_slice_get}
+use Rattle.std.specs.Prelude.{◌≢◌, Option, Some, slice_get}
+use Rattle.std.specs.List.{list_all}
+use Rattle.std.proofs.lemmas.List.{append-nil}
 use Rattle.world_core.specs.Keeping.{IsFull}
 use Rattle.world_core.specs.Operations.{entry_of}
 use Rattle.world_core.specs.Worlds.{IsJournal, IsOfBytes}
 use Rattle.world_core.specs.declared.entry.Entry.{Entry}
-use Rattle.script_workers.specs.Hands.{gateway_count, gateway_of, hands_of, seats_after, seats_from, workers_from}
-use Rattle.script_core.specs.Workers.{seats_before, workers_of}
-use Rattle.script_core.specs.Lawful.{IsLawfulPhase, IsLawfulScript}
+use Rattle.script_workers.specs.Hands.{gateway_count, gateway_of, hands_of}
+use Rattle.script_core.specs.Workers.{workers_of}
+use Rattle.script_core.specs.Lawful.{IsLawfulScript}
 use Rattle.script_workers.specs.declared.hand.Hand.{Hand}
-use Rattle.script_workers.specs.declared.worker.Worker.{Worker}
 use Rattle.script_workers.specs.declared.phase.Phase.{Phase}
 use Rattle.script_core.specs.declared.script.Script.{Script}
 use Rattle.script_workers.specs.declared.task.Task.{Task}
-use Rattle.lifecycle_core.proofs.Assembling.{all_guaranteed}
-use Rattle.lifecycle_core.proofs.phases.PhaseRuns.{ends_of}
-use Rattle.script_core.proofs.SeatLaws.{workers_at}
-use Rattle.lifecycle_core.proofs.phases.FirstPhases.{no_phase}
-use Rattle.lifecycle_core.proofs.phases.RunsInLine.{AreWhole, by_none, by_parts, ends_by_workers, finished, own_came, own_undone, run_by, runs, turns_by}
-use Rattle.script_running.specs.Outcomes.{PhasesCame}
-use Rattle.script_running.specs.Sights.{Sees, no_sight}
-use Rattle.script_running.specs.declared.sight.Sight.{Sight}
-use Rattle.line_running.specs.Progress.{HasRun, IsBrokenAt, IsDueInLine, PhaseStep, PhasesDone, Reached, Shows, RunCame, TasksBroken, TasksDone, TasksTold, duties_at}
-use Rattle.script_running.specs.Outcomes.{is_as_asked}
-use Rattle.breach_finding.specs.declared.found.Breach.{Breach}
-use Rattle.report_lines.specs.BreachLines.{HasBreach, breach_text}
+use Rattle.call_verdicts.specs.lifecycle_core.proofs.Assembling.{all_guaranteed}
+use Rattle.call_verdicts.specs.lifecycle_core.proofs.phases.PhaseRuns.{ends_of}
+use Rattle.call_verdicts.specs.lifecycle_core.proofs.phases.FirstPhases.{no_phase}
+use Rattle.call_verdicts.specs.lifecycle_core.proofs.phases.RunsInLine.{by_none, by_parts, ends_by_workers, finished, own_undone, run_by, runs}
+use Rattle.call_verdicts.specs.script_running.specs.declared.sight.Sight.{Sight}
+use Rattle.line_running.specs.Progress.{IsBrokenAt, PhasesDone, Reached, duties_at}
+use Rattle.call_verdicts.specs.script_running.specs.Outcomes.{is_as_asked}
+use Rattle.call_verdicts.specs.breach_finding.specs.declared.found.Breach.{Breach}
+use Rattle.call_verdicts.specs.report_lines.specs.BreachLines.{HasBreach, breach_text}
 use Rattle.call_verdicts.specs.Verdicts.{IsFullRun, IsWholeRun}
-use Rattle.report_lines.specs.Telling.{report_of, tasks_of}
-use Rattle.script_running.specs.declared.came.Broken.{Broken}
-use Rattle.script_running.specs.declared.came.Broken.TheVariants as broken
-use Rattle.script_running.specs.declared.outcome.Outcome.{Outcome}
-use Rattle.report_lines.proofs.ReportLists.{all_append, report_append, tasks_append}
-use Rattle.line_running.proofs.Told.{tasks_came, told_length, told_outcomes}
-use Rattle.lifecycle_core.specs.Guarantees.{IsGuaranteedJournal}
-use Rattle.lifecycle_core.specs.Holdings.{Holdings, none_held, nothing_held, with_holding}
-use Rattle.lifecycle_core.specs.InLine.{Duty, InLine, IsInLine, duties_from, in_line, seat_of}
-use Rattle.lifecycle_core.specs.Phases.{IsRunOf, by_workers}
-use Rattle.lifecycle_core.specs.Setting.{Setting}
-use Rattle.lifecycle_core.specs.Tasks.{End}
-use Rattle.lifecycle_core.specs.Ways.{AreInTurn, AreUnfinished, BeginsPhase, IsOperationDue, PhasesRun}
+use Rattle.call_verdicts.specs.report_lines.specs.Telling.{report_of, tasks_of}
+use Rattle.call_verdicts.specs.script_running.specs.declared.outcome.Outcome.{Outcome}
+use Rattle.call_verdicts.specs.lifecycle_core.specs.Holdings.{Holdings, none_held, with_holding}
+use Rattle.call_verdicts.specs.lifecycle_core.specs.InLine.{Duty, InLine, duties_from, in_line, seat_of}
+use Rattle.call_verdicts.specs.lifecycle_core.specs.Phases.{IsRunOf, by_workers}
+use Rattle.call_verdicts.specs.lifecycle_core.specs.Setting.{Setting}
+use Rattle.call_verdicts.specs.lifecycle_core.specs.Tasks.{End}
+use Rattle.call_verdicts.specs.lifecycle_core.specs.Ways.{AreUnfinished, IsOperationDue, PhasesRun}
 use Rattle.line_running.proofs.PhaseLists.{phases_came, told_ends, told_whole}
 
 front_at : (phases : List Phase) (n k : ℕ) (phase : Phase) → slice_get (take n phases) k ≡ Some phase → slice_get phases k ≡ Some phase

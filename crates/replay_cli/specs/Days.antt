@@ -1,23 +1,23 @@
 -- The run of the generated day, over a bucket of its own. A summary takes the place of its report.
 use Rattle.std.specs.Prelude.{◌≡◌, ◌⊎◌, ℕ, Bool, List, [], ◌++◌, Option, Some, None, IsSomeAnd}
 use Rattle.world_core.specs.Standing.{IsHonest}
-use Rattle.world_core.specs.Worlds.{failed_count}
+use Rattle.world_core.specs.Worlds.{IsOfBytes, failed_count}
 use Rattle.world_core.specs.declared.entry.Entry.{Entry}
 use Rattle.script_core.specs.Lawful.{IsLawfulScript}
 use Rattle.script_core.specs.Spelling.{Spells}
 use Rattle.script_core.specs.declared.script.Script.{Script}
-use Rattle.lifecycle_core.specs.Guarantees.{IsGuaranteedJournal}
-use Rattle.lifecycle_core.specs.InLine.{IsInLine}
-use Rattle.lifecycle_core.specs.Setting.{setting_of}
-use Rattle.breach_finding.specs.declared.found.Breach.{Breach}
-use Rattle.report_lines.specs.BreachLines.{HasBreach, breach_text}
-use Rattle.report_lines.specs.Telling.{tasks_of}
+use Rattle.call_verdicts.specs.lifecycle_core.specs.Guarantees.{IsGuaranteedJournal}
+use Rattle.call_verdicts.specs.lifecycle_core.specs.InLine.{IsInLine}
+use Rattle.call_verdicts.specs.lifecycle_core.specs.Setting.{setting_of}
+use Rattle.call_verdicts.specs.breach_finding.specs.declared.found.Breach.{Breach}
+use Rattle.call_verdicts.specs.report_lines.specs.BreachLines.{HasBreach, breach_text}
+use Rattle.call_verdicts.specs.report_lines.specs.Telling.{tasks_of}
 use Rattle.generated_day.specs.Day.{day_text}
-use Rattle.day_tally.specs.Summed.{IsDayText}
-use Rattle.day_tally.specs.Tallies.{AreTallied}
-use Rattle.day_tally.specs.declared.tally.Tally.{Tally}
+use Rattle.call_verdicts.specs.report_lines.specs.Summed.{IsDayText}
+use Rattle.call_verdicts.specs.report_lines.specs.Tallies.{AreTallied}
+use Rattle.call_verdicts.specs.report_lines.specs.declared.tally.Tally.{Tally}
 use Rattle.script_workers.specs.declared.task.Task.{Task}
-use Rattle.script_running.specs.declared.outcome.Outcome.{Outcome}
+use Rattle.call_verdicts.specs.script_running.specs.declared.outcome.Outcome.{Outcome}
 use Rattle.call_verdicts.specs.Verdicts.{Around, IfShort, IsCaused, IsFullRun, IsWholeRun}
 use Rattle.call_verdicts.specs.declared.verdict.Verdict.{Verdict}
 use Rattle.call_verdicts.specs.declared.verdict.Verdict.TheVariants as verdict
@@ -44,6 +44,7 @@ IsDay script entries other = ⊥
 -- holds and never fails. Where memory is wanted, that may be before the script is made.
 pub record IsDayRun (number : ℕ) (entries : List Entry) (v : Verdict) : Type 0 where
   pub honest : IsHonest entries
+  pub bytes : IsOfBytes entries
   pub unfailed : failed_count entries ≡ 0
   pub came : ((v ≡ verdict.NoMemory) × (entries ≡ [])) ⊎ ((script : Script) × Spells (day_text number) script × IsLawfulScript script × IsDay script entries v)
 

@@ -2,9 +2,9 @@
 use Rattle.std.specs.Prelude.{◌≡◌, ◌++◌, List, Option}
 use Rattle.world_core.specs.declared.entry.Entry.{Entry}
 use Rattle.script_core.specs.declared.script.Script.{Script}
-use Rattle.breach_finding.specs.declared.found.Breach.{Breach}
-use Rattle.report_lines.specs.BreachLines.{HasBreach, breach_text}
-use Rattle.report_lines.specs.declared.lines.Lines.{Lines}
+use Rattle.call_verdicts.specs.breach_finding.specs.declared.found.Breach.{Breach}
+use Rattle.call_verdicts.specs.report_lines.specs.BreachLines.{HasBreach, breach_text}
+use Rattle.call_verdicts.specs.report_lines.specs.declared.lines.Lines.{Lines}
 use Rattle.call_verdicts.specs.declared.verdict.Verdict.{Verdict}
 use Rattle.call_verdicts.specs.declared.verdict.Verdict.TheVariants as verdict
 

@@ -2,3 +2,5 @@ pub mod Days
 pub mod Endings
 pub mod InPhases
 pub mod ToldAnswers
+pub use Rattle.call_verdicts
+pub use Rattle.call_verdicts.specs.lifecycle_core

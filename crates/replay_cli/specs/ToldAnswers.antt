@@ -11,13 +11,13 @@ use Rattle.script_workers.specs.declared.phase.Phase.{Phase}
 use Rattle.script_core.specs.declared.script.Script.{Script}
 use Rattle.script_workers.specs.declared.task.Task.{Task}
 use Rattle.script_workers.specs.declared.work.Work.TheVariants as work
-use Rattle.lifecycle_core.specs.Guarantees.{Answered, IsGiven, IsSound, Named, names_by}
-use Rattle.lifecycle_core.specs.Setting.{Setting}
-use Rattle.lifecycle_core.specs.Tasks.{End}
-use Rattle.report_lines.specs.Telling.{tasks_of}
-use Rattle.script_running.specs.declared.outcome.Outcome.{Outcome}
-use Rattle.script_running.specs.declared.outcome.Outcome.TheVariants as outcome
-use Rattle.script_running.specs.declared.outcome.QueryOutcome.TheVariants as query
+use Rattle.call_verdicts.specs.lifecycle_core.specs.Guarantees.{Answered, IsGiven, IsSound, Named, names_by}
+use Rattle.call_verdicts.specs.lifecycle_core.specs.Setting.{Setting}
+use Rattle.call_verdicts.specs.lifecycle_core.specs.Tasks.{End}
+use Rattle.call_verdicts.specs.report_lines.specs.Telling.{tasks_of}
+use Rattle.call_verdicts.specs.script_running.specs.declared.outcome.Outcome.{Outcome}
+use Rattle.call_verdicts.specs.script_running.specs.declared.outcome.Outcome.TheVariants as outcome
+use Rattle.call_verdicts.specs.script_running.specs.declared.outcome.QueryOutcome.TheVariants as query
 
 -- a query, and the answer that its lines tell
 pub record ToldAnswer : Type 0 where

@@ -7,15 +7,14 @@ ghost use Rattle.call_verdicts.specs.Kept.{IsTrueOfStore};
 ghost use Rattle.replay_cli.specs.Days.{EndsDay, IsBareFull, IsDay, IsDayRun};
 
 use bucket_core::{Bucket, FailList, MemoryBucket};
+use call_verdicts::report_lines::{Tally, put_breach_of};
+use call_verdicts::script_running::Broken;
 use call_verdicts::{Conclusion, Ended, Verdict};
-use day_tally::Tally;
 use generated_day::generated;
 use line_running::do_in_line;
 use list_core::NoMemory;
-use report_lines::put_breach_of;
 use run_notes::Finished;
 use script_core::Script;
-use script_running::Broken;
 use std::alloc::Global;
 use world_core::{Entry, Journal, World};
 

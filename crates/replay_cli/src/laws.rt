@@ -3,16 +3,16 @@ ghost use Rattle.world_core.specs.Standing.{IsHonest};
 ghost use Rattle.world_core.specs.Worlds.{failed_count};
 ghost use Rattle.world_core.specs.declared.entry.Entry.{Entry};
 ghost use Rattle.script_core.specs.Lawful.{IsLawfulScript};
-ghost use Rattle.lifecycle_core.specs.Breaches.{watched};
-ghost use Rattle.lifecycle_core.specs.Causes.{AreWell, IsBlamedInCompaction, IsExplained, IsExplainedBy};
-ghost use Rattle.lifecycle_core.specs.Setting.{Setting};
+ghost use Rattle.call_verdicts.specs.lifecycle_core.specs.Breaches.{watched};
+ghost use Rattle.call_verdicts.specs.lifecycle_core.specs.Causes.{AreWell, IsBlamedInCompaction, IsExplained, IsExplainedBy};
+ghost use Rattle.call_verdicts.specs.lifecycle_core.specs.Setting.{Setting};
 ghost use Rattle.replay_cli.specs.ToldAnswers.{IsTold, IsWorth, ToldAnswer};
 ghost use Rattle.call_verdicts.specs.Shippable.{RefusesNone, StaysWithin};
 ghost use Rattle.call_verdicts.specs.Verdicts.{IsFullRun, IsTrusted, IsWholeRun};
-ghost use Rattle.script_running.specs.declared.outcome.Outcome.TheVariants as outcome;
-ghost use Rattle.script_running.specs.declared.outcome.CompactOutcome.TheVariants as compact;
-ghost use Rattle.script_running.specs.declared.outcome.QueryOutcome.TheVariants as query;
-ghost use Rattle.script_running.specs.declared.outcome.NoAnswer.TheVariants as none;
+ghost use Rattle.call_verdicts.specs.script_running.specs.declared.outcome.Outcome.TheVariants as outcome;
+ghost use Rattle.call_verdicts.specs.script_running.specs.declared.outcome.CompactOutcome.TheVariants as compact;
+ghost use Rattle.call_verdicts.specs.script_running.specs.declared.outcome.QueryOutcome.TheVariants as query;
+ghost use Rattle.call_verdicts.specs.script_running.specs.declared.outcome.NoAnswer.TheVariants as none;
 
 /// A law: each answer that the report of a whole run tells was given in it and is sound, where the journal is honest; and so is
 /// each that is told of a run which the full journal broke off.

@@ -8,17 +8,17 @@ mod runner;
 mod standard;
 mod tool;
 
+pub use call_verdicts::report_lines::CheckOutcome;
+pub use call_verdicts::script_running::{
+    CleanOutcome, CompactOutcome, NoAnswer, Outcome, OutcomeList, QueryOutcome, SyncOutcome,
+    UploadOutcome,
+};
 pub use call_verdicts::{InputRefusal, Run, SinkFault, Status, Verdict, read_all, write_all};
 pub use laws::{
     calm_runs_end_as_asked, journals_tell_the_report, told_answers_are_sound,
     told_misses_are_explained,
 };
 pub use replay::run_replay;
-pub use report_lines::CheckOutcome;
 pub use run_notes::RunNote;
-pub use script_running::{
-    CleanOutcome, CompactOutcome, NoAnswer, Outcome, OutcomeList, QueryOutcome, SyncOutcome,
-    UploadOutcome,
-};
 pub use standard::{ReaderSource, WriterSink};
 pub use tool::run_tool;

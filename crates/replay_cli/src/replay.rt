@@ -47,7 +47,7 @@ where
         × (result.status ≡ number_of status)
         × (verdict ≢ Verdict.NoMemory → tells_full verdict ≡ false
         → IsBucketAsked S.Store.asked verdict result.journal result.store)
-        × IsNoted verdict result.journal result.store result.note }
+        × IsNoted S.Store.asked verdict result.journal result.store result.note }
 
     // Where an operation of the run was answered that the journal is full, the status says that, unless the sink failed: want
     // of memory is never told in its place.
@@ -105,8 +105,8 @@ where
         → tells_full result.conclusion.verdict ≡ false
         → IsBucketAsked S.Store.asked result.conclusion.verdict result.conclusion.journal
         result.conclusion.store }
-    ensures noted { IsNoted result.conclusion.verdict result.conclusion.journal
-        result.conclusion.store result.note }
+    ensures noted { IsNoted S.Store.asked result.conclusion.verdict
+        result.conclusion.journal result.conclusion.store result.note }
     ensures untouched { IfSome (told_of (S.next_bucket site.old) (replay_word words.now))
         (λ c. IsUntouched S.Store.contents c result.conclusion.journal result.conclusion.store) }
     ensures closed { replay_word words.now ≡ None
@@ -157,8 +157,8 @@ where
         → tells_full result.conclusion.verdict ≡ false
         → IsBucketAsked S.Store.asked result.conclusion.verdict result.conclusion.journal
         result.conclusion.store }
-    ensures noted { IsNoted result.conclusion.verdict result.conclusion.journal
-        result.conclusion.store result.note }
+    ensures noted { IsNoted S.Store.asked result.conclusion.verdict
+        result.conclusion.journal result.conclusion.store result.note }
     ensures untouched { IfSome (S.next_bucket site.old bucket.now)
         (λ c. IsUntouched S.Store.contents c result.conclusion.journal result.conclusion.store) }
     ensures shelf { IsShelfOf S.shelves S.next_shelf S.Files.files (named_by shelf.now)

@@ -6,27 +6,27 @@ ghost use Rattle.bucket_core.specs.Contents.{nothing};
 ghost use Rattle.world_core.specs.Asking.{IsAllAsked};
 ghost use Rattle.world_core.specs.Worlds.{IsJournal, IsOfBytes, failed_count};
 ghost use Rattle.script_core.specs.Lawful.{IsLawfulScript};
-ghost use Rattle.lifecycle_core.specs.InLine.{IsInLine};
-ghost use Rattle.script_running.specs.Shelves.{AreAllAtHand, setting_by};
-ghost use Rattle.script_running.specs.Tasks.{is_full_came};
-ghost use Rattle.call_verdicts.specs.Asked.{IsBroken};
+ghost use Rattle.call_verdicts.specs.lifecycle_core.specs.InLine.{IsInLine};
+ghost use Rattle.call_verdicts.specs.script_running.specs.Shelves.{AreAllAtHand, setting_by};
+ghost use Rattle.call_verdicts.specs.script_running.specs.Tasks.{is_full_came};
+ghost use Rattle.call_verdicts.specs.Asked.{IsBroken, WasAsked, for_opening};
 ghost use Rattle.replay_cli.specs.InPhases.{IsInPhases};
 ghost use Rattle.call_verdicts.specs.Noted.{IsNoted};
-ghost use Rattle.report_lines.specs.BreachLines.{HasBreach, breach_text};
+ghost use Rattle.call_verdicts.specs.report_lines.specs.BreachLines.{HasBreach, breach_text};
 ghost use Rattle.call_verdicts.specs.Noted.{tells_full};
 ghost use Rattle.replay_cli.specs.Endings.{EndsReport};
 ghost use Rattle.call_verdicts.specs.Verdicts.{IsRun};
-ghost use Rattle.breach_finding.specs.declared.found.Breach.{Breach};
+ghost use Rattle.call_verdicts.specs.breach_finding.specs.declared.found.Breach.{Breach};
 
 use bucket_core::Bucket;
+use call_verdicts::report_lines::{Lines, put_breach_of};
+use call_verdicts::script_running::{Broken, ShelfBlock, run_beside};
 use call_verdicts::{ReadBlocks, Verdict};
 use line_running::do_in_line;
 use list_core::NoMemory;
 use phase_runner::Gate;
-use report_lines::{Lines, put_breach_of};
 use run_notes::{Finished, LineHand};
 use script_core::Script;
-use script_running::{Broken, ShelfBlock, run_beside};
 use std::alloc::Global;
 use std::sync::Wait;
 use std::thread::Threads;
@@ -45,6 +45,7 @@ pub(crate) fn run_read_in_line<B: Bucket>(
     requires broken { IfErr read IsBroken }
     requires fresh { world.journal ≡ [] }
     requires tick { world.tick ≡ script.now.rules.tick.ms }
+    requires asked { WasAsked B.asked for_opening world.bucket }
     ensures cause { IfOk read (λ blocks. IsRun IsInLine (setting_by script.now blocks) (Some nothing) ⊥
         (Some result.1.world.journal) result.0) }
     ensures unread { IfErr read (λ v. (result.0 ≡ v) × (result.1.world.journal ≡ [])) }
@@ -56,8 +57,8 @@ pub(crate) fn run_read_in_line<B: Bucket>(
         → IsAllAsked B.asked before world → IsAllAsked B.asked before result.1.world }
 
     // The full journal is told just where an operation of the run was answered so.
-    ensures noted { IsNoted result.0 (Some result.1.world.journal) (Some result.1.world.bucket)
-        result.1.note }
+    ensures noted { IsNoted B.asked result.0 (Some result.1.world.journal)
+        (Some result.1.world.bucket) result.1.note }
 {
     match read {
         Ok(blocks) => {
@@ -84,6 +85,7 @@ pub(crate) fn run_read_with_threads<B: Bucket + Send, G: Gate + Sync, T: Threads
     requires broken { IfErr read IsBroken }
     requires fresh { world.journal ≡ [] }
     requires tick { world.tick ≡ script.now.rules.tick.ms }
+    requires asked { WasAsked B.asked for_opening world.bucket }
     ensures cause { IfOk read (λ blocks. IsRun IsInPhases (setting_by script.now blocks) (Some nothing) ⊥
         (Some result.1.world.journal) result.0) }
     ensures unread { IfErr read (λ v. (result.0 ≡ v) × (result.1.world.journal ≡ [])) }
@@ -92,8 +94,8 @@ pub(crate) fn run_read_with_threads<B: Bucket + Send, G: Gate + Sync, T: Threads
     ensures all { result.0 ≢ Verdict.NoMemory → tells_full result.0 ≡ false
         → (before : List Call) → IsAllAsked B.asked before world
         → IsAllAsked B.asked before result.1.world }
-    ensures noted { IsNoted result.0 (Some result.1.world.journal) (Some result.1.world.bucket)
-        result.1.note }
+    ensures noted { IsNoted B.asked result.0 (Some result.1.world.journal)
+        (Some result.1.world.bucket) result.1.note }
 {
     match read {
         Ok(blocks) => {
@@ -150,6 +152,7 @@ fn run_with_threads<B: Bucket + Send, G: Gate + Sync, T: Threads + Wait + Sync>(
     requires at_hand { AreAllAtHand script.now shelf.now }
     requires fresh { world.journal ≡ [] }
     requires tick { world.tick ≡ script.now.rules.tick.ms }
+    requires asked { WasAsked B.asked for_opening world.bucket }
     ensures cause { IsRun IsInPhases (setting_by script.now shelf.now) (Some nothing) ⊥
         (Some result.1.world.journal) result.0 }
     ensures unfailed { failed_count result.1.world.journal ≡ 0
@@ -162,8 +165,8 @@ fn run_with_threads<B: Bucket + Send, G: Gate + Sync, T: Threads + Wait + Sync>(
         → IsAllAsked B.asked before result.1.world }
 
     // The full journal is told just where an operation of the run was answered so. So want of memory is told only where none was.
-    ensures noted { IsNoted result.0 (Some result.1.world.journal) (Some result.1.world.bucket)
-        result.1.note }
+    ensures noted { IsNoted B.asked result.0 (Some result.1.world.journal)
+        (Some result.1.world.bucket) result.1.note }
 {
     let mut report = Lines::new(alloc);
     match run_beside(rt, alloc, script, shelf, world, gate, &mut report) {

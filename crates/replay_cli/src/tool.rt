@@ -7,7 +7,7 @@ ghost use Rattle.call_verdicts.specs.Statuses.{number_of};
 ghost use Rattle.call_verdicts.specs.Verdicts.{EndsCalmly, IfShort, IsCaused, IsCheckSaid, IsSaid, IsWorked, around_call, saying_to};
 ghost use Rattle.call_verdicts.specs.Words.{block_word, bucket_word, named_by, number_word, shelf_word};
 ghost use Rattle.replay_cli.specs.Days.{IsToolCaused};
-ghost use Rattle.lifecycle_core.specs.InLine.{IsInLine};
+ghost use Rattle.call_verdicts.specs.lifecycle_core.specs.InLine.{IsInLine};
 
 use crate::day::run_day;
 use crate::runner::run_read_in_line;
@@ -45,7 +45,7 @@ pub fn run_tool<S: Site, R: Source, K: Sink>(
         × (verdict ≢ Verdict.NoMemory
         → IsBucketAsked S.Store.asked verdict result.journal result.store)
         × (number_word words.now ≡ None
-        → IsNoted verdict result.journal result.store result.note) }
+        → IsNoted S.Store.asked verdict result.journal result.store result.note) }
 
     // The bucket of a generated day is its own: the journal alone is handed out.
     ensures day { IsSome (number_word words.now)
@@ -128,8 +128,8 @@ fn come_to<S: Site, R: Source>(
         (λ c. IsUntouched S.Store.contents c result.conclusion.journal result.conclusion.store) }
     ensures closed { bucket_word words.now ≡ None
         → IsNotAsked S.buckets S.next_bucket site.old site.new }
-    ensures noted { IsNoted result.conclusion.verdict result.conclusion.journal
-        result.conclusion.store result.note }
+    ensures noted { IsNoted S.Store.asked result.conclusion.verdict
+        result.conclusion.journal result.conclusion.store result.note }
     ensures shelf { IsShelfOf S.shelves S.next_shelf S.Files.files (shelf_word words.now)
         site.old site.new result.shelf }
     ensures asked { IfSome result.shelf (WasAskedFor S.Files.asked
@@ -177,8 +177,8 @@ fn read_and_run<S: Site, R: Source>(
     ensures asked_bucket { result.conclusion.verdict ≢ Verdict.NoMemory
         → IsBucketAsked S.Store.asked result.conclusion.verdict result.conclusion.journal
         result.conclusion.store }
-    ensures noted { IsNoted result.conclusion.verdict result.conclusion.journal
-        result.conclusion.store result.note }
+    ensures noted { IsNoted S.Store.asked result.conclusion.verdict
+        result.conclusion.journal result.conclusion.store result.note }
     ensures untouched { IfSome (S.next_bucket site.old bucket.now)
         (λ c. IsUntouched S.Store.contents c result.conclusion.journal result.conclusion.store) }
     ensures shelf { IsShelfOf S.shelves S.next_shelf S.Files.files (named_by shelf.now)

@@ -3,7 +3,7 @@ use Rattle.std.specs.Prelude.{ℕ, List, [], ◌++◌, codes, Option, Some, None
 use Rattle.reading_core.specs.Decimal.{decimal_text}
 use Rattle.world_core.specs.declared.entry.Entry.{Entry}
 use Rattle.script_core.specs.declared.script.Script.{Script}
-use Rattle.lifecycle_core.specs.Setting.{FromShelf}
+use Rattle.script_running.specs.lifecycle_core.specs.Setting.{FromShelf}
 use Rattle.breach_finding.specs.Walks.{IsAnswer, setting_with}
 use Rattle.breach_finding.specs.declared.found.Breach.{Breach}
 use Rattle.breach_finding.specs.declared.found.BreachRule.{BreachRule}

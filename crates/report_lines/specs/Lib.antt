@@ -2,3 +2,8 @@ pub mod BreachLines
 pub mod CheckLines
 pub mod Reports
 pub mod Telling
+pub mod Summed
+pub mod Tallies
+pub use Rattle.breach_finding
+pub use Rattle.script_running
+pub use Rattle.script_running.specs.lifecycle_core

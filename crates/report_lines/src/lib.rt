@@ -1,4 +1,5 @@
-//! The lines of a report: what they say of each activity, of a check, and of the journal's breach.
+//! The lines of a report: what they say of each activity, of a check, and of the journal's breach. And what the activities of a run add up
+//! to, and the summary of a run of the generated day.
 #![tactic(auto)]
 
 mod breach;
@@ -6,9 +7,15 @@ mod check_outcome;
 mod lines;
 mod phase_report;
 mod report;
+mod summing;
+mod sums;
+mod tally;
 
 pub use breach::put_breach_of;
 pub use check_outcome::CheckOutcome;
 pub use lines::Lines;
 pub use phase_report::PhaseReport;
 pub use report::{put_activity, put_check};
+pub use script_running;
+pub use sums::Sums;
+pub use tally::Tally;

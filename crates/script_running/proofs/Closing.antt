@@ -21,8 +21,9 @@ use Rattle.lifecycle_core.specs.Holdings.{Holding, Holdings, holding_of, none_he
 use Rattle.lifecycle_core.specs.Phases.{IsInTurn, IsRunOf, by_script, by_workers}
 use Rattle.lifecycle_core.specs.Setting.{Setting}
 use Rattle.lifecycle_core.specs.Tasks.{End}
-use Rattle.lifecycle_core.specs.Ways.{AreFinished, AreInTurn, IsOperationDue, PhasesRun, Way}
+use Rattle.lifecycle_core.specs.Ways.{AreFinished, AreInTurn, IsOperationDue, PhasesRun}
 use Rattle.lifecycle_core.proofs.phases.Fronts.{IsCutWell}
+use Rattle.lifecycle_core.proofs.phases.Turns.{none_turns, one_turns, turns_behind}
 use Rattle.script_running.specs.Begun.{WasBegun}
 use Rattle.script_running.specs.Beside.{CameSoFar, HasRunBeside}
 use Rattle.script_running.specs.Cutting.{AreParts, KnowsPhases, Passed}
@@ -40,21 +41,6 @@ use Rattle.script_running.proofs.Cutting.{parts}
 use Rattle.script_running.proofs.Due.{is_due}
 use Rattle.script_running.proofs.Gathered.{tasks_long}
 use Rattle.script_running.proofs.Ending.{was_begun, was_idle, were_kept}
-
--- ---- turns
-
--- finished phases are in turn, and so is one begun behind them
-turns_none : {State Ends : Type 0} (way : Way State Ends) (number : ℕ) (done left : List Phase) (told : List Ends) → AreFinished way number done told → AreInTurn way number (done ++ left) told
-turns_none way number [] left [] finished = tt
-turns_none way number [] left (own ∷ told) finished = absurd (cc (finished))
-turns_none way number (phase ∷ done) left [] finished = tt
-turns_none way number (phase ∷ done) left (own ∷ told) finished = ((λ some. finished.0), turns_none way (number + 1) done left told finished.1)
-
-turns_one : {State Ends : Type 0} (way : Way State Ends) (number : ℕ) (done : List Phase) (phase : Phase) (left : List Phase) (told : List Ends) (own : Ends) → AreFinished way number done told → AreInTurn way number (done ++ phase ∷ left) (told ++ own ∷ [])
-turns_one way number [] phase left [] own finished = ((λ some. absurd (some refl)), tt)
-turns_one way number [] phase left (x ∷ told) own finished = absurd (cc (finished))
-turns_one way number (p ∷ done) phase left [] own finished = absurd finished
-turns_one way number (p ∷ done) phase left (x ∷ told) own finished = ((λ some. finished.0), turns_one way (number + 1) done phase left told own finished.1)
 
 -- ---- a full front
 
@@ -128,7 +114,7 @@ module _ (setting : Setting) (well : IsCutWell (by_script setting)) (root : Know
   }
 
   turns_of : (done left : List Phase) (told : List (List (List End))) → setting.script.phases ≡ done ++ left → AreFinished (by_workers setting) 0 done told → IsInTurn setting told
-  turns_of done left told is finished = subst (λ (ps : List Phase). AreInTurn (by_workers setting) 0 ps told) (sym is) (turns_none (by_workers setting) 0 done left told finished)
+  turns_of done left told is finished = subst (λ (ps : List Phase). AreInTurn (by_workers setting) 0 ps told) (sym is) (subst (λ (es : List (List (List End))). AreInTurn (by_workers setting) 0 (done ++ left) es) (append-nil told) (turns_behind (by_workers setting) 0 (length done) done left told [] (omega arith) finished (none_turns (by_workers setting) (length done) left)))
 
   pub all_ran : (sights : List Sight) (outcomes : List Outcome) → HasGone setting root setting.script.phases sights outcomes → HasRunBeside setting journal outcomes (Ok tt)
   all_ran sights outcomes gone =
@@ -154,7 +140,7 @@ module _ (setting : Setting) (well : IsCutWell (by_script setting)) (root : Know
       }
 
   turns_on : (done : List Phase) (phase : Phase) (left : List Phase) (told : List (List (List End))) (ends : List (List End)) → setting.script.phases ≡ done ++ phase ∷ left → AreFinished (by_workers setting) 0 done told → IsInTurn setting (told ++ ends ∷ [])
-  turns_on done phase left told ends is finished = subst (λ (ps : List Phase). AreInTurn (by_workers setting) 0 ps (told ++ ends ∷ [])) (sym is) (turns_one (by_workers setting) 0 done phase left told ends finished)
+  turns_on done phase left told ends is finished = subst (λ (ps : List Phase). AreInTurn (by_workers setting) 0 ps (told ++ ends ∷ [])) (sym is) (turns_behind (by_workers setting) 0 (length done) done (phase ∷ left) told (ends ∷ []) (omega arith) finished (one_turns (by_workers setting) (length done) phase left ends))
 
   module _ (done : List Phase) (phase : Phase) (left : List Phase) (is : setting.script.phases ≡ done ++ phase ∷ left) (passed : List Passed) (held : Holdings) (outcomes : List Outcome) (f : HasFinished setting done passed held) where
     far_on : (why : Broken) → IfFull why (PhasesCame setting.script 0 done f.told outcomes) → (b : HasBrokenOff setting root done passed held phase why) → IsRunOf setting journal (f.told ++ b.ends ∷ []) → CameSoFar setting journal (f.told ++ b.ends ∷ []) outcomes (Err why)

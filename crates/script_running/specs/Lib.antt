@@ -15,3 +15,4 @@ pub mod Gathering
 pub mod Reporting
 pub use Rattle.world_core.specs.Machines
 pub use Rattle.world_core.specs.Keeping
+pub use Rattle.lifecycle_core

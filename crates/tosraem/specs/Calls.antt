@@ -3,10 +3,10 @@ use Rattle.std.specs.Prelude.{◌≡◌, ℕ, Bool, false, String, List, [], ◌
 use Rattle.std.specs.Str.{bytes_eq}
 use Rattle.std.specs.String.{string_bytes}
 use Rattle.std.specs.declared.alloc.Global.{Global}
-use Rattle.call_verdicts.specs.Statuses.{number_of}
-use Rattle.call_verdicts.specs.Verdicts.{IsSaid, Saying}
-use Rattle.call_verdicts.specs.declared.status.Status.{Status}
-use Rattle.call_verdicts.specs.declared.verdict.Verdict.{Verdict}
+use Rattle.replay_cli.specs.call_verdicts.specs.Statuses.{number_of}
+use Rattle.replay_cli.specs.call_verdicts.specs.Verdicts.{IsSaid, Saying}
+use Rattle.replay_cli.specs.call_verdicts.specs.declared.status.Status.{Status}
+use Rattle.replay_cli.specs.call_verdicts.specs.declared.verdict.Verdict.{Verdict}
 
 -- The first word is `replay`, which asks for threads. All other words go to the call without threads.
 abbrev pub names_replay : List (String Global) → Bool

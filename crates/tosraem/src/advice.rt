@@ -1,7 +1,7 @@
 //! What standard error is told of a call.
 ghost use Rattle.std.specs.Prelude.{◌≡◌, OnOk};
 ghost use Rattle.std.specs.Io.KnownBytes.{Appends};
-ghost use Rattle.call_verdicts.specs.Statuses.{number_of};
+ghost use Rattle.replay_cli.specs.call_verdicts.specs.Statuses.{number_of};
 ghost use Rattle.tosraem.specs.Advice.{advice_of};
 
 use replay_cli::Status;

@@ -2,16 +2,16 @@
 #![tactic(auto)]
 
 ghost use Rattle.std.specs.Prelude.{◌≡◌, ◌≢◌, true, false, None, is_some};
-ghost use Rattle.lifecycle_core.specs.InLine.{IsInLine};
-ghost use Rattle.call_verdicts.specs.Asked.{IsBucketAsked};
+ghost use Rattle.replay_cli.specs.lifecycle_core.specs.InLine.{IsInLine};
+ghost use Rattle.replay_cli.specs.call_verdicts.specs.Asked.{IsBucketAsked};
 ghost use Rattle.replay_cli.specs.InPhases.{IsInPhases};
-ghost use Rattle.call_verdicts.specs.Kept.{IsHandedBack, IsHandedOut, IsNotAsked, IsShelfOf};
-ghost use Rattle.call_verdicts.specs.Noted.{IsNoted};
-ghost use Rattle.call_verdicts.specs.Noted.{tells_full};
-ghost use Rattle.call_verdicts.specs.Verdicts.{IsCaused, around_call, saying_to};
-ghost use Rattle.call_verdicts.specs.Words.{block_word, bucket_word, number_word, replay_shelf, replay_word, shelf_word};
+ghost use Rattle.replay_cli.specs.call_verdicts.specs.Kept.{IsHandedBack, IsHandedOut, IsNotAsked, IsShelfOf};
+ghost use Rattle.replay_cli.specs.call_verdicts.specs.Noted.{IsNoted};
+ghost use Rattle.replay_cli.specs.call_verdicts.specs.Noted.{tells_full};
+ghost use Rattle.replay_cli.specs.call_verdicts.specs.Verdicts.{IsCaused, around_call, saying_to};
+ghost use Rattle.replay_cli.specs.call_verdicts.specs.Words.{block_word, bucket_word, number_word, replay_shelf, replay_word, shelf_word};
 ghost use Rattle.replay_cli.specs.Days.{IsToolCaused};
-ghost use Rattle.call_verdicts.specs.declared.verdict.Verdict.TheVariants.{NoMemory};
+ghost use Rattle.replay_cli.specs.call_verdicts.specs.declared.verdict.Verdict.TheVariants.{NoMemory};
 ghost use Rattle.tosraem.specs.Calls.{IsServed, names_replay};
 
 mod advice;
@@ -72,7 +72,7 @@ where
         (λ verdict. verdict ≢ NoMemory
         → IsBucketAsked S.Store.asked verdict result.journal result.store)
         (λ verdict. number_word words.now ≡ None
-        → IsNoted verdict result.journal result.store result.note) result.status }
+        → IsNoted S.Store.asked verdict result.journal result.store result.note) result.status }
     ensures replay { names_replay words.now ≡ true → IsServed
         (IsCaused (around_call IsInPhases R.left R.faults script.old script.new
         S.buckets S.next_bucket S.shelves S.next_shelf S.faults
@@ -82,7 +82,7 @@ where
         (saying_to K.faults K.written out.old out.new)
         (λ verdict. verdict ≢ NoMemory → tells_full verdict ≡ false
         → IsBucketAsked S.Store.asked verdict result.journal result.store)
-        (λ verdict. IsNoted verdict result.journal result.store result.note) result.status }
+        (λ verdict. IsNoted S.Store.asked verdict result.journal result.store result.note) result.status }
 
     // The bucket and the shelf are those of that call, as it left them; a generated day has a bucket of its own.
     ensures handed { IsHandedOut S.buckets site.old site.new result.store }

@@ -2,7 +2,7 @@ use Rattle.std.proofs.Common.{◌≡◌, ◌⊎◌, [], inl, refl}
 use Rattle.std.specs.Prelude.{IsSomeAnd}
 use Rattle.bucket_core.specs.Causes.{Rose}
 use Rattle.bucket_core.specs.declared.site_refusal.SiteRefusal.TheVariants as site
-use Rattle.lifecycle_core.specs.Setting.{setting_of}
+use Rattle.report_lines.specs.lifecycle_core.specs.Setting.{setting_of}
 use Rattle.call_verdicts.specs.Undone.{IsUndone}
 use Rattle.call_verdicts.proofs.Opened.{unshelved_told}
 use Rattle.call_verdicts.proofs.Verdicts.{run_weaker}

@@ -1,5 +1,6 @@
 use Rattle.std.proofs.Common.{◌≢◌, []}
-use Rattle.call_verdicts.specs.Asked.{IsBucketAsked, WasAsked, for_opening}
+use Rattle.std.specs.Prelude.{IfSome}
+use Rattle.call_verdicts.specs.Asked.{IsBucketAsked, WasAsked, WasOnlyOpened, for_opening}
 use Rattle.call_verdicts.specs.declared.verdict.Verdict.TheVariants as verdict
 use Rattle.call_verdicts.proofs.BucketAsked.{err_map, just_handed, ok_map}
 use Rattle.call_verdicts.proofs.opening.open_site.Goals as goal
@@ -15,3 +16,8 @@ returns-in-Ok-clause-back_asked g c =
     (λ ended. WasAsked g.S.Store.Bucket.asked [] c.in-Ok.bucket → ended.conclusion.verdict ≢ verdict.NoMemory → IsBucketAsked g.S.Store.Bucket.asked ended.conclusion.verdict ended.conclusion.journal ended.conclusion.store)
     (λ ended. ended.conclusion.verdict ≢ verdict.NoMemory → IsBucketAsked g.S.Store.Bucket.asked ended.conclusion.verdict ended.conclusion.journal ended.conclusion.store)
     (λ ended so. so (just_handed g.S.Store.Bucket.asked c.in-Ok.bucket c.in-Ok.ensures.unasked)) c.open_behind.ensures.back_asked
+
+pub returns-in-Ok-clause-only_opened : goal.returns-in-Ok-clause-only_opened
+returns-in-Ok-clause-only_opened g c =
+    err_map c.open_behind.result (λ ended. WasAsked g.S.Store.Bucket.asked [] c.in-Ok.bucket → IfSome ended.conclusion.store (WasOnlyOpened g.S.Store.Bucket.asked)) (λ ended. IfSome ended.conclusion.store (WasOnlyOpened g.S.Store.Bucket.asked))
+    (λ ended so. so (just_handed g.S.Store.Bucket.asked c.in-Ok.bucket c.in-Ok.ensures.unasked)) c.open_behind.ensures.only_opened

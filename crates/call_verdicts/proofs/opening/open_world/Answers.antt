@@ -1,12 +1,12 @@
 use Rattle.std.proofs.Common.{◌∙◌, refl}
 use Rattle.call_verdicts.specs.Asked.{for_opening}
 use Rattle.call_verdicts.specs.Undone.{IsUndone}
-use Rattle.call_verdicts.proofs.BucketAsked.{asked_first, unopened_asked}
+use Rattle.call_verdicts.proofs.BucketAsked.{asked_first, back_opened, only_opened, unopened_asked}
 use Rattle.call_verdicts.proofs.HandedBack.{back_of_none}
 use Rattle.call_verdicts.proofs.Opened.{opened_told}
 use Rattle.call_verdicts.proofs.Unfailed.{short_unopened, unfailed_at}
 use Rattle.call_verdicts.proofs.opening.open_world.Goals as goal
-use Rattle.lifecycle_core.specs.Setting.{setting_of}
+use Rattle.report_lines.specs.lifecycle_core.specs.Setting.{setting_of}
 
 pub returns-in-Err-clause-back : goal.returns-in-Err-clause-back
 returns-in-Err-clause-back g c =
@@ -30,3 +30,7 @@ pub returns-in-Err-clause-back_asked : goal.returns-in-Err-clause-back_asked
 returns-in-Err-clause-back_asked g c = λ was never.
     unopened_asked g.B.Bucket.asked c.args.bucket c.in-Err.store c.in-Err.refusal c.with_bucket.result.verdict c.with_bucket.result.journal c.with_bucket.result.store c.empty.result
     c.with_bucket.ensures.journal c.empty.ensures c.with_bucket.ensures.store (λ is. c.with_bucket.ensures.verdict ∙ c.unopened.ensures.none is) c.in-Err.ensures.asks was never
+
+pub returns-in-Err-clause-only_opened : goal.returns-in-Err-clause-only_opened
+returns-in-Err-clause-only_opened g c = λ was.
+    back_opened g.B.Bucket.asked c.with_bucket.result.store c.in-Err.store c.with_bucket.ensures.store (only_opened g.B.Bucket.asked c.args.bucket c.in-Err.store c.in-Err.refusal _ c.in-Err.ensures.asks was)

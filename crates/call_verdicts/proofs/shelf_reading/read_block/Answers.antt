@@ -1,4 +1,3 @@
-use Rattle.std.proofs.Common.{◌≡◌, Ok, refl}
 use Rattle.call_verdicts.proofs.ShelfReads.{calm_of, found_of, why_of}
 use Rattle.call_verdicts.proofs.shelf_reading.read_block.Goals as goal
 

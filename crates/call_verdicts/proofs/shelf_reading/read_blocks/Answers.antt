@@ -1,8 +1,8 @@
-use Rattle.std.proofs.Common.{◌≡◌, [], List, Some, sym, ap, subst, ◌∙◌}
+use Rattle.std.proofs.Common.{[], List, Some, sym, ap, subst, ◌∙◌}
 use Rattle.std.specs.Prelude.{IfOk, IfSome, option_map}
 use Rattle.bucket_core.specs.Contents.{nothing}
 use Rattle.script_core.specs.declared.block.Block.{Block}
-use Rattle.script_running.specs.Shelves.{AreAllAtHand, setting_by}
+use Rattle.report_lines.specs.script_running.specs.Shelves.{AreAllAtHand, setting_by}
 use Rattle.call_verdicts.specs.Asked.{WasAsked, WasRead, shelf_ulids}
 use Rattle.call_verdicts.specs.Checks.{files_in}
 use Rattle.call_verdicts.specs.ShelfReads.{AreRead, IsOfShelf}

@@ -1,8 +1,8 @@
-use Rattle.std.proofs.Common.{◌+◌, ◌∷◌, [], List, refl, subst, ◌∙◌, sym, arith, take}
+use Rattle.std.proofs.Common.{◌+◌, List, refl, subst, ◌∙◌, sym, arith, take}
 use Rattle.std.proofs.lemmas.List.{take_all}
 use Rattle.list_core.proofs.Lists.{take_place}
 use Rattle.script_core.specs.declared.block.Block.{Block}
-use Rattle.script_running.proofs.Taking.{found}
+use Rattle.report_lines.specs.script_running.proofs.Taking.{found}
 use Rattle.call_verdicts.specs.Asked.{WasRead, shelf_ulids}
 use Rattle.call_verdicts.specs.ShelfReads.{AreRead, IsReadNext}
 use Rattle.call_verdicts.proofs.ShelfReads.{broken_since, none_read, ok_is, one_read, read_front, read_more, read_none}

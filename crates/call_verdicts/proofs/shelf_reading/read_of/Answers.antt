@@ -1,4 +1,4 @@
-use Rattle.std.proofs.Common.{Ok, subst}
+use Rattle.std.proofs.Common.{subst}
 use Rattle.std.specs.Prelude.{IfOk}
 use Rattle.block_content.specs.Checked.{checked_files}
 use Rattle.block_loading.specs.Loading.{AreWithinLimit}

@@ -1,6 +1,6 @@
-use Rattle.std.proofs.Common.{[], ap, sym, ◌∙◌, subst}
-use Rattle.script_running.specs.Shelves.{setting_by}
-use Rattle.script_running.specs.declared.shelf.ShelfBlock.{ShelfBlock}
+use Rattle.std.proofs.Common.{[], ap, ◌∙◌, subst}
+use Rattle.report_lines.specs.script_running.specs.Shelves.{setting_by}
+use Rattle.report_lines.specs.script_running.specs.declared.shelf.ShelfBlock.{ShelfBlock}
 use Rattle.line_running.specs.Progress.{RunCame}
 use Rattle.line_running.proofs.Keeping.{kept_since, kept_still}
 use Rattle.line_running.proofs.PhaseLists.{no_run, no_seats, reached_none}

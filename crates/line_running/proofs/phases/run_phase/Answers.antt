@@ -1,13 +1,13 @@
-use Rattle.std.proofs.Common.{◌≡◌, ◌&&◌, ◌++◌, ◌∷◌, [], length, refl, ap, sym, ◌∙◌, subst}
+use Rattle.std.proofs.Common.{◌≡◌, ◌++◌, ◌∷◌, [], length, refl, ap, sym, ◌∙◌, subst}
 use Rattle.std.proofs.lemmas.Result.{MatchResult-at_err, MatchResult-at_ok}
 use Rattle.std.specs.List.{All}
 use Rattle.world_core.specs.declared.entry.Entry.{Entry}
 use Rattle.script_core.specs.Lawful.{IsLawfulWork}
 use Rattle.script_workers.specs.declared.task.Task.{Task}
-use Rattle.lifecycle_core.specs.InLine.{seat_of}
-use Rattle.script_running.specs.Shelves.{setting_by}
-use Rattle.lifecycle_core.specs.Ways.{BeginsPhase}
-use Rattle.script_running.specs.Tasks.{is_full_came}
+use Rattle.report_lines.specs.lifecycle_core.specs.InLine.{seat_of}
+use Rattle.report_lines.specs.script_running.specs.Shelves.{setting_by}
+use Rattle.report_lines.specs.lifecycle_core.specs.Ways.{BeginsPhase}
+use Rattle.report_lines.specs.script_running.specs.Tasks.{is_full_came}
 use Rattle.line_running.specs.Progress.{TasksBroken, TasksDone}
 use Rattle.line_running.proofs.PhaseLists.{broken_from, broken_step, done_from, lawful_phase, run_so_far, seats_next, taken_step, unbegun_step}
 use Rattle.line_running.proofs.Wanted.{unrefused}

@@ -3,7 +3,7 @@ use Rattle.script_core.specs.Workers.{seats_before}
 use Rattle.run_notes.specs.LineHands.{KeepsRun}
 use Rattle.line_running.specs.Progress.{Reached}
 use Rattle.line_running.proofs.phases.run_phases.Given as goal
-use Rattle.script_running.specs.Shelves.{setting_by}
+use Rattle.report_lines.specs.script_running.specs.Shelves.{setting_by}
 
 -- the phases so far are done and told
 abbrev pub invariant-loop-place : goal.invariant-loop-place

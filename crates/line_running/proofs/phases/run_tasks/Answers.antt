@@ -1,10 +1,10 @@
 use Rattle.std.proofs.Common.{◌+◌, IsTrue, take, refl, ◌∙◌, ap, subst, arith, List}
 use Rattle.std.proofs.lemmas.Result.{MatchResult-at_err, MatchResult-at_ok}
-use Rattle.lifecycle_core.specs.InLine.{seat_of}
-use Rattle.script_running.specs.Shelves.{setting_by}
+use Rattle.report_lines.specs.lifecycle_core.specs.InLine.{seat_of}
+use Rattle.report_lines.specs.script_running.specs.Shelves.{setting_by}
 use Rattle.script_workers.specs.declared.task.Task.{Task}
 use Rattle.run_notes.specs.LineHands.{keeps_run-none, keeps_run-more}
-use Rattle.script_running.specs.Tasks.{is_full_came}
+use Rattle.report_lines.specs.script_running.specs.Tasks.{is_full_came}
 use Rattle.line_running.specs.Progress.{TasksBroken, TasksDone}
 use Rattle.line_running.proofs.Told.{done_none, take_whole}
 use Rattle.line_running.proofs.Wanted.{short_on, still_unwanted}

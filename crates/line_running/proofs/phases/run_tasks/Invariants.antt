@@ -1,7 +1,7 @@
 use Rattle.std.proofs.Common.{◌≡◌, false, take, length}
-use Rattle.lifecycle_core.specs.Holdings.{Holdings}
-use Rattle.lifecycle_core.specs.InLine.{seat_of}
-use Rattle.script_running.specs.Shelves.{setting_by}
+use Rattle.report_lines.specs.lifecycle_core.specs.Holdings.{Holdings}
+use Rattle.report_lines.specs.lifecycle_core.specs.InLine.{seat_of}
+use Rattle.report_lines.specs.script_running.specs.Shelves.{setting_by}
 use Rattle.run_notes.specs.LineHands.{KeepsRun}
 use Rattle.line_running.specs.Progress.{Shows, TasksDone}
 use Rattle.line_running.proofs.phases.run_tasks.Given as goal

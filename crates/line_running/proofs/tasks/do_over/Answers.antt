@@ -1,5 +1,5 @@
 use Rattle.std.proofs.Common.{◌||◌, ◌∙◌, ap}
-use Rattle.script_running.specs.Tasks.{is_full_came}
+use Rattle.report_lines.specs.script_running.specs.Tasks.{is_full_came}
 use Rattle.line_running.proofs.Wanted.{wanted_at}
 use Rattle.line_running.proofs.tasks.do_over.Goals as goal
 

@@ -2,10 +2,10 @@ use Rattle.std.proofs.Common.{sym, ◌∙◌, ap, refl, subst}
 use Rattle.std.specs.Prelude.{Some}
 use Rattle.std.proofs.lemmas.Option.{slice_get-get_or}
 use Rattle.script_workers.specs.declared.hand.Hand.TheVariants as hands
-use Rattle.lifecycle_core.specs.Holdings.{nothing_held}
-use Rattle.lifecycle_core.specs.InLine.{seat_of, who_does}
-use Rattle.script_running.specs.Shelves.{setting_by}
-use Rattle.script_running.specs.Sights.{Sees}
+use Rattle.report_lines.specs.lifecycle_core.specs.Holdings.{nothing_held}
+use Rattle.report_lines.specs.lifecycle_core.specs.InLine.{seat_of, who_does}
+use Rattle.report_lines.specs.script_running.specs.Shelves.{setting_by}
+use Rattle.report_lines.specs.script_running.specs.Sights.{Sees}
 use Rattle.line_running.proofs.Steps.{gateway_inside, gateway_step, alone_step}
 use Rattle.line_running.proofs.tasks.do_part.Goals as goal
 

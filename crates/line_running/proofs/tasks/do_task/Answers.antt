@@ -1,9 +1,9 @@
 use Rattle.std.proofs.Common.{◌≡◌, ◌∷◌, [], ◌+◌, IsTrue, length, length-append, refl, sym, ◌∙◌, ap, subst, arith}
 use Rattle.script_workers.specs.Hands.{gateway_count, hands_of_task}
-use Rattle.lifecycle_core.specs.InLine.{seat_of}
-use Rattle.script_running.specs.Shelves.{setting_by}
-use Rattle.script_running.specs.Tasks.{is_full_came}
-use Rattle.script_running.proofs.AllParts.{all_parts, few_parts}
+use Rattle.report_lines.specs.lifecycle_core.specs.InLine.{seat_of}
+use Rattle.report_lines.specs.script_running.specs.Shelves.{setting_by}
+use Rattle.report_lines.specs.script_running.specs.Tasks.{is_full_came}
+use Rattle.report_lines.specs.script_running.proofs.AllParts.{all_parts, few_parts}
 use Rattle.run_notes.specs.LineHands.{keeps_run-none, keeps_run-more}
 use Rattle.line_running.proofs.Steps.{all_done, counted, duties_long, duty_at, gathered_is, none_begun, none_done, part_broken, part_more, sync_within, task_begins}
 use Rattle.line_running.proofs.Wanted.{short_on, still_unwanted}

@@ -1,4 +1,4 @@
-use Rattle.std.proofs.Common.{[], sym, ◌∙◌, ap, subst}
+use Rattle.std.proofs.Common.{sym, ◌∙◌, ap, subst}
 use Rattle.world_core.specs.Worlds.{IsJournal, IsOfBytes}
 use Rattle.call_verdicts.proofs.ShelfReads.{none_at_hand}
 use Rattle.replay_cli.proofs.DayRuns.{day_by, day_over, ends_over, never_failed, true_parts}

@@ -1,4 +1,4 @@
-use Rattle.replay_cli.proofs.OneReport.{full_is_not_whole, full_journal_tells, journal_tells}
+use Rattle.call_verdicts.proofs.OneReport.{full_is_not_whole, full_journal_tells, journal_tells}
 use Rattle.replay_cli.proofs.laws.journals_tell_the_report.Goals as goal
 
 pub returns : goal.returns

@@ -7,7 +7,7 @@ use Rattle.call_verdicts.specs.declared.words.Named.{Named}
 use Rattle.call_verdicts.proofs.Checks.{caused_run, caused_words, not_named}
 use Rattle.call_verdicts.proofs.BucketAsked.{none_asked}
 use Rattle.call_verdicts.specs.Noted.{tells_full}
-use Rattle.call_verdicts.proofs.Noted.{without_journal}
+use Rattle.call_verdicts.proofs.Noted.{without_bucket}
 use Rattle.call_verdicts.proofs.Openings.{shelf_named, untouched_named}
 use Rattle.call_verdicts.proofs.Verdicts.{is_named}
 use Rattle.call_verdicts.specs.declared.verdict.Verdict.TheVariants.{WordsRefused}
@@ -66,4 +66,4 @@ returns-in-Some-clause-noted g c = c.read_and_run.ensures.noted
 
 pub returns-in-None-clause-noted : goal.returns-in-None-clause-noted
 returns-in-None-clause-noted g c =
-    without_journal c.without_bucket.result.verdict c.without_bucket.result.journal c.without_bucket.result.store None refl c.without_bucket.ensures.journal (ap tells_full c.without_bucket.ensures.verdict)
+    without_bucket g.S.Store.Bucket.asked c.without_bucket.result.verdict c.without_bucket.result.journal c.without_bucket.result.store None refl c.without_bucket.ensures.journal c.without_bucket.ensures.store (ap tells_full c.without_bucket.ensures.verdict)

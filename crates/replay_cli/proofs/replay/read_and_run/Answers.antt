@@ -73,18 +73,18 @@ returns-in-Ok-clause-asked_bucket g c = λ never told.
 
 pub returns-in-Ok-clause-noted : goal.returns-in-Ok-clause-noted
 returns-in-Ok-clause-noted g c =
-    noted_as c.run_read_with_threads-verdict.result.0 c.of_run-conclusion.result.0.verdict c.run_read_with_threads-verdict.result.1.world c.of_run-conclusion.result.0.journal c.of_run-conclusion.result.0.store c.run_read_with_threads-verdict.result.1.note c.of_run-conclusion.result.1
+    noted_as g.S.Store.Bucket.asked c.run_read_with_threads-verdict.result.0 c.of_run-conclusion.result.0.verdict c.run_read_with_threads-verdict.result.1.world c.of_run-conclusion.result.0.journal c.of_run-conclusion.result.0.store c.run_read_with_threads-verdict.result.1.note c.of_run-conclusion.result.1
     c.of_run-conclusion.ensures.verdict c.of_run-conclusion.ensures.journal c.of_run-conclusion.ensures.store c.of_run-conclusion.ensures.note c.run_read_with_threads-verdict.ensures.noted
 
 -- ---- a call that ended before
 
 pub returns-in-Err-clause-noted : goal.returns-in-Err-clause-noted
 returns-in-Err-clause-noted g c =
-    undone_noted
+    undone_noted g.S.Store.Bucket.asked
     (around_call IsInPhases g.R.Source.left g.R.Source.faults c.args.script.now c.read_and_open.new.script g.S.Site.buckets g.S.Site.next_bucket g.S.Site.shelves g.S.Site.next_shelf g.S.Site.faults (Some c.args.bucket.now) (named_by c.args.shelf.now) None
     c.args.site.now c.read_and_open.new.site g.S.Store.Bucket.faults g.S.Files.Shelf.faults
     c.in-Err.ended.conclusion.store c.in-Err.ended.shelf c.in-Err.ended.conclusion.journal)
-    c.in-Err.ended.conclusion.verdict c.in-Err.ended.conclusion.store c.in-Err.ended.note c.in-Err.ensures.unnoted c.in-Err.ensures.cause
+    c.in-Err.ended.conclusion.verdict c.in-Err.ended.conclusion.store c.in-Err.ended.note c.in-Err.ensures.unnoted c.in-Err.ensures.only_opened c.in-Err.ensures.cause
 
 pub returns-in-Err-clause-asked_bucket : goal.returns-in-Err-clause-asked_bucket
 returns-in-Err-clause-asked_bucket g c = λ never told. c.in-Err.ensures.back_asked never

@@ -1,6 +1,6 @@
 use Rattle.std.proofs.Common.{Some, refl, sym, ◌∙◌, ap, subst}
 use Rattle.world_core.specs.Worlds.{IsJournal, IsOfBytes}
-use Rattle.script_running.specs.Shelves.{setting_by}
+use Rattle.call_verdicts.specs.script_running.specs.Shelves.{setting_by}
 use Rattle.replay_cli.proofs.Runs.{ends_over, full_told, kept_by, kept_of, run_told}
 use Rattle.call_verdicts.proofs.Unfailed.{unfailed_run}
 use Rattle.replay_cli.proofs.Wanted.{unwanted_told}

@@ -1,11 +1,11 @@
-use Rattle.std.proofs.Common.{◌≡◌, [], Some, refl, sym, ◌∙◌, ap, subst}
+use Rattle.std.proofs.Common.{◌≡◌, inr, [], Some, refl, sym, ◌∙◌, ap, subst}
 use Rattle.std.specs.Prelude.{IfErr, IfOk}
 use Rattle.world_core.specs.Asking.{IsAllAsked}
 use Rattle.world_core.specs.Worlds.{failed_count}
-use Rattle.lifecycle_core.specs.InLine.{IsInLine}
+use Rattle.call_verdicts.specs.lifecycle_core.specs.InLine.{IsInLine}
 use Rattle.bucket_core.specs.Contents.{nothing}
-use Rattle.script_running.specs.Shelves.{setting_by}
-use Rattle.call_verdicts.specs.Asked.{IsBroken}
+use Rattle.call_verdicts.specs.script_running.specs.Shelves.{setting_by}
+use Rattle.call_verdicts.specs.Asked.{IsBroken, WasAsked, for_opening}
 use Rattle.call_verdicts.specs.Verdicts.{IsRun}
 use Rattle.call_verdicts.proofs.Noted.{noted_world, unnoted}
 use Rattle.replay_cli.proofs.Unread.{read_run, tells_none}
@@ -30,7 +30,7 @@ returns-in-Ok-clause-all g c = λ never before was.
 
 pub returns-in-Ok-clause-noted : goal.returns-in-Ok-clause-noted
 returns-in-Ok-clause-noted g c =
-    noted_world c.run_in_line-verdict.result.0 c.of_hand.result.world c.run_in_line-verdict.result.1.refused c.of_hand.result.note c.of_hand.ensures.note c.run_in_line-verdict.ensures.refused
+    noted_world g.B.Bucket.asked c.run_in_line-verdict.result.0 c.of_hand.result.world c.run_in_line-verdict.result.1.refused c.of_hand.result.note c.of_hand.ensures.note c.run_in_line-verdict.ensures.refused
 
 -- ---- reading was broken off
 
@@ -45,5 +45,6 @@ returns-in-Err-clause-all g c = λ never before was. subst (IsAllAsked g.B.Bucke
 
 pub returns-in-Err-clause-noted : goal.returns-in-Err-clause-noted
 returns-in-Err-clause-noted g c =
-    unnoted c.in-Err.verdict (Some c.unbegun.result.world.journal) (Some c.unbegun.result.world.bucket) c.unbegun.result.note c.unbegun.ensures.note
+    unnoted g.B.Bucket.asked c.in-Err.verdict (Some c.unbegun.result.world.journal) (Some c.unbegun.result.world.bucket) c.unbegun.result.note c.unbegun.ensures.note
     (ap (λ w. w.journal) c.unbegun.ensures.world ∙ c.requires.fresh) (tells_none c.in-Err.verdict (subst (λ r. IfErr r IsBroken) c.in-Err.is c.requires.broken))
+    (inr (subst (WasAsked g.B.Bucket.asked for_opening) (sym (ap (λ w. w.bucket) c.unbegun.ensures.world)) c.requires.asked))

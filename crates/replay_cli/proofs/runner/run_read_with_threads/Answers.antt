@@ -1,9 +1,9 @@
-use Rattle.std.proofs.Common.{◌≡◌, [], Some, refl, sym, ◌∙◌, ap, subst}
+use Rattle.std.proofs.Common.{◌≡◌, inr, [], Some, refl, sym, ◌∙◌, ap, subst}
 use Rattle.std.specs.Prelude.{IfErr, IfOk}
 use Rattle.world_core.specs.Asking.{IsAllAsked}
 use Rattle.bucket_core.specs.Contents.{nothing}
-use Rattle.script_running.specs.Shelves.{setting_by}
-use Rattle.call_verdicts.specs.Asked.{IsBroken}
+use Rattle.call_verdicts.specs.script_running.specs.Shelves.{setting_by}
+use Rattle.call_verdicts.specs.Asked.{IsBroken, WasAsked, for_opening}
 use Rattle.call_verdicts.specs.Verdicts.{IsRun}
 use Rattle.replay_cli.specs.InPhases.{IsInPhases}
 use Rattle.call_verdicts.proofs.Noted.{unnoted}
@@ -29,5 +29,6 @@ returns-in-Err-clause-all g c = λ never told before was. subst (IsAllAsked g.B.
 
 pub returns-in-Err-clause-noted : goal.returns-in-Err-clause-noted
 returns-in-Err-clause-noted g c =
-    unnoted c.in-Err.verdict (Some c.unbegun.result.world.journal) (Some c.unbegun.result.world.bucket) c.unbegun.result.note c.unbegun.ensures.note
+    unnoted g.B.Bucket.asked c.in-Err.verdict (Some c.unbegun.result.world.journal) (Some c.unbegun.result.world.bucket) c.unbegun.result.note c.unbegun.ensures.note
     (ap (λ w. w.journal) c.unbegun.ensures.world ∙ c.requires.fresh) (tells_none c.in-Err.verdict (subst (λ r. IfErr r IsBroken) c.in-Err.is c.requires.broken))
+    (inr (subst (WasAsked g.B.Bucket.asked for_opening) (sym (ap (λ w. w.bucket) c.unbegun.ensures.world)) c.requires.asked))

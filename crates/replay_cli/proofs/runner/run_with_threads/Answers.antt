@@ -1,14 +1,15 @@
-use Rattle.std.proofs.Common.{List, Some, refl, sym, ◌∙◌, ap, subst}
+use Rattle.std.proofs.Common.{inr, List, Some, refl, sym, ◌∙◌, ap, subst}
 use Rattle.world_core.specs.Asking.{IsAllAsked}
 use Rattle.world_core.specs.Worlds.{IsJournal, IsOfBytes, failed_count}
 use Rattle.world_core.specs.declared.entry.Entry.{Entry}
-use Rattle.script_running.specs.Shelves.{setting_by}
-use Rattle.script_running.specs.Beside.{HasRunBeside}
+use Rattle.call_verdicts.specs.script_running.specs.Shelves.{setting_by}
+use Rattle.call_verdicts.specs.script_running.specs.Beside.{HasRunBeside}
 use Rattle.call_verdicts.specs.declared.verdict.Verdict.TheVariants as verdict
+use Rattle.call_verdicts.specs.Asked.{WasAsked, for_opening}
 use Rattle.call_verdicts.proofs.Noted.{noted_world, unnoted}
 use Rattle.replay_cli.proofs.Runs.{ends_over, full_told}
 use Rattle.replay_cli.proofs.RunsBeside.{beside_told, none_beside}
-use Rattle.report_lines.proofs.ToldLines.{no_lines}
+use Rattle.call_verdicts.specs.report_lines.proofs.ToldLines.{no_lines}
 use Rattle.replay_cli.proofs.Wanted.{whole_told}
 use Rattle.replay_cli.proofs.runner.run_with_threads.Goals as goal
 
@@ -38,7 +39,7 @@ returns-in-Ok-clause-all g c = λ never told before was.
 
 pub returns-in-Ok-clause-noted : goal.returns-in-Ok-clause-noted
 returns-in-Ok-clause-noted g c =
-    noted_world c.verdict_of-verdict.result c.of_closed.result.world c.is_full.result c.of_closed.result.note c.of_closed.ensures.note
+    noted_world g.B.Bucket.asked c.verdict_of-verdict.result c.of_closed.result.world c.is_full.result c.of_closed.result.note c.of_closed.ensures.note
     (c.is_full.ensures ∙ full_told c.args.script.now c.entries.result.now c.run_beside.new.report c.in-Ok.end.came c.verdict_of-verdict.result c.verdict_of-verdict.ensures.whole c.verdict_of-verdict.ensures.full c.verdict_of-verdict.ensures.none)
 
 pub verdict_of-verdict-requires-clause-bytes : goal.verdict_of-verdict-requires-clause-bytes
@@ -64,5 +65,6 @@ returns-in-Err-clause-all g c = λ never told before was. absurd (never refl)
 
 pub returns-in-Err-clause-noted : goal.returns-in-Err-clause-noted
 returns-in-Err-clause-noted g c =
-    unnoted verdict.NoMemory (Some c.unbegun.result.world.journal) (Some c.unbegun.result.world.bucket) c.unbegun.result.note c.unbegun.ensures.note
+    unnoted g.B.Bucket.asked verdict.NoMemory (Some c.unbegun.result.world.journal) (Some c.unbegun.result.world.bucket) c.unbegun.result.note c.unbegun.ensures.note
     (ap (λ w. w.journal) c.unbegun.ensures.world ∙ ap (λ w. w.journal) c.in-Err.ensures.unbegun ∙ c.requires.fresh) refl
+    (inr (subst (WasAsked g.B.Bucket.asked for_opening) (sym (ap (λ w. w.bucket) c.unbegun.ensures.world ∙ ap (λ w. w.bucket) c.in-Err.ensures.unbegun)) c.requires.asked))

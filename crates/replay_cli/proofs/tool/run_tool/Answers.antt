@@ -1,6 +1,6 @@
 use Rattle.std.proofs.Common.{◌≡◌, ◌≢◌, ℕ, refl, sym}
 use Rattle.std.specs.Prelude.{Some, None, IfSome, IsSome, is_some}
-use Rattle.lifecycle_core.specs.InLine.{IsInLine}
+use Rattle.call_verdicts.specs.lifecycle_core.specs.InLine.{IsInLine}
 use Rattle.call_verdicts.specs.Checks.{files_of}
 use Rattle.call_verdicts.specs.Kept.{IsHandedBack, IsHandedOut, IsShelfOf, IsUntouched, told_of}
 use Rattle.call_verdicts.specs.Asked.{IsBucketAsked, IsUndecided, WasAskedFor}
@@ -25,7 +25,7 @@ pub returns-in-None-clause-verdict : goal.returns-in-None-clause-verdict
 returns-in-None-clause-verdict g c =
     left_by c.into_run-in-None.result _ _ _ _ _ c.into_run-in-None.ensures.2
     (λ status journal store shelf note. (verdict : Verdict) × (said : Status) × IsToolCaused (number_word c.args.words.now) (around_call IsInLine g.R.Source.left g.R.Source.faults c.args.script.now c.come_to.new.script g.S.Site.buckets g.S.Site.next_bucket g.S.Site.shelves g.S.Site.next_shelf g.S.Site.faults (bucket_word c.args.words.now) (shelf_word c.args.words.now) (block_word c.args.words.now)
-    c.args.site.now c.come_to.new.site g.S.Store.Bucket.faults g.S.Files.Shelf.faults store shelf journal) verdict × IsSaid verdict (saying_to g.K.Sink.faults g.K.Sink.written c.args.out.now c.into_run-in-None.new.out) said × (status ≡ number_of said) × (verdict ≢ NoMemory → IsBucketAsked g.S.Store.Bucket.asked verdict journal store) × (number_word c.args.words.now ≡ None → IsNoted verdict journal store note))
+    c.args.site.now c.come_to.new.site g.S.Store.Bucket.faults g.S.Files.Shelf.faults store shelf journal) verdict × IsSaid verdict (saying_to g.K.Sink.faults g.K.Sink.written c.args.out.now c.into_run-in-None.new.out) said × (status ≡ number_of said) × (verdict ≢ NoMemory → IsBucketAsked g.S.Store.Bucket.asked verdict journal store) × (number_word c.args.words.now ≡ None → IsNoted g.S.Store.Bucket.asked verdict journal store note))
     (c.come_to.result.conclusion.verdict, c.into_run-in-None.ensures.0, script_caused (number_word c.args.words.now) _ c.come_to.result.conclusion.verdict (sym c.in-None.ensures.number) c.come_to.ensures.cause, c.into_run-in-None.ensures.1, refl, c.come_to.ensures.asked_bucket, λ none. c.come_to.ensures.noted)
 
 pub returns-in-None-clause-calm : goal.returns-in-None-clause-calm
@@ -45,7 +45,7 @@ pub returns-in-None-clause-full : goal.returns-in-None-clause-full
 returns-in-None-clause-full g c =
     left_by c.into_run-in-None.result _ _ _ _ _ c.into_run-in-None.ensures.2
     (λ status journal store shelf note. IfSome note (λ n. IsFullSaid n.full (saying_to g.K.Sink.faults g.K.Sink.written c.args.out.now c.into_run-in-None.new.out) status))
-    (full_said c.come_to.result.conclusion.verdict _ c.into_run-in-None.ensures.0 c.come_to.result.conclusion.journal c.come_to.result.conclusion.store c.come_to.result.note c.come_to.ensures.noted c.into_run-in-None.ensures.1)
+    (full_said g.S.Store.Bucket.asked c.come_to.result.conclusion.verdict _ c.into_run-in-None.ensures.0 c.come_to.result.conclusion.journal c.come_to.result.conclusion.store c.come_to.result.note c.come_to.ensures.noted c.into_run-in-None.ensures.1)
 
 pub returns-in-None-clause-handed : goal.returns-in-None-clause-handed
 returns-in-None-clause-handed g c =
@@ -92,7 +92,7 @@ pub returns-in-Some-clause-verdict : goal.returns-in-Some-clause-verdict
 returns-in-Some-clause-verdict g c =
     left_by c.into_run.result _ _ _ _ _ c.into_run.ensures.2
     (λ status journal store shelf note. (verdict : Verdict) × (said : Status) × IsToolCaused (number_word c.args.words.now) (around_call IsInLine g.R.Source.left g.R.Source.faults c.args.script.now c.args.script.now g.S.Site.buckets g.S.Site.next_bucket g.S.Site.shelves g.S.Site.next_shelf g.S.Site.faults (bucket_word c.args.words.now) (shelf_word c.args.words.now) (block_word c.args.words.now)
-    c.args.site.now c.args.site.now g.S.Store.Bucket.faults g.S.Files.Shelf.faults store shelf journal) verdict × IsSaid verdict (saying_to g.K.Sink.faults g.K.Sink.written c.args.out.now c.into_run.new.out) said × (status ≡ number_of said) × (verdict ≢ NoMemory → IsBucketAsked g.S.Store.Bucket.asked verdict journal store) × (number_word c.args.words.now ≡ None → IsNoted verdict journal store note)) (
+    c.args.site.now c.args.site.now g.S.Store.Bucket.faults g.S.Files.Shelf.faults store shelf journal) verdict × IsSaid verdict (saying_to g.K.Sink.faults g.K.Sink.written c.args.out.now c.into_run.new.out) said × (status ≡ number_of said) × (verdict ≢ NoMemory → IsBucketAsked g.S.Store.Bucket.asked verdict journal store) × (number_word c.args.words.now ≡ None → IsNoted g.S.Store.Bucket.asked verdict journal store note)) (
       c.run_day.result.conclusion.verdict,
       c.into_run.ensures.0,
       day_caused (number_word c.args.words.now) c.in-Some.number _ c.run_day.result.conclusion.verdict c.in-Some.ensures.number (record {

@@ -1,6 +1,6 @@
 use Rattle.std.proofs.Common.{◌≡◌, length}
 use Rattle.std.specs.List.{All}
-use Rattle.script_running.specs.Sights.{no_sight}
+use Rattle.report_lines.specs.script_running.specs.Sights.{no_sight}
 use Rattle.line_running.proofs.phases.Progress.new.Given as goal
 
 abbrev pub invariant-loop : goal.invariant-loop

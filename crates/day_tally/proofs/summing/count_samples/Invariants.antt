@@ -1,8 +1,0 @@
-use Rattle.std.proofs.Common.{◌≡◌, ◌-◌, take}
-use Rattle.std.specs.Prelude.{◌^◌, min}
-use Rattle.std.specs.List.{sum_by}
-use Rattle.day_tally.specs.Summed.{samples_in}
-use Rattle.day_tally.proofs.summing.count_samples.Given as goal
-
-abbrev pub invariant-loop-block : goal.invariant-loop-block
-invariant-loop-block l = l.count ≡ min (sum_by samples_in (take l.block-index l.blocks)) (2 ^ 64 - 1)

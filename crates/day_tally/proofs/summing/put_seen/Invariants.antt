@@ -1,8 +1,0 @@
-use Rattle.std.proofs.Common.{◌≡◌, ◌++◌, map, take}
-use Rattle.label_sets.specs.Finals.{final_of}
-use Rattle.label_sets.specs.declared.series.Series.{Series}
-use Rattle.day_tally.specs.Summed.{own_series}
-use Rattle.day_tally.proofs.summing.put_seen.Given as goal
-
-abbrev pub invariant-loop-series : goal.invariant-loop-series
-invariant-loop-series l = l.seen.items ≡ l.initial.seen.items ++ map (λ (one : Series). final_of one.labels l.block.labels l.replicas) (take l.series-index (own_series l.block.body))

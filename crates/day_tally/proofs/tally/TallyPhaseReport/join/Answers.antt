@@ -1,6 +1,0 @@
-use Rattle.day_tally.proofs.Adding.{joined_tallied}
-use Rattle.day_tally.proofs.tally.TallyPhaseReport.join.Goals as goal
-
-pub returns-clause-joined : goal.returns-clause-joined
-returns-clause-joined c = λ script done tasks first later one two.
-    joined_tallied c.args.self.now c.args.more c.take.new.self script done tasks first later c.take.result one two c.take.ensures.asked c.take.ensures.amiss c.take.ensures.sums c.take.ensures.answers

@@ -1,0 +1,6 @@
+use Rattle.report_lines.proofs.Adding.{joined_tallied}
+use Rattle.report_lines.proofs.tally.TallyPhaseReport.join.Goals as goal
+
+pub returns-clause-joined : goal.returns-clause-joined
+returns-clause-joined c = λ script done tasks first later one two.
+    joined_tallied c.args.self.now c.args.more c.take.new.self script done tasks first later c.take.result one two c.take.ensures.asked c.take.ensures.amiss c.take.ensures.sums c.take.ensures.answers
