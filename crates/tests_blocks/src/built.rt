@@ -68,7 +68,9 @@ pub(crate) fn objects_of_one(alloc: Global, text: &str) -> Option<ObjectList> {
         let _ = samples.push(sample);
     }
     let series = one_series(alloc, labels, samples)?;
-    built_objects(alloc, &series)
+    let objects = built_objects(alloc, &series);
+    drop(series);
+    objects
 }
 
 /// A list of one series.
@@ -87,7 +89,9 @@ fn list_of(alloc: Global, series: Series) -> SeriesList {
 
 fn built_objects(alloc: Global, series: &SeriesList) -> Option<ObjectList> {
     let plan = plan_of(alloc, 1000, 2000)?;
-    match build_of(alloc, &plan, series) {
+    let built = build_of(alloc, &plan, series);
+    drop(plan);
+    match built {
         Some(files) => files_objects(alloc, files).ok(),
         None => None,
     }
@@ -95,7 +99,10 @@ fn built_objects(alloc: Global, series: &SeriesList) -> Option<ObjectList> {
 
 pub(crate) fn print_built(rt: &HostRuntime, text: &str) {
     match objects_of_one(rt.alloc(), text) {
-        Some(objects) => print_objects(rt, objects.members()),
+        Some(objects) => {
+            print_objects(rt, objects.members());
+            drop(objects);
+        }
         None => say(rt, "no objects"),
     }
 }
@@ -109,7 +116,9 @@ pub(crate) fn print_large(rt: &HostRuntime, text: &str) {
     let mut labels = LabelSet::empty(rt.alloc());
     let _ = labels.add("a", str::from_utf8(value.as_slice()).unwrap_or(""));
     let samples = samples_of(rt.alloc(), 1);
-    print_size(rt, &list_of(rt.alloc(), Series { labels, samples }));
+    let series = list_of(rt.alloc(), Series { labels, samples });
+    print_size(rt, &series);
+    drop(series);
 }
 
 fn print_size(rt: &HostRuntime, series: &SeriesList) {
@@ -117,11 +126,15 @@ fn print_size(rt: &HostRuntime, series: &SeriesList) {
         return say(rt, "no memory");
     };
     if !may_build(&plan, series) {
+        drop(plan);
         return say(rt, "not built");
     }
-    match build(rt.alloc(), &plan, series) {
+    let built = build(rt.alloc(), &plan, series);
+    drop(plan);
+    match built {
         Ok(files) => {
             let _ = println!(rt; "an index of {} bytes", files.index.bytes().len());
+            drop(files);
         }
         Err(refusal) => show(rt, &refusal),
     }
@@ -145,7 +158,9 @@ pub(crate) fn print_counted(rt: &HostRuntime, text: &str) {
     let mut series = SeriesList::new(rt.alloc());
     add_series(rt.alloc(), &mut series, "{a=\"x\"}", first);
     add_series(rt.alloc(), &mut series, "{a=\"y\"}", second);
-    match block_of(rt.alloc(), &series) {
+    let built = block_of(rt.alloc(), &series);
+    drop(series);
+    match built {
         Some(files) => print_chunks(rt, files),
         None => say(rt, "not built"),
     }
@@ -161,7 +176,9 @@ fn add_series(alloc: Global, series: &mut SeriesList, labels: &str, count: &str)
 
 fn block_of(alloc: Global, series: &SeriesList) -> Option<BlockFiles> {
     let plan = wide_plan(alloc)?;
-    build_of(alloc, &plan, series)
+    let files = build_of(alloc, &plan, series);
+    drop(plan);
+    files
 }
 
 /// Prints how many samples each chunk of a block has.
@@ -174,6 +191,7 @@ fn print_chunks(rt: &HostRuntime, files: BlockFiles) {
             files.segments.members(),
             list.members(),
         );
+        drop(list);
     }
     let _ = print!(rt; "{:?}, ", counts.as_slice());
     print_totals(rt, files);
@@ -182,7 +200,10 @@ fn print_chunks(rt: &HostRuntime, files: BlockFiles) {
 /// Prints how many series and samples a block of these rows holds.
 pub(crate) fn print_totals(rt: &HostRuntime, files: BlockFiles) {
     match check(rt.alloc(), block(), files) {
-        Ok(checked) => print_counts(rt, checked.series(), checked.samples()),
+        Ok(checked) => {
+            print_counts(rt, checked.series(), checked.samples());
+            drop(checked);
+        }
         Err(refusal) => show(rt, &refusal),
     }
 }

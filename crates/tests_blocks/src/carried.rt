@@ -72,7 +72,10 @@ fn are_same(one: &[Blob], other: &[Blob]) -> bool {
 /// series and samples the new one holds.
 pub(crate) fn print_carried(rt: &HostRuntime, text: &str) {
     match verdict_on(rt, text, false) {
-        Ok(checked) => print_first(rt, checked.files().segments.members()),
+        Ok(checked) => {
+            print_first(rt, checked.files().segments.members());
+            drop(checked);
+        }
         Err(_) => say(rt, "not carried"),
     }
 }

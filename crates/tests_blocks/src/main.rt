@@ -9,19 +9,15 @@ mod carried;
 mod checks;
 mod noting_shelf;
 mod objects;
-mod runs;
 mod says;
 mod verdicts;
-mod words;
 
 use crate::asked::print_asked;
 use crate::built::{print_built, print_counted, print_large};
 use crate::carried::print_carried;
 use crate::objects::print_shipped;
-use crate::runs::print_run;
 use crate::says::{cut, put, say};
 use crate::verdicts::{print_content, print_verdict};
-use crate::words::{print_served, print_words};
 use std::io;
 
 fn main(rt: HostRuntime) -> io::Result<()> {
@@ -52,9 +48,6 @@ fn print_call(rt: &HostRuntime, row: &str, word: &str, rest: &str) {
         "carried" => print_carried(rt, rest),
         "counted" => print_counted(rt, rest),
         "large" => print_large(rt, rest),
-        "words" => print_words(rt, rest),
-        "served" => print_served(rt, rest),
-        "runs" => print_run(rt, rest),
         _ => say(rt, "no call"),
     }
 }

@@ -9,7 +9,10 @@ use label_sets::LabelSet;
 pub(crate) fn print_shipped(rt: &HostRuntime, text: &str) {
     let (block, labels) = text.rsplit_once(' ').unwrap_or((text, ""));
     match LabelSet::read(rt.alloc(), labels) {
-        Ok((external, _)) => print_beside(rt, block, &external),
+        Ok((external, _)) => {
+            print_beside(rt, block, &external);
+            drop(external);
+        }
         Err(_) => say(rt, "no labels"),
     }
 }
@@ -19,7 +22,10 @@ fn print_beside(rt: &HostRuntime, block: &str, external: &LabelSet) {
         return say(rt, "no objects");
     };
     match checked.objects(rt.alloc(), external) {
-        Ok(objects) => print_objects(rt, objects.members()),
+        Ok(objects) => {
+            print_objects(rt, objects.members());
+            drop(objects);
+        }
         Err(_) => say(rt, "no objects"),
     }
 }

@@ -9,7 +9,10 @@ use label_sets::Series;
 /// Prints whether the block that a row names may be shipped.
 pub(crate) fn print_verdict(rt: &HostRuntime, in_two: bool, text: &str) {
     match verdict_on(rt, text, in_two) {
-        Ok(checked) => print_counts(rt, checked.series(), checked.samples()),
+        Ok(checked) => {
+            print_counts(rt, checked.series(), checked.samples());
+            drop(checked);
+        }
         Err(LoadRefusal::Refused(refusal)) => print_refusal(rt, &refusal),
         Err(LoadRefusal::ShelfFault) => say(rt, "shelf fault"),
         Err(LoadRefusal::NoMemory) => say(rt, "no memory"),
@@ -67,8 +70,13 @@ pub(crate) fn print_content(rt: &HostRuntime, text: &str) {
     let Ok(checked) = verdict_on(rt, text, false) else {
         return say(rt, "not read");
     };
-    match content(rt.alloc(), checked.files()) {
-        Ok(list) => print_list(rt, list.members()),
+    let held = content(rt.alloc(), checked.files());
+    drop(checked);
+    match held {
+        Ok(list) => {
+            print_list(rt, list.members());
+            drop(list);
+        }
         Err(_) => say(rt, "not read"),
     }
 }

@@ -1,7 +1,8 @@
 ghost use Rattle.std.specs.Prelude.{◌≤◌, IsTrue};
 ghost use Rattle.bucket_core.specs.Contents.{IsKey};
 
-use crate::runs::{print_example, print_run};
+use crate::memory_shelf::{print_check, print_served};
+use crate::runs::{print_example, print_run, print_script};
 use bucket_core::{Bucket, GetAnswer, PageAnswer, Shelf, ShelfAnswer};
 use dir_bucket::{DirShelf, HostBucket};
 use label_sets::Text;
@@ -32,6 +33,9 @@ pub(crate) fn print_call(rt: &HostRuntime, folder: &mut Folder, row: &str) -> io
         "read" => print_read(rt, folder.shelf.read(text)),
         "run" => print_run(rt, text),
         "example" => print_example(rt, text),
+        "runs" => print_script(rt, text),
+        "words" => print_check(rt, text),
+        "served" => print_served(rt, text),
         "folder" => print_done(rt, fs::create_dir_all(rt, text)),
         "file" => print_done(rt, write_zeros(rt, text)),
         "mode" => print_done(rt, set_mode(rt, text)),

@@ -1,8 +1,9 @@
-//! Makes calls on a bucket and a shelf in one real folder, and whole runs over others, and prints what each is answered. What
-//! is to be printed was worked out by hand.
+//! Makes calls on a bucket and a shelf in one real folder, and whole runs over others and over a shelf in memory, and prints what
+//! each is answered. What is to be printed was worked out by hand; what a server's blocks hold was told by Prometheus' own reader.
 #![tactic(auto)]
 
 mod calls;
+mod memory_shelf;
 mod runs;
 
 use crate::calls::{Folder, print_call};

@@ -25,13 +25,30 @@ pub(crate) fn print_run(rt: &HostRuntime, words: &str) -> io::Result<()> {
     }
 }
 
-/// Runs the script of an example over a bucket in memory and the shelf that the row names, if it names one, and prints its status,
-/// and what it wrote unless that is what stands beside the script.
+/// Runs the script of an example over a bucket in memory and the shelf that the row names, if it names one.
 pub(crate) fn print_example(rt: &HostRuntime, row: &str) -> io::Result<()> {
     let (name, shelf) = row.split_once(' ').unwrap_or((row, "none"));
-    let words = format!(in rt.alloc(); "serial memory {shelf}")?;
-    let script = fs::read(rt, format!(in rt.alloc(); "examples/{name}.script")?)?;
-    let output = fs::read(rt, format!(in rt.alloc(); "examples/{name}.output")?)?;
+    print_beside(rt, "memory", shelf, "examples", name)
+}
+
+/// Runs the script of `runs` that a row names over the bucket and the shelf that it names.
+pub(crate) fn print_script(rt: &HostRuntime, row: &str) -> io::Result<()> {
+    let (bucket, rest) = row.split_once(' ').unwrap_or((row, ""));
+    let (shelf, name) = rest.split_once(' ').unwrap_or((rest, ""));
+    print_beside(rt, bucket, shelf, "runs", name)
+}
+
+/// Prints the status of a script's run, and what it wrote unless that is what stands beside the script.
+fn print_beside(
+    rt: &HostRuntime,
+    bucket: &str,
+    shelf: &str,
+    folder: &str,
+    name: &str,
+) -> io::Result<()> {
+    let words = format!(in rt.alloc(); "serial {bucket} {shelf}")?;
+    let script = fs::read(rt, format!(in rt.alloc(); "{folder}/{name}.script")?)?;
+    let output = fs::read(rt, format!(in rt.alloc(); "{folder}/{name}.output")?)?;
     match run(rt, words.as_str(), &script) {
         Ok((status, text)) if text.as_slice() == output.as_slice() => {
             println!(rt; "status {status}, the output beside it")
@@ -41,7 +58,7 @@ pub(crate) fn print_example(rt: &HostRuntime, row: &str) -> io::Result<()> {
     }
 }
 
-fn print_written(rt: &HostRuntime, status: u8, text: &[u8]) -> io::Result<()> {
+pub(crate) fn print_written(rt: &HostRuntime, status: u8, text: &[u8]) -> io::Result<()> {
     println!(rt; "status {status}")?;
     print!(rt; "{}", str::from_utf8(text).unwrap_or("no text"))
 }
@@ -56,10 +73,13 @@ fn run(rt: &HostRuntime, words: &str, script: &[u8]) -> Result<(u8, Vec<u8>), No
     let mut script = MemorySource::new(Blob::from_bytes(alloc, script)?, None);
     let mut out = MemorySink::new(alloc, None);
     let run = run_tool(alloc, &words, &mut site, &mut script, &mut out);
-    Ok((run.status, Vec::from_slice(alloc, out.bytes())?))
+    let status = run.status;
+    drop(run);
+    drop(site);
+    Ok((status, Vec::from_slice(alloc, out.bytes())?))
 }
 
-fn words_of(alloc: Global, text: &str) -> Result<Vec<String>, NoMemory> {
+pub(crate) fn words_of(alloc: Global, text: &str) -> Result<Vec<String>, NoMemory> {
     let mut words = Vec::new(alloc);
     for word in text.split_whitespace() {
         words.push(String::from_str(alloc, word)?)?;

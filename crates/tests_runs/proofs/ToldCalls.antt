@@ -4,13 +4,13 @@ use Rattle.std.specs.Prelude.{Option, Some, None}
 use Rattle.bucket_core.specs.Asking.{Call}
 use Rattle.world_core.specs.Asking.{calls_of, opening}
 use Rattle.world_core.specs.declared.entry.Entry.{Entry}
-use Rattle.call_verdicts.specs.Asked.{IsAskedBy, IsBucketAsked, WasAsked}
-use Rattle.call_verdicts.specs.Statuses.{number_of}
-use Rattle.call_verdicts.specs.Verdicts.{IsSaid, Saying, status_of}
-use Rattle.call_verdicts.specs.declared.status.Status.{Status}
-use Rattle.call_verdicts.specs.declared.status.Status.TheVariants as status
-use Rattle.call_verdicts.specs.declared.verdict.Verdict.{Verdict}
-use Rattle.call_verdicts.specs.declared.verdict.Verdict.TheVariants.{WordsRefused, SourceFault, ScriptRefused, SiteFault, NotEmpty, Full, Report, Checked, NoMemory}
+use Rattle.replay_cli.specs.call_verdicts.specs.Asked.{IsAskedBy, IsBucketAsked, WasAsked}
+use Rattle.replay_cli.specs.call_verdicts.specs.Statuses.{number_of}
+use Rattle.replay_cli.specs.call_verdicts.specs.Verdicts.{IsSaid, Saying, status_of}
+use Rattle.replay_cli.specs.call_verdicts.specs.declared.status.Status.{Status}
+use Rattle.replay_cli.specs.call_verdicts.specs.declared.status.Status.TheVariants as status
+use Rattle.replay_cli.specs.call_verdicts.specs.declared.verdict.Verdict.{Verdict}
+use Rattle.replay_cli.specs.call_verdicts.specs.declared.verdict.Verdict.TheVariants.{WordsRefused, SourceFault, ScriptRefused, SiteFault, NotEmpty, Full, Report, Checked, NoMemory}
 use Rattle.call_notes.specs.Noted.{calls_told}
 use Rattle.tests_runs.specs.Told.{IsAskedForAll}
 use Rattle.tests_runs.specs.declared.strange_bucket.StrangeBucket.{StrangeBucket}

@@ -40,6 +40,8 @@ pub(crate) fn print_run(
     say(rt, "");
     say_lines(rt, text_of(sink.bytes()));
     print_shown(rt, &run, shown);
+    drop(run);
+    drop(site);
 }
 
 fn print_shown(rt: &HostRuntime, run: &Run<StrangeBucket, MemoryShelf>, shown: Shown) {

@@ -1,6 +1,6 @@
 use phase_runner::Gate;
 use std::hint;
-use std::sync::atomic::{AtomicBool, Ordering};
+use std::sync::atomic::{AtomicBool, AtomicU64, Ordering};
 
 /// How many rounds a worker waits for the other.
 const ROUNDS: u64 = 100_000_000;
@@ -48,5 +48,39 @@ impl Gate for Meeting {
             hint::spin_loop();
         }
         self.gave_up.store(true, Ordering::SeqCst);
+    }
+}
+
+/// Counts how often it was asked for each of the seats 1 and 2, and whether it was given that number each time.
+#[derive(Drop)]
+pub struct Tally {
+    first: AtomicU64,
+    second: AtomicU64,
+    went_wrong: AtomicBool,
+}
+
+impl Tally {
+    pub fn new() -> Tally {
+        Tally {
+            first: AtomicU64::new(0),
+            second: AtomicU64::new(0),
+            went_wrong: AtomicBool::new(false),
+        }
+    }
+
+    /// Whether it was asked so often for each seat, with the numbers in their order.
+    pub fn has_counted(&self, count: u64) -> bool {
+        self.first.load(Ordering::SeqCst) == count
+            && self.second.load(Ordering::SeqCst) == count
+            && !self.went_wrong.load(Ordering::SeqCst)
+    }
+}
+
+impl Gate for Tally {
+    fn before(&self, seat: u32, number: u64) {
+        let asked = if seat == 1 { &self.first } else { &self.second };
+        if seat > 2 || asked.fetch_add(1, Ordering::SeqCst) != number {
+            self.went_wrong.store(true, Ordering::SeqCst);
+        }
     }
 }

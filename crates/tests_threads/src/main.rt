@@ -16,7 +16,7 @@ mod worlds;
 
 use crate::faults::a_fault_stops_no_other;
 use crate::passes::passes_share_a_journal;
-use crate::phases::{workers_meet, workers_share_a_journal};
+use crate::phases::{operations_are_numbered, workers_meet, workers_share_a_journal};
 use crate::replays::{a_fault_stops_one_upload, the_sink_fails, the_source_fails, uploads_meet};
 use crate::scripts::{print_script, say};
 use std::alloc::Global;
@@ -63,6 +63,7 @@ fn is_good<R: Threads + Wait + Sync>(rt: &R, alloc: Global, name: &str) -> bool 
         "passes" => passes_share_a_journal(rt, alloc),
         "workers" => workers_share_a_journal(rt, alloc),
         "meeting" => workers_meet(rt, alloc),
+        "numbers" => operations_are_numbered(rt, alloc),
         "fault" => a_fault_stops_no_other(rt, alloc),
         "uploads" => uploads_meet(rt, alloc),
         "failing_call" => a_fault_stops_one_upload(rt, alloc),

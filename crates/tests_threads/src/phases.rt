@@ -1,6 +1,6 @@
 ghost use Rattle.std.specs.Prelude.{◌≡◌, IfSome, vec_len};
 
-use crate::gates::Meeting;
+use crate::gates::{Meeting, Tally};
 use crate::ranges::Ranges;
 use crate::worlds::{are_in_order, shared_world};
 use phase_runner::{Gate, Open, run_phase};
@@ -17,6 +17,12 @@ pub fn workers_share_a_journal<R: Threads + Wait + Sync>(rt: &R, alloc: Global) 
 pub fn workers_meet<R: Threads + Wait + Sync>(rt: &R, alloc: Global) -> bool {
     let gate = Meeting::new();
     works_twice(rt, alloc, &gate, 5) && gate.took_place()
+}
+
+/// The gate is told how many operations each worker has done, before each of them.
+pub fn operations_are_numbered<R: Threads + Wait + Sync>(rt: &R, alloc: Global) -> bool {
+    let gate = Tally::new();
+    works_twice(rt, alloc, &gate, 20) && gate.has_counted(20)
 }
 
 /// A phase of two workers with so many calls each. The journal has them in each one's order.

@@ -189,11 +189,11 @@ fn replayed<R: Threads + Wait + Sync, G: Gate + Sync>(
     let mut source = MemorySource::new(script, failing.source);
     let mut sink = MemorySink::new(alloc, failing.sink);
     let run = run_replay(rt, alloc, &words, &mut site, &mut source, &mut sink, gate);
+    let status = run.status;
+    drop(run);
+    drop(site);
     let text = Vec::from_slice(alloc, sink.bytes()).ok()?;
-    Some(Ended {
-        status: run.status,
-        text,
-    })
+    Some(Ended { status, text })
 }
 
 /// A run over memory by one thread, in which nothing fails.
@@ -204,11 +204,11 @@ pub(crate) fn by_one(alloc: Global, script: &str) -> Option<Ended> {
     let mut source = MemorySource::new(script, None);
     let mut sink = MemorySink::new(alloc, None);
     let run = run_tool(alloc, &words, &mut site, &mut source, &mut sink);
+    let status = run.status;
+    drop(run);
+    drop(site);
     let text = Vec::from_slice(alloc, sink.bytes()).ok()?;
-    Some(Ended {
-        status: run.status,
-        text,
-    })
+    Some(Ended { status, text })
 }
 
 fn words_of(alloc: Global, call: &str) -> Option<Vec<String>> {

@@ -13,19 +13,19 @@ use Rattle.script_workers.specs.declared.work.Work.TheVariants as works
 use Rattle.script_workers.specs.declared.worker.Worker.{Worker}
 use Rattle.lifecycle_core.specs.Conducts.{CameTo}
 use Rattle.lifecycle_core.specs.Tasks.{End, answered, synced, uploaded}
-use Rattle.script_running.specs.Outcomes.{IsOutcome, TaskCame, TasksCame, PhasesCame}
+use Rattle.call_verdicts.specs.script_running.specs.Outcomes.{IsOutcome, TaskCame, TasksCame, PhasesCame}
 use Rattle.call_verdicts.specs.Verdicts.{IsReport}
-use Rattle.report_lines.specs.Telling.{report_of}
-use Rattle.script_running.specs.declared.outcome.Outcome.{Outcome}
-use Rattle.script_running.specs.declared.outcome.Outcome.TheVariants as outcome
-use Rattle.script_running.specs.declared.outcome.UploadOutcome.TheVariants as uploads
-use Rattle.script_running.specs.declared.outcome.SyncOutcome.TheVariants as syncs
+use Rattle.call_verdicts.specs.report_lines.specs.Telling.{report_of}
+use Rattle.call_verdicts.specs.script_running.specs.declared.outcome.Outcome.{Outcome}
+use Rattle.call_verdicts.specs.script_running.specs.declared.outcome.Outcome.TheVariants as outcome
+use Rattle.call_verdicts.specs.script_running.specs.declared.outcome.UploadOutcome.TheVariants as uploads
+use Rattle.call_verdicts.specs.script_running.specs.declared.outcome.SyncOutcome.TheVariants as syncs
 use Rattle.tests_worked.specs.SmallBlock as small
 use Rattle.tests_worked.specs.OneBlock as one
 use Rattle.tests_worked.specs.OneBlockChanged as changed
 use Rattle.tests_worked.proofs.Ends.{came_among, one_of_two}
 use Rattle.tests_worked.proofs.OneBlock.{uploader, gateway, first_workers, second_workers, first_tasks, second_tasks, first_ends, second_ends}
-use Rattle.replay_cli.proofs.OneReport.{outcome_once}
+use Rattle.call_verdicts.proofs.OneReport.{outcome_once}
 use Rattle.tests_worked.proofs.OneReport.{outcomes, lines}
 use Rattle.tests_worked.proofs.SmallOutcomes.{small_out, small_outcome, sync_out, upload_out}
 

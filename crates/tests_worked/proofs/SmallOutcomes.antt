@@ -10,14 +10,14 @@ use Rattle.script_workers.specs.declared.work.Work.TheVariants as works
 use Rattle.lifecycle_core.specs.Holdings.{Use}
 use Rattle.lifecycle_core.specs.Tasks.{answered, synced, uploaded}
 use Rattle.lifecycle_core.proofs.answers.Joining.{none_merged}
-use Rattle.script_running.specs.Outcomes.{IsOutcome}
-use Rattle.script_running.specs.declared.outcome.Outcome.{Outcome}
-use Rattle.script_running.specs.declared.outcome.Outcome.TheVariants as outcome
-use Rattle.script_running.specs.declared.outcome.QueryOutcome.TheVariants as queries
-use Rattle.script_running.specs.declared.outcome.SyncOutcome.TheVariants as syncs
-use Rattle.script_running.specs.declared.outcome.UploadOutcome.TheVariants as uploads
-use Rattle.script_running.specs.declared.part.Part.TheVariants as part
-use Rattle.script_running.specs.declared.part.QueryPart.TheVariants as given
+use Rattle.call_verdicts.specs.script_running.specs.Outcomes.{IsOutcome}
+use Rattle.call_verdicts.specs.script_running.specs.declared.outcome.Outcome.{Outcome}
+use Rattle.call_verdicts.specs.script_running.specs.declared.outcome.Outcome.TheVariants as outcome
+use Rattle.call_verdicts.specs.script_running.specs.declared.outcome.QueryOutcome.TheVariants as queries
+use Rattle.call_verdicts.specs.script_running.specs.declared.outcome.SyncOutcome.TheVariants as syncs
+use Rattle.call_verdicts.specs.script_running.specs.declared.outcome.UploadOutcome.TheVariants as uploads
+use Rattle.call_verdicts.specs.script_running.specs.declared.part.Part.TheVariants as part
+use Rattle.call_verdicts.specs.script_running.specs.declared.part.QueryPart.TheVariants as given
 use Rattle.tests_worked.specs.SmallBlock as small
 use Rattle.tests_worked.proofs.SmallCalls.{merge_given}
 

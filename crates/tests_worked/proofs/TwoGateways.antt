@@ -44,17 +44,17 @@ use Rattle.lifecycle_core.specs.Holdings.{Holdings, none_held, nothing_held}
 use Rattle.lifecycle_core.specs.Phases.{IsRunOf, by_script, by_workers}
 use Rattle.lifecycle_core.specs.Tasks.{End, QueryTask, asks_in, synced, uploaded}
 use Rattle.lifecycle_core.specs.Ways.{PhasesRun}
-use Rattle.script_running.specs.Outcomes.{IsOutcome, PhasesCame, TasksCame}
-use Rattle.script_running.specs.declared.outcome.Outcome.{Outcome}
-use Rattle.script_running.specs.declared.outcome.Outcome.TheVariants as outcome
-use Rattle.script_running.specs.declared.outcome.QueryOutcome.TheVariants as queries
-use Rattle.script_running.specs.declared.outcome.SyncOutcome.TheVariants as syncs
-use Rattle.script_running.specs.declared.outcome.UploadOutcome.TheVariants as uploads
-use Rattle.script_running.specs.declared.part.Part.TheVariants as part
-use Rattle.script_running.specs.declared.part.QueryPart.TheVariants as gave
-use Rattle.report_lines.specs.Reports.{upload_words, sync_words, source_line, series_line, counts_text, answer_text, parted_text, named_lines, named_line, named_count, query_text, activity_text}
+use Rattle.call_verdicts.specs.script_running.specs.Outcomes.{IsOutcome, PhasesCame, TasksCame}
+use Rattle.call_verdicts.specs.script_running.specs.declared.outcome.Outcome.{Outcome}
+use Rattle.call_verdicts.specs.script_running.specs.declared.outcome.Outcome.TheVariants as outcome
+use Rattle.call_verdicts.specs.script_running.specs.declared.outcome.QueryOutcome.TheVariants as queries
+use Rattle.call_verdicts.specs.script_running.specs.declared.outcome.SyncOutcome.TheVariants as syncs
+use Rattle.call_verdicts.specs.script_running.specs.declared.outcome.UploadOutcome.TheVariants as uploads
+use Rattle.call_verdicts.specs.script_running.specs.declared.part.Part.TheVariants as part
+use Rattle.call_verdicts.specs.script_running.specs.declared.part.QueryPart.TheVariants as gave
+use Rattle.call_verdicts.specs.report_lines.specs.Reports.{upload_words, sync_words, source_line, series_line, counts_text, answer_text, parted_text, named_lines, named_line, named_count, query_text, activity_text}
 use Rattle.call_verdicts.specs.Verdicts.{IsReport}
-use Rattle.report_lines.specs.Telling.{report_of}
+use Rattle.call_verdicts.specs.report_lines.specs.Telling.{report_of}
 use Rattle.tests_worked.specs.Entries.{clock}
 use Rattle.tests_worked.specs.OneBlock as one
 use Rattle.tests_worked.specs.SmallBlock as small

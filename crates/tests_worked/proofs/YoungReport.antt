@@ -12,14 +12,14 @@ use Rattle.script_workers.specs.Hands.{hands_of_task}
 use Rattle.script_workers.specs.declared.worker.Worker.{Worker}
 use Rattle.lifecycle_core.specs.Holdings.{Use}
 use Rattle.lifecycle_core.specs.Tasks.{End, synced, uploaded}
-use Rattle.script_running.specs.Outcomes.{TasksCame}
-use Rattle.report_lines.specs.Reports.{upload_words, sync_words, source_line, series_line, counts_text, answer_text, parted_text, named_lines, named_line, named_count, query_text, activity_text}
+use Rattle.call_verdicts.specs.script_running.specs.Outcomes.{TasksCame}
+use Rattle.call_verdicts.specs.report_lines.specs.Reports.{upload_words, sync_words, source_line, series_line, counts_text, answer_text, parted_text, named_lines, named_line, named_count, query_text, activity_text}
 use Rattle.call_verdicts.specs.Verdicts.{IsReport}
-use Rattle.report_lines.specs.Telling.{report_of}
-use Rattle.script_running.specs.declared.outcome.Outcome.{Outcome}
-use Rattle.script_running.specs.declared.outcome.Outcome.TheVariants as outcome
-use Rattle.script_running.specs.declared.outcome.UploadOutcome.TheVariants as uploads
-use Rattle.script_running.specs.declared.outcome.SyncOutcome.TheVariants as syncs
+use Rattle.call_verdicts.specs.report_lines.specs.Telling.{report_of}
+use Rattle.call_verdicts.specs.script_running.specs.declared.outcome.Outcome.{Outcome}
+use Rattle.call_verdicts.specs.script_running.specs.declared.outcome.Outcome.TheVariants as outcome
+use Rattle.call_verdicts.specs.script_running.specs.declared.outcome.UploadOutcome.TheVariants as uploads
+use Rattle.call_verdicts.specs.script_running.specs.declared.outcome.SyncOutcome.TheVariants as syncs
 use Rattle.tests_worked.specs.SmallBlock as small
 use Rattle.tests_worked.specs.YoungBlock as young
 use Rattle.tests_worked.proofs.SmallOutcomes.{no_out, no_outcome, small_out, small_outcome, sync_out, upload_out}

@@ -1,4 +1,4 @@
-use Rattle.call_verdicts.specs.Verdicts.{saying_to}
+use Rattle.replay_cli.specs.call_verdicts.specs.Verdicts.{saying_to}
 use Rattle.tests_runs.proofs.ToldCalls.{asked_whole}
 use Rattle.tests_runs.proofs.told_runs.run_told.Goals as goal
 
