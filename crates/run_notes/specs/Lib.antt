@@ -1,1 +1,2 @@
 pub mod LineHands
+pub mod Notes

@@ -1,4 +1,5 @@
 ghost use Rattle.std.specs.Prelude.{◌≡◌, [], None, IsSomeAnd};
+ghost use Rattle.run_notes.specs.Notes.{Tells};
 ghost use Rattle.world_turn.specs.Passes.{view_of};
 
 use crate::{LineHand, RunNote};
@@ -23,27 +24,28 @@ impl<B: Bucket> Finished<B> {
     pub fn of_hand(hand: LineHand<B>) -> Finished<B>
         requires fresh { hand.opened.value.journal ≡ [] }
         ensures world { result.world ≡ hand.world }
-        ensures note { IsSomeAnd result.note
-            (λ note. (note.full ≡ hand.refused) × (note.world.value ≡ result.world)) }
+        ensures note { IsSomeAnd result.note (Tells hand.refused hand.wanted result.world) }
     {
         let full = hand.refused();
+        let wanted = hand.wanted();
         let world = hand.into_world();
-        let note = RunNote::new(full, &world);
+        let note = RunNote::new(full, wanted, &world);
         Finished {
             world,
             note: Some(note),
         }
     }
 
-    /// A run with threads, whose root tells whether an operation was answered that the journal is full.
-    pub fn of_closed(closed: Closed<B>, full: bool) -> Finished<B>
-        requires told { (view_of closed.root.value).refused ≡ full }
+    /// A run with threads.
+    pub fn of_closed(closed: Closed<B>) -> Finished<B>
         ensures world { result.world ≡ closed.world }
-        ensures note { IsSomeAnd result.note
-            (λ note. (note.full ≡ full) × (note.world.value ≡ result.world)) }
+        ensures note { IsSomeAnd result.note (Tells (view_of closed.root.value).refused
+            (view_of closed.root.value).wanted result.world) }
     {
+        let full = closed.refused();
+        let wanted = closed.wanted();
         let world = closed.into_world();
-        let note = RunNote::new(full, &world);
+        let note = RunNote::new(full, wanted, &world);
         Finished {
             world,
             note: Some(note),

@@ -75,6 +75,13 @@ impl<B: Bucket> LineHand<B> {
         self.refused
     }
 
+    /// Whether memory was wanted for an operation.
+    pub(crate) fn wanted(&self) -> bool
+        ensures { result ≡ self.now.wanted }
+    {
+        self.wanted
+    }
+
     /// The world, in which nothing more is done by it.
     pub(crate) fn into_world(self) -> World<B>
         ensures { result ≡ self.world }

@@ -1,15 +1,18 @@
 ghost use Rattle.std.specs.Prelude.{◌≡◌};
+ghost use Rattle.run_notes.specs.Notes.{Tells};
 
 use bucket_core::Bucket;
 use std::snapshot::Snapshot;
 use world_core::World;
 
-/// Whether an operation of a run was answered that the journal is full, and which world the run left.
+/// What the operations of a run were answered: whether one was that the journal is full, and whether memory was wanted for one; and
+/// which world the run left.
 ///
 /// It is made of what did the operations of the whole run, and of nothing else: by `Finished` alone.
 #[derive(Drop)]
 pub struct RunNote<B: Bucket> {
     full: bool,
+    wanted: bool,
     world: Snapshot<World<B>>,
 }
 
@@ -21,13 +24,20 @@ impl<B: Bucket> RunNote<B> {
         self.full
     }
 
+    /// Whether memory was wanted for an operation. Then the bucket may have been asked for one that the journal does not show.
+    pub fn wanted_memory(&self) -> bool
+        ensures { result ≡ self.now.wanted }
+    {
+        self.wanted
+    }
+
     /// The note of a run that left a world.
-    pub(crate) fn new(full: bool, world: &World<B>) -> RunNote<B>
-        ensures full { result.full ≡ full }
-        ensures world { result.world.value ≡ world.now }
+    pub(crate) fn new(full: bool, wanted: bool, world: &World<B>) -> RunNote<B>
+        ensures { Tells full wanted world.now result }
     {
         RunNote {
             full,
+            wanted,
             world: Snapshot::of(world),
         }
     }

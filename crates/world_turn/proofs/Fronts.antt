@@ -1,5 +1,5 @@
 -- Laws of the entries of a seat, and of the fronts of a journal.
-use Rattle.std.proofs.Common.{◌≡◌, ◌≢◌, ℕ, zero, suc, ◌<◌, ◌≤◌, ◌==◌, List, [], ◌∷◌, ◌++◌, length, Bool, true, false, if◌then◌else◌, cond, nat_lt, Some, slice_get, refl, sym, ap, ◌∙◌, arith, length-append, append_assoc, append-nil, eq-eqb, ne_eqb, ltb-true, ltb-false}
+use Rattle.std.proofs.Common.{◌≡◌, ◌≢◌, ◌⊎◌, ℕ, zero, suc, ◌<◌, ◌≤◌, ◌==◌, List, [], ◌∷◌, ◌++◌, length, Bool, true, false, if◌then◌else◌, cond, nat_lt, Some, slice_get, refl, sym, ap, ◌∙◌, arith, length-append, append_assoc, append-nil, eq-eqb, ne_eqb, ltb-true, ltb-false, ⊎_elim}
 use Rattle.std.proofs.lemmas.List.Elements.{filter-append}
 use mathlib.Core.List.{IsPrefix}
 use Rattle.world_core.specs.declared.entry.Entry.{Entry}
@@ -22,6 +22,11 @@ front_none xs = (xs, refl)
 
 pub front_more : (xs ys zs : List Entry) → IsPrefix xs ys → IsPrefix ys zs → IsPrefix xs zs
 front_more xs ys zs a b = (a.0 ++ b.0, sym (append_assoc xs a.0 b.0) ∙ (ap (λ l. l ++ b.0) a.1 ∙ b.1))
+
+-- nothing but the empty front begins the empty list
+pub no_front : (xs more : List Entry) → xs ++ more ≡ [] → xs ≡ []
+no_front [] more is = refl
+no_front (x ∷ xs) more is = absurd cc
 
 pub front_length : (xs ys : List Entry) → IsPrefix xs ys → length xs ≤ length ys
 front_length xs ys a = omega (arith, sym (ap length a.1) ∙ length-append xs a.0)
@@ -70,3 +75,18 @@ longer_first xs ys zs a b = chosen (IsPrefix xs) xs ys (nat_lt (length xs) (leng
 
 pub longer_second : (xs ys zs : List Entry) → IsPrefix xs zs → IsPrefix ys zs → IsPrefix ys (longer xs ys)
 longer_second xs ys zs a b = chosen (IsPrefix ys) xs ys (nat_lt (length xs) (length ys)) refl (λ _. front_whole ys) (λ l. fronts_meet ys xs zs b a (omega arith))
+
+-- a front that is as long as the whole is the whole
+front_all : (xs zs : List Entry) → IsPrefix xs zs → length zs ≤ length xs → xs ≡ zs
+front_all [] [] p le = refl
+front_all [] (z ∷ zs) p le = absurd (omega arith)
+front_all (x ∷ xs) [] p le = absurd (cc (p.1))
+front_all (x ∷ xs) (z ∷ zs) p le =
+    let more : xs ≡ zs = front_all xs zs (p.0, cc (p.1)) (omega arith) in
+    cc (p.1, more)
+
+-- where one of two fronts is the whole, the longer one is
+pub longer_whole : (xs ys zs : List Entry) → IsPrefix xs zs → IsPrefix ys zs → (xs ≡ zs) ⊎ (ys ≡ zs) → longer xs ys ≡ zs
+longer_whole xs ys zs a b = ⊎_elim
+    (λ (m : xs ≡ zs). front_all (longer xs ys) zs (longer_front xs ys zs a b) (let l = front_length xs (longer xs ys) (longer_first xs ys zs a b) in let n = ap length m in omega arith))
+    (λ (m : ys ≡ zs). front_all (longer xs ys) zs (longer_front xs ys zs a b) (let l = front_length ys (longer xs ys) (longer_second xs ys zs a b) in let n = ap length m in omega arith))

@@ -11,14 +11,16 @@ use Rattle.std.specs.List.{AllByRecursion}
 use mathlib.Core.List.{IsPrefix}
 use Rattle.atomic_table.specs.Table.{State, Me, Step, step, opening, Final, Seen, Act, keeps, takes, gives, stepped, rest, put_back, Allows, Splits, Joins}
 use Rattle.bucket_core.specs.Asking.{Call}
-use Rattle.atomic_table.proofs.Lists.{at_set, set_again, set_here, set_else, at_longer}
+use Rattle.atomic_table.proofs.Lists.{at_last, at_set, set_again, set_here, set_else, at_longer}
+use Rattle.std.proofs.lemmas.List.{map-append}
+use Rattle.std.proofs.lemmas.List.Elements.{Contains-append_left, Contains-push}
 use Rattle.world_core.specs.declared.entry.Entry.{Entry}
 use Rattle.world_turn.specs.declared.view.View.{View}
 use Rattle.world_turn.specs.Seats.{of_seat}
-use Rattle.world_turn.specs.Rule.{Fits, IsAsked, IsFrom, IsKept, IsToldWanted, Opened, Rule, opened_of, root, spent}
+use Rattle.world_turn.specs.Rule.{Fits, HasSeat, IsAsked, IsFrom, IsKept, IsSeen, IsToldWanted, Opened, Rule, SomeView, opened_of, root, spent}
 use Rattle.world_turn.specs.Closing.{AllJoined, Closes}
 use Rattle.world_turn.specs.Steps.{holding, adding, leaving, leaving_full, leaving_short, looking, one_more, next_seat, joining, comparing, Lies, Takes, Appends, Gives, GivesFull, GivesShort, Counts, Compares}
-use Rattle.world_turn.proofs.Fronts.{of_seat-own, of_seat-other, front_whole, front_none, front_more, front_length, one_last, longer_front, longer_first, longer_second}
+use Rattle.world_turn.proofs.Fronts.{of_seat-own, of_seat-other, front_whole, front_none, front_more, front_length, no_front, one_last, longer_front, longer_first, longer_second, longer_whole}
 
 pub each_of : {A : Type 0} (P Q : A → Type 0) → ((x : A) → P x → Q x) → (xs : List A) → AllByRecursion P xs → AllByRecursion Q xs
 each_of P Q f [] e = tt
@@ -53,6 +55,40 @@ or_right false b is = is
 never_true : (b : Bool) → (b ≡ true → ⊥) → b ≡ false
 never_true true not = absurd (not refl)
 never_true false not = refl
+
+-- what holds of some view still does, if a view that changes keeps it
+some_still : (P : View → Type 0) (views : List View) (id : ℕ) (v w : View) → get_elem? views id ≡ some v → (P v → P w) → SomeView P views → SomeView P (set views id w)
+some_still P views id v w at more t =
+    dite (ℕ_discrete t.0 id)
+    (λ same. let is : t.1 ≡ v = some-injective _ _ (sym t.2 ∙ (ap (get_elem? views) same ∙ at)) in (id, w, set_here views id w (at_lt views id v at), more (subst P is t.3)))
+    (λ apart. (t.0, t.1, set_else views id t.0 w apart ∙ t.2, t.3))
+
+-- so it does beside further views
+some_longer : (P : View → Type 0) (views more : List View) → SomeView P views → SomeView P (views ++ more)
+some_longer P views more t = (t.0, t.1, at_longer views more t.0 t.1 t.2, t.3)
+
+seat_still : (views : List View) (joined joined' : List (ℕ × List Entry)) (id : ℕ) (v w : View) (seat : ℕ) → get_elem? views id ≡ some v → ((v.live ≡ true) × (v.seat ≡ seat) → (w.live ≡ true) × (w.seat ≡ seat))
+    → (Contains (map (λ kept. kept.0) joined) seat → Contains (map (λ kept. kept.0) joined') seat) → HasSeat views joined seat → HasSeat (set views id w) joined' seat
+seat_still views joined joined' id v w seat at more kept = ⊎_elim (λ t. inl (some_still (λ u. (u.live ≡ true) × (u.seat ≡ seat)) views id v w at more t)) (λ c. inr (kept c))
+
+joined_longer : (joined : List (ℕ × List Entry)) (seat : ℕ) (own : List Entry) (n : ℕ) → Contains (map (λ kept. kept.0) joined) n → Contains (map (λ kept. kept.0) (joined ++ (seat, own) ∷ [])) n
+joined_longer joined seat own n c = subst (λ l. Contains l n) (sym (map-append (λ kept. kept.0) joined ((seat, own) ∷ []))) (Contains-append_left (map (λ kept. kept.0) joined) (seat ∷ []) n c)
+
+joined_last : (joined : List (ℕ × List Entry)) (seat : ℕ) (own : List Entry) (n : ℕ) → seat ≡ n → Contains (map (λ kept. kept.0) (joined ++ (seat, own) ∷ [])) n
+joined_last joined seat own n is = subst (λ l. Contains l n) (sym (map-append (λ kept. kept.0) joined ((seat, own) ∷ []))) (subst (Contains (map (λ kept. kept.0) joined ++ seat ∷ [])) is (Contains-push (map (λ kept. kept.0) joined) seat))
+
+-- what holds of some view does so when one is given up, or it held of that one
+some_given : (P : View → Type 0) (views : List View) (id : ℕ) (v w : View) → get_elem? views id ≡ some v → SomeView P views → SomeView P (set views id w) ⊎ P v
+some_given P views id v w at t =
+    dite (ℕ_discrete t.0 id)
+    (λ same. let is : t.1 ≡ v = some-injective _ _ (sym t.2 ∙ (ap (get_elem? views) same ∙ at)) in inr (subst P is t.3))
+    (λ apart. inl (t.0, t.1, set_else views id t.0 w apart ∙ t.2, t.3))
+
+-- where nothing lies beside the front of a view that has seen the whole journal, the front is that
+bare_front : (v : View) (log : List Entry) → v.beside ≡ [] → IsPrefix v.front log → (v.front ≡ log) ⊎ (v.beside ≡ log) → v.front ≡ log
+bare_front v log bare begins = ⊎_elim
+    (λ m. m)
+    (λ (m : v.beside ≡ log). let none : log ≡ [] = sym m ∙ bare in no_front v.front begins.0 (begins.1 ∙ none) ∙ sym none)
 
 module _ {W : Type 0} (journal : W → List Entry) (ticks faults : W → ℕ) (asked : W → Option (List Call)) (opened : Opened) where
   abbrev St : Type 0
@@ -105,8 +141,9 @@ module _ {W : Type 0} (journal : W → List Entry) (ticks faults : W → ℕ) (a
       → Free homes turn wanted log
       → Taken homes turn holder (set s.views id w)
       → (wanted ≡ true → IsToldWanted (set s.views id w))
+      → IsSeen log (set s.views id w)
       → R record { words = words; homes = homes; views = set s.views id w }
-  moved s r words homes id v w turn holder wanted log at live live' seat grown same held words_are mine free taken told =
+  moved s r words homes id v w turn holder wanted log at live live' seat grown same held words_are mine free taken told longest =
       let mine_before = r.each id v at in
       let own_seat = mine_before.seated live in
       record {
@@ -137,15 +174,18 @@ module _ {W : Type 0} (journal : W → List Entry) (ticks faults : W → ℕ) (a
         free = free;
         taken = taken;
         told = told;
+        longest = longest;
+        everybody = λ n lt. seat_still s.views r.joined r.joined id v w n at (λ m. (live', seat ∙ m.1)) (λ c. c) (r.everybody n lt);
       }
 
   -- a live view says that memory was wanted, if one did before
   told_still : (s : St) (r : R s) (id : ℕ) (v w : View) → get_elem? s.views id ≡ some v → w.live ≡ true → (v.wanted ≡ true → w.wanted ≡ true) → r.wanted ≡ true → IsToldWanted (set s.views id w)
-  told_still s r id v w at live more so =
-      let t = r.told so in
-      dite (ℕ_discrete t.0 id)
-      (λ same. let is : t.1 ≡ v = some-injective _ _ (sym t.2 ∙ (ap (get_elem? s.views) same ∙ at)) in (id, w, set_here s.views id w (at_lt s.views id v at), live, more (sym (ap (λ (x : View). x.wanted) is) ∙ t.4)))
-      (λ apart. (t.0, t.1, set_else s.views id t.0 w apart ∙ t.2, t.3, t.4))
+  told_still s r id v w at live more so = some_still (λ u. (u.live ≡ true) × (u.wanted ≡ true)) s.views id v w at (λ m. (live, more m.1)) (r.told so)
+
+  -- the whole journal is still a front
+  longest_still : (s : St) (r : R s) (id : ℕ) (v w : View) → get_elem? s.views id ≡ some v → w.front ≡ v.front → w.beside ≡ v.beside → IsSeen r.log (set s.views id w)
+  longest_still s r id v w at front beside =
+      some_still (λ u. (u.front ≡ r.log) ⊎ (u.beside ≡ r.log)) s.views id v w at (⊎_elim (λ m. inl (front ∙ m)) (λ m. inr (beside ∙ m))) r.longest
 
   -- no other seat holds the turn
   alone : (s : St) (r : R s) (id : ℕ) (v : View) → get_elem? s.views id ≡ some v → v.holds ≡ true → (j : ℕ) (u : View) → j ≢ id → get_elem? s.views j ≡ some u → u.holds ≡ true → ⊥
@@ -175,7 +215,8 @@ module _ {W : Type 0} (journal : W → List Entry) (ticks faults : W → ℕ) (a
             record { front = f.front; known = f.known; comes = f.comes; own = f.own; seated = f.seated; beside = f.beside; rooted = f.rooted; holds = λ _. (refl, refl, live, h.2, refl) }
             (λ e. absurd (omega arith))
             (λ _. (refl, homes, (w, set_here s.views id w (at_lt s.views id v at), refl)))
-            (told_still s r id v w at live (λ so. so))),
+            (told_still s r id v w at live (λ so. so))
+            (longest_still s r id v w at refl refl)),
         (
           (λ _. (h.0, refl, subst (λ (o : Opened). From o h.0) (sym (f.comes live)) h.3, (λ never. subst (λ (o : Opened). Asked o h.0) (sym (f.comes live)) (h.4 never)), subst (IsPrefix v.front) (sym h.2) f.front, subst (λ l. v.known ≤ length l) (sym h.2) f.known, subst (λ l. v.own ≡ of_seat v.seat l) (sym h.2) (f.own live))),
           (λ not. absurd (not z)),
@@ -238,7 +279,8 @@ module _ {W : Type 0} (journal : W → List Entry) (ticks faults : W → ℕ) (a
             }
             (λ z. let a = x.0 in absurd (omega arith))
             (λ nz. let t = r.taken nz in (t.0, t.1, (w, subst (λ (n : ℕ). get_elem? (set s.views id w) n ≡ some w) x.1 (set_here s.views id w (at_lt s.views id v at)), h)))
-            (told_still s r id v w at live (λ so. so)),
+            (told_still s r id v w at live (λ so. so))
+            (id, w, set_here s.views id w (at_lt s.views id v at), inl (ap (λ l. l ++ e ∷ []) x.3)),
         λ e' lies'. ap (λ (y : Entry). (adding v y, c)) (one_last v.held e e' (sym (lies_so c _ lies) ∙ lies_so c _ lies')),
       )
 
@@ -253,11 +295,12 @@ module _ {W : Type 0} (journal : W → List Entry) (ticks faults : W → ℕ) (a
 
   -- a resting seat has another view
   rests_on : (s : St) (r : R s) (i id : ℕ) (v w : View) → get_elem? s.views id ≡ some v → v.live ≡ true → v.holds ≡ false → w.live ≡ true → w.seat ≡ v.seat → (v.wanted ≡ true → w.wanted ≡ true)
+      → IsSeen r.log (set s.views id w)
       → Fits r.turn r.holder r.wanted opened r.log r.seats r.joined r.place id w → R record { words = set s.words i (slice_index s.words i); homes = s.homes; views = set s.views id w }
-  rests_on s r i id v w at live rests live' seat more mine =
+  rests_on s r i id v w at live rests live' seat more longest mine =
       moved s r (set s.words i (slice_index s.words i)) s.homes id v w r.turn r.holder r.wanted r.log at live live' seat (front_whole r.log) (λ _ _. refl)
       (λ j u apart at' h'. let t = (r.each j u at').holds h' in (t.0, t.1, t.3, t.4))
-      (set-get_or s.words i 0 ∙ r.words) mine r.free (taken_still s r id v w at rests) (told_still s r id v w at live' more)
+      (set-get_or s.words i 0 ∙ r.words) mine r.free (taken_still s r id v w at rests) (told_still s r id v w at live' more) longest
 
   pub looks : (slots id : ℕ) (v : View) (c : List (ℕ × Option W)) → v.live ≡ true → v.holds ≡ false → Allows R slots id (v, c) 0 (λ n. n) (Counts journal ticks faults asked (step slots 0 0 0 none) (v, c))
   looks slots id v c live rests s r len at small =
@@ -268,7 +311,7 @@ module _ {W : Type 0} (journal : W → List Entry) (ticks faults : W → ℕ) (a
         w,
         keeps,
         tt,
-        rests_on s r 0 id v w at live rests live refl (λ so. so)
+        rests_on s r 0 id v w at live rests live refl (λ so. so) (longest_still s r id v w at refl refl)
             record { front = f.front; known = omega arith; comes = f.comes; own = f.own; seated = f.seated; beside = f.beside; rooted = f.rooted; holds = λ h. absurd (true≢false (sym h ∙ rests)) },
         (omega arith, refl),
       )
@@ -281,6 +324,7 @@ module _ {W : Type 0} (journal : W → List Entry) (ticks faults : W → ℕ) (a
         keeps,
         tt,
         rests_on s r 0 id v w at live rests live refl (λ so. so)
+            (some_still (λ u. (u.front ≡ r.log) ⊎ (u.beside ≡ r.log)) s.views id v w at (λ m. inl (longer_whole v.front v.beside r.log f.front f.beside m)) r.longest)
             record { front = longer_front v.front v.beside r.log f.front f.beside; known = f.known; comes = f.comes; own = f.own; seated = f.seated; beside = front_none r.log; rooted = f.rooted; holds = λ h. absurd (true≢false (sym h ∙ rests)) },
         (refl, longer_first v.front v.beside r.log f.front f.beside, longer_second v.front v.beside r.log f.front f.beside),
       )
@@ -288,8 +332,9 @@ module _ {W : Type 0} (journal : W → List Entry) (ticks faults : W → ℕ) (a
   -- what lies in the slot comes home
   gives_back : (s : St) (r : R s) (id : ℕ) (v w : View) (c : List (ℕ × Option W)) (world : W) (wanted : Bool) → get_elem? s.views id ≡ some v → v.live ≡ true → v.holds ≡ true
       → c ≡ (0, Some world) ∷ [] → journal world ≡ v.held → From (opened_of v) world → (wanted ≡ false → Asked (opened_of v) world) → w.live ≡ true → w.holds ≡ false → w.seat ≡ v.seat → (v.held ≡ r.log → Fits 0 r.holder wanted opened r.log r.seats r.joined r.place id w)
-      → (wanted ≡ true → IsToldWanted (set s.views id w)) → R record { words = set s.words 1 0; homes = put_back s.homes c; views = set s.views id w }
-  gives_back s r id v w c world wanted at live h is j t all live' rests seat mine told =
+      → (wanted ≡ true → IsToldWanted (set s.views id w)) → (v.held ≡ r.log → IsSeen r.log (set s.views id w))
+      → R record { words = set s.words 1 0; homes = put_back s.homes c; views = set s.views id w }
+  gives_back s r id v w c world wanted at live h is j t all live' rests seat mine told longest =
       let f = r.each id v at in
       let x = f.holds h in
       let homes : put_back s.homes c ≡ some (Some world) ∷ [] = ap (put_back s.homes) is ∙ ap (λ hs. set hs 0 (some (Some world))) ((r.taken (λ z. let a = x.0 in absurd (omega arith))).1) in
@@ -299,6 +344,7 @@ module _ {W : Type 0} (journal : W → List Entry) (ticks faults : W → ℕ) (a
       (λ _. (world, homes, j ∙ x.3, subst (λ (o : Opened). From o world) (f.comes live) t, (λ never. subst (λ (o : Opened). Asked o world) (f.comes live) (all never))))
       (λ nz. absurd (nz refl))
       told
+      (longest x.3)
 
   pub gives_turn : (slots id : ℕ) (v : View) (c : List (ℕ × Option W)) (world : W) → v.live ≡ true → v.holds ≡ true → c ≡ (0, Some world) ∷ [] → journal world ≡ v.held → From (opened_of v) world → (v.held_wanted ≡ false → Asked (opened_of v) world)
       → Allows R slots id (v, c) 1 (λ _. 0) (λ _. Gives journal ticks faults asked (step slots 1 0 0 none) (v, c) 0)
@@ -310,7 +356,8 @@ module _ {W : Type 0} (journal : W → List Entry) (ticks faults : W → ℕ) (a
         tt,
         gives_back s r id v w c world r.wanted at live h is j t (λ never. all ((f.holds h).4 ∙ never)) live refl refl
             (λ same. record { front = f.front; known = f.known; comes = f.comes; own = f.own; seated = f.seated; beside = f.beside; rooted = f.rooted; holds = λ b. absurd (true≢false (sym b)) })
-            (told_still s r id v w at live (λ so. so)),
+            (told_still s r id v w at live (λ so. so))
+            (λ same. longest_still s r id v w at refl refl),
         refl,
       )
 
@@ -324,7 +371,8 @@ module _ {W : Type 0} (journal : W → List Entry) (ticks faults : W → ℕ) (a
         tt,
         gives_back s r id v w c world r.wanted at live h is j t (λ never. all ((f.holds h).4 ∙ never)) live refl refl
             (λ same. record { front = subst (λ l. IsPrefix l r.log) (sym same) (front_whole r.log); known = subst (λ l. length l ≤ length r.log) (sym same) (omega arith); comes = f.comes; own = f.own; seated = f.seated; beside = f.beside; rooted = f.rooted; holds = λ b. absurd (true≢false (sym b)) })
-            (told_still s r id v w at live (λ so. so)),
+            (told_still s r id v w at live (λ so. so))
+            (λ same. (id, w, set_here s.views id w (at_lt s.views id v at), inl same)),
         refl,
       )
 
@@ -338,7 +386,8 @@ module _ {W : Type 0} (journal : W → List Entry) (ticks faults : W → ℕ) (a
         tt,
         gives_back s r id v w c world true at live h is j t (λ never. absurd (true≢false never)) live refl refl
             (λ same. record { front = f.front; known = f.known; comes = f.comes; own = f.own; seated = f.seated; beside = f.beside; rooted = f.rooted; holds = λ b. absurd (true≢false (sym b)) })
-            (λ _. (id, w, set_here s.views id w (at_lt s.views id v at), live, refl)),
+            (λ _. (id, w, set_here s.views id w (at_lt s.views id v at), (live, refl)))
+            (λ same. longest_still s r id v w at refl refl),
         refl,
       )
 
@@ -410,7 +459,11 @@ module _ {W : Type 0} (journal : W → List Entry) (ticks faults : W → ℕ) (a
         nobody = λ n le. r.nobody n (omega arith);
         free = r.free;
         taken = λ nz. let t = taken_still s r id v left at rests nz in (t.0, t.1, (t.2.0, at_longer views (right ∷ []) r.holder t.2.0 t.2.1, t.2.2));
-        told = λ so. let t = told_still s r id v left at live (λ y. y) so in (t.0, t.1, at_longer views (right ∷ []) t.0 t.1 t.2, t.3, t.4);
+        told = λ so. some_longer (λ u. (u.live ≡ true) × (u.wanted ≡ true)) views (right ∷ []) (told_still s r id v left at live (λ y. y) so);
+        longest = some_longer (λ u. (u.front ≡ r.log) ⊎ (u.beside ≡ r.log)) views (right ∷ []) (longest_still s r id v left at refl refl);
+        everybody = λ n lt. dite (ℕ_discrete n r.seats)
+            (λ same. inl (length views, right, at_last views right (length views) refl, (refl, x.0 ∙ sym same)))
+            (λ apart. ⊎_elim (λ t. inl (some_longer (λ u. (u.live ≡ true) × (u.seat ≡ n)) views (right ∷ []) t)) (λ c. inr c) (seat_still s.views r.joined r.joined id v left n at (λ m. m) (λ c. c) (r.everybody n (omega arith))));
       }
 
   dead : (u : View) → spent ≡ u → u.live ≡ true → ⊥
@@ -419,8 +472,8 @@ module _ {W : Type 0} (journal : W → List Entry) (ticks faults : W → ℕ) (a
   off_too : (v u : View) → v ≡ u → v.holds ≡ false → u.holds ≡ true → ⊥
   off_too v u e a b = true≢false (sym b ∙ (ap (λ (x : View). x.holds) (sym e) ∙ a))
 
-  pub joins : (id : ℕ) (v : View) (other : ℕ) (w : View) → id ≡ 0 → v.live ≡ true → v.holds ≡ false → w.live ≡ true → w.holds ≡ false → Joins R id v other w (joining v w) spent
-  joins id v other w root live rests live' rests' s r at apart there =
+  pub joins : (id : ℕ) (v : View) (other : ℕ) (w : View) → id ≡ 0 → v.live ≡ true → v.holds ≡ false → w.live ≡ true → w.holds ≡ false → v.beside ≡ [] → w.beside ≡ [] → Joins R id v other w (joining v w) spent
+  joins id v other w root live rests live' rests' bare bare' s r at apart there =
       let both = joining v w in
       let f = r.each id v at in
       let x = f.rooted root in
@@ -429,6 +482,7 @@ module _ {W : Type 0} (journal : W → List Entry) (ticks faults : W → ℕ) (a
       let views = set s.views id both in
       let last = set views other spent in
       let joined = r.joined ++ (w.seat, w.own) ∷ [] in
+      let here : get_elem? last id ≡ some both = set_else views other id spent (λ (e : id ≡ other). apart (sym e)) ∙ set_here s.views id both (at_lt s.views id v at) in
       -- whoever has a live view in the end is the root or was there
       let who = λ (P : ℕ → View → Type 0) (mine : P id both) (rest : (j : ℕ) (u : View) → j ≢ id → j ≢ other → get_elem? s.views j ≡ some u → P j u) (gone : P other spent) (j : ℕ) (u : View) (e : get_elem? last j ≡ some u).
       ⊎_elim
@@ -479,12 +533,20 @@ module _ {W : Type 0} (journal : W → List Entry) (ticks faults : W → ℕ) (a
         taken = λ nz. let t = taken_still s r id v both at rests nz in (t.0, t.1, (t.2.0, set_else views other r.holder spent (λ (e : r.holder ≡ other). off_too w t.2.0 (some-injective _ _ (sym there ∙ (ap (get_elem? views) (sym e) ∙ t.2.1))) rests' t.2.2) ∙ t.2.1, t.2.2));
         told = λ so.
             let t = r.told so in
-            let here : get_elem? last id ≡ some both = set_else views other id spent (λ (e : id ≡ other). apart (sym e)) ∙ set_here s.views id both (at_lt s.views id v at) in
             dite (ℕ_discrete t.0 other)
-            (λ same. let is : t.1 ≡ w = some-injective _ _ (sym t.2 ∙ (ap (get_elem? s.views) same ∙ at')) in (id, both, here, live, or_right v.wanted w.wanted (sym (ap (λ (x : View). x.wanted) is) ∙ t.4)))
+            (λ same. let is : t.1 ≡ w = some-injective _ _ (sym t.2 ∙ (ap (get_elem? s.views) same ∙ at')) in (id, both, here, (live, or_right v.wanted w.wanted (sym (ap (λ (x : View). x.wanted) is) ∙ t.3.1))))
             (λ off. dite (ℕ_discrete t.0 id)
-            (λ same. let is : t.1 ≡ v = some-injective _ _ (sym t.2 ∙ (ap (get_elem? s.views) same ∙ at)) in (id, both, here, live, or_left v.wanted w.wanted (sym (ap (λ (x : View). x.wanted) is) ∙ t.4)))
-            (λ apart'. (t.0, t.1, set_else views other t.0 spent off ∙ (set_else s.views id t.0 both apart' ∙ t.2), t.3, t.4)));
+            (λ same. let is : t.1 ≡ v = some-injective _ _ (sym t.2 ∙ (ap (get_elem? s.views) same ∙ at)) in (id, both, here, (live, or_left v.wanted w.wanted (sym (ap (λ (x : View). x.wanted) is) ∙ t.3.1))))
+            (λ apart'. (t.0, t.1, set_else views other t.0 spent off ∙ (set_else s.views id t.0 both apart' ∙ t.2), t.3)));
+        longest = ⊎_elim
+            (λ t. t)
+            (λ m. (id, both, here, inr (bare_front w r.log bare' g.front m)))
+            (some_given (λ u. (u.front ≡ r.log) ⊎ (u.beside ≡ r.log)) views other w spent there
+            (some_still (λ u. (u.front ≡ r.log) ⊎ (u.beside ≡ r.log)) s.views id v both at (λ m. inl (bare_front v r.log bare f.front m)) r.longest));
+        everybody = λ n lt. ⊎_elim
+            (λ t. ⊎_elim (λ left. inl left) (λ m. inr (joined_last r.joined w.seat w.own n m.1)) (some_given (λ u. (u.live ≡ true) × (u.seat ≡ n)) views other w spent there t))
+            (λ c. inr c)
+            (seat_still s.views r.joined joined id v both n at (λ m. m) (joined_longer r.joined w.seat w.own n) (r.everybody n lt));
       }
 
   pub opens : (w : W) → journal w ≡ [] → From opened w → Asked opened w → R (opening (0 ∷ 0 ∷ []) (Some w ∷ []) (root opened))
@@ -503,6 +565,8 @@ module _ {W : Type 0} (journal : W → List Entry) (ticks faults : W → ℕ) (a
     free = λ _. (w, refl, empty, same, λ _. all);
     taken = λ nz. absurd (nz refl);
     told = λ so. absurd (true≢false (sym so));
+    longest = (0, root opened, refl, inl refl);
+    everybody = λ n lt. inl (0, root opened, refl, (refl, let z : n ≡ 0 = omega arith in sym z));
   }
     where
       at_first : Fits 0 0 false opened [] 1 [] (λ _. 0) 0 (root opened)
@@ -528,10 +592,10 @@ module _ {W : Type 0} (journal : W → List Entry) (ticks faults : W → ℕ) (a
       let x = f.rooted first in
       never_true r.wanted (λ so.
       let t = r.told so in
-      let y = (r.each t.0 t.1 t.2).seated t.3 in
+      let y = (r.each t.0 t.1 t.2).seated t.3.0 in
       dite (ℕ_discrete t.1.seat 0)
-      (λ z. let same : t.0 ≡ id = sym y.1 ∙ (ap r.place (z ∙ sym seat) ∙ (f.seated live).1) in off_wanted v t.1 (some-injective _ _ (sym t.2 ∙ (ap (get_elem? s.views) same ∙ at))) never t.4)
-      (λ some_seat. let m = y.0 in let n = x.0 in not_gone s r t.0 t.1 t.2 t.3 r.joined r.kept (subst (λ (j : List (ℕ × List Entry)). Contains (map (λ kept. kept.0) j) t.1.seat) x.1 (all t.1.seat (omega arith) (omega arith)))))
+      (λ z. let same : t.0 ≡ id = sym y.1 ∙ (ap r.place (z ∙ sym seat) ∙ (f.seated live).1) in off_wanted v t.1 (some-injective _ _ (sym t.2 ∙ (ap (get_elem? s.views) same ∙ at))) never t.3.1)
+      (λ some_seat. let m = y.0 in let n = x.0 in not_gone s r t.0 t.1 t.2 t.3.0 r.joined r.kept (subst (λ (j : List (ℕ × List Entry)). Contains (map (λ kept. kept.0) j) t.1.seat) x.1 (all t.1.seat (omega arith) (omega arith)))))
 
   -- what the root knows once every other seat was joined
   pub closes : (id : ℕ) (v : View) (words : List ℕ) (slots : List (Option W)) → id ≡ 0 → v.live ≡ true → v.holds ≡ false → v.seat ≡ 0 → AllJoined v

@@ -2,15 +2,16 @@
 -- with one another between any two steps. There is one journal, of which the rule says:
 --
 --   1. The first word counts its entries, and the second is 1 while the turn is held and 0 while it is free.
---   2. Each front that a pass has seen begins it, and no known length passes its length.
+--   2. Each front that a pass has seen begins it, the longest one is all of it, and no known length passes its length.
 --   3. While the turn is free the world is at home, has this journal, and comes from the one that was opened.
 --   4. While the turn is held the world is out, and one view holds the turn: no other does, and it holds the whole journal.
---   5. Its entries of the seat of a live view are that view's own entries, and no two live views have the same seat.
---   6. Its entries of a seat that was joined are those that the root kept then, and no live view has that seat.
+--   5. Each seat that was made has a live view, or was joined. No two live views have the same seat, and none has one that
+--      was joined.
+--   6. Its entries of a seat are the own entries of its live view, or those that the root kept when the seat was joined.
 --   7. It has no entries of any other seat.
 --   8. Unless a live view says that memory was wanted, all that the bucket of the world at home was asked is its calls, if
 --      that held as the world was opened.
-use Rattle.std.specs.Prelude.{◌≡◌, ◌≢◌, ℕ, ◌<◌, ◌≤◌, ◌++◌, Bool, List, [], ◌∷◌, length, true, false, Option, Some, None}
+use Rattle.std.specs.Prelude.{◌≡◌, ◌≢◌, ◌⊎◌, ℕ, ◌<◌, ◌≤◌, ◌++◌, Bool, List, [], ◌∷◌, length, map, Contains, true, false, Option, Some, None}
 use Rattle.std.specs.List.{AllByRecursion}
 use mathlib.Core.List.{IsPrefix}
 use mathlib.Core.Option.{none, some}
@@ -70,9 +71,21 @@ module _ {W : Type 0} (journal : W → List Entry) (ticks faults : W → ℕ) wh
 abbrev pub IsAsked : {W : Type 0} → (W → List Entry) → (W → Option (List Call)) → Opened → W → Type 0
 IsAsked journal asked opened w = (before : List Call) → opened.asked ≡ Some (before ++ opening ∷ []) → asked w ≡ Some (before ++ opening ∷ calls_of (journal w))
 
+-- this holds of the view at some port
+abbrev pub SomeView : (View → Type 0) → List View → Type 0
+SomeView P views = (port : ℕ) × (v : View) × (get_elem? views port ≡ some v) × P v
+
 -- a live view says that memory was wanted
 abbrev pub IsToldWanted : List View → Type 0
-IsToldWanted views = (port : ℕ) × (v : View) × (get_elem? views port ≡ some v) × (v.live ≡ true) × (v.wanted ≡ true)
+IsToldWanted views = SomeView (λ v. (v.live ≡ true) × (v.wanted ≡ true)) views
+
+-- this is the front of a view, or one that lies beside it
+abbrev pub IsSeen : List Entry → List View → Type 0
+IsSeen front views = SomeView (λ v. (v.front ≡ front) ⊎ (v.beside ≡ front)) views
+
+-- the seat has a live view, or was joined
+abbrev pub HasSeat : List View → List (ℕ × List Entry) → ℕ → Type 0
+HasSeat views joined seat = SomeView (λ v. (v.live ≡ true) × (v.seat ≡ seat)) views ⊎ Contains (map (λ kept. kept.0) joined) seat
 
 -- and by what its bucket was asked
 module _ {W : Type 0} (journal : W → List Entry) (ticks faults : W → ℕ) (asked : W → Option (List Call)) where
@@ -88,6 +101,8 @@ module _ {W : Type 0} (journal : W → List Entry) (ticks faults : W → ℕ) (a
     pub free : turn ≡ 0 → (w : W) × (s.homes ≡ some (Some w) ∷ []) × (journal w ≡ log) × IsFrom journal ticks faults opened w × (wanted ≡ false → IsAsked journal asked opened w)
     pub taken : turn ≢ 0 → (turn ≡ 1) × (s.homes ≡ none ∷ []) × ((v : View) × (get_elem? s.views holder ≡ some v) × (v.holds ≡ true))
     pub each : (port : ℕ) (v : View) → get_elem? s.views port ≡ some v → Fits turn holder wanted opened log seats joined place port v
+    pub longest : IsSeen log s.views
     pub told : wanted ≡ true → IsToldWanted s.views
+    pub everybody : (seat : ℕ) → seat < seats → HasSeat s.views joined seat
     pub kept : AllByRecursion (IsKept log s.views seats) joined
     pub nobody : (seat : ℕ) → seats ≤ seat → of_seat seat log ≡ []

@@ -1,4 +1,5 @@
 ghost use Rattle.std.specs.Prelude.{◌≡◌};
+ghost use Rattle.world_turn.specs.Passes.{view_of};
 
 use crate::Pass;
 use bucket_core::Bucket;
@@ -10,6 +11,9 @@ use world_core::World;
 pub struct Closed<B: Bucket> {
     pub(crate) world: World<B>,
     pub(crate) root: Snapshot<Pass>,
+    pub(crate) refused: bool,
+    pub(crate) wanted: bool,
+    ghost told: { (refused ≡ (view_of root.value).refused) × (wanted ≡ (view_of root.value).wanted) },
 }
 
 impl<B: Bucket> Closed<B> {
@@ -18,6 +22,20 @@ impl<B: Bucket> Closed<B> {
         ensures { result.now ≡ self.now.world }
     {
         &self.world
+    }
+
+    /// Whether an operation of one of its passes was answered that the journal is full.
+    pub fn refused(&self) -> bool
+        ensures { result ≡ (view_of self.now.root.value).refused }
+    {
+        self.refused
+    }
+
+    /// Whether memory was wanted in an operation of one of its passes.
+    pub fn wanted(&self) -> bool
+        ensures { result ≡ (view_of self.now.root.value).wanted }
+    {
+        self.wanted
     }
 
     /// The world.

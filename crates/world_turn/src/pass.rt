@@ -11,7 +11,11 @@ pub struct Pass {
     pub(crate) seat: u32,
     /// Of the root: how many passes were split from it.
     pub(crate) splits: u32,
-    pub ghost rests: { IsAtRest badge seat splits },
+    /// Whether an operation of its own, or of a pass that was joined to it, was answered that the journal is full.
+    pub(crate) refused: bool,
+    /// Whether memory was wanted in such an operation.
+    pub(crate) wanted: bool,
+    pub ghost rests: { IsAtRest badge seat splits refused wanted },
 }
 
 impl Pass {

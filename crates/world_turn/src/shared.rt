@@ -1,12 +1,13 @@
 ghost use Rattle.std.specs.Prelude.{◌≡◌, false, List, ℕ, ◌+◌, ◌<◌, ◌^◌, ◌-◌, [], ◌∷◌, Some, None, IfOk, IfErr, MatchResult};
 ghost use Rattle.bucket_core.specs.Asking.{Call};
 ghost use Rattle.world_core.specs.Asking.{IsAllAsked};
+ghost use Rattle.world_core.specs.Machines.{is_full};
 ghost use Rattle.world_core.specs.Operations.{IsLawful};
 ghost use Rattle.world_turn.specs.Closing.{AllJoined, Closes};
 ghost use Rattle.world_turn.specs.Opening.{ComesFrom, opening_of};
 ghost use Rattle.world_turn.specs.Passes.{table_of, view_of};
 ghost use Rattle.world_turn.specs.Rule.{root};
-ghost use Rattle.world_turn.specs.Turns.{Acts, IsLater, IsNew, IsSplit, IsJoined, Looks};
+ghost use Rattle.world_turn.specs.Turns.{Acts, IsLater, IsNew, IsSplit, IsJoined, Looks, is_wanting};
 
 use crate::plays::{Compare, Look, Seating, Turns};
 use crate::view::View;
@@ -55,6 +56,8 @@ impl<B: Bucket> Shared<B> {
                     badge: place.into_badge(),
                     seat: 0,
                     splits: 0,
+                    refused: false,
+                    wanted: false,
                 };
                 Ok((Shared { table }, root))
             }
@@ -78,6 +81,8 @@ impl<B: Bucket> Shared<B> {
             badge,
             seat,
             splits,
+            refused,
+            wanted,
         } = pass;
         let mut place = badge.into_seat();
         let mut world = self.take_turn(rt, &mut place);
@@ -90,6 +95,8 @@ impl<B: Bucket> Shared<B> {
             badge,
             seat,
             splits,
+            refused: refused | met_full(&acted),
+            wanted: wanted | wants_memory(&acted),
         };
         (acted, pass)
     }
@@ -105,6 +112,8 @@ impl<B: Bucket> Shared<B> {
             badge,
             seat,
             splits,
+            refused,
+            wanted,
         } = pass;
         let mut place = badge.into_seat();
         let count = self.table.shared.load::<Look>(&mut place, COUNT);
@@ -113,6 +122,8 @@ impl<B: Bucket> Shared<B> {
             badge,
             seat,
             splits,
+            refused,
+            wanted,
         };
         (count, pass)
     }
@@ -131,6 +142,8 @@ impl<B: Bucket> Shared<B> {
             badge,
             seat,
             splits,
+            refused,
+            wanted,
         } = root;
         let mut place = badge.into_seat();
         let new = self.table.shared.split_seat::<Seating>(&mut place);
@@ -138,11 +151,15 @@ impl<B: Bucket> Shared<B> {
             badge: place.into_badge(),
             seat,
             splits: splits + 1,
+            refused,
+            wanted,
         };
         let worker = Pass {
             badge: new.into_badge(),
             seat: splits + 1,
             splits: 0,
+            refused: false,
+            wanted: false,
         };
         (root, worker)
     }
@@ -159,17 +176,28 @@ impl<B: Bucket> Shared<B> {
             badge,
             seat,
             splits,
+            refused,
+            wanted,
         } = root;
         let mut place = badge.into_seat();
+        let Pass {
+            badge: other,
+            seat: _,
+            splits: _,
+            refused: also_refused,
+            wanted: also_wanted,
+        } = worker;
         self.table
             .shared
-            .join_seat::<Seating>(&mut place, worker.badge.into_seat());
+            .join_seat::<Seating>(&mut place, other.into_seat());
         self.table.shared.load::<Compare>(&mut place, COUNT);
         let badge = place.into_badge();
         Pass {
             badge,
             seat,
             splits,
+            refused: refused | also_refused,
+            wanted: wanted | also_wanted,
         }
     }
 
@@ -193,6 +221,8 @@ impl<B: Bucket> Shared<B> {
             badge,
             seat: _,
             splits: _,
+            refused,
+            wanted,
         } = root;
         let mut closed = table.close_with(badge.into_seat());
         let slot = closed.take(0);
@@ -200,6 +230,8 @@ impl<B: Bucket> Shared<B> {
         Closed {
             world: unslotted(slot),
             root: known,
+            refused,
+            wanted,
         }
     }
 }
@@ -236,4 +268,18 @@ fn unslotted<W>(slot: Option<W>) -> W
         Some(world) => world,
         None => unreachable!(),
     }
+}
+
+/// Whether an operation was answered that the journal is full.
+fn met_full(acted: &Acted) -> bool
+    ensures { result ≡ is_full acted.now }
+{
+    matches!(acted, Acted::Full)
+}
+
+/// Whether memory was wanted for an operation.
+fn wants_memory(acted: &Acted) -> bool
+    ensures { result ≡ is_wanting acted.now }
+{
+    matches!(acted, Acted::NoMemory)
 }

@@ -13,7 +13,7 @@ join_seat-requires g c =
       c.into_seat.ensures.0 ∙ c.requires.worker,
       c.into_seat.ensures.3,
       search rules,
-      joins (λ w. w.journal) (λ w. w.tick) (λ w. g.B.Bucket.faults w.bucket) (λ w. g.B.Bucket.asked w.bucket) _ _ _ _ _ (c.into_seat-place.ensures.1 ∙ r.first c.requires.own.1) (ap (λ v. v.live) is ∙ r.live) (ap (λ v. v.holds) is ∙ r.rests) (ap (λ v. v.live) is' ∙ r'.live) (ap (λ v. v.holds) is' ∙ r'.rests),
+      joins (λ w. w.journal) (λ w. w.tick) (λ w. g.B.Bucket.faults w.bucket) (λ w. g.B.Bucket.asked w.bucket) _ _ _ _ _ (c.into_seat-place.ensures.1 ∙ r.first c.requires.own.1) (ap (λ v. v.live) is ∙ r.live) (ap (λ v. v.holds) is ∙ r.rests) (ap (λ v. v.live) is' ∙ r'.live) (ap (λ v. v.holds) is' ∙ r'.rests) (ap (λ v. v.beside) is ∙ r.compared) (ap (λ v. v.beside) is' ∙ r'.compared),
     )
 
 pub load-requires : goal.load-requires
