@@ -77,12 +77,24 @@ fn samples_within(
         (flat_map (samples_of (reads_of found.now))
         (filter (meets asked.now.low asked.now.high) chunks.now))) }
 {
-    let mut samples: Vec<Sample> = Vec::new(asked.alloc);
+    let room = count_read(asked, chunks, found);
+    let mut samples: Vec<Sample> = Vec::with_capacity(asked.alloc, room)?;
     for place in chunks {
         add_samples(asked, place, found, &mut samples)?;
     }
     samples.retain(|sample| asked.low <= sample.time && sample.time <= asked.high);
     Ok(SampleList::from_vec(samples))
+}
+
+/// How many samples were read at the places that meet the range.
+fn count_read(asked: &Asked<'_>, chunks: &[ChunkPlace], found: &[ChunkRead]) -> usize {
+    let mut count = 0usize;
+    for place in chunks {
+        if meets(asked, place) {
+            count = count.saturating_add(samples_of(found, place).len());
+        }
+    }
+    count
 }
 
 /// Adds the samples that were read at a place, where it meets the range.

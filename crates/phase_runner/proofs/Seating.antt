@@ -1,5 +1,6 @@
 -- Splitting one pass more.
-use Rattle.std.proofs.Common.{◌≡◌, ℕ, ◌+◌, ◌<◌, ◌++◌, List, [], ◌∷◌, length, length-append, Option, Some, None, slice_index_or, remove, refl, sym, ap, ◌∙◌, subst, arith, append_assoc, append-nil}
+use Rattle.std.proofs.Common.{◌≡◌, ℕ, ◌+◌, ◌<◌, ◌++◌, List, [], ◌∷◌, length, length-append, get_or, drop, Option, Some, None, refl, sym, ap, ◌∙◌, subst, arith, append_assoc, append-nil, drop_of_length-le}
+use Rattle.std.proofs.lemmas.List.{drop_more}
 use Rattle.atomic_table.specs.Seated.{TableId}
 use Rattle.world_turn.specs.Passes.{table_of, view_of}
 use Rattle.world_turn.specs.Turns.{IsNew, IsSplit}
@@ -7,13 +8,17 @@ use Rattle.world_turn.specs.declared.pass.Pass.{Pass}
 use Rattle.world_turn.specs.declared.view.View.{View}
 use Rattle.phase_runner.specs.Phases.{IsSeated, AreSeated, HasSplit}
 
-pub head_tail : {J : Type 0} (xs : List J) (x : J) → 0 < length xs → x ≡ slice_index_or xs 0 x → xs ≡ x ∷ remove xs 0
-head_tail [] x some is = absurd (omega arith)
-head_tail (y ∷ ys) x some is = ap (λ z. z ∷ ys) (sym is)
+-- what is left of a list behind none of its members, behind one more, and behind all
+pub left_all : {J : Type 0} (xs : List J) → drop 0 xs ≡ xs
+left_all [] = refl
+left_all (x ∷ xs) = refl
 
-pub nil_of : {J : Type 0} (xs : List J) → length xs ≡ 0 → xs ≡ []
-nil_of [] e = refl
-nil_of (x ∷ xs) e = absurd (omega arith)
+pub left_more : {J : Type 0} (xs done : List J) (x : J) → length done < length xs → x ≡ get_or xs (length done) x → drop (length done) xs ≡ x ∷ drop (length (done ++ x ∷ [])) xs
+left_more xs done x less is =
+    drop_more xs (length done) x less ∙ (ap (λ y. y ∷ drop (length done + 1) xs) (sym is) ∙ ap (λ (n : ℕ). x ∷ drop n xs) (sym (length-append done (x ∷ []))))
+
+pub left_none : {J : Type 0} (xs done : List J) → length done ≡ length xs → drop (length done) xs ≡ []
+left_none xs done same = drop_of_length-le xs (omega arith)
 
 seated_snoc : {J : Type 0} (table : TableId) (v : View) (seat : ℕ) (done : List J) (works : List (Option J × Option Pass)) (job : J) (pass : Pass)
     → AreSeated table v seat done works → IsSeated table v (seat + length done) pass → AreSeated table v seat (done ++ job ∷ []) (works ++ (Some job, Some pass) ∷ [])

@@ -87,10 +87,10 @@ fn unbegun<E>(alloc: Global, root: Pass) -> PhaseEnd<E>
 }
 
 /// Splits one pass for each job, in their order. The room is there.
-fn split_all<B: Bucket, J: Job>(
+fn split_all<B: Bucket, J: Job + Drop>(
     shared: &Shared<B>,
     root: Pass,
-    mut jobs: Vec<J>,
+    jobs: Vec<J>,
     works: &mut Vec<Work<J>>,
 ) -> Pass
     requires own { (table_of root ≡ shared.now.table.shared.table_id) × (root.seat ≡ 0) }
@@ -101,8 +101,7 @@ fn split_all<B: Bucket, J: Job>(
         jobs.items (map (λ w. (w.job, w.pass)) works.new.items) }
 {
     let mut root = root;
-    while !jobs.is_empty() {
-        let job = jobs.remove(0);
+    for job in jobs {
         let (rest, pass) = shared.split_pass(root);
         root = rest;
         works.push_reserved(Work {
@@ -111,7 +110,6 @@ fn split_all<B: Bucket, J: Job>(
             end: None,
         });
     }
-    jobs.destroy_empty();
     root
 }
 
@@ -121,7 +119,7 @@ fn join_all<B: Bucket, J: Job + Drop>(
     first: &Snapshot<Pass>,
     jobs: &Snapshot<Vec<J>>,
     root: Pass,
-    mut works: Vec<Work<J>>,
+    works: Vec<Work<J>>,
     ends: &mut Vec<J::End>,
 ) -> Pass
     requires own { (table_of root ≡ shared.now.table.shared.table_id) × (root.seat ≡ 0) }
@@ -138,13 +136,11 @@ fn join_all<B: Bucket, J: Job + Drop>(
         → IsTrue (view_of root).wanted ⊎ IsTrue (list_any J.wanted ends.new.items) }
 {
     let mut root = root;
-    while !works.is_empty() {
-        let work = works.remove(0);
+    for work in works {
         let (pass, end) = parts(work);
         root = shared.join_pass(root, pass);
         ends.push_reserved(end);
     }
-    works.destroy_empty();
     root
 }
 
