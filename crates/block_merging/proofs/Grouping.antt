@@ -1,7 +1,7 @@
 -- Series that are merged one group of equal labels after another.
 use Rattle.std.proofs.Common.{◌≡◌, ◌≢◌, true, false, List, [], ◌∷◌, ◌++◌, map, refl, sym, ap, subst, ◌∙◌, append-nil}
 use Rattle.std.specs.Prelude.{Contains}
-use Rattle.std.specs.List.{AllByRecursion, filter, flat_map}
+use Rattle.std.specs.List.{AllByRecursion, filter}
 use Rattle.std.specs.List.Sorted.{IsStrictlySortedBy}
 use Rattle.std.specs.declared.cmp.Ordering.TheVariants.{Less, Equal}
 use Rattle.std.specs.Ordering.{is_eq}
@@ -18,6 +18,7 @@ use Rattle.vertical_merge.proofs.Orders.{same_set, set_itself, is_equal}
 use Rattle.block_writing.specs.Put.{PutChunk, PutSeries}
 use Rattle.block_merging.specs.MergedSeries.{IsMergedSeries}
 use Rattle.block_merging.specs.MergedBlock.{has_labels, chunks_under, AreMerges}
+use Rattle.block_merging.specs.Queues.{chunks_of}
 
 -- ---- labels
 
@@ -35,9 +36,6 @@ not_same one other less = by_bool (is_eq (compare_sets other one))
     (λ t. not_itself one (subst (λ l. compare_sets one l ≡ Less) (same_labels other one t) less)) (λ f. f)
 
 -- ---- the chunks under labels
-
-abbrev pub chunks_of : List PutSeries → List PutChunk
-chunks_of all = flat_map (λ s. s.chunks) all
 
 under-append : (labels : List Label) (xs ys : List PutSeries) → chunks_under labels (xs ++ ys) ≡ chunks_under labels xs ++ chunks_under labels ys
 under-append labels xs ys = ap chunks_of (filter-append (has_labels labels) xs ys) ∙ flat_map-append (λ (s : PutSeries). s.chunks) (filter (has_labels labels) xs) (filter (has_labels labels) ys)

@@ -7,7 +7,6 @@ use Rattle.std.proofs.lemmas.List.{map-append, take_more, take_all}
 use Rattle.std.proofs.lemmas.Option.{slice_get_within, slice_get-get_or}
 use Rattle.list_core.proofs.Lists.{take_none, AllByRecursion-append, AllByRecursion-weaker}
 use Rattle.list_core.proofs.Membership.{each_member, contains_place}
-use Rattle.reading_core.specs.Grammar.{IsBytes}
 use Rattle.reading_core.proofs.Binds.{err_is}
 use Rattle.label_sets.specs.declared.label.Label.{Label}
 use Rattle.label_sets.specs.declared.series.Series.{Series}
@@ -23,11 +22,10 @@ use Rattle.block_content.specs.declared.check_refusal.CheckRefusal.{CheckRefusal
 use Rattle.block_content.specs.declared.check_refusal.CheckRefusal.TheVariants as check
 use Rattle.block_writing.specs.Put.{PutSeries}
 use Rattle.block_writing.proofs.Tested.{tested_all, refused_at}
-use Rattle.block_merging.specs.declared.input_series.InputSeries.{InputSeries}
 use Rattle.block_merging.specs.declared.merge_refusal.MergeRefusal.{MergeRefusal}
 use Rattle.block_merging.specs.declared.merge_refusal.MergeRefusal.TheVariants.{Input, NoMemory}
 use Rattle.block_merging.specs.Inputs.{LiesWithin, HasContent, IsFirstRefused, AreTaken, taken}
-use Rattle.block_merging.specs.MergeSteps.{series_of, IsThere, HasTaken, HasInputs, IsTest, AreTests, refused_input}
+use Rattle.block_merging.specs.MergeSteps.{IsTest, AreTests, refused_input}
 
 -- ---- blocks that are tested
 
@@ -149,22 +147,6 @@ taken_push external replicas (b ∷ blocks) block all new series (first, others,
   is ∙ ap (λ (l : List PutSeries). l ++ map (taken external replicas block.segments) series) all_is ∙ append_assoc (map (taken external replicas b.segments) first) others (map (taken external replicas block.segments) series),
 )
 
-pub none_taken : (external : List Label) (replicas : List (List ℕ)) (inputs : List BlockFiles) → HasInputs external replicas (take 0 inputs) []
-none_taken external replicas inputs = record { are = refl; there = tt; bytes = tt }
-
-pub taken_more : (external : List Label) (replicas : List (List ℕ)) (inputs : List BlockFiles) (i : ℕ) (block d : BlockFiles) (all new : List InputSeries) → HasInputs external replicas (take i inputs) all → i < length inputs → block ≡ get_or inputs i d
-    → HasTaken external replicas block all new → HasInputs external replicas (take (i + 1) inputs) new
-taken_more external replicas inputs i block d all new h lt at has =
-    let split : take i inputs ++ block ∷ [] ≡ take (i + 1) inputs = ap (λ (b : BlockFiles). take i inputs ++ b ∷ []) at ∙ sym (take_more inputs i d lt) in
-    record {
-      are = subst (λ l. AreTaken external replicas l (map series_of new)) split (taken_push external replicas (take i inputs) block (map series_of all) (map series_of new) has.series h.are has.index_is has.added);
-      there = has.there h.there;
-      bytes = subst (AllByRecursion (λ block. IsBytes block.index)) split (AllByRecursion-append (λ block. IsBytes block.index) (take i inputs) (block ∷ []) h.bytes (has.bytes, tt));
-    }
-
-pub taken_all : (external : List Label) (replicas : List (List ℕ)) (inputs : List BlockFiles) (i : ℕ) (all : List InputSeries) → HasInputs external replicas (take i inputs) all → length inputs ≤ i → HasInputs external replicas inputs all
-taken_all external replicas inputs i all h done = subst (λ l. HasInputs external replicas l all) (take_all i inputs done) h
-
 -- a member more on both sides
 pub mapped_more : {A B C : Type 0} (f : A → C) (g : B → C) (base : List C) (made new : List A) (x : A) (xs : List B) (k : ℕ) (d : B) → k < length xs → map f made ≡ base ++ map g (take k xs) → f x ≡ g (get_or xs k d) → new ≡ made ++ x ∷ []
     → map f new ≡ base ++ map g (take (k + 1) xs)
@@ -194,31 +176,6 @@ pub all_lie : (plan : BlockPlan) (inputs : List BlockFiles) (k : ℕ) → length
 all_lie plan inputs k all tested = (λ told. tested_all (LiesWithin plan) inputs k all tested, λ each. refl)
 
 -- ---- one block that is tested
-
-pub record IsWalk (external : List Label) (replicas : List (List ℕ)) (inputs : List BlockFiles) (i number : ℕ) (all : List InputSeries) : Type 0 where
-  pub tested : TestedSoFar inputs i number
-  pub taken : HasInputs external replicas (take i inputs) all
-
-pub walk_begins : (external : List Label) (replicas : List (List ℕ)) (inputs : List BlockFiles) (all : List InputSeries) → all ≡ [] → IsWalk external replicas inputs 0 0 all
-walk_begins external replicas inputs all none = record { tested = tested_none inputs; taken = subst (HasInputs external replicas (take 0 inputs)) (sym none) (none_taken external replicas inputs) }
-
-pub walk_goes_on : (external : List Label) (replicas : List (List ℕ)) (inputs : List BlockFiles) (i number next : ℕ) (all new : List InputSeries) {X : Type 0} (block d : BlockFiles) (r : Result X CheckRefusal) (x : X) → IsWalk external replicas inputs i number all → i < length inputs → block ≡ get_or inputs i d
-    → IsTest block r → r ≡ Ok x → HasTaken external replicas block all new → next ≡ min (number + 1) (2 ^ 32 - 1) → IsWalk external replicas inputs (i + 1) next new
-walk_goes_on external replicas inputs i number next all new {X} block d r x h lt at test ok has is = record {
-  tested = tested_more inputs i number next block d r x h.tested lt at test ok is;
-  taken = taken_more external replicas inputs i block d all new h.taken lt at has;
-}
-
--- the series of one block were added
-pub has_taken : (external : List Label) (replicas : List (List ℕ)) (block : BlockFiles) (made all : List InputSeries) (segments : List (List ℕ)) (series items : List IndexSeries) → segments ≡ block.segments → items ≡ series → IsIndex block.index series → IsBytes block.index
-    → map series_of all ≡ map series_of made ++ map (taken external replicas segments) items → (AllByRecursion IsThere made → AllByRecursion IsThere all) → HasTaken external replicas block made all
-has_taken external replicas block made all segments series items segments_are same is bytes added there = record {
-  series = series;
-  index_is = is;
-  bytes = bytes;
-  added = added ∙ ap (λ (s : List (List ℕ)). map series_of made ++ map (taken external replicas s) items) segments_are ∙ ap (λ (l : List IndexSeries). map series_of made ++ map (taken external replicas block.segments) l) same;
-  there = there;
-}
 
 err_twice : {X Y : Type 0} (e f : CheckRefusal) → ◌≡◌ {A = Result X CheckRefusal} (Err e) (Err f) → ◌≡◌ {A = Result Y CheckRefusal} (Err e) (Err f)
 err_twice {X} {Y} e f h = ap Err (err_is {A = X} e f h)

@@ -9,13 +9,16 @@ pub mod OneMerge
 pub mod Merged
 pub mod Sweeping
 pub mod Grouping
-pub mod GroupLoops
+pub mod GroupsTaken
 pub mod InputWalks
 pub mod SameLists
 pub mod OneCut
 pub mod StoredInputs
 pub mod StandingData
 pub mod UnderNumbers
+pub mod LentOrder
+pub mod QueueSteps
+pub mod AllQueues
 pub mod OneMerged
 pub mod MergeAnswers
 pub mod PlansFit

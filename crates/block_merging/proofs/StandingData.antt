@@ -1,5 +1,5 @@
 -- The data that is lent of a chunk that stands at a place is the chunk's.
-use Rattle.std.proofs.Common.{◌≡◌, ℕ, ◌+◌, ◌<◌, ◌≤◌, List, [], ◌∷◌, ◌++◌, length, take, drop, Result, Ok, Err, refl, sym, ap, subst, ◌∙◌, append_assoc, arith}
+use Rattle.std.proofs.Common.{◌≡◌, ℕ, ◌+◌, ◌<◌, ◌≤◌, List, [], ◌∷◌, ◌++◌, length, take, drop, Ok, Err, refl, sym, ap, subst, ◌∙◌, append_assoc, arith}
 use Rattle.std.specs.Int.{w32}
 use Rattle.std.specs.List.{AllByRecursion}
 use Rattle.std.proofs.Math.Seq.{take-append_seam}
@@ -22,7 +22,7 @@ use Rattle.index_file.specs.IndexFile.{IsIndex}
 use Rattle.block_files.specs.declared.block_files.BlockFiles.{BlockFiles}
 use Rattle.block_content.specs.Content.{IsChunkOf, HoldsSeries}
 use Rattle.block_merging.specs.Inputs.{HasContent}
-use Rattle.block_merging.specs.MergeSteps.{IsStanding, HasStanding}
+use Rattle.block_merging.specs.Queues.{IsStanding, HasStanding}
 use Rattle.block_merging.proofs.SameLists.{zip_member}
 use Rattle.block_merging.proofs.StoredInputs.{index_once}
 

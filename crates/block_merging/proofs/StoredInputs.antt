@@ -4,8 +4,7 @@ use Rattle.std.specs.Prelude.{Contains, ◌≤ℤ◌, ◌<ℤ◌}
 use Rattle.std.specs.List.{AllByRecursion}
 use Rattle.std.proofs.lemmas.Int.{ints}
 use Rattle.std.proofs.lemmas.List.Elements.{Contains-append_cases}
-use Rattle.list_core.specs.Ordered.{in_order}
-use Rattle.list_core.proofs.Membership.{no_member, contains_first, contains_later, each_member, all_members, of_in_order, into_map, of_map, of_flat_map, into_flat_map}
+use Rattle.list_core.proofs.Membership.{no_member, contains_first, contains_later, each_member, all_members, of_map, of_flat_map, into_flat_map}
 use Rattle.reading_core.specs.Grammar.{IsBytes}
 use Rattle.reading_core.proofs.Binds.{ok_is}
 use Rattle.label_sets.specs.declared.label.Label.{Label}
@@ -23,10 +22,12 @@ use Rattle.block_writing.specs.Put.{PutChunk, PutSeries, IsWithin, IsStored}
 use Rattle.block_writing.specs.Standing.{content_at}
 use Rattle.block_writing.specs.Writing.{plan_fields, part_of, chunk_in}
 use Rattle.block_writing.proofs.Placed.{read_there}
-use Rattle.block_merging.specs.declared.input_series.InputSeries.{InputSeries}
+use Rattle.block_merging.specs.declared.series_queue.SeriesQueue.{SeriesQueue}
 use Rattle.block_merging.specs.Inputs.{LiesWithin, HasContent, AreTaken, taken}
 use Rattle.block_merging.proofs.SameLists.{zip_member}
-use Rattle.block_merging.specs.MergeSteps.{lent_chunks, series_of, have_lesser_labels, IsThere, HasInputs, all_chunks}
+use Rattle.block_merging.specs.Steps.{joined}
+use Rattle.block_merging.specs.Queues.{chunks_of, lefts_in, HasQueues}
+use Rattle.block_merging.proofs.GroupsTaken.{member_alike}
 
 pub index_once : (bytes : List ℕ) (one other : List IndexSeries) → IsBytes bytes → IsIndex bytes one → IsIndex bytes other → one ≡ other
 index_once bytes one other are is too = ok_is {E = IndexRefusal} one other (sym (index_again bytes one are is) ∙ index_again bytes other are too)
@@ -106,13 +107,9 @@ taken_stored plan replicas blocks all s c lie held bytes are among here =
     from_stored plan from.block from.indexed from.one c (each_member (LiesWithin plan) blocks from.block lie from.block_in) (each_member HasContent blocks from.block held from.block_in)
     (each_member (λ block. IsBytes block.index) blocks from.block bytes from.block_in) from.index_is from.one_in (subst (λ (p : PutSeries). Contains p.chunks c) (sym from.is) here)
 
-pub sorted_stored : (plan : BlockPlan) (replicas : List (List ℕ)) (blocks : List BlockFiles) (given sorted : List InputSeries) → AllByRecursion (LiesWithin plan) blocks → AllByRecursion HasContent blocks
-    → HasInputs plan.labels replicas blocks given → sorted ≡ in_order have_lesser_labels given → AllByRecursion (IsStored (plan_fields plan)) (all_chunks sorted)
-sorted_stored plan replicas blocks given sorted lie held h is = all_members (IsStored (plan_fields plan)) (all_chunks sorted) (λ c among.
-    let x = of_flat_map lent_chunks sorted c among in
-    let there : Contains given x.0 = of_in_order have_lesser_labels x.0 given (subst (λ l. Contains l x.0) is x.1) in
-    taken_stored plan replicas blocks (map series_of given) (series_of x.0) c lie held h.bytes h.are (into_map series_of given x.0 there) x.2)
-
--- series that are there are so in another order
-pub sorted_there : (given sorted : List InputSeries) → AllByRecursion IsThere given → sorted ≡ in_order have_lesser_labels given → AllByRecursion IsThere sorted
-sorted_there given sorted there is = all_members IsThere sorted (λ x among. each_member IsThere given x there (of_in_order have_lesser_labels x given (subst (λ l. Contains l x) is among)))
+-- the chunks of what is left of all blocks
+pub left_stored : (plan : BlockPlan) (replicas : List (List ℕ)) (blocks : List BlockFiles) (queues : List SeriesQueue) → AllByRecursion (LiesWithin plan) blocks → AllByRecursion HasContent blocks → HasQueues plan.labels replicas blocks queues
+    → AllByRecursion (IsStored (plan_fields plan)) (chunks_of (joined (lefts_in plan.labels replicas queues)))
+left_stored plan replicas blocks queues lie held h = all_members (IsStored (plan_fields plan)) (chunks_of (joined (lefts_in plan.labels replicas queues))) (λ c among.
+    let x = of_flat_map (λ (s : PutSeries). s.chunks) (joined (lefts_in plan.labels replicas queues)) c among in
+    taken_stored plan replicas blocks h.all x.0 c lie held h.bytes h.are (member_alike (joined (lefts_in plan.labels replicas queues)) h.all x.0 h.alike x.1) x.2)

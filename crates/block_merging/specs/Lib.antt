@@ -15,3 +15,4 @@ pub mod Inputs
 pub mod MergedBlock
 pub mod MergedContent
 pub mod MergeSteps
+pub mod Queues

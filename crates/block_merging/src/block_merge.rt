@@ -1,35 +1,40 @@
 //! The merge of blocks.
-ghost use Rattle.std.specs.Prelude.{◌≡◌, ◌⊎◌, ℕ, ◌<◌, ◌^◌, List, [], length, map, Err, IfOk, IfErr, OnOk};
+ghost use Rattle.std.specs.Prelude.{◌≡◌, ◌⊎◌, ℕ, ◌<◌, ◌^◌, [], map, Err, IfOk, IfErr, OnOk};
 ghost use Rattle.std.specs.List.{AllByRecursion};
-ghost use Rattle.std.specs.Ordering.{is_eq};
-ghost use Rattle.label_sets.specs.Labels.{compare_sets};
+ghost use Rattle.list_core.proofs.StableSorts.{Rises};
+ghost use Rattle.label_sets.specs.Labels.{IsLabelSet};
+ghost use Rattle.index_v2.specs.LentLabels.{as_label};
 ghost use Rattle.block_meta.specs.Lawful.{AreLawfulTimes};
-ghost use Rattle.list_core.specs.Ordered.{in_order};
 ghost use Rattle.block_writing.specs.Put.{IsStored, IsAfterSeries, nothing_put};
 ghost use Rattle.block_writing.specs.Writing.{plan_fields};
 ghost use Rattle.block_writing.specs.Files.{HaveNoIndex};
 ghost use Rattle.block_writing.specs.WrittenMeta.{IsWritten};
 ghost use Rattle.block_content.specs.ContentReading.{fitted};
 ghost use Rattle.block_content.specs.declared.check_refusal.CheckRefusal.{CheckRefusal};
-ghost use Rattle.block_merging.specs.declared.input_series.InputSeries.{InputSeries};
 ghost use Rattle.block_merging.specs.Inputs.{LiesWithin, IsFirstRefused};
+ghost use Rattle.block_merging.specs.Placed.{chunk_of};
+ghost use Rattle.block_merging.specs.Steps.{joined};
 ghost use Rattle.block_merging.specs.MergedBlock.{IsMergeOf, HaveNoMerge};
-ghost use Rattle.block_merging.specs.MergeSteps.{series_of, have_lesser_labels, IsThere, IsFirstGroup, all_chunks, HasGroup, HasAll};
+ghost use Rattle.block_merging.specs.MergeSteps.{HasGroup, HasAll};
+ghost use Rattle.block_merging.specs.Queues.{IsQueue, have_lesser_labels, lefts_in, chunks_of};
 
-use crate::input_series::{InputSeries, input_series, sort_by_labels};
-use crate::lent_chunks::group_chunks;
-use crate::{MergeRefusal, merge_series};
+use crate::group_taking::{next_group, take_group};
+use crate::lent_labels::set_of;
+use crate::queues::all_queues;
+use crate::series_queue::SeriesQueue;
+use crate::{InputChunk, MergeRefusal, merge_series};
 use block_files::{BlockFiles, BuildRefusal};
 use block_meta::BlockPlan;
 use block_writing::BlockWriter;
+use index_v2::LentLabel;
 use label_sets::{LabelSet, TextList};
 use list_core::{NoMemory, TryCopy};
 use std::alloc::Global;
 
 /// Merges blocks into the one of a plan. Of two blocks that have a sample under the same labels at one time the earlier one's
-/// pattern stays. Each chunk of each block is tested before any is merged. Beside the blocks and the merge it holds the
-/// reduced labels of their series, and the chunks of one series and the samples of one run of chunks at a time. While a block is
-/// tested it holds the series of its index.
+/// pattern stays. Each chunk of each block is tested before any is merged. Beside the blocks and the merge it holds one series
+/// at a time: of each block the next one and its opened index, with the numbers of all its series in the order of their reduced
+/// labels, and the samples of one run of chunks. While a block is tested it holds the series of its index.
 pub fn merge_blocks(
     alloc: Global,
     plan: &BlockPlan,
@@ -53,91 +58,77 @@ pub fn merge_blocks(
     ensures large { HaveNoMerge plan.now replicas.now inputs.now
         → (result ≡ Err MergeRefusal.TooLarge) ⊎ (result ≡ Err MergeRefusal.NoMemory) }
 {
-    let mut series = input_series(alloc, &plan.labels, replicas, inputs)?;
-    sort_by_labels(&mut series)?;
-    let writer = merged_writer(alloc, plan, series.as_slice())?;
+    let mut queues = all_queues(alloc, &plan.labels, replicas, inputs)?;
+    let writer = merged_writer(alloc, plan, replicas, &mut queues)?;
     finish(writer)
 }
 
-/// A writer that holds the merge of series.
+/// A writer that holds the merge of the series that are left.
 fn merged_writer(
     alloc: Global,
     plan: &BlockPlan,
-    sorted: &[InputSeries<'_>],
+    replicas: &TextList,
+    queues: &mut Vec<SeriesQueue<'_>>,
 ) -> Result<BlockWriter, NoMemory>
-    requires there { AllByRecursion IsThere sorted.now }
-    requires stored { AllByRecursion (IsStored (plan_fields plan.now)) (all_chunks sorted.now) }
-    requires by { (given : List InputSeries) × (sorted.now ≡ in_order have_lesser_labels given) }
-    ensures { IfOk result (HasAll (plan_fields plan.now) (map series_of sorted.now)) }
+    requires queues { AllByRecursion (IsQueue plan.now.labels replicas.now) queues.old.items }
+    requires rise { AllByRecursion (Rises have_lesser_labels)
+        (lefts_in plan.now.labels replicas.now queues.old.items) }
+    requires stored { AllByRecursion (IsStored (plan_fields plan.now))
+        (chunks_of (joined (lefts_in plan.now.labels replicas.now queues.old.items))) }
+    ensures { IfOk result (HasAll (plan_fields plan.now)
+        (joined (lefts_in plan.now.labels replicas.now queues.old.items))) }
 {
     let mut writer = BlockWriter::new(alloc, plan.copy()?);
-    put_groups(alloc, &mut writer, sorted)?;
+    put_groups(alloc, &mut writer, &plan.labels, replicas, queues)?;
     Ok(writer)
 }
 
-/// Puts the merge of each group of series with equal labels.
+/// Puts the merge of the series that are left, one group of equal labels after another.
 fn put_groups(
     alloc: Global,
     writer: &mut BlockWriter,
-    sorted: &[InputSeries<'_>],
+    external: &LabelSet,
+    replicas: &TextList,
+    queues: &mut Vec<SeriesQueue<'_>>,
 ) -> Result<(), NoMemory>
-    requires there { AllByRecursion IsThere sorted.now }
-    requires stored { AllByRecursion (IsStored writer.old.plan) (all_chunks sorted.now) }
-    requires by { (given : List InputSeries) × (sorted.now ≡ in_order have_lesser_labels given) }
+    requires queues { AllByRecursion (IsQueue external.now replicas.now) queues.old.items }
+    requires rise { AllByRecursion (Rises have_lesser_labels)
+        (lefts_in external.now replicas.now queues.old.items) }
+    requires stored { AllByRecursion (IsStored writer.old.plan)
+        (chunks_of (joined (lefts_in external.now replicas.now queues.old.items))) }
     requires times { AreLawfulTimes writer.old.plan.min_time writer.old.plan.max_time }
     requires nothing { writer.old ≡ nothing_put writer.old.plan }
-    ensures { OnOk result (HasAll writer.old.plan (map series_of sorted.now) writer.new) }
+    ensures { OnOk result (HasAll writer.old.plan
+        (joined (lefts_in external.now replicas.now queues.old.items)) writer.new) }
 {
-    let mut start = 0;
-    while start < sorted.len() {
-        let left = &sorted[start..];
-        let count = first_group(left);
-        put_group(alloc, writer, &left[0].labels, &left[..count])?;
-        start += count;
+    while let Some(labels) = next_group(alloc, external, replicas, queues.as_slice())? {
+        let lent = labels.as_slice();
+        let chunks = take_group(alloc, external, replicas, queues, lent)?;
+        let taken = chunks.as_slice();
+        put_group(alloc, writer, lent, taken)?;
     }
     Ok(())
 }
 
-fn has_labels(series: &InputSeries<'_>, labels: &LabelSet) -> bool
-    ensures { result ≡ is_eq (compare_sets series.now.labels labels.now) }
-{
-    series.labels == *labels
-}
-
-/// How many of the first series have the labels of the first one.
-fn first_group(series: &[InputSeries<'_>]) -> usize
-    requires some { 0 < length series.now }
-    ensures { IsFirstGroup series.now result }
-{
-    let first = &series[0].labels;
-    for (place, one) in series.iter().enumerate() {
-        if !has_labels(one, first) {
-            return place;
-        }
-    }
-    series.len()
-}
-
-/// Puts the merge of series with equal labels, if they have chunks.
+/// Puts the merge of the chunks of series with equal labels, if there are any.
 fn put_group(
     alloc: Global,
     writer: &mut BlockWriter,
-    labels: &LabelSet,
-    group: &[InputSeries<'_>],
+    labels: &[LentLabel<'_>],
+    chunks: &[InputChunk<'_>],
 ) -> Result<(), NoMemory>
-    requires there { AllByRecursion IsThere group.now }
-    requires stored { AllByRecursion (IsStored writer.old.plan) (all_chunks group.now) }
+    requires lawful { IsLabelSet (map as_label labels.now) }
+    requires stored { AllByRecursion (IsStored writer.old.plan) (map chunk_of chunks.now) }
     requires times { AreLawfulTimes writer.old.plan.min_time writer.old.plan.max_time }
     requires nothing_left { writer.old.chunks ≡ [] }
-    requires greater { IsAfterSeries writer.old.series labels.now }
+    requires greater { IsAfterSeries writer.old.series (map as_label labels.now) }
     requires counted { writer.old.samples < 2 ^ 64 }
-    ensures { OnOk result (HasGroup writer.old labels.now (all_chunks group.now) writer.new) }
+    ensures { OnOk result (HasGroup writer.old (map as_label labels.now) (map chunk_of chunks.now) writer.new) }
 {
-    let chunks = group_chunks(alloc, group)?;
     if chunks.is_empty() {
         return Ok(());
     }
-    merge_series(alloc, writer, labels, chunks.as_slice())
+    merge_series(alloc, writer, &set_of(alloc, labels)?, chunks)
 }
 
 /// Ends a writer.

@@ -3,15 +3,19 @@
 #![tactic(auto)]
 
 mod block_merge;
+mod group_taking;
 mod input_chunk;
-mod input_series;
 mod laws;
 mod lent_chunks;
+mod lent_labels;
+mod listing;
 mod merge_refusal;
 mod mergeable;
 mod placed_chunk;
+mod queues;
 mod runs;
 mod series_merge;
+mod series_queue;
 mod standing_data;
 
 pub use block_merge::merge_blocks;

@@ -20,7 +20,7 @@ pub(crate) fn placed<'a>(
 ) -> Result<Vec<PlacedChunk<'a>>, NoMemory>
     ensures { IfOk result (λ made. made.items ≡ placed_from 0 chunks.now) }
 {
-    let mut made = Vec::new(alloc);
+    let mut made = Vec::with_capacity(alloc, chunks.len())?;
     for (place, chunk) in chunks.iter().enumerate() {
         made.push(PlacedChunk {
             chunk: *chunk,

@@ -7,7 +7,7 @@ ghost use Rattle.chunk_files.specs.Chunk.{IsFront, IsPlace};
 ghost use Rattle.chunk_files.specs.Layout.{xor};
 ghost use Rattle.block_writing.specs.Standing.{content_at};
 ghost use Rattle.block_writing.specs.Writing.{part_of};
-ghost use Rattle.block_merging.specs.MergeSteps.{IsStanding};
+ghost use Rattle.block_merging.specs.Queues.{IsStanding};
 
 use index_parts::ChunkPlace;
 use wire_bytes::{Blob, Cursor};

@@ -1,47 +1,67 @@
-use Rattle.std.proofs.Common.{◌-◌, List, take, drop, length, get_or, sym, subst, ap, arith}
-use Rattle.std.proofs.lemmas.List.{length-drop}
-use Rattle.label_sets.specs.declared.label.Label.{Label}
+use Rattle.std.proofs.Common.{List, map, sym, subst}
 use Rattle.std.specs.List.{AllByRecursion}
+use Rattle.list_core.proofs.StableSorts.{Rises}
+use Rattle.index_v2.specs.LentLabels.{as_label}
 use Rattle.block_writing.specs.Put.{IsStored}
-use Rattle.block_merging.specs.declared.input_series.InputSeries.{InputSeries}
-use Rattle.block_merging.specs.MergeSteps.{IsThere, IsFirstGroup, all_chunks, HasGroup}
-use Rattle.block_merging.proofs.GroupLoops.{whole_left, no_groups, groups_more, all_groups, group_there, group_stored, group_times, group_left, group_counted, group_greater}
+use Rattle.block_merging.specs.declared.input_chunk.InputChunk.{InputChunk}
+use Rattle.block_merging.specs.declared.series_queue.SeriesQueue.{SeriesQueue}
+use Rattle.block_merging.specs.Placed.{chunk_of}
+use Rattle.block_merging.specs.Steps.{joined}
+use Rattle.block_merging.specs.MergeSteps.{HasGroup}
+use Rattle.block_merging.specs.Queues.{IsQueue, have_lesser_labels, lefts_in}
+use Rattle.block_merging.proofs.AllQueues.{copied, group_least, none_here}
+use Rattle.block_merging.proofs.GroupsTaken.{walk_begins, walk_on, walk_lessens, walk_stored, walk_greater, walk_times, walk_counted, walk_ends}
 use Rattle.block_merging.proofs.block_merge.put_groups.Goals as goal
 
-pub loop-start-init : goal.loop-start-init
-loop-start-init c = no_groups c.args.sorted.now c.args.writer.now c.requires.nothing
+pub loop-labels-init : goal.loop-labels-init
+loop-labels-init c = (c.requires.queues, walk_begins (lefts_in c.args.external.now c.args.replicas.now c.args.queues.now.items) c.args.writer.now c.requires.rise c.requires.nothing)
 
-pub put_group-requires-clause-there : goal.put_group-requires-clause-there
-put_group-requires-clause-there c =
-    subst (λ (l : List InputSeries). AllByRecursion IsThere (take c.first_group-count.result l)) (sym (whole_left c.loop-start.start c.args.sorted.now))
-    (group_there c.args.sorted.now c.loop-start.start c.first_group-count.result c.requires.there)
+pub next_group-requires-clause-queues : goal.next_group-requires-clause-queues
+next_group-requires-clause-queues c = subst (AllByRecursion (IsQueue c.args.external.now c.args.replicas.now)) (sym c.as_slice.ensures.value) c.loop-labels.invariant.0
+
+pub next_group-requires-clause-rise : goal.next_group-requires-clause-rise
+next_group-requires-clause-rise c = subst (λ (l : List SeriesQueue). AllByRecursion (Rises have_lesser_labels) (lefts_in c.args.external.now c.args.replicas.now l)) (sym c.as_slice.ensures.value) c.loop-labels.invariant.1.rise
+
+pub take_group-requires : goal.take_group-requires
+take_group-requires c = c.loop-labels.invariant.0
+
+pub put_group-requires-clause-lawful : goal.put_group-requires-clause-lawful
+put_group-requires-clause-lawful c =
+    (group_least c.args.external.now c.args.replicas.now c.as_slice.result.now c.loop-labels.queues.items c.in_ok-labels.field-0 c.in-Some.labels c.as_slice-lent.result.now c.as_slice.ensures.value c.in-Some.is c.as_slice-lent.ensures.value c.in_ok-labels.ensures).lawful
 
 pub put_group-requires-clause-stored : goal.put_group-requires-clause-stored
 put_group-requires-clause-stored c =
-    subst (λ (l : List InputSeries). AllByRecursion (IsStored c.loop-start.writer.plan) (all_chunks (take c.first_group-count.result l))) (sym (whole_left c.loop-start.start c.args.sorted.now))
-    (group_stored c.args.writer.now.plan c.args.sorted.now c.loop-start.start c.first_group-count.result c.loop-start.writer c.requires.stored c.loop-start.invariant)
+    subst (λ (l : List InputChunk). AllByRecursion (IsStored c.loop-labels.writer.plan) (map chunk_of l)) (sym c.as_slice-taken.ensures.value)
+    (walk_stored c.args.writer.now.plan (joined (lefts_in c.args.external.now c.args.replicas.now c.args.queues.now.items)) (lefts_in c.args.external.now c.args.replicas.now c.loop-labels.queues.items) (lefts_in c.args.external.now c.args.replicas.now c.take_group.new.queues.items) (map as_label c.as_slice-lent.result.now) (map chunk_of c.in_ok-chunks.chunks.items) c.loop-labels.writer c.loop-labels.invariant.1
+    (group_least c.args.external.now c.args.replicas.now c.as_slice.result.now c.loop-labels.queues.items c.in_ok-labels.field-0 c.in-Some.labels c.as_slice-lent.result.now c.as_slice.ensures.value c.in-Some.is c.as_slice-lent.ensures.value c.in_ok-labels.ensures) c.in_ok-chunks.ensures.taken c.requires.stored)
 
 pub put_group-requires-clause-times : goal.put_group-requires-clause-times
-put_group-requires-clause-times c = group_times c.args.writer.now.plan c.args.sorted.now c.loop-start.start c.loop-start.writer c.requires.times c.loop-start.invariant
+put_group-requires-clause-times c = walk_times c.args.writer.now.plan (joined (lefts_in c.args.external.now c.args.replicas.now c.args.queues.now.items)) (lefts_in c.args.external.now c.args.replicas.now c.loop-labels.queues.items) c.loop-labels.writer c.requires.times c.loop-labels.invariant.1
 
 pub put_group-requires-clause-nothing_left : goal.put_group-requires-clause-nothing_left
-put_group-requires-clause-nothing_left c = group_left c.args.writer.now.plan c.args.sorted.now c.loop-start.start c.loop-start.writer c.loop-start.invariant
-
-pub put_group-requires-clause-counted : goal.put_group-requires-clause-counted
-put_group-requires-clause-counted c = group_counted c.args.writer.now.plan c.args.sorted.now c.loop-start.start c.loop-start.writer c.loop-start.invariant
+put_group-requires-clause-nothing_left c = c.loop-labels.invariant.1.has.nothing_left
 
 pub put_group-requires-clause-greater : goal.put_group-requires-clause-greater
 put_group-requires-clause-greater c =
-    group_greater c.args.writer.now.plan c.args.sorted.now c.loop-start.start c.index-left-0.result (get_or (take (length c.args.sorted.now - c.loop-start.start) (drop c.loop-start.start c.args.sorted.now)) 0 c.index-left-0.result).labels c.loop-start.writer
-    (ap (λ (l : List InputSeries). (get_or l 0 c.index-left-0.result).labels) (whole_left c.loop-start.start c.args.sorted.now)) (omega (arith, c.loop-start-test.true, length-drop c.loop-start.start c.args.sorted.now)) c.loop-start.invariant
+    walk_greater c.args.writer.now.plan (joined (lefts_in c.args.external.now c.args.replicas.now c.args.queues.now.items)) (lefts_in c.args.external.now c.args.replicas.now c.loop-labels.queues.items) (lefts_in c.args.external.now c.args.replicas.now c.take_group.new.queues.items) (map as_label c.as_slice-lent.result.now) (map chunk_of c.in_ok-chunks.chunks.items) c.loop-labels.writer c.loop-labels.invariant.1
+    (group_least c.args.external.now c.args.replicas.now c.as_slice.result.now c.loop-labels.queues.items c.in_ok-labels.field-0 c.in-Some.labels c.as_slice-lent.result.now c.as_slice.ensures.value c.in-Some.is c.as_slice-lent.ensures.value c.in_ok-labels.ensures) c.in_ok-chunks.ensures.taken
 
-pub loop-start-preserved : goal.loop-start-preserved
-loop-start-preserved c =
-    let labels : List Label = (get_or (take (length c.args.sorted.now - c.loop-start.start) (drop c.loop-start.start c.args.sorted.now)) 0 c.index-left-0.result).labels in
-    groups_more c.args.writer.now.plan c.args.sorted.now c.loop-start.start c.first_group-count.result c.index-left-0.result labels c.loop-start.writer c.put_group.new.writer c.requires.by
-    (ap (λ (l : List InputSeries). (get_or l 0 c.index-left-0.result).labels) (whole_left c.loop-start.start c.args.sorted.now))
-    (subst (λ (l : List InputSeries). IsFirstGroup l c.first_group-count.result) (whole_left c.loop-start.start c.args.sorted.now) c.first_group-count.ensures) c.loop-start.invariant
-    (subst (λ (l : List InputSeries). HasGroup c.loop-start.writer labels (all_chunks (take c.first_group-count.result l)) c.put_group.new.writer) (whole_left c.loop-start.start c.args.sorted.now) c.in_ok-put_group.ensures)
+pub put_group-requires-clause-counted : goal.put_group-requires-clause-counted
+put_group-requires-clause-counted c = walk_counted c.args.writer.now.plan (joined (lefts_in c.args.external.now c.args.replicas.now c.args.queues.now.items)) (lefts_in c.args.external.now c.args.replicas.now c.loop-labels.queues.items) c.loop-labels.writer c.loop-labels.invariant.1
+
+pub loop-labels-preserved : goal.loop-labels-preserved
+loop-labels-preserved c = (
+  c.in_ok-chunks.ensures.queues,
+  walk_on c.args.writer.now.plan (joined (lefts_in c.args.external.now c.args.replicas.now c.args.queues.now.items)) (lefts_in c.args.external.now c.args.replicas.now c.loop-labels.queues.items) (lefts_in c.args.external.now c.args.replicas.now c.take_group.new.queues.items) (map as_label c.as_slice-lent.result.now) (map chunk_of c.in_ok-chunks.chunks.items) c.loop-labels.writer c.loop-labels.invariant.1
+      (group_least c.args.external.now c.args.replicas.now c.as_slice.result.now c.loop-labels.queues.items c.in_ok-labels.field-0 c.in-Some.labels c.as_slice-lent.result.now c.as_slice.ensures.value c.in-Some.is c.as_slice-lent.ensures.value c.in_ok-labels.ensures) c.in_ok-chunks.ensures.taken c.put_group.new.writer
+      (subst (λ (l : List InputChunk). HasGroup c.loop-labels.writer (map as_label c.as_slice-lent.result.now) (map chunk_of l) c.put_group.new.writer) c.as_slice-taken.ensures.value c.in_ok-put_group.ensures),
+)
+
+pub loop-labels-smaller : goal.loop-labels-smaller
+loop-labels-smaller c =
+    walk_lessens c.args.writer.now.plan (joined (lefts_in c.args.external.now c.args.replicas.now c.args.queues.now.items)) (lefts_in c.args.external.now c.args.replicas.now c.loop-labels.queues.items) (lefts_in c.args.external.now c.args.replicas.now c.take_group.new.queues.items) (map as_label c.as_slice-lent.result.now) (map chunk_of c.in_ok-chunks.chunks.items) c.loop-labels.writer c.loop-labels.invariant.1
+    (group_least c.args.external.now c.args.replicas.now c.as_slice.result.now c.loop-labels.queues.items c.in_ok-labels.field-0 c.in-Some.labels c.as_slice-lent.result.now c.as_slice.ensures.value c.in-Some.is c.as_slice-lent.ensures.value c.in_ok-labels.ensures) c.in_ok-chunks.ensures.taken
 
 pub returns : goal.returns
-returns c = all_groups c.args.writer.now.plan c.args.sorted.now c.loop-start.start c.loop-start.writer c.loop-start-test.false c.loop-start.invariant
+returns c =
+    walk_ends c.args.writer.now.plan (joined (lefts_in c.args.external.now c.args.replicas.now c.args.queues.now.items)) (lefts_in c.args.external.now c.args.replicas.now c.loop-labels.queues.items) c.loop-labels.writer (none_here copied c.in_ok-labels.field-0 c.args.external.now c.args.replicas.now c.as_slice.result.now c.loop-labels.queues.items c.as_slice.ensures.value c.in_default.not-Some c.in_ok-labels.ensures) c.loop-labels.invariant.1

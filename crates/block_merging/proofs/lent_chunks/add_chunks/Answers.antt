@@ -2,7 +2,7 @@ use Rattle.std.proofs.Common.{map, refl}
 use Rattle.block_writing.specs.Writing.{chunk_in}
 use Rattle.block_writing.proofs.Tested.{refused_at}
 use Rattle.block_merging.specs.Placed.{chunk_of}
-use Rattle.block_merging.specs.MergeSteps.{IsStanding}
+use Rattle.block_merging.specs.Queues.{IsStanding}
 use Rattle.block_merging.proofs.InputWalks.{mapped_none, mapped_more, mapped_all}
 use Rattle.block_merging.proofs.lent_chunks.add_chunks.Goals as goal
 

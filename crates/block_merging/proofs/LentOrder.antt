@@ -1,0 +1,114 @@
+-- Labels that an index lends: those that are kept, and their order.
+use Rattle.std.proofs.Common.{◌≡◌, ℕ, ◌+◌, ◌<◌, ◌≤◌, Bool, true, false, cond, not, Option, None, Some, List, [], ◌∷◌, ◌++◌, length, map, take, drop, get_or, refl, sym, ap, ◌∙◌, arith, append-nil}
+use Rattle.std.specs.declared.cmp.Ordering.{Ordering}
+use Rattle.std.specs.declared.cmp.Ordering.TheVariants.{Less, Equal, Greater}
+use Rattle.std.specs.Ordering.{ordering_then, is_eq}
+use Rattle.std.proofs.lemmas.Bool.{true≢false}
+use Rattle.std.proofs.lemmas.List.{map-append, take_more, drop_more, drop_all}
+use Rattle.list_core.proofs.Lists.{take_none, drop_none}
+use Rattle.label_sets.specs.declared.label.Label.{Label}
+use Rattle.label_sets.specs.Labels.{compare_labels, compare_sets, value_of}
+use Rattle.label_sets.specs.Finals.{is_among, reduced_of}
+use Rattle.label_sets.proofs.FinalLabels.{reduced-nil, reduced-append, reduced_external, reduced_own}
+use Rattle.index_v2.specs.declared.lent_label.LentLabel.{LentLabel}
+use Rattle.index_v2.specs.LentLabels.{as_label}
+
+-- ---- labels that are kept
+
+pub has_value : (external : List Label) (label : Label) (replicas : List (List ℕ)) (found : Option (List ℕ)) (value : List ℕ) → found ≡ value_of external label.name → found ≡ Some value → reduced_of (label ∷ []) external replicas ≡ []
+has_value external label replicas found value is some = reduced_external label external replicas value (sym is ∙ some)
+
+pub has_none : (external : List Label) (label : Label) (replicas names : List (List ℕ)) (found : Option (List ℕ)) (b : Bool) → found ≡ value_of external label.name → found ≡ None → names ≡ replicas → b ≡ is_among names label.name → reduced_of (label ∷ []) external replicas ≡ cond (not b) (label ∷ []) []
+has_none external label replicas names found b is none same told = reduced_own label external replicas b (sym is ∙ none) (told ∙ ap (λ (l : List (List ℕ)). is_among l label.name) same)
+
+-- labels of a set, which lend their texts
+pub no_label_kept : (labels : List Label) (kept : List LentLabel) (external : List Label) (replicas : List (List ℕ)) → kept ≡ [] → map as_label kept ≡ reduced_of (take 0 labels) external replicas
+no_label_kept labels kept external replicas none = ap (map as_label) none ∙ sym (ap (λ (l : List Label). reduced_of l external replicas) (take_none labels) ∙ reduced-nil external replicas)
+
+part_more : (labels : List Label) (kept now part : List LentLabel) (k : ℕ) (label d : Label) (external : List Label) (replicas : List (List ℕ)) → k < length labels → label ≡ get_or labels k d → map as_label kept ≡ reduced_of (take k labels) external replicas
+    → reduced_of (label ∷ []) external replicas ≡ map as_label part → now ≡ kept ++ part → map as_label now ≡ reduced_of (take (k + 1) labels) external replicas
+part_more labels kept now part k label d external replicas lt at was one added =
+    ap (map as_label) added ∙ map-append as_label kept part ∙ ap (λ (l : List Label). l ++ map as_label part) was ∙ ap (λ (l : List Label). reduced_of (take k labels) external replicas ++ l) (sym one)
+    ∙ sym (ap (λ (l : List Label). reduced_of l external replicas) (take_more labels k d lt ∙ ap (λ (x : Label). take k labels ++ x ∷ []) (sym at)) ∙ reduced-append (take k labels) (label ∷ []) external replicas)
+
+pub label_kept : (labels : List Label) (kept now : List LentLabel) (k : ℕ) (label d : Label) (lent : LentLabel) (external : List Label) (replicas : List (List ℕ)) → k < length labels → label ≡ get_or labels k d → map as_label kept ≡ reduced_of (take k labels) external replicas → as_label lent ≡ label
+    → reduced_of (as_label lent ∷ []) external replicas ≡ as_label lent ∷ [] → now ≡ kept ++ lent ∷ [] → map as_label now ≡ reduced_of (take (k + 1) labels) external replicas
+label_kept labels kept now k label d lent external replicas lt at was same one added =
+    part_more labels kept now (lent ∷ []) k label d external replicas lt at was (ap (λ (l : Label). reduced_of (l ∷ []) external replicas) (sym same) ∙ one) added
+
+pub label_left_out : (labels : List Label) (kept now : List LentLabel) (k : ℕ) (label d : Label) (lent : LentLabel) (external : List Label) (replicas : List (List ℕ)) → k < length labels → label ≡ get_or labels k d → map as_label kept ≡ reduced_of (take k labels) external replicas → as_label lent ≡ label
+    → reduced_of (as_label lent ∷ []) external replicas ≡ [] → now ≡ kept → map as_label now ≡ reduced_of (take (k + 1) labels) external replicas
+label_left_out labels kept now k label d lent external replicas lt at was same one still =
+    part_more labels kept now [] k label d external replicas lt at was (ap (λ (l : Label). reduced_of (l ∷ []) external replicas) (sym same) ∙ one) (still ∙ sym (append-nil kept))
+
+pub none_kept : (labels kept : List LentLabel) (external : List Label) (replicas : List (List ℕ)) → kept ≡ [] → map as_label kept ≡ reduced_of (map as_label (take 0 labels)) external replicas
+none_kept labels kept external replicas none = ap (map as_label) none ∙ sym (ap (λ (l : List LentLabel). reduced_of (map as_label l) external replicas) (take_none labels) ∙ reduced-nil external replicas)
+
+pub kept_more : (labels kept now part : List LentLabel) (k : ℕ) (label d : LentLabel) (external : List Label) (replicas : List (List ℕ)) → k < length labels → label ≡ get_or labels k d → map as_label kept ≡ reduced_of (map as_label (take k labels)) external replicas
+    → reduced_of (as_label label ∷ []) external replicas ≡ map as_label part → now ≡ kept ++ part → map as_label now ≡ reduced_of (map as_label (take (k + 1) labels)) external replicas
+kept_more labels kept now part k label d external replicas lt at was one added =
+    ap (map as_label) added ∙ map-append as_label kept part ∙ ap (λ (l : List Label). l ++ map as_label part) was ∙ ap (λ (l : List Label). reduced_of (map as_label (take k labels)) external replicas ++ l) (sym one)
+    ∙ sym (ap (λ (l : List LentLabel). reduced_of (map as_label l) external replicas) (take_more labels k d lt ∙ ap (λ (x : LentLabel). take k labels ++ x ∷ []) (sym at))
+    ∙ ap (λ (l : List Label). reduced_of l external replicas) (map-append as_label (take k labels) (label ∷ [])) ∙ reduced-append (map as_label (take k labels)) (as_label label ∷ []) external replicas)
+
+-- ---- their order
+
+abbrev compared : List LentLabel → List LentLabel → Ordering
+compared one other = compare_sets (map as_label one) (map as_label other)
+
+-- so many of the first labels are the same
+pub record SameSoFar (one other : List LentLabel) (place : ℕ) : Type 0 where
+  pub short : place ≤ length one
+  pub within : place ≤ length other
+  pub rest : compared one other ≡ compared (drop place one) (drop place other)
+
+pub same_none : (one other : List LentLabel) → SameSoFar one other 0
+same_none one other = record { short = omega arith; within = omega arith; rest = sym (ap (λ (l : List LentLabel). compared l (drop 0 other)) (drop_none one) ∙ ap (compared one) (drop_none other)) }
+
+next_pair : (one other : List LentLabel) (place : ℕ) (d e : LentLabel) → place < length one → place < length other → SameSoFar one other place
+    → compared one other ≡ ordering_then (compare_labels (as_label (get_or one place d)) (as_label (get_or other place e))) (compared (drop (place + 1) one) (drop (place + 1) other))
+next_pair one other place d e lt less h = h.rest ∙ ap (λ (l : List LentLabel). compared l (drop place other)) (drop_more one place d lt) ∙ ap (compared (get_or one place d ∷ drop (place + 1) one)) (drop_more other place e less)
+
+is_equal : (o : Ordering) → is_eq o ≡ true → o ≡ Equal
+is_equal Equal t = refl
+is_equal Less t = absurd (true≢false (sym t))
+is_equal Greater t = absurd (true≢false (sym t))
+
+pub same_more : (one other : List LentLabel) (place : ℕ) (x y d e : LentLabel) (o : Ordering) → place < length one → place < length other → x ≡ get_or one place d → y ≡ get_or other place e → SameSoFar one other place → o ≡ compare_labels (as_label x) (as_label y) → is_eq o ≡ true → SameSoFar one other (place + 1)
+same_more one other place x y d e o lt less at there h is equal = record {
+  short = omega (arith, lt);
+  within = omega (arith, less);
+  rest = next_pair one other place d e lt less h
+      ∙ ap (λ (r : Ordering). ordering_then r (compared (drop (place + 1) one) (drop (place + 1) other)))
+      (ap (λ (l : LentLabel). compare_labels (as_label l) (as_label (get_or other place e))) (sym at) ∙ ap (λ (l : LentLabel). compare_labels (as_label x) (as_label l)) (sym there) ∙ sym is ∙ is_equal o equal);
+}
+
+told_by_first : (o r : Ordering) → is_eq o ≡ false → ordering_then o r ≡ o
+told_by_first Less r apart = refl
+told_by_first Equal r apart = absurd (true≢false apart)
+told_by_first Greater r apart = refl
+
+pub differ_here : (one other : List LentLabel) (place : ℕ) (x y d e : LentLabel) (o : Ordering) → place < length one → place < length other → x ≡ get_or one place d → y ≡ get_or other place e → SameSoFar one other place → o ≡ compare_labels (as_label x) (as_label y) → is_eq o ≡ false → o ≡ compared one other
+differ_here one other place x y d e o lt less at there h is apart =
+    sym (next_pair one other place d e lt less h
+    ∙ ap (λ (r : Ordering). ordering_then r (compared (drop (place + 1) one) (drop (place + 1) other)))
+    (ap (λ (l : LentLabel). compare_labels (as_label l) (as_label (get_or other place e))) (sym at) ∙ ap (λ (l : LentLabel). compare_labels (as_label x) (as_label l)) (sym there) ∙ sym is)
+    ∙ told_by_first o (compared (drop (place + 1) one) (drop (place + 1) other)) apart)
+
+some_and_none : (one : List LentLabel) (place : ℕ) (d : LentLabel) → place < length one → compared (drop place one) [] ≡ Greater
+some_and_none one place d lt = ap (λ (l : List LentLabel). compared l []) (drop_more one place d lt)
+
+some_label : (labels : List LentLabel) → 0 < length labels → LentLabel
+some_label [] lt = absurd (omega (arith, lt))
+some_label (l ∷ ls) lt = l
+
+pub ends_first : (one other : List LentLabel) (place : ℕ) → place < length one → length other ≤ place → SameSoFar one other place → Greater ≡ compared one other
+ends_first one other place lt all h = sym (h.rest ∙ ap (compared (drop place one)) (drop_all place other all) ∙ some_and_none one place (some_label one (omega (arith, lt))) lt)
+
+-- so many of the first labels are all of the one
+pub is_front : (one other : List LentLabel) (place : ℕ) → length one ≤ place → length one < length other → SameSoFar one other place → Less ≡ compared one other
+is_front one other place all longer h =
+    sym (h.rest ∙ ap (λ (l : List LentLabel). compared l (drop place other)) (drop_all place one all) ∙ ap (compared []) (drop_more other place (some_label other (omega (arith, longer))) (omega (arith, h.short, longer))))
+
+pub are_equal : (one other : List LentLabel) (place : ℕ) → length one ≤ place → length other ≤ length one → SameSoFar one other place → Equal ≡ compared one other
+are_equal one other place all shorter h = sym (h.rest ∙ ap (λ (l : List LentLabel). compared l (drop place other)) (drop_all place one all) ∙ ap (compared []) (drop_all place other (omega (arith, all, shorter))))

@@ -1,0 +1,93 @@
+//! The series that come next in the order of their labels, of all blocks.
+ghost use Rattle.std.specs.Prelude.{◌≡◌, map, option_map, IfOk, OnOk};
+ghost use Rattle.std.specs.List.{AllByRecursion};
+ghost use Rattle.list_core.proofs.StableSorts.{Rises};
+ghost use Rattle.index_v2.specs.LentLabels.{as_label};
+ghost use Rattle.block_merging.specs.Placed.{chunk_of};
+ghost use Rattle.block_merging.specs.Steps.{joined};
+ghost use Rattle.block_merging.specs.Queues.{IsQueue, have_lesser_labels, lesser, lefts_in, LeastIs, TakesGroup};
+
+use crate::InputChunk;
+use crate::lent_labels::compare;
+use crate::series_queue::{SeriesQueue, next_labels, take_front};
+use index_v2::LentLabel;
+use label_sets::{LabelSet, TextList};
+use list_core::NoMemory;
+use std::alloc::Global;
+
+/// The lesser labels, or those that are there.
+fn lesser<'q, 'a>(
+    one: Option<&'q [LentLabel<'a>]>,
+    other: Option<&'q [LentLabel<'a>]>,
+) -> Option<&'q [LentLabel<'a>]>
+    ensures { option_map (λ l. map as_label l.now) result
+        ≡ lesser (option_map (λ l. map as_label l.now) one.entry)
+        (option_map (λ l. map as_label l.now) other.entry) }
+{
+    match (one, other) {
+        (Some(first), Some(second)) if compare(second, first).is_lt() => other,
+        (Some(_), _) => one,
+        (None, _) => other,
+    }
+}
+
+/// The least labels of the series that are left, if any is.
+fn least_labels<'q, 'a>(
+    external: &LabelSet,
+    replicas: &TextList,
+    queues: &'q [SeriesQueue<'a>],
+) -> Option<&'q [LentLabel<'a>]>
+    requires queues { AllByRecursion (IsQueue external.now replicas.now) queues.now }
+    requires rise { AllByRecursion (Rises have_lesser_labels)
+        (lefts_in external.now replicas.now queues.now) }
+    ensures { LeastIs (option_map (λ l. map as_label l.now) result)
+        (joined (lefts_in external.now replicas.now queues.now)) }
+{
+    let mut least = None;
+    for queue in queues {
+        least = lesser(least, next_labels(queue));
+    }
+    least
+}
+
+/// A copy of the least labels of the series that are left, if any is. Their texts are still lent.
+pub(crate) fn next_group<'a>(
+    alloc: Global,
+    external: &LabelSet,
+    replicas: &TextList,
+    queues: &[SeriesQueue<'a>],
+) -> Result<Option<Vec<LentLabel<'a>>>, NoMemory>
+    requires queues { AllByRecursion (IsQueue external.now replicas.now) queues.now }
+    requires rise { AllByRecursion (Rises have_lesser_labels)
+        (lefts_in external.now replicas.now queues.now) }
+    ensures { IfOk result (λ least. LeastIs (option_map (λ l. map as_label l.items) least)
+        (joined (lefts_in external.now replicas.now queues.now))) }
+{
+    match least_labels(external, replicas, queues) {
+        Some(labels) => Ok(Some(Vec::from_slice(alloc, labels)?)),
+        None => Ok(None),
+    }
+}
+
+/// Takes the series that have these labels from the fronts of all queues, and gives their chunks, one series after another.
+pub(crate) fn take_group<'a>(
+    alloc: Global,
+    external: &LabelSet,
+    replicas: &TextList,
+    queues: &mut Vec<SeriesQueue<'a>>,
+    labels: &[LentLabel<'_>],
+) -> Result<Vec<InputChunk<'a>>, NoMemory>
+    requires { AllByRecursion (IsQueue external.now replicas.now) queues.old.items }
+    ensures queues { OnOk result
+        (AllByRecursion (IsQueue external.now replicas.now) queues.new.items) }
+    ensures taken { IfOk result (λ chunks. TakesGroup (map as_label labels.now)
+        (lefts_in external.now replicas.now queues.old.items)
+        (lefts_in external.now replicas.now queues.new.items) (map chunk_of chunks.items)) }
+{
+    let mut chunks = Vec::new(alloc);
+    for place in 0..queues.len() {
+        let queue = &mut queues[place];
+        chunks = take_front(alloc, external, replicas, queue, labels, chunks)?;
+    }
+    Ok(chunks)
+}

@@ -1,0 +1,142 @@
+//! The series of one block that are still to be merged.
+ghost use Rattle.std.specs.Prelude.{◌≡◌, ◌<◌, ℕ, List, length, map, option_map, IfOk, OnOk};
+ghost use Rattle.std.specs.List.{AllByRecursion};
+ghost use Rattle.list_core.proofs.StableSorts.{Rises};
+ghost use Rattle.label_sets.specs.declared.label.Label.{Label};
+ghost use Rattle.index_file.specs.IndexFile.{IsSeriesOf};
+ghost use Rattle.index_v2.specs.LentLabels.{as_label};
+ghost use Rattle.index_file.specs.declared.index_series.IndexSeries.{IndexSeries};
+ghost use Rattle.block_merging.specs.Placed.{chunk_of};
+ghost use Rattle.block_merging.specs.Queues.{IsRead, IsNext, IsQueue, HasAdvanced, IsFrontOf, have_lesser_labels, left_in, LeastIs, head_is};
+
+use crate::InputChunk;
+use crate::lent_chunks::add_chunks;
+use crate::lent_labels::{compare, kept_lent};
+use crate::listing::SeriesPlace;
+use block_files::BlockFiles;
+use index_parts::ChunkPlace;
+use index_v2::{IndexReader, LentLabel, LentSeries};
+use label_sets::{LabelSet, TextList};
+use list_core::NoMemory;
+use std::alloc::Global;
+
+/// The series of a block in the order of their reduced labels. The next one is read; those that were taken are let go.
+#[derive(Drop)]
+pub(crate) struct SeriesQueue<'a> {
+    pub(crate) block: &'a BlockFiles,
+    pub(crate) reader: IndexReader<'a>,
+    pub(crate) places: Vec<SeriesPlace>,
+    /// How many were taken.
+    pub(crate) taken: usize,
+    /// Where the chunks of the next one stand, and its reduced labels.
+    pub(crate) chunks: Vec<ChunkPlace>,
+    pub(crate) labels: Vec<LentLabel<'a>>,
+}
+
+/// The series of a number. It was read before, so only memory can be wanting.
+fn series_at<'a>(
+    alloc: Global,
+    reader: &IndexReader<'a>,
+    number: u32,
+) -> Result<LentSeries<'a>, NoMemory>
+    ensures { (series : IndexSeries)
+        → IsSeriesOf reader.now.bytes reader.now.symbols number series
+        → IfOk result (λ read. read ≡ series) }
+{
+    match reader.lent_series(number, LentSeries::new(alloc)) {
+        Ok(series) => Ok(series),
+        Err(_) => Err(NoMemory),
+    }
+}
+
+/// Where the chunks of the series behind those that were taken stand, and its reduced labels, if one is left.
+pub(crate) fn next_of<'a>(
+    alloc: Global,
+    external: &LabelSet,
+    replicas: &TextList,
+    reader: &IndexReader<'a>,
+    places: &[SeriesPlace],
+    taken: usize,
+) -> Result<(Vec<ChunkPlace>, Vec<LentLabel<'a>>), NoMemory>
+    requires { AllByRecursion (IsRead reader.now) places.now }
+    ensures { IfOk result (λ next. IsNext external.now replicas.now places.now taken
+        (map as_label next.1.items) next.0.items) }
+{
+    if taken >= places.len() {
+        return Ok((Vec::new(alloc), Vec::new(alloc)));
+    }
+    let series = series_at(alloc, reader, places[taken].number)?;
+    let labels = kept_lent(alloc, series.labels(), external, replicas)?;
+    let chunks = Vec::from_slice(alloc, series.chunks())?;
+    Ok((chunks, labels))
+}
+
+/// Lets the next series go, and reads the one behind it.
+fn advance<'a>(
+    alloc: Global,
+    external: &LabelSet,
+    replicas: &TextList,
+    queue: &mut SeriesQueue<'a>,
+) -> Result<(), NoMemory>
+    requires is { IsQueue external.now replicas.now queue.old }
+    requires some { queue.old.taken < length queue.old.places.items }
+    ensures { OnOk result (HasAdvanced external.now replicas.now queue.old queue.new) }
+{
+    queue.taken += 1;
+    let (chunks, labels) = next_of(
+        alloc,
+        external,
+        replicas,
+        &queue.reader,
+        queue.places.as_slice(),
+        queue.taken,
+    )?;
+    queue.chunks = chunks;
+    queue.labels = labels;
+    Ok(())
+}
+
+/// The labels of the next series, if there is one.
+pub(crate) fn next_labels<'q, 'a>(queue: &'q SeriesQueue<'a>) -> Option<&'q [LentLabel<'a>]>
+    ensures { (external : List Label) (replicas : List (List ℕ))
+        → IsQueue external replicas queue.now
+        → Rises have_lesser_labels (left_in external replicas queue.now)
+        → LeastIs (option_map (λ l. map as_label l.now) result) (left_in external replicas queue.now) }
+{
+    if queue.taken < queue.places.len() {
+        Some(queue.labels.as_slice())
+    } else {
+        None
+    }
+}
+
+/// Whether a series is left, and the next one has these labels.
+fn has_next(queue: &SeriesQueue<'_>, labels: &[LentLabel<'_>]) -> bool
+    ensures { head_is queue.now (map as_label labels.now) result }
+{
+    queue.taken < queue.places.len() && compare(queue.labels.as_slice(), labels).is_eq()
+}
+
+/// Takes the series that have these labels from the front, and adds their chunks behind others.
+pub(crate) fn take_front<'a>(
+    alloc: Global,
+    external: &LabelSet,
+    replicas: &TextList,
+    queue: &mut SeriesQueue<'a>,
+    labels: &[LentLabel<'_>],
+    chunks: Vec<InputChunk<'a>>,
+) -> Result<Vec<InputChunk<'a>>, NoMemory>
+    requires { IsQueue external.now replicas.now queue.old }
+    ensures is { OnOk result (IsQueue external.now replicas.now queue.new) }
+    ensures taken { IfOk result (λ all. IsFrontOf (map as_label labels.now)
+        (left_in external.now replicas.now queue.old) (left_in external.now replicas.now queue.new)
+        (map chunk_of chunks.entry.items) (map chunk_of all.items)) }
+{
+    let mut all = chunks;
+    while has_next(queue, labels) {
+        let block = queue.block;
+        all = add_chunks(all, block.segments.members(), queue.chunks.as_slice())?;
+        advance(alloc, external, replicas, queue)?;
+    }
+    Ok(all)
+}
