@@ -47,11 +47,14 @@ fn job_of(alloc: Global, group: Group) -> Result<Option<Job>, NoMemory>
     let [first, others @ ..] = plan else {
         return Ok(None);
     };
+    let parents = ulids(alloc, plan)?;
+    let others = copies(alloc, others)?;
+    let first = first.copy()?;
     Ok(Some(Job {
         labels,
-        first: first.copy()?,
-        others: copies(alloc, others)?,
-        parents: ulids(alloc, plan)?,
+        first,
+        others,
+        parents,
     }))
 }
 

@@ -151,7 +151,7 @@ impl Reads {
     {
         if more > 0 {
             let key = next_key(&input);
-            self.stage = ReadStage::Segmenting(input, more - 1);
+            drop(mem::replace(&mut self.stage, ReadStage::Segmenting(input, more - 1)));
             Ok(Act::Do(Op::Get(key)))
         } else {
             self.inputs.push(input)?;

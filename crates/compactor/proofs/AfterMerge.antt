@@ -1,9 +1,9 @@
 -- What follows a merge.
-use Rattle.std.proofs.Common.{◌≡◌, ℕ, List, inr, sym, subst, Result}
+use Rattle.std.proofs.Common.{◌≡◌, ℕ, List, inr, subst, Result}
 use Rattle.list_core.specs.declared.memory.NoMemory.{NoMemory}
 use Rattle.label_sets.specs.declared.label.Label.{Label}
 use Rattle.moment_core.specs.declared.moment.Moment.{Moment}
-use Rattle.world_core.specs.Plans.{Plan, Runs, ends, finds, IsAtMostOne}
+use Rattle.world_core.specs.Plans.{Plan, finds, IsAtMostOne}
 use Rattle.world_core.specs.declared.act.Act.{Act}
 use Rattle.compactor.specs.Compactions.{after_merge, merging}
 use Rattle.compactor.specs.CompactStates.{Begins, groups_left}

@@ -1,6 +1,5 @@
 -- How a compaction begins, and how its reads end.
-use Rattle.std.proofs.Common.{◌≡◌, ℕ, List, [], ◌∷◌, Option, Some, None, IsSomeAnd, Result, Ok, Err, inl, inr, refl, sym, subst, ◌∙◌}
-use Rattle.list_core.specs.declared.memory.NoMemory.{NoMemory}
+use Rattle.std.proofs.Common.{◌≡◌, ℕ, List, [], ◌∷◌, Option, Some, None, IsSomeAnd, Ok, inl, inr, refl, subst}
 use Rattle.moment_core.specs.declared.rules.Rules.{Rules}
 use Rattle.world_core.specs.Machines.{GoesOn}
 use Rattle.world_core.specs.Operations.{IsAnswer, entry_of}
@@ -15,7 +14,7 @@ use Rattle.meta_fetcher.specs.declared.rules.SyncRules.{SyncRules}
 use Rattle.meta_fetcher.specs.declared.sync.Sync.{Sync}
 use Rattle.meta_fetcher.specs.declared.sync_end.SyncEnd.{SyncEnd}
 use Rattle.compactor.specs.Compactions.{sync_rules, after_sync, CompactRun}
-use Rattle.world_core.specs.Parts.{PartThen, HandsOn}
+use Rattle.world_core.specs.Parts.{PartThen}
 use Rattle.compaction_inputs.proofs.ReadSteps.{ends_fit}
 use Rattle.compaction_inputs.specs.Reading.{FitsEnd}
 use Rattle.compaction_inputs.specs.contracts.reads.ReadsMachine.TheImpl.{ghosts as reads}

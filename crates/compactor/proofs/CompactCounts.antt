@@ -1,5 +1,5 @@
 -- How many operations a compaction still asks for.
-use Rattle.std.proofs.Common.{◌≡◌, ◌+◌, ◌*◌, ◌^◌, ◌<◌, ◌≤◌, ℕ, List, ◌∷◌, ◌++◌, length, length-append, Result, Ok, Err, sym, ap, subst, ◌∙◌, arith}
+use Rattle.std.proofs.Common.{◌≡◌, ◌+◌, ◌*◌, ◌<◌, ◌≤◌, ℕ, List, ◌∷◌, length, length-append, Result, Ok, Err, sym, ap, subst, ◌∙◌, arith}
 use Rattle.list_core.specs.declared.memory.NoMemory.{NoMemory}
 use Rattle.world_core.specs.Machines.{Falls}
 use Rattle.world_core.specs.declared.op.Op.{Op}
@@ -7,7 +7,7 @@ use Rattle.world_core.specs.declared.act.Act.{Act}
 use Rattle.world_core.specs.declared.act.Act.TheVariants as act
 use Rattle.group_planner.specs.declared.group.Group.{Group}
 use Rattle.compactor.specs.CompactStates.{most_asked, count_at, count_of}
-use Rattle.compaction_inputs.specs.Jobs.{Skips, TakesJob}
+use Rattle.compaction_inputs.specs.Jobs.{TakesJob}
 use Rattle.compactor.specs.declared.compact.Compact.{Compact}
 use Rattle.compaction_inputs.specs.declared.job.Job.{Job}
 use Rattle.compactor.specs.declared.stage.Stage.{Stage}

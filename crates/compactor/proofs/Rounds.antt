@@ -10,7 +10,7 @@ use Rattle.group_planner.specs.declared.group.Group.{Group}
 use Rattle.group_planner.proofs.GroupLaws.{one_answer}
 use Rattle.world_core.specs.Plans.{finds, ends}
 use Rattle.block_marking.specs.FoundNames.{names_of, expired_at}
-use Rattle.compactor.specs.Compactions.{metas_of, compacting_groups, rounds}
+use Rattle.compactor.specs.Compactions.{metas_of, rounds}
 use Rattle.compactor.specs.CompactStates.{groups_from, groups_left, marks_left, Begins}
 use Rattle.compactor.specs.Compactions.{compacting}
 use Rattle.compaction_inputs.specs.Jobs.{Skips, TakesJob, metas_of as job_metas}

@@ -246,7 +246,10 @@ impl Compact {
             parents,
         } = job;
         let mut reads = Reads::start(self.alloc, first, others);
-        let act = reads.first()?;
+        let Ok(act) = reads.first() else {
+            drop(reads);
+            return Err(NoMemory);
+        };
         match act {
             Act::Do(op) => {
                 self.wait_in(Stage::Reading(reads, labels, parents));
@@ -274,7 +277,10 @@ impl Compact {
         ensures falls { Falls (count_at (Stage.Reading reads labels parents)
             (length self.old.groups.items)) result (count_of self.new) }
     {
-        let act = reads.step(seen)?;
+        let Ok(act) = reads.step(seen) else {
+            drop(reads);
+            return Err(NoMemory);
+        };
         match act {
             Act::Do(op) => {
                 self.wait_in(Stage::Reading(reads, labels, parents));

@@ -75,6 +75,36 @@ fn least_names<R: Files + AllocGlobal + Clone + Drop>(
     Ok(least.into_names())
 }
 
+/// The path of a name in a folder that is given by its own path, which may be empty.
+fn path_below<R: AllocGlobal>(rt: &R, below: &str, name: &str) -> io::Result<String> {
+    if below.is_empty() {
+        return Ok(String::from_str(rt.alloc(), name)?);
+    }
+    path_of(rt, below, name)
+}
+
+/// Adds an entry of a folder to the files, or to the folders that are still to be looked at.
+fn add_entry<R: Files + AllocGlobal + Clone + Drop>(
+    rt: &R,
+    below: &str,
+    entry: &DirEntry<R>,
+    pending: &mut Vec<String>,
+    files: &mut Vec<String>,
+) -> io::Result<()> {
+    let name = entry.file_name();
+    if name.starts_with('.') {
+        return Ok(());
+    }
+    let kind = entry.file_type()?;
+    let found = path_below(rt, below, name)?;
+    if kind.is_dir() {
+        pending.push(found)?;
+    } else if kind.is_file() {
+        files.push(found)?;
+    }
+    Ok(())
+}
+
 /// The files in a folder below another one; its folders are added to those that are still to be looked at. All are given by
 /// their paths below that other one.
 fn look_into<R: Files + AllocGlobal + Clone + Drop>(
@@ -86,23 +116,8 @@ fn look_into<R: Files + AllocGlobal + Clone + Drop>(
     let looked_at = path_of(rt, folder, below)?;
     let mut files = Vec::new(rt.alloc());
     for entry in fs::read_dir(rt, looked_at.as_str())? {
-        let Some(entry) = unless_no_text(entry)? else {
-            continue;
-        };
-        let name = entry.file_name();
-        if name.starts_with('.') {
-            continue;
-        }
-        let found = if below.is_empty() {
-            String::from_str(rt.alloc(), name)?
-        } else {
-            path_of(rt, below, name)?
-        };
-        let kind = entry.file_type()?;
-        if kind.is_dir() {
-            pending.push(found)?;
-        } else if kind.is_file() {
-            files.push(found)?;
+        if let Some(entry) = unless_no_text(entry)? {
+            add_entry(rt, below, &entry, pending, &mut files)?;
         }
     }
     Ok(files)
@@ -152,18 +167,34 @@ fn least_files<R: Files + AllocGlobal + Clone + Drop>(
     most: usize,
 ) -> io::Result<Vec<Text>> {
     let mut least = Least::new(rt.alloc(), most);
+    offer_files(rt, folder, after, &mut least)?;
+    Ok(least.into_names())
+}
+
+/// Offers each file below a folder whose name is greater than `after`.
+fn offer_files<R: Files + AllocGlobal + Clone + Drop>(
+    rt: &R,
+    folder: &str,
+    after: &str,
+    least: &mut Least,
+) -> io::Result<()> {
     let mut pending = whole(rt)?;
     for _ in 0..u64::MAX {
         let Some(files) = next_files(rt, folder, &mut pending)? else {
             break;
         };
-        for file in files {
-            if after < file.as_str() {
-                least.offer(file)?;
-            }
+        offer_each(least, after, files)?;
+    }
+    Ok(())
+}
+
+fn offer_each(least: &mut Least, after: &str, files: Vec<String>) -> io::Result<()> {
+    for file in files {
+        if after < file.as_str() {
+            least.offer(file)?;
         }
     }
-    Ok(least.into_names())
+    Ok(())
 }
 
 /// Whether a name of a folder is that of a file, or of a folder with a file below it. One that is gone is neither.

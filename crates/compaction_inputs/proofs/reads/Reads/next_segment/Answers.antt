@@ -1,10 +1,11 @@
-use Rattle.std.proofs.Common.{◌≡◌, ◌≤◌, ◌+◌, ◌-◌, ℕ, suc, length, Some, sym, ap, subst, arith}
+use Rattle.std.proofs.Common.{◌≡◌, ◌∙◌, ◌≤◌, ◌+◌, ◌-◌, ℕ, suc, length, Some, sym, ap, subst, arith}
 use Rattle.block_keys.specs.Keys.{IsLawfulKey}
 use Rattle.world_core.specs.Plans.{Runs}
 use Rattle.world_core.specs.declared.op.Op.TheVariants as op
 use Rattle.world_core.specs.Leads.{LeadsBy}
 use Rattle.compaction_inputs.specs.Reading.{blocks_of}
-use Rattle.compaction_inputs.specs.ReadStates.{segments_of, left_of, asked_read}
+use Rattle.compaction_inputs.specs.ReadStates.{segments_of, left_at, left_of, asked_at, asked_read}
+use Rattle.compaction_inputs.specs.declared.read_stage.ReadStage.{ReadStage}
 use Rattle.compaction_inputs.specs.ReadRoom.{others_of}
 use Rattle.compaction_inputs.proofs.ReadRooms.{pushed_few, pushed_many}
 use Rattle.world_core.proofs.LeadSteps.{falls_more}
@@ -16,8 +17,9 @@ returns-then-more-gt0-clause-leads c = λ last number moment.
     let within : length c.args.input.segments + 1 ≤ 999_999 = omega (arith, c.if-more-gt0.true, c.requires.room) in
     record {
       lawful = subst IsLawfulKey (sym c.next_key-key.ensures) (omega arith, within);
-      asks = ap (λ k. Some (op.Get k)) (sym c.next_key-key.ensures);
-      onward = λ entries end run. subst (λ (n : ℕ). Runs (segments_of c.args.self.now.inputs c.args.self.now.waiting.items c.args.input n last) entries end) one_less run;
+      asks = ap asked_at c.replace.ensures.after ∙ ap (λ k. Some (op.Get k)) (sym c.next_key-key.ensures);
+      onward = λ entries end run. subst (λ (n : ℕ). Runs (segments_of c.args.self.now.inputs c.args.self.now.waiting.items c.args.input n last) entries end) one_less
+          (subst (λ (stage : ReadStage). Runs (left_at stage c.args.self.now.inputs c.args.self.now.waiting.items) entries end) c.replace.ensures.after run);
     }
 
 pub returns-in_ok-push-clause-leads : goal.returns-in_ok-push-clause-leads

@@ -1,4 +1,4 @@
-use Rattle.std.proofs.Common.{Ok, refl, ◌+◌, ◌*◌, ◌^◌, length, arith, ap}
+use Rattle.std.proofs.Common.{Ok, refl, arith, ap}
 use Rattle.world_core.specs.declared.act.Act.TheVariants as act
 use Rattle.compactor.specs.CompactStates.{after_marks, asked_compact, count_of as count_of_all}
 use Rattle.block_marking.specs.contracts.marks.MarksMachine.TheImpl.{ghosts as marks}
@@ -6,7 +6,6 @@ use Rattle.block_marking.specs.declared.reason.Reason.TheVariants.{Expired}
 use Rattle.compactor.proofs.Beginnings.{marks_ask, marks_end}
 use Rattle.block_marking.proofs.MarkRooms.{marks_few}
 use Rattle.compactor.proofs.CompactCounts.{under_at}
-use Rattle.world_core.proofs.LeadSteps.{falls_more}
 use Rattle.compactor.proofs.CompactSteps.{to_state}
 use Rattle.compactor.proofs.compact.Compact.expire.Goals as goal
 

@@ -1,4 +1,4 @@
-use Rattle.std.proofs.Common.{refl, ◌+◌, ◌*◌, length, arith, ap}
+use Rattle.std.proofs.Common.{refl, ◌+◌, length, arith, ap}
 use Rattle.compactor.specs.CompactStates.{after_marks, level_of, asked_compact, count_of as count_of_all}
 use Rattle.block_marking.specs.contracts.marks.MarksMachine.TheImpl.{ghosts as marks}
 use Rattle.compactor.proofs.Beginnings.{marks_ask, marks_end}

@@ -1,4 +1,4 @@
-use Rattle.std.proofs.Common.{◌≤◌, ◌+◌, length, arith, subst}
+use Rattle.std.proofs.Common.{arith, subst}
 use Rattle.compaction_inputs.specs.Jobs.{Takes}
 use Rattle.compactor.proofs.CompactCounts.{left_fewer}
 use Rattle.compactor.proofs.Rounds.{group_begins, none_begins}

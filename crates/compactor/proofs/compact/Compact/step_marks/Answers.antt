@@ -1,4 +1,4 @@
-use Rattle.std.proofs.Common.{[], ◌∷◌, ◌+◌, ◌*◌, length, ap}
+use Rattle.std.proofs.Common.{[], ◌∷◌, ◌*◌, length, ap}
 use Rattle.world_core.specs.Operations.{entry_of}
 use Rattle.block_marking.specs.contracts.marks.MarksMachine.TheImpl.{ghosts as marks}
 use Rattle.compactor.specs.CompactStates.{most_asked, after_marks, level_of, asked_compact, count_of as count_of_all}

@@ -1,4 +1,4 @@
-use Rattle.std.proofs.Common.{sym, [], ◌∙◌}
+use Rattle.std.proofs.Common.{sym, ◌∙◌}
 use Rattle.compactor.specs.declared.stage.Stage.TheVariants.{Syncing}
 use Rattle.compactor.proofs.CompactBegins.{fresh_sync}
 use Rattle.compactor.proofs.CompactSteps.{compact_opens}

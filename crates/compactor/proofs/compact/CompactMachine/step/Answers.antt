@@ -1,5 +1,4 @@
-use Rattle.std.proofs.Common.{sym, [], ◌∷◌, ◌∙◌}
-use Rattle.world_core.specs.Operations.{entry_of}
+use Rattle.std.proofs.Common.{sym, ◌∙◌}
 use Rattle.compactor.specs.declared.stage.Stage.TheVariants.{Syncing, Reading, Uploading, Marking}
 use Rattle.compactor.proofs.CompactCounts.{stage_falls}
 use Rattle.compactor.proofs.CompactSteps.{compact_steps, asked_in, answer_in}
