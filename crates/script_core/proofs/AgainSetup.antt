@@ -74,7 +74,7 @@ set_some : (text : List ℕ) (labels : List Label) → IsSetText text labels →
 unfolding set_text
 set_some text labels is = subst (λ t. not (is_empty t) ≡ true) (sym is.written) (grind (arith, nat_tests))
 
-labels_again : (text : List ℕ) (labels : List Label) → IsSetText text labels → last_labels (Some text) ≡ Ok (Some labels)
+pub labels_again : (text : List ℕ) (labels : List Label) → IsSetText text labels → last_labels (Some text) ≡ Ok (Some labels)
 labels_again text labels is =
     labels_by text labels (set_some text labels is) (ap read_set (sym (append-nil text)) ∙ set_text_again text [] labels is)
 

@@ -119,75 +119,54 @@ lawful_stop texts stop (spelling.stops_at text count are field written low high 
     subst IsLawfulStop (sym is) (low, high)
 
 module _ (before after : SoFar) (line : List ℕ) (order : InOrder before) where
-  rule_in_order : RuleLine before line after → InOrder after
-  rule_in_order says = subst InOrder (sym says.adds) (record {
-    rules = subst AreLawfulRules (sym (rule_set says.name says.value before.script.rules says.set says.sets)) (lawful_rule says.name says.text says.value before.script.rules says.is_value order.rules);
-    agreed = λ some. absurd (some says.early);
+  -- a rule's line leaves all but the rules
+  with_rules : (rules : Rules) → AreLawfulRules rules → before.script.phases ≡ [] → InOrder (spelling.outside (record before.script { rules = rules }))
+  with_rules rules lawful early = record {
+    rules = lawful;
+    agreed = λ some. absurd (some early);
     few_gateways = order.few_gateways;
     names = order.names;
     partitioned = order.partitioned;
     partitions = order.partitions;
     blocks = order.blocks;
     full = order.full;
-    selectors = early_selectors _ before.script.selectors (order.none_selected says.early);
+    selectors = early_selectors rules.replicas before.script.selectors (order.none_selected early);
     none_selected = order.none_selected;
     phases = order.phases;
     early = λ e. absurd cc;
-  })
+  }
+
+  rule_in_order : RuleLine before line after → InOrder after
+  rule_in_order says =
+      subst InOrder (sym says.adds) (with_rules says.set (subst AreLawfulRules (sym (rule_set says.name says.value before.script.rules says.set says.sets)) (lawful_rule says.name says.text says.value before.script.rules says.is_value order.rules)) says.early)
 
   replica_in_order : ReplicaLine before line after → InOrder after
-  replica_in_order says = subst InOrder (sym says.adds) (record {
-    rules = record {
-      consistency = order.rules.consistency;
-      ignore = order.rules.ignore;
-      delete = order.rules.delete;
-      partial = order.rules.partial;
-      upload = order.rules.upload;
-      tick = order.rules.tick;
-      page_limit_low = order.rules.page_limit_low;
-      page_limit_high = order.rules.page_limit_high;
-      replicas = All-push (λ name. is_name name ≡ true) before.script.rules.replicas says.name order.rules.replicas says.is_name;
-      retention = order.rules.retention;
-    };
-    agreed = λ some. absurd (some says.early);
-    few_gateways = order.few_gateways;
-    names = order.names;
-    partitioned = order.partitioned;
-    partitions = order.partitions;
-    blocks = order.blocks;
-    full = order.full;
-    selectors = early_selectors _ before.script.selectors (order.none_selected says.early);
-    none_selected = order.none_selected;
-    phases = order.phases;
-    early = λ e. absurd cc;
-  })
+  replica_in_order says = subst InOrder (sym says.adds) (with_rules (record before.script.rules { replicas = before.script.rules.replicas ++ says.name ∷ [] }) (record {
+    consistency = order.rules.consistency;
+    ignore = order.rules.ignore;
+    delete = order.rules.delete;
+    partial = order.rules.partial;
+    upload = order.rules.upload;
+    tick = order.rules.tick;
+    page_limit_low = order.rules.page_limit_low;
+    page_limit_high = order.rules.page_limit_high;
+    replicas = All-push (λ name. is_name name ≡ true) before.script.rules.replicas says.name order.rules.replicas says.is_name;
+    retention = order.rules.retention;
+  }) says.early)
 
   retention_in_order : RetentionLine before line after → InOrder after
-  retention_in_order says = subst InOrder (sym says.adds) (record {
-    rules = record {
-      consistency = order.rules.consistency;
-      ignore = order.rules.ignore;
-      delete = order.rules.delete;
-      partial = order.rules.partial;
-      upload = order.rules.upload;
-      tick = order.rules.tick;
-      page_limit_low = order.rules.page_limit_low;
-      page_limit_high = order.rules.page_limit_high;
-      replicas = order.rules.replicas;
-      retention = lawful_retention says.ms says.retention says.is_span.at_most says.keeps;
-    };
-    agreed = λ some. absurd (some says.early);
-    few_gateways = order.few_gateways;
-    names = order.names;
-    partitioned = order.partitioned;
-    partitions = order.partitions;
-    blocks = order.blocks;
-    full = order.full;
-    selectors = early_selectors _ before.script.selectors (order.none_selected says.early);
-    none_selected = order.none_selected;
-    phases = order.phases;
-    early = λ e. absurd cc;
-  })
+  retention_in_order says = subst InOrder (sym says.adds) (with_rules (record before.script.rules { retention = says.retention }) (record {
+    consistency = order.rules.consistency;
+    ignore = order.rules.ignore;
+    delete = order.rules.delete;
+    partial = order.rules.partial;
+    upload = order.rules.upload;
+    tick = order.rules.tick;
+    page_limit_low = order.rules.page_limit_low;
+    page_limit_high = order.rules.page_limit_high;
+    replicas = order.rules.replicas;
+    retention = lawful_retention says.ms says.retention says.is_span.at_most says.keeps;
+  }) says.early)
 
   gateway_in_order : GatewayLine before line after → InOrder after
   gateway_in_order says =

@@ -29,3 +29,4 @@ pub mod FewMembers
 pub mod SampleSigns
 pub mod SeriesParts
 pub mod PartLaws
+pub mod PartRefusals

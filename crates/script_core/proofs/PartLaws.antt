@@ -1,5 +1,5 @@
 -- A script that comes part by part is read as its text is.
-use Rattle.std.proofs.Common.{◌≡◌, ◌≢◌, ℕ, ◌+◌, ◌<◌, ◌≤◌, true, false, not, nat_lt, ◌==◌, List, [], ◌∷◌, ◌++◌, length, get_or, Result, Ok, Err, IfOk, refl, sym, ap, ◌∙◌, subst, arith, append-nil, append_assoc}
+use Rattle.std.proofs.Common.{◌≡◌, ◌≢◌, ℕ, ◌+◌, ◌*◌, ◌<◌, ◌≤◌, true, false, not, nat_lt, ◌==◌, List, [], ◌∷◌, ◌++◌, length, get_or, Result, Ok, Err, IfOk, inl, inr, refl, sym, ap, ◌∙◌, subst, arith, append-nil, append_assoc}
 use Rattle.std.specs.List.{position_or_len, before_first, after_first}
 use Rattle.std.proofs.lemmas.Bool.{not-true, not_from_false}
 use Rattle.std.proofs.lemmas.Bool.Decides.{nat_tests}
@@ -16,7 +16,7 @@ use Rattle.script_core.specs.Fields.{is_newline, lines_of, newline}
 use Rattle.script_core.specs.Lawful.{IsLawfulScript}
 use Rattle.script_core.specs.Limits.{longest_text}
 use Rattle.script_core.specs.Parts.{Leaves, HasRead, Reads, IsOneLine}
-use Rattle.script_core.specs.Reading.{line_at, lines_at}
+use Rattle.script_core.specs.Reading.{line_at, lines_at, script_of}
 use Rattle.script_core.specs.Spelling.{Spells}
 use Rattle.script_core.specs.State.{State, start, finish}
 use Rattle.script_core.specs.View.{state_of}
@@ -56,7 +56,7 @@ leaves_more text line count st after so_far cut read more =
     let first : lines_at st (count + 1) (line ∷ lines_of more) ≡ lines_at after (count + 1 + 1) (lines_of more) = rw read refl in
     ap (λ t. lines_at (start standard_rules) 1 (lines_of t)) parts ∙ so_far (line ++ newline ∷ more) ∙ ap (lines_at st (count + 1)) (cut more) ∙ first
 
-cut_one : (line : List ℕ) → IsOneLine line → (more : List ℕ) → lines_of (line ++ newline ∷ more) ≡ line ∷ lines_of more
+pub cut_one : (line : List ℕ) → IsOneLine line → (more : List ℕ) → lines_of (line ++ newline ∷ more) ≡ line ∷ lines_of more
 cut_one line one more =
     slice_split_at is_newline line newline more (λ k d below. not-true _ (AllPass-from_list_all (λ byte. not (is_newline byte)) line one k d below)) refl
 
@@ -69,19 +69,21 @@ before_one text line is =
 
 -- ---- a reader
 
-pub nothing_read : (reader : PartReader) → state_of reader.draft ≡ start standard_rules → reader.lines ≡ 0 → HasRead reader []
-nothing_read reader st none = record {
+pub nothing_read : (reader : PartReader) → state_of reader.draft ≡ start standard_rules → reader.lines ≡ 0 → reader.bytes ≡ 0 → HasRead reader []
+nothing_read reader st none empty = record {
   leaves = λ more. (λ i. lines_at (sym st i) (sym none i + 1) (lines_of more));
   size = omega arith;
+  near = omega (arith, empty);
 }
 
-module _ (before after : PartReader) (line : List ℕ) (bytes : ℕ) (one : IsOneLine line) (read : line_at (state_of before.draft) (before.lines + 1) line ≡ Ok (state_of after.draft)) (lines_is : after.lines ≡ before.lines + 1) (bytes_is : after.bytes ≡ before.bytes + bytes) (fits : length line + 1 ≤ bytes) where
+module _ (before after : PartReader) (line : List ℕ) (bytes : ℕ) (one : IsOneLine line) (read : line_at (state_of before.draft) (before.lines + 1) line ≡ Ok (state_of after.draft)) (lines_is : after.lines ≡ before.lines + 1) (bytes_is : after.bytes ≡ before.bytes + bytes) (fits : length line + 1 ≤ bytes) (near : bytes ≤ 2 * (length line + 1)) where
   pub line_reads : Reads before after (line ++ newline ∷ [])
   line_reads text has =
       let more = leaves_more text line before.lines (state_of before.draft) (state_of after.draft) has.leaves (cut_one line one) read in
       record {
         leaves = subst (λ n. Leaves (text ++ (line ++ newline ∷ [])) n (state_of after.draft)) (sym lines_is) more;
         size = omega (arith, has.size, bytes_is, fits, length-append text (line ++ newline ∷ []), length-append line (newline ∷ []));
+        near = omega (arith, has.near, bytes_is, near, length-append text (line ++ newline ∷ []), length-append line (newline ∷ []));
       }
 
 -- and nothing more
@@ -99,17 +101,26 @@ reads_both first middle last front text one two read has =
 -- the front of a text that was read, and what is left of it
 pub record ReadFront (old now : PartReader) (text left : List ℕ) : Type 0 where
   pub front : List ℕ
+  pub lines : List (List ℕ)
+  pub cut : (more : List ℕ) → lines_of (front ++ more) ≡ lines ++ lines_of more
   pub whole : text ≡ front ++ left
   pub reads : Reads old now front
 
 pub no_front : (reader : PartReader) (text : List ℕ) → ReadFront reader reader text text
-no_front reader text = record { front = []; whole = refl; reads = reads_nothing reader [] refl }
+no_front reader text =
+    record { front = []; lines = []; cut = λ more. refl; whole = refl; reads = reads_nothing reader [] refl }
 
 pub front_more : (old now next : PartReader) (text left line rest : List ℕ) → ReadFront old now text left → line ≡ before_first is_newline left → rest ≡ after_first is_newline left → length line < length left → Reads now next (line ++ newline ∷ []) → ReadFront old next text rest
 front_more old now next text left line rest so_far line_is rest_is shorter one =
+    let free = before_one left line line_is in
     let cut = cut_line_is left line rest line_is rest_is shorter in
     record {
       front = so_far.front ++ (line ++ newline ∷ []);
+      lines = so_far.lines ++ line ∷ [];
+      cut = λ more. ap lines_of (append_assoc so_far.front (line ++ newline ∷ []) more ∙ ap (λ t. so_far.front ++ t) (append_assoc line (newline ∷ []) more))
+          ∙ so_far.cut (line ++ newline ∷ more)
+          ∙ ap (λ ls. so_far.lines ++ ls) (cut_one line free more)
+          ∙ sym (append_assoc so_far.lines (line ∷ []) (lines_of more));
       whole = so_far.whole ∙ ap (λ t. so_far.front ++ t) cut ∙ sym (append_assoc so_far.front (line ++ newline ∷ []) rest);
       reads = reads_both old now next so_far.front (line ++ newline ∷ []) so_far.reads one;
     }
@@ -125,12 +136,17 @@ whole_read : (reader : PartReader) (text : List ℕ) → HasRead reader text →
 whole_read reader text has =
     ap (λ t. lines_at (start standard_rules) 1 (lines_of t)) (sym (append-nil text)) ∙ has.leaves [] ∙ empty_line (state_of reader.draft) (reader.lines + 1)
 
+is_short : (reader : PartReader) (text : List ℕ) → HasRead reader text → nat_lt longest_text (length text) ≡ false
+is_short reader text has =
+    let fits = has.size in let few = reader.short in grind (arith, nat_tests)
+
+end_refused : (text : List ℕ) (after : State) (refusal : ScriptRefusal) → nat_lt longest_text (length text) ≡ false → lines_at (start standard_rules) 1 (lines_of text) ≡ Ok after → finish after ≡ Err refusal → script_of text ≡ Err refusal
+unfolding script_of
+end_refused text after refusal short read refused = rw (short, read) refused
+
 script_read : (reader : PartReader) (text : List ℕ) (script : Script) → HasRead reader text → finish (state_of reader.draft) ≡ Ok script → Spells text script
 script_read reader text script has end =
-    let fits = has.size in
-    let few = reader.short in
-    let short : nat_lt longest_text (length text) ≡ false = grind (arith, nat_tests) in
-    script_found text script (read_whole text (state_of reader.draft) script short (whole_read reader text has) end)
+    script_found text script (read_whole text (state_of reader.draft) script (is_short reader text has) (whole_read reader text has) end)
 
 abbrev Finishes : PartReader → Result Script ScriptRefusal → Type 0
 Finishes reader result = Gives NoMemory (λ (script : Script). script) result (finish (state_of reader.draft))
@@ -142,3 +158,10 @@ spelled_end reader (Err refusal) end text has = tt
 pub lawful_end : (reader : PartReader) (result : Result Script ScriptRefusal) → Finishes reader result → (text : List ℕ) → HasRead reader text → IfOk result (λ script. IsLawfulScript script)
 lawful_end reader (Ok script) end text has = spelled_lawful text script (script_read reader text script has end)
 lawful_end reader (Err refusal) end text has = tt
+
+pub gives_end : (reader : PartReader) (result : Result Script ScriptRefusal) → Finishes reader result → (text : List ℕ) → HasRead reader text → Gives NoMemory (λ (script : Script). script) result (script_of text)
+gives_end reader (Ok script) end text has =
+    read_whole text (state_of reader.draft) script (is_short reader text has) (whole_read reader text has) end
+gives_end reader (Err refusal) (inl memory) text has = inl memory
+gives_end reader (Err refusal) (inr refused) text has =
+    inr (end_refused text (state_of reader.draft) refusal (is_short reader text has) (whole_read reader text has) refused)

@@ -123,6 +123,14 @@ time_size time near =
     let size = length_signed_le 19 time (omega (arith, small)) (omega (arith, small)) in
     omega (arith, size, ap length (printed_signed time (time_fits time (near_tested time near))))
 
+decimal_least : (n : ℕ) → 0 < length (decimal_text n)
+decimal_least n = (decimal_digits (decimal_text n) (decimal_again n).0).0
+
+time_least : (time : ℤ) → 0 < length (signed_text time)
+unfolding signed_text
+time_least (pos n) = decimal_least n
+time_least (negsuc n) = omega arith
+
 pattern_size : (pattern : ℕ) → length (pattern_text pattern) ≡ 16
 unfolding pattern_text hex_text
 pattern_size pattern =
@@ -132,6 +140,17 @@ sample_size : (sample : Sample) → HasField sample → length (spaced_sample_te
 unfolding spaced_sample_text sample_text timed_text
 sample_size sample has =
     omega (arith, time_size sample.time has.near, pattern_size sample.pattern, length-append (signed_text sample.time) (58 ∷ pattern_text sample.pattern))
+
+-- and at least
+sample_least : (sample : Sample) → 19 ≤ length (spaced_sample_text sample)
+unfolding spaced_sample_text sample_text timed_text
+sample_least sample =
+    omega (arith, time_least sample.time, pattern_size sample.pattern, length-append (signed_text sample.time) (58 ∷ pattern_text sample.pattern))
+
+pub samples_least : (samples : List Sample) → 19 * length samples ≤ length (flat_map spaced_sample_text samples)
+samples_least [] = omega arith
+samples_least (sample ∷ samples) =
+    omega (arith, length-append (spaced_sample_text sample) (flat_map spaced_sample_text samples), sample_least sample, samples_least samples)
 
 pub samples_size : (samples : List Sample) → All HasField samples → length (flat_map spaced_sample_text samples) ≤ 38 * length samples
 samples_size [] all = omega arith

@@ -1,10 +1,11 @@
 -- A series line that comes as its labels and its samples is read as its text is.
-use Rattle.std.proofs.Common.{◌≡◌, ◌≢◌, ℕ, ◌+◌, ◌-◌, ◌*◌, ◌≤◌, ◌^◌, Bool, true, false, not, cond, nat_lt, nat_le, get_or, ◌==◌, List, [], ◌∷◌, ◌++◌, length, map, All, Some, None, Result, Ok, Err, OnOk, refl, sym, ap, ◌∙◌, subst, arith, codes, append-nil, append_assoc}
+use Rattle.std.proofs.Common.{◌≡◌, ◌≢◌, ℕ, ◌+◌, ◌-◌, ◌*◌, ◌≤◌, ◌^◌, Bool, true, false, not, cond, nat_lt, nat_le, get_or, ◌==◌, List, [], ◌∷◌, ◌++◌, length, map, All, Option, Some, None, Result, Ok, Err, IfErr, OnOk, ◌⊎◌, inl, inr, ok_or, refl, sym, ap, ◌∙◌, subst, arith, codes, append-nil, append_assoc}
 use Rattle.std.specs.List.{list_all, flat_map, join_with_byte}
 use Rattle.std.specs.Str.{is_utf8, IsUtf8}
 use Rattle.std.proofs.lemmas.Bool.{and_parts}
 use Rattle.std.proofs.lemmas.Bool.Decides.{nat_tests}
 use Rattle.std.proofs.lemmas.List.{length-append}
+use Rattle.std.proofs.lemmas.List.Elements.{All-head, All-tail}
 use Rattle.std.proofs.lemmas.List.Sums.{AllPass-from_list_all}
 use Rattle.std.proofs.lemmas.Option.{same_Some}
 use Rattle.std.proofs.lemmas.Str.Ascii.{IsAscii-from_all}
@@ -15,24 +16,26 @@ use Rattle.label_sets.specs.declared.label.Label.{Label}
 use Rattle.label_sets.specs.declared.sample.Sample.{Sample}
 use Rattle.label_sets.proofs.SetLaws.{set_text_again}
 use Rattle.script_core.specs.declared.line_kind.LineKind.TheVariants as kinds
-use Rattle.script_core.specs.Fields.{is_empty, is_newline, is_silent}
-use Rattle.reading_core.specs.Reading.{Gives}
+use Rattle.script_core.specs.Fields.{is_empty, is_newline, is_silent, next_field}
+use Rattle.reading_core.specs.Reading.{Gives, unless}
+use Rattle.reading_core.proofs.Binds.{ok_not_err, one_answer}
+use Rattle.script_core.specs.declared.cause.LineCause.{LineCause}
 use Rattle.script_core.specs.declared.line_refusal.LineRefusal.{LineRefusal}
 use Rattle.script_core.specs.declared.line_refusal.LineRefusal.TheVariants as lines
-use Rattle.script_core.specs.Lines.{fields_line, last_labels}
-use Rattle.script_core.specs.Parts.{HasField, IsOneLine, has_field, series_front}
-use Rattle.script_core.specs.Reading.{line_at}
+use Rattle.script_core.specs.Lines.{fields_line, first_labels, last_labels, series_line}
+use Rattle.script_core.specs.Parts.{AreSeriesParts, HasField, IsOneLine, has_field, series_front}
+use Rattle.script_core.specs.Reading.{kind_line, line_at, of_line, spoken_line, text_line}
 use Rattle.script_core.specs.Samples.{texts_of, are_whole, has_small_number, have_small_numbers, samples_from, are_rising}
 use Rattle.script_core.specs.Spelling.{AreSampleFields}
 use Rattle.script_core.specs.State.{State, add_series}
 use Rattle.script_core.specs.Values.{is_time}
 use Rattle.script_core.proofs.FoundSetup.{labels_found}
 use Rattle.script_core.proofs.Kept.{so_far_of}
-use Rattle.script_core.proofs.SpelledValues.{near_spelled}
-use Rattle.script_core.proofs.AgainSetup.{IsRead, starts_again}
+use Rattle.script_core.proofs.SpelledValues.{near_spelled, near_tested}
+use Rattle.script_core.proofs.AgainSetup.{IsRead, labels_again, starts_again}
 use Rattle.script_core.proofs.AgainSeries.{cut_joined, each_free, each_whole, each_small, samples_again, first_labels_again, read_series}
 use Rattle.script_core.proofs.AgainLines.{text_read, spoken_again}
-use Rattle.script_core.proofs.SampleSigns.{all_joined, sign_not_newline, sign_is_ascii, sample_fields, samples_all, samples_size}
+use Rattle.script_core.proofs.SampleSigns.{all_joined, sign_not_newline, sign_is_ascii, sample_fields, samples_all, samples_least, samples_size}
 
 -- the texts of samples with a space between each and the next
 abbrev joined : List Sample → List ℕ
@@ -65,6 +68,12 @@ ascii_utf8 text all =
     let test = AllPass-from_list_all (λ byte. nat_lt byte 128) text all k d below in
     grind (arith, nat_tests)))
 
+-- a series line that is refused
+spoken_refused : (st : State) (number : ℕ) (line left : List ℕ) (refusal : LineRefusal) → is_silent line ≡ false → is_utf8 line ≡ true → next_field (Some line) ≡ (codes "series", Some left) → series_line st (Some left) ≡ Err refusal → line_at st number line ≡ Err (of_line number refusal)
+unfolding line_at spoken_line text_line kind_line fields_line
+spoken_refused st number line left refusal silent utf8 cut refuses =
+    rw (silent, utf8, cut, refuses) refl
+
 module _ (text : List ℕ) (labels : List Label) (samples : List Sample) (are_labels : IsSetText text labels) (utf8 : is_utf8 text ≡ true) (some : samples ≢ []) (all : All HasField samples) where
   fields : AreSampleFields (map sample_text samples) samples
   fields = sample_fields samples all
@@ -82,16 +91,32 @@ module _ (text : List ℕ) (labels : List Label) (samples : List Sample) (are_la
       let told = ascii_utf8 (flat_map spaced_sample_text samples) (samples_all (λ byte. nat_lt byte 128) refl sign_is_ascii samples all) in
       is_utf8-from_IsUtf8 _ (IsUtf8-append (codes "series " ++ text) (flat_map spaced_sample_text samples) named told)
 
+  whole : are_whole (joined samples) ≡ true
+  whole =
+      ap (list_all (λ t. not (is_empty t))) cut ∙ each_whole (map sample_text samples) samples fields
+
+  small : have_small_numbers (joined samples) ≡ true
+  small =
+      ap (list_all has_small_number) cut ∙ each_small (map sample_text samples) samples fields
+
+  read : samples_from (texts_of (joined samples)) ≡ Ok samples
+  read = ap samples_from cut ∙ samples_again (map sample_text samples) samples fields
+
+  front : first_labels (Some (text ++ 32 ∷ joined samples)) ≡ Ok (labels, joined samples)
+  front =
+      first_labels_again text (joined samples) labels (set_text_again text (32 ∷ joined samples) labels are_labels)
+
+  spelled : series_front text samples ≡ codes "series" ++ 32 ∷ (text ++ 32 ∷ joined samples)
+  spelled = front_joined text samples some
+
+  silent : is_silent (series_front text samples) ≡ false
+  silent = ap is_silent spelled ∙ speaks (codes "eries" ++ 32 ∷ (text ++ 32 ∷ joined samples))
+
   pub series_read : (st after : State) (number : ℕ) → are_rising samples ≡ true → add_series st (record { labels = labels; samples = samples }) ≡ Ok after → line_at st number (series_front text samples) ≡ Ok after
   unfolding fields_line
   series_read st after number rising adds =
       let line = series_front text samples in
       let left : List ℕ = text ++ 32 ∷ joined samples in
-      let spelled : line ≡ codes "series" ++ 32 ∷ left = front_joined text samples some in
-      let whole : are_whole (joined samples) ≡ true = ap (list_all (λ t. not (is_empty t))) cut ∙ each_whole (map sample_text samples) samples fields in
-      let small : have_small_numbers (joined samples) ≡ true = ap (list_all has_small_number) cut ∙ each_small (map sample_text samples) samples fields in
-      let read : samples_from (texts_of (joined samples)) ≡ Ok samples = ap samples_from cut ∙ samples_again (map sample_text samples) samples fields in
-      let front = first_labels_again text (joined samples) labels (set_text_again text (32 ∷ joined samples) labels are_labels) in
       let is : IsRead st number line kinds.Series (so_far_of after) = record {
         left = Some left;
         after = after;
@@ -99,8 +124,16 @@ module _ (text : List ℕ) (labels : List Label) (samples : List Sample) (are_la
         read = read_series st left labels (joined samples) samples after front whole small read rising adds;
         next_is = refl;
       } in
-      let silent : is_silent line ≡ false = ap is_silent spelled ∙ speaks (codes "eries" ++ 32 ∷ left) in
       spoken_again st after number line silent front_utf8 (text_read st st number line kinds.Series (so_far_of after) refl is)
+
+  refused_line : (st : State) (refusal : LineRefusal) → are_rising samples ≡ true → add_series st (record { labels = labels; samples = samples }) ≡ Err refusal → series_line st (Some (text ++ 32 ∷ joined samples)) ≡ Err refusal
+  unfolding series_line
+  refused_line st refusal rising refuses = rw (front, whole, small, read, rising) refuses
+
+  -- a line that does not fit those before it
+  pub series_refused : (st : State) (number : ℕ) (refusal : LineRefusal) → are_rising samples ≡ true → add_series st (record { labels = labels; samples = samples }) ≡ Err refusal → line_at st number (series_front text samples) ≡ Err (of_line number refusal)
+  series_refused st number refusal rising refuses =
+      spoken_refused st number (series_front text samples) (text ++ 32 ∷ joined samples) refusal silent front_utf8 (starts_again (series_front text samples) kinds.Series (text ++ 32 ∷ joined samples) spelled) (refused_line st refusal rising refuses)
 
 pub series_one_line : (text : List ℕ) (samples : List Sample) → All HasField samples → IsOneLine text → IsOneLine (series_front text samples)
 unfolding series_front
@@ -114,6 +147,17 @@ series_size text samples all =
     omega (
       arith,
       samples_size samples all,
+      length-append (codes "series ") text,
+      length-append (codes "series " ++ text) (flat_map spaced_sample_text samples),
+    )
+
+-- such a line has no fewer than half of the bytes that are counted
+pub series_least : (text : List ℕ) (samples : List Sample) → 8 + length text + 38 * length samples ≤ 2 * (length (series_front text samples) + 1)
+unfolding series_front
+series_least text samples =
+    omega (
+      arith,
+      samples_least samples,
       length-append (codes "series ") text,
       length-append (codes "series " ++ text) (flat_map spaced_sample_text samples),
     )
@@ -146,3 +190,46 @@ pub labels_are : (text inner : List ℕ) (labels : List Label) → cond (is_utf8
 labels_are text inner labels known read =
     let found = labels_found (Some inner) labels read in
     subst (λ t. IsSetText t labels) (sym (text_known text inner (is_utf8 text) known ∙ same_Some _ _ found.1)) found.2
+
+-- what is read of a text of a set
+module _ (text inner : List ℕ) (set : List Label) (known : cond (is_utf8 text) (Some text) None ≡ Some inner) (is_set : IsSetText text set) where
+  inner_again : last_labels (Some inner) ≡ Ok (Some set)
+  inner_again =
+      ap (λ t. last_labels (Some t)) (sym (text_known text inner (is_utf8 text) known)) ∙ labels_again text set is_set
+
+  pub no_refusal : (refusal : LineRefusal) → (refusal ≡ lines.NoMemory) ⊎ (last_labels (Some inner) ≡ Err refusal) → refusal ≡ lines.NoMemory
+  no_refusal refusal (inl memory) = memory
+  no_refusal refusal (inr refused) =
+      absurd (ok_not_err (Some set) refusal (last_labels (Some inner)) inner_again refused)
+
+  pub set_is : (found : Option (List Label)) → last_labels (Some inner) ≡ Ok found → found ≡ Some set
+  set_is found read = one_answer found (Some set) (last_labels (Some inner)) read inner_again
+
+pub set_there : (found : Option (List Label)) (set : List Label) (refusal lacking : LineCause) → found ≡ Some set → ok_or found lacking ≡ Err refusal → ⊥
+set_there found set refusal lacking is refused =
+    absurd (ok_not_err set refusal (ok_or found lacking) (ap (λ o. ok_or o lacking) is) refused)
+
+-- ---- what adding a series has refused
+
+-- parts of a series line pass each test
+pub unless_not : (b : Bool) (d e : LineRefusal) → unless b d ≡ Err e → b ≡ false
+unless_not true d e refused = absurd cc
+unless_not false d e refused = refl
+
+pub none_by : (samples : List Sample) (count : ℕ) → count ≡ length samples → nat_lt 0 count ≡ false → samples ≡ []
+none_by [] count is none = refl
+none_by (sample ∷ samples) count is none = absurd (grind (arith, nat_tests))
+
+pub have_all : (samples : List Sample) → All HasField samples → list_all has_field samples ≡ true
+have_all [] all = refl
+have_all (sample ∷ samples) all =
+    let has = All-head HasField sample samples all in
+    let fits = has.pattern in
+    let small : nat_le sample.pattern (2 ^ 64 - 1) ≡ true = grind (arith, nat_tests) in
+    rw (near_tested sample.time has.near, small) (have_all samples (All-tail HasField sample samples all))
+
+pub adding_refused : (st after : State) (own set : List Label) (samples : List Sample) (result : Result (Unit {0}) LineRefusal) → own ≡ set → Gives lines.NoMemory (λ _. after) result (add_series st (record { labels = own; samples = samples })) → IfErr result (λ e. (e ≡ lines.NoMemory) ⊎ (add_series st (record { labels = set; samples = samples }) ≡ Err e))
+adding_refused st after own set samples (Ok done) same gives = tt
+adding_refused st after own set samples (Err refusal) same (inl memory) = inl memory
+adding_refused st after own set samples (Err refusal) same (inr refused) =
+    inr (ap (λ labels. add_series st (record { labels = labels; samples = samples })) (sym same) ∙ refused)

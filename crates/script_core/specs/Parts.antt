@@ -1,26 +1,36 @@
 -- A script that comes part by part.
-use Rattle.std.specs.Prelude.{◌≡◌, ℕ, ◌+◌, ◌-◌, ◌<◌, ◌≤◌, ◌^◌, Bool, ◌&&◌, nat_le, List, [], ◌∷◌, ◌++◌, length, not, IsTrue, codes}
+use Rattle.std.specs.Prelude.{◌≡◌, ◌≢◌, ℕ, ◌+◌, ◌-◌, ◌*◌, ◌<◌, ◌≤◌, ◌^◌, Bool, ◌&&◌, nat_le, List, [], ◌∷◌, ◌++◌, length, not, All, IsTrue, Err, codes}
 use Rattle.std.specs.List.{flat_map, list_all}
+use Rattle.std.specs.Str.{is_utf8}
 use Rattle.label_sets.specs.SampleText.{spaced_sample_text}
+use Rattle.label_sets.specs.SetText.{IsSetText}
+use Rattle.label_sets.specs.declared.label.Label.{Label}
 use Rattle.label_sets.specs.declared.sample.Sample.{Sample}
 use Rattle.moment_core.specs.StandardRules.{standard_rules}
 use Rattle.script_core.specs.Fields.{lines_of, newline, is_newline}
+use Rattle.script_core.specs.GivenUp.{IsPatternLine}
+use Rattle.script_core.specs.Limits.{longest_text}
 use Rattle.script_core.specs.Reading.{lines_at}
+use Rattle.script_core.specs.Samples.{are_rising}
 use Rattle.script_core.specs.Spelling.{IsNear}
 use Rattle.script_core.specs.State.{State, start}
 use Rattle.script_core.specs.Values.{is_time}
 use Rattle.script_core.specs.View.{state_of}
+use Rattle.script_core.specs.declared.cause.LineCause.TheVariants.{PatternSizeText}
 use Rattle.script_core.specs.declared.part_reader.PartReader.{PartReader}
+use Rattle.script_core.specs.declared.script_refusal.ScriptRefusal.{ScriptRefusal}
+use Rattle.script_core.specs.declared.script_refusal.ScriptRefusal.TheVariants.{BadLine, NoMemory, TooLong}
 
 -- A text of so many lines leaves this state: whatever follows it, what is read of the whole is what is read from there.
 abbrev pub Leaves : List ℕ → ℕ → State → Type 0
 Leaves text count st =
     (more : List ℕ) → lines_at (start standard_rules) 1 (lines_of (text ++ more)) ≡ lines_at st (count + 1) (lines_of more)
 
--- What was read so far is this text.
+-- What was read so far is this text. A reader counts at most twice its bytes.
 pub record HasRead (reader : PartReader) (text : List ℕ) : Type 0 where
   pub leaves : Leaves text reader.lines (state_of reader.draft)
   pub size : length text ≤ reader.bytes
+  pub near : reader.bytes ≤ 2 * length text
 
 -- After the one reader has read this text too, it is as the other.
 abbrev pub Reads : PartReader → PartReader → List ℕ → Type 0
@@ -46,3 +56,42 @@ pub record HasField (sample : Sample) : Type 0 where
 -- the same as a test
 abbrev pub has_field : Sample → Bool
 has_field sample = is_time sample.time && nat_le sample.pattern (2 ^ 64 - 1)
+
+-- labels and samples of which there is a series line, whether or not it fits the lines before it
+pub record AreSeriesParts (labels : List ℕ) (set : List Label) (samples : List Sample) : Type 0 where
+  pub is_set : IsSetText labels set
+  pub utf8 : IsTrue (is_utf8 labels)
+  pub one_line : IsOneLine labels
+  pub some : samples ≢ []
+  pub fields : All HasField samples
+  pub rising : IsTrue (are_rising samples)
+
+-- a text of whole lines: its last byte is a newline, if it has one
+abbrev pub IsEnded : List ℕ → Type 0
+IsEnded text = (front : List ℕ) (byte : ℕ) → text ≡ front ++ byte ∷ [] → byte ≡ newline
+
+-- ---- refusals
+
+-- Whatever was read before the text, and whatever follows it, the lines are refused so.
+abbrev pub AreRefused : PartReader → List ℕ → ScriptRefusal → Type 0
+AreRefused before text refusal =
+    (read more : List ℕ) → HasRead before read → lines_at (start standard_rules) 1 (lines_of (read ++ (text ++ more))) ≡ Err refusal
+
+-- One of the text's lines is a query by a lawful pattern.
+pub record HasPatternQuery (text : List ℕ) : Type 0 where
+  pub earlier : List (List ℕ)
+  pub line : List ℕ
+  pub later : List (List ℕ)
+  pub stands : lines_of text ≡ earlier ++ line ∷ later
+  pub before : State
+  pub asks : IsPatternLine before line
+
+-- Why a reader refuses whole lines.
+pub data IsPartRefused (before : PartReader) (text : List ℕ) (refusal : ScriptRefusal) : Type 0 where
+  wants_memory : refusal ≡ NoMemory → IsPartRefused before text refusal
+  -- With it the text has more than half of the bytes that one may have.
+  is_long : refusal ≡ TooLong → ((read : List ℕ) → HasRead before read → longest_text < 2 * length (read ++ text)) → IsPartRefused before text refusal
+  -- Of which sizes a pattern is built, no definition says.
+  by_pattern : (number : ℕ) → refusal ≡ BadLine number PatternSizeText → HasPatternQuery text → IsPartRefused before text refusal
+  -- No script goes on so.
+  no_script : AreRefused before text refusal → IsPartRefused before text refusal

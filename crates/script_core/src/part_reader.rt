@@ -25,11 +25,16 @@ pub struct PartReader {
 }
 
 impl PartReader {
-    ghost use Rattle.std.specs.Prelude.{◌≡◌, ◌<◌, ◌+◌, ℕ, List, [], ◌∷◌, ◌++◌, IfOk, OnOk, IsTrue, IsTrue};
+    ghost use Rattle.std.specs.Prelude.{◌≡◌, ◌<◌, ◌+◌, ℕ, List, [], ◌∷◌, ◌++◌, IfErr, IfOk, OnOk, IsTrue};
+    ghost use Rattle.label_sets.specs.declared.label.Label.{Label};
+    ghost use Rattle.reading_core.specs.Reading.{Gives};
+    ghost use Rattle.script_core.specs.Limits.{longest_text};
+    ghost use Rattle.script_core.specs.Reading.{script_of};
+    ghost use Rattle.script_core.specs.declared.script_refusal.ScriptRefusal.TheVariants as refusals;
     ghost use Rattle.std.specs.List.{list_all};
     ghost use Rattle.script_core.specs.Fields.{newline};
     ghost use Rattle.script_core.specs.Lawful.{IsLawfulScript};
-    ghost use Rattle.script_core.specs.Parts.{HasRead, Reads, series_text};
+    ghost use Rattle.script_core.specs.Parts.{AreSeriesParts, HasRead, IsEnded, IsPartRefused, Reads, series_text};
     ghost use Rattle.script_core.specs.Spelling.{Spells};
 
     /// Nothing was read.
@@ -45,7 +50,8 @@ impl PartReader {
 
     /// Reads lines, the last of which has to end with a newline as each other does.
     pub fn read_lines(&mut self, alloc: Global, text: &[u8]) -> Result<(), ScriptRefusal>
-        ensures { OnOk result (Reads self.old self.new text.now) }
+        ensures read { OnOk result (Reads self.old self.new text.now) }
+        ensures refused { IsEnded text.now → IfErr result (IsPartRefused self.old text.now) }
     {
         let mut left = text;
         while !left.is_empty() {
@@ -67,7 +73,9 @@ impl PartReader {
         labels: &[u8],
         samples: SampleList,
     ) -> Result<(), ScriptRefusal>
-        ensures { OnOk result (Reads self.old self.new (series_text labels.now samples)) }
+        ensures read { OnOk result (Reads self.old self.new (series_text labels.now samples)) }
+        ensures refused { (set : List Label) → AreSeriesParts labels.now set samples
+            → IfErr result (IsPartRefused self.old (series_text labels.now samples)) }
     {
         self.count(line_size(labels.len(), samples.len())?)?;
         match put_series(&mut self.draft, alloc, labels, samples) {
@@ -82,6 +90,8 @@ impl PartReader {
         ensures draft { self.new.draft ≡ self.old.draft }
         ensures lines { OnOk result (self.new.lines ≡ self.old.lines + 1) }
         ensures bytes { OnOk result (self.new.bytes ≡ self.old.bytes + bytes) }
+        ensures refused { IfErr result (λ e. (e ≡ refusals.TooLong)
+            × (longest_text < self.old.bytes + bytes)) }
     {
         if bytes > LONGEST_TEXT - self.bytes {
             return Err(ScriptRefusal::TooLong);
@@ -97,6 +107,8 @@ impl PartReader {
             → IfOk result (λ script. Spells text script) }
         ensures lawful { (text : List ℕ) → HasRead self text
             → IfOk result (λ script. IsLawfulScript script) }
+        ensures gives { (text : List ℕ) → HasRead self text
+            → Gives refusals.NoMemory (λ script. script) result (script_of text) }
     {
         self.draft.finish(alloc)
     }

@@ -1,13 +1,18 @@
 //! A series line that comes as its labels and its samples.
 
-ghost use Rattle.std.specs.Prelude.{◌≡◌, ◌≤◌, ◌+◌, ◌*◌, ℕ, IsTrue, IfOk, OnOk, Ok, length, not};
+ghost use Rattle.std.specs.Prelude.{◌≡◌, ◌⊎◌, ◌<◌, ◌≤◌, ◌+◌, ◌*◌, ℕ, List, IsTrue, IfErr, IfOk, MatchResult, OnOk, Ok, Err, length, not};
 ghost use Rattle.std.specs.List.{list_all};
 ghost use Rattle.std.specs.Str.{is_utf8};
 ghost use Rattle.label_sets.specs.SetText.{IsSetText};
+ghost use Rattle.label_sets.specs.declared.label.Label.{Label};
 ghost use Rattle.script_core.specs.Fields.{is_newline};
-ghost use Rattle.script_core.specs.Parts.{IsOneLine, has_field, series_front};
+ghost use Rattle.script_core.specs.Limits.{longest_text};
+ghost use Rattle.script_core.specs.Parts.{AreSeriesParts, IsOneLine, has_field, series_front};
 ghost use Rattle.script_core.specs.Reading.{line_at};
+ghost use Rattle.script_core.specs.State.{add_series};
 ghost use Rattle.script_core.specs.View.{state_of};
+ghost use Rattle.script_core.specs.declared.line_refusal.LineRefusal.TheVariants as line_refusals;
+ghost use Rattle.script_core.specs.declared.script_refusal.ScriptRefusal.TheVariants.{TooLong};
 
 use crate::draft::Draft;
 use crate::line_refusal::LineRefusal;
@@ -24,7 +29,9 @@ const LONGEST_SAMPLE: usize = 38;
 
 /// How many bytes a series line has at most, with its newline.
 pub(crate) fn line_size(labels: usize, samples: usize) -> Result<usize, ScriptRefusal>
-    ensures { IfOk result (λ size. size ≡ 8 + labels + 38 * samples) }
+    ensures size { IfOk result (λ size. size ≡ 8 + labels + 38 * samples) }
+    ensures refused { IfErr result (λ e. (e ≡ TooLong)
+        × (longest_text < 8 + labels + 38 * samples)) }
 {
     if labels > LONGEST_TEXT || samples > LONGEST_TEXT {
         return Err(ScriptRefusal::TooLong);
@@ -45,6 +52,10 @@ pub(crate) fn put_series(
     ensures read { OnOk result ((number : ℕ)
         → line_at (state_of draft.old) number (series_front labels.now samples)
         ≡ Ok (state_of draft.new)) }
+    ensures refused { (set : List Label) → AreSeriesParts labels.now set samples
+        → IfErr result (λ e. (e ≡ line_refusals.NoMemory)
+        ⊎ (add_series (state_of draft.old) (record { labels = set; samples = samples })
+        ≡ Err e)) }
 {
     let set = read_labels(alloc, labels)?;
     LineCause::BadShape.unless(samples.len() > 0)?;
@@ -58,6 +69,9 @@ fn read_labels(alloc: Global, text: &[u8]) -> Result<LabelSet, LineRefusal>
     ensures set { IfOk result (λ set. IsSetText text.now set) }
     ensures utf8 { OnOk result (IsTrue (is_utf8 text.now)) }
     ensures line { OnOk result (IsOneLine text.now) }
+    ensures only { (set : List Label) → IsSetText text.now set → IsTrue (is_utf8 text.now)
+        → IsOneLine text.now
+        → MatchResult result (λ found. found ≡ set) (λ e. e ≡ line_refusals.NoMemory) }
 {
     LineCause::BadLabelText.unless(is_one_line(text))?;
     let text = text_of(text).ok_or(LineCause::NotText)?;

@@ -12,5 +12,5 @@ returns c =
     let line = block_line c.args.block c.args.replica in
     let series = all_series_text c.args.number c.args.block c.args.replica in
     let written = c.as_slice.ensures.value ∙ from_none _ _ line c.new-line.ensures.items c.in_ok-put_block_line.ensures in
-    let first = subst (Reads c.args.reader.now c.read_lines.new.self) written c.in_ok-read_lines.ensures in
+    let first = subst (Reads c.args.reader.now c.read_lines.new.self) written c.in_ok-read_lines.ensures.read in
     on_ok_weaker c.read_all_series.result (λ (others : Reads c.read_lines.new.self c.read_all_series.new.reader series). reads_both c.args.reader.now c.read_lines.new.self c.read_all_series.new.reader line series first others) c.read_all_series.ensures

@@ -1,4 +1,4 @@
-use Rattle.script_core.proofs.PartLaws.{spelled_end, lawful_end}
+use Rattle.script_core.proofs.PartLaws.{spelled_end, lawful_end, gives_end}
 use Rattle.script_core.proofs.part_reader.PartReader.finish.Goals as goal
 
 pub returns-clause-spelled : goal.returns-clause-spelled
@@ -6,3 +6,6 @@ returns-clause-spelled c = λ text has. spelled_end c.args.self c.finish.result 
 
 pub returns-clause-lawful : goal.returns-clause-lawful
 returns-clause-lawful c = λ text has. lawful_end c.args.self c.finish.result c.finish.ensures text has
+
+pub returns-clause-gives : goal.returns-clause-gives
+returns-clause-gives c = λ text has. gives_end c.args.self c.finish.result c.finish.ensures text has

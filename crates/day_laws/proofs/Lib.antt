@@ -1,0 +1,6 @@
+mod Tells
+mod DaySamples
+mod DaySeries
+mod DayBlocks
+mod DayPhases
+mod DayScripts
