@@ -1,6 +1,6 @@
 //! The activities that change the bucket, and syncs. None of them is begun where memory is wanting, and nothing is done then.
 
-ghost use Rattle.std.specs.Prelude.{◌≡◌, ◌≤◌, ◌||◌, ◌⊎◌, ℕ, IfSome, IsTrue};
+ghost use Rattle.std.specs.Prelude.{◌≡◌, ◌≤◌, ◌||◌, ◌⊎◌, ℕ, IfOk, IfSome, IsTrue};
 ghost use Rattle.block_keys.specs.Blocks.{IsBlock};
 ghost use Rattle.world_core.specs.Keeping.{IsFull};
 ghost use Rattle.world_core.specs.Machines.{Drives, is_driven_full};
@@ -9,6 +9,7 @@ ghost use Rattle.shipper.specs.Uploads.{upload};
 ghost use Rattle.meta_fetcher.specs.Syncs.{SyncRun};
 ghost use Rattle.compactor.specs.Compactions.{CompactRun};
 ghost use Rattle.cleaner.specs.Cleanings.{CleanRun};
+ghost use Rattle.activity_runs.specs.Begun.{DrivesBegun};
 
 use block_keys::ObjectList;
 use cleaner::{Clean, CleanEnd};
@@ -18,7 +19,34 @@ use meta_fetcher::{Sync, SyncEnd, SyncRules};
 use moment_core::Rules;
 use shipper::{Upload, UploadEnd};
 use std::alloc::Global;
-use world_core::{Driven, Hand, drive};
+use world_core::{Driven, Hand, Machine, drive};
+
+/// Drives a machine that was begun, and stops it after so many operations if it is told to. Where memory was wanting as it was
+/// begun, nothing is done.
+fn run_begun<M: Machine + Drop, H: Hand>(
+    begun: Result<M, NoMemory>,
+    stop: Option<u32>,
+    hand: &mut H,
+) -> Driven<M::End>
+    requires { IfOk begun M.fresh }
+    ensures run { DrivesBegun M.may begun (H.seat hand.old) stop result (H.entries hand.old)
+        (H.entries hand.new) }
+    ensures seat { H.seat hand.new ≡ H.seat hand.old }
+    ensures keeps { H.keeps hand.old hand.new }
+    ensures wanted { IsTrue (H.wanted hand.new)
+        → IsTrue (H.wanted hand.old) ⊎ (result ≡ Driven.NoMemory) }
+    ensures refused { H.refused hand.new ≡ (H.refused hand.old || is_driven_full result) }
+    ensures full { result ≡ Driven.Full → IfSome (H.front hand.new) IsFull }
+{
+    match begun {
+        Ok(mut machine) => {
+            let driven = drive(&mut machine, hand, stop);
+            drop(machine);
+            driven
+        }
+        Err(NoMemory) => Driven::NoMemory,
+    }
+}
 
 /// Ships a block's objects, and stops after so many operations if it is told to.
 pub fn run_upload<H: Hand>(
@@ -36,14 +64,7 @@ pub fn run_upload<H: Hand>(
     ensures refused { H.refused hand.new ≡ (H.refused hand.old || is_driven_full result) }
     ensures full { result ≡ Driven.Full → IfSome (H.front hand.new) IsFull }
 {
-    match Upload::start(objects) {
-        Ok(mut machine) => {
-            let driven = drive(&mut machine, hand, stop);
-            drop(machine);
-            driven
-        }
-        Err(NoMemory) => Driven::NoMemory,
-    }
+    run_begun(Upload::start(objects), stop, hand)
 }
 
 /// Syncs a gateway by these rules.
@@ -58,14 +79,7 @@ pub fn run_sync<H: Hand>(alloc: Global, rules: SyncRules, hand: &mut H) -> Drive
     ensures refused { H.refused hand.new ≡ (H.refused hand.old || is_driven_full result) }
     ensures full { result ≡ Driven.Full → IfSome (H.front hand.new) IsFull }
 {
-    match Sync::start(alloc, rules) {
-        Ok(mut machine) => {
-            let driven = drive(&mut machine, hand, None);
-            drop(machine);
-            driven
-        }
-        Err(NoMemory) => Driven::NoMemory,
-    }
+    run_begun(Sync::start(alloc, rules), None, hand)
 }
 
 /// Compacts by these rules, and stops after so many operations if it is told to.
@@ -85,14 +99,7 @@ pub fn run_compaction<H: Hand>(
     ensures refused { H.refused hand.new ≡ (H.refused hand.old || is_driven_full result) }
     ensures full { result ≡ Driven.Full → IfSome (H.front hand.new) IsFull }
 {
-    match Compact::start(alloc, rules) {
-        Ok(mut machine) => {
-            let driven = drive(&mut machine, hand, stop);
-            drop(machine);
-            driven
-        }
-        Err(NoMemory) => Driven::NoMemory,
-    }
+    run_begun(Compact::start(alloc, rules), stop, hand)
 }
 
 /// Cleans by these rules, and stops after so many operations if it is told to.
@@ -112,12 +119,5 @@ pub fn run_cleaning<H: Hand>(
     ensures refused { H.refused hand.new ≡ (H.refused hand.old || is_driven_full result) }
     ensures full { result ≡ Driven.Full → IfSome (H.front hand.new) IsFull }
 {
-    match Clean::start(alloc, rules) {
-        Ok(mut cleaning) => {
-            let driven = drive(&mut cleaning, hand, stop);
-            drop(cleaning);
-            driven
-        }
-        Err(NoMemory) => Driven::NoMemory,
-    }
+    run_begun(Clean::start(alloc, rules), stop, hand)
 }

@@ -50,11 +50,18 @@ AreUnfinished way number phases [] = Unit {0}
 AreUnfinished way number [] (own ∷ ends) = ⊥
 AreUnfinished way number (phase ∷ phases) (own ∷ ends) = (¬ way.is_done number phase own) × (ends ≡ [])
 
--- An operation is due in the phase after those that came to these ends: whatever the reply to it, the journal with its entry is
--- that of a run of the phases, which has begun no further phase.
+-- ---- operations that are due
+
+-- An operation of the seat is due in a run that made these entries: whatever the reply to it, its entry goes on with the run.
+abbrev pub IsDueAfter : {E : Type 0} → (List Entry → E → Type 0) → ℕ → List Entry → Type 0
+IsDueAfter {E} is_run seat made = (op : Op) × IsLawful op × ((seen : Seen) → IsAnswer op seen → (end : E) × is_run (made ++ entry_of seat op seen ∷ []) end)
+
+-- an operation of some seat is due
+abbrev pub IsDue : {E : Type 0} → (List Entry → E → Type 0) → List Entry → Type 0
+IsDue is_run made = (seat : ℕ) × IsDueAfter is_run seat made
+
+-- An operation is due in the phase after those that came to these ends: the journal with its entry is that of a run of the phases,
+-- which has begun no further phase.
 abbrev pub IsOperationDue : {State Ends : Type 0} → Way State Ends → (ℕ → State) → List Phase → List Entry → List Ends → Type 0
 IsOperationDue {State} {Ends} way before phases journal told =
-    (seat : ℕ) × (op : Op) × IsLawful op
-    × ((seen : Seen) → IsAnswer op seen
-    → (own : Ends)
-    × PhasesRun way 0 before phases (journal ++ entry_of seat op seen ∷ []) (told ++ own ∷ []))
+    IsDue (λ entries (own : Ends). PhasesRun way 0 before phases entries (told ++ own ∷ [])) journal

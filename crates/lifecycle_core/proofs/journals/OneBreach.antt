@@ -56,41 +56,12 @@ module _ (setting : Setting) (journal : List Entry) (none : (rule : Rule) (numbe
 
 same_rule : (one other : Rule) → rank one ≡ rank other → one ≡ other
 same_rule honesty honesty is = refl
-same_rule honesty upload_time is = absurd (omega (arith, is))
-same_rule honesty mark_time is = absurd (omega (arith, is))
-same_rule honesty sync_time is = absurd (omega (arith, is))
-same_rule honesty view_time is = absurd (omega (arith, is))
-same_rule honesty read_time is = absurd (omega (arith, is))
-same_rule upload_time honesty is = absurd (omega (arith, is))
 same_rule upload_time upload_time is = refl
-same_rule upload_time mark_time is = absurd (omega (arith, is))
-same_rule upload_time sync_time is = absurd (omega (arith, is))
-same_rule upload_time view_time is = absurd (omega (arith, is))
-same_rule upload_time read_time is = absurd (omega (arith, is))
-same_rule mark_time honesty is = absurd (omega (arith, is))
-same_rule mark_time upload_time is = absurd (omega (arith, is))
 same_rule mark_time mark_time is = refl
-same_rule mark_time sync_time is = absurd (omega (arith, is))
-same_rule mark_time view_time is = absurd (omega (arith, is))
-same_rule mark_time read_time is = absurd (omega (arith, is))
-same_rule sync_time honesty is = absurd (omega (arith, is))
-same_rule sync_time upload_time is = absurd (omega (arith, is))
-same_rule sync_time mark_time is = absurd (omega (arith, is))
 same_rule sync_time sync_time is = refl
-same_rule sync_time view_time is = absurd (omega (arith, is))
-same_rule sync_time read_time is = absurd (omega (arith, is))
-same_rule view_time honesty is = absurd (omega (arith, is))
-same_rule view_time upload_time is = absurd (omega (arith, is))
-same_rule view_time mark_time is = absurd (omega (arith, is))
-same_rule view_time sync_time is = absurd (omega (arith, is))
 same_rule view_time view_time is = refl
-same_rule view_time read_time is = absurd (omega (arith, is))
-same_rule read_time honesty is = absurd (omega (arith, is))
-same_rule read_time upload_time is = absurd (omega (arith, is))
-same_rule read_time mark_time is = absurd (omega (arith, is))
-same_rule read_time sync_time is = absurd (omega (arith, is))
-same_rule read_time view_time is = absurd (omega (arith, is))
 same_rule read_time read_time is = refl
+same_rule one other is = absurd (omega (arith, is))
 
 neither_less : (one other : ℕ) → ¬ (one < other) → ¬ (other < one) → one ≡ other
 neither_less one other not turned = omega (arith, not, turned)

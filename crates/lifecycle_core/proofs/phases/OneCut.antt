@@ -247,9 +247,9 @@ module _ (setting : Setting) where
       (nothing_begun back.number back.before (phase ∷ finished ++ left) (back.told ++ untold) (subst (λ (es : List Entry). Ran back.number back.before (phase ∷ finished ++ left) es (back.told ++ untold)) none back.run))
   no_more journal done phase finished left others told untold also (own ∷ more) run full on whole due =
       let is = due (λ none. cc (none)) in
-      let seen = some_seen is.1 in
-      let next = is.3 seen (some_answer is.1) in
-      let e = entry_of is.0 is.1 seen in
+      let seen = some_seen is.1.0 in
+      let next = is.1.2 seen (some_answer is.1.0) in
+      let e = entry_of is.0 is.1.0 seen in
       let back = behind 0 none_held done phase finished left (phase ∷ others) journal (e ∷ []) told untold also (next.0 ∷ []) run next.1 full whole in
       one_more back.number back.before phase finished (finished ++ left) others back.entries e back.told untold next.0 back.run back.on back.full
 

@@ -1,4 +1,3 @@
-use Rattle.std.proofs.Common.{refl}
 use Rattle.std.specs.Int.{w64}
 use Rattle.std.specs.Prelude.{None}
 use Rattle.std.proofs.lemmas.Int.{to_z-of_z}
@@ -7,7 +6,7 @@ use Rattle.series_calls.specs.Endings.{IsOver, ended_with}
 use Rattle.series_calls.specs.SeriesCalls.{asking, series_call}
 use Rattle.world_core.proofs.PlanLaws.{breaks_off}
 use Rattle.activity_runs.specs.Calls.{CallRun}
-use Rattle.activity_runs.proofs.Ended.{asked_same, ended_call, full_call, over_by, short_call}
+use Rattle.activity_runs.proofs.Ended.{asked_same, ended_call, full_call, over_by}
 use Rattle.activity_runs.proofs.Driving.{not_begun}
 use Rattle.activity_runs.proofs.calls.run_call.Goals as goal
 

@@ -1,12 +1,7 @@
 use Rattle.world_core.proofs.PlanLaws.{breaks_off}
 use Rattle.compactor.specs.Compactions.{CompactRun, compaction}
-use Rattle.activity_runs.proofs.Driving.{drives_as, not_begun}
+use Rattle.activity_runs.proofs.Driving.{begun_as}
 use Rattle.activity_runs.proofs.runs.run_compaction.Goals as goal
 
-pub returns-in-Ok-clause-run : goal.returns-in-Ok-clause-run
-returns-in-Ok-clause-run g c =
-    drives_as _ (CompactRun c.args.rules.now) (g.H.Hand.seat c.args.hand.now) c.args.stop c.drive-driven.result (g.H.Hand.entries c.args.hand.now) (g.H.Hand.entries c.drive-driven.new.hand)
-    (λ made end run. c.in-Ok.ensures.run made end c.drive-driven.new.machine run) c.drive-driven.ensures.run
-
-pub returns-in-Err-clause-run : goal.returns-in-Err-clause-run
-returns-in-Err-clause-run g c = not_begun (CompactRun c.args.rules.now) (g.H.Hand.seat c.args.hand.now) c.args.stop (g.H.Hand.entries c.args.hand.now) (breaks_off (compaction c.args.rules.now))
+pub returns-clause-run : goal.returns-clause-run
+returns-clause-run g c = begun_as _ (CompactRun c.args.rules.now) c.start.result (g.H.Hand.seat c.args.hand.now) c.args.stop c.run_begun.result (g.H.Hand.entries c.args.hand.now) (g.H.Hand.entries c.run_begun.new.hand) (breaks_off (compaction c.args.rules.now)) c.start.ensures.run c.run_begun.ensures.run
