@@ -14,7 +14,7 @@ use Rattle.world_core.specs.declared.op.Op.{Op}
 use Rattle.world_core.specs.declared.op.Op.TheVariants as op
 use Rattle.world_core.specs.declared.reply.Reply.TheVariants as reply
 use Rattle.world_core.specs.declared.seen.Seen.{Seen}
-use Rattle.meta_fetcher.specs.SyncStates.{asked_sync, may_sync}
+use Rattle.meta_fetcher.specs.contracts.sync.SyncMachine.TheImpl.{ghosts as syncs}
 use Rattle.meta_fetcher.specs.Syncs.{SyncRun}
 use Rattle.meta_fetcher.specs.declared.rules.SyncRules.{SyncRules}
 use Rattle.meta_fetcher.specs.declared.sync.Sync.{Sync}
@@ -63,7 +63,7 @@ would_go_on rules made machine asks at =
     (e, refl, broken_off rules (made ++ e ∷ []) (subst (λ (es : List Entry). SyncRun rules es None) (sym (with_last made e (some_passed asks))) run))
 
 module _ (rules : SyncRules) (made : List Entry) (old : Sync) (asks : Op) (at : IsAt rules made old asks) (e : Entry) where
-  pub at_next : (next : Op) (new : Sync) → Asks may_sync asked_sync old (as_passed e ∷ []) next new → IsAt rules (made ++ e ∷ []) new next
+  pub at_next : (next : Op) (new : Sync) → Asks syncs.may syncs.asked old (as_passed e ∷ []) next new → IsAt rules (made ++ e ∷ []) new next
   at_next next new a = record {
     waits = a.waits;
     onward = λ entries end last run.
@@ -72,22 +72,22 @@ module _ (rules : SyncRules) (made : List Entry) (old : Sync) (asks : Op) (at : 
     answered = a.answered;
   }
 
-  pub at_done : (end : SyncEnd) (new : Sync) → may_sync old (as_passed e ∷ []) (Some end) new → (own : SyncEnd) × (came_of end ≡ came_of own) × SyncRun rules (made ++ e ∷ []) (Some own)
+  pub at_done : (end : SyncEnd) (new : Sync) → syncs.may old (as_passed e ∷ []) (Some end) new → (own : SyncEnd) × (came_of end ≡ came_of own) × SyncRun rules (made ++ e ∷ []) (Some own)
   at_done end new run =
       ended rules (made ++ e ∷ []) end (subst (λ (es : List Entry). SyncRun rules es (Some end)) (sym (map-append as_passed made (e ∷ []))) (at.onward (as_passed e ∷ []) (Some end) new run))
 
 -- ---- the first step
 
-module _ (rules : SyncRules) (old : Sync) (starts : (entries : List Entry) (end : Option SyncEnd) (last : Sync) → may_sync old entries end last → SyncRun rules entries end) where
-  pub at_first : (asks : Op) (new : Sync) → Asks may_sync asked_sync old [] asks new → IsAt rules [] new asks
+module _ (rules : SyncRules) (old : Sync) (starts : (entries : List Entry) (end : Option SyncEnd) (last : Sync) → syncs.may old entries end last → SyncRun rules entries end) where
+  pub at_first : (asks : Op) (new : Sync) → Asks syncs.may syncs.asked old [] asks new → IsAt rules [] new asks
   at_first asks new a = record { waits = a.waits; onward = λ entries end last run. starts entries end last (a.onward entries end last run); answered = a.answered }
 
-  pub first_asks : (low : 1 ≤ rules.page_limit) (asks : Op) (new : Sync) → Asks may_sync asked_sync old [] asks new → asks ≡ op.RootPage [] rules.page_limit
+  pub first_asks : (low : 1 ≤ rules.page_limit) (asks : Op) (new : Sync) → Asks syncs.may syncs.asked old [] asks new → asks ≡ op.RootPage [] rules.page_limit
   first_asks low asks new a =
       let goes = would_go_on rules [] new asks (at_first asks new a) in
       sym goes.1 ∙ sync_begins rules goes.0 [] None goes.2
 
-  pub first_not_done : (end : SyncEnd) (new : Sync) → may_sync old [] (Some end) new → ⊥
+  pub first_not_done : (end : SyncEnd) (new : Sync) → syncs.may old [] (Some end) new → ⊥
   first_not_done end new run = let ended = starts [] (Some end) new run in no_listing rules 999_999 ended.0 ended.1
 
 -- ---- a step by an entry
@@ -95,27 +95,27 @@ module _ (rules : SyncRules) (old : Sync) (starts : (entries : List Entry) (end 
 entry_is : (e : Entry) (r : Reply) → r ≡ passed_on e.op e.reply → entry_of e.seat e.op (record { seq = e.seq; moment = e.moment; reply = r }) ≡ as_passed e
 entry_is e r same = ap (λ (q : Reply). entry_of e.seat e.op (record { seq = e.seq; moment = e.moment; reply = q })) same
 
-pub came_do : (old new : Sync) (made : List Entry) (res : Result (Act SyncEnd) NoMemory) (next : Op) → GoesOn may_sync asked_sync old made res new → res ≡ Ok (Do next) → Asks may_sync asked_sync old made next new
-came_do old new made res next goes is = subst (λ (q : Result (Act SyncEnd) NoMemory). GoesOn may_sync asked_sync old made q new) is goes
+pub came_do : (old new : Sync) (made : List Entry) (res : Result (Act SyncEnd) NoMemory) (next : Op) → GoesOn syncs.may syncs.asked old made res new → res ≡ Ok (Do next) → Asks syncs.may syncs.asked old made next new
+came_do old new made res next goes is = subst (λ (q : Result (Act SyncEnd) NoMemory). GoesOn syncs.may syncs.asked old made q new) is goes
 
-pub came_done : (old new : Sync) (made : List Entry) (res : Result (Act SyncEnd) NoMemory) (end : SyncEnd) → GoesOn may_sync asked_sync old made res new → res ≡ Ok (Done end) → may_sync old made (Some end) new
-came_done old new made res end goes is = subst (λ (q : Result (Act SyncEnd) NoMemory). GoesOn may_sync asked_sync old made q new) is goes
+pub came_done : (old new : Sync) (made : List Entry) (res : Result (Act SyncEnd) NoMemory) (end : SyncEnd) → GoesOn syncs.may syncs.asked old made res new → res ≡ Ok (Done end) → syncs.may old made (Some end) new
+came_done old new made res end goes is = subst (λ (q : Result (Act SyncEnd) NoMemory). GoesOn syncs.may syncs.asked old made q new) is goes
 
 -- where a call did not stop for want of memory
-ok_goes : (old : Sync) (made : List Entry) (res : Result (Act SyncEnd) NoMemory) (new : Sync) → GoesOn may_sync asked_sync old made res new → IfOk res (λ act. GoesOn may_sync asked_sync old made (Ok act) new)
+ok_goes : (old : Sync) (made : List Entry) (res : Result (Act SyncEnd) NoMemory) (new : Sync) → GoesOn syncs.may syncs.asked old made res new → IfOk res (λ act. GoesOn syncs.may syncs.asked old made (Ok act) new)
 ok_goes old made (Ok act) new goes = goes
 ok_goes old made (Err none) new goes = tt
 
 module _ (old new : Sync) (e : Entry) (r : Reply) (same : r ≡ passed_on e.op e.reply) (res : Result (Act SyncEnd) NoMemory)
-    (goes : GoesOn may_sync asked_sync old (entry_of e.seat e.op (record { seq = e.seq; moment = e.moment; reply = r }) ∷ []) res new) where
-  by_entry : GoesOn may_sync asked_sync old (as_passed e ∷ []) res new
-  by_entry = subst (λ (x : Entry). GoesOn may_sync asked_sync old (x ∷ []) res new) (entry_is e r same) goes
+    (goes : GoesOn syncs.may syncs.asked old (entry_of e.seat e.op (record { seq = e.seq; moment = e.moment; reply = r }) ∷ []) res new) where
+  by_entry : GoesOn syncs.may syncs.asked old (as_passed e ∷ []) res new
+  by_entry = subst (λ (x : Entry). GoesOn syncs.may syncs.asked old (x ∷ []) res new) (entry_is e r same) goes
 
-  pub step_ok : IfOk res (λ act. GoesOn may_sync asked_sync old (as_passed e ∷ []) (Ok act) new)
+  pub step_ok : IfOk res (λ act. GoesOn syncs.may syncs.asked old (as_passed e ∷ []) (Ok act) new)
   step_ok = ok_goes old (as_passed e ∷ []) res new by_entry
 
 module _ (rules : SyncRules) (made : List Entry) (w : UnderWay) (at : IsAt rules made w.machine w.asks) (e : Entry) (new : Sync) where
-  pub went_do : (next : Op) → Asks may_sync asked_sync w.machine (as_passed e ∷ []) next new
+  pub went_do : (next : Op) → Asks syncs.may syncs.asked w.machine (as_passed e ∷ []) next new
       → Went rules made e w.begin (record { under = Some (record { machine = new; asks = next; begin = w.begin }); told = Some (record { begin = w.begin; came = Going }) })
   went_do next asks = inl (record {
     next = record { machine = new; asks = next; begin = w.begin };
@@ -125,7 +125,7 @@ module _ (rules : SyncRules) (made : List Entry) (w : UnderWay) (at : IsAt rules
     at = at_next rules made w.machine w.asks at e next new asks;
   })
 
-  pub went_done : (end : SyncEnd) (how : Came) → how ≡ came_of end → may_sync w.machine (as_passed e ∷ []) (Some end) new
+  pub went_done : (end : SyncEnd) (how : Came) → how ≡ came_of end → syncs.may w.machine (as_passed e ∷ []) (Some end) new
       → Went rules made e w.begin (record { under = None; told = Some (record { begin = w.begin; came = how }) })
   went_done end how is run =
       let own = at_done rules made w.machine w.asks at e end new run in

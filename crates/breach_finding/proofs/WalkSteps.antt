@@ -14,7 +14,7 @@ use Rattle.lifecycle_core.specs.Tasks.{sync_rules}
 use Rattle.breach_finding.specs.Judging.{IsWatchTurn}
 use Rattle.breach_finding.specs.Seats.{IsToldOf, IsWatched}
 use Rattle.breach_finding.specs.Walks.{UnderWays}
-use Rattle.breach_finding.specs.Watching.{Waits}
+use Rattle.breach_finding.specs.Watching.{IsWaiting}
 use Rattle.breach_finding.specs.declared.watching.Told.{Told}
 use Rattle.lifecycle_core.proofs.views.OneOpening.{AllList}
 use Rattle.breach_finding.proofs.SeatTables.{num_itself, num_same}
@@ -90,8 +90,8 @@ module _ (setting : Setting) (before : List Entry) (e : Entry) (old new : UnderW
           (subst (IsWatched (sync_rules setting other) (of_seat seat before)) (sym past) (watched other seat sits')))
     ]
 
-    pub waits_on : ((seat : ℕ) → Waits (get nat_cmp old seat)) → (seat : ℕ) → Waits (get nat_cmp new seat)
+    pub waits_on : ((seat : ℕ) → IsWaiting (get nat_cmp old seat)) → (seat : ℕ) → IsWaiting (get nat_cmp new seat)
     waits_on waits seat = elim (cases_Bool (is_eq (nat_cmp e.seat seat))) [
-      | inl same ↦ subst Waits (sym (w.seats seat ∙ ap (λ b. cond b w.turn.under (get nat_cmp old seat)) same)) w.waits
-      | inr differs ↦ subst Waits (sym (w.seats seat ∙ ap (λ b. cond b w.turn.under (get nat_cmp old seat)) differs)) (waits seat)
+      | inl same ↦ subst IsWaiting (sym (w.seats seat ∙ ap (λ b. cond b w.turn.under (get nat_cmp old seat)) same)) w.waits
+      | inr differs ↦ subst IsWaiting (sym (w.seats seat ∙ ap (λ b. cond b w.turn.under (get nat_cmp old seat)) differs)) (waits seat)
     ]

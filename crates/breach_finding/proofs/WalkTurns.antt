@@ -27,7 +27,7 @@ use Rattle.breach_finding.specs.Seats.{IsWatched}
 use Rattle.breach_finding.specs.Tables.{AreTablesOf, Numbers, SitsBefore}
 use Rattle.breach_finding.specs.Views.{IsLastView}
 use Rattle.breach_finding.specs.Walks.{IsFound, IsWalked, UnderWays, rule_of, setting_with}
-use Rattle.breach_finding.specs.Watching.{Waits}
+use Rattle.breach_finding.specs.Watching.{IsWaiting}
 use Rattle.breach_finding.specs.declared.found.Breach.{Breach}
 use Rattle.breach_finding.specs.declared.found.BreachRule.{BreachRule}
 use Rattle.breach_finding.specs.declared.found.Refusal.{Refusal}
@@ -93,7 +93,7 @@ module _ (setting : Setting) (tick : ℕ) (journal : List Entry) (is : IsJournal
     held = held;
     watched = λ gateway seat sits.
         subst (IsWatched (sync_rules setting gateway) []) (sym (empty_get unders none seat)) (λ front made parts some can. some (no_parts front made parts));
-    waits = λ seat. subst Waits (sym (empty_get unders none seat)) tt;
+    waits = λ seat. subst IsWaiting (sym (empty_get unders none seat)) tt;
     seen = λ gateway. subst (IsLastView setting journal gateway 1) (sym (empty_get views no_views gateway)) (λ view v. no_view_yet gateway view v);
     kept = λ before after e parts. let nil : [] ≡ before ++ e ∷ after = parts in cc (no_parts before (e ∷ after) nil);
   }

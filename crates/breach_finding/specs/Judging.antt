@@ -12,7 +12,7 @@ use Rattle.breach_finding.specs.Asked.{IsSyncAnswer}
 use Rattle.breach_finding.specs.Tables.{Numbers, gateway_or}
 use Rattle.breach_finding.specs.Views.{IsViewAnswer}
 use Rattle.breach_finding.specs.Walks.{UnderWays, rule_of}
-use Rattle.breach_finding.specs.Watching.{IsTurn, Waits}
+use Rattle.breach_finding.specs.Watching.{IsTurn, IsWaiting}
 use Rattle.breach_finding.specs.declared.found.BreachRule.{BreachRule}
 use Rattle.breach_finding.specs.declared.found.BreachRule.TheVariants as found
 use Rattle.breach_finding.specs.declared.found.Refusal.{Refusal}
@@ -54,7 +54,7 @@ pub record IsWatchTurn (rules : SyncRules) (old new : UnderWays) (e : Entry) (to
   pub turn : Turn
   pub is : IsTurn rules (get nat_cmp old e.seat) e turn
   pub tells : turn.told ≡ told
-  pub waits : Waits turn.under
+  pub waits : IsWaiting turn.under
   pub seats : (seat : ℕ) → get nat_cmp new seat ≡ (if is_eq (nat_cmp e.seat seat) then turn.under else get nat_cmp old seat)
 
 -- the first of two refusals

@@ -14,7 +14,7 @@ use Rattle.lifecycle_core.specs.Setting.{FromShelf, Setting}
 use Rattle.lifecycle_core.specs.Tasks.{sync_rules}
 use Rattle.breach_finding.specs.Seats.{IsWatched}
 use Rattle.breach_finding.specs.Views.{IsLastView}
-use Rattle.breach_finding.specs.Watching.{Waits}
+use Rattle.breach_finding.specs.Watching.{IsWaiting}
 use Rattle.breach_finding.specs.declared.found.Breach.{Breach}
 use Rattle.breach_finding.specs.declared.found.BreachRule.{BreachRule}
 use Rattle.breach_finding.specs.declared.found.BreachRule.TheVariants as found
@@ -28,7 +28,7 @@ UnderWays = BTreeMap ℕ UnderWay
 pub record IsWalked (setting : Setting) (journal before : List Entry) (standing : Standing) (unders : UnderWays) (views : BTreeMap ℕ ℕ) : Type 0 where
   pub held : IsStanding journal standing (stands before)
   pub watched : (gateway seat : ℕ) → IsSeatOf setting gateway seat → IsWatched (sync_rules setting gateway) (of_seat seat before) (get nat_cmp unders seat)
-  pub waits : (seat : ℕ) → Waits (get nat_cmp unders seat)
+  pub waits : (seat : ℕ) → IsWaiting (get nat_cmp unders seat)
   pub seen : (gateway : ℕ) → IsLastView setting journal gateway (length before + 1) (get nat_cmp views gateway)
   pub kept : Each (IsKept setting journal) before
 

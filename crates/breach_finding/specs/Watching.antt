@@ -9,7 +9,7 @@ use Rattle.world_core.specs.declared.op.Op.TheVariants as op
 use Rattle.world_core.specs.declared.reply.Reply.{Reply}
 use Rattle.world_core.specs.declared.reply.Reply.TheVariants as reply
 use Rattle.world_core.specs.declared.seen.Seen.{Seen}
-use Rattle.meta_fetcher.specs.SyncStates.{asked_sync, may_sync}
+use Rattle.meta_fetcher.specs.contracts.sync.SyncMachine.TheImpl.{ghosts as syncs}
 use Rattle.meta_fetcher.specs.Syncs.{SyncRun}
 use Rattle.meta_fetcher.specs.declared.rules.SyncRules.{SyncRules}
 use Rattle.meta_fetcher.specs.declared.sync.Sync.{Sync}
@@ -48,14 +48,14 @@ as_passed e = record { seq = e.seq; seat = e.seat; moment = e.moment; op = e.op;
 
 -- A sync by these rules made these entries, was told of them what is passed on, and waits for this operation.
 pub record IsAt (rules : SyncRules) (made : List Entry) (machine : Sync) (asks : Op) : Type 0 where
-  pub waits : asked_sync machine ≡ Some asks
-  pub onward : (entries : List Entry) (end : Option SyncEnd) (last : Sync) → may_sync machine entries end last
+  pub waits : syncs.asked machine ≡ Some asks
+  pub onward : (entries : List Entry) (end : Option SyncEnd) (last : Sync) → syncs.may machine entries end last
       → SyncRun rules (map as_passed made ++ entries) end
-  pub answered : (seat : ℕ) (seen : Seen) → IsAnswer asks seen → may_sync machine (entry_of seat asks seen ∷ []) None machine
+  pub answered : (seat : ℕ) (seen : Seen) → IsAnswer asks seen → syncs.may machine (entry_of seat asks seen ∷ []) None machine
 
 -- the machine waits for the operation that is kept beside it
-abbrev pub Waits : Option UnderWay → Type 0
-Waits under = IfSome under (λ w. asked_sync w.machine ≡ Some w.asks)
+abbrev pub IsWaiting : Option UnderWay → Type 0
+IsWaiting under = IfSome under (λ w. syncs.asked w.machine ≡ Some w.asks)
 
 -- what is told of an entry of a sync that began at this moment
 abbrev pub IsToldAs : Turn → ℕ → Came → Type 0

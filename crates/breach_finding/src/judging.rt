@@ -13,7 +13,7 @@ ghost use Rattle.lifecycle_core.specs.Tasks.{partition_of, sync_rules};
 ghost use Rattle.breach_finding.specs.Judging.{IsJudged, IsLateTold, IsWatchTurn, first_of, given_by, refusal_of, under_or};
 ghost use Rattle.breach_finding.specs.Tables.{gateway_or};
 ghost use Rattle.breach_finding.specs.Views.{IsViewAnswer};
-ghost use Rattle.breach_finding.specs.Watching.{Waits};
+ghost use Rattle.breach_finding.specs.Watching.{IsWaiting};
 
 use crate::found::{BreachRule, Refusal};
 use crate::lies::lie;
@@ -102,7 +102,7 @@ fn watch(
     requires limit { 1 ≤ rules.page_limit }
     requires kind { IsReplyTo entry.now.op entry.now.reply }
     requires small { entry.now.moment.ms < 2 ^ 48 }
-    requires waits { (seat : ℕ) → Waits (get nat_cmp unders.old seat) }
+    requires waits { (seat : ℕ) → IsWaiting (get nat_cmp unders.old seat) }
     ensures { IfOk result (IsWatchTurn rules unders.old unders.new entry.now) }
 {
     let under = unders.remove(&entry.seat);
@@ -210,7 +210,7 @@ pub(crate) fn late_refusal(
     requires lawful { AreLawfulRules script.now.rules }
     requires kind { IsReplyTo entry.now.op entry.now.reply }
     requires small { entry.now.moment.ms < 2 ^ 48 }
-    requires waits { (seat : ℕ) → Waits (get nat_cmp unders.old seat) }
+    requires waits { (seat : ℕ) → IsWaiting (get nat_cmp unders.old seat) }
     ensures { IfOk result (IsLateTold script.now lasts.now unders.old unders.new views.old views.new
         gateway entry.now) }
 {

@@ -7,7 +7,7 @@ ghost use Rattle.script_core.specs.Lawful.{AreLawfulRules, IsLawfulScript};
 ghost use Rattle.lifecycle_core.specs.Setting.{FromShelf};
 ghost use Rattle.breach_finding.specs.Entries.{IsEntryTold, IsWatchedTold};
 ghost use Rattle.breach_finding.specs.Walks.{IsAnswer, setting_with};
-ghost use Rattle.breach_finding.specs.Watching.{Waits};
+ghost use Rattle.breach_finding.specs.Watching.{IsWaiting};
 
 use crate::found::{Breach, BreachRule, Refusal};
 use crate::judging::{early_refusal, first_of, late_refusal, refusal_by, stand};
@@ -59,7 +59,7 @@ fn entry_refusal(
     requires lawful { IsLawful entry.now.op }
     requires kind { IsReplyTo entry.now.op entry.now.reply }
     requires small { entry.now.moment.ms < 2 ^ 48 }
-    requires waits { (seat : ℕ) → Waits (get nat_cmp unders.old seat) }
+    requires waits { (seat : ℕ) → IsWaiting (get nat_cmp unders.old seat) }
     ensures { IfOk result (IsEntryTold script.now journal.now standing.now tables.now
         unders.old unders.new views.old views.new entry.now) }
 {
@@ -84,7 +84,7 @@ fn watched_refusal(
     requires rules { AreLawfulRules script.now.rules }
     requires kind { IsReplyTo entry.now.op entry.now.reply }
     requires small { entry.now.moment.ms < 2 ^ 48 }
-    requires waits { (seat : ℕ) → Waits (get nat_cmp unders.old seat) }
+    requires waits { (seat : ℕ) → IsWaiting (get nat_cmp unders.old seat) }
     ensures { IfOk result (IsWatchedTold script.now tables.now
         unders.old unders.new views.old views.new entry.now) }
 {

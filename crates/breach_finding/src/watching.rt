@@ -4,9 +4,8 @@ ghost use Rattle.world_core.specs.Operations.{IsReplyTo};
 ghost use Rattle.world_core.specs.declared.entry.Entry.{Entry};
 ghost use Rattle.world_core.specs.declared.op.Op.TheVariants as op;
 ghost use Rattle.block_keys.specs.declared.key.Key.TheVariants as key;
-ghost use Rattle.meta_fetcher.specs.SyncStates.{asked_sync, may_sync};
 ghost use Rattle.meta_fetcher.specs.declared.rules.SyncRules.{SyncRules};
-ghost use Rattle.breach_finding.specs.Watching.{Begins, IsAt, IsSyncOp, IsTurn, Waits, Went, as_passed, came_of, passed_on};
+ghost use Rattle.breach_finding.specs.Watching.{Begins, IsAt, IsSyncOp, IsTurn, IsWaiting, Went, as_passed, came_of, passed_on};
 
 use block_keys::Key;
 use block_meta::meta_of;
@@ -140,11 +139,12 @@ fn passed_on(alloc: Global, done: &Op, reply: &Reply) -> Result<Reply, NoMemory>
 
 /// What a sync comes to with the entry that it waits for.
 fn answered(alloc: Global, machine: &mut Sync, e: &Entry) -> Result<Act<SyncEnd>, NoMemory>
-    requires waits { asked_sync machine.old ≡ Some e.now.op }
+    requires waits { ⟦<Sync as Machine>⟧.asked machine.old ≡ Some e.now.op }
     requires kind { IsReplyTo e.now.op e.now.reply }
     requires small { e.now.moment.ms < 2 ^ 48 }
     ensures { IfOk result (λ act.
-        GoesOn may_sync asked_sync machine.old (as_passed e.now ∷ []) (Ok act) machine.new) }
+        GoesOn ⟦<Sync as Machine>⟧.may ⟦<Sync as Machine>⟧.asked machine.old
+        (as_passed e.now ∷ []) (Ok act) machine.new) }
 {
     let reply = passed_on(alloc, &e.op, &e.reply)?;
     machine.step(Seen {
@@ -156,12 +156,12 @@ fn answered(alloc: Global, machine: &mut Sync, e: &Entry) -> Result<Act<SyncEnd>
 
 /// Goes on with the entry that a sync waits for.
 fn goes_on(alloc: Global, w: UnderWay, e: &Entry) -> Result<Turn, NoMemory>
-    requires waits { asked_sync w.machine ≡ Some e.now.op }
+    requires waits { ⟦<Sync as Machine>⟧.asked w.machine ≡ Some e.now.op }
     requires kind { IsReplyTo e.now.op e.now.reply }
     requires small { e.now.moment.ms < 2 ^ 48 }
     ensures went { IfOk result (λ turn. (rules : SyncRules) (made : List Entry)
         → IsAt rules made w.machine w.asks → Went rules made e.now w.begin turn) }
-    ensures waits { IfOk result (λ turn. Waits turn.under) }
+    ensures waits { IfOk result (λ turn. IsWaiting turn.under) }
 {
     let UnderWay {
         mut machine,
@@ -202,7 +202,7 @@ fn begins(alloc: Global, rules: SyncRules, e: &Entry) -> Result<Turn, NoMemory>
     requires kind { IsReplyTo e.now.op e.now.reply }
     requires small { e.now.moment.ms < 2 ^ 48 }
     ensures turn { IfOk result (Begins rules e.now) }
-    ensures waits { IfOk result (λ turn. Waits turn.under) }
+    ensures waits { IfOk result (λ turn. IsWaiting turn.under) }
 {
     if !is_page(&e.op, "", rules.page_limit) {
         return Ok(Turn {
@@ -224,9 +224,9 @@ pub(crate) fn take_turn(
     requires limit { 1 ≤ rules.page_limit }
     requires kind { IsReplyTo e.now.op e.now.reply }
     requires small { e.now.moment.ms < 2 ^ 48 }
-    requires waits { Waits under }
+    requires waits { IsWaiting under }
     ensures turn { IfOk result (IsTurn rules under e.now) }
-    ensures waits { IfOk result (λ turn. Waits turn.under) }
+    ensures waits { IfOk result (λ turn. IsWaiting turn.under) }
 {
     match under {
         None => begins(alloc, rules, e),
