@@ -175,19 +175,21 @@ is_due setting well after done left phase passed one told front seat others ends
     let due = are_due setting phase.tasks after front seat ws one.kept others ends lasts end have row among full in
     let kept_seats : map (λ (k : Kept). k.0) one.kept ≡ map (λ (w : Worker). w.seat) ws = same_seats setting phase.tasks after ws one.kept ends lasts (were_kept setting phase.tasks after front ws one.kept others ends lasts have).0 in (
       due.at,
-      due.op,
-      due.lawful,
-      λ seen answer.
-          let e = entry_of due.at due.op seen in
-          let g = due.on seen answer in
-          let next : Passed = record { clock = one.clock; kept = g.kept_then } in
-          let seats : map (λ (k : Kept). k.0) g.kept_then ≡ map (λ (k : Kept). k.0) one.kept = same_seats setting phase.tasks after ws g.kept_then g.ends g.lasts g.were ∙ sym kept_seats in
-          let first : 0 + length done ≡ length done = omega arith in
-          let b = was_begun setting well (length done) phase after next g.ends g.lasts begins g.were g.long in
-          let all = begun_more setting 0 none_held after b.0 done passed told phase next g.ends begun (subst (λ (n : ℕ). WasBegun setting n phase after next g.ends b.0) (sym first) b.2) in
-          let on = parts_more passed one g.kept_then journal e parts seats (subst (λ (ns : List ℕ). Contains ns due.at) (sym kept_seats) due.among) g.own in (
-            g.ends,
-            subst (λ (ps : List Phase). PhasesRun (by_workers setting) 0 none_held ps (journal ++ e ∷ []) (told ++ g.ends ∷ [])) (append_assoc done (phase ∷ []) left)
-                (phases_run setting 0 none_held b.0 (done ++ phase ∷ []) left (passed ++ next ∷ []) (told ++ g.ends ∷ []) (journal ++ e ∷ []) all on),
-          ),
+      (
+        due.op,
+        due.lawful,
+        λ seen answer.
+            let e = entry_of due.at due.op seen in
+            let g = due.on seen answer in
+            let next : Passed = record { clock = one.clock; kept = g.kept_then } in
+            let seats : map (λ (k : Kept). k.0) g.kept_then ≡ map (λ (k : Kept). k.0) one.kept = same_seats setting phase.tasks after ws g.kept_then g.ends g.lasts g.were ∙ sym kept_seats in
+            let first : 0 + length done ≡ length done = omega arith in
+            let b = was_begun setting well (length done) phase after next g.ends g.lasts begins g.were g.long in
+            let all = begun_more setting 0 none_held after b.0 done passed told phase next g.ends begun (subst (λ (n : ℕ). WasBegun setting n phase after next g.ends b.0) (sym first) b.2) in
+            let on = parts_more passed one g.kept_then journal e parts seats (subst (λ (ns : List ℕ). Contains ns due.at) (sym kept_seats) due.among) g.own in (
+              g.ends,
+              subst (λ (ps : List Phase). PhasesRun (by_workers setting) 0 none_held ps (journal ++ e ∷ []) (told ++ g.ends ∷ [])) (append_assoc done (phase ∷ []) left)
+                  (phases_run setting 0 none_held b.0 (done ++ phase ∷ []) left (passed ++ next ∷ []) (told ++ g.ends ∷ []) (journal ++ e ∷ []) all on),
+            ),
+      ),
     )

@@ -1,8 +1,10 @@
 -- What the ends of a phase's workers come to together.
-use Rattle.std.proofs.Common.{◌≡◌, ◌≢◌, Bool, true, false, ℕ, zero, suc, ◌<◌, List, [], ◌∷◌, ◌++◌, length, get_or, Option, None, Some, refl, sym, ◌∙◌, subst, arith}
-use Rattle.std.specs.Prelude.{IfSome, IsSome, MatchBool, Ok, Err, OnOk, Result, slice_get}
+use Rattle.std.proofs.Common.{◌≡◌, ◌≢◌, Bool, true, false, ℕ, zero, suc, ◌<◌, List, [], ◌∷◌, ◌++◌, length, get_or, Option, None, Some, refl, sym, ap, ◌∙◌, subst, arith, append_assoc, append-nil}
+use Rattle.std.specs.Prelude.{IfSome, IsSome, MatchBool, Ok, Err, OnErr, OnOk, Result, slice_get}
 use Rattle.std.specs.List.{All}
+use mathlib.Core.List.{IsPrefix}
 use Rattle.std.proofs.lemmas.List.Elements.{All-head, All-tail, All-weaker}
+use Rattle.list_core.specs.declared.memory.NoMemory.{NoMemory}
 use Rattle.world_core.specs.declared.entry.Entry.{Entry}
 use Rattle.script_workers.specs.Hands.{gateway_count, hands_of}
 use Rattle.script_workers.specs.Staff.{AreSeated}
@@ -31,6 +33,24 @@ use Rattle.script_running.specs.declared.sight.Sight.{Sight}
 use Rattle.script_running.specs.declared.worker.WorkerEnd.{WorkerEnd}
 use Rattle.script_running.proofs.Gathered.{gathered}
 use Rattle.script_running.proofs.Taking.{at_place}
+
+-- all of them come first
+pub all_first : (xs : List Outcome) → IsPrefix xs xs
+all_first xs = ([], append-nil xs)
+
+pub more_first : (xs ys zs : List Outcome) → IsPrefix xs ys → IsPrefix ys zs → IsPrefix xs zs
+more_first xs ys zs a b = (a.0 ++ b.0, sym (append_assoc xs a.0 b.0) ∙ (ap (λ l. l ++ b.0) a.1 ∙ b.1))
+
+pub one_more : (xs ys : List Outcome) (o : Outcome) → ys ≡ xs ++ o ∷ [] → IsPrefix xs ys
+one_more xs ys o is = (o ∷ [], sym is)
+
+pub same_first : (xs ys : List Outcome) → ys ≡ xs → IsPrefix xs ys
+same_first xs ys is = ([], append-nil xs ∙ sym is)
+
+-- one more, if there was memory for it
+pub pushed_first : (r : Result (Unit {0}) NoMemory) (xs ys : List Outcome) (o : Outcome) → OnOk r (ys ≡ xs ++ o ∷ []) → OnErr r (ys ≡ xs) → IsPrefix xs ys
+pushed_first (Ok done) xs ys o added same = one_more xs ys o added
+pushed_first (Err none) xs ys o added same = same_first xs ys same
 
 -- of those who came to all their ends, none met the full journal
 none_full : (others : List WorkerEnd) → HaveCome others (Ok tt) → Met broken.NoMemory others
@@ -81,15 +101,15 @@ module _ (setting : Setting) (number : ℕ) (phase : Phase) (before after : Hold
   -- a worker was broken off
   pub broken_off : (why : Broken) (outcomes : List Outcome) → HaveCome others (Err why) → Gathers setting phase workers own others after sights outcomes outcomes (Err why)
   broken_off broken.Full outcomes have = (refl, have)
-  broken_off broken.NoMemory outcomes have = (tt, have)
+  broken_off broken.NoMemory outcomes have = (all_first outcomes, have)
 
   -- all came to their ends
   pub came_whole : IsLawfulScript setting.script → length sights ≡ gateway_count setting.script.gateways → slice_get setting.script.phases number ≡ Some phase → workers ≡ workers_of setting.script number → HaveEnded setting phase.tasks before front workers kept others own lasts → AreLeft before workers lasts after
       → (seen : List Sight) → AreSeenBeside before workers sights → (old new : Slots) → HaveCome others (Ok tt) → AreTakenIn workers others sights seen old new → AreAllEmpty (length phase.tasks) (length sights) old
-      → (outcomes later : List Outcome) (result : Result (Unit {0}) Broken) → result ≢ Err broken.Full → OnOk result ((own : List Outcome) × (later ≡ outcomes ++ own) × AreTold new 0 phase.tasks own) → Gathers setting phase workers own others after seen outcomes later result
-  came_whole lawful counted at are have left seen beside old new all taken empty outcomes later (Err broken.Full) why tells = absurd (why refl)
-  came_whole lawful counted at are have left seen beside old new all taken empty outcomes later (Err broken.NoMemory) why tells = (tt, none_full others all)
-  came_whole lawful counted at are have left seen beside old new all taken empty outcomes later (Ok done) why tells =
+      → (outcomes later : List Outcome) (result : Result (Unit {0}) Broken) → result ≢ Err broken.Full → IsPrefix outcomes later → OnOk result ((own : List Outcome) × (later ≡ outcomes ++ own) × AreTold new 0 phase.tasks own) → Gathers setting phase workers own others after seen outcomes later result
+  came_whole lawful counted at are have left seen beside old new all taken empty outcomes later (Err broken.Full) why more tells = absurd (why refl)
+  came_whole lawful counted at are have left seen beside old new all taken empty outcomes later (Err broken.NoMemory) why more tells = (more, none_full others all)
+  came_whole lawful counted at are have left seen beside old new all taken empty outcomes later (Ok done) why more tells =
       let gateways = gateway_count setting.script.gateways in
       let seated = subst (AreSeated gateways phase.tasks (hands_of gateways phase.tasks) (length (workers_before setting.script number))) (sym are) (are_seated setting.script number phase lawful at) in
       let g = gathered setting number phase (length (workers_before setting.script number)) (is_staff gateways phase.tasks) workers seated before after front kept others own lasts have left sights seen old new all taken

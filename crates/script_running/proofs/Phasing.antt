@@ -42,8 +42,8 @@ use Rattle.script_running.specs.Begun.{AreLeft, WasBegun, WereKept}
 use Rattle.script_running.specs.Cutting.{KnowsPhases, Passed}
 use Rattle.script_running.specs.Ended.{AreInRow, HaveEnded, IsPostOf}
 use Rattle.script_running.specs.Gathering.{HaveOwnGateways, Gathers}
-use Rattle.script_running.specs.Going.{HasCome, HasGone, HasSeenFull, HasStopped, IfFull, IsClockSet, Met}
-use Rattle.script_running.specs.Outcomes.{PhasesCame, TasksCame}
+use Rattle.script_running.specs.Going.{ComeFirst, HasCome, HasGone, HasSeenFull, HasStopped, IfFull, IsClockSet, Met}
+use Rattle.script_running.specs.Outcomes.{TasksCame}
 use Rattle.script_running.specs.Lending.{Loan}
 use Rattle.script_running.specs.Shelves.{setting_by}
 use Rattle.script_running.specs.Workers.{IsAtWork, MayWork, Post}
@@ -76,9 +76,10 @@ if_false P false is q = q
 pub joined_on : (v w : Known) → IsSame v w → AllJoined v → AllJoined w
 joined_on v w same all = λ seat some less. subst (λ (ks : List Kept). Contains (map (λ (k : Kept). k.0) ks) seat) (sym same.joined) (all seat some (subst (λ (n : ℕ). seat < n) same.seats less))
 
-if_full : {P : Type 0} (why : Broken) → P → IfFull why P
-if_full broken.Full p = p
-if_full broken.NoMemory p = tt
+-- no other outcomes
+none_else : (why : Broken) (outcomes : List Outcome) → ComeFirst why outcomes outcomes
+none_else broken.Full outcomes = refl
+none_else broken.NoMemory outcomes = ([], append-nil outcomes)
 
 pub as_many : {A B : Type 0} (R : A → B → Type 0) (xs : List A) (ys : List B) → AllZip R xs ys → length xs ≡ length ys
 as_many R [] [] all = refl
@@ -179,7 +180,9 @@ module _ (script : Script) (shelf : List ShelfBlock) (place : ℕ) (phase : Phas
       passed = g.passed;
       held = g.held;
       so_far = g.so_far;
-      came = if_full why g.came;
+      first = outcomes;
+      came = g.came;
+      leads = none_else why outcomes;
       stands = inl (knows, full);
     }
 
@@ -223,7 +226,9 @@ module _ (script : Script) (shelf : List ShelfBlock) (place : ℕ) (phase : Phas
           passed = g.passed;
           held = g.held;
           so_far = g.so_far;
-          came = tt;
+          first = outcomes;
+          came = g.came;
+          leads = none_else broken.NoMemory outcomes;
           stands = inr (inr (
             refl,
             record {
@@ -262,8 +267,8 @@ module _ (script : Script) (shelf : List ShelfBlock) (place : ℕ) (phase : Phas
       in_row : AreInRow (splits + 1) (workers_of script (length front_phases))
       in_row = subst (λ (n : ℕ). AreInRow (splits + 1) (workers_of script n)) (sym long) (row script lawful place phase at splits splits_are)
 
-      broke : (why : Broken) (later : List Outcome) → IfFull why (later ≡ outcomes) × Met why others → HasStopped own (view_of after) later why
-      broke broken.NoMemory later met = record {
+      broke : (why : Broken) (later : List Outcome) → ComeFirst why outcomes later × Met why others → HasStopped own (view_of after) later why
+      broke why later met = record {
         done = front_phases;
         phase = phase;
         left = drop (place + 1) script.phases;
@@ -271,18 +276,9 @@ module _ (script : Script) (shelf : List ShelfBlock) (place : ℕ) (phase : Phas
         passed = g.passed;
         held = g.held;
         so_far = g.so_far;
-        came = tt;
-        stands = inr (inl (record { one = one; begins = begins; others = others; ends = ended.0; lasts = ended.1; have = have; seat = splits + 1; row = in_row; knows = knows; met = met.1 }));
-      }
-      broke broken.Full later met = record {
-        done = front_phases;
-        phase = phase;
-        left = drop (place + 1) script.phases;
-        phases = parts;
-        passed = g.passed;
-        held = g.held;
-        so_far = g.so_far;
-        came = subst (λ (os : List Outcome). PhasesCame script 0 front_phases (g.so_far).told os) (sym met.0) g.came;
+        first = outcomes;
+        came = g.came;
+        leads = met.0;
         stands = inr (inl (record { one = one; begins = begins; others = others; ends = ended.0; lasts = ended.1; have = have; seat = splits + 1; row = in_row; knows = knows; met = met.1 }));
       }
 

@@ -11,9 +11,10 @@ use Rattle.world_core.specs.declared.driven.Driven.TheVariants.{Ended, Stopped, 
 use Rattle.world_core.specs.declared.entry.Entry.{Entry}
 use Rattle.script_workers.specs.declared.work.Work.{Work}
 use Rattle.lifecycle_core.specs.Tasks.{End, IsStop, StoppedRun, stopped}
+use Rattle.lifecycle_core.specs.Ways.{IsDueAfter}
 use Rattle.script_running.specs.Drives.{Came, stopped_came}
 use Rattle.script_running.specs.Outcomes.{IsPart}
-use Rattle.script_running.specs.Tasks.{Adds, CameBy, IsDueAfter, WhenFull}
+use Rattle.script_running.specs.Tasks.{Adds, CameBy, WhenFull}
 use Rattle.script_running.specs.declared.part.Part.{Part}
 
 before_stop : {E : Type 0} (stop : Option ℕ) (driven : Driven E) (made : List Entry) → ((n : ℕ) → driven ≢ Stopped n)

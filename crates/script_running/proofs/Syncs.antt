@@ -7,9 +7,10 @@ use Rattle.world_core.specs.declared.driven.Driven.TheVariants.{Ended, Stopped, 
 use Rattle.world_core.specs.declared.entry.Entry.{Entry}
 use Rattle.script_workers.specs.declared.work.Work.{Work}
 use Rattle.lifecycle_core.specs.Tasks.{End}
+use Rattle.lifecycle_core.specs.Ways.{IsDueAfter}
 use Rattle.script_running.specs.Drives.{Came, came_by, driven_end}
 use Rattle.script_running.specs.Outcomes.{IsPart}
-use Rattle.script_running.specs.Tasks.{Adds, CameBy, IsDueAfter, WhenFull}
+use Rattle.script_running.specs.Tasks.{Adds, CameBy, WhenFull}
 use Rattle.script_running.specs.declared.came.Broken.TheVariants as broken
 use Rattle.script_running.specs.declared.part.Part.{Part}
 

@@ -33,10 +33,11 @@ use Rattle.lifecycle_core.specs.Holdings.{Holding, Use}
 use Rattle.lifecycle_core.specs.Setting.{Setting}
 use Rattle.lifecycle_core.specs.Tasks.{End, PartTask, QueryTask, ShipTask, StoppedRun, TaskRun, answered, ask_to, called_with, cleaned, compacted, not_asked, question_of, sync_rules, synced, synced_with, without_view}
 use Rattle.lifecycle_core.proofs.phases.GatewayParts.{ask_partition}
+use Rattle.lifecycle_core.specs.Ways.{IsDueAfter}
 use Rattle.script_running.specs.Drives.{Came}
 use Rattle.script_running.proofs.Calls.{Called}
 use Rattle.script_running.specs.Sights.{Sees, cache_of}
-use Rattle.script_running.specs.Tasks.{Adds, Answers, CameBy, Does, HasAsked, HasDone, IsDueAfter, WhenDone, WhenFull, view_by}
+use Rattle.script_running.specs.Tasks.{Adds, Answers, CameBy, Does, HasAsked, HasDone, WhenDone, WhenFull, view_by}
 use Rattle.script_running.specs.declared.came.Broken.{Broken}
 use Rattle.script_running.specs.declared.came.Broken.TheVariants as broken
 use Rattle.script_running.specs.declared.outcome.NoAnswer.TheVariants as none

@@ -15,10 +15,11 @@ use Rattle.script_workers.specs.declared.work.Work.TheVariants as works
 use Rattle.lifecycle_core.specs.Setting.{Setting}
 use Rattle.lifecycle_core.specs.Shipped.{IsRefused, IsShipped}
 use Rattle.lifecycle_core.specs.Tasks.{End, ShipTask, StoppedRun, refused, uploaded}
+use Rattle.lifecycle_core.specs.Ways.{IsDueAfter}
 use Rattle.script_running.specs.Drives.{Came, unshipped_came, upload_came}
 use Rattle.script_running.specs.Outcomes.{upload_outcome}
 use Rattle.script_running.specs.Shelves.{WhereRefused}
-use Rattle.script_running.specs.Tasks.{Adds, CameBy, IsDueAfter}
+use Rattle.script_running.specs.Tasks.{Adds, CameBy}
 use Rattle.script_running.specs.declared.came.Broken.TheVariants as broken
 use Rattle.script_running.specs.declared.outcome.UploadOutcome.TheVariants as upload_outcomes
 use Rattle.script_running.specs.declared.part.Part.TheVariants as part

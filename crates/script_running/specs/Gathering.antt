@@ -1,6 +1,7 @@
 -- What a phase comes to, once the ends of its workers are laid together.
 use Rattle.std.specs.Prelude.{◌≡◌, ◌≢◌, ◌⊎◌, ℕ, ◌+◌, ◌<◌, List, [], ◌∷◌, ◌++◌, length, All, Contains, Option, Some, None, IsSome, Result, Ok, Err, slice_get}
 use Rattle.std.specs.List.{flat_map, zip}
+use mathlib.Core.List.{IsPrefix}
 use Rattle.script_workers.specs.Hands.{gateway_of, hands_of_task}
 use Rattle.script_workers.specs.declared.phase.Phase.{Phase}
 use Rattle.script_workers.specs.declared.task.Task.{Task}
@@ -11,7 +12,7 @@ use Rattle.lifecycle_core.specs.Holdings.{Holdings}
 use Rattle.lifecycle_core.specs.Setting.{Setting}
 use Rattle.lifecycle_core.specs.Tasks.{End}
 use Rattle.script_running.specs.Beside.{AreSeen}
-use Rattle.script_running.specs.Going.{IfFull, Met}
+use Rattle.script_running.specs.Going.{ComeFirst, Met}
 use Rattle.script_running.specs.Outcomes.{AreAllParts, IsOutcomeOf, TasksCame}
 use Rattle.script_running.specs.Sights.{Sees, no_sight}
 use Rattle.script_running.specs.declared.came.Broken.{Broken}
@@ -28,12 +29,17 @@ abbrev pub AreSeenBeside : Holdings → List Worker → List Sight → Type 0
 AreSeenBeside held workers sights = (place : ℕ) (sight : Sight) → slice_get sights place ≡ Some sight → All (λ (w : Worker). w.gateway ≢ Some place) workers → Sees (held place) sight
 
 -- All workers came to all their ends: gateways see what they hold after the phase, and the outcomes of its tasks were added in the order
--- of the lines. Or a worker met the full journal, and nothing was added; or memory was wanting, and none of them met it.
+-- of the lines. Or a worker met the full journal, and nothing was added; or memory was wanting, none of them met it, and some outcomes may
+-- have been added.
 abbrev pub Gathers : Setting → Phase → List Worker → List (List End) → List WorkerEnd → Holdings → List Sight → List Outcome → List Outcome → Result (Unit {0}) Broken → Type 0
 Gathers setting phase workers ends others after sights old new (Ok done) =
     AreDone workers ends × AreSeen after sights × ((own : List Outcome) × (new ≡ old ++ own) × TasksCame setting.script workers ends 0 phase.tasks own)
 Gathers setting phase workers ends others after sights old new (Err why) =
-    IfFull why (new ≡ old) × Met why others
+    ComeFirst why old new × Met why others
+
+-- outcomes were added, or none
+abbrev pub AreMore : List Outcome → List Outcome → Type 0
+AreMore old new = IsPrefix old new
 
 -- ---- before the phase
 

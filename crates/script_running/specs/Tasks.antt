@@ -1,9 +1,6 @@
 -- What a worker's hand gains by one task, and what the task came to.
 use Rattle.std.specs.Prelude.{◌≡◌, ℕ, ℤ, Bool, true, false, List, [], ◌∷◌, ◌++◌, length, All, Option, Some, None, Result, Ok, Err}
-use Rattle.world_core.specs.Operations.{IsAnswer, IsLawful, entry_of}
 use Rattle.world_core.specs.declared.entry.Entry.{Entry}
-use Rattle.world_core.specs.declared.op.Op.{Op}
-use Rattle.world_core.specs.declared.seen.Seen.{Seen}
 use Rattle.meta_fetcher.specs.declared.sync_end.SyncEnd.{SyncEnd}
 use Rattle.meta_fetcher.specs.declared.sync_end.SyncEnd.TheVariants as fetched
 use Rattle.meta_fetcher.specs.declared.view.View.{View}
@@ -16,6 +13,7 @@ use Rattle.lifecycle_core.specs.Conducts.{Who}
 use Rattle.lifecycle_core.specs.Holdings.{Holding}
 use Rattle.lifecycle_core.specs.Setting.{Setting}
 use Rattle.lifecycle_core.specs.Tasks.{End, QueryTask, TaskRun}
+use Rattle.lifecycle_core.specs.Ways.{IsDueAfter}
 use Rattle.script_running.specs.Drives.{Came}
 use Rattle.script_running.specs.Outcomes.{IsPart}
 use Rattle.script_running.specs.Sights.{Sees}
@@ -43,10 +41,6 @@ abbrev pub is_full_came : {X : Type 0} → Result X Broken → Bool
 is_full_came (Ok x) = false
 is_full_came (Err broken.Full) = true
 is_full_came (Err broken.NoMemory) = false
-
--- An operation of the seat is due in a run that made these entries: whatever the reply to it, its entry goes on with the run.
-abbrev pub IsDueAfter : {E : Type 0} → (List Entry → E → Type 0) → ℕ → List Entry → Type 0
-IsDueAfter {E} is_run seat made = (op : Op) × IsLawful op × ((seen : Seen) → IsAnswer op seen → (end : E) × is_run (made ++ entry_of seat op seen ∷ []) end)
 
 -- entries that one seat added, which with this end are such a run
 pub record Adds {E : Type 0} (is_run : List Entry → E → Type 0) (seat : ℕ) (old new : List Entry) (end : E) (came : Came) : Type 0 where

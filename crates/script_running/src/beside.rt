@@ -81,9 +81,14 @@ pub fn run_beside<B: Bucket + Send, G: Gate + Sync, P: Report, R: Threads + Wait
     ensures unfailed { IfOk result (λ run. failed_count run.1.world.journal ≡ 0
         → B.faults run.1.world.bucket ≡ B.faults world.bucket) }
 
-    // A run that came to its end wanted no memory for an operation: if all that the bucket was asked was journaled, it still is.
-    ensures all { IfOk result (λ run. run.0.came ≡ Ok tt → (before : List Call)
-        → IsAllAsked B.asked before world → IsAllAsked B.asked before run.1.world) }
+    // A run that came to its end wanted no memory for an operation.
+    ensures unwanted { IfOk result (λ run. run.0.came ≡ Ok tt
+        → (view_of run.1.root.value).wanted ≡ false) }
+
+    // Unless memory was wanted for one, all that the bucket was asked is journaled if it was before.
+    ensures all { IfOk result (λ run. (view_of run.1.root.value).wanted ≡ false
+        → (before : List Call) → IsAllAsked B.asked before world
+        → IsAllAsked B.asked before run.1.world) }
 
     // Where nothing was begun, the world is as it was.
     ensures unbegun { IfErr result (λ same. same ≡ world) }

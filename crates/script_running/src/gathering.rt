@@ -14,7 +14,7 @@ ghost use Rattle.lifecycle_core.specs.Tasks.{End};
 ghost use Rattle.script_running.specs.Begun.{AreLeft};
 ghost use Rattle.script_running.specs.Beside.{AreSeen};
 ghost use Rattle.script_running.specs.Ended.{HaveEnded, IsPostOf};
-ghost use Rattle.script_running.specs.Gathering.{HaveOwnGateways, AreAllEmpty, AreEmpty, AreLaid, AreSeenBeside, AreTakenIn, AreTold, Gathers, HasSlot, HaveCome, IsLaid, IsSeen, IsTaken, IsTakenAt, IsToldBy, IsWorse, laid_in, parts_at, slot_at};
+ghost use Rattle.script_running.specs.Gathering.{HaveOwnGateways, AreAllEmpty, AreEmpty, AreLaid, AreMore, AreSeenBeside, AreTakenIn, AreTold, Gathers, HasSlot, HaveCome, IsLaid, IsSeen, IsTaken, IsTakenAt, IsToldBy, IsWorse, laid_in, parts_at, slot_at};
 ghost use Rattle.script_running.specs.Going.{Met};
 ghost use Rattle.script_running.specs.Workers.{IsAtWork};
 ghost use Rattle.script_running.specs.Tasks.{is_full_came};
@@ -287,6 +287,7 @@ fn tell<P: Report>(
     ensures told { OnOk result ((own : List Outcome) × (outcomes.new ≡ outcomes.old ++ own)
         × AreTold slots 0 tasks.now own) }
     ensures why { result ≢ Err Broken.Full }
+    ensures more { AreMore outcomes.old outcomes.new }
     ensures reported { (before : List Task) → P.tells report.old script.now before outcomes.old
         → OnOk result (P.tells report.new script.now (before ++ tasks.now) outcomes.new) }
 {
@@ -301,6 +302,7 @@ fn tell<P: Report>(
 }
 
 /// Adds the outcome of the task at a place, whose slots are empty then.
+#[tactic(auto, using(crate::proofs::Gathers::all_first, crate::proofs::Gathers::pushed_first))]
 fn tell_one<P: Report>(
     alloc: Global,
     script: &Script,
@@ -313,6 +315,7 @@ fn tell_one<P: Report>(
     requires few { length slots.old.gateways.items ≤ 16 }
     ensures told { OnOk result ((o : Outcome) × (outcomes.new ≡ outcomes.old ++ o ∷ [])
         × IsToldBy task.now.work (parts_at slots.old place task.now.work) o) }
+    ensures more { AreMore outcomes.old outcomes.new }
     ensures taken { IsTakenAt place slots.old slots.new }
     ensures reported { (before : List Task) → P.tells report.old script.now before outcomes.old
         → OnOk result (P.tells report.new script.now (before ++ task.now ∷ []) outcomes.new) }

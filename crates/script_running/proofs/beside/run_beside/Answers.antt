@@ -45,8 +45,11 @@ pub run_phases-came-requires-clause-unwanted : goal.run_phases-came-requires-cla
 run_phases-came-requires-clause-unwanted g c = λ κs lives. ap (λ v. v.wanted) c.in-Ok-open.ensures.pass.3
 
 pub returns-in-Ok-open-clause-all : goal.returns-in-Ok-open-clause-all
-returns-in-Ok-open-clause-all g c = λ done before was.
-    c.close-closed.ensures.all (c.run_phases-came.ensures.unwanted done) before (subst (IsAllAsked g.B.Bucket.asked before) (sym c.in-Ok-open.ensures.opened) was)
+returns-in-Ok-open-clause-all g c = λ never before was.
+    c.close-closed.ensures.all (sym (ap (λ (p : Pass). (view_of p).wanted) c.close-closed.ensures.root) ∙ never) before (subst (IsAllAsked g.B.Bucket.asked before) (sym c.in-Ok-open.ensures.opened) was)
+
+pub returns-in-Ok-open-clause-unwanted : goal.returns-in-Ok-open-clause-unwanted
+returns-in-Ok-open-clause-unwanted g c = λ done. ap (λ (p : Pass). (view_of p).wanted) c.close-closed.ensures.root ∙ c.run_phases-came.ensures.unwanted done
 
 pub run_phases-came-requires-clause-untold : goal.run_phases-came-requires-clause-untold
 run_phases-came-requires-clause-untold g c = λ κs lives. subst (λ (os : List Outcome). g.P.Report.tells c.args.report.now c.args.script.now [] os) (sym c.in-Ok.ensures.empty) c.requires.untold

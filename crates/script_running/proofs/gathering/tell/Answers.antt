@@ -1,7 +1,14 @@
-use Rattle.std.proofs.Common.{◌++◌, List, subst, take}
+use Rattle.std.proofs.Common.{◌++◌, List, sym, subst, take}
 use Rattle.script_workers.specs.declared.task.Task.{Task}
 use Rattle.script_running.proofs.Telling.{left_more, tasks_next, told_next}
+use Rattle.script_running.proofs.Gathers.{more_first}
 use Rattle.script_running.proofs.gathering.tell.Goals as goal
+
+pub returns-clause-more : goal.returns-clause-more
+returns-clause-more g c = (c.loop-place.invariant.told.0, sym c.loop-place.invariant.told.1)
+
+pub returns-in_default-clause-more : goal.returns-in_default-clause-more
+returns-in_default-clause-more g c = let t = c.loop-place.invariant.told in more_first c.args.outcomes.now c.loop-place.outcomes c.tell_one.new.outcomes (t.0, sym t.1) c.tell_one.ensures.more
 
 pub loop-place-preserved : goal.loop-place-preserved
 loop-place-preserved g c =
