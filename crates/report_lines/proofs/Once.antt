@@ -1,60 +1,86 @@
 -- How many different label sets stand in a list.
-use Rattle.std.proofs.Common.{◌≡◌, ℕ, zero, suc, ◌+◌, ◌<◌, ◌≤◌, Bool, true, false, List, [], ◌∷◌, length, drop, get_or, refl, sym, ◌∙◌, ap, arith}
+use Rattle.std.proofs.Common.{◌≡◌, ℕ, ◌+◌, Bool, true, false, not, cond, ◌||◌, List, [], ◌∷◌, ◌++◌, length, refl, sym, ap, ◌∙◌, arith}
 use Rattle.std.specs.Prelude.{if◌then◌else◌}
 use Rattle.std.specs.List.{list_any}
 use Rattle.std.specs.Ordering.{is_eq}
-use Rattle.std.proofs.lemmas.List.{drop_more}
+use Rattle.std.proofs.lemmas.List.Folds.{list_any-append}
 use Rattle.label_sets.specs.Labels.{compare_sets}
 use Rattle.label_sets.specs.declared.label.Label.{Label}
-use Rattle.report_lines.specs.Summed.{each_once}
+use Rattle.vertical_merge.proofs.Orders.{is_equal, same_set, set_itself}
+use Rattle.report_lines.specs.Summed.{HasEach, each_once}
 
-from_place : (sets : List (List Label)) (place : ℕ) (set : List Label) → place < length sets → set ≡ get_or sets place set → drop place sets ≡ set ∷ drop (place + 1) sets
-from_place sets place set within at = drop_more sets place set within ∙ ap (λ (x : List Label). x ∷ drop (place + 1) sets) (sym at)
+abbrev is_same : List Label → List Label → Bool
+is_same one other = is_eq (compare_sets one other)
 
--- the label set at a place stands among those behind it
-pub seen_again : (sets : List (List Label)) (place : ℕ) (set : List Label) → place < length sets → set ≡ get_or sets place set
-    → list_any (λ (other : List Label). is_eq (compare_sets set other)) (drop (place + 1) sets) ≡ true → each_once (drop place sets) ≡ each_once (drop (place + 1) sets)
+abbrev among : List Label → List (List Label) → Bool
+among set sets = list_any (λ (other : List Label). is_eq (compare_sets set other)) sets
+
+same_by : (one other : List Label) (there back : Bool) → is_same one other ≡ there → is_same other one ≡ back → there ≡ back
+same_by one other true true first second = refl
+same_by one other false false first second = refl
+same_by one other true false first second =
+    let equal = same_set one other (is_equal (compare_sets one other) first) in
+    let itself : is_same other one ≡ true = ap (λ (l : List Label). is_same other l) equal ∙ ap is_eq (set_itself other) in absurd cc
+same_by one other false true first second =
+    let equal = same_set other one (is_equal (compare_sets other one) second) in
+    let itself : is_same one other ≡ true = ap (λ (l : List Label). is_same one l) equal ∙ ap is_eq (set_itself one) in absurd cc
+
+-- it does not matter which is first
+same_back : (one other : List Label) → is_same one other ≡ is_same other one
+same_back one other = same_by one other (is_same one other) (is_same other one) refl refl
+
+or_false : (a b : Bool) → (a || (b || false)) ≡ (a || b)
+or_false true b = refl
+or_false false true = refl
+or_false false false = refl
+
+among_more : (set new : List Label) (sets : List (List Label)) → among set (sets ++ new ∷ []) ≡ (among set sets || is_same set new)
+among_more set new sets =
+    list_any-append (λ (other : List Label). is_eq (compare_sets set other)) sets (new ∷ []) ∙ or_false (among set sets) (is_same set new)
+
+-- a set more at the end, by whether it is the first, whether the first comes again, and whether the new one does
+step : (first : List Label) (once more : List (List Label)) (again same seen : Bool) → (same ≡ true → again ≡ seen) → length more ≡ length once + (if seen then 0 else 1) → length (if again || same then more else first ∷ more) ≡ length (if again then once else first ∷ once) + (if same || seen then 0 else 1)
+step first once more true true true equal sizes = sizes
+step first once more true true false equal sizes = absurd (let bad : true ≡ false = equal refl in cc)
+step first once more true false true equal sizes = sizes
+step first once more true false false equal sizes = sizes
+step first once more false true true equal sizes = absurd (let bad : false ≡ true = equal refl in cc)
+step first once more false true false equal sizes = omega (arith, sizes)
+step first once more false false true equal sizes = omega (arith, sizes)
+step first once more false false false equal sizes = omega (arith, sizes)
+
+once_more : (sets : List (List Label)) (new : List Label) → length (each_once (sets ++ new ∷ [])) ≡ length (each_once sets) + (if among new sets then 0 else 1)
 unfolding each_once
-seen_again sets place set within at among =
-    ap each_once (from_place sets place set within at)
-    ∙ ap (λ b. if b then each_once (drop (place + 1) sets) else set ∷ each_once (drop (place + 1) sets)) among
+once_more [] new = refl
+once_more (first ∷ sets) new =
+    let once = each_once sets in
+    let more = each_once (sets ++ new ∷ []) in
+    ap (λ (b : Bool). length (if b then more else first ∷ more)) (among_more first new sets)
+    ∙ step first once more (among first sets) (is_same first new) (among new sets) (λ is. ap (λ (s : List Label). among s sets) (same_set first new (is_equal (compare_sets first new) is))) (once_more sets new)
+    ∙ ap (λ (b : Bool). length (if among first sets then once else first ∷ once) + (if b || among new sets then 0 else 1)) (same_back first new)
 
--- it does not
-pub seen_last : (sets : List (List Label)) (place : ℕ) (set : List Label) → place < length sets → set ≡ get_or sets place set
-    → list_any (λ (other : List Label). is_eq (compare_sets set other)) (drop (place + 1) sets) ≡ false → length (each_once (drop place sets)) ≡ suc (length (each_once (drop (place + 1) sets)))
+count_by : (seen added : Bool) (new old once more : ℕ) → added ≡ not seen → new ≡ old + (if added then 1 else 0) → old ≡ once → more ≡ once + (if seen then 0 else 1) → new ≡ more
+count_by true true new old once more is news olds mores = absurd cc
+count_by true false new old once more is news olds mores = omega (arith, news, olds, mores)
+count_by false true new old once more is news olds mores = omega (arith, news, olds, mores)
+count_by false false new old once more is news olds mores = absurd cc
+
+or_by : (a b : Bool) → cond a true b ≡ (b || a)
+or_by true true = refl
+or_by true false = refl
+or_by false true = refl
+or_by false false = refl
+
+pub none_each : (keys : List (List Label)) → keys ≡ [] → HasEach keys []
 unfolding each_once
-seen_last sets place set within at among =
-    ap (length {A = List Label})
-    (ap each_once (from_place sets place set within at)
-    ∙ ap (λ b. if b then each_once (drop (place + 1) sets) else set ∷ each_once (drop (place + 1) sets)) among)
+none_each keys none =
+    record { count = ap (length {A = List Label}) none; same = λ set. ap (among set) none }
 
--- one place more
-pub once_more : (sets rest : List (List Label)) (place : ℕ) (set : List Label) (again : Bool) (count new all : ℕ) → place < length sets → set ≡ get_or sets place set → rest ≡ drop (place + 1) sets
-    → again ≡ list_any (λ (other : List Label). is_eq (compare_sets set other)) rest → new ≡ (if again then count else count + 1)
-    → count + length (each_once (drop place sets)) ≡ all → new + length (each_once (drop (place + 1) sets)) ≡ all
-once_more sets rest place set true count new all within at behind is counts sum =
-    let e = ap (length {A = List Label}) (seen_again sets place set within at (sym (is ∙ ap (λ (l : List (List Label)). list_any (λ (other : List Label). is_eq (compare_sets set other)) l) behind))) in
-    omega (arith, counts, sum, e)
-once_more sets rest place set false count new all within at behind is counts sum =
-    let e = seen_last sets place set within at (sym (is ∙ ap (λ (l : List (List Label)). list_any (λ (other : List Label). is_eq (compare_sets set other)) l) behind)) in
-    omega (arith, counts, sum, e)
-
-drop_past : (sets : List (List Label)) (n : ℕ) → length sets ≤ n → drop n sets ≡ []
-drop_past [] zero below = refl
-drop_past [] (suc n) below = refl
-drop_past (x ∷ xs) zero below = absurd (omega (arith, below))
-drop_past (x ∷ xs) (suc n) below = drop_past xs n (omega (arith, below))
-
-none_once : length (each_once []) ≡ 0
-unfolding each_once
-none_once = refl
-
--- behind the last place
-pub once_all : (sets : List (List Label)) (place count : ℕ) → length sets ≤ place → count + length (each_once (drop place sets)) ≡ length (each_once sets) → count ≡ length (each_once sets)
-once_all sets place count below sum =
-    let e : length (each_once (drop place sets)) ≡ 0 = ap (λ (l : List (List Label)). length (each_once l)) (drop_past sets place below) ∙ none_once in
-    omega (arith, sum, e)
-
-pub few_more : (again : Bool) (count new place : ℕ) → new ≡ (if again then count else count + 1) → count ≤ place → new ≤ place + 1
-few_more true count new place is few = omega (arith, is, few)
-few_more false count new place is few = omega (arith, is, few)
+-- a set with one more
+pub more_each : (old new sets : List (List Label)) (set : List Label) (added : Bool) → HasEach old sets → added ≡ not (among set old) → length new ≡ length old + (if added then 1 else 0) → ((q : List Label) → among q new ≡ cond (is_same set q) true (among q old)) → HasEach new (sets ++ set ∷ [])
+more_each old new sets set added has is_new size has_it = record {
+  count = count_by (among set sets) added (length new) (length old) (length (each_once sets)) (length (each_once (sets ++ set ∷ []))) (is_new ∙ ap not (has.same set)) size has.count (once_more sets set);
+  same = λ q.
+      has_it q ∙ ap (cond (is_same set q) true) (has.same q) ∙ or_by (is_same set q) (among q sets) ∙ ap (λ b. among q sets || b) (same_back set q)
+      ∙ sym (among_more q set sets);
+}

@@ -41,6 +41,11 @@ unfoldable pub each_once : List (List Label) → List (List Label)
 each_once [] = []
 each_once (set ∷ sets) = if list_any (λ other. is_eq (compare_sets set other)) sets then each_once sets else set ∷ each_once sets
 
+-- a set that was made of these label sets
+pub record HasEach (keys sets : List (List Label)) : Type 0 where
+  pub count : length keys ≡ length (each_once sets)
+  pub same : (set : List Label) → list_any (λ other. is_eq (compare_sets set other)) keys ≡ list_any (λ other. is_eq (compare_sets set other)) sets
+
 -- ---- the summary
 
 abbrev pub no_counts : QueryCounts

@@ -1,11 +1,10 @@
 //! The summary of a run of the generated day.
 
-ghost use Rattle.std.specs.Prelude.{◌≡◌, ◌<◌, ◌+◌, ◌++◌, ◌^◌, ◌-◌, min, List, length, drop, slice_index_or, IfOk, OnOk, if◌then◌else◌};
-ghost use Rattle.std.specs.List.{list_any, sum_by};
-ghost use Rattle.std.specs.Ordering.{is_eq};
-ghost use Rattle.label_sets.specs.Labels.{compare_sets};
+ghost use Rattle.std.specs.Prelude.{◌≡◌, ◌++◌, ◌^◌, ◌-◌, min, List, [], ◌∷◌, length, slice_index_or, IfOk, OnOk};
+ghost use Rattle.std.specs.List.{sum_by};
+ghost use Rattle.label_sets.specs.declared.label.Label.{Label};
 ghost use Rattle.script_running.specs.declared.outcome.Outcome.{Outcome};
-ghost use Rattle.report_lines.specs.Summed.{IsSummary, all_seen, each_once, no_counts, own_series, samples_in, seen_in};
+ghost use Rattle.report_lines.specs.Summed.{HasEach, IsSummary, all_seen, each_once, no_counts, own_series, samples_in, seen_in};
 ghost use Rattle.report_lines.specs.Tallies.{AreSums, answers_in};
 
 use crate::Sums;
@@ -14,6 +13,7 @@ use label_sets::{LabelSet, Series, TextList, final_labels, sample_count};
 use list_core::NoMemory;
 use script_core::{Block, Body, Script};
 use std::alloc::Global;
+use std::collections::BTreeSet;
 
 /// The summary, by the script and by what its activities add up to.
 pub(crate) fn summary_of(
@@ -60,26 +60,35 @@ fn counts_at(answers: &[QueryCounts], place: usize) -> QueryCounts
 fn count_series(alloc: Global, script: &Script) -> Result<u64, NoMemory>
     ensures { IfOk result (λ count. count ≡ length (each_once (all_seen script.now))) }
 {
-    let mut seen = Vec::new(alloc);
+    let mut seen = BTreeSet::new(alloc);
     for block in script.blocks.members() {
         put_seen(alloc, &mut seen, block, &script.rules.replicas)?;
     }
-    Ok(count_once(&seen))
+    Ok(seen.len() as u64)
 }
 
-/// Appends the label sets under which the series of a block are seen.
+/// Adds the label sets under which the series of a block are seen.
 fn put_seen(
     alloc: Global,
-    seen: &mut Vec<LabelSet>,
+    seen: &mut BTreeSet<LabelSet>,
     block: &Block,
     replicas: &TextList,
 ) -> Result<(), NoMemory>
-    ensures { OnOk result (seen.new.items ≡ seen.old.items ++ seen_in replicas.now block.now) }
+    ensures { (sets : List (List Label)) → HasEach seen.old.keys sets
+        → OnOk result (HasEach seen.new.keys (sets ++ seen_in replicas.now block.now)) }
 {
     for series in own_series(&block.body) {
         let labels = final_labels(alloc, &series.labels, &block.labels, replicas)?;
-        seen.push(labels)?;
+        put_one(seen, labels)?;
     }
+    Ok(())
+}
+
+fn put_one(seen: &mut BTreeSet<LabelSet>, labels: LabelSet) -> Result<(), NoMemory>
+    ensures { (sets : List (List Label)) → HasEach seen.old.keys sets
+        → OnOk result (HasEach seen.new.keys (sets ++ labels ∷ [])) }
+{
+    seen.insert(labels)?;
     Ok(())
 }
 
@@ -91,46 +100,6 @@ fn own_series(body: &Body) -> &[Series]
         Body::Inline { series, .. } => series.members(),
         Body::OnShelf => &[],
     }
-}
-
-/// How many different ones are among the label sets.
-fn count_once(sets: &[LabelSet]) -> u64
-    ensures { result ≡ length (each_once sets.now) }
-{
-    let mut count = 0u64;
-    for place in 0..sets.len() {
-        count = counted(count, stands_in(&sets[place], behind(sets, place)));
-    }
-    count
-}
-
-/// One more, unless it comes again.
-fn counted(count: u64, again: bool) -> u64
-    requires { count + 1 < 2 ^ 64 }
-    ensures { result ≡ (if again then count else count + 1) }
-{
-    if again { count } else { count + 1 }
-}
-
-/// The label sets behind a place.
-fn behind(sets: &[LabelSet], place: usize) -> &[LabelSet]
-    requires { place < length sets.now }
-    ensures { result.now ≡ drop (place + 1) sets.now }
-{
-    let (_, rest) = sets.split_at(place + 1);
-    rest
-}
-
-/// Whether a label set stands among others.
-fn stands_in(set: &LabelSet, others: &[LabelSet]) -> bool
-    ensures { result ≡ list_any (λ other. is_eq (compare_sets set.now other)) others.now }
-{
-    for other in others {
-        if set == other {
-            return true;
-        }
-    }
-    false
 }
 
 /// How many samples the script itself has for its blocks.
