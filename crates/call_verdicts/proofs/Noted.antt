@@ -1,5 +1,5 @@
 -- What a call says of the answers to its run's operations.
-use Rattle.std.proofs.Common.{◌≡◌, ◌⊎◌, inl, inr, ℕ, Bool, true, false, List, [], Option, Some, None, refl, sym, ◌∙◌, ap, subst, arith}
+use Rattle.std.proofs.Common.{◌≡◌, ◌≢◌, ◌⊎◌, inl, inr, ℕ, Bool, true, false, IsTrue, List, [], Option, Some, None, refl, sym, ◌∙◌, ap, subst, arith}
 use Rattle.std.specs.Prelude.{IfSome, IsSomeAnd}
 use Rattle.world_core.specs.Keeping.{IsFull}
 use Rattle.world_core.specs.Worlds.{WorldView}
@@ -7,13 +7,14 @@ use Rattle.world_core.specs.declared.entry.Entry.{Entry}
 use Rattle.report_lines.specs.lifecycle_core.specs.Setting.{Setting}
 use Rattle.bucket_core.specs.Asking.{Call}
 use Rattle.bucket_core.specs.Contents.{Contents}
-use Rattle.call_verdicts.specs.Asked.{WasOnlyOpened}
-use Rattle.call_verdicts.specs.Noted.{IsFullSaid, IsNoted}
+use Rattle.call_verdicts.specs.Asked.{WasAskedAsShown, WasOnlyOpened}
+use Rattle.call_verdicts.specs.Noted.{IsFullSaid, IsNoteOf, IsNoted}
 use Rattle.call_verdicts.specs.Noted.{tells_full}
 use Rattle.call_verdicts.specs.Statuses.{number_of}
 use Rattle.call_verdicts.specs.Undone.{IsUndone}
 use Rattle.call_verdicts.specs.Verdicts.{Around, IsChecked, IsFullRun, IsRun, IsSaid, IsUnread, IsWorked, Saying, status_of}
 use Rattle.call_verdicts.proofs.BucketAsked.{none_opened}
+use Rattle.run_notes.specs.Notes.{Tells}
 use Rattle.run_notes.specs.declared.run_note.RunNote.{RunNote}
 use Rattle.call_verdicts.specs.declared.status.Status.{Status}
 use Rattle.report_lines.specs.declared.check_outcome.CheckOutcome.TheVariants.{Passed, Refused}
@@ -45,12 +46,29 @@ said_by NoMemory saying said is = other_status NoMemory saying said (λ e. absur
 
 pub full_said : {B : Type 0} (asked : B → Option (List Call)) (v : Verdict) (saying : Saying) (said : Status) (journal : Option (List Entry)) (store : Option B) (told : Option (RunNote B)) → IsNoted asked v journal store told → IsSaid v saying said → IfSome told (λ n. IsFullSaid n.full saying (number_of said))
 full_said asked v saying said journal store None noted is = tt
-full_said asked v saying said journal store (Some n) noted is = subst (λ (b : Bool). IsFullSaid b saying (number_of said)) (sym noted.2) (said_by v saying said is)
+full_said asked v saying said journal store (Some n) noted is = subst (λ (b : Bool). IsFullSaid b saying (number_of said)) (sym noted.full) (said_by v saying said is)
 
 -- a run whose note is of the world that it left
-pub noted_world : {B : Type 0} (asked : B → Option (List Call)) (v : Verdict) (world : WorldView B) (full : Bool) (told : Option (RunNote B)) → IsSomeAnd told (λ n. (n.full ≡ full) × (n.world.value ≡ world)) → full ≡ tells_full v → IsNoted asked v (Some world.journal) (Some world.bucket) told
-noted_world asked v world full None some is = absurd some
-noted_world asked v world full (Some n) some is = (ap (λ w. Some w.journal) (sym some.1), ap (λ w. Some w.bucket) (sym some.1), some.0 ∙ is)
+pub noted_world : {B : Type 0} (asked : B → Option (List Call)) (v : Verdict) (world : WorldView B) (full wanted : Bool) (told : Option (RunNote B)) → IsSomeAnd told (Tells full wanted world) → full ≡ tells_full v
+    → (wanted ≡ true → (v ≡ NoMemory) ⊎ (tells_full v ≡ true)) → (wanted ≡ false → WasAskedAsShown asked world.journal world.bucket) → IsNoted asked v (Some world.journal) (Some world.bucket) told
+noted_world asked v world full wanted None some is short asks = absurd some
+noted_world {B} asked v world full wanted (Some n) some is short asks = record {
+  journal_is = ap (λ (w : WorldView B). Some w.journal) (sym some.world_is);
+  store_is = ap (λ (w : WorldView B). Some w.bucket) (sym some.world_is);
+  full = some.full_is ∙ is;
+  short = λ so. short (sym some.wanted_is ∙ so);
+  asks = λ never. subst (λ (w : WorldView B). WasAskedAsShown asked w.journal w.bucket) (sym some.world_is) (asks (sym some.wanted_is ∙ never));
+}
+
+-- memory was wanted for no operation, if that would be told
+pub unwanted_by : (wanted : Bool) (v : Verdict) → v ≢ NoMemory → (IsTrue wanted → v ≡ NoMemory) → wanted ≡ false
+unwanted_by false v never short = refl
+unwanted_by true v never short = absurd (never (short refl))
+
+-- a run that tells of wanted memory wherever it was wanted
+pub short_by : (wanted : Bool) (v : Verdict) → (IsTrue wanted → v ≡ NoMemory) → wanted ≡ true → (v ≡ NoMemory) ⊎ (tells_full v ≡ true)
+short_by true v short is = inl (short refl)
+short_by false v short is = absurd (cc (is))
 
 -- the same verdict, journal, bucket and note
 pub noted_as : {B : Type 0} (asked : B → Option (List Call)) (v w : Verdict) (world : WorldView B) (journal : Option (List Entry)) (store : Option B) (told note : Option (RunNote B)) → w ≡ v → journal ≡ Some world.journal → store ≡ Some world.bucket → note ≡ told

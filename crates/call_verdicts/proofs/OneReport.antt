@@ -251,7 +251,7 @@ module _ (script : Script) where
         let rest = tasks_once (place + 1) tasks one other a.1 b.1 in
         λ i. first i ∷ rest i
 
-  phases_once : (number : ℕ) (phases : List Phase) (ends : List (List (List End))) (one other : List Outcome) → PhasesCame script number phases ends one → PhasesCame script number phases ends other → one ≡ other
+  pub phases_once : (number : ℕ) (phases : List Phase) (ends : List (List (List End))) (one other : List Outcome) → PhasesCame script number phases ends one → PhasesCame script number phases ends other → one ≡ other
   phases_once number [] ends one other a b = a.1 ∙ sym b.1
   phases_once number (phase ∷ phases) [] one other a b = absurd a
   phases_once number (phase ∷ phases) (first ∷ later) one other (own, others, parts, tasks, rest) (own', others', parts', tasks', rest') =

@@ -27,11 +27,14 @@ for_opening = opening ∷ []
 abbrev pub WasOnlyOpened : {B : Type 0} → (B → Option (List Call)) → B → Type 0
 WasOnlyOpened asked store = WasAsked asked [] store ⊎ WasAsked asked for_opening store
 
--- By what the call comes to, and what it journaled: the bucket was asked for the page that opens it, and then for the calls of the
--- journal, each once and in their order, and for nothing else. If the site failed, it may have been asked for nothing.
+-- It was asked for the page that opens it, and then for the calls of a journal, each once and in their order, and for nothing else.
+abbrev pub WasAskedAsShown : {B : Type 0} → (B → Option (List Call)) → List Entry → B → Type 0
+WasAskedAsShown asked entries store = WasAsked asked (opening ∷ calls_of entries) store
+
+-- By what the call comes to, the bucket was asked for what its journal shows. If the site failed, it may have been asked for nothing.
 abbrev pub IsAskedBy : {B : Type 0} → (B → Option (List Call)) → Verdict → List Entry → B → Type 0
-IsAskedBy asked SiteFault entries store = WasAsked asked [] store ⊎ WasAsked asked (opening ∷ calls_of entries) store
-IsAskedBy asked other entries store = WasAsked asked (opening ∷ calls_of entries) store
+IsAskedBy asked SiteFault entries store = WasAsked asked [] store ⊎ WasAskedAsShown asked entries store
+IsAskedBy asked other entries store = WasAskedAsShown asked entries store
 
 -- the same of what was handed back: a journal and a bucket, or neither
 abbrev pub IsBucketAsked : {B : Type 0} → (B → Option (List Call)) → Verdict → Option (List Entry) → Option B → Type 0

@@ -3,7 +3,7 @@ use Rattle.std.specs.Prelude.{◌≡◌, ◌≢◌, ◌⊎◌, ℕ, Bool, true, 
 use Rattle.bucket_core.specs.Asking.{Call}
 use Rattle.bucket_core.specs.Causes.{Rose}
 use Rattle.world_core.specs.declared.entry.Entry.{Entry}
-use Rattle.call_verdicts.specs.Asked.{WasOnlyOpened}
+use Rattle.call_verdicts.specs.Asked.{WasAskedAsShown, WasOnlyOpened}
 use Rattle.call_verdicts.specs.Verdicts.{Saying}
 use Rattle.run_notes.specs.declared.run_note.RunNote.{RunNote}
 use Rattle.call_verdicts.specs.declared.verdict.Verdict.{Verdict}
@@ -14,10 +14,20 @@ abbrev pub tells_full : Verdict → Bool
 tells_full (verdict.Full lines) = true
 tells_full other = false
 
--- The note is of the journal and the bucket that are handed back, and an operation was answered that it is full just where the verdict tells that.
--- Without a note no operation was done, and the bucket was asked for its opening page at most, where it tells.
+-- The note is of the journal and the bucket that are handed back, and of the answers by which the call comes to its verdict.
+pub record IsNoteOf {B : Type 0} (asked : B → Option (List Call)) (v : Verdict) (journal : Option (List Entry)) (store : Option B) (note : RunNote B) : Type 0 where
+  pub journal_is : journal ≡ Some note.world.value.journal
+  pub store_is : store ≡ Some note.world.value.bucket
+  -- an operation was answered that the journal is full just where the verdict tells that
+  pub full : note.full ≡ tells_full v
+  -- memory was wanted for an operation only where the verdict tells that, or the full journal
+  pub short : note.wanted ≡ true → (v ≡ verdict.NoMemory) ⊎ (tells_full v ≡ true)
+  -- unless it was, the bucket was asked for what the journal shows
+  pub asks : note.wanted ≡ false → WasAskedAsShown asked note.world.value.journal note.world.value.bucket
+
+-- The call has such a note. Or it has none, no operation was done, and the bucket was asked for its opening page at most.
 abbrev pub IsNoted : {B : Type 0} → (B → Option (List Call)) → Verdict → Option (List Entry) → Option B → Option (RunNote B) → Type 0
-IsNoted {B} asked verdict journal store (Some note) = (journal ≡ Some note.world.value.journal) × (store ≡ Some note.world.value.bucket) × (note.full ≡ tells_full verdict)
+IsNoted {B} asked verdict journal store (Some note) = IsNoteOf asked verdict journal store note
 IsNoted {B} asked verdict journal store None = IfSome journal (λ entries. entries ≡ []) × (tells_full verdict ≡ false) × IfSome store (WasOnlyOpened asked)
 
 -- Where an operation was answered that the journal is full, the status is 8, or 4 as the sink failed. Else it is not 8.

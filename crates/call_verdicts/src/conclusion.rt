@@ -40,6 +40,7 @@ impl<B: Bucket, F> Ended<B, F> {
               store = self.conclusion.store;
               shelf = self.shelf;
               note = self.note;
+              day = None;
             }) }
     {
         let Ended {
@@ -54,6 +55,7 @@ impl<B: Bucket, F> Ended<B, F> {
             store: conclusion.store,
             shelf,
             note,
+            day: None,
         }
     }
 }

@@ -1,4 +1,4 @@
-use bucket_core::Bucket;
+use bucket_core::{Bucket, MemoryBucket};
 use run_notes::RunNote;
 use world_core::Journal;
 
@@ -15,4 +15,6 @@ pub struct Run<B: Bucket, F> {
     pub shelf: Option<F>,
     /// What the operations of its run were answered, where one began.
     pub note: Option<RunNote<B>>,
+    /// The same of the run of a generated day, whose bucket is its own.
+    pub day: Option<RunNote<MemoryBucket>>,
 }

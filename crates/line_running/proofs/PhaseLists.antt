@@ -142,12 +142,14 @@ module _ {R : Type 0} (tells : R → Script → List Task → List Outcome → T
       → IsDueInLine setting (seat_of (workers_of setting.script place)) r.views (duties_at setting 0 phase.tasks) made → new ≡ (journal ++ clock ∷ []) ++ made → IsOperationDue (in_line setting) none_held setting.script.phases new r.ends
   broken_due clock new made begins r due same = (
     due.0,
-    due.1.0,
-    due.1.1,
-    λ seen answer.
-        let e = entry_of due.0 due.1.0 seen in
-        let next = due.1.2 seen answer in
-        (next.0.0, broken_run clock (new ++ e ∷ []) (made ++ e ∷ []) next.0.0 next.0.1 begins r next.1 (ap (λ (es : List Entry). es ++ e ∷ []) same ∙ append_assoc (journal ++ clock ∷ []) made (e ∷ []))),
+    (
+      due.1.0,
+      due.1.1,
+      λ seen answer.
+          let e = entry_of due.0 due.1.0 seen in
+          let next = due.1.2 seen answer in
+          (next.0.0, broken_run clock (new ++ e ∷ []) (made ++ e ∷ []) next.0.0 next.0.1 begins r next.1 (ap (λ (es : List Entry). es ++ e ∷ []) same ∙ append_assoc (journal ++ clock ∷ []) made (e ∷ []))),
+    ),
   )
 
   pub broken_off : (clock : Entry) (new : List Entry) → BeginsPhase phase clock → (r : Reached tells setting place shown journal report)

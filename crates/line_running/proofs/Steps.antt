@@ -25,10 +25,11 @@ use Rattle.report_lines.specs.lifecycle_core.specs.Setting.{Setting}
 use Rattle.report_lines.specs.lifecycle_core.specs.Tasks.{End, TaskRun}
 use Rattle.report_lines.specs.lifecycle_core.proofs.phases.Joined.{MayAllBegin, duties_begin, nothing}
 use Rattle.report_lines.specs.lifecycle_core.proofs.phases.RunsInLine.{may_begin}
+use Rattle.report_lines.specs.lifecycle_core.specs.Ways.{IsDueAfter}
 use Rattle.report_lines.specs.script_running.specs.Drives.{Came}
 use Rattle.report_lines.specs.script_running.specs.Outcomes.{IsOutcome, IsOutcomeOf, IsPart}
 use Rattle.report_lines.specs.script_running.specs.Sights.{Sees}
-use Rattle.report_lines.specs.script_running.specs.Tasks.{CameBy, Does, HasDone, IsDueAfter, WhenDone, WhenFull}
+use Rattle.report_lines.specs.script_running.specs.Tasks.{CameBy, Does, HasDone, WhenDone, WhenFull}
 use Rattle.report_lines.specs.script_running.specs.declared.came.Broken.{Broken}
 use Rattle.report_lines.specs.script_running.specs.declared.came.Broken.TheVariants as broken
 use Rattle.report_lines.specs.script_running.specs.declared.outcome.Outcome.{Outcome}

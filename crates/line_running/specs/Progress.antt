@@ -10,10 +10,10 @@ use Rattle.report_lines.specs.lifecycle_core.specs.Holdings.{Holding, Holdings, 
 use Rattle.report_lines.specs.lifecycle_core.specs.InLine.{Duty, duties_from, InLine, in_line, who_does}
 use Rattle.report_lines.specs.lifecycle_core.specs.Setting.{Setting}
 use Rattle.report_lines.specs.lifecycle_core.specs.Tasks.{End, TaskRun}
-use Rattle.report_lines.specs.lifecycle_core.specs.Ways.{AreInTurn, AreUnfinished, IsOperationDue, PhasesRun}
+use Rattle.report_lines.specs.lifecycle_core.specs.Ways.{AreInTurn, AreUnfinished, IsDue, IsDueAfter, IsOperationDue, PhasesRun}
 use Rattle.report_lines.specs.script_running.specs.Outcomes.{IsOutcome, PhasesTold}
 use Rattle.report_lines.specs.script_running.specs.Sights.{Sees}
-use Rattle.report_lines.specs.script_running.specs.Tasks.{CameBy, Does, IsDueAfter, WhenDone, WhenFull}
+use Rattle.report_lines.specs.script_running.specs.Tasks.{CameBy, Does, WhenDone, WhenFull}
 use Rattle.report_lines.specs.script_running.specs.declared.sight.Sight.{Sight}
 use Rattle.report_lines.specs.Telling.{tasks_of}
 use Rattle.report_lines.specs.script_running.specs.declared.came.Broken.{Broken}
@@ -51,7 +51,7 @@ IsWhole setting place task ends (Err broken.NoMemory) = Unit {0}
 
 -- an operation of some seat is due after these entries of duties
 abbrev pub IsDueInLine : Setting → (Hand → ℕ) → Holdings → List Duty → List Entry → Type 0
-IsDueInLine setting seat views duties made = (at : ℕ) × IsDueAfter (λ entries (run : List End × Holdings). InLine setting seat views duties entries run.0 run.1) at made
+IsDueInLine setting seat views duties made = IsDue (λ entries (run : List End × Holdings). InLine setting seat views duties entries run.0 run.1) made
 
 -- a task's entries and what it came to
 pub record TaskStep (setting : Setting) (seat : Hand → ℕ) (place : ℕ) (task : Task) (views : Holdings) (gateways : List Sight) (old new : List Entry) (came : Result Outcome Broken) : Type 0 where

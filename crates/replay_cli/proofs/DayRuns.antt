@@ -1,8 +1,9 @@
 -- What a run of the generated day comes to.
-use Rattle.std.proofs.Common.{◌≡◌, ℕ, Bool, List, [], ◌++◌, length, take, refl, sym, ◌∙◌, ap, subst, inl}
-use Rattle.std.specs.Prelude.{Option, Result, Ok, Err}
+use Rattle.std.proofs.Common.{◌≡◌, ℕ, Bool, true, false, List, [], ◌++◌, length, take, refl, sym, ◌∙◌, ap, subst, inl}
+use Rattle.std.specs.Prelude.{Option, Some, None, Result, Ok, Err}
 use Rattle.std.specs.List.{list_all}
 use Rattle.bucket_core.specs.Contents.{Contents}
+use Rattle.bucket_core.specs.declared.memory_bucket.MemoryBucket.{MemoryBucket}
 use Rattle.world_core.specs.Keeping.{IsFull}
 use Rattle.world_core.specs.Operations.{PutsBytes, ShowsBytes}
 use Rattle.world_core.specs.Standing.{Tells, stands}
@@ -13,6 +14,7 @@ use Rattle.script_core.specs.Lawful.{IsLawfulScript}
 use Rattle.script_core.specs.declared.script.Script.{Script}
 use Rattle.call_verdicts.specs.script_running.specs.Outcomes.{is_as_asked}
 use Rattle.call_verdicts.specs.script_running.specs.Shelves.{setting_by}
+use Rattle.call_verdicts.specs.script_running.specs.Tasks.{is_full_came}
 use Rattle.call_verdicts.specs.script_running.specs.declared.came.Broken.{Broken}
 use Rattle.call_verdicts.specs.script_running.specs.declared.came.Broken.TheVariants as broken
 use Rattle.call_verdicts.specs.script_running.specs.declared.outcome.Outcome.{Outcome}
@@ -25,12 +27,24 @@ use Rattle.call_verdicts.specs.report_lines.specs.Summed.{IsDayText}
 use Rattle.call_verdicts.specs.report_lines.specs.Tallies.{AreTallied}
 use Rattle.call_verdicts.specs.report_lines.specs.declared.tally.Tally.{Tally}
 use Rattle.call_verdicts.specs.breach_finding.specs.declared.found.Breach.{Breach}
+use Rattle.run_notes.specs.declared.run_note.RunNote.{RunNote}
 use Rattle.call_verdicts.specs.Kept.{IsTrueOfStore}
+use Rattle.call_verdicts.specs.Noted.{IsNoted, tells_full}
 use Rattle.call_verdicts.proofs.HandedBack.{true_of}
 use Rattle.call_verdicts.specs.declared.verdict.Verdict.{Verdict}
 use Rattle.call_verdicts.specs.declared.verdict.Verdict.TheVariants as verdict
-use Rattle.replay_cli.specs.Days.{EndsDay, IsBareFull, IsDay, IsDayRun}
+use Rattle.replay_cli.specs.Days.{EndsDay, IsBareFull, IsDay, IsDayNoted, IsDayRun}
 use Rattle.replay_cli.proofs.WholeRuns.{all_told, full_run, whole_run_of}
+
+-- the summary of a whole day does not tell that the journal is full
+ends_unfull : (script : Script) (journal : List Entry) (tally : Tally) (v : Verdict) → EndsDay script journal tally v → tells_full v ≡ false
+ends_unfull script journal tally (verdict.Report text as_asked) ends = refl
+ends_unfull script journal tally verdict.NoMemory ends = refl
+ends_unfull script journal tally other ends = absurd ends
+
+bare_told : (v : Verdict) → IsBareFull v → tells_full v ≡ true
+bare_told (verdict.Full lines) bare = refl
+bare_told other bare = absurd bare
 
 -- memory was wanted before the script was made
 pub short_day : (number : ℕ) (entries : List Entry) → entries ≡ [] → IsDayRun number entries verdict.NoMemory
@@ -89,6 +103,23 @@ ends_over script one other tally v same ends holds = subst (λ (es : List Entry)
 
 pub day_over : (script : Script) (one other : List Entry) (v : Verdict) → other ≡ one → IsDay script one v → IsDay script other v
 day_over script one other v same day = subst (λ (es : List Entry). IsDay script es v) (sym same) day
+
+-- ---- the note
+
+-- the verdict tells what broke the run off
+pub day_full_told : (script : Script) (journal : List Entry) (tally : Tally) (r : Result (Unit {0}) Broken) (v : Verdict)
+    → (r ≡ Ok tt → EndsDay script journal tally v) → (r ≡ Err broken.Full → IsBareFull v) → (r ≡ Err broken.NoMemory → v ≡ verdict.NoMemory) → is_full_came r ≡ tells_full v
+day_full_told script journal tally (Ok done) v whole filled short = sym (ends_unfull script journal tally v (whole refl))
+day_full_told script journal tally (Err broken.Full) v whole filled short = sym (bare_told v (filled refl))
+day_full_told script journal tally (Err broken.NoMemory) v whole filled short = sym (ap tells_full (short refl))
+
+-- no run began
+pub unnoted_day : (entries : List Entry) → entries ≡ [] → IsDayNoted verdict.NoMemory (Some entries) None
+unnoted_day entries none = (none, refl, tt)
+
+pub day_noted : (v : Verdict) (entries : List Entry) (bucket : MemoryBucket) (note : Option (RunNote MemoryBucket)) → IsNoted (λ (b : MemoryBucket). None) v (Some entries) (Some bucket) note → IsDayNoted v (Some entries) note
+day_noted v entries bucket None noted = (noted.0, noted.1, tt)
+day_noted v entries bucket (Some n) noted = record { journal_is = noted.journal_is; store_is = refl; full = noted.full; short = noted.short; asks = noted.asks }
 
 -- ---- what was left
 

@@ -140,13 +140,15 @@ due_run setting lawful place journal ends phase left are same due =
     let done = take place setting.script.phases in
     let parts : setting.script.phases ≡ done ++ phase ∷ left = sym (take-append-drop place setting.script.phases) ∙ ap (λ (ps : List Phase). done ++ ps) are in (
       due.0,
-      due.1,
-      due.2,
-      λ seen answer.
-          let next = due.3 seen answer in
-          let run = runs setting lawful 0 none_held setting.script.phases (journal ++ entry_of due.0 due.1 seen ∷ []) (ends ++ next.0 ∷ []) (λ k p own. ap (slice_get setting.script.phases) (omega arith) ∙ own) next.1 in
-          let told = ap (λ (ps : List Phase). ends_by_workers gateways ps (ends ++ next.0 ∷ [])) parts ∙ by_parts gateways done (phase ∷ left) ends (next.0 ∷ []) same ∙ ap (λ l. ends_by_workers gateways done ends ++ last_by gateways phase next.0 ∷ l) (by_none gateways left) in
-          (last_by gateways phase next.0, subst (PhasesRun (by_workers setting) 0 none_held setting.script.phases (journal ++ entry_of due.0 due.1 seen ∷ [])) told run),
+      (
+        due.1.0,
+        due.1.1,
+        λ seen answer.
+            let next = due.1.2 seen answer in
+            let run = runs setting lawful 0 none_held setting.script.phases (journal ++ entry_of due.0 due.1.0 seen ∷ []) (ends ++ next.0 ∷ []) (λ k p own. ap (slice_get setting.script.phases) (omega arith) ∙ own) next.1 in
+            let told = ap (λ (ps : List Phase). ends_by_workers gateways ps (ends ++ next.0 ∷ [])) parts ∙ by_parts gateways done (phase ∷ left) ends (next.0 ∷ []) same ∙ ap (λ l. ends_by_workers gateways done ends ++ last_by gateways phase next.0 ∷ l) (by_none gateways left) in
+            (last_by gateways phase next.0, subst (PhasesRun (by_workers setting) 0 none_held setting.script.phases (journal ++ entry_of due.0 due.1.0 seen ∷ [])) told run),
+      ),
     )
 
 due_left : (setting : Setting) → IsLawfulScript setting.script → (place : ℕ) (journal : List Entry) (ends : List (List End)) (left : List Phase) (unfinished : List (List End)) → drop place setting.script.phases ≡ left → length ends ≡ length (take place setting.script.phases)

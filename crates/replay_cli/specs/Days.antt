@@ -1,5 +1,6 @@
 -- The run of the generated day, over a bucket of its own. A summary takes the place of its report.
-use Rattle.std.specs.Prelude.{◌≡◌, ◌⊎◌, ℕ, Bool, List, [], ◌++◌, Option, Some, None, IsSomeAnd}
+use Rattle.std.specs.Prelude.{◌≡◌, ◌⊎◌, ℕ, Bool, List, [], ◌++◌, Option, Some, None, IsSomeAnd, option_map}
+use Rattle.bucket_core.specs.declared.memory_bucket.MemoryBucket.{MemoryBucket}
 use Rattle.world_core.specs.Standing.{IsHonest}
 use Rattle.world_core.specs.Worlds.{IsOfBytes, failed_count}
 use Rattle.world_core.specs.declared.entry.Entry.{Entry}
@@ -18,6 +19,8 @@ use Rattle.call_verdicts.specs.report_lines.specs.Tallies.{AreTallied}
 use Rattle.call_verdicts.specs.report_lines.specs.declared.tally.Tally.{Tally}
 use Rattle.script_workers.specs.declared.task.Task.{Task}
 use Rattle.call_verdicts.specs.script_running.specs.declared.outcome.Outcome.{Outcome}
+use Rattle.run_notes.specs.declared.run_note.RunNote.{RunNote}
+use Rattle.call_verdicts.specs.Noted.{IsNoted}
 use Rattle.call_verdicts.specs.Verdicts.{Around, IfShort, IsCaused, IsFullRun, IsWholeRun}
 use Rattle.call_verdicts.specs.declared.verdict.Verdict.{Verdict}
 use Rattle.call_verdicts.specs.declared.verdict.Verdict.TheVariants as verdict
@@ -47,6 +50,11 @@ pub record IsDayRun (number : ℕ) (entries : List Entry) (v : Verdict) : Type 0
   pub bytes : IsOfBytes entries
   pub unfailed : failed_count entries ≡ 0
   pub came : ((v ≡ verdict.NoMemory) × (entries ≡ [])) ⊎ ((script : Script) × Spells (day_text number) script × IsLawfulScript script × IsDay script entries v)
+
+-- The note of a day's run is of the journal that is handed back, and of the answers by which the call comes to its verdict. The bucket
+-- does not tell what it was asked, and is not handed back.
+abbrev pub IsDayNoted : Verdict → Option (List Entry) → Option (RunNote MemoryBucket) → Type 0
+IsDayNoted v journal note = IsNoted (λ bucket. None) v journal (option_map (λ n. n.world.value.bucket) note) note
 
 -- ---- the call
 

@@ -1,10 +1,12 @@
 //! The generated day: its script is run over a bucket in memory, and a summary takes the place of the report.
 
-ghost use Rattle.std.specs.Prelude.{◌≡◌, ◌++◌, [], List, None, Ok, Err, Option, IfSome, IsSomeAnd, OnOk};
+ghost use Rattle.std.specs.Prelude.{◌≡◌, ◌++◌, [], List, None, Some, Ok, Err, Option, IfSome, IsSomeAnd, OnOk};
 ghost use Rattle.world_core.specs.Worlds.{IsJournal, IsOfBytes, failed_count};
 ghost use Rattle.script_core.specs.Lawful.{IsLawfulScript};
 ghost use Rattle.call_verdicts.specs.Kept.{IsTrueOfStore};
-ghost use Rattle.replay_cli.specs.Days.{EndsDay, IsBareFull, IsDay, IsDayRun};
+ghost use Rattle.call_verdicts.specs.Asked.{WasAsked, for_opening};
+ghost use Rattle.call_verdicts.specs.Noted.{IsNoted};
+ghost use Rattle.replay_cli.specs.Days.{EndsDay, IsBareFull, IsDay, IsDayNoted, IsDayRun};
 
 use bucket_core::{Bucket, FailList, MemoryBucket};
 use call_verdicts::report_lines::{Tally, put_breach_of};
@@ -13,21 +15,25 @@ use call_verdicts::{Conclusion, Ended, Verdict};
 use generated_day::generated;
 use line_running::do_in_line;
 use list_core::NoMemory;
-use run_notes::Finished;
+use run_notes::{Finished, RunNote};
 use script_core::Script;
 use std::alloc::Global;
 use world_core::{Entry, Journal, World};
 
-/// Runs the generated day with this number. The bucket is its own, and is not handed back.
-pub(crate) fn run_day<B: Bucket, F>(alloc: Global, number: u64) -> Ended<B, F>
-    ensures came { IsSomeAnd result.conclusion.journal
-        (λ entries. IsDayRun number entries result.conclusion.verdict) }
-    ensures store { result.conclusion.store ≡ None }
-    ensures shelf { result.shelf ≡ None }
-    ensures note { result.note ≡ None }
+/// Runs the generated day with this number. The bucket is its own, and is not handed back; the note of the run comes beside.
+pub(crate) fn run_day<B: Bucket, F>(
+    alloc: Global,
+    number: u64,
+) -> (Ended<B, F>, Option<RunNote<MemoryBucket>>)
+    ensures came { IsSomeAnd result.0.conclusion.journal
+        (λ entries. IsDayRun number entries result.0.conclusion.verdict) }
+    ensures store { result.0.conclusion.store ≡ None }
+    ensures shelf { result.0.shelf ≡ None }
+    ensures note { result.0.note ≡ None }
+    ensures noted { IsDayNoted result.0.conclusion.verdict result.0.conclusion.journal result.1 }
 {
-    let (verdict, journal) = run_alone(alloc, number);
-    Ended {
+    let (verdict, journal, note) = run_alone(alloc, number);
+    let ended = Ended {
         conclusion: Conclusion {
             verdict,
             journal: Some(journal),
@@ -35,47 +41,55 @@ pub(crate) fn run_day<B: Bucket, F>(alloc: Global, number: u64) -> Ended<B, F>
         },
         shelf: None,
         note: None,
-    }
+    };
+    (ended, note)
 }
 
-/// What the day comes to, and the journal over its bucket.
-fn run_alone(alloc: Global, number: u64) -> (Verdict, Journal)
-    ensures { IsDayRun number result.1 result.0 }
+/// What the day comes to, the journal over its bucket, and the note of the run, where one began.
+fn run_alone(alloc: Global, number: u64) -> (Verdict, Journal, Option<RunNote<MemoryBucket>>)
+    ensures came { IsDayRun number result.1 result.0 }
+    ensures noted { IsDayNoted result.0 (Some result.1) result.2 }
 {
     let Ok(script) = generated(alloc, number) else {
-        return (Verdict::NoMemory, Journal::empty(alloc));
+        return (Verdict::NoMemory, Journal::empty(alloc), None);
     };
     let bucket = MemoryBucket::new(alloc, FailList::new(alloc));
     match World::open(alloc, bucket, script.rules.tick) {
         Ok(world) => {
-            let (verdict, journal, bucket) = run_script(alloc, &script, world);
+            let (verdict, journal, bucket, note) = run_script(alloc, &script, world);
             drop(bucket);
             drop(script);
-            (verdict, journal)
+            (verdict, journal, note)
         }
         Err(refused) => {
             drop(refused);
             drop(script);
-            (Verdict::NoMemory, Journal::empty(alloc))
+            (Verdict::NoMemory, Journal::empty(alloc), None)
         }
     }
 }
 
 /// Does the tasks of a script that takes nothing from a shelf, one after another.
-fn run_script<B: Bucket>(alloc: Global, script: &Script, world: World<B>) -> (Verdict, Journal, B)
+fn run_script<B: Bucket>(
+    alloc: Global,
+    script: &Script,
+    world: World<B>,
+) -> (Verdict, Journal, B, Option<RunNote<B>>)
     requires lawful { IsLawfulScript script.now }
     requires fresh { world.journal ≡ [] }
     requires tick { world.tick ≡ script.now.rules.tick.ms }
+    requires asked { WasAsked B.asked for_opening world.bucket }
     ensures came { IsDay script.now result.1 result.0 }
     ensures back { IsTrueOfStore B.contents B.faults result.1 result.2 }
     ensures unfailed { B.quiet world.bucket → failed_count result.1 ≡ 0 }
+    ensures noted { IsNoted B.asked result.0 (Some result.1) (Some result.2) result.3 }
 {
     let (came, tally, hand) = do_in_line(alloc, script, &[], world);
     let world = hand.world();
     let journal = world.journal();
     let verdict = verdict_on(alloc, script, journal.entries(), came, tally);
-    let (_, journal, bucket) = Finished::of_hand(hand).into_parts();
-    (verdict, journal, bucket)
+    let (note, journal, bucket) = Finished::of_hand(hand).into_parts();
+    (verdict, journal, bucket, note)
 }
 
 /// What the run comes to that left this journal, by what broke it off.

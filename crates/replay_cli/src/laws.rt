@@ -6,6 +6,8 @@ ghost use Rattle.script_core.specs.Lawful.{IsLawfulScript};
 ghost use Rattle.call_verdicts.specs.lifecycle_core.specs.Breaches.{watched};
 ghost use Rattle.call_verdicts.specs.lifecycle_core.specs.Causes.{AreWell, IsBlamedInCompaction, IsExplained, IsExplainedBy};
 ghost use Rattle.call_verdicts.specs.lifecycle_core.specs.Setting.{Setting};
+ghost use Rattle.script_core.specs.declared.script.Script.{Script};
+ghost use Rattle.replay_cli.specs.Days.{IsWholeDay};
 ghost use Rattle.replay_cli.specs.ToldAnswers.{IsTold, IsWorth, ToldAnswer};
 ghost use Rattle.call_verdicts.specs.Shippable.{RefusesNone, StaysWithin};
 ghost use Rattle.call_verdicts.specs.Verdicts.{IsFullRun, IsTrusted, IsWholeRun};
@@ -44,6 +46,15 @@ pub fn journals_tell_the_report()
     ensures apart { (setting : Setting) (journal : List Entry) (as_asked : Bool)
         (text other : List ℕ)
         → IsWholeRun setting as_asked text journal → ¬ IsFullRun setting other journal }
+{}
+
+/// A law: a journal tells the summary of a generated day. Two whole days of one lawful script that leave one journal print the same,
+/// and end as asked or not.
+pub fn journals_tell_the_summary()
+    ensures { (script : Script) (journal : List Entry) (as_asked also : Bool)
+        (text other : List ℕ) → IsLawfulScript script
+        → IsWholeDay script as_asked text journal → IsWholeDay script also other journal
+        → (as_asked ≡ also) × (text ≡ other) }
 {}
 
 /// A law: where the line of a query or of a compaction tells of a missing object, the journal shows why.

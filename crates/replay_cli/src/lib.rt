@@ -15,8 +15,8 @@ pub use call_verdicts::script_running::{
 };
 pub use call_verdicts::{InputRefusal, Run, SinkFault, Status, Verdict, read_all, write_all};
 pub use laws::{
-    calm_runs_end_as_asked, journals_tell_the_report, told_answers_are_sound,
-    told_misses_are_explained,
+    calm_runs_end_as_asked, journals_tell_the_report, journals_tell_the_summary,
+    told_answers_are_sound, told_misses_are_explained,
 };
 pub use replay::run_replay;
 pub use run_notes::RunNote;

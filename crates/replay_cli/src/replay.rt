@@ -54,6 +54,9 @@ where
     ensures full { IfSome result.note (λ note. IsFullSaid note.full
         (saying_to K.faults K.written out.old out.new) result.status) }
 
+    // No generated day is run.
+    ensures no_day { result.day ≡ None }
+
     // A calm call ends as asked, unless there is no memory, a pattern of its script is too large, a block of it is refused, or
     // a task met a limit.
     ensures calm { EndsCalmly

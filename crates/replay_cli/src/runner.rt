@@ -1,6 +1,6 @@
 //! A script is run over a world: by the caller itself, in the order of the lines, or with the workers of a phase beside each other in threads.
 
-ghost use Rattle.std.specs.Prelude.{◌≡◌, ◌≢◌, ◌++◌, List, [], Ok, Err, Option, Some, IfErr, IfOk, OnOk, false};
+ghost use Rattle.std.specs.Prelude.{◌≡◌, ◌≢◌, ◌++◌, List, [], Ok, Err, Option, Some, IfErr, IfOk, OnOk, IsTrue, false};
 ghost use Rattle.bucket_core.specs.Asking.{Call};
 ghost use Rattle.bucket_core.specs.Contents.{nothing};
 ghost use Rattle.world_core.specs.Asking.{IsAllAsked};
@@ -8,7 +8,6 @@ ghost use Rattle.world_core.specs.Worlds.{IsJournal, IsOfBytes, failed_count};
 ghost use Rattle.script_core.specs.Lawful.{IsLawfulScript};
 ghost use Rattle.call_verdicts.specs.lifecycle_core.specs.InLine.{IsInLine};
 ghost use Rattle.call_verdicts.specs.script_running.specs.Shelves.{AreAllAtHand, setting_by};
-ghost use Rattle.call_verdicts.specs.script_running.specs.Tasks.{is_full_came};
 ghost use Rattle.call_verdicts.specs.Asked.{IsBroken, WasAsked, for_opening};
 ghost use Rattle.replay_cli.specs.InPhases.{IsInPhases};
 ghost use Rattle.call_verdicts.specs.Noted.{IsNoted};
@@ -56,7 +55,7 @@ pub(crate) fn run_read_in_line<B: Bucket>(
     ensures all { result.0 ≢ Verdict.NoMemory → (before : List Call)
         → IsAllAsked B.asked before world → IsAllAsked B.asked before result.1.world }
 
-    // The full journal is told just where an operation of the run was answered so.
+    // The note says what the operations of the run were answered.
     ensures noted { IsNoted B.asked result.0 (Some result.1.world.journal)
         (Some result.1.world.bucket) result.1.note }
 {
@@ -123,8 +122,11 @@ fn run_in_line<B: Bucket>(
     ensures unfailed { failed_count result.1.world.journal ≡ 0
         → B.faults result.1.world.bucket ≡ B.faults world.bucket }
 
-    // Unless want of memory is told, all that the bucket was asked is journaled if it was before.
-    ensures all { result.0 ≢ Verdict.NoMemory → (before : List Call)
+    // Memory was wanted for an operation only where that is told.
+    ensures wanted { IsTrue result.1.wanted → result.0 ≡ Verdict.NoMemory }
+
+    // Unless it was, all that the bucket was asked is journaled if it was before.
+    ensures all { result.1.wanted ≡ false → (before : List Call)
         → IsAllAsked B.asked before world → IsAllAsked B.asked before result.1.world }
 
     // The full journal is told just where an operation of the run was answered so. So want of memory is told only where none was.
@@ -164,7 +166,8 @@ fn run_with_threads<B: Bucket + Send, G: Gate + Sync, T: Threads + Wait + Sync>(
         → (before : List Call) → IsAllAsked B.asked before world
         → IsAllAsked B.asked before result.1.world }
 
-    // The full journal is told just where an operation of the run was answered so. So want of memory is told only where none was.
+    // The note says what the operations of the run were answered. The full journal is told just where one was answered so, and want
+    // of memory only where none was.
     ensures noted { IsNoted B.asked result.0 (Some result.1.world.journal)
         (Some result.1.world.bucket) result.1.note }
 {
@@ -176,19 +179,9 @@ fn run_with_threads<B: Bucket + Send, G: Gate + Sync, T: Threads + Wait + Sync>(
             let world = closed.world();
             let journal = world.journal();
             let verdict = verdict_of(alloc, script, journal.entries(), came, report);
-            (verdict, Finished::of_closed(closed, is_full(came)))
+            (verdict, Finished::of_closed(closed))
         }
         Err(world) => (Verdict::NoMemory, Finished::unbegun(world)),
-    }
-}
-
-/// Whether the full journal broke a run off.
-fn is_full(came: Result<(), Broken>) -> bool
-    ensures { result ≡ is_full_came came }
-{
-    match came {
-        Err(Broken::Full) => true,
-        Ok(()) | Err(Broken::NoMemory) => false,
     }
 }
 

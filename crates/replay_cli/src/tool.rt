@@ -6,7 +6,7 @@ ghost use Rattle.call_verdicts.specs.Asked.{IsBroken, IsBucketAsked, IsUndecided
 ghost use Rattle.call_verdicts.specs.Statuses.{number_of};
 ghost use Rattle.call_verdicts.specs.Verdicts.{EndsCalmly, IfShort, IsCaused, IsCheckSaid, IsSaid, IsWorked, around_call, saying_to};
 ghost use Rattle.call_verdicts.specs.Words.{block_word, bucket_word, named_by, number_word, shelf_word};
-ghost use Rattle.replay_cli.specs.Days.{IsToolCaused};
+ghost use Rattle.replay_cli.specs.Days.{IsDayNoted, IsToolCaused};
 ghost use Rattle.call_verdicts.specs.lifecycle_core.specs.InLine.{IsInLine};
 
 use crate::day::run_day;
@@ -45,15 +45,20 @@ pub fn run_tool<S: Site, R: Source, K: Sink>(
         × (verdict ≢ Verdict.NoMemory
         → IsBucketAsked S.Store.asked verdict result.journal result.store)
         × (number_word words.now ≡ None
-        → IsNoted S.Store.asked verdict result.journal result.store result.note) }
+        → IsNoted S.Store.asked verdict result.journal result.store result.note)
+        × (IsSome (number_word words.now)
+        → IsDayNoted verdict result.journal result.day) }
 
-    // The bucket of a generated day is its own: the journal alone is handed out.
+    // The bucket of a generated day is its own: the journal alone is handed out, with the note of the day's run.
     ensures day { IsSome (number_word words.now)
         → (result.store ≡ None) × (result.note ≡ None) }
+    ensures no_day { number_word words.now ≡ None → result.day ≡ None }
 
     // Where an operation of the run was answered that the journal is full, the status says that, unless the sink failed: want
     // of memory is never told in its place.
     ensures full { IfSome result.note (λ note. IsFullSaid note.full
+        (saying_to K.faults K.written out.old out.new) result.status) }
+    ensures day_full { IfSome result.day (λ note. IsFullSaid note.full
         (saying_to K.faults K.written out.old out.new) result.status) }
 
     // A calm call ends as asked, unless there is no memory, a pattern of its script is too large, a block of it is refused, or
@@ -98,7 +103,12 @@ pub fn run_tool<S: Site, R: Source, K: Sink>(
         (IsUndecided result.status)) }
 {
     match read_generate(words) {
-        Some(number) => run_day(alloc, number).into_run(alloc, out),
+        Some(number) => {
+            let (ended, day) = run_day(alloc, number);
+            let mut run = ended.into_run(alloc, out);
+            run.day = day;
+            run
+        }
         None => come_to(alloc, words, site, script).into_run(alloc, out),
     }
 }

@@ -1,7 +1,7 @@
 //! The program: it makes the real things, and the tool does the rest.
 #![tactic(auto)]
 
-ghost use Rattle.std.specs.Prelude.{◌≡◌, ◌≢◌, true, false, None, is_some};
+ghost use Rattle.std.specs.Prelude.{◌≡◌, ◌≢◌, true, false, None, IsSome, is_some};
 ghost use Rattle.replay_cli.specs.lifecycle_core.specs.InLine.{IsInLine};
 ghost use Rattle.replay_cli.specs.call_verdicts.specs.Asked.{IsBucketAsked};
 ghost use Rattle.replay_cli.specs.InPhases.{IsInPhases};
@@ -10,7 +10,7 @@ ghost use Rattle.replay_cli.specs.call_verdicts.specs.Noted.{IsNoted};
 ghost use Rattle.replay_cli.specs.call_verdicts.specs.Noted.{tells_full};
 ghost use Rattle.replay_cli.specs.call_verdicts.specs.Verdicts.{IsCaused, around_call, saying_to};
 ghost use Rattle.replay_cli.specs.call_verdicts.specs.Words.{block_word, bucket_word, number_word, replay_shelf, replay_word, shelf_word};
-ghost use Rattle.replay_cli.specs.Days.{IsToolCaused};
+ghost use Rattle.replay_cli.specs.Days.{IsDayNoted, IsToolCaused};
 ghost use Rattle.replay_cli.specs.call_verdicts.specs.declared.verdict.Verdict.TheVariants.{NoMemory};
 ghost use Rattle.tosraem.specs.Calls.{IsServed, names_replay};
 
@@ -71,8 +71,10 @@ where
         (saying_to K.faults K.written out.old out.new)
         (λ verdict. verdict ≢ NoMemory
         → IsBucketAsked S.Store.asked verdict result.journal result.store)
-        (λ verdict. number_word words.now ≡ None
-        → IsNoted S.Store.asked verdict result.journal result.store result.note) result.status }
+        (λ verdict. (number_word words.now ≡ None
+        → IsNoted S.Store.asked verdict result.journal result.store result.note)
+        × (IsSome (number_word words.now) → IsDayNoted verdict result.journal result.day))
+        result.status }
     ensures replay { names_replay words.now ≡ true → IsServed
         (IsCaused (around_call IsInPhases R.left R.faults script.old script.new
         S.buckets S.next_bucket S.shelves S.next_shelf S.faults
@@ -83,6 +85,11 @@ where
         (λ verdict. verdict ≢ NoMemory → tells_full verdict ≡ false
         → IsBucketAsked S.Store.asked verdict result.journal result.store)
         (λ verdict. IsNoted S.Store.asked verdict result.journal result.store result.note) result.status }
+
+    // There is the note of a generated day only where the words name one.
+    ensures no_day { names_replay words.now ≡ false → number_word words.now ≡ None
+        → result.day ≡ None }
+    ensures day_alone { names_replay words.now ≡ true → result.day ≡ None }
 
     // The bucket and the shelf are those of that call, as it left them; a generated day has a bucket of its own.
     ensures handed { IsHandedOut S.buckets site.old site.new result.store }

@@ -1,4 +1,4 @@
-use Rattle.std.proofs.Common.{◌≡◌, ◌≢◌, false, refl}
+use Rattle.std.proofs.Common.{◌≡◌, ◌≢◌, false, refl, ap}
 use Rattle.std.specs.Prelude.{None, IfSome, is_some}
 use Rattle.replay_cli.specs.InPhases.{IsInPhases}
 use Rattle.call_verdicts.specs.Kept.{IsHandedBack, IsHandedOut, IsShelfOf, IsUntouched, told_of}
@@ -71,3 +71,6 @@ returns-clause-asked g c =
     left_by c.into_run.result _ _ _ _ _ c.into_run.ensures.2
     (λ status journal store shelf note. IfSome shelf (WasReadFor g.S.Files.Shelf.asked (g.R.Source.left c.args.script.now)))
     c.come_to.ensures.asked
+
+pub returns-clause-no_day : goal.returns-clause-no_day
+returns-clause-no_day g c = ap (λ run. run.day) c.into_run.ensures.2

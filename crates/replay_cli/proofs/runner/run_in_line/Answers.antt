@@ -3,7 +3,6 @@ use Rattle.world_core.specs.Worlds.{IsJournal, IsOfBytes}
 use Rattle.call_verdicts.specs.script_running.specs.Shelves.{setting_by}
 use Rattle.replay_cli.proofs.Runs.{ends_over, full_told, kept_by, kept_of, run_told}
 use Rattle.call_verdicts.proofs.Unfailed.{unfailed_run}
-use Rattle.replay_cli.proofs.Wanted.{unwanted_told}
 use Rattle.replay_cli.proofs.runner.run_in_line.Goals as goal
 
 pub verdict_of-verdict-requires-clause-kept : goal.verdict_of-verdict-requires-clause-kept
@@ -35,7 +34,7 @@ pub returns-clause-opened : goal.returns-clause-opened
 returns-clause-opened g c = c.do_in_line-came.ensures.keeps.same
 
 pub returns-clause-all : goal.returns-clause-all
-returns-clause-all g c = λ never before was.
-    c.do_in_line-came.ensures.keeps.asks.all
-    (unwanted_told c.do_in_line-came.result.2.wanted c.do_in_line-came.result.0 c.verdict_of-verdict.result c.verdict_of-verdict.ensures.none never c.do_in_line-came.ensures.wanted)
-    before was
+returns-clause-all g c = c.do_in_line-came.ensures.keeps.asks.all
+
+pub returns-clause-wanted : goal.returns-clause-wanted
+returns-clause-wanted g c = λ so. c.verdict_of-verdict.ensures.none (c.do_in_line-came.ensures.wanted so)

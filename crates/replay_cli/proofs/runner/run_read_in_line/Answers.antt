@@ -7,7 +7,8 @@ use Rattle.bucket_core.specs.Contents.{nothing}
 use Rattle.call_verdicts.specs.script_running.specs.Shelves.{setting_by}
 use Rattle.call_verdicts.specs.Asked.{IsBroken, WasAsked, for_opening}
 use Rattle.call_verdicts.specs.Verdicts.{IsRun}
-use Rattle.call_verdicts.proofs.Noted.{noted_world, unnoted}
+use Rattle.call_verdicts.proofs.BucketAsked.{run_asked}
+use Rattle.call_verdicts.proofs.Noted.{noted_world, short_by, unnoted, unwanted_by}
 use Rattle.replay_cli.proofs.Unread.{read_run, tells_none}
 use Rattle.replay_cli.proofs.runner.run_read_in_line.Goals as goal
 
@@ -26,11 +27,15 @@ returns-in-Ok-clause-unfailed g c = λ none.
 
 pub returns-in-Ok-clause-all : goal.returns-in-Ok-clause-all
 returns-in-Ok-clause-all g c = λ never before was.
-    subst (IsAllAsked g.B.Bucket.asked before) (sym c.of_hand.ensures.world) (c.run_in_line-verdict.ensures.all never before was)
+    subst (IsAllAsked g.B.Bucket.asked before) (sym c.of_hand.ensures.world)
+    (c.run_in_line-verdict.ensures.all (unwanted_by c.run_in_line-verdict.result.1.wanted c.run_in_line-verdict.result.0 never c.run_in_line-verdict.ensures.wanted) before was)
 
 pub returns-in-Ok-clause-noted : goal.returns-in-Ok-clause-noted
 returns-in-Ok-clause-noted g c =
-    noted_world g.B.Bucket.asked c.run_in_line-verdict.result.0 c.of_hand.result.world c.run_in_line-verdict.result.1.refused c.of_hand.result.note c.of_hand.ensures.note c.run_in_line-verdict.ensures.refused
+    noted_world g.B.Bucket.asked c.run_in_line-verdict.result.0 c.of_hand.result.world c.run_in_line-verdict.result.1.refused c.run_in_line-verdict.result.1.wanted c.of_hand.result.note c.of_hand.ensures.note c.run_in_line-verdict.ensures.refused
+    (short_by c.run_in_line-verdict.result.1.wanted c.run_in_line-verdict.result.0 c.run_in_line-verdict.ensures.wanted)
+    (λ never. run_asked g.B.Bucket.asked c.args.world c.of_hand.result.world c.requires.fresh c.requires.asked
+    (λ before was. subst (IsAllAsked g.B.Bucket.asked before) (sym c.of_hand.ensures.world) (c.run_in_line-verdict.ensures.all never before was)))
 
 -- ---- reading was broken off
 

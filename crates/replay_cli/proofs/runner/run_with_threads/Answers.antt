@@ -2,22 +2,21 @@ use Rattle.std.proofs.Common.{inr, List, Some, refl, sym, ◌∙◌, ap, subst}
 use Rattle.world_core.specs.Asking.{IsAllAsked}
 use Rattle.world_core.specs.Worlds.{IsJournal, IsOfBytes, failed_count}
 use Rattle.world_core.specs.declared.entry.Entry.{Entry}
+use Rattle.phase_runner.specs.Passes.{view_of}
 use Rattle.call_verdicts.specs.script_running.specs.Shelves.{setting_by}
 use Rattle.call_verdicts.specs.script_running.specs.Beside.{HasRunBeside}
 use Rattle.call_verdicts.specs.declared.verdict.Verdict.TheVariants as verdict
 use Rattle.call_verdicts.specs.Asked.{WasAsked, for_opening}
+use Rattle.call_verdicts.proofs.BucketAsked.{run_asked}
 use Rattle.call_verdicts.proofs.Noted.{noted_world, unnoted}
 use Rattle.replay_cli.proofs.Runs.{ends_over, full_told}
 use Rattle.replay_cli.proofs.RunsBeside.{beside_told, none_beside}
 use Rattle.call_verdicts.specs.report_lines.proofs.ToldLines.{no_lines}
-use Rattle.replay_cli.proofs.Wanted.{whole_told}
+use Rattle.replay_cli.proofs.Wanted.{short_told, whole_told}
 use Rattle.replay_cli.proofs.runner.run_with_threads.Goals as goal
 
 pub run_beside-requires-clause-untold : goal.run_beside-requires-clause-untold
 run_beside-requires-clause-untold g c = λ κs lives. no_lines c.new-report.result c.args.script.now c.new-report.ensures
-
-pub of_closed-requires : goal.of_closed-requires
-of_closed-requires g c = record { told = c.in-Ok.ensures.refused ∙ sym c.is_full.ensures }
 
 pub returns-in-Ok-clause-cause : goal.returns-in-Ok-clause-cause
 returns-in-Ok-clause-cause g c =
@@ -35,12 +34,15 @@ returns-in-Ok-clause-unfailed g c = λ none.
 pub returns-in-Ok-clause-all : goal.returns-in-Ok-clause-all
 returns-in-Ok-clause-all g c = λ never told before was.
     subst (IsAllAsked g.B.Bucket.asked before) (sym c.of_closed.ensures.world)
-    (c.in-Ok.ensures.all (whole_told c.run_beside.new.report c.in-Ok.end.came c.verdict_of-verdict.result c.verdict_of-verdict.ensures.full c.verdict_of-verdict.ensures.none never told) before was)
+    (c.in-Ok.ensures.all (c.in-Ok.ensures.unwanted (whole_told c.run_beside.new.report c.in-Ok.end.came c.verdict_of-verdict.result c.verdict_of-verdict.ensures.full c.verdict_of-verdict.ensures.none never told)) before was)
 
 pub returns-in-Ok-clause-noted : goal.returns-in-Ok-clause-noted
 returns-in-Ok-clause-noted g c =
-    noted_world g.B.Bucket.asked c.verdict_of-verdict.result c.of_closed.result.world c.is_full.result c.of_closed.result.note c.of_closed.ensures.note
-    (c.is_full.ensures ∙ full_told c.args.script.now c.entries.result.now c.run_beside.new.report c.in-Ok.end.came c.verdict_of-verdict.result c.verdict_of-verdict.ensures.whole c.verdict_of-verdict.ensures.full c.verdict_of-verdict.ensures.none)
+    noted_world g.B.Bucket.asked c.verdict_of-verdict.result c.of_closed.result.world (view_of c.in-Ok.closed.root.value).refused (view_of c.in-Ok.closed.root.value).wanted c.of_closed.result.note c.of_closed.ensures.note
+    (c.in-Ok.ensures.refused ∙ full_told c.args.script.now c.entries.result.now c.run_beside.new.report c.in-Ok.end.came c.verdict_of-verdict.result c.verdict_of-verdict.ensures.whole c.verdict_of-verdict.ensures.full c.verdict_of-verdict.ensures.none)
+    (short_told c.run_beside.new.report c.in-Ok.end.came c.verdict_of-verdict.result (view_of c.in-Ok.closed.root.value).wanted c.verdict_of-verdict.ensures.full c.verdict_of-verdict.ensures.none c.in-Ok.ensures.unwanted)
+    (λ never. run_asked g.B.Bucket.asked c.args.world c.of_closed.result.world c.requires.fresh c.requires.asked
+    (λ before was. subst (IsAllAsked g.B.Bucket.asked before) (sym c.of_closed.ensures.world) (c.in-Ok.ensures.all never before was)))
 
 pub verdict_of-verdict-requires-clause-bytes : goal.verdict_of-verdict-requires-clause-bytes
 verdict_of-verdict-requires-clause-bytes g c = subst IsOfBytes (sym (c.entries.ensures ∙ c.journal-journal.ensures.journal)) c.journal-journal.ensures.holds.bytes
