@@ -25,8 +25,8 @@ fn block() -> Ulid {
     Ulid::from_parts(0, 10)
 }
 
-/// The plan of a block of its own.
-fn plan_of(alloc: Global, min_time: i64, max_time: i64) -> Option<BlockPlan>
+/// The plan of a block of its own, or of one that others become, by its level.
+fn plan_of(alloc: Global, level: u32, min_time: i64, max_time: i64) -> Option<BlockPlan>
     requires { AreLawfulTimes min_time max_time }
 {
     let Ok(source) = Text::from_str(alloc, "sidecar") else {
@@ -39,7 +39,7 @@ fn plan_of(alloc: Global, min_time: i64, max_time: i64) -> Option<BlockPlan>
         ulid: block(),
         min_time,
         max_time,
-        level: 1,
+        level,
         sources,
         parents: ParentList::new(alloc),
         labels: LabelSet::empty(alloc),
@@ -49,7 +49,12 @@ fn plan_of(alloc: Global, min_time: i64, max_time: i64) -> Option<BlockPlan>
 
 /// The plan of a block that may have all samples of these rows.
 pub(crate) fn wide_plan(alloc: Global) -> Option<BlockPlan> {
-    plan_of(alloc, -1_000_000_000_000_000, 1_000_000_000_000_000)
+    plan_of(alloc, 1, -1_000_000_000_000_000, 1_000_000_000_000_000)
+}
+
+/// The plan of a block that others of such plans become.
+pub(crate) fn merged_plan(alloc: Global) -> Option<BlockPlan> {
+    plan_of(alloc, 2, -1_000_000_000_000_000, 1_000_000_000_000_000)
 }
 
 /// Builds a block, where it may be built.
@@ -88,7 +93,7 @@ fn list_of(alloc: Global, series: Series) -> SeriesList {
 }
 
 fn built_objects(alloc: Global, series: &SeriesList) -> Option<ObjectList> {
-    let plan = plan_of(alloc, 1000, 2000)?;
+    let plan = plan_of(alloc, 1, 1000, 2000)?;
     let built = build_of(alloc, &plan, series);
     drop(plan);
     match built {
@@ -174,7 +179,8 @@ fn add_series(alloc: Global, series: &mut SeriesList, labels: &str, count: &str)
     }
 }
 
-fn block_of(alloc: Global, series: &SeriesList) -> Option<BlockFiles> {
+/// A block of these series, where it may be built.
+pub(crate) fn block_of(alloc: Global, series: &SeriesList) -> Option<BlockFiles> {
     let plan = wide_plan(alloc)?;
     let files = build_of(alloc, &plan, series);
     drop(plan);

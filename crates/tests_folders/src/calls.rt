@@ -8,6 +8,8 @@ use dir_bucket::{DirShelf, HostBucket};
 use label_sets::Text;
 use std::fs::{File, Permissions};
 use std::os::unix::fs::PermissionsExt;
+use std::sync::Wait;
+use std::thread::Threads;
 use std::{fs, io, str};
 
 /// A bucket and a shelf over one folder.
@@ -18,7 +20,12 @@ pub(crate) struct Folder {
 }
 
 /// Prints a call and its answer, or does something to the folder itself. `.` stands for an empty text.
-pub(crate) fn print_call(rt: &HostRuntime, folder: &mut Folder, row: &str) -> io::Result<()> {
+pub(crate) fn print_call<R: Threads + Wait + Sync>(
+    threads: &R,
+    rt: &HostRuntime,
+    folder: &mut Folder,
+    row: &str,
+) -> io::Result<()> {
     let (kind, text) = row.split_once(' ').unwrap_or((row, ""));
     if kind == "=" {
         return println!(rt; "{row}");
@@ -31,9 +38,10 @@ pub(crate) fn print_call(rt: &HostRuntime, folder: &mut Folder, row: &str) -> io
         "delete" => println!(rt; "{:?}", folder.bucket.delete(text)),
         "page" => print_page(rt, &mut folder.bucket, text),
         "read" => print_read(rt, folder.shelf.read(text)),
-        "run" => print_run(rt, text),
-        "example" => print_example(rt, text),
-        "runs" => print_script(rt, text),
+        "run" => print_run(threads, rt, text),
+        "example" => print_example(threads, rt, text),
+        "runs" => print_script(threads, rt, "serial", text),
+        "replays" => print_script(threads, rt, "replay", text),
         "words" => print_check(rt, text),
         "served" => print_served(rt, text),
         "folder" => print_done(rt, fs::create_dir_all(rt, text)),

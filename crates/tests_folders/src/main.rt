@@ -10,6 +10,8 @@ use crate::calls::{Folder, print_call};
 use bucket_core::Site;
 use dir_bucket::HostSite;
 use std::io;
+use std::sync::Wait;
+use std::thread::Threads;
 
 /// The folder of all calls, below the one in which the program runs.
 const FOLDER: &str = "made/bucket";
@@ -30,7 +32,7 @@ fn main(rt: HostRuntime) -> io::Result<()> {
         site.open_bucket("memory").is_ok()
     )?;
     match open_both(&mut site) {
-        Some(folder) => print_calls(&rt, folder),
+        Some(folder) => print_calls(&rt, &rt, folder),
         None => println!(rt; "not opened"),
     }
 }
@@ -41,9 +43,13 @@ fn open_both(site: &mut HostSite<HostRuntime>) -> Option<Folder> {
     Some(Folder { bucket, shelf })
 }
 
-fn print_calls(rt: &HostRuntime, mut folder: Folder) -> io::Result<()> {
+fn print_calls<R: Threads + Wait + Sync>(
+    threads: &R,
+    rt: &HostRuntime,
+    mut folder: Folder,
+) -> io::Result<()> {
     for line in rt.lines(rt.alloc()) {
-        print_call(rt, &mut folder, line?.as_str())?;
+        print_call(threads, rt, &mut folder, line?.as_str())?;
     }
     Ok(())
 }

@@ -41,19 +41,31 @@ pub(crate) fn file_of(rt: &HostRuntime, folder: &str, name: &str) -> Vec<u8> {
 fn print_source(rt: &HostRuntime, text: &[u8]) {
     put(rt, "source ");
     match Meta::read(rt.alloc(), text) {
-        Ok(meta) => say_text(rt, &meta.ulid.text()),
+        Ok(meta) => {
+            say_text(rt, &meta.ulid.text());
+            drop(meta);
+        }
         Err(_) => say(rt, "no meta"),
     }
 }
 
 /// Prints the series of a block in the order of their final labels, and the count of its chunks.
 fn print_contents(rt: &HostRuntime, index: &[u8], segment: &[u8]) {
-    let reader = match IndexReader::open(rt.alloc(), index) {
-        Ok(reader) => reader,
-        Err(refusal) => return show(rt, &refusal),
-    };
+    match IndexReader::open(rt.alloc(), index) {
+        Ok(reader) => {
+            print_whole(rt, &reader, segment);
+            drop(reader);
+        }
+        Err(refusal) => show(rt, &refusal),
+    }
+}
+
+fn print_whole(rt: &HostRuntime, reader: &IndexReader<'_>, segment: &[u8]) {
     match reader.whole(rt.alloc()) {
-        Ok(list) => print_list(rt, list.members(), segment),
+        Ok(list) => {
+            print_list(rt, list.members(), segment);
+            drop(list);
+        }
         Err(refusal) => show(rt, &refusal),
     }
 }

@@ -11,7 +11,10 @@ use std::alloc::Global;
 pub(crate) fn print_over(rt: &HostRuntime, index: &[u8], call: &str) {
     let (word, argument) = cut(call);
     match over(rt.alloc(), index) {
-        Some(Ok(reader)) => print_opened(rt, &reader, word, argument),
+        Some(Ok(reader)) => {
+            print_opened(rt, &reader, word, argument);
+            drop(reader);
+        }
         Some(Err(refusal)) => show(rt, &refusal),
         None => say(rt, "no parts"),
     }

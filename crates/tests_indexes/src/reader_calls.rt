@@ -11,7 +11,10 @@ use wire_bytes::NumberList;
 /// `lent NUMBER` a copy of one whose texts the index lends.
 pub(crate) fn print_read(rt: &HostRuntime, index: &[u8], word: &str, argument: &str) {
     match IndexReader::open(rt.alloc(), index) {
-        Ok(reader) => print_opened(rt, &reader, word, argument),
+        Ok(reader) => {
+            print_opened(rt, &reader, word, argument);
+            drop(reader);
+        }
         Err(refusal) => show(rt, &refusal),
     }
 }

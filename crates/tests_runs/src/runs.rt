@@ -29,19 +29,26 @@ pub(crate) fn print_run(
     let Ok(words) = words_of(alloc, words) else {
         return say(rt, "  no memory");
     };
-    let Ok(script) = Blob::from_bytes(alloc, script) else {
-        return say(rt, "  no memory");
-    };
+    match Blob::from_bytes(alloc, script) {
+        Ok(script) => print_done(rt, words.as_slice(), script, setting, shown),
+        Err(_) => say(rt, "  no memory"),
+    }
+}
+
+fn print_done(rt: &HostRuntime, words: &[String], script: Blob, setting: &Setting, shown: Shown) {
+    let alloc = rt.alloc();
     let mut site = StrangeSite::new(alloc, setting);
     let mut source = MemorySource::new(script, setting.source);
     let mut sink = MemorySink::new(alloc, setting.sink);
-    let run = run_told(alloc, &words, &mut site, &mut source, &mut sink);
+    let run = run_told(alloc, words, &mut site, &mut source, &mut sink);
+    drop(source);
+    drop(site);
     put_number(rt, "  status ", u64::from(run.status));
     say(rt, "");
     say_lines(rt, text_of(sink.bytes()));
+    drop(sink);
     print_shown(rt, &run, shown);
     drop(run);
-    drop(site);
 }
 
 fn print_shown(rt: &HostRuntime, run: &Run<StrangeBucket, MemoryShelf>, shown: Shown) {

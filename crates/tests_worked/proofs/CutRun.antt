@@ -108,7 +108,7 @@ page_made : (seen : Seen) → All (λ (e : Entry). Contains (2 ∷ []) e.seat) (
 page_made seen = All-from_recursion (λ (e : Entry). Contains (2 ∷ []) e.seat) (page seen ∷ []) ((0, lit< tt, refl), tt)
 
 due : IsOperationDue (by_workers one.setting) none_held one.script.phases broken.journal broken.told
-due = (2, op.RootPage [] 1_000, lit≤ tt, λ seen answer. (no_ends, phases (page seen ∷ []) (page_made seen) refl (first_page (sync_rules one.setting 0) 999_999 (page seen) refl)))
+due = (2, (op.RootPage [] 1_000, lit≤ tt, λ seen answer. (no_ends, phases (page seen ∷ []) (page_made seen) refl (first_page (sync_rules one.setting 0) 999_999 (page seen) refl))))
 
 not_done : ¬ (map (λ (w : Worker). length w.tasks) (workers_of one.script 1) ≡ map length no_ends)
 not_done same = let is : 2 ∷ [] ≡ 0 ∷ [] = sym (ap (map (λ (w : Worker). length w.tasks)) second_workers) ∙ same in omega (arith, ap (λ (l : List ℕ). get_or l 0 0) is)

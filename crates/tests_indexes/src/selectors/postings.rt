@@ -20,7 +20,10 @@ pub(crate) fn print_postings(rt: &HostRuntime, kind: &str, text: &str) {
 
 fn print_of_file(rt: &HostRuntime, bytes: &[u8], asked: &str) {
     match IndexReader::open(rt.alloc(), bytes) {
-        Ok(index) => print_asked(rt, &index, bytes, asked),
+        Ok(index) => {
+            print_asked(rt, &index, bytes, asked);
+            drop(index);
+        }
         Err(_) => say(rt, "no index"),
     }
 }
@@ -31,7 +34,10 @@ fn print_of_slices(rt: &HostRuntime, bytes: &[u8], asked: &str) {
         return say(rt, "no table of contents");
     };
     match IndexReader::over(rt.alloc(), parts_of(bytes, toc)) {
-        Ok(index) => print_asked(rt, &index, bytes, asked),
+        Ok(index) => {
+            print_asked(rt, &index, bytes, asked);
+            drop(index);
+        }
         Err(_) => say(rt, "no index"),
     }
 }
@@ -51,10 +57,23 @@ fn print_beside(
     external: &LabelSet,
     selector: &str,
 ) {
-    let Ok(selector) = Selector::read(rt.alloc(), selector, &TextList::new(rt.alloc())) else {
-        return say(rt, "no selector");
-    };
-    match select_postings(rt.alloc(), index, &selector, external) {
+    match Selector::read(rt.alloc(), selector, &TextList::new(rt.alloc())) {
+        Ok(selector) => {
+            print_selected(rt, index, bytes, external, &selector);
+            drop(selector);
+        }
+        Err(_) => say(rt, "no selector"),
+    }
+}
+
+fn print_selected(
+    rt: &HostRuntime,
+    index: &IndexReader<'_>,
+    bytes: &[u8],
+    external: &LabelSet,
+    selector: &Selector,
+) {
+    match select_postings(rt.alloc(), index, selector, external) {
         Ok(numbers) => print_series(rt, index, bytes, external, numbers.members()),
         Err(_) => say(rt, "refused"),
     }

@@ -24,7 +24,10 @@ fn replicas_of(alloc: Global, name: &str) -> TextList {
 
 fn print_read(rt: &HostRuntime, replicas: &TextList, text: &str) {
     match Selector::read(rt.alloc(), text, replicas) {
-        Ok(_) => say(rt, "read"),
+        Ok(selector) => {
+            drop(selector);
+            say(rt, "read");
+        }
         Err(refusal) => print_refusal(rt, &refusal),
     }
 }
@@ -49,7 +52,10 @@ fn print_place(rt: &HostRuntime, case: &str, place: usize) {
 pub(crate) fn print_selection(rt: &HostRuntime, text: &str) {
     let (selector, set) = cut(text);
     match Selector::read(rt.alloc(), selector, &TextList::new(rt.alloc())) {
-        Ok(selector) => print_match(rt, &selector, set),
+        Ok(selector) => {
+            print_match(rt, &selector, set);
+            drop(selector);
+        }
         Err(refusal) => print_refusal(rt, &refusal),
     }
 }

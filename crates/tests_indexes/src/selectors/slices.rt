@@ -41,16 +41,26 @@ pub(crate) fn print_shared(rt: &HostRuntime, text: &str) {
     let table = shared_table(rt.alloc(), rows.parse().unwrap_or(0));
     let list = shared_list(rt.alloc(), numbers.parse().unwrap_or(0));
     match Selector::read(rt.alloc(), selector, &TextList::new(rt.alloc())) {
-        Ok(selector) => print_taken(rt, table.as_slice(), list.as_slice(), &selector),
+        Ok(selector) => {
+            print_taken(rt, table.as_slice(), list.as_slice(), &selector);
+            drop(selector);
+        }
         Err(_) => say(rt, "no selector"),
     }
 }
 
 fn print_taken(rt: &HostRuntime, table: &[u8], list: &[u8], selector: &Selector) {
-    let Ok(index) = IndexReader::over(rt.alloc(), shared_parts(table, list)) else {
-        return say(rt, "refused");
-    };
-    match select_postings(rt.alloc(), &index, selector, &LabelSet::empty(rt.alloc())) {
+    match IndexReader::over(rt.alloc(), shared_parts(table, list)) {
+        Ok(index) => {
+            print_selected(rt, &index, selector);
+            drop(index);
+        }
+        Err(_) => say(rt, "refused"),
+    }
+}
+
+fn print_selected(rt: &HostRuntime, index: &IndexReader<'_>, selector: &Selector) {
+    match select_postings(rt.alloc(), index, selector, &LabelSet::empty(rt.alloc())) {
         Ok(taken) => show(rt, &taken.len()),
         Err(IndexRefusal::NoMemory) => say(rt, "no memory"),
         Err(_) => say(rt, "refused"),
