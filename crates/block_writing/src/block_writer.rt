@@ -28,6 +28,8 @@ use wire_bytes::Cursor;
 pub struct BlockWriter {
     plan: BlockPlan,
     segments: Vec<SegmentWriter>,
+    /// How many bytes the first segment begins with room for.
+    room: usize,
     /// The series that are ended.
     index: IndexWriter,
     /// The places of the chunks whose series is not ended.
@@ -60,9 +62,18 @@ impl BlockWriter {
     pub fn new(alloc: Global, plan: BlockPlan) -> BlockWriter
         ensures { result ≡ nothing_put (plan_fields plan) }
     {
+        BlockWriter::with_room(alloc, plan, 0)
+    }
+
+    /// The same, where the block's segments are thought to come to so many bytes: the first one begins with room for them, as
+    /// far as a segment may have them.
+    pub fn with_room(alloc: Global, plan: BlockPlan, room: usize) -> BlockWriter
+        ensures { result ≡ nothing_put (plan_fields plan) }
+    {
         BlockWriter {
             plan,
             segments: Vec::new(alloc),
+            room,
             index: IndexWriter::new(alloc),
             chunks: Vec::new(alloc),
             counts: Counts::none(),
@@ -120,7 +131,7 @@ impl BlockWriter {
         ensures err { OnErr result (self.new ≡ self.old) }
     {
         self.chunks.reserve(1)?;
-        let place = append_chunk(&mut self.segments, bytes, sum)?;
+        let place = append_chunk(&mut self.segments, self.room, bytes, sum)?;
         self.chunks.push_reserved(ChunkPlace {
             min,
             max,

@@ -56,9 +56,10 @@ fn append_to_last(
     }
 }
 
-/// Begins a segment with a chunk.
+/// Begins a segment with a chunk. The first one begins with room for so many bytes.
 fn begin_segment(
     segments: &mut Vec<SegmentWriter>,
+    room: usize,
     bytes: &[u8],
     sum: Option<u32>,
 ) -> Result<SegmentPlace, NoMemory>
@@ -76,7 +77,8 @@ fn begin_segment(
     if number == MOST {
         return Err(NoMemory);
     }
-    let mut writer = SegmentWriter::new(*segments.allocator())?;
+    let room = if number == 0 { room } else { 0 };
+    let mut writer = SegmentWriter::with_room(*segments.allocator(), room)?;
     let offset = match append_one(&mut writer, bytes, sum) {
         Ok(offset) => offset,
         Err(SegmentRefusal::NoMemory) => return Err(NoMemory),
@@ -89,9 +91,11 @@ fn begin_segment(
     })
 }
 
-/// Appends a chunk, whose sum may be known: to the last segment, and where that cannot hold it, to the next one.
+/// Appends a chunk, whose sum may be known: to the last segment, and where that cannot hold it, to the next one. The first
+/// segment begins with room for so many bytes.
 pub(crate) fn append_chunk(
     segments: &mut Vec<SegmentWriter>,
+    room: usize,
     bytes: &[u8],
     sum: Option<u32>,
 ) -> Result<SegmentPlace, NoMemory>
@@ -108,7 +112,7 @@ pub(crate) fn append_chunk(
 {
     let count = segments.len();
     if count == 0 {
-        return begin_segment(segments, bytes, sum);
+        return begin_segment(segments, room, bytes, sum);
     }
     match append_to_last(segments, bytes, sum) {
         Ok(offset) => Ok(SegmentPlace {
@@ -116,6 +120,6 @@ pub(crate) fn append_chunk(
             offset: offset as u32,
         }),
         Err(SegmentRefusal::NoMemory) => Err(NoMemory),
-        Err(SegmentRefusal::Full) => begin_segment(segments, bytes, sum),
+        Err(SegmentRefusal::Full) => begin_segment(segments, room, bytes, sum),
     }
 }

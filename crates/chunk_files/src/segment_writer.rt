@@ -1,4 +1,4 @@
-ghost use Rattle.std.specs.Prelude.{◌≡◌, ◌↔◌, ◌+◌, ◌<◌, ◌∷◌, ◌++◌, ℕ, List, length, IsTrue, IfOk, OnOk, OnErr, Err, ◌≤◌, ◌^◌};
+ghost use Rattle.std.specs.Prelude.{◌≡◌, ◌↔◌, ◌+◌, ◌<◌, ◌∷◌, ◌++◌, ℕ, List, length, take, IsTrue, IfOk, IfSome, OnOk, OnErr, Err, ◌≤◌, ◌^◌};
 ghost use Rattle.wire_bytes.specs.FieldTexts.{IsUvarint};
 ghost use Rattle.wire_bytes.specs.Written.{uvarint_text};
 ghost use Rattle.wire_bytes.specs.Crc.{crc};
@@ -56,44 +56,62 @@ fn fits(filled: usize, content: &[u8]) -> bool
     size <= GREATEST && size_of_length(size) + size + 5 <= GREATEST - filled
 }
 
-/// A chunk's length, encoding and data, and where the encoding stands.
-fn unsummed_frame(alloc: Global, content: &[u8]) -> Result<(Vec<u8>, usize), NoMemory>
-    ensures text { IfOk result (λ made. made.0.items
-        ≡ uvarint_text (length content.now) ++ xor ∷ content.now) }
-    ensures place { IfOk result (λ made. made.1 ≡ length (uvarint_text (length content.now))) }
+/// Puts a chunk's length, encoding and data behind others, and gives where its encoding stands. Where memory is wanting, a part
+/// of them may be put.
+fn put_data(out: &mut Vec<u8>, content: &[u8]) -> Result<usize, NoMemory>
+    ensures text { OnOk result (out.new.items ≡ out.old.items
+        ++ (uvarint_text (length content.now) ++ xor ∷ content.now)) }
+    ensures place { IfOk result (λ place. place
+        ≡ length (out.old.items ++ uvarint_text (length content.now))) }
     ensures size { OnOk result
         (IsUvarint (uvarint_text (length content.now)) (length content.now)) }
+    ensures front { take (length out.old.items) out.new.items ≡ out.old.items }
 {
-    let mut frame = Vec::new(alloc);
-    // a length of ten bytes at most, the encoding and the sum
-    frame.reserve(content.len() + 15)?;
-    put_uvarint(&mut frame, content.len() as u64)?;
-    let place = frame.len();
-    put_u8(&mut frame, XOR)?;
-    put_bytes(&mut frame, content)?;
-    Ok((frame, place))
+    put_uvarint(out, content.len() as u64)?;
+    let place = out.len();
+    put_u8(out, XOR)?;
+    put_bytes(out, content)?;
+    Ok(place)
 }
 
-/// A chunk's length, encoding, data and sum.
-fn frame_of(alloc: Global, content: &[u8]) -> Result<Vec<u8>, NoMemory>
-    ensures text { IfOk result (λ frame. frame.items ≡ frame_text content.now) }
-    ensures chunk { IfOk result (λ _. IsChunk (frame_text content.now) content.now) }
+/// The sum of bytes, which may be known.
+fn sum_of(known: Option<u32>, bytes: &[u8]) -> u32
+    requires { IfSome known (λ sum. sum ≡ crc bytes.now) }
+    ensures { result ≡ crc bytes.now }
 {
-    let (mut frame, place) = unsummed_frame(alloc, content)?;
-    let sum = crc_of(&frame.as_slice()[place..]);
-    put_u32(&mut frame, sum)?;
-    Ok(frame)
+    match known {
+        Some(sum) => sum,
+        None => crc_of(bytes),
+    }
 }
 
-/// The same where the sum is known.
-fn summed_frame(alloc: Global, content: &[u8], sum: u32) -> Result<Vec<u8>, NoMemory>
-    requires { sum ≡ crc (xor ∷ content.now) }
-    ensures text { IfOk result (λ frame. frame.items ≡ frame_text content.now) }
-    ensures chunk { IfOk result (λ _. IsChunk (frame_text content.now) content.now) }
+/// Puts a chunk, whose sum may be known, behind others. Where memory is wanting, a part of it may be put.
+fn put_parts(out: &mut Vec<u8>, content: &[u8], sum: Option<u32>) -> Result<(), NoMemory>
+    requires { IfSome sum (λ sum. sum ≡ crc (xor ∷ content.now)) }
+    ensures text { OnOk result (out.new.items ≡ out.old.items ++ frame_text content.now) }
+    ensures chunk { OnOk result (IsChunk (frame_text content.now) content.now) }
+    ensures front { take (length out.old.items) out.new.items ≡ out.old.items }
 {
-    let (mut frame, _) = unsummed_frame(alloc, content)?;
-    put_u32(&mut frame, sum)?;
-    Ok(frame)
+    let place = put_data(out, content)?;
+    let sum = sum_of(sum, &out.as_slice()[place..]);
+    put_u32(out, sum)
+}
+
+/// Puts a chunk, whose sum may be known, behind others, or nothing.
+fn put_chunk(out: &mut Vec<u8>, content: &[u8], sum: Option<u32>) -> Result<(), NoMemory>
+    requires { IfSome sum (λ sum. sum ≡ crc (xor ∷ content.now)) }
+    ensures text { OnOk result (out.new.items ≡ out.old.items ++ frame_text content.now) }
+    ensures chunk { OnOk result (IsChunk (frame_text content.now) content.now) }
+    ensures err { OnErr result (out.new.items ≡ out.old.items) }
+{
+    let filled = out.len();
+    match put_parts(out, content, sum) {
+        Ok(()) => Ok(()),
+        Err(cause) => {
+            out.truncate(filled);
+            Err(cause)
+        }
+    }
 }
 
 impl SegmentWriter {
@@ -101,7 +119,14 @@ impl SegmentWriter {
     pub fn new(alloc: Global) -> Result<SegmentWriter, NoMemory>
         ensures { IfOk result (λ writer. writer ≡ header) }
     {
-        let mut bytes = Vec::new(alloc);
+        SegmentWriter::with_room(alloc, 0)
+    }
+
+    /// A segment without chunks, with room for so many bytes, as far as a segment may have them.
+    pub fn with_room(alloc: Global, room: usize) -> Result<SegmentWriter, NoMemory>
+        ensures { IfOk result (λ writer. writer ≡ header) }
+    {
+        let mut bytes = Vec::with_capacity(alloc, room.min(GREATEST))?;
         put_u32(&mut bytes, MAGIC)?;
         put_bytes(&mut bytes, &[VERSION, 0, 0, 0])?;
         Ok(SegmentWriter { bytes })
@@ -123,8 +148,7 @@ impl SegmentWriter {
         if !fits(filled, bytes) {
             return Err(SegmentRefusal::Full);
         }
-        let frame = frame_of(*self.bytes.allocator(), bytes)?;
-        self.bytes.extend_from_slice(frame.as_slice())?;
+        put_chunk(&mut self.bytes, bytes, None)?;
         Ok(filled as u64)
     }
 
@@ -145,8 +169,7 @@ impl SegmentWriter {
         if !fits(filled, bytes) {
             return Err(SegmentRefusal::Full);
         }
-        let frame = summed_frame(*self.bytes.allocator(), bytes, sum)?;
-        self.bytes.extend_from_slice(frame.as_slice())?;
+        put_chunk(&mut self.bytes, bytes, Some(sum))?;
         Ok(filled as u64)
     }
 

@@ -45,6 +45,28 @@ impl<'a> LentSeries<'a> {
         }
     }
 
+    /// A series without labels and chunks in the memory of these lists, as room for others.
+    pub fn in_lists(labels: Vec<LentLabel<'a>>, chunks: Vec<ChunkPlace>) -> Self
+        ensures { result ≡ record { labels = []; chunks = [] } }
+    {
+        let (mut labels, mut chunks) = (labels, chunks);
+        labels.clear();
+        chunks.clear();
+        LentSeries {
+            labels,
+            chunks: ChunkList::from_vec(chunks),
+        }
+    }
+
+    /// The labels, and where the chunks stand. Room for others can be made of both lists again.
+    pub fn into_lists(self) -> (Vec<LentLabel<'a>>, Vec<ChunkPlace>)
+        ensures labels { map as_label result.0.items ≡ self.entry.labels }
+        ensures lawful { IsLabelSet self.entry.labels }
+        ensures chunks { result.1.items ≡ self.entry.chunks }
+    {
+        (self.labels, self.chunks.into_vec())
+    }
+
     /// The labels in ascending order of their names.
     pub fn labels(&self) -> &[LentLabel<'a>]
         ensures value { map as_label result.now ≡ self.now.labels }
