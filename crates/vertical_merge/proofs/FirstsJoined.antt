@@ -1,5 +1,5 @@
 -- The first samples of two lists one after another are those of their first samples.
-use Rattle.std.proofs.Common.{◌≡◌, ℕ, zero, suc, ◌+◌, Bool, true, false, cond, List, [], ◌∷◌, ◌++◌, take, drop, get_or, refl, sym, ap, ◌∙◌, subst, arith}
+use Rattle.std.proofs.Common.{◌≡◌, ℕ, zero, suc, ◌+◌, Bool, true, false, cond, List, [], ◌∷◌, ◌++◌, length, take, drop, get_or, refl, sym, ap, ◌∙◌, subst, arith}
 use Rattle.std.specs.Prelude.{Some, None}
 use Rattle.std.specs.Cmp.{IsEquivalence}
 use Rattle.std.specs.Option.{option_or}
@@ -7,13 +7,14 @@ use Rattle.std.specs.List.{dedup, dedup_from, find}
 use Rattle.std.specs.List.Sorted.{IsStrictlySortedBy, IsSorted}
 use Rattle.std.proofs.lemmas.Cmp.{eq_by_cmp_equiv}
 use Rattle.std.proofs.lemmas.List.{take-append-drop}
+use Rattle.std.proofs.lemmas.List.Concat.{flat_map-append}
 use Rattle.std.proofs.lemmas.List.Folds.{find-append}
 use Rattle.std.proofs.lemmas.List.Kept.{IsStrictlySortedBy-dedup}
 use Rattle.label_sets.specs.declared.sample.Sample.{Sample}
 use Rattle.list_core.specs.Ordered.{placed, in_order}
 use Rattle.list_core.proofs.Bools.{by_bool}
 use Rattle.list_core.proofs.StableSorts.{Rises, Rises-in_order}
-use Rattle.vertical_merge.specs.Joined.{compare_times, has_lesser_time, has_same_time, first_samples}
+use Rattle.vertical_merge.specs.Joined.{compare_times, has_lesser_time, has_same_time, all_of, first_samples}
 use Rattle.vertical_merge.proofs.Orders.{times_ranked}
 use Rattle.vertical_merge.proofs.TimesMerged.{times_total, IsBefore, Climbs, climbs, before_too, other_time, same_time}
 
@@ -142,3 +143,18 @@ parts_joined made front back lent samples xs ys place is_front is_back first sec
     is ∙ ap (λ zs. first_samples (front ++ zs)) (same ∙ second ∙ ap first_samples is_back)
     ∙ ap (λ zs. first_samples (zs ++ first_samples (drop place samples))) (first ∙ ap first_samples is_front)
     ∙ joined_firsts (take place samples) (drop place samples) ∙ ap first_samples (take-append-drop place samples)
+
+-- the same of parts
+pub halves_joined : (made front lent first second : List Sample) (parts before behind : List (List Sample)) (place : ℕ) → before ≡ take place parts → behind ≡ drop place parts
+    → first ≡ first_samples (all_of before) → second ≡ first_samples (all_of behind) → front ≡ first → lent ≡ second → made ≡ first_samples (front ++ lent) → made ≡ first_samples (all_of parts)
+halves_joined made front lent first second parts before behind place is_before is_behind is_first is_second same_front same_lent is =
+    is ∙ ap (λ zs. first_samples (zs ++ lent)) (same_front ∙ is_first ∙ ap (λ (ps : List (List Sample)). first_samples (all_of ps)) is_before)
+    ∙ ap (λ zs. first_samples (first_samples (all_of (take place parts)) ++ zs)) (same_lent ∙ is_second ∙ ap (λ (ps : List (List Sample)). first_samples (all_of ps)) is_behind)
+    ∙ joined_firsts (all_of (take place parts)) (all_of (drop place parts))
+    ∙ ap first_samples (sym (flat_map-append (λ (p : List Sample). p) (take place parts) (drop place parts)) ∙ ap (λ (ps : List (List Sample)). all_of ps) (take-append-drop place parts))
+
+-- no part has no first sample
+pub none_first : (made : List Sample) (parts : List (List Sample)) → length parts ≡ 0 → made ≡ [] → made ≡ first_samples (all_of parts)
+unfolding first_samples in_order
+none_first made [] e is = is
+none_first made (p ∷ ps) e is = absurd (omega arith)

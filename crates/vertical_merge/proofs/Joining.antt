@@ -16,7 +16,8 @@ use Rattle.label_sets.specs.Labels.{compare_sets}
 use Rattle.label_sets.specs.Triples.{Triple, triples_of, triples_under}
 use Rattle.list_core.proofs.Bools.{by_bool, Less-from_is_lt}
 use Rattle.list_core.proofs.StableSorts.{NoneLess, Rises}
-use Rattle.vertical_merge.specs.Joined.{has_lesser_labels, has_same_labels, joined, joined_to}
+use Rattle.vertical_merge.specs.declared.parts.Parts.{Parts}
+use Rattle.vertical_merge.specs.Joined.{has_lesser_labels, has_same_labels, joined, joined_to, all_of, series_of}
 use Rattle.vertical_merge.proofs.Concats.{IsBelow}
 use Rattle.vertical_merge.proofs.Orders.{same_set, is_equal, sets_total, labels_ranked}
 
@@ -167,33 +168,49 @@ joined_to-last [] last next = refl
 joined_to-last (one ∷ []) last next = refl
 joined_to-last (one ∷ other ∷ rest) last next = ap (λ (l : List Series). one ∷ l) (joined_to-last (other ∷ rest) last next)
 
-none_of : (series : List Series) → length series ≡ 0 → series ≡ []
-none_of [] e = refl
-none_of (s ∷ ss) e = absurd (omega arith)
+no_parts : (series : List Parts) → length series ≡ 0 → series ≡ []
+no_parts [] e = refl
+no_parts (s ∷ ss) e = absurd (omega arith)
 
 -- a series after no other
-pub join_alone : (old rest made : List Series) (next : Series) → length old ≡ 0 → length rest ≡ 0 → made ≡ rest ++ next ∷ [] → made ≡ joined_to old next
+pub join_alone : (old rest made : List Parts) (part : Parts) (next : Series) → length old ≡ 0 → length rest ≡ 0 → series_of part ≡ next → made ≡ rest ++ part ∷ []
+    → map series_of made ≡ joined_to (map series_of old) next
 unfolding joined_to
-join_alone old rest made next old_none rest_none is = is ∙ ap (λ (l : List Series). l ++ next ∷ []) (none_of rest rest_none)
-    ∙ sym (ap (λ (l : List Series). joined_to l next) (none_of old old_none))
+join_alone old rest made part next old_none rest_none same is =
+    ap (map series_of) (is ∙ ap (λ (l : List Parts). l ++ part ∷ []) (no_parts rest rest_none)) ∙ ap (λ (s : Series). s ∷ []) same
+    ∙ sym (ap (λ (l : List Parts). joined_to (map series_of l) next) (no_parts old old_none))
 
 -- a series after one with the same labels
-pub join_same : (old rest made : List Series) (last next both : Series) → old ≡ rest ++ last ∷ [] → has_same_labels last next ≡ true
+same_joined : (old rest made : List Series) (last next both : Series) → old ≡ rest ++ last ∷ [] → has_same_labels last next ≡ true
     → both ≡ record { labels = last.labels; samples = last.samples ++ next.samples } → made ≡ rest ++ both ∷ [] → made ≡ joined_to old next
 unfolding joined
-join_same old rest made last next both split same is_both is =
+same_joined old rest made last next both split same is_both is =
     is ∙ ap (λ (b : Series). rest ++ b ∷ []) is_both
     ∙ sym (ap (λ (l : List Series). joined_to l next) split ∙ joined_to-last rest last next
     ∙ ap (λ b. rest ++ cond b (record { labels = last.labels; samples = last.samples ++ next.samples } ∷ []) (last ∷ next ∷ [])) same)
 
 -- a series after one with other labels
-pub join_apart : (old rest one made : List Series) (last next : Series) → old ≡ rest ++ last ∷ [] → has_same_labels last next ≡ false
+apart_joined : (old rest one made : List Series) (last next : Series) → old ≡ rest ++ last ∷ [] → has_same_labels last next ≡ false
     → one ≡ rest ++ last ∷ [] → made ≡ one ++ next ∷ [] → made ≡ joined_to old next
 unfolding joined
-join_apart old rest one made last next split same is_one is =
+apart_joined old rest one made last next split same is_one is =
     is ∙ ap (λ (l : List Series). l ++ next ∷ []) is_one ∙ append_assoc rest (last ∷ []) (next ∷ [])
     ∙ sym (ap (λ (l : List Series). joined_to l next) split ∙ joined_to-last rest last next
     ∙ ap (λ b. rest ++ cond b (record { labels = last.labels; samples = last.samples ++ next.samples } ∷ []) (last ∷ next ∷ [])) same)
+
+pub join_same : (old rest made : List Parts) (last both : Parts) (next : Series) → old ≡ rest ++ last ∷ [] → has_same_labels (series_of last) next ≡ true
+    → series_of both ≡ record { labels = last.labels; samples = all_of last.parts.items ++ next.samples } → made ≡ rest ++ both ∷ []
+    → map series_of made ≡ joined_to (map series_of old) next
+join_same old rest made last both next split same is_both is =
+    same_joined (map series_of old) (map series_of rest) (map series_of made) (series_of last) next (series_of both)
+    (ap (map series_of) split ∙ map-append series_of rest (last ∷ [])) same is_both (ap (map series_of) is ∙ map-append series_of rest (both ∷ []))
+
+pub join_apart : (old rest one made : List Parts) (last part : Parts) (next : Series) → old ≡ rest ++ last ∷ [] → has_same_labels (series_of last) next ≡ false
+    → one ≡ rest ++ last ∷ [] → series_of part ≡ next → made ≡ one ++ part ∷ [] → map series_of made ≡ joined_to (map series_of old) next
+join_apart old rest one made last part next split same is_one is_next is =
+    apart_joined (map series_of old) (map series_of rest) (map series_of one) (map series_of made) (series_of last) next
+    (ap (map series_of) split ∙ map-append series_of rest (last ∷ [])) same (ap (map series_of) is_one ∙ map-append series_of rest (last ∷ []))
+    (ap (map series_of) is ∙ map-append series_of one (part ∷ []) ∙ ap (λ (s : Series). map series_of one ++ s ∷ []) is_next)
 
 -- the samples with those of one more series
 pub triples-push : (old new : List Series) (was : List Triple) (s : Series) → triples_of old ≡ was → new ≡ old ++ s ∷ []

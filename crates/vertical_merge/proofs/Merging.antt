@@ -17,7 +17,8 @@ use Rattle.label_sets.specs.Triples.{Triple, triples_of, triples_under, first_of
 use Rattle.list_core.proofs.Bools.{by_bool}
 use Rattle.list_core.proofs.StableSorts.{NoneLess, Rises, Rises-from_sorted, Rises-in_order, filter-in_order, same_in_order}
 use Rattle.list_core.proofs.Lists.{filter_hit, filter_miss}
-use Rattle.vertical_merge.specs.Joined.{has_lesser_labels, joined_to, has_lesser_time, has_same_time, first_samples}
+use Rattle.vertical_merge.specs.declared.parts.Parts.{Parts}
+use Rattle.vertical_merge.specs.Joined.{has_lesser_labels, joined_to, has_lesser_time, has_same_time, all_of, series_of, first_samples}
 use Rattle.vertical_merge.specs.Merged.{AreFirst, IsMerge}
 use Rattle.vertical_merge.proofs.Laws.{are_first}
 use Rattle.vertical_merge.proofs.Concats.{IsBelow, IsApart, NoneSame, in_order-append, in_order-map, dedup-append, dedup-map}
@@ -217,10 +218,10 @@ all_inhabited [] all = tt
 all_inhabited (s ∷ ss) all = (all.0, all_inhabited ss all.1)
 
 -- the whole merge
-pub merged : (made added sorted united : List Series) → IsSortedBy has_lesser_labels sorted → IsStableBy has_lesser_labels added sorted
+whole : (made added sorted united : List Series) → IsSortedBy has_lesser_labels sorted → IsStableBy has_lesser_labels added sorted
     → All (λ (s : Series). s.samples ≢ []) sorted → united ≡ fold joined_to [] sorted → made ≡ map firsts united → IsMerge (triples_of added) made
 unfolding triples_of IsStrictlySortedBy
-merged made added sorted united up stable all is_united is_made =
+whole made added sorted united up stable all is_united is_made =
     let rises : Rises has_lesser_labels sorted = Rises-from_sorted has_lesser_labels labels_ranked sorted up in
     let ascend : LabelsAscend (fold joined_to [] sorted) = ascend-fold [] sorted tt tt rises in
     let is : made ≡ map firsts (fold joined_to [] sorted) = is_made ∙ ap (map firsts) is_united in
@@ -233,3 +234,16 @@ merged made added sorted united up stable all is_united is_made =
           (sym (sym (first-ascending (fold joined_to [] sorted) ascend) ∙ ap first_of (triples-fold [] sorted) ∙ first-sorted added sorted stable))
           (are_first (triples_of added));
     })
+
+-- the same of series in parts
+abbrev pub firsts_of : Parts → Series
+firsts_of one = record { labels = one.labels; samples = first_samples (all_of one.parts.items) }
+
+firsts-of_parts : (parts : List Parts) → map firsts_of parts ≡ map firsts (map series_of parts)
+firsts-of_parts [] = refl
+firsts-of_parts (p ∷ ps) = ap (λ (l : List Series). firsts_of p ∷ l) (firsts-of_parts ps)
+
+pub merged : (made added sorted : List Series) (parts : List Parts) → IsSortedBy has_lesser_labels sorted → IsStableBy has_lesser_labels added sorted
+    → All (λ (s : Series). s.samples ≢ []) sorted → map series_of parts ≡ fold joined_to [] sorted → made ≡ map firsts_of parts → IsMerge (triples_of added) made
+merged made added sorted parts up stable all is_united is_made =
+    whole made added sorted (map series_of parts) up stable all is_united (is_made ∙ firsts-of_parts parts)

@@ -287,6 +287,20 @@ merged_behind made kept tail lent samples others count up is_kept is_tail same l
     ∙ sym (front_stays (take count samples) (drop count samples) others (subst Climbs (sym parts) (climbs samples up)) before)
     ∙ ap (λ zs. first_samples (zs ++ others)) parts
 
+pub merged_from : (made kept none before tail again lent samples others : List Sample) (count : ℕ) → IsStrictlySortedBy compare_times samples → kept ≡ none ++ before → none ≡ []
+    → before ≡ take count again → tail ≡ drop count again → again ≡ samples → lent ≡ samples → All (λ one. All (λ other. has_lesser_time one other ≡ true) others) (take count lent)
+    → made ≡ kept ++ first_samples (tail ++ others) → made ≡ first_samples (samples ++ others)
+merged_from made kept none before tail again lent samples others count up is_kept is_none is_before is_tail same_again same lent_before is =
+    merged_behind made kept tail lent samples others count up (is_kept ∙ ap (λ zs. zs ++ before) is_none ∙ is_before ∙ ap (take count) same_again)
+    (is_tail ∙ ap (drop count) same_again) same lent_before is
+
+-- others behind all samples
+pub all_behind : (made lent samples others : List Sample) (count : ℕ) → IsStrictlySortedBy compare_times samples → IsStrictlySortedBy compare_times others → length samples ≤ count
+    → lent ≡ samples → All (λ one. All (λ other. has_lesser_time one other ≡ true) others) (take count lent) → made ≡ samples ++ others → made ≡ first_samples (samples ++ others)
+all_behind made lent samples others count up rise whole same lent_before is =
+    merged_behind made samples [] lent samples others count up (sym (take_all count samples whole)) (sym (drop_all count samples whole)) same lent_before
+    (is ∙ ap (λ zs. samples ++ zs) (sym (itself others (climbs others rise))))
+
 -- ---- where times fall nowhere
 
 all_rise : (xs : List Sample) → ((k : ℕ) (d : Sample) → k + 1 < length xs → has_lesser_time (get_or xs k d) (get_or xs (k + 1) d) ≡ true) → IsStrictlySortedBy compare_times xs

@@ -4,6 +4,7 @@
 
 mod compacted;
 mod merger;
+mod parts;
 mod plan_laws;
 mod sample_merge;
 

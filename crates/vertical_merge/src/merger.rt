@@ -2,9 +2,10 @@ ghost use Rattle.std.specs.Prelude.{◌≡◌, ◌≢◌, [], ◌++◌, ◌∷�
 ghost use Rattle.std.specs.List.Sorted.{IsSortedBy, IsStableBy};
 ghost use Rattle.label_sets.specs.Triples.{Triple, triples_of, triples_under};
 ghost use Rattle.vertical_merge.specs.Merged.{IsMerge, IsDeduplication, PatternsAgree};
-ghost use Rattle.vertical_merge.specs.Joined.{has_lesser_labels, joined_to, first_samples};
+ghost use Rattle.vertical_merge.specs.Joined.{has_lesser_labels, joined_to, all_of, series_of, first_samples};
 
-use crate::sample_merge::first_samples;
+use crate::parts::Parts;
+use crate::sample_merge::first_of_parts;
 use label_sets::{LabelSet, SampleList, Series, SeriesList};
 use list_core::{NoMemory, TryCopy};
 use std::alloc::Global;
@@ -99,7 +100,8 @@ fn merge(added: Vec<Series>) -> Result<SeriesList, NoMemory>
 {
     let mut series = added;
     sort_by_labels(&mut series)?;
-    first_of_each(join_equal(series)?)
+    let joined = join_equal(series)?;
+    first_of_each(joined)
 }
 
 /// Puts series in the order of their labels. Those with equal labels keep their order.
@@ -114,8 +116,8 @@ fn sort_by_labels(series: &mut Vec<Series>) -> Result<(), NoMemory>
 }
 
 /// Joins neighbours under equal labels.
-fn join_equal(series: Vec<Series>) -> Result<Vec<Series>, NoMemory>
-    ensures { IfOk result (λ made. made.items ≡ fold joined_to [] series.items) }
+fn join_equal(series: Vec<Series>) -> Result<Vec<Parts>, NoMemory>
+    ensures { IfOk result (λ made. map series_of made.items ≡ fold joined_to [] series.items) }
 {
     let mut made = Vec::new(*series.allocator());
     for next in series {
@@ -125,46 +127,58 @@ fn join_equal(series: Vec<Series>) -> Result<Vec<Series>, NoMemory>
 }
 
 /// Adds a series after the others: to the last one where that has the same labels.
-fn join(made: &mut Vec<Series>, next: Series) -> Result<(), NoMemory>
-    ensures { OnOk result (made.new.items ≡ joined_to made.old.items next) }
+fn join(made: &mut Vec<Parts>, next: Series) -> Result<(), NoMemory>
+    ensures { OnOk result
+        (map series_of made.new.items ≡ joined_to (map series_of made.old.items) next) }
 {
+    let alloc = *made.allocator();
     let Some(last) = made.pop() else {
-        made.push(next)?;
+        made.push(alone(alloc, next)?)?;
         return Ok(());
     };
     if last.labels == next.labels {
-        made.push(with_samples(last, next.samples)?)?;
+        made.push(with_part(last, next.samples)?)?;
     } else {
         made.push(last)?;
-        made.push(next)?;
+        made.push(alone(alloc, next)?)?;
     }
     Ok(())
 }
 
-fn with_samples(series: Series, more: SampleList) -> Result<Series, NoMemory>
-    ensures { IfOk result (λ made. made
-        ≡ record { labels = series.labels; samples = series.samples ++ more }) }
+/// A series of one part.
+fn alone(alloc: Global, series: Series) -> Result<Parts, NoMemory>
+    ensures { IfOk result (λ made. series_of made ≡ series) }
 {
     let Series { labels, samples } = series;
-    let mut samples = samples.into_vec();
-    samples.extend_from_slice(more.members())?;
-    Ok(Series {
-        labels,
-        samples: SampleList::from_vec(samples),
-    })
+    let mut parts = Vec::new(alloc);
+    parts.push(samples)?;
+    Ok(Parts { labels, parts })
+}
+
+/// The series with one more part.
+fn with_part(series: Parts, more: SampleList) -> Result<Parts, NoMemory>
+    ensures { IfOk result (λ made. series_of made
+        ≡ record { labels = series.labels; samples = all_of series.parts.items ++ more }) }
+{
+    let Parts { labels, parts } = series;
+    let mut parts = parts;
+    parts.push(more)?;
+    Ok(Parts { labels, parts })
 }
 
 /// The series with the first pattern at each time.
-fn first_of_each(series: Vec<Series>) -> Result<SeriesList, NoMemory>
-    ensures { IfOk result (λ made. made
-        ≡ map (λ s. record { labels = s.labels; samples = first_samples s.samples }) series.items) }
+fn first_of_each(series: Vec<Parts>) -> Result<SeriesList, NoMemory>
+    ensures { IfOk result (λ made. made ≡ map (λ s. record {
+      labels = s.labels;
+      samples = first_samples (all_of s.parts.items);
+    }) series.items) }
 {
     let mut made = SeriesList::new(*series.allocator());
     for one in series {
-        let Series { labels, samples } = one;
+        let Parts { labels, parts } = one;
         made.push(Series {
             labels,
-            samples: first_samples(samples)?,
+            samples: first_of_parts(parts)?,
         })?;
     }
     Ok(made)

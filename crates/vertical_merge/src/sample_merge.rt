@@ -2,14 +2,42 @@
 ghost use Rattle.std.specs.Prelude.{◌≡◌, ◌+◌, ◌<◌, ◌≤◌, ◌++◌, ℕ, length, take, slice_index_or, true, All, IfOk, MatchOption};
 ghost use Rattle.std.specs.List.Sorted.{IsStrictlySortedBy};
 ghost use Rattle.label_sets.specs.declared.sample.Sample.{Sample};
-ghost use Rattle.vertical_merge.specs.Joined.{compare_times, has_lesser_time, first_samples};
+ghost use Rattle.vertical_merge.specs.Joined.{compare_times, has_lesser_time, all_of, first_samples};
 
 use label_sets::{Sample, SampleList};
 use list_core::NoMemory;
 use std::alloc::Global;
 
+/// The samples of all parts in the order of their times, of those at one time the first. The parts are merged two by two.
+pub(crate) fn first_of_parts(parts: Vec<SampleList>) -> Result<SampleList, NoMemory>
+    ensures { IfOk result (λ made. made ≡ first_samples (all_of parts.items)) }
+{
+    let mut front = parts;
+    let middle = front.len() / 2;
+    if middle == 0 {
+        return first_of_last(front);
+    }
+    let back = front.split_off(middle)?;
+    let first = first_of_parts(front)?;
+    let second = first_of_parts(back)?;
+    let made = merge(first.into_vec(), second.members())?;
+    Ok(SampleList::from_vec(made))
+}
+
+/// The same of one part, or of none.
+fn first_of_last(parts: Vec<SampleList>) -> Result<SampleList, NoMemory>
+    requires { length parts.items ≤ 1 }
+    ensures { IfOk result (λ made. made ≡ first_samples (all_of parts.items)) }
+{
+    let mut parts = parts;
+    match parts.pop() {
+        Some(part) => first_samples(part),
+        None => Ok(SampleList::new(*parts.allocator())),
+    }
+}
+
 /// The samples in the order of their times, of those at one time the first.
-pub(crate) fn first_samples(samples: SampleList) -> Result<SampleList, NoMemory>
+fn first_samples(samples: SampleList) -> Result<SampleList, NoMemory>
     ensures { IfOk result (λ made. made ≡ first_samples samples) }
 {
     let samples = samples.into_vec();
@@ -35,17 +63,30 @@ fn merged(alloc: Global, samples: &[Sample]) -> Result<Vec<Sample>, NoMemory>
 
 /// Samples at ascending times and others, in the order of their times. At a time of both the first sample stays.
 ///
-/// What lies before all others stays where it is.
+/// Where the others lie behind all samples, these stay where they are.
 fn merge(samples: Vec<Sample>, others: &[Sample]) -> Result<Vec<Sample>, NoMemory>
     requires ascend { IsStrictlySortedBy compare_times samples.items }
     requires others { IsStrictlySortedBy compare_times others.now }
     ensures { IfOk result (λ made. made.items ≡ first_samples (samples.items ++ others.now)) }
 {
     let start = start_of(samples.as_slice(), others);
+    if start == samples.len() {
+        return appended(samples, others);
+    }
+    let (before, tail) = samples.as_slice().split_at(start);
+    let mut made = Vec::with_capacity(*samples.allocator(), samples.len() + others.len())?;
+    made.extend_from_slice(before)?;
+    with_merged(made, tail, others)
+}
+
+/// Samples with others behind them, in no more memory than these take.
+fn appended(samples: Vec<Sample>, others: &[Sample]) -> Result<Vec<Sample>, NoMemory>
+    ensures { IfOk result (λ made. made.items ≡ samples.items ++ others.now) }
+{
     let mut made = samples;
-    let tail = made.split_off(start)?;
-    made.reserve(tail.len() + others.len())?;
-    with_merged(made, tail.as_slice(), others)
+    made.reserve_exact(others.len())?;
+    made.extend_from_slice(others)?;
+    Ok(made)
 }
 
 /// How many of the samples are before all others.
