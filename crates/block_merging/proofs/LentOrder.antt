@@ -1,8 +1,10 @@
 -- Labels that an index lends: those that are kept, and their order.
-use Rattle.std.proofs.Common.{◌≡◌, ℕ, ◌+◌, ◌<◌, ◌≤◌, Bool, true, false, cond, not, Option, None, Some, List, [], ◌∷◌, ◌++◌, length, map, take, drop, get_or, refl, sym, ap, ◌∙◌, arith, append-nil}
+use Rattle.std.proofs.Common.{◌≡◌, ℕ, ◌+◌, ◌<◌, ◌≤◌, Bool, true, false, cond, not, Option, None, Some, List, [], ◌∷◌, ◌++◌, length, map, take, drop, get_or, refl, sym, ap, subst, ◌∙◌, arith, append-nil}
 use Rattle.std.specs.declared.cmp.Ordering.{Ordering}
 use Rattle.std.specs.declared.cmp.Ordering.TheVariants.{Less, Equal, Greater}
 use Rattle.std.specs.Ordering.{ordering_then, is_eq}
+use Rattle.std.specs.List.{items_where_true}
+use Rattle.std.specs.List.Retain.{ReturnsInTurn, IsFiltered}
 use Rattle.std.proofs.lemmas.Bool.{true≢false}
 use Rattle.std.proofs.lemmas.List.{map-append, take_more, drop_more, drop_all}
 use Rattle.list_core.proofs.Lists.{take_none, drop_none}
@@ -41,15 +43,26 @@ pub label_left_out : (labels : List Label) (kept now : List LentLabel) (k : ℕ)
 label_left_out labels kept now k label d lent external replicas lt at was same one still =
     part_more labels kept now [] k label d external replicas lt at was (ap (λ (l : Label). reduced_of (l ∷ []) external replicas) (sym same) ∙ one) (still ∙ sym (append-nil kept))
 
-pub none_kept : (labels kept : List LentLabel) (external : List Label) (replicas : List (List ℕ)) → kept ≡ [] → map as_label kept ≡ reduced_of (map as_label (take 0 labels)) external replicas
-none_kept labels kept external replicas none = ap (map as_label) none ∙ sym (ap (λ (l : List LentLabel). reduced_of (map as_label l) external replicas) (take_none labels) ∙ reduced-nil external replicas)
+-- lent labels of which a closure keeps those that the reduction keeps
+module _ {F : Type 0} (R : F → LentLabel → Bool → F → Type 0) (f : F) (external : List Label) (replicas : List (List ℕ)) (told : (label : LentLabel) (b : Bool) (f' : F) → R f label b f' → (reduced_of (as_label label ∷ []) external replicas ≡ cond b (as_label label ∷ []) []) × (f' ≡ f)) where
+  first_kept : (label : LentLabel) (labels kept : List LentLabel) (b : Bool) → reduced_of (as_label label ∷ []) external replicas ≡ cond b (as_label label ∷ []) [] → map as_label kept ≡ reduced_of (map as_label labels) external replicas
+      → map as_label (cond b (label ∷ kept) kept) ≡ reduced_of (as_label label ∷ map as_label labels) external replicas
+  first_kept label labels kept true one behind = ap (λ (l : List Label). as_label label ∷ l) behind ∙ sym (reduced-append (as_label label ∷ []) (map as_label labels) external replicas ∙ ap (λ (l : List Label). l ++ reduced_of (map as_label labels) external replicas) one)
+  first_kept label labels kept false one behind = behind ∙ sym (reduced-append (as_label label ∷ []) (map as_label labels) external replicas ∙ ap (λ (l : List Label). l ++ reduced_of (map as_label labels) external replicas) one)
 
-pub kept_more : (labels kept now part : List LentLabel) (k : ℕ) (label d : LentLabel) (external : List Label) (replicas : List (List ℕ)) → k < length labels → label ≡ get_or labels k d → map as_label kept ≡ reduced_of (map as_label (take k labels)) external replicas
-    → reduced_of (as_label label ∷ []) external replicas ≡ map as_label part → now ≡ kept ++ part → map as_label now ≡ reduced_of (map as_label (take (k + 1) labels)) external replicas
-kept_more labels kept now part k label d external replicas lt at was one added =
-    ap (map as_label) added ∙ map-append as_label kept part ∙ ap (λ (l : List Label). l ++ map as_label part) was ∙ ap (λ (l : List Label). reduced_of (map as_label (take k labels)) external replicas ++ l) (sym one)
-    ∙ sym (ap (λ (l : List LentLabel). reduced_of (map as_label l) external replicas) (take_more labels k d lt ∙ ap (λ (x : LentLabel). take k labels ++ x ∷ []) (sym at))
-    ∙ ap (λ (l : List Label). reduced_of l external replicas) (map-append as_label (take k labels) (label ∷ [])) ∙ reduced-append (map as_label (take k labels)) (as_label label ∷ []) external replicas)
+  kept_in_turn : (bs : List Bool) (labels : List LentLabel) (g last : F) → g ≡ f → length bs ≡ length labels → ReturnsInTurn R g bs labels last → map as_label (items_where_true bs labels) ≡ reduced_of (map as_label labels) external replicas
+  kept_in_turn [] [] g last same many turn = sym (reduced-nil external replicas)
+  kept_in_turn [] (label ∷ labels) g last same many turn = absurd (omega arith)
+  kept_in_turn (b ∷ bs) [] g last same many turn = absurd (omega arith)
+  kept_in_turn (true ∷ bs) (label ∷ labels) g last same many turn =
+      let one = told label true turn.0 (subst (λ (h : F). R h label true turn.0) same turn.1) in
+      first_kept label labels (items_where_true bs labels) true one.0 (kept_in_turn bs labels turn.0 last one.1 (omega arith) turn.2)
+  kept_in_turn (false ∷ bs) (label ∷ labels) g last same many turn =
+      let one = told label false turn.0 (subst (λ (h : F). R h label false turn.0) same turn.1) in
+      first_kept label labels (items_where_true bs labels) false one.0 (kept_in_turn bs labels turn.0 last one.1 (omega arith) turn.2)
+
+  pub retained : (labels kept : List LentLabel) → IsFiltered R f labels kept → map as_label kept ≡ reduced_of (map as_label labels) external replicas
+  retained labels kept h = ap (map as_label) h.4 ∙ kept_in_turn h.0 labels f h.1 refl h.2 h.3
 
 -- ---- their order
 

@@ -17,6 +17,7 @@ pub mod StoredInputs
 pub mod StandingData
 pub mod UnderNumbers
 pub mod LentOrder
+pub mod Rooms
 pub mod QueueSteps
 pub mod AllQueues
 pub mod OneMerged

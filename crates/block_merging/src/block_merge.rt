@@ -1,5 +1,5 @@
 //! The merge of blocks.
-ghost use Rattle.std.specs.Prelude.{◌≡◌, ◌⊎◌, ℕ, ◌<◌, ◌^◌, [], map, Err, IfOk, IfErr, OnOk};
+ghost use Rattle.std.specs.Prelude.{◌≡◌, ◌⊎◌, ℕ, ◌<◌, ◌≤◌, ◌^◌, [], map, length, sum_by, Err, IfOk, IfErr, OnOk};
 ghost use Rattle.std.specs.List.{AllByRecursion};
 ghost use Rattle.list_core.proofs.StableSorts.{Rises};
 ghost use Rattle.label_sets.specs.Labels.{IsLabelSet};
@@ -30,6 +30,7 @@ use index_v2::LentLabel;
 use label_sets::{LabelSet, TextList};
 use list_core::{NoMemory, TryCopy};
 use std::alloc::Global;
+use wire_bytes::Blob;
 
 /// Merges blocks into the one of a plan. Of two blocks that have a sample under the same labels at one time the earlier one's
 /// pattern stays. Each chunk of each block is tested before any is merged. Beside the blocks and the merge it holds one series
@@ -59,15 +60,39 @@ pub fn merge_blocks(
         → (result ≡ Err MergeRefusal.TooLarge) ⊎ (result ≡ Err MergeRefusal.NoMemory) }
 {
     let mut queues = all_queues(alloc, &plan.labels, replicas, inputs)?;
-    let writer = merged_writer(alloc, plan, replicas, &mut queues)?;
+    let room = segment_bytes(inputs);
+    let writer = merged_writer(alloc, plan, replicas, room, &mut queues)?;
     finish(writer)
 }
 
-/// A writer that holds the merge of the series that are left.
+/// How many bytes the segments of a block have.
+fn bytes_of(segments: &[Blob]) -> usize
+    ensures { result ≤ sum_by length segments.now }
+{
+    let mut bytes = 0usize;
+    for segment in segments {
+        bytes = bytes.saturating_add(segment.bytes().len());
+    }
+    bytes
+}
+
+/// How many bytes the segments of blocks have together.
+fn segment_bytes(inputs: &[BlockFiles]) -> usize
+    ensures { result ≤ sum_by (λ block. sum_by length block.segments) inputs.now }
+{
+    let mut bytes = 0usize;
+    for block in inputs {
+        bytes = bytes.saturating_add(bytes_of(block.segments.members()));
+    }
+    bytes
+}
+
+/// A writer that holds the merge of the series that are left, whose first segment begins with room for so many bytes.
 fn merged_writer(
     alloc: Global,
     plan: &BlockPlan,
     replicas: &TextList,
+    room: usize,
     queues: &mut Vec<SeriesQueue<'_>>,
 ) -> Result<BlockWriter, NoMemory>
     requires queues { AllByRecursion (IsQueue plan.now.labels replicas.now) queues.old.items }
@@ -78,7 +103,7 @@ fn merged_writer(
     ensures { IfOk result (HasAll (plan_fields plan.now)
         (joined (lefts_in plan.now.labels replicas.now queues.old.items))) }
 {
-    let mut writer = BlockWriter::new(alloc, plan.copy()?);
+    let mut writer = BlockWriter::with_room(alloc, plan.copy()?, room);
     put_groups(alloc, &mut writer, &plan.labels, replicas, queues)?;
     Ok(writer)
 }
@@ -101,11 +126,15 @@ fn put_groups(
     ensures { OnOk result (HasAll writer.old.plan
         (joined (lefts_in external.now replicas.now queues.old.items)) writer.new) }
 {
-    while let Some(labels) = next_group(alloc, external, replicas, queues.as_slice())? {
+    let mut label_room = Vec::new(alloc);
+    let mut chunk_room = Vec::new(alloc);
+    while let Some(labels) = next_group(external, replicas, queues.as_slice(), label_room)? {
         let lent = labels.as_slice();
-        let chunks = take_group(alloc, external, replicas, queues, lent)?;
+        let chunks = take_group(alloc, external, replicas, queues, lent, chunk_room)?;
         let taken = chunks.as_slice();
         put_group(alloc, writer, lent, taken)?;
+        label_room = labels;
+        chunk_room = chunks;
     }
     Ok(())
 }

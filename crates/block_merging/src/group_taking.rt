@@ -50,12 +50,25 @@ fn least_labels<'q, 'a>(
     least
 }
 
-/// A copy of the least labels of the series that are left, if any is. Their texts are still lent.
+/// The labels, in the memory of others.
+fn copied<'a>(
+    labels: &[LentLabel<'a>],
+    room: Vec<LentLabel<'a>>,
+) -> Result<Vec<LentLabel<'a>>, NoMemory>
+    ensures { IfOk result (λ made. made.items ≡ labels.now) }
+{
+    let mut made = room;
+    made.clear();
+    made.extend_from_slice(labels)?;
+    Ok(made)
+}
+
+/// A copy of the least labels of the series that are left, if any is, in the memory of others. Their texts are still lent.
 pub(crate) fn next_group<'a>(
-    alloc: Global,
     external: &LabelSet,
     replicas: &TextList,
     queues: &[SeriesQueue<'a>],
+    room: Vec<LentLabel<'a>>,
 ) -> Result<Option<Vec<LentLabel<'a>>>, NoMemory>
     requires queues { AllByRecursion (IsQueue external.now replicas.now) queues.now }
     requires rise { AllByRecursion (Rises have_lesser_labels)
@@ -64,18 +77,20 @@ pub(crate) fn next_group<'a>(
         (joined (lefts_in external.now replicas.now queues.now))) }
 {
     match least_labels(external, replicas, queues) {
-        Some(labels) => Ok(Some(Vec::from_slice(alloc, labels)?)),
+        Some(labels) => Ok(Some(copied(labels, room)?)),
         None => Ok(None),
     }
 }
 
-/// Takes the series that have these labels from the fronts of all queues, and gives their chunks, one series after another.
+/// Takes the series that have these labels from the fronts of all queues, and gives their chunks, one series after another,
+/// in the memory of others.
 pub(crate) fn take_group<'a>(
     alloc: Global,
     external: &LabelSet,
     replicas: &TextList,
     queues: &mut Vec<SeriesQueue<'a>>,
     labels: &[LentLabel<'_>],
+    room: Vec<InputChunk<'a>>,
 ) -> Result<Vec<InputChunk<'a>>, NoMemory>
     requires { AllByRecursion (IsQueue external.now replicas.now) queues.old.items }
     ensures queues { OnOk result
@@ -84,7 +99,8 @@ pub(crate) fn take_group<'a>(
         (lefts_in external.now replicas.now queues.old.items)
         (lefts_in external.now replicas.now queues.new.items) (map chunk_of chunks.items)) }
 {
-    let mut chunks = Vec::new(alloc);
+    let mut chunks = room;
+    chunks.clear();
     for place in 0..queues.len() {
         let queue = &mut queues[place];
         chunks = take_front(alloc, external, replicas, queue, labels, chunks)?;

@@ -57,23 +57,18 @@ pub(crate) fn reduced_lent<'a>(
     Ok(kept)
 }
 
-/// Lent labels without the names of the external labels and without the replica labels.
+/// Lent labels without the names of the external labels and without the replica labels, in their own memory.
 pub(crate) fn kept_lent<'a>(
-    alloc: Global,
-    labels: &[LentLabel<'a>],
+    labels: Vec<LentLabel<'a>>,
     external: &LabelSet,
     replicas: &TextList,
-) -> Result<Vec<LentLabel<'a>>, NoMemory>
-    ensures { IfOk result (λ kept. map as_label kept.items
-        ≡ reduced_of (map as_label labels.now) external.now replicas.now) }
+) -> Vec<LentLabel<'a>>
+    ensures { map as_label result.items
+        ≡ reduced_of (map as_label labels.entry.items) external.now replicas.now }
 {
-    let mut kept = Vec::with_capacity(alloc, labels.len())?;
-    for label in labels {
-        if is_kept(label, external, replicas) {
-            kept.push(*label)?;
-        }
-    }
-    Ok(kept)
+    let mut kept = labels;
+    kept.retain(|label| is_kept(label, external, replicas));
+    kept
 }
 
 fn compare_one(one: &LentLabel<'_>, other: &LentLabel<'_>) -> Ordering

@@ -69,7 +69,15 @@ fn queue_of<'a>(
     let listed = numbers.members();
     let members = indexed.members();
     let places = ordered_places(alloc, external, replicas, listed, members)?;
-    let (chunks, labels) = next_of(alloc, external, replicas, &reader, places.as_slice(), 0)?;
+    let (chunks, labels) = next_of(
+        external,
+        replicas,
+        &reader,
+        places.as_slice(),
+        0,
+        Vec::new(alloc),
+        Vec::new(alloc),
+    )?;
     Ok(SeriesQueue {
         block,
         reader,

@@ -19,6 +19,7 @@ use index_v2::{IndexReader, LentLabel, LentSeries};
 use label_sets::{LabelSet, TextList};
 use list_core::NoMemory;
 use std::alloc::Global;
+use std::mem::replace;
 
 /// The series of a block in the order of their reduced labels. The next one is read; those that were taken are let go.
 #[derive(Drop)]
@@ -33,42 +34,44 @@ pub(crate) struct SeriesQueue<'a> {
     pub(crate) labels: Vec<LentLabel<'a>>,
 }
 
-/// The series of a number. It was read before, so only memory can be wanting.
+/// The series of a number, in the room of another. It was read before, so only memory can be wanting.
 fn series_at<'a>(
-    alloc: Global,
     reader: &IndexReader<'a>,
     number: u32,
+    room: LentSeries<'a>,
 ) -> Result<LentSeries<'a>, NoMemory>
     ensures { (series : IndexSeries)
         → IsSeriesOf reader.now.bytes reader.now.symbols number series
         → IfOk result (λ read. read ≡ series) }
 {
-    match reader.lent_series(number, LentSeries::new(alloc)) {
+    match reader.lent_series(number, room) {
         Ok(series) => Ok(series),
         Err(_) => Err(NoMemory),
     }
 }
 
-/// Where the chunks of the series behind those that were taken stand, and its reduced labels, if one is left.
+/// Where the chunks of the series behind those that were taken stand, and its reduced labels, if one is left. The memory of both
+/// is that of lists which are no longer needed.
 pub(crate) fn next_of<'a>(
-    alloc: Global,
     external: &LabelSet,
     replicas: &TextList,
     reader: &IndexReader<'a>,
     places: &[SeriesPlace],
     taken: usize,
+    old_chunks: Vec<ChunkPlace>,
+    old_labels: Vec<LentLabel<'a>>,
 ) -> Result<(Vec<ChunkPlace>, Vec<LentLabel<'a>>), NoMemory>
     requires { AllByRecursion (IsRead reader.now) places.now }
     ensures { IfOk result (λ next. IsNext external.now replicas.now places.now taken
         (map as_label next.1.items) next.0.items) }
 {
     if taken >= places.len() {
-        return Ok((Vec::new(alloc), Vec::new(alloc)));
+        return Ok((old_chunks, old_labels));
     }
-    let series = series_at(alloc, reader, places[taken].number)?;
-    let labels = kept_lent(alloc, series.labels(), external, replicas)?;
-    let chunks = Vec::from_slice(alloc, series.chunks())?;
-    Ok((chunks, labels))
+    let room = LentSeries::in_lists(old_labels, old_chunks);
+    let series = series_at(reader, places[taken].number, room)?;
+    let (labels, chunks) = series.into_lists();
+    Ok((chunks, kept_lent(labels, external, replicas)))
 }
 
 /// Lets the next series go, and reads the one behind it.
@@ -83,13 +86,16 @@ fn advance<'a>(
     ensures { OnOk result (HasAdvanced external.now replicas.now queue.old queue.new) }
 {
     queue.taken += 1;
+    let old_chunks = replace(&mut queue.chunks, Vec::new(alloc));
+    let old_labels = replace(&mut queue.labels, Vec::new(alloc));
     let (chunks, labels) = next_of(
-        alloc,
         external,
         replicas,
         &queue.reader,
         queue.places.as_slice(),
         queue.taken,
+        old_chunks,
+        old_labels,
     )?;
     queue.chunks = chunks;
     queue.labels = labels;

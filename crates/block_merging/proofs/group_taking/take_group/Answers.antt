@@ -7,7 +7,7 @@ use Rattle.block_merging.proofs.AllQueues.{taken_begins, taken_on, taken_all}
 use Rattle.block_merging.proofs.group_taking.take_group.Goals as goal
 
 pub loop-place-init : goal.loop-place-init
-loop-place-init c = taken_begins c.args.external.now c.args.replicas.now (map as_label c.args.labels.now) c.args.queues.now.items _ c.requires (ap (map chunk_of) c.new-chunks.ensures.items)
+loop-place-init c = taken_begins c.args.external.now c.args.replicas.now (map as_label c.args.labels.now) c.args.queues.now.items _ c.requires (ap (map chunk_of) c.clear.ensures.items)
 
 pub take_front-requires : goal.take_front-requires
 take_front-requires c =

@@ -12,4 +12,4 @@ pub returns : goal.returns
 returns c =
     next_read c.args.external.now c.args.replicas.now c.args.reader.now c.args.places.now c.args.taken (get_or c.args.places.now c.args.taken c.index-places-taken.result).number c.index-places-taken.result c.index-places-taken.result c.in_ok-series.series _ _ c.requires (omega (arith, c.if-taken-places.false)) c.index-places-taken.is
     (sym (ap (λ (p : SeriesPlace). p.number) c.index-places-taken.is)) c.in_ok-series.ensures
-    (c.in_ok-labels.ensures ∙ ap (λ (l : List Label). reduced_of l c.args.external.now c.args.replicas.now) c.labels.ensures.value) (c.in_ok-chunks.ensures.items ∙ c.chunks.ensures)
+    (c.kept_lent.ensures ∙ ap (λ (l : List Label). reduced_of l c.args.external.now c.args.replicas.now) c.into_lists-labels.ensures.labels) c.into_lists-labels.ensures.chunks
