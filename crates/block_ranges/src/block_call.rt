@@ -134,7 +134,7 @@ fn take_bytes(
             take_run(asked, cache, seq, runs, &bytes)
         }
         Work::Whole => take_whole(asked, seq, bytes.bytes()),
-        Work::Group(chunks) => take_group(asked, seq, chunks, bytes.bytes()),
+        Work::Group(chunks) => take_group(asked, seq, chunks, bytes),
         Work::Single(chunks, reference, _, pending) => {
             take_single(asked, seq, chunks, reference, pending, bytes.bytes())
         }

@@ -22,6 +22,7 @@ use index_parts::ChunkPlace;
 use index_v2::IndexSeries;
 use list_core::NoMemory;
 use std::collections::VecDeque;
+use wire_bytes::Blob;
 use world_core::Op;
 
 /// The chunks of a group that were shown, and what follows them.
@@ -97,18 +98,20 @@ fn go_on_groups(
     }
 }
 
-/// Goes on behind the bytes of a group.
+/// Goes on behind the bytes of a group, which are let go before the samples are put together.
 pub(crate) fn take_group(
     asked: &Asked<'_>,
     seq: u64,
     work: ChunkWork,
-    bytes: &[u8],
+    bytes: Blob,
 ) -> Result<Step, NoMemory>
     ensures { (cache : Cache) → Leads asked.now cache (most * length work.later.items + most)
         (Where (IsGroupWork work)
-        (Leading (with_group asked.now cache work seq bytes.now))) result }
+        (Leading (with_group asked.now cache work seq bytes))) result }
 {
-    match glimpses(asked, &work.places, &work.group, bytes)? {
+    let shown = glimpses(asked, &work.places, &work.group, bytes.bytes())?;
+    drop(bytes);
+    match shown {
         Some(pending) => go_on_chunks(asked, work, pending),
         None => Ok(Step::Done(BlockOutcome::Damaged(seq))),
     }

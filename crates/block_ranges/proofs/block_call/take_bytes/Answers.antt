@@ -19,7 +19,7 @@ returns-in-Whole c =
 
 pub returns-in-Group : goal.returns-in-Group
 returns-in-Group c =
-    takes_as c.args.asked.now (held c.args.cache.now) (held c.args.cache.now) c.args.seq c.bytes-in-Group-2.result.now c.args.bytes c.take_group.result c.args.work (work.Group c.in-Group.chunks) c.in-Group.is c.bytes-in-Group-2.ensures
+    takes_as c.args.asked.now (held c.args.cache.now) (held c.args.cache.now) c.args.seq c.args.bytes c.args.bytes c.take_group.result c.args.work (work.Group c.in-Group.chunks) c.in-Group.is refl
     (c.take_group.ensures (held c.args.cache.now))
 
 pub returns-in-Single : goal.returns-in-Single
