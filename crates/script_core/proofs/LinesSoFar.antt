@@ -27,7 +27,7 @@ unfolding lines_at
 none_read text st is = record { earlier = []; count = refl; read = ap Ok (sym is); stands = λ some. refl }
 
 -- one more line
-lines_at-push : (st after last : State) (number : ℕ) (earlier : List (List ℕ)) (line : List ℕ) → lines_at st number earlier ≡ Ok after → line_at after (number + length earlier) line ≡ Ok last
+pub lines_at-push : (st after last : State) (number : ℕ) (earlier : List (List ℕ)) (line : List ℕ) → lines_at st number earlier ≡ Ok after → line_at after (number + length earlier) line ≡ Ok last
     → lines_at st number (earlier ++ line ∷ []) ≡ Ok last
 unfolding lines_at
 lines_at-push st after last number [] line read one =

@@ -24,6 +24,7 @@ use Rattle.script_core.proofs.AgainLines.{read_whole}
 use Rattle.script_core.proofs.FoundLines.{script_found}
 use Rattle.script_core.proofs.LawfulScripts.{spelled_lawful}
 use Rattle.script_core.proofs.LineLists.{empty_line}
+use Rattle.script_core.proofs.LinesSoFar.{lines_at-push}
 
 newline_is : (byte : ℕ) → is_newline byte ≡ true → byte ≡ 10
 newline_is byte is = grind (arith, nat_tests)
@@ -104,26 +105,33 @@ pub record ReadFront (old now : PartReader) (text left : List ℕ) : Type 0 wher
   pub lines : List (List ℕ)
   pub cut : (more : List ℕ) → lines_of (front ++ more) ≡ lines ++ lines_of more
   pub whole : text ≡ front ++ left
+  pub count : now.lines ≡ old.lines + length lines
+  pub lead : lines_at (state_of old.draft) (old.lines + 1) lines ≡ Ok (state_of now.draft)
   pub reads : Reads old now front
 
 pub no_front : (reader : PartReader) (text : List ℕ) → ReadFront reader reader text text
+unfolding lines_at
 no_front reader text =
-    record { front = []; lines = []; cut = λ more. refl; whole = refl; reads = reads_nothing reader [] refl }
+    record { front = []; lines = []; cut = λ more. refl; whole = refl; count = omega arith; lead = refl; reads = reads_nothing reader [] refl }
 
-pub front_more : (old now next : PartReader) (text left line rest : List ℕ) → ReadFront old now text left → line ≡ before_first is_newline left → rest ≡ after_first is_newline left → length line < length left → Reads now next (line ++ newline ∷ []) → ReadFront old next text rest
-front_more old now next text left line rest so_far line_is rest_is shorter one =
-    let free = before_one left line line_is in
-    let cut = cut_line_is left line rest line_is rest_is shorter in
-    record {
-      front = so_far.front ++ (line ++ newline ∷ []);
-      lines = so_far.lines ++ line ∷ [];
-      cut = λ more. ap lines_of (append_assoc so_far.front (line ++ newline ∷ []) more ∙ ap (λ t. so_far.front ++ t) (append_assoc line (newline ∷ []) more))
-          ∙ so_far.cut (line ++ newline ∷ more)
-          ∙ ap (λ ls. so_far.lines ++ ls) (cut_one line free more)
-          ∙ sym (append_assoc so_far.lines (line ∷ []) (lines_of more));
-      whole = so_far.whole ∙ ap (λ t. so_far.front ++ t) cut ∙ sym (append_assoc so_far.front (line ++ newline ∷ []) rest);
-      reads = reads_both old now next so_far.front (line ++ newline ∷ []) so_far.reads one;
-    }
+module _ (old now next : PartReader) (text left line rest : List ℕ) (so_far : ReadFront old now text left) (line_is : line ≡ before_first is_newline left) (rest_is : rest ≡ after_first is_newline left) (shorter : length line < length left) (bytes_is : next.bytes ≡ now.bytes + (length line + 1)) where
+  pub front_more : line_at (state_of now.draft) (now.lines + 1) line ≡ Ok (state_of next.draft) → next.lines ≡ now.lines + 1 → ReadFront old next text rest
+  front_more read lines_is =
+      let free = before_one left line line_is in
+      let cut = cut_line_is left line rest line_is rest_is shorter in
+      let place : old.lines + 1 + length so_far.lines ≡ now.lines + 1 = omega (arith, so_far.count) in
+      record {
+        front = so_far.front ++ (line ++ newline ∷ []);
+        lines = so_far.lines ++ line ∷ [];
+        cut = λ more. ap lines_of (append_assoc so_far.front (line ++ newline ∷ []) more ∙ ap (λ t. so_far.front ++ t) (append_assoc line (newline ∷ []) more))
+            ∙ so_far.cut (line ++ newline ∷ more)
+            ∙ ap (λ ls. so_far.lines ++ ls) (cut_one line free more)
+            ∙ sym (append_assoc so_far.lines (line ∷ []) (lines_of more));
+        whole = so_far.whole ∙ ap (λ t. so_far.front ++ t) cut ∙ sym (append_assoc so_far.front (line ++ newline ∷ []) rest);
+        count = omega (arith, so_far.count, lines_is, length-append so_far.lines (line ∷ []));
+        lead = lines_at-push (state_of old.draft) (state_of now.draft) (state_of next.draft) (old.lines + 1) so_far.lines line so_far.lead (ap (λ n. line_at (state_of now.draft) n line) place ∙ read);
+        reads = reads_both old now next so_far.front (line ++ newline ∷ []) so_far.reads (line_reads now next line (length line + 1) free read lines_is bytes_is (omega arith) (omega arith));
+      }
 
 pub whole_front : (old now : PartReader) (text left : List ℕ) → ReadFront old now text left → (length left == 0) ≡ true → Reads old now text
 whole_front old now text [] so_far none =

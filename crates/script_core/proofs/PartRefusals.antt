@@ -15,7 +15,7 @@ use Rattle.script_core.specs.declared.script_refusal.ScriptRefusal.TheVariants.{
 use Rattle.script_core.specs.Fields.{is_newline, lines_of, newline}
 use Rattle.script_core.specs.GivenUp.{IsLineGivenUp}
 use Rattle.script_core.specs.Limits.{longest_text}
-use Rattle.script_core.specs.Parts.{AreRefused, AreSeriesParts, HasRead, IsEnded, IsOneLine, IsPartRefused, Reads, wants_memory, is_long, by_pattern, no_script, series_front, series_text}
+use Rattle.script_core.specs.Parts.{AreNextGivenUp, AreRefused, AreSeriesParts, HasRead, IsEnded, IsOneLine, IsPartRefused, Reads, is_long, no_script, series_front, series_text}
 use Rattle.script_core.specs.Reading.{line_at, lines_at, of_line}
 use Rattle.script_core.specs.State.{State, add_series, start}
 use Rattle.script_core.specs.View.{state_of}
@@ -74,23 +74,37 @@ module _ (old now : PartReader) (text left line rest : List ℕ) (so_far : ReadF
     whole_is =
         so_far.whole ∙ ap (λ t. so_far.front ++ t) (cut_line_is left line rest line_is rest_is shorter)
 
-    line_given_up : (refusal : ScriptRefusal) → IsLineGivenUp (state_of now.draft) (now.lines + 1) line refusal ⊎ (line_at (state_of now.draft) (now.lines + 1) line ≡ Err refusal) → IsPartRefused old text refusal
-    line_given_up refusal (inl (inl memory)) = wants_memory memory
-    line_given_up refusal (inl (inr large)) = by_pattern (now.lines + 1) large.0 (record {
-      earlier = so_far.lines;
-      line = line;
-      later = lines_of rest;
-      stands = ap lines_of so_far.whole ∙ so_far.cut left ∙ ap (λ ls. so_far.lines ++ ls) (ap lines_of left_is ∙ cut_one line (before_one left line line_is) rest);
-      before = state_of now.draft;
-      asks = large.3;
-    })
-    line_given_up refusal (inr refused) =
-        let one = line_refused now line refusal (before_one left line line_is) refused in
-        no_script (subst (λ t. AreRefused old t refusal) (sym whole_is) (refused_behind old now so_far.front ((line ++ newline ∷ []) ++ rest) refusal so_far.reads (refused_before now (line ++ newline ∷ []) rest refusal one)))
+    place_is : now.lines + 1 ≡ old.lines + 1 + length so_far.lines
+    place_is = omega (arith, so_far.count)
 
-    pub text_refused : (draft : Draft) (number : ℕ) (refusal : ScriptRefusal) → draft ≡ now.draft → number ≡ now.lines + 1 → IsLineGivenUp (state_of draft) number line refusal ⊎ (line_at (state_of draft) number line ≡ Err refusal) → IsPartRefused old text refusal
+    line_given_up : (refusal : ScriptRefusal) → IsLineGivenUp (state_of now.draft) (now.lines + 1) line refusal → AreNextGivenUp old text refusal
+    line_given_up refusal (inl memory) = inl memory
+    line_given_up refusal (inr large) = inr (
+      now.lines + 1,
+      large.0,
+      record {
+        earlier = so_far.lines;
+        line = line;
+        later = lines_of rest;
+        stands = ap lines_of so_far.whole ∙ so_far.cut left ∙ ap (λ ls. so_far.lines ++ ls) (ap lines_of left_is ∙ cut_one line (before_one left line line_is) rest);
+        at_is = place_is;
+        before = state_of now.draft;
+        read = so_far.lead;
+        spoken = large.1;
+        utf8 = large.2;
+        asks = large.3;
+      },
+    )
+
+    not_read : (refusal : ScriptRefusal) → IsLineGivenUp (state_of now.draft) (now.lines + 1) line refusal ⊎ (line_at (state_of now.draft) (now.lines + 1) line ≡ Err refusal) → AreNextGivenUp old text refusal ⊎ IsPartRefused old text refusal
+    not_read refusal (inl given_up) = inl (line_given_up refusal given_up)
+    not_read refusal (inr refused) =
+        let one = line_refused now line refusal (before_one left line line_is) refused in
+        inr (no_script (subst (λ t. AreRefused old t refusal) (sym whole_is) (refused_behind old now so_far.front ((line ++ newline ∷ []) ++ rest) refusal so_far.reads (refused_before now (line ++ newline ∷ []) rest refusal one))))
+
+    pub text_refused : (draft : Draft) (number : ℕ) (refusal : ScriptRefusal) → draft ≡ now.draft → number ≡ now.lines + 1 → IsLineGivenUp (state_of draft) number line refusal ⊎ (line_at (state_of draft) number line ≡ Err refusal) → AreNextGivenUp old text refusal ⊎ IsPartRefused old text refusal
     text_refused draft number refusal same is why =
-        line_given_up refusal (subst (λ (n : ℕ). IsLineGivenUp (state_of now.draft) n line refusal ⊎ (line_at (state_of now.draft) n line ≡ Err refusal)) is (subst (λ (d : Draft). IsLineGivenUp (state_of d) number line refusal ⊎ (line_at (state_of d) number line ≡ Err refusal)) same why))
+        not_read refusal (subst (λ (n : ℕ). IsLineGivenUp (state_of now.draft) n line refusal ⊎ (line_at (state_of now.draft) n line ≡ Err refusal)) is (subst (λ (d : Draft). IsLineGivenUp (state_of d) number line refusal ⊎ (line_at (state_of d) number line ≡ Err refusal)) same why))
 
 -- ---- a text whose last line has no newline
 
@@ -122,13 +136,13 @@ module _ (before : PartReader) (labels : List ℕ) (set : List Label) (samples :
   pub room_refused : (refusal : ScriptRefusal) (bytes : ℕ) → refusal ≡ TooLong → longest_text < before.bytes + bytes → bytes ≡ 8 + length labels + 38 * length samples → IsPartRefused before (series_text labels samples) refusal
   room_refused refusal bytes is long size = line_long refusal bytes is long (omega (arith, size))
 
-  line_by : (refusal : LineRefusal) → (refusal ≡ lines.NoMemory) ⊎ (add_series (state_of before.draft) (record { labels = set; samples = samples }) ≡ Err refusal) → IsPartRefused before (series_text labels samples) (of_line (before.lines + 1) refusal)
+  line_by : (refusal : LineRefusal) → (refusal ≡ lines.NoMemory) ⊎ (add_series (state_of before.draft) (record { labels = set; samples = samples }) ≡ Err refusal) → (of_line (before.lines + 1) refusal ≡ NoMemory) ⊎ IsPartRefused before (series_text labels samples) (of_line (before.lines + 1) refusal)
   unfolding series_text
-  line_by refusal (inl memory) = wants_memory (ap (of_line (before.lines + 1)) memory)
+  line_by refusal (inl memory) = inl (ap (of_line (before.lines + 1)) memory)
   line_by refusal (inr refuses) =
       let line = series_front labels samples in
-      no_script (line_refused before line (of_line (before.lines + 1) refusal) (series_one_line labels samples are.fields are.one_line) (series_refused labels set samples are.is_set are.utf8 are.some are.fields (state_of before.draft) (before.lines + 1) refusal are.rising refuses))
+      inr (no_script (line_refused before line (of_line (before.lines + 1) refusal) (series_one_line labels samples are.fields are.one_line) (series_refused labels set samples are.is_set are.utf8 are.some are.fields (state_of before.draft) (before.lines + 1) refusal are.rising refuses)))
 
-  pub put_refused : (draft : Draft) (number : ℕ) (refusal : LineRefusal) → draft ≡ before.draft → number ≡ before.lines + 1 → (refusal ≡ lines.NoMemory) ⊎ (add_series (state_of draft) (record { labels = set; samples = samples }) ≡ Err refusal) → IsPartRefused before (series_text labels samples) (of_line number refusal)
+  pub put_refused : (draft : Draft) (number : ℕ) (refusal : LineRefusal) → draft ≡ before.draft → number ≡ before.lines + 1 → (refusal ≡ lines.NoMemory) ⊎ (add_series (state_of draft) (record { labels = set; samples = samples }) ≡ Err refusal) → (of_line number refusal ≡ NoMemory) ⊎ IsPartRefused before (series_text labels samples) (of_line number refusal)
   put_refused draft number refusal same is why =
-      subst (λ n. IsPartRefused before (series_text labels samples) (of_line n refusal)) (sym is) (line_by refusal (subst (λ (d : Draft). (refusal ≡ lines.NoMemory) ⊎ (add_series (state_of d) (record { labels = set; samples = samples }) ≡ Err refusal)) same why))
+      subst (λ n. (of_line n refusal ≡ NoMemory) ⊎ IsPartRefused before (series_text labels samples) (of_line n refusal)) (sym is) (line_by refusal (subst (λ (d : Draft). (refusal ≡ lines.NoMemory) ⊎ (add_series (state_of d) (record { labels = set; samples = samples }) ≡ Err refusal)) same why))

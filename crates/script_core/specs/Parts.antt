@@ -8,7 +8,7 @@ use Rattle.label_sets.specs.declared.label.Label.{Label}
 use Rattle.label_sets.specs.declared.sample.Sample.{Sample}
 use Rattle.moment_core.specs.StandardRules.{standard_rules}
 use Rattle.script_core.specs.Fields.{lines_of, newline, is_newline}
-use Rattle.script_core.specs.GivenUp.{IsPatternLine}
+use Rattle.script_core.specs.GivenUp.{AreLinesGivenUp}
 use Rattle.script_core.specs.Limits.{longest_text}
 use Rattle.script_core.specs.Reading.{lines_at}
 use Rattle.script_core.specs.Samples.{are_rising}
@@ -16,10 +16,9 @@ use Rattle.script_core.specs.Spelling.{IsNear}
 use Rattle.script_core.specs.State.{State, start}
 use Rattle.script_core.specs.Values.{is_time}
 use Rattle.script_core.specs.View.{state_of}
-use Rattle.script_core.specs.declared.cause.LineCause.TheVariants.{PatternSizeText}
 use Rattle.script_core.specs.declared.part_reader.PartReader.{PartReader}
 use Rattle.script_core.specs.declared.script_refusal.ScriptRefusal.{ScriptRefusal}
-use Rattle.script_core.specs.declared.script_refusal.ScriptRefusal.TheVariants.{BadLine, NoMemory, TooLong}
+use Rattle.script_core.specs.declared.script_refusal.ScriptRefusal.TheVariants.{TooLong}
 
 -- A text of so many lines leaves this state: whatever follows it, what is read of the whole is what is read from there.
 abbrev pub Leaves : List ℕ → ℕ → State → Type 0
@@ -77,21 +76,14 @@ abbrev pub AreRefused : PartReader → List ℕ → ScriptRefusal → Type 0
 AreRefused before text refusal =
     (read more : List ℕ) → HasRead before read → lines_at (start standard_rules) 1 (lines_of (read ++ (text ++ more))) ≡ Err refusal
 
--- One of the text's lines is a query by a lawful pattern.
-pub record HasPatternQuery (text : List ℕ) : Type 0 where
-  pub earlier : List (List ℕ)
-  pub line : List ℕ
-  pub later : List (List ℕ)
-  pub stands : lines_of text ≡ earlier ++ line ∷ later
-  pub before : State
-  pub asks : IsPatternLine before line
+-- Lines behind what was read are given up: for want of memory, or because one of them is a query by a lawful pattern, behind
+-- lines that are read.
+abbrev pub AreNextGivenUp : PartReader → List ℕ → ScriptRefusal → Type 0
+AreNextGivenUp before text refusal = AreLinesGivenUp (state_of before.draft) (before.lines + 1) (lines_of text) refusal
 
--- Why a reader refuses whole lines.
+-- Why a reader refuses a text that it does not give up.
 pub data IsPartRefused (before : PartReader) (text : List ℕ) (refusal : ScriptRefusal) : Type 0 where
-  wants_memory : refusal ≡ NoMemory → IsPartRefused before text refusal
   -- With it the text has more than half of the bytes that one may have.
   is_long : refusal ≡ TooLong → ((read : List ℕ) → HasRead before read → longest_text < 2 * length (read ++ text)) → IsPartRefused before text refusal
-  -- Of which sizes a pattern is built, no definition says.
-  by_pattern : (number : ℕ) → refusal ≡ BadLine number PatternSizeText → HasPatternQuery text → IsPartRefused before text refusal
   -- No script goes on so.
   no_script : AreRefused before text refusal → IsPartRefused before text refusal

@@ -25,7 +25,7 @@ pub struct PartReader {
 }
 
 impl PartReader {
-    ghost use Rattle.std.specs.Prelude.{◌≡◌, ◌<◌, ◌+◌, ℕ, List, [], ◌∷◌, ◌++◌, IfErr, IfOk, OnOk, IsTrue};
+    ghost use Rattle.std.specs.Prelude.{◌≡◌, ◌⊎◌, ◌<◌, ◌+◌, ℕ, List, [], ◌∷◌, ◌++◌, IfErr, IfOk, OnOk, IsTrue};
     ghost use Rattle.label_sets.specs.declared.label.Label.{Label};
     ghost use Rattle.reading_core.specs.Reading.{Gives};
     ghost use Rattle.script_core.specs.Limits.{longest_text};
@@ -34,7 +34,7 @@ impl PartReader {
     ghost use Rattle.std.specs.List.{list_all};
     ghost use Rattle.script_core.specs.Fields.{newline};
     ghost use Rattle.script_core.specs.Lawful.{IsLawfulScript};
-    ghost use Rattle.script_core.specs.Parts.{AreSeriesParts, HasRead, IsEnded, IsPartRefused, Reads, series_text};
+    ghost use Rattle.script_core.specs.Parts.{AreNextGivenUp, AreSeriesParts, HasRead, IsEnded, IsPartRefused, Reads, series_text};
     ghost use Rattle.script_core.specs.Spelling.{Spells};
 
     /// Nothing was read.
@@ -51,7 +51,8 @@ impl PartReader {
     /// Reads lines, the last of which has to end with a newline as each other does.
     pub fn read_lines(&mut self, alloc: Global, text: &[u8]) -> Result<(), ScriptRefusal>
         ensures read { OnOk result (Reads self.old self.new text.now) }
-        ensures refused { IsEnded text.now → IfErr result (IsPartRefused self.old text.now) }
+        ensures refused { IsEnded text.now → IfErr result (λ e. AreNextGivenUp self.old text.now e
+            ⊎ IsPartRefused self.old text.now e) }
     {
         let mut left = text;
         while !left.is_empty() {
@@ -75,7 +76,8 @@ impl PartReader {
     ) -> Result<(), ScriptRefusal>
         ensures read { OnOk result (Reads self.old self.new (series_text labels.now samples)) }
         ensures refused { (set : List Label) → AreSeriesParts labels.now set samples
-            → IfErr result (IsPartRefused self.old (series_text labels.now samples)) }
+            → IfErr result (λ e. (e ≡ refusals.NoMemory)
+            ⊎ IsPartRefused self.old (series_text labels.now samples) e) }
     {
         self.count(line_size(labels.len(), samples.len())?)?;
         match put_series(&mut self.draft, alloc, labels, samples) {

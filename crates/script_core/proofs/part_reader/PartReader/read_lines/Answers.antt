@@ -1,9 +1,9 @@
-use Rattle.std.proofs.Common.{◌+◌, length, sym, ◌∙◌, arith}
+use Rattle.std.proofs.Common.{◌+◌, length, inr, sym, ◌∙◌, arith}
 use Rattle.script_core.specs.Reading.{line_at}
 use Rattle.script_core.specs.View.{state_of}
 use Rattle.std.proofs.lemmas.Result.{err_from_is_err_and}
 use Rattle.script_core.proofs.PartRefusals.{count_refused, last_ended, text_refused}
-use Rattle.script_core.proofs.PartLaws.{no_front, front_more, whole_front, before_one, line_reads, shorter_by}
+use Rattle.script_core.proofs.PartLaws.{no_front, front_more, whole_front, shorter_by}
 use Rattle.script_core.proofs.part_reader.PartReader.read_lines.Goals as goal
 
 pub loop-left-init : goal.loop-left-init
@@ -13,8 +13,7 @@ pub loop-left-preserved : goal.loop-left-preserved
 loop-left-preserved c =
     let line = c.cut_line.result.0.now in
     let left = c.loop-left.left.now in
-    let one = line_reads c.loop-left.self _ line (length line + 1) (before_one left line c.cut_line.ensures.line) ((λ i. line_at (state_of (sym c.count.ensures.draft i)) (sym c.in_ok-count.ensures.lines i) line) ∙ c.in_ok-read_line.ensures) c.in_ok-count.ensures.lines c.in_ok-count.ensures.bytes (omega arith) (omega arith) in
-    front_more c.args.self.now c.loop-left.self _ c.args.text.now left line c.cut_line.result.1.now c.loop-left.invariant c.cut_line.ensures.line c.cut_line.ensures.rest (shorter_by left line c.cut_line.ensures.line c.if-line-left.false) one
+    front_more c.args.self.now c.loop-left.self _ c.args.text.now left line c.cut_line.result.1.now c.loop-left.invariant c.cut_line.ensures.line c.cut_line.ensures.rest (shorter_by left line c.cut_line.ensures.line c.if-line-left.false) c.in_ok-count.ensures.bytes ((λ i. line_at (state_of (sym c.count.ensures.draft i)) (sym c.in_ok-count.ensures.lines i) line) ∙ c.in_ok-read_line.ensures) c.in_ok-count.ensures.lines
 
 pub returns-clause-read : goal.returns-clause-read
 returns-clause-read c =
@@ -23,7 +22,7 @@ returns-clause-read c =
 pub returns-in_err-count-clause-refused : goal.returns-in_err-count-clause-refused
 returns-in_err-count-clause-refused c = λ ended.
     let p = err_from_is_err_and c.from_residual.result c.from_residual.ensures.1 in
-    rw (p.1, p.2) (count_refused c.args.self.now c.loop-left.self c.args.text.now c.loop-left.left.now c.cut_line.result.0.now c.cut_line.result.1.now c.loop-left.invariant c.cut_line.ensures.line c.cut_line.ensures.rest (omega arith) c.in_err-count.field-0.0 c.in_err-count.ensures.refused.0 c.in_err-count.ensures.refused.1)
+    rw (p.1, p.2) (inr (count_refused c.args.self.now c.loop-left.self c.args.text.now c.loop-left.left.now c.cut_line.result.0.now c.cut_line.result.1.now c.loop-left.invariant c.cut_line.ensures.line c.cut_line.ensures.rest (omega arith) c.in_err-count.field-0.0 c.in_err-count.ensures.refused.0 c.in_err-count.ensures.refused.1))
 
 pub returns-in_err-read_line-clause-refused : goal.returns-in_err-read_line-clause-refused
 returns-in_err-read_line-clause-refused c = λ ended.

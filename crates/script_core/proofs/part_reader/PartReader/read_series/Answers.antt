@@ -1,4 +1,4 @@
-use Rattle.std.proofs.Common.{sym, ◌∙◌, arith}
+use Rattle.std.proofs.Common.{inr, sym, ◌∙◌, arith}
 use Rattle.script_core.specs.Parts.{series_front, series_text}
 use Rattle.script_core.specs.Reading.{line_at}
 use Rattle.script_core.specs.View.{state_of}
@@ -17,12 +17,12 @@ returns-in-Ok-clause-read c =
 pub returns-in_err-line_size-clause-refused : goal.returns-in_err-line_size-clause-refused
 returns-in_err-line_size-clause-refused c = λ set are.
     let p = err_from_is_err_and c.from_residual.result c.from_residual.ensures.1 in
-    rw (p.1, p.2) (size_refused c.args.self.now c.args.labels.now set c.args.samples are c.in_err-line_size.field-0.0 c.in_err-line_size.ensures.refused.0 (omega (arith, c.in_err-line_size.ensures.refused.1, c.len.ensures)))
+    rw (p.1, p.2) (inr (size_refused c.args.self.now c.args.labels.now set c.args.samples are c.in_err-line_size.field-0.0 c.in_err-line_size.ensures.refused.0 (omega (arith, c.in_err-line_size.ensures.refused.1, c.len.ensures))))
 
 pub returns-in_err-count-clause-refused : goal.returns-in_err-count-clause-refused
 returns-in_err-count-clause-refused c = λ set are.
     let p = err_from_is_err_and c.from_residual-in_err-count.result c.from_residual-in_err-count.ensures.1 in
-    rw (p.1, p.2) (room_refused c.args.self.now c.args.labels.now set c.args.samples are c.in_err-count.field-0.0 c.in_ok-line_size.field-0 c.in_err-count.ensures.refused.0 c.in_err-count.ensures.refused.1 (omega (arith, c.in_ok-line_size.ensures.size, c.len.ensures)))
+    rw (p.1, p.2) (inr (room_refused c.args.self.now c.args.labels.now set c.args.samples are c.in_err-count.field-0.0 c.in_ok-line_size.field-0 c.in_err-count.ensures.refused.0 c.in_err-count.ensures.refused.1 (omega (arith, c.in_ok-line_size.ensures.size, c.len.ensures))))
 
 pub returns-in-Err-clause-refused : goal.returns-in-Err-clause-refused
 returns-in-Err-clause-refused c = λ set are.
