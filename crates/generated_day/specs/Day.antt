@@ -5,7 +5,7 @@ use Rattle.std.specs.Prelude.{ℕ, ◌+◌, ◌*◌, ◌/◌, ◌%◌, ◌^◌, 
 use Rattle.std.specs.List.{flat_map, range_with_len}
 use Rattle.reading_core.specs.Decimal.{decimal_text}
 use Rattle.ulid_core.specs.UlidText.{text_of}
-use Rattle.label_sets.specs.SampleText.{sample_text}
+use Rattle.label_sets.specs.SampleText.{spaced_sample_text}
 use Rattle.label_sets.specs.declared.sample.Sample.{Sample}
 
 abbrev pub newline : List ℕ
@@ -41,12 +41,16 @@ sample number block series place =
 abbrev pub has_sample : ℕ → ℕ → Bool
 has_sample replica place = not (place % 7 == (if replica == 0 then 3 else 5))
 
-unfoldable pub sample_part : ℕ → ℕ → ℕ → ℕ → ℕ → List ℕ
+unfoldable pub sample_part : ℕ → ℕ → ℕ → ℕ → ℕ → List Sample
 sample_part number block replica series place =
-    if has_sample replica place then 32 ∷ sample_text (sample number block series place) else []
+    if has_sample replica place then sample number block series place ∷ [] else []
+
+-- the samples of a replica's series in a block
+unfoldable pub day_samples : ℕ → ℕ → ℕ → ℕ → List Sample
+day_samples number block replica series = flat_map (sample_part number block replica series) (range_with_len 0 480)
 
 unfoldable pub samples_text : ℕ → ℕ → ℕ → ℕ → List ℕ
-samples_text number block replica series = flat_map (sample_part number block replica series) (range_with_len 0 480)
+samples_text number block replica series = flat_map spaced_sample_text (day_samples number block replica series)
 
 -- ---- blocks
 

@@ -1,9 +1,11 @@
 //! The script of the generated day.
 
-ghost use Rattle.std.specs.Prelude.{◌≡◌, ◌++◌, IfOk, OnOk};
+ghost use Rattle.std.specs.Prelude.{◌≡◌, ◌++◌, IfErr, IfOk, MatchResult, OnOk};
 ghost use Rattle.script_core.specs.Lawful.{IsLawfulScript};
-ghost use Rattle.script_core.specs.Parts.{HasRead, Reads};
+ghost use Rattle.script_core.specs.Parts.{HasRead};
 ghost use Rattle.script_core.specs.Spelling.{Spells};
+ghost use Rattle.script_core.specs.declared.script_refusal.ScriptRefusal.TheVariants as refusals;
+ghost use Rattle.generated_day.specs.Wanting.{ReadsOrWants};
 ghost use Rattle.generated_day.specs.Day.{all_blocks_text, all_uploads_text, all_rounds_text, setup_text, cleaning_text, phases_text, day_text};
 
 use crate::lines::{put_at, put_look, put_round, put_uploads, read_blocks};
@@ -17,32 +19,35 @@ const HOUR: u64 = 3_600_000;
 const MINUTE: u64 = 60_000;
 
 /// The script of the generated day with this number, which mixes the samples' patterns.
-pub fn generated(alloc: Global, number: u64) -> Result<Script, NoMemory>
+pub fn generated(alloc: Global, number: u64) -> Result<Script, ScriptRefusal>
     ensures spelled { IfOk result (λ script. Spells (day_text number) script) }
     ensures lawful { IfOk result (λ script. IsLawfulScript script) }
+
+    // Where it is refused, memory was wanting.
+    ensures refused { IfErr result (λ e. e ≡ refusals.NoMemory) }
 {
-    let Ok(reader) = reader_of(alloc, number) else {
-        return Err(NoMemory);
-    };
-    match reader.finish(alloc) {
-        Ok(script) => Ok(script),
-        Err(_) => Err(NoMemory),
-    }
+    reader_of(alloc, number)?.finish(alloc)
 }
 
 /// What has read the day.
 fn reader_of(alloc: Global, number: u64) -> Result<PartReader, ScriptRefusal>
-    ensures { IfOk result (λ reader. HasRead reader (day_text number)) }
+    ensures { MatchResult result (λ reader. HasRead reader (day_text number))
+        (λ e. e ≡ refusals.NoMemory) }
 {
     let mut reader = PartReader::new(alloc);
-    read_day(&mut reader, alloc, number)?;
-    Ok(reader)
+    match read_day(&mut reader, alloc, number) {
+        Ok(()) => Ok(reader),
+        Err(refusal) => {
+            drop(reader);
+            Err(refusal)
+        }
+    }
 }
 
 /// Reads the lines of the day. No text of its samples is made: it would have 30 MB.
 #[tactic(auto, unfolding(crate::specs::Day::day_text))]
 fn read_day(reader: &mut PartReader, alloc: Global, number: u64) -> Result<(), ScriptRefusal>
-    ensures { OnOk result (Reads reader.old reader.new (day_text number)) }
+    ensures { ReadsOrWants reader.old reader.new (day_text number) result }
 {
     reader.read_lines(
         alloc,
@@ -55,7 +60,7 @@ fn read_day(reader: &mut PartReader, alloc: Global, number: u64) -> Result<(), S
 }
 
 fn read_all_blocks(reader: &mut PartReader, alloc: Global, number: u64) -> Result<(), ScriptRefusal>
-    ensures { OnOk result (Reads reader.old reader.new (all_blocks_text number)) }
+    ensures { ReadsOrWants reader.old reader.new (all_blocks_text number) result }
 {
     for block in 0..12 {
         read_blocks(reader, alloc, number, block)?;

@@ -2,9 +2,11 @@
 #![tactic(auto)]
 
 mod day;
+mod laws;
 mod lines;
 mod samples;
 mod summary;
 
 pub use day::generated;
+pub use laws::day_is_a_script;
 pub use summary::{QueryCounts, Summary};

@@ -1,7 +1,7 @@
 //! The lines of the generated day.
 
 ghost use Rattle.std.specs.Prelude.{◌≡◌, ◌<◌, ◌≤◌, ◌*◌, ◌+◌, ◌++◌, OnOk};
-ghost use Rattle.script_core.specs.Parts.{Reads};
+ghost use Rattle.generated_day.specs.Wanting.{ReadsOrWants};
 ghost use Rattle.generated_day.specs.Day.{two_digits, labels_text, all_series_text, times_text, external_text, at_line, upload_line, series_line, block_line, block_text, blocks_at, uploads_at, look_text, round_text, ulid_of};
 
 use crate::samples::{DAY_START, block_start, samples_of};
@@ -55,8 +55,8 @@ fn read_series(
 ) -> Result<(), ScriptRefusal>
     requires block { block < 12 }
     requires series { series < 100 }
-    ensures { OnOk result
-        (Reads reader.old reader.new (series_line number block replica series)) }
+    ensures { ReadsOrWants reader.old reader.new (series_line number block replica series)
+        result }
 {
     let mut labels = Vec::new(alloc);
     put_labels(&mut labels, series)?;
@@ -113,7 +113,7 @@ fn read_block(
 ) -> Result<(), ScriptRefusal>
     requires block { block < 12 }
     requires replica { replica < 2 }
-    ensures { OnOk result (Reads reader.old reader.new (block_text number block replica)) }
+    ensures { ReadsOrWants reader.old reader.new (block_text number block replica) result }
 {
     let mut line = Vec::new(alloc);
     put_block_line(&mut line, block, replica)?;
@@ -129,7 +129,7 @@ fn read_all_series(
     replica: u64,
 ) -> Result<(), ScriptRefusal>
     requires block { block < 12 }
-    ensures { OnOk result (Reads reader.old reader.new (all_series_text number block replica)) }
+    ensures { ReadsOrWants reader.old reader.new (all_series_text number block replica) result }
 {
     for series in 0..100 {
         read_series(reader, alloc, number, block, replica, series)?;
@@ -146,7 +146,7 @@ pub(crate) fn read_blocks(
     block: u64,
 ) -> Result<(), ScriptRefusal>
     requires { block < 12 }
-    ensures { OnOk result (Reads reader.old reader.new (blocks_at number block)) }
+    ensures { ReadsOrWants reader.old reader.new (blocks_at number block) result }
 {
     read_block(reader, alloc, number, block, 0)?;
     read_block(reader, alloc, number, block, 1)

@@ -1,9 +1,7 @@
 //! The samples of the generated day.
 
 ghost use Rattle.std.specs.Prelude.{◌≡◌, ◌<◌, ◌≤◌, ◌^◌, ◌++◌, IfOk, OnOk};
-ghost use Rattle.std.specs.List.{flat_map};
-ghost use Rattle.label_sets.specs.SampleText.{spaced_sample_text};
-ghost use Rattle.generated_day.specs.Day.{block_start, pattern, sample, has_sample, sample_part, samples_text};
+ghost use Rattle.generated_day.specs.Day.{block_start, pattern, sample, has_sample, sample_part, day_samples};
 
 use label_sets::{Sample, SampleList};
 use list_core::NoMemory;
@@ -68,7 +66,7 @@ fn has_sample(replica: u64, place: u64) -> bool
 }
 
 /// Adds the sample at a place, if the replica has it.
-#[tactic(auto, using(crate::proofs::Parts::sample_more), unfolding(crate::specs::Day::sample_part))]
+#[tactic(auto, unfolding(crate::specs::Day::sample_part))]
 fn push_sample(
     samples: &mut Vec<Sample>,
     number: u64,
@@ -80,9 +78,8 @@ fn push_sample(
     requires block { block < 12 }
     requires series { series < 100 }
     requires place { place < 480 }
-    ensures { OnOk result (flat_map spaced_sample_text samples.new.items
-        ≡ flat_map spaced_sample_text samples.old.items
-        ++ sample_part number block replica series place) }
+    ensures { OnOk result (samples.new.items
+        ≡ samples.old.items ++ sample_part number block replica series place) }
 {
     if has_sample(replica, place) {
         samples.push(sample(number, block, series, place))?;
@@ -100,8 +97,7 @@ pub(crate) fn samples_of(
 ) -> Result<SampleList, NoMemory>
     requires block { block < 12 }
     requires series { series < 100 }
-    ensures { IfOk result (λ samples. flat_map spaced_sample_text samples
-        ≡ samples_text number block replica series) }
+    ensures { IfOk result (λ samples. samples ≡ day_samples number block replica series) }
 {
     let mut samples = Vec::new(alloc);
     samples.reserve(MOST_SAMPLES)?;

@@ -1,10 +1,9 @@
 use Rattle.std.proofs.Common.{◌≡◌, ◌-◌, ◌++◌}
 use Rattle.std.specs.List.{flat_map, range_with_len}
-use Rattle.label_sets.specs.SampleText.{spaced_sample_text}
 use Rattle.generated_day.specs.Day.{sample_part}
 use Rattle.generated_day.proofs.samples.samples_of.Given as goal
 
--- the texts of the samples, with those that are left, are all
+-- the samples, with those that are left, are all
 abbrev pub invariant-loop-place : goal.invariant-loop-place
 invariant-loop-place l =
-    flat_map spaced_sample_text l.samples.items ++ flat_map (sample_part l.number l.block l.replica l.series) (range_with_len l.place (480 - l.place)) ≡ flat_map (sample_part l.number l.block l.replica l.series) (range_with_len 0 480)
+    l.samples.items ++ flat_map (sample_part l.number l.block l.replica l.series) (range_with_len l.place (480 - l.place)) ≡ flat_map (sample_part l.number l.block l.replica l.series) (range_with_len 0 480)

@@ -4,7 +4,6 @@ use Rattle.std.specs.Char.{is_ascii_digit}
 use Rattle.std.specs.List.{list_all, flat_map, range_with_len}
 use Rattle.std.proofs.lemmas.Bool.{and_parts}
 use Rattle.std.proofs.lemmas.Bool.Decides.{nat_tests}
-use Rattle.std.proofs.lemmas.Fmt.{length_signed_le}
 use Rattle.std.proofs.lemmas.Int.{ints}
 use Rattle.std.proofs.lemmas.Nat.{mod_low}
 use Rattle.std.specs.Int.Digits.{AllBelowBase}
@@ -13,7 +12,6 @@ use Rattle.std.proofs.lemmas.List.Folds.{list_any-append}
 use Rattle.std.proofs.lemmas.List.Sorted.{IsPermutation-refl}
 use Rattle.reading_core.specs.Decimal.{decimal_text, signed_text}
 use Rattle.reading_core.proofs.Decimals.{decimal_again, decimal_digits}
-use Rattle.reading_core.proofs.Printed.{printed_signed}
 use Rattle.ulid_core.specs.UlidText.{alphabet, character, text_of}
 use Rattle.ulid_core.proofs.UlidLaws.{IsUlidText-text_of, length-text_of}
 use Rattle.label_sets.specs.Notation.{is_name, quoted, quoted_byte, pair_text, comma_pair_text, pairs_text, set_text}
@@ -25,19 +23,17 @@ use Rattle.moment_core.specs.declared.rules.Rules.{Rules}
 use Rattle.script_core.specs.Blocks.{declares}
 use Rattle.script_core.specs.Fields.{is_silent, is_space, newline}
 use Rattle.script_core.specs.Lawful.{HasSeries}
-use Rattle.script_core.specs.Spelling.{BlockLine, GatewayLine, HasEnded, IsField, IsNear, IsTimeText, IsUlidField, ReplicaLine, SoFar, at_all_times, inside, nothing, outside, spaced}
+use Rattle.script_core.specs.Spelling.{BlockLine, GatewayLine, HasEnded, IsField, IsTimeText, IsUlidField, ReplicaLine, SoFar, at_all_times, inside, nothing, outside, spaced}
 use Rattle.script_core.specs.Spelling as spelling
-use Rattle.script_core.specs.Values.{is_time}
 use Rattle.script_core.specs.declared.block.Block.{Block}
 use Rattle.script_core.specs.declared.body.Body.TheVariants.{Inline}
 use Rattle.script_core.specs.declared.script.Script.{Script}
 use Rattle.script_core.proofs.LineTools.{no_end}
 use Rattle.script_core.proofs.SampleSigns.{all_joined, all_weaker}
-use Rattle.script_core.proofs.SpelledValues.{near_spelled, near_tested}
-use Rattle.script_core.proofs.ValueLaws.{time_fits}
 use Rattle.generated_day.specs.Day.{all_blocks_text, all_series_text, block_line, block_start, block_text, blocks_at, external_text, setup_text, times_text, ulid_of}
-use Rattle.day_laws.proofs.DaySeries.{all_short, all_tell, first_series, two_named, with_first}
-use Rattle.day_laws.proofs.Tells.{Tells, digit_prints, in_range, is_print, speaks, tells_both, tells_line, tells_nothing}
+use Rattle.generated_day.proofs.DayNumbers.{decimal_short, near_by}
+use Rattle.generated_day.proofs.DaySeries.{all_short, all_tell, first_series, two_named, with_first}
+use Rattle.generated_day.proofs.Tells.{Tells, digit_prints, in_range, is_print, speaks, tells_both, tells_line, tells_nothing}
 
 -- ---- numbers
 
@@ -52,10 +48,6 @@ decimal_field n =
       no_space = all_weaker is_ascii_digit (λ byte. not (is_space byte)) digit_no_space (decimal_text n) digits.1;
     }
 
-near_by : (n : ℕ) → n < 2 ^ 62 → IsNear (pos n)
-near_by n small =
-    let near : is_time (pos n) ≡ true = grind (arith, nat_tests) in near_spelled (pos n) near
-
 pub time_text : (n : ℕ) → n < 2 ^ 62 → IsTimeText (decimal_text n) (pos n)
 unfolding signed_text
 time_text n small = record { field = decimal_field n; written = refl; near = near_by n small }
@@ -64,12 +56,6 @@ time_text n small = record { field = decimal_field n; written = refl; near = nea
 
 pub digits_print : (n : ℕ) → list_all is_print (decimal_text n) ≡ true
 digits_print n = all_weaker is_ascii_digit is_print digit_prints (decimal_text n) (decimal_digits (decimal_text n) (decimal_again n).0).1
-
-pub decimal_short : (n : ℕ) → n < 2 ^ 42 → length (decimal_text n) ≤ 14
-unfolding signed_text
-decimal_short n small =
-    let size = length_signed_le 13 (pos n) (omega (arith, small)) (omega (arith, small)) in
-    omega (arith, size, ap (length {A = ℕ}) (printed_signed (pos n) (time_fits (pos n) (near_tested (pos n) (near_by n (omega (arith, small)))))))
 
 -- a character of a ULID
 abbrev is_good : ℕ → Bool
@@ -241,7 +227,7 @@ module _ (number block replica : ℕ) (early : block < 12) (two : replica < 2) w
   external_prints =
       all_joined is_print (codes "{cluster=\"c\",replica=\"" ++ decimal_text replica) (codes "\"}") (all_joined is_print (codes "{cluster=\"c\",replica=\"") (decimal_text replica) refl (digits_print replica)) refl
 
-  front_prints : list_all is_print (front_of block replica) ≡ true
+  pub front_prints : list_all is_print (front_of block replica) ≡ true
   unfolding times_text
   front_prints =
       let ulid = text_of (ulid_of block replica) in
@@ -254,6 +240,11 @@ module _ (number block replica : ℕ) (early : block < 12) (two : replica < 2) w
       let three = all_joined is_print (codes "block " ++ ulid ++ codes " ") (low ++ codes " " ++ high) two times in
       let four = all_joined is_print (codes "block " ++ ulid ++ codes " " ++ (low ++ codes " " ++ high)) (codes " ") three refl in
       all_joined is_print (codes "block " ++ ulid ++ codes " " ++ (low ++ codes " " ++ high) ++ codes " ") (external_text replica) four external_prints
+
+  pub front_is : front_of block replica ≡ codes "block" ++ 32 ∷ (text_of (ulid_of block replica) ++ 32 ∷ (decimal_text (block_start block) ++ 32 ∷ (decimal_text (block_start (block + 1)) ++ 32 ∷ external_text replica)))
+  unfolding times_text
+  front_is =
+      line_joined (text_of (ulid_of block replica)) (decimal_text (block_start block)) (decimal_text (block_start (block + 1))) (external_text replica)
 
   front_speaks : is_silent (front_of block replica) ≡ false
   front_speaks =
@@ -310,7 +301,7 @@ module _ (number block replica : ℕ) (early : block < 12) (two : replica < 2) w
         min_time = pos (block_start block);
         max_time = pos (block_start (block + 1));
         labels = external_at replica;
-        spelled = line_joined (text_of (ulid_of block replica)) (decimal_text (block_start block)) (decimal_text (block_start (block + 1))) (external_text replica);
+        spelled = front_is;
         is_ulid = is_ulid;
         is_min = time_text (block_start block) (omega (arith, early));
         is_max = time_text (block_start (block + 1)) (omega (arith, early));
@@ -335,7 +326,7 @@ module _ (number block replica : ℕ) (early : block < 12) (two : replica < 2) w
   then_ready blocks ready =
       more_ready blocks made (2 * block + replica) block replica ready refl two refl (λ e. cc)
 
-  pub block_short : length (block_text number block replica) ≤ 1_830_201
+  pub block_short : length (block_text number block replica) ≤ 1_330_201
   unfolding block_text block_line
   block_short =
       omega (arith, front_short, length-append (front_of block replica) (newline ∷ []), length-append (block_line block replica) (all_series_text number block replica), all_short number block replica early)
@@ -393,16 +384,16 @@ module _ (number : ℕ) where
   unfolding all_blocks_text
   all_told = blocks_told 0 12 4 [] false refl none_ready
 
-  pair_short : (block : ℕ) → block < 12 → length (blocks_at number block) ≤ 3_660_402
+  pair_short : (block : ℕ) → block < 12 → length (blocks_at number block) ≤ 2_660_402
   unfolding blocks_at
   pair_short block early =
       omega (arith, length-append (block_text number block 0) (block_text number block 1), block_short number block 0 early (omega arith), block_short number block 1 early (omega arith))
 
-  blocks_short : (block count : ℕ) → block + count ≤ 12 → length (flat_map (blocks_at number) (range_with_len block count)) ≤ 3_660_402 * count
+  blocks_short : (block count : ℕ) → block + count ≤ 12 → length (flat_map (blocks_at number) (range_with_len block count)) ≤ 2_660_402 * count
   blocks_short block zero few = omega arith
   blocks_short block (suc count) few =
       omega (arith, length-append (blocks_at number block) (flat_map (blocks_at number) (range_with_len (block + 1) count)), pair_short block (omega (arith, few)), blocks_short (block + 1) count (omega (arith, few)))
 
-  pub all_blocks_short : length (all_blocks_text number) ≤ 43_924_824
+  pub all_blocks_short : length (all_blocks_text number) ≤ 31_924_824
   unfolding all_blocks_text
   all_blocks_short = blocks_short 0 12 (omega arith)

@@ -35,8 +35,9 @@ use Rattle.script_core.proofs.LineTools.{no_end}
 use Rattle.script_core.proofs.SampleSigns.{all_joined}
 use Rattle.script_core.proofs.SpelledValues.{agree_spelled}
 use Rattle.generated_day.specs.Day.{at_line, ulid_of, upload_line}
-use Rattle.day_laws.proofs.DayBlocks.{Ready, day_gateways, day_rules, decimal_field, decimal_short, digits_print, is_ulid, setup, time_text, ulid_prints}
-use Rattle.day_laws.proofs.Tells.{Tells, is_print, speaks, tells_line}
+use Rattle.generated_day.proofs.DayNumbers.{decimal_short}
+use Rattle.generated_day.proofs.DayBlocks.{Ready, day_gateways, day_rules, decimal_field, digits_print, is_ulid, setup, time_text, ulid_prints}
+use Rattle.generated_day.proofs.Tells.{Tells, is_print, speaks, tells_line}
 
 -- ---- moments
 

@@ -43,10 +43,10 @@ print_ascii byte is = (and_parts (not (is_newline byte)) (nat_lt byte 128) is).1
 pub digit_prints : (byte : ℕ) → is_ascii_digit byte ≡ true → is_print byte ≡ true
 digit_prints byte is = search (rules, tests)
 
-print_line : (line : List ℕ) → list_all is_print line ≡ true → IsOneLine line
+pub print_line : (line : List ℕ) → list_all is_print line ≡ true → IsOneLine line
 print_line line print = all_weaker is_print (λ byte. not (is_newline byte)) print_not_newline line print
 
-print_utf8 : (line : List ℕ) → list_all is_print line ≡ true → is_utf8 line ≡ true
+pub print_utf8 : (line : List ℕ) → list_all is_print line ≡ true → is_utf8 line ≡ true
 print_utf8 line print =
     is_utf8-from_IsUtf8 line (IsUtf8-from_ascii line (IsAscii-from_all line (λ k d below.
     let test = AllPass-from_list_all (λ byte. nat_lt byte 128) line (all_weaker is_print (λ byte. nat_lt byte 128) print_ascii line print) k d below in

@@ -19,18 +19,18 @@ use Rattle.label_sets.specs.declared.label.Label.{Label}
 use Rattle.label_sets.specs.declared.sample.Sample.{Sample}
 use Rattle.label_sets.specs.declared.series.Series.{Series}
 use Rattle.script_core.specs.Fields.{is_silent, newline}
-use Rattle.script_core.specs.Parts.{HasField, series_front}
+use Rattle.script_core.specs.Parts.{AreSeriesParts, HasField, series_front}
 use Rattle.script_core.specs.Spelling.{SoFar, Says, inside, SeriesLine}
 use Rattle.script_core.specs.Spelling as spelling
 use Rattle.script_core.specs.declared.block.Block.{Block}
 use Rattle.script_core.specs.declared.body.Body.TheVariants.{Inline}
 use Rattle.script_core.specs.declared.script.Script.{Script}
 use Rattle.script_core.proofs.LawfulParts.{sets_total}
-use Rattle.script_core.proofs.SampleSigns.{all_joined, is_sign, sample_fields, samples_all, samples_size, sign_is_ascii, sign_not_newline}
+use Rattle.script_core.proofs.SampleSigns.{all_joined, is_sign, sample_fields, samples_all, sign_is_ascii, sign_not_newline}
 use Rattle.script_core.proofs.SpelledValues.{rise_spelled}
 use Rattle.generated_day.specs.Day.{block_start, labels_text, two_digits, series_line, all_series_text, samples_text}
-use Rattle.day_laws.proofs.DaySamples.{all_samples, have_fields, lie_within, their_text, they_are_few, they_are_some, they_rise}
-use Rattle.day_laws.proofs.Tells.{Tells, in_range, is_print, speaks, tells_both, tells_line, tells_nothing}
+use Rattle.generated_day.proofs.DaySamples.{all_samples, have_fields, lie_within, their_text_is_short, they_are_some, they_rise}
+use Rattle.generated_day.proofs.Tells.{Tells, in_range, is_print, print_line, print_utf8, speaks, tells_both, tells_line, tells_nothing}
 
 -- ---- the labels
 
@@ -146,6 +146,17 @@ module _ (number block replica : ℕ) (early : block < 12) where
   abbrev pub first_series : ℕ → List Series
   first_series count = map series_at (range_with_len 0 count)
 
+  -- the parts of a series line
+  pub series_parts : (series : ℕ) → series < 100 → AreSeriesParts (labels_text series) (labels_at series) (all_samples number block replica series)
+  series_parts series few = record {
+    is_set = set_text_at series few;
+    utf8 = print_utf8 (labels_text series) (labels_print series few);
+    one_line = print_line (labels_text series) (labels_print series few);
+    some = they_are_some number block replica series;
+    fields = have_fields number block replica series early;
+    rising = they_rise number block replica series;
+  }
+
   their_labels : (from count : ℕ) → map (λ (one : Series). one.labels) (map series_at (range_with_len from count)) ≡ map labels_at (range_with_len from count)
   their_labels from zero = refl
   their_labels from (suc count) = ap (λ l. labels_at from ∷ l) (their_labels (from + 1) count)
@@ -187,18 +198,13 @@ module _ (number block replica : ℕ) (early : block < 12) where
           adds = ap (λ l. inside (record script { blocks = others ++ block_with l ∷ [] })) more;
         }
 
-    line_is : (series : ℕ) → series_line number block replica series ≡ series_front (labels_text series) (all_samples number block replica series) ++ newline ∷ []
-    unfolding series_line series_front
-    line_is series =
-        ap (λ t. codes "series " ++ labels_text series ++ t ++ newline ∷ []) (sym (their_text number block replica series))
-
     one_tells : (line series : ℕ) → series < 100 → Tells (with_first series) line (series_line number block replica series) (with_first (series + 1)) (line + 1)
-    unfolding series_front
+    unfolding series_line samples_text series_front
     one_tells line series few =
         let samples = all_samples number block replica series in
         let front = series_front (labels_text series) samples in
         let silent : is_silent front ≡ false = speaks 115 (codes "eries " ++ labels_text series ++ flat_map spaced_sample_text samples) refl in
-        subst (λ t. Tells (with_first series) line t (with_first (series + 1)) (line + 1)) (sym (line_is series)) (tells_line (with_first series) (with_first (series + 1)) line front silent (front_prints (labels_text series) samples (have_fields number block replica series early) (labels_print series few)) (spelling.series (one_line series few)))
+        tells_line (with_first series) (with_first (series + 1)) line front silent (front_prints (labels_text series) samples (have_fields number block replica series early) (labels_print series few)) (spelling.series (one_line series few))
 
     more_tell : (line from count : ℕ) → from + count ≡ 100 → Tells (with_first from) line (flat_map (series_line number block replica) (range_with_len from count)) (with_first 100) (line + count)
     more_tell line from zero all =
@@ -216,19 +222,17 @@ module _ (number block replica : ℕ) (early : block < 12) where
 
   -- ---- how long they are
 
-  one_short : (series : ℕ) → series < 100 → length (series_line number block replica series) ≤ 18_300
+  one_short : (series : ℕ) → series < 100 → length (series_line number block replica series) ≤ 13_300
   unfolding series_line labels_text two_digits
   one_short series few =
       omega (
         arith,
-        samples_size (all_samples number block replica series) (have_fields number block replica series early),
-        they_are_few number block replica series,
-        ap length (their_text number block replica series),
+        their_text_is_short number block replica series early,
         length-append (codes "series " ++ labels_text series ++ samples_text number block replica series) (newline ∷ []),
         length-append (codes "series " ++ labels_text series) (samples_text number block replica series),
       )
 
-  more_short : (from count : ℕ) → from + count ≤ 100 → length (flat_map (series_line number block replica) (range_with_len from count)) ≤ 18_300 * count
+  more_short : (from count : ℕ) → from + count ≤ 100 → length (flat_map (series_line number block replica) (range_with_len from count)) ≤ 13_300 * count
   more_short from zero few = omega arith
   more_short from (suc count) few =
       omega (
@@ -238,6 +242,6 @@ module _ (number block replica : ℕ) (early : block < 12) where
         more_short (from + 1) count (omega (arith, few)),
       )
 
-  pub all_short : length (all_series_text number block replica) ≤ 1_830_000
+  pub all_short : length (all_series_text number block replica) ≤ 1_330_000
   unfolding all_series_text
   all_short = more_short 0 100 (omega arith)

@@ -14,13 +14,14 @@ use Rattle.script_workers.specs.declared.task.Task.{Task}
 use Rattle.script_workers.specs.declared.work.Work.TheVariants as works
 use Rattle.script_core.specs.Fields.{lines_of}
 use Rattle.script_core.specs.Limits.{longest_text}
-use Rattle.script_core.specs.Spelling.{Say, SoFar, Spells, nothing}
+use Rattle.script_core.specs.Spelling.{Say, SoFar, nothing}
 use Rattle.script_core.specs.declared.block.Block.{Block}
-use Rattle.script_core.specs.declared.script.Script.{Script}
 use Rattle.generated_day.specs.Day.{all_blocks_text, all_rounds_text, all_uploads_text, at_line, block_start, cleaning_text, day_start, day_text, hours, look_text, minutes, phases_text, round_text, setup_text, ulid_of, upload_line, uploads_at}
-use Rattle.day_laws.proofs.DayBlocks.{Ready, all_blocks_short, all_told, decimal_short, setup_tells, with_blocks}
-use Rattle.day_laws.proofs.DayPhases.{Stands, at_tells, clean_tells, compact_tells, more_stand, none_stand, phase_of, query_tells, stand_later, state, sync_tells, upload_tells}
-use Rattle.day_laws.proofs.Tells.{Tells, is_print, tells_both, tells_nothing}
+use Rattle.generated_day.specs.Wanting.{IsShortScript}
+use Rattle.generated_day.proofs.DayNumbers.{decimal_short}
+use Rattle.generated_day.proofs.DayBlocks.{Ready, all_blocks_short, all_told, setup_tells, with_blocks}
+use Rattle.generated_day.proofs.DayPhases.{Stands, at_tells, clean_tells, compact_tells, more_stand, none_stand, phase_of, query_tells, stand_later, state, sync_tells, upload_tells}
+use Rattle.generated_day.proofs.Tells.{Tells, is_print, tells_both, tells_nothing}
 
 -- ---- how many work
 
@@ -294,24 +295,26 @@ phases_short =
       length-append four (look_text (day_start + hours 74 + minutes 1)),
     )
 
-day_short : (number : ℕ) → length (day_text number) ≤ longest_text
+day_short : (number : ℕ) → 2 * length (day_text number) ≤ longest_text
 unfolding day_text setup_text
 day_short number =
     omega (arith, length-append (setup_text ++ all_blocks_text number) phases_text, length-append setup_text (all_blocks_text number), all_blocks_short number, phases_short)
 
-pub day_spells : (number : ℕ) → (script : Script) × Spells (day_text number) script
+pub day_spells : (number : ℕ) → IsShortScript (day_text number)
 unfolding day_text
 day_spells number =
     let told = all_told number in
     let blocks = told.blocks in
     let phases = phases_go blocks told.ready told.in_block [] [] 2_428 (stand_later [] 0 (block_start 0) 0 (omega arith) none_stand) in
     let last = state blocks told.ready phases.flag phases.selectors phases.phases in
-    let tells : Tells nothing 1 (day_text number) last phases.next = tells_both nothing (with_blocks blocks told.in_block) last 1 2_428 phases.next (setup_text ++ all_blocks_text number) phases_text (tells_both nothing (with_blocks [] false) (with_blocks blocks told.in_block) 1 4 2_428 setup_text (all_blocks_text number) setup_tells told.tells) phases.tells in (
-      last.script,
-      record {
-        short = day_short number;
+    let tells : Tells nothing 1 (day_text number) last phases.next = tells_both nothing (with_blocks blocks told.in_block) last 1 2_428 phases.next (setup_text ++ all_blocks_text number) phases_text (tells_both nothing (with_blocks [] false) (with_blocks blocks told.in_block) 1 4 2_428 setup_text (all_blocks_text number) setup_tells told.tells) phases.tells in
+    record {
+      script = last.script;
+      spelled = record {
+        short = omega (arith, day_short number);
         in_block = phases.flag;
         lines = subst (λ t. Say nothing 1 (lines_of t) last) (append-nil (day_text number)) (tells [] last refl);
         ended = told.ready.ended;
-      },
-    )
+      };
+      short = day_short number;
+    }

@@ -1,6 +1,0 @@
-mod Tells
-mod DaySamples
-mod DaySeries
-mod DayBlocks
-mod DayPhases
-mod DayScripts
