@@ -10,7 +10,7 @@ use world_turn::Closed;
 /// A world in which nothing more is done, with the note of its run, unless nothing was begun.
 ///
 /// It is made of what did every operation on the world since its journal was empty. It hands out the journal and the bucket, and
-/// never the world. So its note knows of all that the run's operations were answered.
+/// never the world. So its note is that of all the run's operations.
 #[derive(Drop)]
 pub struct Finished<B: Bucket> {
     world: World<B>,

@@ -91,7 +91,11 @@ impl<B: Bucket> LineHand<B> {
 }
 
 impl<B: Bucket> Hand for LineHand<B> {
-    ghost use Rattle.std.specs.Prelude.{Some};
+    ghost use Rattle.std.specs.Prelude.{◌≡◌, ◌⊎◌, ◌++◌, ◌||◌, IsTrue, Some};
+    ghost use Rattle.world_core.specs.Keeping.{IsFull};
+    ghost use Rattle.world_core.specs.Machines.{gained, IfDone, is_full};
+    ghost use Rattle.world_core.specs.Operations.{IsLawful, IsAnswer};
+    ghost use Rattle.world_turn.specs.Turns.{is_wanting};
     ghost use Rattle.run_notes.specs.LineHands.{KeepsRun, keeps_run-none, keeps_run-more};
 
     ghost entries = { λ hand. hand.world.journal };
@@ -114,8 +118,23 @@ impl<B: Bucket> Hand for LineHand<B> {
         first.opened.value next.opened.value last.opened.value first.wanted next.wanted
         last.wanted first.world next.world last.world one two };
 
+    /// It says what every hand says, and that it notes want of memory just where an operation is answered so (`wanting`).
     #[tactic(auto, using(crate::proofs::Acting::acted))]
-    fn act(&mut self, op: Op) -> Acted {
+    fn act(&mut self, op: Op) -> Acted
+        requires { IsLawful op }
+        ensures entries { self.new.world.journal
+            ≡ self.old.world.journal ++ gained self.old.seat op result }
+        ensures answer { IfDone result (IsAnswer op) }
+        ensures seat { self.new.seat ≡ self.old.seat }
+        ensures refused { self.new.refused ≡ (self.old.refused || is_full result) }
+        ensures full { result ≡ Acted.Full → IsFull self.new.world.journal }
+        ensures memory { result ≡ Acted.NoMemory → ¬ IsFull self.new.world.journal }
+        ensures wanted { IsTrue self.new.wanted
+            → IsTrue self.old.wanted ⊎ (result ≡ Acted.NoMemory) }
+        ensures wanting { self.new.wanted ≡ (self.old.wanted || is_wanting result) }
+        ensures keeps { KeepsRun B.faults B.quiet B.asked self.old.opened.value self.old.wanted
+            self.old.world self.new.opened.value self.new.wanted self.new.world }
+    {
         let acted = self.world.act(self.seat, op);
         match acted {
             Acted::Full => self.refused = true,

@@ -5,8 +5,8 @@ use bucket_core::Bucket;
 use std::snapshot::Snapshot;
 use world_core::World;
 
-/// What the operations of a run were answered: whether one was that the journal is full, and whether memory was wanted for one; and
-/// which world the run left.
+/// What the operations of a run were answered: whether one was that the journal is full; that memory was wanted for one, which it tells
+/// only where it was; and which world the run left.
 ///
 /// It is made of what did the operations of the whole run, and of nothing else: by `Finished` alone.
 #[derive(Drop)]
@@ -24,7 +24,8 @@ impl<B: Bucket> RunNote<B> {
         self.full
     }
 
-    /// Whether memory was wanted for an operation. Then the bucket may have been asked for one that the journal does not show.
+    /// Memory was wanted for an operation, so the bucket may have been asked for one that the journal does not show. Unless this is
+    /// said, it was asked for those that the journal shows.
     pub fn wanted_memory(&self) -> bool
         ensures { result ≡ self.now.wanted }
     {

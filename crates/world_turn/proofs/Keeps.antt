@@ -183,9 +183,9 @@ module _ {W : Type 0} (journal : W → List Entry) (ticks faults : W → ℕ) (a
   told_still s r id v w at live more so = some_still (λ u. (u.live ≡ true) × (u.wanted ≡ true)) s.views id v w at (λ m. (live, more m.1)) (r.told so)
 
   -- the whole journal is still a front
-  longest_still : (s : St) (r : R s) (id : ℕ) (v w : View) → get_elem? s.views id ≡ some v → w.front ≡ v.front → w.beside ≡ v.beside → IsSeen r.log (set s.views id w)
-  longest_still s r id v w at front beside =
-      some_still (λ u. (u.front ≡ r.log) ⊎ (u.beside ≡ r.log)) s.views id v w at (⊎_elim (λ m. inl (front ∙ m)) (λ m. inr (beside ∙ m))) r.longest
+  longest_still : (s : St) (r : R s) (id : ℕ) (v w : View) → get_elem? s.views id ≡ some v → w.live ≡ true → w.front ≡ v.front → w.beside ≡ v.beside → IsSeen r.log (set s.views id w)
+  longest_still s r id v w at live front beside =
+      some_still (λ u. (u.live ≡ true) × ((u.front ≡ r.log) ⊎ (u.beside ≡ r.log))) s.views id v w at (λ m. (live, ⊎_elim (λ q. inl (front ∙ q)) (λ q. inr (beside ∙ q)) m.1)) r.longest
 
   -- no other seat holds the turn
   alone : (s : St) (r : R s) (id : ℕ) (v : View) → get_elem? s.views id ≡ some v → v.holds ≡ true → (j : ℕ) (u : View) → j ≢ id → get_elem? s.views j ≡ some u → u.holds ≡ true → ⊥
@@ -216,7 +216,7 @@ module _ {W : Type 0} (journal : W → List Entry) (ticks faults : W → ℕ) (a
             (λ e. absurd (omega arith))
             (λ _. (refl, homes, (w, set_here s.views id w (at_lt s.views id v at), refl)))
             (told_still s r id v w at live (λ so. so))
-            (longest_still s r id v w at refl refl)),
+            (longest_still s r id v w at live refl refl)),
         (
           (λ _. (h.0, refl, subst (λ (o : Opened). From o h.0) (sym (f.comes live)) h.3, (λ never. subst (λ (o : Opened). Asked o h.0) (sym (f.comes live)) (h.4 never)), subst (IsPrefix v.front) (sym h.2) f.front, subst (λ l. v.known ≤ length l) (sym h.2) f.known, subst (λ l. v.own ≡ of_seat v.seat l) (sym h.2) (f.own live))),
           (λ not. absurd (not z)),
@@ -280,7 +280,7 @@ module _ {W : Type 0} (journal : W → List Entry) (ticks faults : W → ℕ) (a
             (λ z. let a = x.0 in absurd (omega arith))
             (λ nz. let t = r.taken nz in (t.0, t.1, (w, subst (λ (n : ℕ). get_elem? (set s.views id w) n ≡ some w) x.1 (set_here s.views id w (at_lt s.views id v at)), h)))
             (told_still s r id v w at live (λ so. so))
-            (id, w, set_here s.views id w (at_lt s.views id v at), inl (ap (λ l. l ++ e ∷ []) x.3)),
+            (id, w, set_here s.views id w (at_lt s.views id v at), (live, inl (ap (λ l. l ++ e ∷ []) x.3))),
         λ e' lies'. ap (λ (y : Entry). (adding v y, c)) (one_last v.held e e' (sym (lies_so c _ lies) ∙ lies_so c _ lies')),
       )
 
@@ -311,7 +311,7 @@ module _ {W : Type 0} (journal : W → List Entry) (ticks faults : W → ℕ) (a
         w,
         keeps,
         tt,
-        rests_on s r 0 id v w at live rests live refl (λ so. so) (longest_still s r id v w at refl refl)
+        rests_on s r 0 id v w at live rests live refl (λ so. so) (longest_still s r id v w at live refl refl)
             record { front = f.front; known = omega arith; comes = f.comes; own = f.own; seated = f.seated; beside = f.beside; rooted = f.rooted; holds = λ h. absurd (true≢false (sym h ∙ rests)) },
         (omega arith, refl),
       )
@@ -324,7 +324,7 @@ module _ {W : Type 0} (journal : W → List Entry) (ticks faults : W → ℕ) (a
         keeps,
         tt,
         rests_on s r 0 id v w at live rests live refl (λ so. so)
-            (some_still (λ u. (u.front ≡ r.log) ⊎ (u.beside ≡ r.log)) s.views id v w at (λ m. inl (longer_whole v.front v.beside r.log f.front f.beside m)) r.longest)
+            (some_still (λ u. (u.live ≡ true) × ((u.front ≡ r.log) ⊎ (u.beside ≡ r.log))) s.views id v w at (λ m. (live, inl (longer_whole v.front v.beside r.log f.front f.beside m.1))) r.longest)
             record { front = longer_front v.front v.beside r.log f.front f.beside; known = f.known; comes = f.comes; own = f.own; seated = f.seated; beside = front_none r.log; rooted = f.rooted; holds = λ h. absurd (true≢false (sym h ∙ rests)) },
         (refl, longer_first v.front v.beside r.log f.front f.beside, longer_second v.front v.beside r.log f.front f.beside),
       )
@@ -357,7 +357,7 @@ module _ {W : Type 0} (journal : W → List Entry) (ticks faults : W → ℕ) (a
         gives_back s r id v w c world r.wanted at live h is j t (λ never. all ((f.holds h).4 ∙ never)) live refl refl
             (λ same. record { front = f.front; known = f.known; comes = f.comes; own = f.own; seated = f.seated; beside = f.beside; rooted = f.rooted; holds = λ b. absurd (true≢false (sym b)) })
             (told_still s r id v w at live (λ so. so))
-            (λ same. longest_still s r id v w at refl refl),
+            (λ same. longest_still s r id v w at live refl refl),
         refl,
       )
 
@@ -372,7 +372,7 @@ module _ {W : Type 0} (journal : W → List Entry) (ticks faults : W → ℕ) (a
         gives_back s r id v w c world r.wanted at live h is j t (λ never. all ((f.holds h).4 ∙ never)) live refl refl
             (λ same. record { front = subst (λ l. IsPrefix l r.log) (sym same) (front_whole r.log); known = subst (λ l. length l ≤ length r.log) (sym same) (omega arith); comes = f.comes; own = f.own; seated = f.seated; beside = f.beside; rooted = f.rooted; holds = λ b. absurd (true≢false (sym b)) })
             (told_still s r id v w at live (λ so. so))
-            (λ same. (id, w, set_here s.views id w (at_lt s.views id v at), inl same)),
+            (λ same. (id, w, set_here s.views id w (at_lt s.views id v at), (live, inl same))),
         refl,
       )
 
@@ -387,7 +387,7 @@ module _ {W : Type 0} (journal : W → List Entry) (ticks faults : W → ℕ) (a
         gives_back s r id v w c world true at live h is j t (λ never. absurd (true≢false never)) live refl refl
             (λ same. record { front = f.front; known = f.known; comes = f.comes; own = f.own; seated = f.seated; beside = f.beside; rooted = f.rooted; holds = λ b. absurd (true≢false (sym b)) })
             (λ _. (id, w, set_here s.views id w (at_lt s.views id v at), (live, refl)))
-            (λ same. longest_still s r id v w at refl refl),
+            (λ same. longest_still s r id v w at live refl refl),
         refl,
       )
 
@@ -460,7 +460,7 @@ module _ {W : Type 0} (journal : W → List Entry) (ticks faults : W → ℕ) (a
         free = r.free;
         taken = λ nz. let t = taken_still s r id v left at rests nz in (t.0, t.1, (t.2.0, at_longer views (right ∷ []) r.holder t.2.0 t.2.1, t.2.2));
         told = λ so. some_longer (λ u. (u.live ≡ true) × (u.wanted ≡ true)) views (right ∷ []) (told_still s r id v left at live (λ y. y) so);
-        longest = some_longer (λ u. (u.front ≡ r.log) ⊎ (u.beside ≡ r.log)) views (right ∷ []) (longest_still s r id v left at refl refl);
+        longest = some_longer (λ u. (u.live ≡ true) × ((u.front ≡ r.log) ⊎ (u.beside ≡ r.log))) views (right ∷ []) (longest_still s r id v left at live refl refl);
         everybody = λ n lt. dite (ℕ_discrete n r.seats)
             (λ same. inl (length views, right, at_last views right (length views) refl, (refl, x.0 ∙ sym same)))
             (λ apart. ⊎_elim (λ t. inl (some_longer (λ u. (u.live ≡ true) × (u.seat ≡ n)) views (right ∷ []) t)) (λ c. inr c) (seat_still s.views r.joined r.joined id v left n at (λ m. m) (λ c. c) (r.everybody n (omega arith))));
@@ -540,9 +540,9 @@ module _ {W : Type 0} (journal : W → List Entry) (ticks faults : W → ℕ) (a
             (λ apart'. (t.0, t.1, set_else views other t.0 spent off ∙ (set_else s.views id t.0 both apart' ∙ t.2), t.3)));
         longest = ⊎_elim
             (λ t. t)
-            (λ m. (id, both, here, inr (bare_front w r.log bare' g.front m)))
-            (some_given (λ u. (u.front ≡ r.log) ⊎ (u.beside ≡ r.log)) views other w spent there
-            (some_still (λ u. (u.front ≡ r.log) ⊎ (u.beside ≡ r.log)) s.views id v both at (λ m. inl (bare_front v r.log bare f.front m)) r.longest));
+            (λ m. (id, both, here, (live, inr (bare_front w r.log bare' g.front m.1))))
+            (some_given (λ u. (u.live ≡ true) × ((u.front ≡ r.log) ⊎ (u.beside ≡ r.log))) views other w spent there
+            (some_still (λ u. (u.live ≡ true) × ((u.front ≡ r.log) ⊎ (u.beside ≡ r.log))) s.views id v both at (λ m. (live, inl (bare_front v r.log bare f.front m.1))) r.longest));
         everybody = λ n lt. ⊎_elim
             (λ t. ⊎_elim (λ left. inl left) (λ m. inr (joined_last r.joined w.seat w.own n m.1)) (some_given (λ u. (u.live ≡ true) × (u.seat ≡ n)) views other w spent there t))
             (λ c. inr c)
@@ -565,7 +565,7 @@ module _ {W : Type 0} (journal : W → List Entry) (ticks faults : W → ℕ) (a
     free = λ _. (w, refl, empty, same, λ _. all);
     taken = λ nz. absurd (nz refl);
     told = λ so. absurd (true≢false (sym so));
-    longest = (0, root opened, refl, inl refl);
+    longest = (0, root opened, refl, (refl, inl refl));
     everybody = λ n lt. inl (0, root opened, refl, (refl, let z : n ≡ 0 = omega arith in sym z));
   }
     where
@@ -585,22 +585,34 @@ module _ {W : Type 0} (journal : W → List Entry) (ticks faults : W → ℕ) (a
   off_wanted : (v u : View) → u ≡ v → v.wanted ≡ false → u.wanted ≡ true → ⊥
   off_wanted v u e a b = true≢false (sym b ∙ (ap (λ (x : View). x.wanted) e ∙ a))
 
+  -- once every other seat was joined, no other view is live
+  last_live : (s : St) (r : R s) (id : ℕ) (v : View) → get_elem? s.views id ≡ some v → id ≡ 0 → v.live ≡ true → v.seat ≡ 0 → AllJoined v → (port : ℕ) (u : View) → get_elem? s.views port ≡ some u → u.live ≡ true → u ≡ v
+  last_live s r id v at first live seat all port u at' live' =
+      let f = r.each id v at in
+      let x = f.rooted first in
+      let y = (r.each port u at').seated live' in
+      dite (ℕ_discrete u.seat 0)
+      (λ z. let same : port ≡ id = sym y.1 ∙ (ap r.place (z ∙ sym seat) ∙ (f.seated live).1) in some-injective _ _ (sym at' ∙ (ap (get_elem? s.views) same ∙ at)))
+      (λ some_seat. let m = y.0 in let n = x.0 in absurd (not_gone s r port u at' live' r.joined r.kept (subst (λ (j : List (ℕ × List Entry)). Contains (map (λ kept. kept.0) j) u.seat) x.1 (all u.seat (omega arith) (omega arith)))))
+
   -- once every other seat was joined, the root says whether memory was wanted
   unwanted : (s : St) (r : R s) (id : ℕ) (v : View) → get_elem? s.views id ≡ some v → id ≡ 0 → v.live ≡ true → v.seat ≡ 0 → AllJoined v → v.wanted ≡ false → r.wanted ≡ false
   unwanted s r id v at first live seat all never =
-      let f = r.each id v at in
-      let x = f.rooted first in
       never_true r.wanted (λ so.
       let t = r.told so in
-      let y = (r.each t.0 t.1 t.2).seated t.3.0 in
-      dite (ℕ_discrete t.1.seat 0)
-      (λ z. let same : t.0 ≡ id = sym y.1 ∙ (ap r.place (z ∙ sym seat) ∙ (f.seated live).1) in off_wanted v t.1 (some-injective _ _ (sym t.2 ∙ (ap (get_elem? s.views) same ∙ at))) never t.3.1)
-      (λ some_seat. let m = y.0 in let n = x.0 in not_gone s r t.0 t.1 t.2 t.3.0 r.joined r.kept (subst (λ (j : List (ℕ × List Entry)). Contains (map (λ kept. kept.0) j) t.1.seat) x.1 (all t.1.seat (omega arith) (omega arith)))))
+      off_wanted v t.1 (last_live s r id v at first live seat all t.0 t.1 t.2 t.3.0) never t.3.1)
+
+  -- and it has seen the whole journal
+  saw_all : (s : St) (r : R s) (id : ℕ) (v : View) → get_elem? s.views id ≡ some v → id ≡ 0 → v.live ≡ true → v.seat ≡ 0 → v.beside ≡ [] → AllJoined v → v.front ≡ r.log
+  saw_all s r id v at first live seat bare all =
+      let t = r.longest in
+      let is = last_live s r id v at first live seat all t.0 t.1 t.2 t.3.0 in
+      bare_front v r.log bare ((r.each id v at).front) (subst (λ (u : View). (u.front ≡ r.log) ⊎ (u.beside ≡ r.log)) is t.3.1)
 
   -- what the root knows once every other seat was joined
-  pub closes : (id : ℕ) (v : View) (words : List ℕ) (slots : List (Option W)) → id ≡ 0 → v.live ≡ true → v.holds ≡ false → v.seat ≡ 0 → AllJoined v
+  pub closes : (id : ℕ) (v : View) (words : List ℕ) (slots : List (Option W)) → id ≡ 0 → v.live ≡ true → v.holds ≡ false → v.seat ≡ 0 → v.beside ≡ [] → AllJoined v
       → Final (Seen R id v) words slots → (w : W) × (get_elem? slots 0 ≡ some (Some w)) × Closes v (ticks w) (journal w) × From opened w × (v.wanted ≡ false → Asked opened w)
-  closes id v words slots root live rests seat all end =
+  closes id v words slots root live rests seat bare all end =
       let s = end.0 in
       let r = end.1.0 in
       let at = end.1.1 in
@@ -612,7 +624,7 @@ module _ {W : Type 0} (journal : W → List Entry) (ticks faults : W → ℕ) (a
         end.4 0 (Some h.0) (ap (λ hs. get_elem? hs 0) h.1),
         record {
           ticks = h.3.tick ∙ sym (ap (λ (o : Opened). o.tick) (f.comes live));
-          front = subst (IsPrefix v.front) (sym h.2) f.front;
+          front = saw_all s r id v at root live seat bare all ∙ sym h.2;
           own = f.own live ∙ ap₂ of_seat seat (sym h.2);
           joined = subst (λ (j : List (ℕ × List Entry)). AllByRecursion (λ k. k.1 ≡ of_seat k.0 (journal h.0)) j) (sym x.1) (each_of (IsKept r.log s.views r.seats) (λ k. k.1 ≡ of_seat k.0 (journal h.0)) (λ k i. i.own ∙ ap (of_seat k.0) (sym h.2)) r.joined r.kept);
           nobody = λ n le. ap (of_seat n) h.2 ∙ (let m = x.0 in r.nobody n (omega arith));
@@ -620,7 +632,8 @@ module _ {W : Type 0} (journal : W → List Entry) (ticks faults : W → ℕ) (a
         h.3,
         λ never. h.4 (unwanted s r id v at root live seat all never),
       ))
-      (λ nz. let t = r.taken nz in let u = t.2.0 in let g = r.each r.holder u t.2.1 in let l = (g.holds t.2.2).2 in let y = g.seated l in
-      dite (ℕ_discrete u.seat 0)
-      (λ z. let same : r.holder ≡ id = sym y.1 ∙ (ap r.place (z ∙ sym seat) ∙ (f.seated live).1) in absurd (off_too v u (some-injective _ _ (sym at ∙ (ap (get_elem? s.views) (sym same) ∙ t.2.1))) rests t.2.2))
-      (λ some_seat. let m = y.0 in let n = x.0 in absurd (not_gone s r r.holder u t.2.1 l r.joined r.kept (subst (λ (j : List (ℕ × List Entry)). Contains (map (λ kept. kept.0) j) u.seat) x.1 (all u.seat (omega arith) (omega arith))))))
+      (λ nz.
+      let t = r.taken nz in
+      let u = t.2.0 in
+      let l = ((r.each r.holder u t.2.1).holds t.2.2).2 in
+      absurd (off_too v u (sym (last_live s r id v at root live seat all r.holder u t.2.1 l)) rests t.2.2))

@@ -2,7 +2,7 @@
 -- with one another between any two steps. There is one journal, of which the rule says:
 --
 --   1. The first word counts its entries, and the second is 1 while the turn is held and 0 while it is free.
---   2. Each front that a pass has seen begins it, the longest one is all of it, and no known length passes its length.
+--   2. Each front that a pass has seen begins it, that of some live view is all of it, and no known length passes its length.
 --   3. While the turn is free the world is at home, has this journal, and comes from the one that was opened.
 --   4. While the turn is held the world is out, and one view holds the turn: no other does, and it holds the whole journal.
 --   5. Each seat that was made has a live view, or was joined. No two live views have the same seat, and none has one that
@@ -79,9 +79,9 @@ SomeView P views = (port : ℕ) × (v : View) × (get_elem? views port ≡ some 
 abbrev pub IsToldWanted : List View → Type 0
 IsToldWanted views = SomeView (λ v. (v.live ≡ true) × (v.wanted ≡ true)) views
 
--- this is the front of a view, or one that lies beside it
+-- this is the front of a live view, or one that lies beside it
 abbrev pub IsSeen : List Entry → List View → Type 0
-IsSeen front views = SomeView (λ v. (v.front ≡ front) ⊎ (v.beside ≡ front)) views
+IsSeen front views = SomeView (λ v. (v.live ≡ true) × ((v.front ≡ front) ⊎ (v.beside ≡ front))) views
 
 -- the seat has a live view, or was joined
 abbrev pub HasSeat : List View → List (ℕ × List Entry) → ℕ → Type 0
