@@ -1,6 +1,6 @@
 -- Phases that were done one after another.
 use Rattle.std.proofs.Common.{◌≡◌, ℕ, zero, suc, ◌+◌, ◌-◌, ◌<◌, List, [], ◌∷◌, ◌++◌, length, take, drop, refl, sym, ◌∙◌, ap, subst, inr, append_assoc, take-append-drop, arith}
-use Rattle.std.specs.Prelude.{◌≢◌, ◌^◌, min, Some, Result, Ok, Err, OnOk, slice_get}
+use Rattle.std.specs.Prelude.{◌≢◌, ◌^◌, min, Some, Result, Ok, Err, OnErr, OnOk, slice_get}
 use Rattle.std.specs.List.{All}
 use Rattle.std.proofs.lemmas.List.{append-nil, length-append, length-take}
 use Rattle.std.proofs.lemmas.Option.{slice_get_within, get_or_from_slice_get}
@@ -23,7 +23,7 @@ use Rattle.report_lines.specs.lifecycle_core.proofs.phases.RunsInLine.{AreWhole,
 use Rattle.report_lines.specs.script_running.specs.Outcomes.{PhasesCame}
 use Rattle.report_lines.specs.script_running.specs.Sights.{Sees, no_sight}
 use Rattle.report_lines.specs.script_running.specs.declared.sight.Sight.{Sight}
-use Rattle.line_running.specs.Progress.{HasRun, IsBrokenAt, IsDueInLine, PhaseStep, PhasesDone, Reached, Shows, RunCame, TasksBroken, TasksDone, TasksTold, duties_at}
+use Rattle.line_running.specs.Progress.{HasRun, IsBrokenAt, IsDueInLine, IsShortAt, PhaseStep, PhasesDone, Reached, Shows, RunCame, TasksBroken, TasksDone, TasksTold, duties_at}
 use Rattle.report_lines.specs.Telling.{tasks_of}
 use Rattle.report_lines.specs.script_running.specs.declared.came.Broken.{Broken}
 use Rattle.report_lines.specs.script_running.specs.declared.came.Broken.TheVariants as broken
@@ -167,17 +167,28 @@ module _ {R : Type 0} (tells : R → Script → List Task → List Outcome → T
         report_is = r.report_is;
       }
 
+  -- memory was wanted in the phase, which came to these ends. This is still the report of those before it
+  pub short_at : (clock : Entry) (new made : List Entry) (ends : List End) (after : Holdings) (more : R) → BeginsPhase phase clock → (r : Reached tells setting place shown journal report)
+      → InLine setting (seat_of (workers_of setting.script place)) r.views (duties_at setting 0 phase.tasks) made ends after → new ≡ (journal ++ clock ∷ []) ++ made → tells more setting.script (tasks_of (take place setting.script.phases)) r.outcomes
+      → IsShortAt tells setting place new more
+  short_at clock new made ends after more begins r run same told =
+      let front = sym (take-append-drop place setting.script.phases) ∙ ap (λ (ps : List Phase). take place setting.script.phases ++ ps) (drop_at setting.script.phases place phase at) in
+      record {
+        ends = r.ends;
+        begun = ends ∷ [];
+        few = omega arith;
+        run = broken_run clock new made ends after begins r run same;
+        turns = subst (λ (ps : List Phase). AreInTurn (in_line setting) 0 ps (r.ends ++ ends ∷ [])) (sym front)
+            (whole_turns setting (length (take place setting.script.phases)) (take place setting.script.phases) (phase ∷ drop (place + 1) setting.script.phases) r.ends (ends ∷ []) refl (told_whole setting 0 (take place setting.script.phases) r.ends r.outcomes r.told)
+            (one_turns (in_line setting) (length (take place setting.script.phases)) phase (drop (place + 1) setting.script.phases) ends));
+        outcomes = r.outcomes;
+        told = r.told;
+        report_is = told;
+      }
+
   pub broken_short : (clock : Entry) (new : List Entry) → BeginsPhase phase clock → (r : Reached tells setting place shown journal report)
-      → ((v : Holdings) → Shows v shown → TasksBroken setting (seat_of (workers_of setting.script place)) phase.tasks v (journal ++ clock ∷ []) new broken.NoMemory) → HasRun setting new
-  broken_short clock new begins r tasks =
-      let t = tasks r.views r.shows in
-      let front = sym (take-append-drop place setting.script.phases) ∙ ap (λ (ps : List Phase). take place setting.script.phases ++ ps) (drop_at setting.script.phases place phase at) in (
-        r.ends ++ t.ends ∷ [],
-        broken_run clock new t.made t.ends t.after begins r t.run t.entries,
-        subst (λ (ps : List Phase). AreInTurn (in_line setting) 0 ps (r.ends ++ t.ends ∷ [])) (sym front)
-            (whole_turns setting (length (take place setting.script.phases)) (take place setting.script.phases) (phase ∷ drop (place + 1) setting.script.phases) r.ends (t.ends ∷ []) refl (told_whole setting 0 (take place setting.script.phases) r.ends r.outcomes r.told)
-            (one_turns (in_line setting) (length (take place setting.script.phases)) phase (drop (place + 1) setting.script.phases) t.ends)),
-      )
+      → ((v : Holdings) → Shows v shown → TasksBroken setting (seat_of (workers_of setting.script place)) phase.tasks v (journal ++ clock ∷ []) new broken.NoMemory) → IsShortAt tells setting place new report
+  broken_short clock new begins r tasks = let t = tasks r.views r.shows in short_at clock new t.made t.ends t.after report begins r t.run t.entries r.report_is
 
   -- the phase was done to its end
   pub reached_more : (clock : Entry) (new : List Entry) (gateways : List Sight) (own more : R) → BeginsPhase phase clock → (r : Reached tells setting place shown journal report)
@@ -199,34 +210,26 @@ module _ {R : Type 0} (tells : R → Script → List Task → List Outcome → T
             (joins (tasks_of (take place setting.script.phases)) phase.tasks r.outcomes t.outcomes r.report_is t.report_is);
       }
 
--- nothing is asked of a report
-abbrev unasked : (R : Type 0) → R → Script → List Task → List Outcome → Type 0
-unasked R report script tasks outcomes = Unit {0}
+-- memory was wanted before a phase was begun
+pub short_before : {R : Type 0} (tells : R → Script → List Task → List Outcome → Type 0) (setting : Setting) (place : ℕ) (shown : List Sight) (journal : List Entry) (report : R) → Reached tells setting place shown journal report → IsShortAt tells setting place journal report
+short_before tells setting place shown journal report r = record {
+  ends = r.ends;
+  begun = [];
+  few = omega arith;
+  run = subst (λ (es : List Entry). PhasesRun (in_line setting) 0 none_held setting.script.phases es (r.ends ++ [])) (append-nil journal) (r.onward [] [] (no_phase (in_line setting) place r.views (drop place setting.script.phases)));
+  turns = subst (λ (ps : List Phase). AreInTurn (in_line setting) 0 ps (r.ends ++ [])) (take-append-drop place setting.script.phases)
+      (whole_turns setting (length (take place setting.script.phases)) (take place setting.script.phases) (drop place setting.script.phases) r.ends [] refl (told_whole setting 0 (take place setting.script.phases) r.ends r.outcomes r.told)
+      (none_turns (in_line setting) (length (take place setting.script.phases)) (drop place setting.script.phases)));
+  outcomes = r.outcomes;
+  told = r.told;
+  report_is = r.report_is;
+}
 
-reached_so : {R : Type 0} (tells : R → Script → List Task → List Outcome → Type 0) (setting : Setting) (place : ℕ) (shown : List Sight) (journal : List Entry) (report : R) → Reached tells setting place shown journal report → Reached (unasked R) setting place shown journal report
-reached_so tells setting place shown journal report r = record { views = r.views; shows = r.shows; ends = r.ends; onward = r.onward; outcomes = r.outcomes; told = r.told; report_is = tt }
-
-done_so : {R : Type 0} (tells : R → Script → List Task → List Outcome → Type 0) (setting : Setting) (seat : Hand → ℕ) (tasks : List Task) (views : Holdings) (gateways : List Sight) (old new : List Entry) (report : R) → TasksDone tells setting seat tasks views gateways old new report
-    → TasksDone (unasked R) setting seat tasks views gateways old new report
-done_so tells setting seat tasks views gateways old new report d = record { made = d.made; entries = d.entries; ends = d.ends; after = d.after; run = d.run; shows = d.shows; outcomes = d.outcomes; told = d.told; report_is = tt }
+pub short_run : {R : Type 0} (tells : R → Script → List Task → List Outcome → Type 0) (setting : Setting) (place : ℕ) (journal : List Entry) (report : R) → IsShortAt tells setting place journal report → HasRun setting journal
+short_run tells setting place journal report s = (s.ends ++ s.begun, s.run, s.turns)
 
 pub run_so_far : {R : Type 0} (tells : R → Script → List Task → List Outcome → Type 0) (setting : Setting) (place : ℕ) (shown : List Sight) (journal : List Entry) (report : R) → Reached tells setting place shown journal report → HasRun setting journal
-run_so_far tells setting place shown journal report r = (
-  r.ends ++ [],
-  subst (λ (es : List Entry). PhasesRun (in_line setting) 0 none_held setting.script.phases es (r.ends ++ [])) (append-nil journal) (r.onward [] [] (no_phase (in_line setting) place r.views (drop place setting.script.phases))),
-  subst (λ (ps : List Phase). AreInTurn (in_line setting) 0 ps (r.ends ++ [])) (take-append-drop place setting.script.phases)
-      (whole_turns setting (length (take place setting.script.phases)) (take place setting.script.phases) (drop place setting.script.phases) r.ends [] refl (told_whole setting 0 (take place setting.script.phases) r.ends r.outcomes r.told)
-      (none_turns (in_line setting) (length (take place setting.script.phases)) (drop place setting.script.phases))),
-)
-
--- a phase was done to its end, whether it is reported or not
-phase_done : {R : Type 0} (tells : R → Script → List Task → List Outcome → Type 0) (setting : Setting) (place : ℕ) (phase : Phase) (shown gateways : List Sight) (journal new : List Entry) (report own : R) (clock : Entry) → slice_get setting.script.phases place ≡ Some phase
-    → BeginsPhase phase clock → Reached tells setting place shown journal report
-    → ((v : Holdings) → Shows v shown → TasksDone tells setting (seat_of (workers_of setting.script place)) phase.tasks v gateways (journal ++ clock ∷ []) new own) → HasRun setting new
-phase_done {R} tells setting place phase shown gateways journal new report own clock at begins r tasks =
-    run_so_far (unasked R) setting (place + 1) gateways new own
-    (reached_more (unasked R) setting place phase shown journal report at clock new gateways own own begins (reached_so tells setting place shown journal report r)
-    (λ v shows. done_so tells setting (seat_of (workers_of setting.script place)) phase.tasks v gateways (journal ++ clock ∷ []) new own (tasks v shows)) (λ done ts first later one two. tt))
+run_so_far tells setting place shown journal report r = short_run tells setting place journal report (short_before tells setting place shown journal report r)
 
 blind_at : (gateways : List Sight) (place : ℕ) (gateway : Sight) → All (λ (g : Sight). g ≡ no_sight) gateways → slice_get gateways place ≡ Some gateway → gateway ≡ no_sight
 blind_at gateways place gateway blind at =
@@ -241,8 +244,17 @@ unfolding seats_from
 no_seats setting workers none = none ∙ sym (ap (seats_from (gateway_count setting.script.gateways) 0) (take_none setting.script.phases))
 
 -- nothing was done yet
-pub no_run : (setting : Setting) (journal : List Entry) → journal ≡ [] → HasRun setting journal
-no_run setting journal none = subst (HasRun setting) (sym none) ([], no_phase (in_line setting) 0 none_held setting.script.phases, tt)
+pub no_run : {R : Type 0} (tells : R → Script → List Task → List Outcome → Type 0) (setting : Setting) (journal : List Entry) (report : R) → journal ≡ [] → tells report setting.script [] [] → IsShortAt tells setting 0 journal report
+no_run tells setting journal report none empty = record {
+  ends = [];
+  begun = [];
+  few = omega arith;
+  run = subst (λ (es : List Entry). PhasesRun (in_line setting) 0 none_held setting.script.phases es []) (sym none) (no_phase (in_line setting) 0 none_held setting.script.phases);
+  turns = tt;
+  outcomes = [];
+  told = subst (λ (ps : List Phase). PhasesDone setting 0 ps [] []) (sym (take_none setting.script.phases)) (refl, refl);
+  report_is = subst (λ (ps : List Phase). tells report setting.script (tasks_of ps) []) (sym (take_none setting.script.phases)) empty;
+}
 
 drop_none : (phases : List Phase) → drop 0 phases ≡ phases
 drop_none [] = refl
@@ -277,7 +289,7 @@ run_in_line tells setting gateways journal report (Err broken.Full) kept (place,
         (unfinished_turns (in_line setting) place (drop place setting.script.phases) b.unfinished b.left));
   },
 )
-run_in_line tells setting gateways journal report (Err broken.NoMemory) kept came = (came.0, record { kept = kept; phases = came.1; turns = came.2 })
+run_in_line tells setting gateways journal report (Err broken.NoMemory) kept came = let run = short_run tells setting came.0 journal report came.1 in (run.0, record { kept = kept; phases = run.1; turns = run.2 })
 
 pub guaranteed_run : (setting : Setting) (journal : List Entry) → IsLawfulScript setting.script → IsJournal setting.script.rules.tick.ms journal → IsOfBytes journal → HasRun setting journal → IsGuaranteedJournal setting journal
 guaranteed_run setting journal lawful kept bytes run =
@@ -293,27 +305,30 @@ lawful_phase setting place phase lawful at =
 pub unbegun_step : {R : Type 0} (tells : R → Script → List Task → List Outcome → Type 0) (setting : Setting) (place : ℕ) (phase : Phase) (shown gateways : List Sight) (journal new : List Entry) (report : R) (b : Broken) → slice_get setting.script.phases place ≡ Some phase → new ≡ journal
     → Reached tells setting place shown journal report → PhaseStep tells setting place gateways new report (Err b)
 unbegun_step tells setting place phase shown gateways journal new report broken.Full at same r = subst (λ (es : List Entry). IsBrokenAt tells setting place es report) (sym same) (unbegun tells setting place phase shown journal report at gateways r)
-unbegun_step tells setting place phase shown gateways journal new report broken.NoMemory at same r = subst (HasRun setting) (sym same) (run_so_far tells setting place shown journal report r)
+unbegun_step tells setting place phase shown gateways journal new report broken.NoMemory at same r = subst (λ (es : List Entry). IsShortAt tells setting place es report) (sym same) (short_before tells setting place shown journal report r)
 
 pub broken_step : {R : Type 0} (tells : R → Script → List Task → List Outcome → Type 0) (setting : Setting) (place : ℕ) (phase : Phase) (shown gateways : List Sight) (journal new : List Entry) (report same : R) (b : Broken) (clock : Entry) → slice_get setting.script.phases place ≡ Some phase
     → same ≡ report → BeginsPhase phase clock → (r : Reached tells setting place shown journal report)
     → ((v : Holdings) → Shows v shown → TasksBroken setting (seat_of (workers_of setting.script place)) phase.tasks v (journal ++ clock ∷ []) new b) → PhaseStep tells setting place gateways new same (Err b)
 broken_step {R} tells setting place phase shown gateways journal new report same broken.Full clock at is begins r tasks =
     subst (λ (x : R). IsBrokenAt tells setting place new x) (sym is) (broken_off tells setting place phase shown journal report at clock new begins r tasks)
-broken_step tells setting place phase shown gateways journal new report same broken.NoMemory clock at is begins r tasks =
-    broken_short tells setting place phase shown journal report at clock new begins r tasks
+broken_step {R} tells setting place phase shown gateways journal new report same broken.NoMemory clock at is begins r tasks =
+    subst (λ (x : R). IsShortAt tells setting place new x) (sym is) (broken_short tells setting place phase shown journal report at clock new begins r tasks)
 
 pub taken_step : {R : Type 0} (tells : R → Script → List Task → List Outcome → Type 0) (setting : Setting) (place : ℕ) (phase : Phase) (shown gateways : List Sight) (journal new : List Entry) (report mid own more : R) (r : Result (Unit {0}) Broken) (clock : Entry) → r ≢ Err broken.Full
     → slice_get setting.script.phases place ≡ Some phase → BeginsPhase phase clock → Reached tells setting place shown journal report
     → ((v : Holdings) → Shows v shown → TasksDone tells setting (seat_of (workers_of setting.script place)) phase.tasks v gateways (journal ++ clock ∷ []) new own)
     → mid ≡ report → ((done tasks : List Task) (first later : List Outcome) → tells mid setting.script done first → tells own setting.script tasks later → OnOk r (tells more setting.script (done ++ tasks) (first ++ later)))
+    → ((done : List Task) (first : List Outcome) → tells mid setting.script done first → OnErr r (tells more setting.script done first))
     → PhaseStep tells setting place gateways new more r
-taken_step {R} tells setting place phase shown gateways journal new report mid own more (Ok done) clock never at begins reached tasks same joins =
+taken_step {R} tells setting place phase shown gateways journal new report mid own more (Ok done) clock never at begins reached tasks same joins keeps =
     reached_more tells setting place phase shown journal report at clock new gateways own more begins reached tasks
     (λ done ts first later one two. joins done ts first later (subst (λ (x : R). tells x setting.script done first) (sym same) one) two)
-taken_step tells setting place phase shown gateways journal new report mid own more (Err broken.Full) clock never at begins reached tasks same joins = absurd (never refl)
-taken_step tells setting place phase shown gateways journal new report mid own more (Err broken.NoMemory) clock never at begins reached tasks same joins =
-    phase_done tells setting place phase shown gateways journal new report own clock at begins reached tasks
+taken_step tells setting place phase shown gateways journal new report mid own more (Err broken.Full) clock never at begins reached tasks same joins keeps = absurd (never refl)
+taken_step {R} tells setting place phase shown gateways journal new report mid own more (Err broken.NoMemory) clock never at begins reached tasks same joins keeps =
+    let t = tasks reached.views reached.shows in
+    short_at tells setting place phase shown journal report at clock new t.made t.ends t.after more begins reached t.run t.entries
+    (keeps (tasks_of (take place setting.script.phases)) reached.outcomes (subst (λ (x : R). tells x setting.script (tasks_of (take place setting.script.phases)) reached.outcomes) (sym same) reached.report_is))
 
 -- the seats before the next phase
 pub seats_next : (setting : Setting) (place : ℕ) (phase : Phase) (workers : List Worker) (before count after : ℕ) → slice_get setting.script.phases place ≡ Some phase → workers ≡ workers_of setting.script place → before ≡ seats_before setting.script place

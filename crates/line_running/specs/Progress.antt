@@ -1,5 +1,5 @@
 -- How far a run in the order of the lines has come, as the contracts of its parts say it.
-use Rattle.std.specs.Prelude.{◌≡◌, ◌≢◌, ℕ, ◌+◌, ◌<◌, List, [], ◌∷◌, ◌++◌, length, take, drop, All, Option, Some, slice_get, Result, Ok, Err}
+use Rattle.std.specs.Prelude.{◌≡◌, ◌≢◌, ℕ, ◌+◌, ◌<◌, ◌≤◌, List, [], ◌∷◌, ◌++◌, length, take, drop, All, Option, Some, slice_get, Result, Ok, Err}
 use Rattle.world_core.specs.declared.entry.Entry.{Entry}
 use Rattle.script_core.specs.declared.script.Script.{Script}
 use Rattle.script_workers.specs.Hands.{gateway_count, gateway_of}
@@ -130,6 +130,18 @@ pub record IsBrokenAt {R : Type 0} (tells : R → Script → List Task → List 
   pub told : PhasesDone setting 0 (take place setting.script.phases) ends outcomes
   pub report_is : tells report setting.script (tasks_of (take place setting.script.phases)) outcomes
 
+-- A run for which memory was wanted in the phase at a place, or before that phase was begun. No phase was begun behind that one, and this is
+-- the report of those before it. By the words for runs of workers beside each other this is `IsCutForMemory`.
+pub record IsShortAt {R : Type 0} (tells : R → Script → List Task → List Outcome → Type 0) (setting : Setting) (place : ℕ) (journal : List Entry) (report : R) : Type 0 where
+  pub ends : List (List End)
+  pub begun : List (List End)
+  pub few : length begun ≤ 1
+  pub run : PhasesRun (in_line setting) 0 none_held setting.script.phases journal (ends ++ begun)
+  pub turns : AreInTurn (in_line setting) 0 setting.script.phases (ends ++ begun)
+  pub outcomes : List Outcome
+  pub told : PhasesDone setting 0 (take place setting.script.phases) ends outcomes
+  pub report_is : tells report setting.script (tasks_of (take place setting.script.phases)) outcomes
+
 -- a run so far
 abbrev pub HasRun : Setting → List Entry → Type 0
 HasRun setting journal =
@@ -140,10 +152,10 @@ HasRun setting journal =
 abbrev pub PhaseStep : {R : Type 0} → (R → Script → List Task → List Outcome → Type 0) → Setting → ℕ → List Sight → List Entry → R → Result (Unit {0}) Broken → Type 0
 PhaseStep tells setting place gateways journal report (Ok done) = Reached tells setting (place + 1) gateways journal report
 PhaseStep tells setting place gateways journal report (Err broken.Full) = IsBrokenAt tells setting place journal report
-PhaseStep tells setting place gateways journal report (Err broken.NoMemory) = HasRun setting journal
+PhaseStep tells setting place gateways journal report (Err broken.NoMemory) = IsShortAt tells setting place journal report
 
 -- what all phases leave
 abbrev pub RunCame : {R : Type 0} → (R → Script → List Task → List Outcome → Type 0) → Setting → List Sight → List Entry → R → Result (Unit {0}) Broken → Type 0
 RunCame tells setting gateways journal report (Ok done) = Reached tells setting (length setting.script.phases) gateways journal report
 RunCame tells setting gateways journal report (Err broken.Full) = (place : ℕ) × (place < length setting.script.phases) × IsBrokenAt tells setting place journal report
-RunCame tells setting gateways journal report (Err broken.NoMemory) = HasRun setting journal
+RunCame tells setting gateways journal report (Err broken.NoMemory) = (place : ℕ) × IsShortAt tells setting place journal report

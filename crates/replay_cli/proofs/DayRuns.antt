@@ -22,7 +22,7 @@ use Rattle.call_verdicts.specs.script_running.specs.declared.sight.Sight.{Sight}
 use Rattle.call_verdicts.specs.report_lines.specs.BreachLines.{breach_text}
 use Rattle.call_verdicts.specs.report_lines.specs.Telling.{report_of, tasks_of}
 use Rattle.line_running.specs.Progress.{Reached, RunCame}
-use Rattle.line_running.proofs.PhaseLists.{guaranteed_run, run_in_line, run_so_far}
+use Rattle.line_running.proofs.PhaseLists.{guaranteed_run, run_in_line, run_so_far, short_run}
 use Rattle.call_verdicts.specs.report_lines.specs.Summed.{IsDayText}
 use Rattle.call_verdicts.specs.report_lines.specs.Tallies.{AreTallied}
 use Rattle.call_verdicts.specs.report_lines.specs.declared.tally.Tally.{Tally}
@@ -95,7 +95,7 @@ module _ (script : Script) (lawful : IsLawfulScript script) (gateways : List Sig
   day_by (Err broken.Full) v full came whole filled short = full_day (full refl) came v (filled refl)
   day_by (Err broken.NoMemory) v full came whole filled short =
       let setting = setting_by script [] in
-      subst (IsDay script journal) (sym (short refl)) (run_in_line AreTallied setting gateways journal tally (Err broken.NoMemory) kept came, guaranteed_run setting journal lawful kept bytes came)
+      subst (IsDay script journal) (sym (short refl)) (run_in_line AreTallied setting gateways journal tally (Err broken.NoMemory) kept came, guaranteed_run setting journal lawful kept bytes (short_run AreTallied setting came.0 journal tally came.1))
 
 -- a day over a journal that is told by another name
 pub ends_over : {P : Type 0} (script : Script) (one other : List Entry) (tally : Tally) (v : Verdict) → one ≡ other → (P → EndsDay script one tally v) → P → EndsDay script other tally v

@@ -25,7 +25,7 @@ use Rattle.call_verdicts.specs.declared.verdict.Verdict.{Verdict}
 use Rattle.call_verdicts.specs.declared.verdict.Verdict.TheVariants as verdict
 use Rattle.call_verdicts.specs.report_lines.specs.Telling.{AreLinesOf}
 use Rattle.replay_cli.proofs.WholeRuns.{all_told, full_run, whole_run}
-use Rattle.line_running.proofs.PhaseLists.{guaranteed_run, run_in_line, run_so_far}
+use Rattle.line_running.proofs.PhaseLists.{guaranteed_run, run_in_line, run_so_far, short_run}
 
 pub kept_by : (tick other : ℕ) (journal : List Entry) → tick ≡ other → IsJournal tick journal → IsJournal other journal
 kept_by tick other journal same kept = subst (λ (t : ℕ). IsJournal t journal) same kept
@@ -75,7 +75,7 @@ run_by setting gateways journal report (Ok done) v lawful kept bytes full came w
 run_by setting gateways journal report (Err broken.Full) v lawful kept bytes full came whole filled short =
     subst (IsRun IsInLine setting (Some nothing) ⊥ (Some journal)) (sym (filled refl)) (refl, (run_in_line AreLinesOf setting gateways journal report (Err broken.Full) kept came, full_run AreLinesOf setting came.0 journal report report.as_asked report.text.items lawful kept bytes (full refl) came.1 came.2 came.2.report_is.flag came.2.report_is.text))
 run_by setting gateways journal report (Err broken.NoMemory) v lawful kept bytes full came whole filled short =
-    subst (IsRun IsInLine setting (Some nothing) ⊥ (Some journal)) (sym (short refl)) (run_in_line AreLinesOf setting gateways journal report (Err broken.NoMemory) kept came, guaranteed_run setting journal lawful kept bytes came)
+    subst (IsRun IsInLine setting (Some nothing) ⊥ (Some journal)) (sym (short refl)) (run_in_line AreLinesOf setting gateways journal report (Err broken.NoMemory) kept came, guaranteed_run setting journal lawful kept bytes (short_run AreLinesOf setting came.0 journal report came.1))
 
 pub run_told : (setting : Setting) (gateways : List Sight) (journal : List Entry) (report : Lines) (r : Result (Unit {0}) Broken) (v : Verdict) (handed : Option (List Entry)) → handed ≡ Some journal → IsLawfulScript setting.script → IsJournal setting.script.rules.tick.ms journal → IsOfBytes journal
     → (r ≡ Err broken.Full → IsFull journal) → RunCame AreLinesOf setting gateways journal report r

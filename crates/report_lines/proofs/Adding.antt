@@ -1,6 +1,6 @@
 -- Tallies to which activities are added.
-use Rattle.std.proofs.Common.{◌≡◌, ◌&&◌, ℕ, ◌+◌, ◌-◌, Bool, true, false, List, [], ◌∷◌, ◌++◌, length, refl, sym, ◌∙◌, ap, ap₂, append_assoc, append-nil, arith}
-use Rattle.std.specs.Prelude.{Ok, Err, OnOk, Result}
+use Rattle.std.proofs.Common.{◌≡◌, ◌&&◌, ℕ, ◌+◌, ◌-◌, Bool, true, false, List, [], ◌∷◌, ◌++◌, length, refl, sym, ◌∙◌, ap, ap₂, subst, append_assoc, append-nil, arith}
+use Rattle.std.specs.Prelude.{Ok, Err, OnErr, OnOk, Result, take}
 use Rattle.std.specs.List.{list_all, sum_by}
 use Rattle.std.proofs.lemmas.List.{length-append}
 use Rattle.std.proofs.lemmas.List.Concat.{flat_map-append}
@@ -124,3 +124,19 @@ pub joined_tallied : {E : Type 0} (old own new : Tally) (script : Script) (done 
     → OnOk r (AreTallied new script (done ++ tasks) (first ++ later))
 joined_tallied old own new script done tasks first later (Ok fine) one two flag lines sums answers = joined old own new script done tasks first later one two flag lines sums answers
 joined_tallied old own new script done tasks first later (Err e) one two flag lines sums answers = tt
+
+-- for want of memory nothing was added
+pub kept_tallied : {E : Type 0} (old new : Tally) (script : Script) (done : List Task) (first : List Outcome) (r : Result (Unit {0}) E) → AreTallied old script done first
+    → OnErr r ((new.as_asked ≡ old.as_asked) × (new.amiss.items ≡ old.amiss.items) × (new.sums ≡ old.sums) × (new.answers.items ≡ old.answers.items)) → OnErr r (AreTallied new script done first)
+kept_tallied old new script done first (Ok fine) are same = tt
+kept_tallied old new script done first (Err e) are same = record { each = are.each; flag = same.0 ∙ are.flag; amiss = same.1 ∙ are.amiss; sums = subst (λ s. AreSums s first) (sym same.2) are.sums; answers = same.3 ∙ are.answers }
+
+-- the first of a text and of what was added to it
+first_alone : (xs more : List ℕ) → take (length xs) (xs ++ more) ≡ xs
+first_alone [] [] = refl
+first_alone [] (y ∷ more) = refl
+first_alone (x ∷ xs) more = ap (λ (l : List ℕ). x ∷ l) (first_alone xs more)
+
+-- what was added is cut off again
+pub cut_text : (old more mid new : List ℕ) (count : ℕ) → count ≡ length old → mid ≡ old ++ more → new ≡ take count mid → new ≡ old
+cut_text old more mid new count is added cut = cut ∙ ap (λ (n : ℕ). take n mid) is ∙ ap (take (length old)) added ∙ first_alone old more

@@ -1,6 +1,6 @@
 -- Lines to which one task is added after another.
 use Rattle.std.proofs.Common.{◌≡◌, ◌&&◌, Bool, true, false, List, [], ◌∷◌, ◌++◌, refl, sym, ◌∙◌, ap, ap₂, arith, append-nil}
-use Rattle.std.specs.Prelude.{Ok, Err, OnOk, Result}
+use Rattle.std.specs.Prelude.{Ok, Err, OnErr, OnOk, Result}
 use Rattle.std.specs.List.{list_all}
 use Rattle.std.proofs.lemmas.List.{length-append}
 use Rattle.script_core.specs.declared.script.Script.{Script}
@@ -58,3 +58,9 @@ pub joined_lines : {E : Type 0} (old more new : Lines) (script : Script) (done t
     → OnOk r (new.text.items ≡ old.text.items ++ more.text.items) → OnOk r (new.as_asked ≡ old.as_asked && more.as_asked) → OnOk r (AreLinesOf new script (done ++ tasks) (first ++ later))
 joined_lines old more new script done tasks first later (Ok fine) one two text flag = joined old more new script done tasks first later one two text flag
 joined_lines old more new script done tasks first later (Err e) one two text flag = tt
+
+-- for want of memory nothing was added
+pub kept_lines : {E : Type 0} (old new : Lines) (script : Script) (done : List Task) (first : List Outcome) (r : Result (Unit {0}) E) → AreLinesOf old script done first
+    → OnErr r ((new.text.items ≡ old.text.items) × (new.as_asked ≡ old.as_asked)) → OnErr r (AreLinesOf new script done first)
+kept_lines old new script done first (Ok fine) are same = tt
+kept_lines old new script done first (Err e) are same = record { each = are.each; text = same.0 ∙ are.text; flag = same.1 ∙ are.flag }

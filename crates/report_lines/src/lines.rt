@@ -1,6 +1,6 @@
 //! The lines of a report, to which one activity is added after another.
 
-ghost use Rattle.std.specs.Prelude.{◌≡◌, ◌≢◌, ◌++◌, ◌&&◌, [], true, Err, OnOk};
+ghost use Rattle.std.specs.Prelude.{◌≡◌, ◌≢◌, ◌++◌, ◌&&◌, [], true, Err, OnErr, OnOk};
 ghost use Rattle.report_lines.specs.Reports.{activity_text};
 ghost use Rattle.script_running.specs.Outcomes.{is_as_asked};
 
@@ -29,10 +29,12 @@ impl Lines {
         }
     }
 
-    /// Adds the lines of a phase that is finished.
+    /// Adds the lines of a phase that is finished; or for want of memory nothing.
     pub fn take(&mut self, more: Lines) -> Result<(), Broken>
         ensures text { OnOk result (self.new.text.items ≡ self.old.text.items ++ more.text.items) }
         ensures asked { OnOk result (self.new.as_asked ≡ self.old.as_asked && more.as_asked) }
+        ensures kept { OnErr result ((self.new.text.items ≡ self.old.text.items)
+            × (self.new.as_asked ≡ self.old.as_asked)) }
         ensures refusal { result ≢ Err Broken.Full }
     {
         match self.text.extend_from_slice(&more.text) {

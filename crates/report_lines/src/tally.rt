@@ -1,4 +1,4 @@
-ghost use Rattle.std.specs.Prelude.{◌≡◌, ◌≢◌, ◌++◌, ◌&&◌, [], List, Err, IfOk, OnOk, true};
+ghost use Rattle.std.specs.Prelude.{◌≡◌, ◌≢◌, ◌++◌, ◌&&◌, [], List, Err, IfOk, OnErr, OnOk, true};
 ghost use Rattle.script_core.specs.declared.script.Script.{Script};
 ghost use Rattle.script_workers.specs.declared.task.Task.{Task};
 ghost use Rattle.script_running.specs.Outcomes.{is_as_asked};
@@ -61,7 +61,8 @@ impl Tally {
         Ok(())
     }
 
-    /// Adds the activities of another tally.
+    /// Adds the activities of another tally; or for want of memory nothing.
+    #[tactic(auto, using(crate::proofs::Adding::cut_text))]
     fn take(&mut self, more: Tally) -> Result<(), Broken>
         ensures asked { OnOk result (self.new.as_asked ≡ self.old.as_asked && more.as_asked) }
         ensures amiss { OnOk result
@@ -69,12 +70,17 @@ impl Tally {
         ensures sums { OnOk result (AddsUp self.old.sums more.sums self.new.sums) }
         ensures answers { OnOk result
             (self.new.answers.items ≡ self.old.answers.items ++ more.answers.items) }
+        ensures kept { OnErr result ((self.new.as_asked ≡ self.old.as_asked)
+            × (self.new.amiss.items ≡ self.old.amiss.items) × (self.new.sums ≡ self.old.sums)
+            × (self.new.answers.items ≡ self.old.answers.items)) }
         ensures refusal { result ≢ Err Broken.Full }
     {
+        let before = self.amiss.len();
         let Ok(()) = self.amiss.extend_from_slice(&more.amiss) else {
             return Err(Broken::NoMemory);
         };
         let Ok(()) = self.answers.extend_from_slice(&more.answers) else {
+            self.amiss.truncate(before);
             return Err(Broken::NoMemory);
         };
         self.as_asked = self.as_asked && more.as_asked;

@@ -10,7 +10,7 @@ use Rattle.world_core.specs.Worlds.{IsJournal}
 use Rattle.world_core.specs.declared.entry.Entry.{Entry}
 use Rattle.world_turn.specs.Closing.{AllJoined, Closes}
 use Rattle.world_turn.specs.declared.view.View.{View as Known}
-use Rattle.world_turn.proofs.Fronts.{front_length, front_more}
+use Rattle.world_turn.proofs.Fronts.{front_length}
 use Rattle.script_core.specs.Lawful.{IsLawfulScript}
 use Rattle.script_core.specs.Workers.{workers_of}
 use Rattle.script_workers.specs.declared.phase.Phase.{Phase}
@@ -28,7 +28,7 @@ use Rattle.script_running.specs.Begun.{WasBegun}
 use Rattle.script_running.specs.Beside.{CameSoFar, HasRunBeside, IsCutForMemory}
 use Rattle.script_running.specs.Cutting.{AreParts, KnowsPhases, Passed}
 use Rattle.script_running.specs.Ended.{HasEnded, HaveEnded}
-use Rattle.script_running.specs.Going.{ComeFirst, HasBrokenOff, HasFinished, HasGone, HasIdled, HasSeenFull, HasStopped, IfFull}
+use Rattle.script_running.specs.Going.{HasBrokenOff, HasFinished, HasGone, HasIdled, HasSeenFull, HasStopped, IfFull}
 use Rattle.script_running.specs.Outcomes.{PhasesCame}
 use Rattle.script_running.specs.Workers.{IsBrokenOff}
 use Rattle.script_running.specs.declared.came.Broken.{Broken}
@@ -144,30 +144,18 @@ module _ (setting : Setting) (well : IsCutWell (by_script setting)) (root : Know
 
   module _ (done : List Phase) (phase : Phase) (left : List Phase) (is : setting.script.phases ≡ done ++ phase ∷ left) (passed : List Passed) (held : Holdings) (outcomes : List Outcome) (f : HasFinished setting done passed held) where
     -- where memory was wanted, in a phase that was begun
-    short_on : (first : List Outcome) → PhasesCame setting.script 0 done f.told first → IsPrefix first outcomes → (ends : List (List End)) → IsCutForMemory setting (f.told ++ ends ∷ []) outcomes
-    short_on first came leads ends = record {
-      done = done;
-      left = phase ∷ left;
-      phases = is;
-      told = f.told;
-      untold = ends ∷ [];
-      parts = refl;
-      finished = f.finished;
-      few = omega arith;
-      first = first;
-      came = came;
-      leads = leads;
-    }
+    short_on : PhasesCame setting.script 0 done f.told outcomes → (ends : List (List End)) → IsCutForMemory setting (f.told ++ ends ∷ []) outcomes
+    short_on came ends = record { done = done; next = phase; left = left; phases = is; told = f.told; begun = ends ∷ []; parts = refl; few = omega arith; finished = f.finished; came = came }
 
-    far_on : (why : Broken) (first : List Outcome) → PhasesCame setting.script 0 done f.told first → ComeFirst why first outcomes → (b : HasBrokenOff setting root done passed held phase why) → IsRunOf setting journal (f.told ++ b.ends ∷ []) → CameSoFar setting journal (f.told ++ b.ends ∷ []) outcomes (Err why)
-    far_on broken.NoMemory first came leads b run = short_on first came leads b.ends
-    far_on broken.Full first came leads b run =
+    far_on : (why : Broken) → PhasesCame setting.script 0 done f.told outcomes → (b : HasBrokenOff setting root done passed held phase why) → IsRunOf setting journal (f.told ++ b.ends ∷ []) → CameSoFar setting journal (f.told ++ b.ends ∷ []) outcomes (Err why)
+    far_on broken.NoMemory came b run = short_on came b.ends
+    far_on broken.Full came b run =
         let ws = workers_of setting.script (length done) in
         let seen = met_full setting phase.tasks held root.front ws b.one.kept b.others b.ends b.lasts b.met.0 b.have b.met.1 b.met.2 in
         let due = subst (λ (ps : List Phase). IsOperationDue (by_workers setting) none_held ps journal f.told) (sym is)
         (is_due setting well held done left phase passed b.one f.told root.front b.seat b.others b.ends b.lasts b.met.0 journal f.begun b.begins b.have b.row b.met.1 b.met.2 (cut (passed ++ b.one ∷ []) b.knows)) in
         record {
-          full = full_more seen.0 journal (front_more seen.0 root.front journal seen.1 closes.front) seen.2;
+          full = full_more seen.0 journal (subst (IsPrefix seen.0) closes.front seen.1) seen.2;
           done = done;
           told = f.told;
           cut = record {
@@ -181,11 +169,11 @@ module _ (setting : Setting) (well : IsCutWell (by_script setting)) (root : Know
             due = λ begun. due;
           };
           parts = refl;
-          came = subst (λ (os : List Outcome). PhasesCame setting.script 0 done f.told os) (sym leads) came;
+          came = came;
         }
 
-    ran_on : (why : Broken) (first : List Outcome) → PhasesCame setting.script 0 done f.told first → ComeFirst why first outcomes → HasBrokenOff setting root done passed held phase why → HasRunBeside setting journal outcomes (Err why)
-    ran_on why first came leads b =
+    ran_on : (why : Broken) → PhasesCame setting.script 0 done f.told outcomes → HasBrokenOff setting root done passed held phase why → HasRunBeside setting journal outcomes (Err why)
+    ran_on why came b =
         let ws = workers_of setting.script (length done) in
         let were = were_kept setting phase.tasks held root.front ws b.one.kept b.others b.ends b.lasts b.have in
         let next = was_begun setting well (length done) phase held b.one b.ends b.lasts b.begins were.0 were.1 in
@@ -194,40 +182,39 @@ module _ (setting : Setting) (well : IsCutWell (by_script setting)) (root : Know
           ends = f.told ++ b.ends ∷ [];
           run = run;
           turns = turns_on done phase left f.told b.ends is f.finished;
-          far = far_on why first came leads b run;
+          far = far_on why came b run;
         }
 
-    idled : IsLawfulScript setting.script → (why : Broken) (first : List Outcome) → PhasesCame setting.script 0 done f.told first → ComeFirst why first outcomes → why ≡ broken.NoMemory → HasIdled setting root passed phase → HasRunBeside setting journal outcomes (Err why)
-    idled lawful why first came leads wanting b =
+    idled : IsLawfulScript setting.script → (why : Broken) → PhasesCame setting.script 0 done f.told outcomes → why ≡ broken.NoMemory → HasIdled setting root passed phase → HasRunBeside setting journal outcomes (Err why)
+    idled lawful why came wanting b =
         let at : slice_get setting.script.phases (length done) ≡ Some phase = ap (λ (ps : List Phase). slice_get ps (length done)) is ∙ middle done phase left in
         let next = was_idle setting well lawful (length done) phase held b.one at b.begins b.none in
         subst (λ (w : Broken). HasRunBeside setting journal outcomes (Err w)) (sym wanting) (record {
           ends = f.told ++ next.0 ∷ [];
           run = run_on done phase left passed held next.1 b.one next.0 is f next.2 b.knows;
           turns = turns_on done phase left f.told next.0 is f.finished;
-          far = short_on first came (subst (λ (w : Broken). ComeFirst w first outcomes) wanting leads) next.0;
+          far = short_on came next.0;
         })
 
   -- no phase was begun behind the finished ones
-  before_it : (outcomes : List Outcome) (why : Broken) (s : HasStopped setting root outcomes why) (w : Broken) → ComeFirst w s.first outcomes → IfFull w (HasSeenFull root) → IsRunOf setting journal (s.so_far).told
+  before_it : (outcomes : List Outcome) (why : Broken) (s : HasStopped setting root outcomes why) (w : Broken) → IfFull w (HasSeenFull root) → IsRunOf setting journal (s.so_far).told
       → CameSoFar setting journal (s.so_far).told outcomes (Err w)
-  before_it outcomes why s broken.NoMemory leads seen run = record {
+  before_it outcomes why s broken.NoMemory seen run = record {
     done = s.done;
-    left = s.phase ∷ s.left;
+    next = s.phase;
+    left = s.left;
     phases = s.phases;
     told = (s.so_far).told;
-    untold = [];
+    begun = [];
     parts = sym (append-nil (s.so_far).told);
-    finished = (s.so_far).finished;
     few = omega arith;
-    first = s.first;
+    finished = (s.so_far).finished;
     came = s.came;
-    leads = leads;
   }
-  before_it outcomes why s broken.Full leads seen run =
+  before_it outcomes why s broken.Full seen run =
       let nil : (s.so_far).told ≡ (s.so_far).told ++ [] = sym (append-nil (s.so_far).told) in
       record {
-        full = full_more seen.0 journal (front_more seen.0 root.front journal seen.1 closes.front) seen.2;
+        full = full_more seen.0 journal (subst (IsPrefix seen.0) closes.front seen.1) seen.2;
         done = s.done;
         told = (s.so_far).told;
         cut = record {
@@ -241,7 +228,7 @@ module _ (setting : Setting) (well : IsCutWell (by_script setting)) (root : Know
           due = λ begun. absurd (begun refl);
         };
         parts = nil;
-        came = subst (λ (os : List Outcome). PhasesCame setting.script 0 s.done (s.so_far).told os) (sym leads) s.came;
+        came = s.came;
       }
 
   pub all_stopped : IsLawfulScript setting.script → (outcomes : List Outcome) (why : Broken) → HasStopped setting root outcomes why → HasRunBeside setting journal outcomes (Err why)
@@ -252,10 +239,10 @@ module _ (setting : Setting) (well : IsCutWell (by_script setting)) (root : Know
           ends = (s.so_far).told;
           run = run;
           turns = turns_of s.done (s.phase ∷ s.left) (s.so_far).told s.phases (s.so_far).finished;
-          far = before_it outcomes why s why s.leads seen run;
+          far = before_it outcomes why s why seen run;
         }
     | inr begun ↦ elim begun [
-      | inl b ↦ ran_on s.done s.phase s.left s.phases s.passed s.held outcomes s.so_far why s.first s.came s.leads b
-      | inr (wanting, b) ↦ idled s.done s.phase s.left s.phases s.passed s.held outcomes s.so_far lawful why s.first s.came s.leads wanting b
+      | inl b ↦ ran_on s.done s.phase s.left s.phases s.passed s.held outcomes s.so_far why s.came b
+      | inr (wanting, b) ↦ idled s.done s.phase s.left s.phases s.passed s.held outcomes s.so_far lawful why s.came wanting b
     ]
   ]

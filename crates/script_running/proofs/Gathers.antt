@@ -1,6 +1,6 @@
 -- What the ends of a phase's workers come to together.
 use Rattle.std.proofs.Common.{◌≡◌, ◌≢◌, Bool, true, false, ℕ, zero, suc, ◌<◌, List, [], ◌∷◌, ◌++◌, length, get_or, Option, None, Some, refl, sym, ap, ◌∙◌, subst, arith, append_assoc, append-nil}
-use Rattle.std.specs.Prelude.{IfSome, IsSome, MatchBool, Ok, Err, OnErr, OnOk, Result, slice_get}
+use Rattle.std.specs.Prelude.{IfSome, IsSome, MatchBool, Ok, Err, OnErr, OnOk, Result, slice_get, take}
 use Rattle.std.specs.List.{All}
 use mathlib.Core.List.{IsPrefix}
 use Rattle.std.proofs.lemmas.List.Elements.{All-head, All-tail, All-weaker}
@@ -34,6 +34,10 @@ use Rattle.script_running.specs.declared.worker.WorkerEnd.{WorkerEnd}
 use Rattle.script_running.proofs.Gathered.{gathered}
 use Rattle.script_running.proofs.Taking.{at_place}
 
+take_none : (xs : List Outcome) → take 0 xs ≡ []
+take_none [] = refl
+take_none (x ∷ xs) = refl
+
 -- all of them come first
 pub all_first : (xs : List Outcome) → IsPrefix xs xs
 all_first xs = ([], append-nil xs)
@@ -46,6 +50,15 @@ one_more xs ys o is = (o ∷ [], sym is)
 
 pub same_first : (xs ys : List Outcome) → ys ≡ xs → IsPrefix xs ys
 same_first xs ys is = ([], append-nil xs ∙ sym is)
+
+-- the first of them alone
+first_alone : (xs more : List Outcome) → take (length xs) (xs ++ more) ≡ xs
+first_alone [] more = take_none more
+first_alone (x ∷ xs) more = ap (λ (l : List Outcome). x ∷ l) (first_alone xs more)
+
+-- what was added is cut off again
+pub cut_is : (old told new : List Outcome) (count : ℕ) → count ≡ length old → IsPrefix old told → new ≡ take count told → new ≡ old
+cut_is old told new count is more cut = cut ∙ ap (λ (n : ℕ). take n told) is ∙ ap (take (length old)) (sym more.1) ∙ first_alone old more.0
 
 -- one more, if there was memory for it
 pub pushed_first : (r : Result (Unit {0}) NoMemory) (xs ys : List Outcome) (o : Outcome) → OnOk r (ys ≡ xs ++ o ∷ []) → OnErr r (ys ≡ xs) → IsPrefix xs ys
@@ -100,16 +113,15 @@ slots_there tasks gateways slots empty workers within places = λ k w below. of_
 module _ (setting : Setting) (number : ℕ) (phase : Phase) (before after : Holdings) (front : List Entry) (workers : List Worker) (kept : List (ℕ × List Entry)) (own : List (List End)) (lasts : List Holding) (others : List WorkerEnd) (sights : List Sight) where
   -- a worker was broken off
   pub broken_off : (why : Broken) (outcomes : List Outcome) → HaveCome others (Err why) → Gathers setting phase workers own others after sights outcomes outcomes (Err why)
-  broken_off broken.Full outcomes have = (refl, have)
-  broken_off broken.NoMemory outcomes have = (all_first outcomes, have)
+  broken_off why outcomes have = (refl, have)
 
   -- all came to their ends
   pub came_whole : IsLawfulScript setting.script → length sights ≡ gateway_count setting.script.gateways → slice_get setting.script.phases number ≡ Some phase → workers ≡ workers_of setting.script number → HaveEnded setting phase.tasks before front workers kept others own lasts → AreLeft before workers lasts after
       → (seen : List Sight) → AreSeenBeside before workers sights → (old new : Slots) → HaveCome others (Ok tt) → AreTakenIn workers others sights seen old new → AreAllEmpty (length phase.tasks) (length sights) old
-      → (outcomes later : List Outcome) (result : Result (Unit {0}) Broken) → result ≢ Err broken.Full → IsPrefix outcomes later → OnOk result ((own : List Outcome) × (later ≡ outcomes ++ own) × AreTold new 0 phase.tasks own) → Gathers setting phase workers own others after seen outcomes later result
-  came_whole lawful counted at are have left seen beside old new all taken empty outcomes later (Err broken.Full) why more tells = absurd (why refl)
-  came_whole lawful counted at are have left seen beside old new all taken empty outcomes later (Err broken.NoMemory) why more tells = (more, none_full others all)
-  came_whole lawful counted at are have left seen beside old new all taken empty outcomes later (Ok done) why more tells =
+      → (outcomes later : List Outcome) (result : Result (Unit {0}) Broken) → result ≢ Err broken.Full → OnErr result (later ≡ outcomes) → OnOk result ((own : List Outcome) × (later ≡ outcomes ++ own) × AreTold new 0 phase.tasks own) → Gathers setting phase workers own others after seen outcomes later result
+  came_whole lawful counted at are have left seen beside old new all taken empty outcomes later (Err broken.Full) why same tells = absurd (why refl)
+  came_whole lawful counted at are have left seen beside old new all taken empty outcomes later (Err broken.NoMemory) why same tells = (same, none_full others all)
+  came_whole lawful counted at are have left seen beside old new all taken empty outcomes later (Ok done) why same tells =
       let gateways = gateway_count setting.script.gateways in
       let seated = subst (AreSeated gateways phase.tasks (hands_of gateways phase.tasks) (length (workers_before setting.script number))) (sym are) (are_seated setting.script number phase lawful at) in
       let g = gathered setting number phase (length (workers_before setting.script number)) (is_staff gateways phase.tasks) workers seated before after front kept others own lasts have left sights seen old new all taken

@@ -42,8 +42,8 @@ use Rattle.script_running.specs.Begun.{AreLeft, WasBegun, WereKept}
 use Rattle.script_running.specs.Cutting.{KnowsPhases, Passed}
 use Rattle.script_running.specs.Ended.{AreInRow, HaveEnded, IsPostOf}
 use Rattle.script_running.specs.Gathering.{HaveOwnGateways, Gathers}
-use Rattle.script_running.specs.Going.{ComeFirst, HasCome, HasGone, HasSeenFull, HasStopped, IfFull, IsClockSet, Met}
-use Rattle.script_running.specs.Outcomes.{TasksCame}
+use Rattle.script_running.specs.Going.{HasCome, HasGone, HasSeenFull, HasStopped, IfFull, IsClockSet, Met}
+use Rattle.script_running.specs.Outcomes.{PhasesCame, TasksCame}
 use Rattle.script_running.specs.Lending.{Loan}
 use Rattle.script_running.specs.Shelves.{setting_by}
 use Rattle.script_running.specs.Workers.{IsAtWork, MayWork, Post}
@@ -75,11 +75,6 @@ if_false P false is q = q
 -- every pass is still joined
 pub joined_on : (v w : Known) → IsSame v w → AllJoined v → AllJoined w
 joined_on v w same all = λ seat some less. subst (λ (ks : List Kept). Contains (map (λ (k : Kept). k.0) ks) seat) (sym same.joined) (all seat some (subst (λ (n : ℕ). seat < n) same.seats less))
-
--- no other outcomes
-none_else : (why : Broken) (outcomes : List Outcome) → ComeFirst why outcomes outcomes
-none_else broken.Full outcomes = refl
-none_else broken.NoMemory outcomes = ([], append-nil outcomes)
 
 pub as_many : {A B : Type 0} (R : A → B → Type 0) (xs : List A) (ys : List B) → AllZip R xs ys → length xs ≡ length ys
 as_many R [] [] all = refl
@@ -180,9 +175,7 @@ module _ (script : Script) (shelf : List ShelfBlock) (place : ℕ) (phase : Phas
       passed = g.passed;
       held = g.held;
       so_far = g.so_far;
-      first = outcomes;
       came = g.came;
-      leads = none_else why outcomes;
       stands = inl (knows, full);
     }
 
@@ -226,9 +219,7 @@ module _ (script : Script) (shelf : List ShelfBlock) (place : ℕ) (phase : Phas
           passed = g.passed;
           held = g.held;
           so_far = g.so_far;
-          first = outcomes;
           came = g.came;
-          leads = none_else broken.NoMemory outcomes;
           stands = inr (inr (
             refl,
             record {
@@ -267,7 +258,7 @@ module _ (script : Script) (shelf : List ShelfBlock) (place : ℕ) (phase : Phas
       in_row : AreInRow (splits + 1) (workers_of script (length front_phases))
       in_row = subst (λ (n : ℕ). AreInRow (splits + 1) (workers_of script n)) (sym long) (row script lawful place phase at splits splits_are)
 
-      broke : (why : Broken) (later : List Outcome) → ComeFirst why outcomes later × Met why others → HasStopped own (view_of after) later why
+      broke : (why : Broken) (later : List Outcome) → (later ≡ outcomes) × Met why others → HasStopped own (view_of after) later why
       broke why later met = record {
         done = front_phases;
         phase = phase;
@@ -276,9 +267,7 @@ module _ (script : Script) (shelf : List ShelfBlock) (place : ℕ) (phase : Phas
         passed = g.passed;
         held = g.held;
         so_far = g.so_far;
-        first = outcomes;
-        came = g.came;
-        leads = met.0;
+        came = subst (λ (os : List Outcome). PhasesCame script 0 front_phases (g.so_far).told os) (sym met.0) g.came;
         stands = inr (inl (record { one = one; begins = begins; others = others; ends = ended.0; lasts = ended.1; have = have; seat = splits + 1; row = in_row; knows = knows; met = met.1 }));
       }
 

@@ -1,6 +1,5 @@
 -- What a run leaves whose phases' workers are beside each other.
-use Rattle.std.specs.Prelude.{◌≡◌, ◌≤◌, ℕ, List, ◌++◌, length, Some, Result, Ok, Err, slice_get}
-use mathlib.Core.List.{IsPrefix}
+use Rattle.std.specs.Prelude.{◌≡◌, ◌≤◌, ℕ, List, ◌∷◌, ◌++◌, length, Some, Result, Ok, Err, slice_get}
 use Rattle.world_core.specs.Keeping.{IsFull}
 use Rattle.world_core.specs.declared.entry.Entry.{Entry}
 use Rattle.script_workers.specs.declared.phase.Phase.{Phase}
@@ -30,20 +29,19 @@ pub record IsCutShort (setting : Setting) (journal : List Entry) (ends : List (L
   pub parts : ends ≡ told ++ cut.untold
   pub came : PhasesCame setting.script 0 done told outcomes
 
--- Want of memory broke the run off behind some first phases, which are finished, and of the others one was begun at most. The outcomes
--- begin with those of the finished phases.
+-- Want of memory broke the run off behind some first phases, which are finished, and of those left one was begun at most. These are the
+-- outcomes of the finished phases.
 pub record IsCutForMemory (setting : Setting) (ends : List (List (List End))) (outcomes : List Outcome) : Type 0 where
   pub done : List Phase
+  pub next : Phase
   pub left : List Phase
-  pub phases : setting.script.phases ≡ done ++ left
+  pub phases : setting.script.phases ≡ done ++ next ∷ left
   pub told : List (List (List End))
-  pub untold : List (List (List End))
-  pub parts : ends ≡ told ++ untold
+  pub begun : List (List (List End))
+  pub parts : ends ≡ told ++ begun
+  pub few : length begun ≤ 1
   pub finished : AreFinished (by_workers setting) 0 done told
-  pub few : length untold ≤ 1
-  pub first : List Outcome
-  pub came : PhasesCame setting.script 0 done told first
-  pub leads : IsPrefix first outcomes
+  pub came : PhasesCame setting.script 0 done told outcomes
 
 -- how far a run came, by what broke it off
 abbrev pub CameSoFar : Setting → List Entry → List (List (List End)) → List Outcome → Result (Unit {0}) Broken → Type 0
@@ -53,7 +51,7 @@ CameSoFar setting journal ends outcomes (Err broken.Full) = IsCutShort setting j
 CameSoFar setting journal ends outcomes (Err broken.NoMemory) = IsCutForMemory setting ends outcomes
 
 -- The journal is that of a run of the script, no phase of which was begun after one that broke off. These outcomes are those of the
--- finished phases, in the order of their lines; where memory was wanted, some of the next phase may follow them.
+-- finished phases, in the order of their lines.
 pub record HasRunBeside (setting : Setting) (journal : List Entry) (outcomes : List Outcome) (came : Result (Unit {0}) Broken) : Type 0 where
   pub ends : List (List (List End))
   pub run : IsRunOf setting journal ends

@@ -12,7 +12,7 @@ use Rattle.lifecycle_core.specs.Holdings.{Holdings}
 use Rattle.lifecycle_core.specs.Setting.{Setting}
 use Rattle.lifecycle_core.specs.Tasks.{End}
 use Rattle.script_running.specs.Beside.{AreSeen}
-use Rattle.script_running.specs.Going.{ComeFirst, Met}
+use Rattle.script_running.specs.Going.{Met}
 use Rattle.script_running.specs.Outcomes.{AreAllParts, IsOutcomeOf, TasksCame}
 use Rattle.script_running.specs.Sights.{Sees, no_sight}
 use Rattle.script_running.specs.declared.came.Broken.{Broken}
@@ -29,13 +29,12 @@ abbrev pub AreSeenBeside : Holdings → List Worker → List Sight → Type 0
 AreSeenBeside held workers sights = (place : ℕ) (sight : Sight) → slice_get sights place ≡ Some sight → All (λ (w : Worker). w.gateway ≢ Some place) workers → Sees (held place) sight
 
 -- All workers came to all their ends: gateways see what they hold after the phase, and the outcomes of its tasks were added in the order
--- of the lines. Or a worker met the full journal, and nothing was added; or memory was wanting, none of them met it, and some outcomes may
--- have been added.
+-- of the lines. Or no outcome was added: a worker met the full journal, or memory was wanting and none of them met it.
 abbrev pub Gathers : Setting → Phase → List Worker → List (List End) → List WorkerEnd → Holdings → List Sight → List Outcome → List Outcome → Result (Unit {0}) Broken → Type 0
 Gathers setting phase workers ends others after sights old new (Ok done) =
     AreDone workers ends × AreSeen after sights × ((own : List Outcome) × (new ≡ old ++ own) × TasksCame setting.script workers ends 0 phase.tasks own)
 Gathers setting phase workers ends others after sights old new (Err why) =
-    ComeFirst why old new × Met why others
+    (new ≡ old) × Met why others
 
 -- outcomes were added, or none
 abbrev pub AreMore : List Outcome → List Outcome → Type 0

@@ -83,12 +83,7 @@ pub record HasIdled (setting : Setting) (root : Known) (passed : List Passed) (p
   pub none : one.kept ≡ []
   pub knows : KnowsPhases root (passed ++ one ∷ [])
 
--- Where the full journal broke a run off, these outcomes are all. Where memory was wanted, they come first.
-abbrev pub ComeFirst : Broken → List Outcome → List Outcome → Type 0
-ComeFirst broken.Full first outcomes = outcomes ≡ first
-ComeFirst broken.NoMemory first outcomes = IsPrefix first outcomes
-
--- A run that broke off behind some finished phases, whose outcomes come first: at the next one's clock, or within it.
+-- A run that broke off behind some finished phases, whose outcomes these are: at the next one's clock, or within it.
 pub record HasStopped (setting : Setting) (root : Known) (outcomes : List Outcome) (why : Broken) : Type 0 where
   pub done : List Phase
   pub phase : Phase
@@ -97,9 +92,7 @@ pub record HasStopped (setting : Setting) (root : Known) (outcomes : List Outcom
   pub passed : List Passed
   pub held : Holdings
   pub so_far : HasFinished setting done passed held
-  pub first : List Outcome
-  pub came : PhasesCame setting.script 0 done so_far.told first
-  pub leads : ComeFirst why first outcomes
+  pub came : PhasesCame setting.script 0 done so_far.told outcomes
   pub stands : (KnowsPhases root passed × IfFull why (HasSeenFull root))
       ⊎ (HasBrokenOff setting root done passed held phase why ⊎ ((why ≡ broken.NoMemory) × HasIdled setting root passed phase))
 

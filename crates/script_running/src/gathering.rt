@@ -1,6 +1,6 @@
 //! The workers of a phase, sent with what their gateways see, and their ends, laid together in the order of the lines.
 
-ghost use Rattle.std.specs.Prelude.{◌≡◌, ◌≢◌, ◌<◌, ◌≤◌, [], ◌∷◌, ◌++◌, ℕ, List, Ok, Err, None, Some, IfOk, IfSome, MatchBool, OnOk, length, slice_get};
+ghost use Rattle.std.specs.Prelude.{◌≡◌, ◌≢◌, ◌<◌, ◌≤◌, [], ◌∷◌, ◌++◌, ℕ, List, Ok, Err, None, Some, IfOk, IfSome, MatchBool, OnErr, OnOk, length, slice_get, take};
 ghost use Rattle.std.specs.List.{All, AllZip};
 ghost use Rattle.world_core.specs.declared.entry.Entry.{Entry};
 ghost use Rattle.script_core.specs.Lawful.{IsLawfulScript};
@@ -112,7 +112,7 @@ pub(crate) fn gather<P: Report>(
         return Err(Broken::NoMemory);
     };
     match take_in(workers, ends, sights, &mut slots) {
-        Ok(()) => tell(alloc, script, tasks, slots, outcomes, report),
+        Ok(()) => tell_all(alloc, script, tasks, slots, outcomes, report),
         Err(broken) => Err(broken),
     }
 }
@@ -274,8 +274,9 @@ fn empty_slots(alloc: Global, count: usize) -> Result<Column, NoMemory>
     Ok(Column { slots })
 }
 
-/// Adds the outcomes of the tasks, in their order, by the parts of those who did them, also to the report.
-fn tell<P: Report>(
+/// Adds the outcomes of the tasks, in their order, by the parts of those who did them, also to the report. For want of memory no outcome
+/// is added.
+fn tell_all<P: Report>(
     alloc: Global,
     script: &Script,
     tasks: &[Task],
@@ -286,7 +287,42 @@ fn tell<P: Report>(
     requires few { length slots.gateways.items ≤ 16 }
     ensures told { OnOk result ((own : List Outcome) × (outcomes.new ≡ outcomes.old ++ own)
         × AreTold slots 0 tasks.now own) }
+    ensures untold { OnErr result (outcomes.new ≡ outcomes.old) }
     ensures why { result ≢ Err Broken.Full }
+    ensures reported { (before : List Task) → P.tells report.old script.now before outcomes.old
+        → OnOk result (P.tells report.new script.now (before ++ tasks.now) outcomes.new) }
+{
+    let before = outcomes.len();
+    match tell(alloc, script, tasks, slots, outcomes, report) {
+        Ok(()) => Ok(()),
+        Err(NoMemory) => {
+            cut_back(alloc, outcomes, before);
+            Err(Broken::NoMemory)
+        }
+    }
+}
+
+/// Leaves the first so many outcomes. It takes no memory.
+fn cut_back(alloc: Global, outcomes: &mut OutcomeList, count: usize)
+    ensures { outcomes.new ≡ take count outcomes.old }
+{
+    let mut kept = mem::replace(outcomes, OutcomeList::new(alloc)).into_vec();
+    kept.truncate(count);
+    *outcomes = OutcomeList::from_vec(kept);
+}
+
+/// The same, but for want of memory some outcomes may have been added.
+fn tell<P: Report>(
+    alloc: Global,
+    script: &Script,
+    tasks: &[Task],
+    slots: Slots,
+    outcomes: &mut OutcomeList,
+    report: &mut P,
+) -> Result<(), NoMemory>
+    requires few { length slots.gateways.items ≤ 16 }
+    ensures told { OnOk result ((own : List Outcome) × (outcomes.new ≡ outcomes.old ++ own)
+        × AreTold slots 0 tasks.now own) }
     ensures more { AreMore outcomes.old outcomes.new }
     ensures reported { (before : List Task) → P.tells report.old script.now before outcomes.old
         → OnOk result (P.tells report.new script.now (before ++ tasks.now) outcomes.new) }
@@ -295,7 +331,7 @@ fn tell<P: Report>(
     for place in 0..tasks.len() {
         let task = &tasks[place];
         let Ok(()) = tell_one(alloc, script, task, place, &mut slots, outcomes, report) else {
-            return Err(Broken::NoMemory);
+            return Err(NoMemory);
         };
     }
     Ok(())

@@ -8,10 +8,10 @@ use Rattle.line_running.proofs.in_line.do_in_line.Goals as goal
 use Rattle.std.specs.Prelude.{List}
 
 pub returns-in_default-clause-came : goal.returns-in_default-clause-came
-returns-in_default-clause-came g c = ([], no_run (setting_by c.args.script.now c.args.shelf.now) c.new-hand.result.world.journal (ap (λ w. w.journal) c.new-hand.ensures.world ∙ c.requires.fresh))
+returns-in_default-clause-came g c = ([], (0, no_run g.R.Report.tells (setting_by c.args.script.now c.args.shelf.now) c.new-hand.result.world.journal c.empty.result (ap (λ w. w.journal) c.new-hand.ensures.world ∙ c.requires.fresh) (c.empty.ensures c.args.script.now)))
 
 pub returns-in_default-new-clause-came : goal.returns-in_default-new-clause-came
-returns-in_default-new-clause-came g c = ([], no_run (setting_by c.args.script.now c.args.shelf.now) c.new-hand.result.world.journal (ap (λ w. w.journal) c.new-hand.ensures.world ∙ c.requires.fresh))
+returns-in_default-new-clause-came g c = ([], (0, no_run g.R.Report.tells (setting_by c.args.script.now c.args.shelf.now) c.new-hand.result.world.journal c.empty-in_default-new.result (ap (λ w. w.journal) c.new-hand.ensures.world ∙ c.requires.fresh) (c.empty-in_default-new.ensures c.args.script.now)))
 
 pub returns-in_default-clause-keeps : goal.returns-in_default-clause-keeps
 returns-in_default-clause-keeps g c = kept_still g.B.Bucket.faults g.B.Bucket.quiet g.B.Bucket.asked c.args.world c.new-hand.result.world c.new-hand.result.opened.value c.new-hand.result.wanted c.new-hand.ensures.world c.new-hand.ensures.opened c.new-hand.ensures.wanted

@@ -9,14 +9,14 @@ use Rattle.report_lines.specs.script_running.specs.Shelves.{setting_by}
 use Rattle.report_lines.specs.lifecycle_core.specs.Ways.{BeginsPhase}
 use Rattle.report_lines.specs.script_running.specs.Tasks.{is_full_came}
 use Rattle.line_running.specs.Progress.{TasksBroken, TasksDone}
-use Rattle.line_running.proofs.PhaseLists.{broken_from, broken_step, done_from, lawful_phase, run_so_far, seats_next, taken_step, unbegun_step}
+use Rattle.line_running.proofs.PhaseLists.{broken_from, broken_step, done_from, lawful_phase, seats_next, short_before, taken_step, unbegun_step}
 use Rattle.line_running.proofs.Wanted.{unrefused}
 use Rattle.line_running.proofs.Told.{on_err, on_ok}
 use Rattle.line_running.proofs.Wanted.{short_on, still_unwanted}
 use Rattle.line_running.proofs.phases.run_phase.Goals as goal
 
 pub returns-in_default-clause-step : goal.returns-in_default-clause-step
-returns-in_default-clause-step g c = run_so_far g.R.Report.tells (setting_by c.args.script.now c.args.means.now.shelf) c.args.place c.args.progress.now.gateways.items c.args.hand.world.journal _ c.requires.reached
+returns-in_default-clause-step g c = short_before g.R.Report.tells (setting_by c.args.script.now c.args.means.now.shelf) c.args.place c.args.progress.now.gateways.items c.args.hand.world.journal _ c.requires.reached
 
 pub begin_phase-begun-requires-clause-moment : goal.begin_phase-begun-requires-clause-moment
 begin_phase-begun-requires-clause-moment g c = (lawful_phase (setting_by c.args.script.now c.args.means.now.shelf) c.args.place c.args.phase.now c.requires.lawful c.requires.at).moment
@@ -43,7 +43,7 @@ returns-in-Ok-came-clause-step g c =
     (λ v shows. MatchResult-at_ok (λ lines. TasksDone g.R.Report.tells (setting_by c.args.script.now c.args.means.now.shelf) (seat_of c.in-Ok.seats.workers) c.members-tasks.result.now v c.run_tasks-came.new.progress.gateways.items c.begin_phase-begun.result.1.world.journal c.run_tasks-came.result.1.world.journal lines) _ c.in-Ok-came.lines c.in-Ok-came.is (c.run_tasks-came.ensures.came v shows)) in
     taken_step g.R.Report.tells (setting_by c.args.script.now c.args.means.now.shelf) c.args.place c.args.phase.now c.args.progress.now.gateways.items c.run_tasks-came.new.progress.gateways.items c.args.hand.world.journal c.run_tasks-came.result.1.world.journal
     c.args.progress.now.report c.run_tasks-came.new.progress.report c.in-Ok-came.lines c.join.new.self c.join.result begun.0 c.join.ensures.refusal c.requires.at begun.1 c.requires.reached tasks
-    c.run_tasks-came.ensures.report (c.join.ensures.joined c.args.script.now)
+    c.run_tasks-came.ensures.report (c.join.ensures.joined c.args.script.now) (c.join.ensures.kept c.args.script.now)
 
 pub returns-in-Ok-came-clause-refused : goal.returns-in-Ok-came-clause-refused
 returns-in-Ok-came-clause-refused g c = unrefused c.run_tasks-came.result.1.refused c.join.result (c.run_tasks-came.ensures.refused ∙ ap is_full_came c.in-Ok-came.is) c.join.ensures.refusal

@@ -4,7 +4,7 @@ use Rattle.script_running.specs.Gathering.{HaveCome}
 use Rattle.script_running.specs.Going.{Met}
 use Rattle.script_running.specs.declared.came.Broken.TheVariants as broken
 use Rattle.script_running.specs.declared.worker.WorkerEnd.{WorkerEnd}
-use Rattle.script_running.proofs.Gathers.{all_first, as_many, broken_off, came_whole, empty_of, met_so, slots_there, told_of}
+use Rattle.script_running.proofs.Gathers.{as_many, broken_off, came_whole, empty_of, met_so, slots_there, told_of}
 use Rattle.script_running.proofs.Refused.{still_come}
 use Rattle.script_running.proofs.Phasing.{if_false}
 use Rattle.script_running.proofs.gathering.gather.Goals as goal
@@ -12,11 +12,11 @@ use Rattle.script_running.proofs.gathering.gather.Goals as goal
 pub returns-in-Ok-take_in-clause-gathers : goal.returns-in-Ok-take_in-clause-gathers
 returns-in-Ok-take_in-clause-gathers g c = λ setting number phase before after front kept own lasts lawful counted at tasks workers have left beside.
     came_whole setting number phase before after front c.args.workers.now kept own lasts c.args.ends.items c.args.sights.now.items lawful counted at workers have left c.take_in.new.sights.items beside c.in-Ok.slots c.take_in.new.slots
-    (subst (HaveCome c.args.ends.items) c.in-Ok-take_in.is c.take_in.ensures.came) c.take_in.ensures.taken (empty_of c.args.tasks.now phase.tasks (length c.args.sights.now.items) c.args.sights.now.items c.in-Ok.slots tasks refl (as_many (length c.args.tasks.now) c.len.result (length c.args.sights.now.items) c.in-Ok.slots (let ok = c.args.sights.now.ok in omega (arith, c.len.ensures)) c.in-Ok.ensures)) c.args.outcomes.now c.tell.new.outcomes c.tell.result c.tell.ensures.why c.tell.ensures.more (told_of c.args.tasks.now phase.tasks c.take_in.new.slots c.args.outcomes.now c.tell.new.outcomes c.tell.result tasks c.tell.ensures.told)
+    (subst (HaveCome c.args.ends.items) c.in-Ok-take_in.is c.take_in.ensures.came) c.take_in.ensures.taken (empty_of c.args.tasks.now phase.tasks (length c.args.sights.now.items) c.args.sights.now.items c.in-Ok.slots tasks refl (as_many (length c.args.tasks.now) c.len.result (length c.args.sights.now.items) c.in-Ok.slots (let ok = c.args.sights.now.ok in omega (arith, c.len.ensures)) c.in-Ok.ensures)) c.args.outcomes.now c.tell_all.new.outcomes c.tell_all.result c.tell_all.ensures.why c.tell_all.ensures.untold (told_of c.args.tasks.now phase.tasks c.take_in.new.slots c.args.outcomes.now c.tell_all.new.outcomes c.tell_all.result tasks c.tell_all.ensures.told)
 
 pub returns-in_default-clause-gathers : goal.returns-in_default-clause-gathers
 returns-in_default-clause-gathers g c = λ setting number phase before after front kept own lasts lawful counted at tasks workers have left beside.
-    (all_first c.args.outcomes.now, if_false (Met broken.Full c.args.ends.items) c.any_full.result c.if-any_full.false (subst (λ (es : List WorkerEnd). MatchBool c.any_full.result (Met broken.Full es) (Met broken.NoMemory es)) c.deref.ensures.value c.any_full.ensures))
+    (refl, if_false (Met broken.Full c.args.ends.items) c.any_full.result c.if-any_full.false (subst (λ (es : List WorkerEnd). MatchBool c.any_full.result (Met broken.Full es) (Met broken.NoMemory es)) c.deref.ensures.value c.any_full.ensures))
 
 pub returns-in-Err-clause-gathers : goal.returns-in-Err-clause-gathers
 returns-in-Err-clause-gathers g c = λ setting number phase before after front kept own lasts lawful counted at tasks workers have left beside.
@@ -28,7 +28,7 @@ returns-then-any_full-clause-gathers g c = λ setting number phase before after 
 
 pub returns-in-Ok-take_in-clause-came : goal.returns-in-Ok-take_in-clause-came
 returns-in-Ok-take_in-clause-came g c =
-    still_come c.args.ends.items c.tell.result (subst (HaveCome c.args.ends.items) c.in-Ok-take_in.is c.take_in.ensures.came) (if_false (Met broken.Full c.args.ends.items) c.any_full.result c.if-any_full.false (subst (λ (es : List WorkerEnd). MatchBool c.any_full.result (Met broken.Full es) (Met broken.NoMemory es)) c.deref.ensures.value c.any_full.ensures)) c.tell.ensures.why
+    still_come c.args.ends.items c.tell_all.result (subst (HaveCome c.args.ends.items) c.in-Ok-take_in.is c.take_in.ensures.came) (if_false (Met broken.Full c.args.ends.items) c.any_full.result c.if-any_full.false (subst (λ (es : List WorkerEnd). MatchBool c.any_full.result (Met broken.Full es) (Met broken.NoMemory es)) c.deref.ensures.value c.any_full.ensures)) c.tell_all.ensures.why
 
 pub returns-in-Err-clause-came : goal.returns-in-Err-clause-came
 returns-in-Err-clause-came g c = subst (HaveCome c.args.ends.items) c.in-Err.is c.take_in.ensures.came
