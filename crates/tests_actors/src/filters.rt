@@ -155,29 +155,30 @@ fn found_of(
 }
 
 fn print_split(rt: &HostRuntime, text: &str) {
-    match blocks_of(rt.alloc(), text) {
-        Ok(found) => print_told_apart(rt, uncovered(rt.alloc(), found)),
-        Err(_) => say(rt, "no memory"),
-    }
+    print_told_apart(rt, uncovered(rt.alloc(), blocks_of(rt.alloc(), text)));
 }
 
 fn print_told_apart(rt: &HostRuntime, split: Result<(FoundList, FoundList), NoMemory>) {
     match split {
         Ok((kept, covered)) => {
             print_blocks(rt, "kept", &kept);
+            drop(kept);
             print_blocks(rt, ", covered", &covered);
+            drop(covered);
             say(rt, "");
         }
         Err(_) => say(rt, "no memory"),
     }
 }
 
-fn blocks_of(alloc: Global, text: &str) -> Result<FoundList, NoMemory> {
+fn blocks_of(alloc: Global, text: &str) -> FoundList {
     let mut found = FoundList::new(alloc);
     for word in text.split(' ') {
-        found.push(named_block(alloc, word)?)?;
+        if let Ok(block) = named_block(alloc, word) {
+            let _ = found.push(block);
+        }
     }
-    Ok(found)
+    found
 }
 
 fn named_block(alloc: Global, word: &str) -> Result<Found, NoMemory> {

@@ -59,7 +59,7 @@ fn put_words(
         put_word(alloc, world, word)?;
     }
     let ms = u64::from(clock);
-    let _clock = world.act(0, Op::Clock(Moment { ms }));
+    drop(world.act(0, Op::Clock(Moment { ms })));
     Ok(())
 }
 
@@ -98,10 +98,10 @@ fn put_mark(alloc: Global, world: &mut World<MemoryBucket>, word: &str) -> Resul
 fn put_object(world: &mut World<MemoryBucket>, op: Op) -> Result<(), NoMemory>
     requires { IsLawful op }
 {
-    match world.act(1, op) {
-        Acted::Done(_) => Ok(()),
-        _ => Err(NoMemory),
-    }
+    let acted = world.act(1, op);
+    let is_done = matches!(acted, Acted::Done(_));
+    drop(acted);
+    if is_done { Ok(()) } else { Err(NoMemory) }
 }
 
 /// The ULID of the block that is named by its last character.

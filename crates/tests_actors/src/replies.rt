@@ -28,7 +28,7 @@ impl Replies {
 
     /// One reply more, at that millisecond.
     pub(crate) fn push(&mut self, ms: u64, reply: Reply) {
-        let _ = self.waiting.push_back((ms, reply));
+        drop(self.waiting.push_back((ms, reply)));
     }
 
     /// What was asked for and answered.
@@ -58,9 +58,12 @@ impl Hand for Replies {
 
     fn act(&mut self, op: Op) -> Acted {
         let Some((ms, reply)) = self.waiting.pop_front() else {
+            drop(op);
             return Acted::NoMemory;
         };
         if ms >= LIMIT || !may_answer(&op, &reply) {
+            drop(op);
+            drop(reply);
             return Acted::NoMemory;
         }
         match record(&mut self.entries, op, Moment { ms }, reply) {
@@ -78,9 +81,12 @@ fn record(entries: &mut Vec<Entry>, op: Op, moment: Moment, reply: Reply) -> Res
     ensures reply { IfOk result (λ seen. seen.reply ≡ reply) }
     ensures err { OnErr result (entries.new.items ≡ entries.old.items) }
 {
-    entries.reserve(1)?;
+    let Ok(told) = reply.copy() else {
+        drop(op);
+        drop(reply);
+        return Err(NoMemory);
+    };
     let seq = entries.len() as u64 + 1;
-    let told = reply.copy()?;
     let pushed = entries.push(Entry {
         seq,
         seat: 1,
@@ -88,7 +94,10 @@ fn record(entries: &mut Vec<Entry>, op: Op, moment: Moment, reply: Reply) -> Res
         op,
         reply,
     });
-    pushed.unwrap();
+    if pushed.ok().is_none() {
+        drop(told);
+        return Err(NoMemory);
+    }
     Ok(Seen {
         seq,
         moment,

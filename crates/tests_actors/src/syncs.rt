@@ -21,9 +21,9 @@ pub(crate) fn world(alloc: Global, failing_call: u64) -> Result<World<MemoryBuck
         call: failing_call,
         landed: false,
     })?;
-    match World::open(alloc, MemoryBucket::new(alloc, failing), Span { ms: 1 }) {
-        Ok(world) => Ok(world),
-        Err(_) => Err(NoMemory),
+    match World::open(alloc, MemoryBucket::new(alloc, failing), Span { ms: 1 }).ok() {
+        Some(world) => Ok(world),
+        None => Err(NoMemory),
     }
 }
 
@@ -143,7 +143,7 @@ pub(crate) fn print_fault(rt: &HostRuntime) {
     say(rt, "= a page that fails at the second entry");
     match world(rt.alloc(), 2) {
         Ok(mut world) => {
-            let _clock = world.act(0, Op::Clock(Moment { ms: 5 }));
+            drop(world.act(0, Op::Clock(Moment { ms: 5 })));
             print_sync(rt, world);
         }
         Err(_) => say(rt, "not opened"),

@@ -34,9 +34,9 @@ fn print_stops(rt: &HostRuntime, mut hand: WorldHand<MemoryBucket>, stops: &str)
 }
 
 fn hand_of(alloc: Global, fail: &str) -> Result<WorldHand<MemoryBucket>, NoMemory> {
-    match World::open(alloc, bucket_of(alloc, fail)?, Span { ms: 1 }) {
-        Ok(world) => Ok(WorldHand::new(world, 1)),
-        Err(_) => Err(NoMemory),
+    match World::open(alloc, bucket_of(alloc, fail)?, Span { ms: 1 }).ok() {
+        Some(world) => Ok(WorldHand::new(world, 1)),
+        None => Err(NoMemory),
     }
 }
 

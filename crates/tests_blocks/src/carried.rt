@@ -34,12 +34,19 @@ fn time_of(sample: &Sample) -> i64
 fn block_of(alloc: Global, plan: BlockPlan, bytes: &[u8], time: i64) -> Option<BlockFiles>
     requires { IsStored (plan_fields plan) (record { content = bytes.now; min = time; max = time }) }
 {
-    let (labels, _) = LabelSet::read(alloc, "{a=\"x\"}").ok()?;
-    let mut writer = BlockWriter::new(alloc, plan);
-    let Ok(()) = writer.chunk(bytes, time, time) else {
+    let Ok((labels, _)) = LabelSet::read(alloc, "{a=\"x\"}") else {
+        drop(plan);
         return None;
     };
-    writer.series(&labels).ok()?;
+    let mut writer = BlockWriter::new(alloc, plan);
+    let Ok(()) = writer.chunk(bytes, time, time) else {
+        drop(writer);
+        return None;
+    };
+    let Ok(()) = writer.series(&labels) else {
+        drop(writer);
+        return None;
+    };
     writer.finish().ok()
 }
 
@@ -55,6 +62,7 @@ fn carry(alloc: Global, bytes: &[u8]) -> Option<BlockFiles> {
         return None;
     };
     if !is_within(&plan, sample) {
+        drop(plan);
         return None;
     }
     block_of(alloc, plan, bytes, time_of(sample))

@@ -3,6 +3,7 @@ ghost use Rattle.bucket_core.specs.Contents.{IsKey};
 
 use crate::memory_shelf::{print_check, print_served};
 use crate::runs::{print_example, print_run, print_script};
+use crate::says::{cut, put, say, show};
 use bucket_core::{Bucket, GetAnswer, PageAnswer, Shelf, ShelfAnswer};
 use dir_bucket::{DirShelf, HostBucket};
 use label_sets::Text;
@@ -25,29 +26,37 @@ pub(crate) fn print_call<R: Threads + Wait + Sync>(
     rt: &HostRuntime,
     folder: &mut Folder,
     row: &str,
-) -> io::Result<()> {
-    let (kind, text) = row.split_once(' ').unwrap_or((row, ""));
+) {
+    let (kind, text) = cut(row);
     if kind == "=" {
-        return println!(rt; "{row}");
+        return say(rt, row);
     }
-    print!(rt; "{row} -> ")?;
+    put(rt, row);
+    put(rt, " -> ");
     match kind {
-        "put" => print_put(rt, &mut folder.bucket, text),
-        "get" => print_get(rt, folder.bucket.get(text)),
-        "range" => print_range(rt, &mut folder.bucket, text),
-        "delete" => println!(rt; "{:?}", folder.bucket.delete(text)),
-        "page" => print_page(rt, &mut folder.bucket, text),
-        "read" => print_read(rt, folder.shelf.read(text)),
         "run" => print_run(threads, rt, text),
         "example" => print_example(threads, rt, text),
         "runs" => print_script(threads, rt, "serial", text),
         "replays" => print_script(threads, rt, "replay", text),
         "words" => print_check(rt, text),
         "served" => print_served(rt, text),
-        "folder" => print_done(rt, fs::create_dir_all(rt, text)),
-        "file" => print_done(rt, write_zeros(rt, text)),
-        "mode" => print_done(rt, set_mode(rt, text)),
-        _ => println!(rt; "no call"),
+        "folder" => show(rt, &fs::create_dir_all(rt, text).is_ok()),
+        "file" => show(rt, &write_zeros(rt, text).is_ok()),
+        "mode" => show(rt, &set_mode(rt, text).is_ok()),
+        "read" => print_read(rt, folder.shelf.read(text)),
+        _ => print_answer(rt, &mut folder.bucket, kind, text),
+    }
+}
+
+/// Prints what a bucket answers.
+fn print_answer(rt: &HostRuntime, bucket: &mut HostBucket<HostRuntime>, kind: &str, text: &str) {
+    match kind {
+        "put" => print_put(rt, bucket, text),
+        "get" => print_get(rt, bucket.get(text)),
+        "range" => print_range(rt, bucket, text),
+        "delete" => show(rt, &bucket.delete(text)),
+        "page" => print_page(rt, bucket, text),
+        _ => say(rt, "no call"),
     }
 }
 
@@ -60,21 +69,17 @@ fn is_key(key: &str) -> bool
     }
 }
 
-fn print_put(rt: &HostRuntime, bucket: &mut HostBucket<HostRuntime>, text: &str) -> io::Result<()> {
-    let (key, bytes) = text.split_once(' ').unwrap_or((text, ""));
+fn print_put(rt: &HostRuntime, bucket: &mut HostBucket<HostRuntime>, text: &str) {
+    let (key, bytes) = cut(text);
     if !is_key(key) {
-        return println!(rt; "no key");
+        return say(rt, "no key");
     }
-    println!(rt; "{:?}", bucket.put(key, bytes.as_bytes()))
+    show(rt, &bucket.put(key, bytes.as_bytes()));
 }
 
-fn print_range(
-    rt: &HostRuntime,
-    bucket: &mut HostBucket<HostRuntime>,
-    text: &str,
-) -> io::Result<()> {
-    let (key, range) = text.split_once(' ').unwrap_or((text, ""));
-    let (from, len) = range.split_once(' ').unwrap_or((range, ""));
+fn print_range(rt: &HostRuntime, bucket: &mut HostBucket<HostRuntime>, text: &str) {
+    let (key, range) = cut(text);
+    let (from, len) = cut(range);
     print_get(rt, bucket.get_range(key, number_of(from), number_of(len)))
 }
 
@@ -82,17 +87,13 @@ fn number_of(text: &str) -> u64 {
     text.parse().unwrap_or(0)
 }
 
-fn print_page(
-    rt: &HostRuntime,
-    bucket: &mut HostBucket<HostRuntime>,
-    text: &str,
-) -> io::Result<()> {
-    let (within, rest) = text.split_once(' ').unwrap_or((text, ""));
-    let (after, limit) = rest.split_once(' ').unwrap_or((rest, ""));
+fn print_page(rt: &HostRuntime, bucket: &mut HostBucket<HostRuntime>, text: &str) {
+    let (within, rest) = cut(text);
+    let (after, limit) = cut(rest);
     match bucket.page(unless_dot(within), unless_dot(after), limit_of(limit)) {
         PageAnswer::Names(names) => print_names(rt, names.members()),
-        PageAnswer::Failed => println!(rt; "failed"),
-        PageAnswer::NoMemory => println!(rt; "no memory"),
+        PageAnswer::Failed => say(rt, "failed"),
+        PageAnswer::NoMemory => say(rt, "no memory"),
     }
 }
 
@@ -109,54 +110,53 @@ fn limit_of(text: &str) -> u32
     }
 }
 
-fn print_names(rt: &HostRuntime, names: &[Text]) -> io::Result<()> {
-    print!(rt; "names")?;
+fn print_names(rt: &HostRuntime, names: &[Text]) {
+    put(rt, "names");
     for name in names {
-        print!(rt; " {}", name.as_str())?;
+        put(rt, " ");
+        put(rt, name.as_str());
     }
-    println!(rt; "")
+    say(rt, "");
 }
 
-fn print_get(rt: &HostRuntime, answer: GetAnswer) -> io::Result<()> {
+fn print_get(rt: &HostRuntime, answer: GetAnswer) {
     match answer {
         GetAnswer::Found(bytes) => print_found(rt, bytes.bytes()),
-        GetAnswer::Absent => println!(rt; "absent"),
-        GetAnswer::Failed => println!(rt; "failed"),
-        GetAnswer::NoMemory => println!(rt; "no memory"),
+        GetAnswer::Absent => say(rt, "absent"),
+        GetAnswer::Failed => say(rt, "failed"),
+        GetAnswer::NoMemory => say(rt, "no memory"),
     }
 }
 
-fn print_read(rt: &HostRuntime, answer: ShelfAnswer) -> io::Result<()> {
+fn print_read(rt: &HostRuntime, answer: ShelfAnswer) {
     match answer {
         ShelfAnswer::Found(bytes) => print_found(rt, bytes.bytes()),
-        ShelfAnswer::Absent => println!(rt; "absent"),
-        ShelfAnswer::TooLarge => println!(rt; "too large"),
-        ShelfAnswer::Failed => println!(rt; "failed"),
-        ShelfAnswer::NoMemory => println!(rt; "no memory"),
+        ShelfAnswer::Absent => say(rt, "absent"),
+        ShelfAnswer::TooLarge => say(rt, "too large"),
+        ShelfAnswer::Failed => say(rt, "failed"),
+        ShelfAnswer::NoMemory => say(rt, "no memory"),
     }
 }
 
 /// Prints what was found: a short text, or how many bytes there are.
-fn print_found(rt: &HostRuntime, bytes: &[u8]) -> io::Result<()> {
+fn print_found(rt: &HostRuntime, bytes: &[u8]) {
+    put(rt, "found ");
     if bytes.len() > 99 {
-        return println!(rt; "found {} bytes", bytes.len());
+        let _ = println!(rt; "{} bytes", bytes.len());
+    } else {
+        show(rt, &str::from_utf8(bytes).unwrap_or("no text"));
     }
-    println!(rt; "found {:?}", str::from_utf8(bytes).unwrap_or("no text"))
 }
 
 /// Makes a file of so many bytes, which are all zero.
 fn write_zeros(rt: &HostRuntime, text: &str) -> io::Result<()> {
-    let (path, size) = text.split_once(' ').unwrap_or((text, ""));
+    let (path, size) = cut(text);
     File::create(rt, path)?.set_len(number_of(size))
 }
 
 /// Sets who may read a file or a folder, by an octal number.
 fn set_mode(rt: &HostRuntime, text: &str) -> io::Result<()> {
-    let (path, mode) = text.split_once(' ').unwrap_or((text, ""));
+    let (path, mode) = cut(text);
     let mode = u32::from_str_radix(mode, 8).unwrap_or(0);
     fs::set_permissions(rt, path, Permissions::from_mode(mode))
-}
-
-fn print_done(rt: &HostRuntime, done: io::Result<()>) -> io::Result<()> {
-    println!(rt; "{}", done.is_ok())
 }

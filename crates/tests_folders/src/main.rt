@@ -5,8 +5,10 @@
 mod calls;
 mod memory_shelf;
 mod runs;
+mod says;
 
 use crate::calls::{Folder, print_call};
+use crate::says::{put, say, show};
 use bucket_core::Site;
 use dir_bucket::HostSite;
 use std::io;
@@ -18,38 +20,65 @@ const FOLDER: &str = "made/bucket";
 
 fn main(rt: HostRuntime) -> io::Result<()> {
     let mut site = HostSite::new(rt.clone()?);
-    println!(rt;
-        "a shelf before its folder: {}",
-        site.open_shelf(FOLDER).is_ok()
-    )?;
-    println!(rt; "a bucket without a name: {}", site.open_bucket("").is_ok())?;
-    println!(rt;
-        "a bucket in no folder of files: {}",
-        site.open_bucket("/proc/none").is_ok()
-    )?;
-    println!(rt;
-        "a bucket in memory: {}",
-        site.open_bucket("memory").is_ok()
-    )?;
-    match open_both(&mut site) {
-        Some(folder) => print_calls(&rt, &rt, folder),
-        None => println!(rt; "not opened"),
+    print_openings(&rt, &mut site);
+    let opened = open_both(&mut site);
+    drop(site);
+    match opened {
+        Some(mut folder) => {
+            let printed = print_calls(&rt, &rt, &mut folder);
+            drop(folder);
+            printed
+        }
+        None => {
+            say(&rt, "not opened");
+            Ok(())
+        }
     }
+}
+
+/// Prints which buckets and shelves are opened, before the folder is there and beside it.
+fn print_openings(rt: &HostRuntime, site: &mut HostSite<HostRuntime>) {
+    put(rt, "a shelf before its folder: ");
+    show(rt, &opens_shelf(site, FOLDER));
+    put(rt, "a bucket without a name: ");
+    show(rt, &opens_bucket(site, ""));
+    put(rt, "a bucket in no folder of files: ");
+    show(rt, &opens_bucket(site, "/proc/none"));
+    put(rt, "a bucket in memory: ");
+    show(rt, &opens_bucket(site, "memory"));
+}
+
+/// Whether a site opens a shelf of that name, which is let go again.
+fn opens_shelf(site: &mut HostSite<HostRuntime>, name: &str) -> bool {
+    let opened = site.open_shelf(name);
+    let is_open = opened.is_ok();
+    drop(opened);
+    is_open
+}
+
+fn opens_bucket(site: &mut HostSite<HostRuntime>, name: &str) -> bool {
+    let opened = site.open_bucket(name);
+    let is_open = opened.is_ok();
+    drop(opened);
+    is_open
 }
 
 fn open_both(site: &mut HostSite<HostRuntime>) -> Option<Folder> {
     let bucket = site.open_bucket(FOLDER).ok()?;
-    let shelf = site.open_shelf(FOLDER).ok()?;
+    let Some(shelf) = site.open_shelf(FOLDER).ok() else {
+        drop(bucket);
+        return None;
+    };
     Some(Folder { bucket, shelf })
 }
 
 fn print_calls<R: Threads + Wait + Sync>(
     threads: &R,
     rt: &HostRuntime,
-    mut folder: Folder,
+    folder: &mut Folder,
 ) -> io::Result<()> {
     for line in rt.lines(rt.alloc()) {
-        print_call(threads, rt, &mut folder, line?.as_str())?;
+        print_call(threads, rt, folder, line?.as_str());
     }
     Ok(())
 }

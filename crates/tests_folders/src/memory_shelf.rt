@@ -3,12 +3,13 @@ ghost use Rattle.std.specs.Prelude.{◌≡◌};
 ghost use Rattle.bucket_core.specs.MemoryShelf.{faults_counted};
 
 use crate::runs::{print_written, words_of};
+use crate::says::{cut, say};
 use bucket_core::{
     Fail, FailList, File, FileList, MemoryBucket, MemoryShelf, MemorySink, MemorySite, MemorySource,
 };
 use label_sets::Text;
 use replay_cli::run_tool;
-use std::{fs, io};
+use std::fs;
 use wire_bytes::Blob;
 
 /// The block that is checked, and taken from the shelf.
@@ -29,24 +30,24 @@ query 0 5000 {}
 
 /// Prints the status and the text of a check over a shelf in memory that holds the block of the folder which the row names, if it
 /// is there; `fails` before it says that the first reading of the shelf fails.
-pub(crate) fn print_check(rt: &HostRuntime, row: &str) -> io::Result<()> {
+pub(crate) fn print_check(rt: &HostRuntime, row: &str) {
     print_called(
         rt,
         "check s 0000000000000000000000000A",
         "",
         shelf_of(rt, row),
-    )
+    );
 }
 
 /// Prints the status and the report of a run that takes its block from such a shelf.
-pub(crate) fn print_served(rt: &HostRuntime, row: &str) -> io::Result<()> {
-    print_called(rt, "serial memory s", SCRIPT, shelf_of(rt, row))
+pub(crate) fn print_served(rt: &HostRuntime, row: &str) {
+    print_called(rt, "serial memory s", SCRIPT, shelf_of(rt, row));
 }
 
 fn shelf_of(rt: &HostRuntime, row: &str) -> MemoryShelf
     ensures { faults_counted result ≡ 0 }
 {
-    let (first, rest) = row.split_once(' ').unwrap_or((row, ""));
+    let (first, rest) = cut(row);
     let mut failing = FailList::new(rt.alloc());
     if first != "fails" {
         return MemoryShelf::with_failing(rt.alloc(), files_of(rt, row), failing);
@@ -62,40 +63,63 @@ fn shelf_of(rt: &HostRuntime, row: &str) -> MemoryShelf
 fn files_of(rt: &HostRuntime, folder: &str) -> FileList {
     let mut files = FileList::new(rt.alloc());
     for name in NAMES {
-        if let Ok(file) = file_of(rt, folder, name) {
-            let _ = files.push(file);
-        }
+        add_file(rt, &mut files, folder, name);
     }
     files
 }
 
-fn file_of(rt: &HostRuntime, folder: &str, name: &str) -> io::Result<File> {
-    let bytes = fs::read(rt, format!(in rt.alloc(); "{folder}/{BLOCK}/{name}")?)?;
-    let name = format!(in rt.alloc(); "{BLOCK}/{name}")?;
-    Ok(File {
-        name: Text::from_string(name),
-        bytes: Blob::from_vec(bytes),
-    })
+/// Adds the file of that name, if it is there.
+fn add_file(rt: &HostRuntime, files: &mut FileList, folder: &str, name: &str) {
+    let Ok(name) = format!(in rt.alloc(); "{BLOCK}/{name}") else {
+        return;
+    };
+    if let Some(bytes) = bytes_of(rt, folder, name.as_str()) {
+        let _ = files.push(File {
+            name: Text::from_string(name),
+            bytes: Blob::from_vec(bytes),
+        });
+    }
+}
+
+fn bytes_of(rt: &HostRuntime, folder: &str, name: &str) -> Option<Vec<u8>> {
+    let Ok(path) = format!(in rt.alloc(); "{folder}/{name}") else {
+        return None;
+    };
+    fs::read(rt, path.as_str()).ok()
 }
 
 /// Calls the tool with these words and this script, over this shelf and an empty bucket, and prints its status and its text.
-fn print_called(rt: &HostRuntime, words: &str, script: &str, shelf: MemoryShelf) -> io::Result<()>
+fn print_called(rt: &HostRuntime, words: &str, script: &str, shelf: MemoryShelf)
     requires { faults_counted shelf ≡ 0 }
 {
     let alloc = rt.alloc();
-    let Ok(words) = words_of(alloc, words) else {
-        return println!(rt; "no memory");
-    };
-    let Ok(script) = Blob::from_bytes(alloc, script.as_bytes()) else {
-        return println!(rt; "no memory");
-    };
     let bucket = MemoryBucket::new(alloc, FailList::new(alloc));
     let mut site = MemorySite::new(bucket, shelf, false);
-    let mut source = MemorySource::new(script, None);
-    let mut out = MemorySink::new(alloc, None);
-    let run = run_tool(alloc, &words, &mut site, &mut source, &mut out);
+    match (
+        words_of(alloc, words),
+        Blob::from_bytes(alloc, script.as_bytes()),
+    ) {
+        (Ok(words), Ok(script)) => {
+            print_made(
+                rt,
+                words.as_slice(),
+                &mut site,
+                MemorySource::new(script, None),
+            );
+        }
+        _ => say(rt, "no memory"),
+    }
+    drop(site);
+}
+
+/// Calls the tool over this site, and prints its status and its text.
+fn print_made(rt: &HostRuntime, words: &[String], site: &mut MemorySite, script: MemorySource) {
+    let mut source = script;
+    let mut out = MemorySink::new(rt.alloc(), None);
+    let run = run_tool(rt.alloc(), words, site, &mut source, &mut out);
     let status = run.status;
     drop(run);
-    drop(site);
-    print_written(rt, status, out.bytes())
+    drop(source);
+    print_written(rt, status, out.bytes());
+    drop(out);
 }

@@ -1,3 +1,4 @@
+use crate::says::{put, say};
 use bucket_core::{MemorySink, MemorySource};
 use dir_bucket::HostSite;
 use list_core::NoMemory;
@@ -6,7 +7,7 @@ use replay_cli::{run_replay, run_tool};
 use std::alloc::Global;
 use std::sync::Wait;
 use std::thread::Threads;
-use std::{fs, io, str};
+use std::{fs, str};
 use wire_bytes::Blob;
 
 /// One block is uploaded, and found by a query after it.
@@ -21,26 +22,17 @@ query 0 5000 up
 ";
 
 /// Calls the tool with these words over real folders, and prints its status and what it wrote.
-pub(crate) fn print_run<R: Threads + Wait + Sync>(
-    threads: &R,
-    rt: &HostRuntime,
-    words: &str,
-) -> io::Result<()> {
-    match run(threads, rt, words, SCRIPT.as_bytes()) {
-        Ok((status, text)) => print_written(rt, status, &text),
-        Err(_) => println!(rt; "no memory"),
-    }
+pub(crate) fn print_run<R: Threads + Wait + Sync>(threads: &R, rt: &HostRuntime, words: &str) {
+    print_called(threads, rt, words, SCRIPT.as_bytes(), None);
 }
 
 /// Runs the script of an example over a bucket in memory and the shelf that the row names, if it names one.
-pub(crate) fn print_example<R: Threads + Wait + Sync>(
-    threads: &R,
-    rt: &HostRuntime,
-    row: &str,
-) -> io::Result<()> {
+pub(crate) fn print_example<R: Threads + Wait + Sync>(threads: &R, rt: &HostRuntime, row: &str) {
     let (name, shelf) = row.split_once(' ').unwrap_or((row, "none"));
-    let words = format!(in rt.alloc(); "serial memory {shelf}")?;
-    print_beside(threads, rt, words.as_str(), "examples", name)
+    match format!(in rt.alloc(); "serial memory {shelf}") {
+        Ok(words) => print_beside(threads, rt, words.as_str(), "examples", name),
+        Err(_) => say(rt, "no memory"),
+    }
 }
 
 /// Runs the script of `runs` that a row names over the bucket and the shelf that it names, by one thread or by several.
@@ -49,10 +41,12 @@ pub(crate) fn print_script<R: Threads + Wait + Sync>(
     rt: &HostRuntime,
     call: &str,
     row: &str,
-) -> io::Result<()> {
+) {
     let (named, name) = row.rsplit_once(' ').unwrap_or(("", row));
-    let words = format!(in rt.alloc(); "{call} {named}")?;
-    print_beside(threads, rt, words.as_str(), "runs", name)
+    match format!(in rt.alloc(); "{call} {named}") {
+        Ok(words) => print_beside(threads, rt, words.as_str(), "runs", name),
+        Err(_) => say(rt, "no memory"),
+    }
 }
 
 /// Prints the status of a script's run, and what it wrote unless that is what stands beside the script.
@@ -62,56 +56,90 @@ fn print_beside<R: Threads + Wait + Sync>(
     words: &str,
     folder: &str,
     name: &str,
-) -> io::Result<()> {
-    let script = fs::read(rt, format!(in rt.alloc(); "{folder}/{name}.script")?)?;
-    let output = fs::read(rt, format!(in rt.alloc(); "{folder}/{name}.output")?)?;
-    match run(threads, rt, words, &script) {
-        Ok((status, text)) if text.as_slice() == output.as_slice() => {
-            println!(rt; "status {status}, the output beside it")
-        }
-        Ok((status, text)) => print_written(rt, status, &text),
-        Err(_) => println!(rt; "no memory"),
+) {
+    let script = file_of(rt, folder, name, "script");
+    let output = file_of(rt, folder, name, "output");
+    print_called(
+        threads,
+        rt,
+        words,
+        script.as_slice(),
+        Some(output.as_slice()),
+    );
+}
+
+/// The bytes of a file, or none.
+fn file_of(rt: &HostRuntime, folder: &str, name: &str, ending: &str) -> Vec<u8> {
+    let Ok(path) = format!(in rt.alloc(); "{folder}/{name}.{ending}") else {
+        return Vec::new(rt.alloc());
+    };
+    match fs::read(rt, path.as_str()) {
+        Ok(bytes) => bytes,
+        Err(_) => Vec::new(rt.alloc()),
     }
 }
 
-pub(crate) fn print_written(rt: &HostRuntime, status: u8, text: &[u8]) -> io::Result<()> {
-    println!(rt; "status {status}")?;
-    print!(rt; "{}", str::from_utf8(text).unwrap_or("no text"))
+pub(crate) fn print_written(rt: &HostRuntime, status: u8, text: &[u8]) {
+    let _ = println!(rt; "status {status}");
+    put(rt, str::from_utf8(text).unwrap_or("no text"));
 }
 
-/// Calls what the program calls for these words, over real folders.
-fn run<R: Threads + Wait + Sync>(
+/// Calls what the program calls for these words, over real folders, and prints its status and what it wrote, unless that is what
+/// stands beside the script.
+fn print_called<R: Threads + Wait + Sync>(
     threads: &R,
     rt: &HostRuntime,
     words: &str,
     script: &[u8],
-) -> Result<(u8, Vec<u8>), NoMemory> {
+    beside: Option<&[u8]>,
+) {
     let alloc = rt.alloc();
-    let beside = words.starts_with("replay ");
-    let words = words_of(alloc, words)?;
+    let with_threads = words.starts_with("replay ");
     let Ok(host) = rt.clone() else {
-        return Err(NoMemory);
+        return say(rt, "no memory");
     };
     let mut site = HostSite::new(host);
-    let mut script = MemorySource::new(Blob::from_bytes(alloc, script)?, None);
+    match (words_of(alloc, words), Blob::from_bytes(alloc, script)) {
+        (Ok(words), Ok(script)) => {
+            let source = MemorySource::new(script, None);
+            let (status, out) = called(threads, alloc, with_threads, &words, &mut site, source);
+            print_out(rt, status, out.bytes(), beside);
+            drop(out);
+        }
+        _ => say(rt, "no memory"),
+    }
+    drop(site);
+}
+
+fn print_out(rt: &HostRuntime, status: u8, text: &[u8], beside: Option<&[u8]>) {
+    match beside {
+        Some(output) if output == text => {
+            let _ = println!(rt; "status {status}, the output beside it");
+        }
+        _ => print_written(rt, status, text),
+    }
+}
+
+/// Does the call, and gives its status and what it wrote.
+fn called<R: Threads + Wait + Sync>(
+    threads: &R,
+    alloc: Global,
+    with_threads: bool,
+    words: &[String],
+    site: &mut HostSite<HostRuntime>,
+    script: MemorySource,
+) -> (u8, MemorySink) {
+    let mut source = script;
     let mut out = MemorySink::new(alloc, None);
-    let run = if beside {
-        run_replay(
-            threads,
-            alloc,
-            &words,
-            &mut site,
-            &mut script,
-            &mut out,
-            &Open,
-        )
+    let run = if with_threads {
+        run_replay(threads, alloc, words, site, &mut source, &mut out, &Open)
     } else {
-        run_tool(alloc, &words, &mut site, &mut script, &mut out)
+        run_tool(alloc, words, site, &mut source, &mut out)
     };
     let status = run.status;
     drop(run);
-    drop(site);
-    Ok((status, Vec::from_slice(alloc, out.bytes())?))
+    drop(source);
+    (status, out)
 }
 
 pub(crate) fn words_of(alloc: Global, text: &str) -> Result<Vec<String>, NoMemory> {

@@ -1,2 +1,4 @@
+pub mod Acting
+pub mod Joined
 pub mod Noting
 pub mod ToldCalls

@@ -1,6 +1,7 @@
-//! Whole runs of the program over a bucket in memory, of which calls may fail and which may lie. A line of standard input is one
-//! such run, in the notation that its head explains; one that begins with `= ` is a heading. What is to be printed was worked out
-//! apart from this program, by the description of the formats and of the activities.
+//! Whole runs of the program over a bucket in memory, of which calls may fail and which may lie, and passes and workers that act on
+//! one world from threads of their own. A line of standard input is one such run, in the notation that its head explains, or a case
+//! of threads; one that begins with `= ` is a heading. What is to be printed was worked out apart from this program, by the
+//! description of the formats and of the activities.
 #![tactic(auto)]
 
 mod entries;
@@ -9,38 +10,54 @@ mod runs;
 mod says;
 mod setting;
 mod strange_bucket;
+mod threads;
 mod told_runs;
 
 use crate::lines::{Named, add_lines, repeated, script_of, wide};
 use crate::runs::{Shown, print_run};
 use crate::says::{cut, say};
 use crate::setting::{calm, setting_of};
+use crate::threads::print_threads;
 use std::io;
+use std::sync::Wait;
+use std::thread::Threads;
 
 fn main(rt: HostRuntime) -> io::Result<()> {
     let mut named = Vec::new(rt.alloc());
     for row in rt.lines(rt.alloc()) {
-        do_row(&rt, &mut named, row?.as_str());
+        do_row(&rt, &rt, &mut named, row?.as_str());
     }
     Ok(())
 }
 
 /// Does what a row says. Rows that name lines print nothing.
-fn do_row(rt: &HostRuntime, named: &mut Vec<Named>, row: &str) {
+fn do_row<R: Threads + Wait + Sync>(
+    threads: &R,
+    rt: &HostRuntime,
+    named: &mut Vec<Named>,
+    row: &str,
+) {
     let (word, text) = cut(row);
-    if word == "lines" {
-        return add_lines(named, text);
-    }
-    say(rt, row);
     match word {
-        "=" => {}
+        "=" => say(rt, row),
+        "lines" => add_lines(named, text),
+        "words" | "repeat" | "wide" | "run" | "journal" | "calls" => {
+            say(rt, row);
+            print_one(rt, named.as_slice(), word, text);
+        }
+        _ => print_threads(threads, rt, row, word, text),
+    }
+}
+
+/// Does one run, and prints what came of it.
+fn print_one(rt: &HostRuntime, named: &[Named], word: &str, text: &str) {
+    match word {
         "words" => print_run(rt, text, b"", &calm(), Shown::Report),
         "repeat" => print_repeated(rt, text),
         "wide" => print_wide(rt, text),
-        "run" => print_script(rt, named.as_slice(), text, Shown::Report),
-        "journal" => print_script(rt, named.as_slice(), text, Shown::Entries),
-        "calls" => print_script(rt, named.as_slice(), text, Shown::Calls),
-        _ => say(rt, "  no row"),
+        "journal" => print_script(rt, named, text, Shown::Entries),
+        "calls" => print_script(rt, named, text, Shown::Calls),
+        _ => print_script(rt, named, text, Shown::Report),
     }
 }
 

@@ -20,6 +20,7 @@ fn print_calls(rt: &HostRuntime, mut bucket: MemoryBucket, rows: &str) {
     for row in rows.lines() {
         print_call(rt, &mut bucket, row);
     }
+    drop(bucket);
 }
 
 fn print_call(rt: &HostRuntime, bucket: &mut MemoryBucket, row: &str) {

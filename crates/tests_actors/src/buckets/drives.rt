@@ -10,9 +10,9 @@ use world_core::{Acted, Driven, Op, World, WorldHand, drive};
 pub(crate) fn print_drives(rt: &HostRuntime) {
     say(rt, "= a machine that looks three times");
     let bucket = MemoryBucket::new(rt.alloc(), FailList::new(rt.alloc()));
-    match World::open(rt.alloc(), bucket, TICK) {
-        Ok(world) => print_stops(rt, WorldHand::new(world, 4)),
-        Err(_) => say(rt, "not opened"),
+    match World::open(rt.alloc(), bucket, TICK).ok() {
+        Some(world) => print_stops(rt, WorldHand::new(world, 4)),
+        None => say(rt, "not opened"),
     }
 }
 
@@ -22,7 +22,9 @@ fn print_stops(rt: &HostRuntime, mut hand: WorldHand<MemoryBucket>) {
         say(rt, driven_word(&mut hand, stop));
     }
     put(rt, "entries: ");
-    show(rt, &hand.into_world().journal().len());
+    let world = hand.into_world();
+    show(rt, &world.journal().len());
+    drop(world);
 }
 
 fn driven_word(hand: &mut WorldHand<MemoryBucket>, stop: Option<u32>) -> &'static str {
@@ -42,26 +44,36 @@ fn driven_word(hand: &mut WorldHand<MemoryBucket>, stop: Option<u32>) -> &'stati
 pub(crate) fn print_full(rt: &HostRuntime) {
     say(rt, "= a full journal");
     let bucket = MemoryBucket::new(rt.alloc(), FailList::new(rt.alloc()));
-    match World::open(rt.alloc(), bucket, TICK) {
-        Ok(world) => print_filled(rt, filled(world)),
-        Err(_) => say(rt, "not opened"),
+    match World::open(rt.alloc(), bucket, TICK).ok() {
+        Some(world) => print_filled(rt, filled(world)),
+        None => say(rt, "not opened"),
     }
 }
 
 /// Fills the journal.
 fn filled(mut world: World<MemoryBucket>) -> World<MemoryBucket> {
     for _ in 0..1_048_576u32 {
-        let _ = world.act(0, Op::Clock(Moment { ms: 0 }));
+        drop(world.act(0, Op::Clock(Moment { ms: 0 })));
     }
     world
 }
 
+/// Whether a world takes no more.
+fn is_full(world: &mut World<MemoryBucket>) -> bool {
+    let acted = world.act(0, Op::Clock(Moment { ms: 0 }));
+    let is_full = matches!(acted, Acted::Full);
+    drop(acted);
+    is_full
+}
+
 fn print_filled(rt: &HostRuntime, mut world: World<MemoryBucket>) {
     let before = world.journal().len();
-    let is_full = matches!(world.act(0, Op::Clock(Moment { ms: 0 })), Acted::Full);
+    let is_full = is_full(&mut world);
     let mut hand = WorldHand::new(world, 1);
     let word = driven_word(&mut hand, Some(1));
-    let after = hand.into_world().journal().len();
+    let world = hand.into_world();
+    let after = world.journal().len();
+    drop(world);
     let _ = println!(rt;
         "entries: {before}, takes no more: {is_full}, a machine: {word}, entries: {after}"
     );

@@ -9,7 +9,6 @@ use bucket_core::{
     MemorySource, PutAnswer, Shelf, ShelfAnswer, Sink, Site, Source,
 };
 use label_sets::Text;
-use list_core::NoMemory;
 use std::alloc::Global;
 use wire_bytes::Blob;
 
@@ -25,10 +24,7 @@ pub(crate) fn print_streams(rt: &HostRuntime) {
 
 fn print_failing_shelf(rt: &HostRuntime) {
     say(rt, "= a shelf that fails at its fourth call");
-    match shelf_of(rt.alloc()) {
-        Ok(shelf) => print_shelf(rt, shelf),
-        Err(NoMemory) => say(rt, "no memory"),
-    }
+    print_shelf(rt, shelf_of(rt.alloc()));
 }
 
 fn print_failing_source(rt: &HostRuntime) {
@@ -42,11 +38,32 @@ fn print_failing_source(rt: &HostRuntime) {
 fn opens_once(alloc: Global) -> bool {
     let bucket = MemoryBucket::new(alloc, FailList::new(alloc));
     let mut site = MemorySite::new(bucket, empty_shelf(alloc), false);
-    if site.open_shelf("one").is_err() || site.open_shelf("two").is_ok() {
-        return false;
-    }
+    let once = opens_shelf(&mut site, "one")
+        && !opens_shelf(&mut site, "two")
+        && opens_bucket_once(alloc, &mut site);
+    drop(site);
+    once
+}
+
+/// Whether a site opens a shelf of that name, which is let go again.
+fn opens_shelf(site: &mut MemorySite, name: &str) -> bool {
+    let opened = site.open_shelf(name);
+    let is_open = opened.is_ok();
+    drop(opened);
+    is_open
+}
+
+fn opens_bucket(site: &mut MemorySite, name: &str) -> bool {
+    let opened = site.open_bucket(name);
+    let is_open = opened.is_ok();
+    drop(opened);
+    is_open
+}
+
+/// Whether a site opens a bucket once, which then stores an object.
+fn opens_bucket_once(alloc: Global, site: &mut MemorySite) -> bool {
     match site.open_bucket("one") {
-        Ok(bucket) => site.open_bucket("two").is_err() && is_closed(alloc, bucket),
+        Ok(bucket) => is_closed(alloc, bucket) && !opens_bucket(site, "two"),
         Err(_) => false,
     }
 }
@@ -62,35 +79,40 @@ fn is_closed(alloc: Global, mut bucket: MemoryBucket) -> bool
     requires { faults_counted bucket ≡ 0 }
 {
     if bucket.put("k", b"1") != PutAnswer::Stored {
+        drop(bucket);
         return false;
     }
     let mut other = MemorySite::new(bucket, empty_shelf(alloc), true);
-    other.open_bucket("one").is_err() && other.open_shelf("one").is_err()
+    let closed = !opens_bucket(&mut other, "one") && !opens_shelf(&mut other, "one");
+    drop(other);
+    closed
 }
 
 /// A shelf with two files of one name and one of another.
-fn shelf_of(alloc: Global) -> Result<MemoryShelf, NoMemory> {
-    let failing = fourth_call(alloc)?;
+fn shelf_of(alloc: Global) -> MemoryShelf {
     let mut files = FileList::new(alloc);
-    add_file(alloc, &mut files, "A/index", b"first")?;
-    add_file(alloc, &mut files, "A/index", b"second")?;
-    add_file(alloc, &mut files, "B/index", b"")?;
-    Ok(MemoryShelf::with_failing(alloc, files, failing))
+    add_file(alloc, &mut files, "A/index", b"first");
+    add_file(alloc, &mut files, "A/index", b"second");
+    add_file(alloc, &mut files, "B/index", b"");
+    MemoryShelf::with_failing(alloc, files, fourth_call(alloc))
 }
 
-fn add_file(alloc: Global, files: &mut FileList, name: &str, bytes: &[u8]) -> Result<(), NoMemory> {
-    let name = Text::from_str(alloc, name)?;
-    let bytes = Blob::from_bytes(alloc, bytes)?;
-    files.push(File { name, bytes })
+fn add_file(alloc: Global, files: &mut FileList, name: &str, bytes: &[u8]) {
+    let Ok(name) = Text::from_str(alloc, name) else {
+        return;
+    };
+    if let Ok(bytes) = Blob::from_bytes(alloc, bytes) {
+        let _ = files.push(File { name, bytes });
+    }
 }
 
-fn fourth_call(alloc: Global) -> Result<FailList, NoMemory> {
+fn fourth_call(alloc: Global) -> FailList {
     let mut failing = FailList::new(alloc);
-    failing.push(Fail {
+    let _ = failing.push(Fail {
         call: 4,
         landed: false,
-    })?;
-    Ok(failing)
+    });
+    failing
 }
 
 fn print_shelf(rt: &HostRuntime, mut shelf: MemoryShelf) {
@@ -99,6 +121,7 @@ fn print_shelf(rt: &HostRuntime, mut shelf: MemoryShelf) {
         put(rt, " -> ");
         print_file(rt, shelf.read(name));
     }
+    drop(shelf);
 }
 
 fn print_file(rt: &HostRuntime, answer: ShelfAnswer) {

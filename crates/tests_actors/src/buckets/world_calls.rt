@@ -89,10 +89,15 @@ fn block_page_of(alloc: Global, text: &str) -> Result<Op, NoMemory>
 
 fn print_seen(rt: &HostRuntime, seen: Seen) {
     let _ = print!(rt; "{} at {}: ", seen.seq, seen.moment.ms);
-    match seen.reply {
+    print_reply(rt, &seen.reply);
+    drop(seen);
+}
+
+fn print_reply(rt: &HostRuntime, reply: &Reply) {
+    match reply {
         Reply::Found(bytes) => print_found(rt, bytes.bytes()),
         Reply::Names(names) => print_names(rt, names.members()),
-        reply => say(rt, word_of(&reply)),
+        other => say(rt, word_of(other)),
     }
 }
 

@@ -22,7 +22,10 @@ pub(crate) fn print_world(rt: &HostRuntime, text: &str) {
 fn print_opened(rt: &HostRuntime, bucket: MemoryBucket, rows: &str) {
     match World::open(rt.alloc(), bucket, TICK) {
         Ok(world) => print_acts(rt, world, rows),
-        Err((refusal, _bucket)) => print_refusal(rt, refusal),
+        Err((refusal, bucket)) => {
+            drop(bucket);
+            print_refusal(rt, refusal);
+        }
     }
 }
 
@@ -30,8 +33,10 @@ fn print_acts(rt: &HostRuntime, mut world: World<MemoryBucket>, rows: &str) {
     for row in rows.lines() {
         print_act(rt, &mut world, row);
     }
-    let (journal, _bucket) = world.into_parts();
+    let (journal, bucket) = world.into_parts();
+    drop(bucket);
     print_journal(rt, &journal);
+    drop(journal);
 }
 
 fn print_journal(rt: &HostRuntime, journal: &Journal) {
@@ -43,7 +48,10 @@ fn print_journal(rt: &HostRuntime, journal: &Journal) {
         );
     }
     match copied(rt.alloc(), journal.entries()) {
-        Ok(copies) => print_count(rt, copies.len()),
+        Ok(copies) => {
+            print_count(rt, copies.len());
+            drop(copies);
+        }
         Err(_) => say(rt, "no memory"),
     }
 }
@@ -55,9 +63,13 @@ fn print_count(rt: &HostRuntime, copies: usize) {
 fn copied(alloc: Global, entries: &[Entry]) -> Result<EntryList, NoMemory> {
     let mut copies: EntryList = List::new(alloc);
     for entry in entries {
-        copies.push(entry.copy()?)?;
+        if let Ok(copy) = entry.copy() {
+            let _ = copies.push(copy);
+        }
     }
-    copies.copy()
+    let twice = copies.copy();
+    drop(copies);
+    twice
 }
 
 fn print_refusal(rt: &HostRuntime, refusal: OpenRefusal) {

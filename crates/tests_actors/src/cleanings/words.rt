@@ -1,4 +1,3 @@
-ghost use Rattle.std.specs.Prelude.{IfOk};
 ghost use Rattle.block_keys.specs.Keys.{IsLawfulKey};
 
 use block_keys::Key;
@@ -30,21 +29,25 @@ pub(crate) fn mark_of(alloc: Global, name: char) -> Result<Blob, NoMemory> {
     Blob::from_bytes(alloc, text.as_bytes())
 }
 
-/// The object of a block that a letter stands for, and its bytes: `1` to `3` a segment, `i` the index, `m` a meta, `d` the block's
-/// mark, `e` the mark of the block `E`, and any other a mark that is none.
-pub(crate) fn object(alloc: Global, name: char, letter: char) -> Result<(Key, Blob), NoMemory>
-    ensures { IfOk result (λ object. IsLawfulKey object.0) }
+/// The object of a block that a letter stands for: `1` to `3` a segment, `i` the index, `m` a meta, and any other its mark.
+pub(crate) fn key_of(ulid: Ulid, letter: char) -> Key
+    ensures { IsLawfulKey result }
 {
-    let ulid = block(name);
-    let bytes = Blob::from_bytes(alloc, b"object")?;
-    Ok(match letter {
-        '1' => (Key::Segment(ulid, 1), bytes),
-        '2' => (Key::Segment(ulid, 2), bytes),
-        '3' => (Key::Segment(ulid, 3), bytes),
-        'i' => (Key::Index(ulid), bytes),
-        'm' => (Key::Meta(ulid), bytes),
-        'd' => (Key::Mark(ulid), mark_of(alloc, name)?),
-        'e' => (Key::Mark(ulid), mark_of(alloc, 'E')?),
-        _ => (Key::Mark(ulid), bytes),
-    })
+    match letter {
+        '1' => Key::Segment(ulid, 1),
+        '2' => Key::Segment(ulid, 2),
+        '3' => Key::Segment(ulid, 3),
+        'i' => Key::Index(ulid),
+        'm' => Key::Meta(ulid),
+        _ => Key::Mark(ulid),
+    }
+}
+
+/// The bytes of that object: for `d` the mark of the block, for `e` that of the block `E`, and for any other letter none of a mark.
+pub(crate) fn bytes_of(alloc: Global, name: char, letter: char) -> Result<Blob, NoMemory> {
+    match letter {
+        'd' => mark_of(alloc, name),
+        'e' => mark_of(alloc, 'E'),
+        _ => Blob::from_bytes(alloc, b"object"),
+    }
 }

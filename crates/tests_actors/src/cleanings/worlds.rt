@@ -2,7 +2,7 @@ ghost use Rattle.std.specs.Prelude.{◌≤◌};
 
 use crate::cleanings::ops::print_ops;
 use crate::cleanings::rules::cleaned;
-use crate::cleanings::words::object;
+use crate::cleanings::words::{block, bytes_of, key_of};
 use crate::ends::print_end;
 use crate::failing::failing_world;
 use crate::says::{cut, say};
@@ -50,7 +50,7 @@ fn hand_of(alloc: Global, setting: &str) -> Option<WorldHand<MemoryBucket>> {
         put_block(alloc, &mut world, word);
     }
     let ms = u64::from(moment.parse::<u32>().unwrap_or(0));
-    let _clock = world.act(0, Op::Clock(Moment { ms }));
+    drop(world.act(0, Op::Clock(Moment { ms })));
     Some(WorldHand::new(world, 1))
 }
 
@@ -74,7 +74,7 @@ fn put_block(alloc: Global, world: &mut World<MemoryBucket>, word: &str) {
 }
 
 fn put_object(alloc: Global, world: &mut World<MemoryBucket>, name: char, letter: char) {
-    if let Ok((key, bytes)) = object(alloc, name, letter) {
-        let _put = world.act(0, Op::Put(key, bytes));
+    if let Ok(bytes) = bytes_of(alloc, name, letter) {
+        drop(world.act(0, Op::Put(key_of(block(name), letter), bytes)));
     }
 }

@@ -65,7 +65,7 @@ fn print_round(
 
 fn set_clock(hand: &mut WorldHand<MemoryBucket>, moment: &str) {
     let ms = u64::from(moment.parse::<u32>().unwrap_or(0));
-    let _clock = hand.act(Op::Clock(Moment { ms }));
+    drop(hand.act(Op::Clock(Moment { ms })));
 }
 
 /// How long a word keeps blocks, in milliseconds. `.` keeps them for ever.

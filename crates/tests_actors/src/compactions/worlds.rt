@@ -17,7 +17,7 @@ pub(crate) fn hand_of(
     blocks: &str,
 ) -> Option<WorldHand<MemoryBucket>> {
     let mut world = failing_world(alloc, fail, calls_in(blocks))?;
-    let _clock = world.act(0, Op::Clock(Moment { ms: 0 }));
+    drop(world.act(0, Op::Clock(Moment { ms: 0 })));
     for word in blocks.split(' ') {
         if let Some(block) = read_block(word) {
             upload(alloc, &mut world, objects, &block);
@@ -44,7 +44,7 @@ fn upload(
     objects: &[Named],
     block: &Described<'_>,
 ) {
-    let _look = world.act(0, Op::Get(Key::Meta(block.ulid)));
+    drop(world.act(0, Op::Get(Key::Meta(block.ulid))));
     for letter in block.letters.chars() {
         upload_object(alloc, world, objects, block, letter);
     }
@@ -60,5 +60,5 @@ fn upload_object(
     let Ok(bytes) = Blob::from_bytes(alloc, object(objects, block, letter)) else {
         return;
     };
-    let _put = world.act(0, Op::Put(key_of(block.ulid, letter), bytes));
+    drop(world.act(0, Op::Put(key_of(block.ulid, letter), bytes)));
 }

@@ -9,7 +9,9 @@ use vertical_merge::compacted_plan;
 
 /// Prints what a block says that is compacted from two blocks or more.
 pub(crate) fn print_compacted(rt: &HostRuntime, text: &str) {
-    print_made_of(rt, &metas_of(rt.alloc(), text));
+    let metas = metas_of(rt.alloc(), text);
+    print_made_of(rt, &metas);
+    drop(metas);
 }
 
 fn print_made_of(rt: &HostRuntime, metas: &MetaList) {

@@ -11,7 +11,10 @@ pub(crate) fn print_gathered(rt: &HostRuntime, text: &str) {
         add_answer(rt.alloc(), &mut gather, word);
     }
     match gather.finish() {
-        Ok(answer) => print_answer(rt, &answer),
+        Ok(answer) => {
+            print_answer(rt, &answer);
+            drop(answer);
+        }
         Err(_) => say(rt, " no memory"),
     }
 }
@@ -44,7 +47,10 @@ fn add_answer(alloc: Global, gather: &mut Gather, word: &str) {
             add_series(alloc, &mut series, sample);
         }
     }
-    let _ = gather.add(&series, &sources_of(alloc, sources));
+    let sources = sources_of(alloc, sources);
+    let _ = gather.add(&series, &sources);
+    drop(sources);
+    drop(series);
 }
 
 fn sources_of(alloc: Global, text: &str) -> UlidList {

@@ -14,8 +14,14 @@ pub(crate) fn print_groups(rt: &HostRuntime, text: &str) {
     if let Ok(replica) = Text::from_str(rt.alloc(), replica) {
         let _ = replicas.push(replica);
     }
-    match groups(rt.alloc(), &found_in(rt.alloc(), blocks), &replicas) {
-        Ok(groups) => print_each(rt, groups.members()),
+    let found = found_in(rt.alloc(), blocks);
+    let told = groups(rt.alloc(), &found, &replicas);
+    drop(found);
+    match told {
+        Ok(groups) => {
+            print_each(rt, groups.members());
+            drop(groups);
+        }
         Err(_) => say(rt, " no memory"),
     }
 }

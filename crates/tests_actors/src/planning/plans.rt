@@ -12,8 +12,8 @@ use ulid_core::UlidList;
 pub(crate) fn print_plan(rt: &HostRuntime, kind: &str, text: &str) {
     match kind {
         "plan" => print_places(rt, plan_of(rt.alloc(), text)),
-        "select" => print_places(rt, select(rt.alloc(), &metas_of(rt.alloc(), text))),
-        "overlapping" => print_places(rt, overlapping(rt.alloc(), &metas_of(rt.alloc(), text))),
+        "select" => print_places(rt, selected_of(rt.alloc(), text)),
+        "overlapping" => print_places(rt, overlapping_of(rt.alloc(), text)),
         _ => say(rt, " no row"),
     }
 }
@@ -24,7 +24,23 @@ fn plan_of(alloc: Global, text: &str) -> Result<UlidList, NoMemory> {
         labels: LabelSet::empty(alloc),
         members: metas_of(alloc, text),
     };
-    plan(alloc, &group)
+    let planned = plan(alloc, &group);
+    drop(group);
+    planned
+}
+
+fn selected_of(alloc: Global, text: &str) -> Result<UlidList, NoMemory> {
+    let metas = metas_of(alloc, text);
+    let selected = select(alloc, &metas);
+    drop(metas);
+    selected
+}
+
+fn overlapping_of(alloc: Global, text: &str) -> Result<UlidList, NoMemory> {
+    let metas = metas_of(alloc, text);
+    let overlap = overlapping(alloc, &metas);
+    drop(metas);
+    overlap
 }
 
 fn print_places(rt: &HostRuntime, ulids: Result<UlidList, NoMemory>) {
@@ -56,7 +72,10 @@ pub(crate) fn print_parts(rt: &HostRuntime, text: &str) {
 fn print_parts_of(rt: &HostRuntime, range: i64, text: &str)
     requires { pos 0 <ℤ range }
 {
-    match split_by_range(rt.alloc(), &metas_of(rt.alloc(), text), range) {
+    let metas = metas_of(rt.alloc(), text);
+    let parts = split_by_range(rt.alloc(), &metas, range);
+    drop(metas);
+    match parts {
         Ok(parts) => {
             for part in parts.members() {
                 put_places(rt, part);

@@ -1,6 +1,6 @@
 //! A hand that changes one reply.
 ghost use Rattle.std.specs.Prelude.{◌≡◌, [], ◌∷◌, ◌++◌, IsTrue, IfOk, OnErr};
-ghost use Rattle.world_core.specs.Operations.{IsReplyTo, entry_of};
+ghost use Rattle.world_core.specs.Operations.{IsLawful, IsReplyTo, entry_of};
 
 use crate::ranges::gateway::SEAT;
 use bucket_core::MemoryBucket;
@@ -63,6 +63,26 @@ impl Changing {
     pub(crate) fn entries(&self) -> &[Entry] {
         self.entries.as_slice()
     }
+
+    /// What the world answers to an operation, changed if it is that one.
+    fn answered(&mut self, op: &Op) -> Option<(u64, Moment, Reply)>
+        requires { IsLawful op.now }
+        ensures { self.new.entries.items ≡ self.old.entries.items }
+    {
+        let Ok(same) = op.copy() else {
+            return None;
+        };
+        let Acted::Done(seen) = self.world.act(SEAT, same) else {
+            return None;
+        };
+        let Seen { seq, moment, reply } = seen;
+        let number = self.left;
+        self.left = number.saturating_sub(1);
+        match reply_at(self.alloc, number, self.change, reply) {
+            Ok(reply) => Some((seq, moment, reply)),
+            Err(NoMemory) => None,
+        }
+    }
 }
 
 impl Hand for Changing {
@@ -85,19 +105,13 @@ impl Hand for Changing {
     ghost keeps_more = { λ first next last one two. tt };
 
     fn act(&mut self, op: Op) -> Acted {
-        let Ok(same) = op.copy() else {
-            return Acted::NoMemory;
-        };
-        let Acted::Done(seen) = self.world.act(SEAT, same) else {
-            return Acted::NoMemory;
-        };
-        let Seen { seq, moment, reply } = seen;
-        let number = self.left;
-        self.left = number.saturating_sub(1);
-        let Ok(reply) = reply_at(self.alloc, number, self.change, reply) else {
+        let Some((seq, moment, reply)) = self.answered(&op) else {
+            drop(op);
             return Acted::NoMemory;
         };
         if moment.ms >= LIMIT || !may_answer(&op, &reply) {
+            drop(op);
+            drop(reply);
             return Acted::NoMemory;
         }
         match record(&mut self.entries, seq, moment, op, reply) {
@@ -112,12 +126,18 @@ fn reply_at(alloc: Global, number: u32, change: Change, reply: Reply) -> Result<
     if number != 1 {
         return Ok(reply);
     }
+    let changed = changed_reply(alloc, change, &reply);
+    drop(reply);
+    changed
+}
+
+fn changed_reply(alloc: Global, change: Change, reply: &Reply) -> Result<Reply, NoMemory> {
     match change {
         Change::Absent => Ok(Reply::Absent),
         Change::Failed => Ok(Reply::Failed(false)),
-        Change::Short => Ok(Reply::Found(short(alloc, &reply)?)),
-        Change::Zeros => Ok(Reply::Found(zeros(alloc, &reply, 0)?)),
-        Change::Long => Ok(Reply::Found(zeros(alloc, &reply, 1)?)),
+        Change::Short => Ok(Reply::Found(short(alloc, reply)?)),
+        Change::Zeros => Ok(Reply::Found(zeros(alloc, reply, 0)?)),
+        Change::Long => Ok(Reply::Found(zeros(alloc, reply, 1)?)),
     }
 }
 
@@ -161,8 +181,11 @@ fn record(
     ensures reply { IfOk result (λ seen. seen.reply ≡ reply) }
     ensures err { OnErr result (entries.new.items ≡ entries.old.items) }
 {
-    entries.reserve(1)?;
-    let told = reply.copy()?;
+    let Ok(told) = reply.copy() else {
+        drop(op);
+        drop(reply);
+        return Err(NoMemory);
+    };
     let pushed = entries.push(Entry {
         seq,
         seat: SEAT,
@@ -170,7 +193,10 @@ fn record(
         op,
         reply,
     });
-    pushed.unwrap();
+    if pushed.ok().is_none() {
+        drop(told);
+        return Err(NoMemory);
+    }
     Ok(Seen {
         seq,
         moment,

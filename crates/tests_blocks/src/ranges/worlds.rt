@@ -8,6 +8,7 @@ use bucket_core::{FailList, MemoryBucket};
 use list_core::{NoMemory, TryCopy};
 use moment_core::{Moment, Span};
 use std::alloc::Global;
+use std::str;
 use ulid_core::Ulid;
 use wire_bytes::Blob;
 use world_core::{Op, World};
@@ -32,9 +33,7 @@ pub(crate) fn world_of(
     words: &str,
 ) -> Option<World<MemoryBucket>> {
     let bucket = MemoryBucket::new(alloc, FailList::new(alloc));
-    let Ok(mut world) = World::open(alloc, bucket, Span { ms: 1 }) else {
-        return None;
-    };
+    let mut world = World::open(alloc, bucket, Span { ms: 1 }).ok()?;
     act(&mut world, Op::Clock(Moment { ms: 0 }));
     for word in words.split(' ') {
         if let Some(block) = read_block(word) {
@@ -107,26 +106,14 @@ fn meta_of(alloc: Global, block: &Described<'_>) -> Result<Blob, NoMemory> {
 
 /// The meta of a block that a shipper uploaded.
 fn meta_text(alloc: Global, block: &Described<'_>) -> Result<String, NoMemory> {
-    let name = block.ulid.to_string(alloc)?;
-    let ulid = name.as_str();
-    let head = times_text(alloc, ulid, block)?;
-    let own = format!(in alloc;
-        "\"stats\":{{}},\"compaction\":{{\"level\":1,\"sources\":[\"{ulid}\"]}},"
-    )?;
     let labels = label_text(alloc, block.label)?;
     let files = files_text(alloc, block.size)?;
-    let tail = format!(in alloc;
-        "\"thanos\":{{\"labels\":{{{}}},\"source\":\"sidecar\"{}}}}}",
-        labels.as_str(),
-        files.as_str()
-    )?;
-    Ok(format!(in alloc; "{}{}{}", head.as_str(), own.as_str(), tail.as_str())?)
-}
-
-fn times_text(alloc: Global, ulid: &str, block: &Described<'_>) -> Result<String, NoMemory> {
+    let name = block.ulid.text();
+    let ulid = str::from_utf8(&name).unwrap_or("");
     let (min, max) = (block.min, block.max);
+    let (labels, files) = (labels.as_str(), files.as_str());
     Ok(format!(in alloc;
-        "{{\"version\":1,\"ulid\":\"{ulid}\",\"minTime\":{min},\"maxTime\":{max},"
+        "{{\"version\":1,\"ulid\":\"{ulid}\",\"minTime\":{min},\"maxTime\":{max},\"stats\":{{}},\"compaction\":{{\"level\":1,\"sources\":[\"{ulid}\"]}},\"thanos\":{{\"labels\":{{{labels}}},\"source\":\"sidecar\"{files}}}}}"
     )?)
 }
 
@@ -148,5 +135,5 @@ fn files_text(alloc: Global, size: &str) -> Result<String, NoMemory> {
 fn act(world: &mut World<MemoryBucket>, op: Op)
     requires { IsLawful op }
 {
-    let _acted = world.act(0, op);
+    drop(world.act(0, op));
 }

@@ -1,7 +1,6 @@
-//! Lets passes and workers act on one world from threads of their own, and runs scripts whose workers do so. A line of standard input
-//! names a case and how many times it is tried; what is printed is how many times it came out as it has to. `script TIMES / LINE / LINE ..`
-//! is a script that is run by one thread, and then so many times with threads; its report was worked out apart from this program.
-#![tactic(auto)]
+//! Passes and workers that act on one world from threads of their own, and scripts whose workers do so. A row names a case and how
+//! many times it is tried; what is printed is how many times it came out as it has to. `script TIMES / LINE / LINE ..` is a script
+//! that is run by one thread, and then so many times with threads; its report was worked out apart from this program.
 
 mod faults;
 mod gates;
@@ -14,28 +13,27 @@ mod replays;
 mod scripts;
 mod worlds;
 
-use crate::faults::a_fault_stops_no_other;
-use crate::passes::passes_share_a_journal;
-use crate::phases::{operations_are_numbered, workers_meet, workers_share_a_journal};
-use crate::replays::{a_fault_stops_one_upload, the_sink_fails, the_source_fails, uploads_meet};
-use crate::scripts::{print_script, say};
+use crate::says::say;
+use crate::threads::faults::a_fault_stops_no_other;
+use crate::threads::passes::passes_share_a_journal;
+use crate::threads::phases::{operations_are_numbered, workers_meet, workers_share_a_journal};
+use crate::threads::replays::{
+    a_fault_stops_one_upload, the_sink_fails, the_source_fails, uploads_meet,
+};
+use crate::threads::scripts::print_script;
 use std::alloc::Global;
-use std::io;
 use std::sync::Wait;
 use std::thread::Threads;
 
-fn main(rt: HostRuntime) -> io::Result<()> {
-    for line in rt.lines(rt.alloc()) {
-        print_row(&rt, &rt, line?.as_str());
-    }
-    Ok(())
-}
-
-/// Does what a row says, and prints what came of it.
-fn print_row<R: Threads + Wait + Sync>(threads: &R, rt: &HostRuntime, row: &str) {
-    let (name, rest) = row.split_once(' ').unwrap_or((row, ""));
+/// Does what a row of threads says, and prints what came of it.
+pub(crate) fn print_threads<R: Threads + Wait + Sync>(
+    threads: &R,
+    rt: &HostRuntime,
+    row: &str,
+    name: &str,
+    rest: &str,
+) {
     match name {
-        "=" => say(rt, row),
         "script" => {
             say(rt, row);
             print_script(threads, rt, rest);

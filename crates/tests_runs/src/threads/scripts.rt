@@ -1,5 +1,6 @@
 //! Scripts of which every run says the same, however the workers of a phase interleave.
-use crate::replays::{Ended, by_one, ends_so};
+use crate::says::say;
+use crate::threads::replays::{Ended, by_one, ends_so};
 use std::alloc::{AllocError, Global};
 use std::str;
 use std::sync::Wait;
@@ -59,9 +60,4 @@ fn script_of(alloc: Global, lines: &str) -> Result<String, AllocError> {
         script.push('\n')?;
     }
     Ok(script)
-}
-
-/// Prints a line. What cannot be written is lacking in the output, by which the row fails.
-pub(crate) fn say(rt: &HostRuntime, line: &str) {
-    let _ = rt.println(line);
 }

@@ -1,8 +1,8 @@
 ghost use Rattle.std.specs.Prelude.{◌≡◌, IfSome, vec_len};
 
-use crate::gates::{Meeting, Tally};
-use crate::ranges::Ranges;
-use crate::worlds::{are_in_order, shared_world};
+use crate::threads::gates::{Meeting, Tally};
+use crate::threads::ranges::Ranges;
+use crate::threads::worlds::{are_in_order, shared_world};
 use phase_runner::{Gate, Open, run_phase};
 use std::alloc::Global;
 use std::sync::Wait;
@@ -32,15 +32,17 @@ fn works_twice<R: Threads + Wait + Sync, G: Gate + Sync>(
     gate: &G,
     count: u64,
 ) -> bool {
-    let Some((shared, root)) = shared_world(alloc, None) else {
+    let Some(jobs) = two_jobs(alloc, count) else {
         return false;
     };
-    let Some(jobs) = two_jobs(alloc, count) else {
+    let Some((shared, root)) = shared_world(alloc, None) else {
         return false;
     };
     let end = run_phase(rt, alloc, &shared, root, jobs, gate);
     let world = shared.close(end.root).into_world();
-    !end.memory && are_in_order(world.journal().entries(), count)
+    let good = !end.memory && are_in_order(world.journal().entries(), count);
+    drop(world);
+    good
 }
 
 fn two_jobs(alloc: Global, count: u64) -> Option<Vec<Ranges>>

@@ -2,8 +2,8 @@ ghost use Rattle.std.specs.Prelude.{◌≡◌, []};
 ghost use Rattle.world_turn.specs.Closing.{AllJoined};
 ghost use Rattle.world_turn.specs.Passes.{table_of, view_of};
 
-use crate::ranges::read_at;
-use crate::worlds::{are_in_order, shared_world};
+use crate::threads::ranges::read_at;
+use crate::threads::worlds::{are_in_order, shared_world};
 use bucket_core::MemoryBucket;
 use std::alloc::Global;
 use std::sync::Wait;
@@ -31,7 +31,9 @@ pub fn passes_share_a_journal<R: Threads + Wait + Sync>(rt: &R, alloc: Global) -
     let (count, looked) = shared.look(split);
     let joined = joined_both(&shared, looked, first, second);
     let world = shared.close(joined).into_world();
-    count == 200 && are_in_order(world.journal().entries(), 100)
+    let good = count == 200 && are_in_order(world.journal().entries(), 100);
+    drop(world);
+    good
 }
 
 /// The root, and the passes of the seats 1 and 2.
@@ -70,7 +72,8 @@ fn hundred<R: Wait>(rt: &R, shared: &Shared<MemoryBucket>, pass: Pass) -> Pass
 {
     let mut last = pass;
     for place in 0..100u64 {
-        let (_, next) = shared.act(rt, last, read_at(place));
+        let (acted, next) = shared.act(rt, last, read_at(place));
+        drop(acted);
         last = next;
     }
     last

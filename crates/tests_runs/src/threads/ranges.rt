@@ -1,7 +1,7 @@
 ghost use Rattle.std.specs.Prelude.{◌≡◌};
 ghost use Rattle.world_core.specs.Operations.{IsLawful};
 
-use crate::met::Met;
+use crate::threads::met::Met;
 use block_keys::Key;
 use phase_runner::Job;
 use ulid_core::Ulid;
@@ -40,7 +40,9 @@ impl Job for Ranges {
         };
         for place in 0..count {
             let op = read_at(place);
-            met.note(&hand.act(op));
+            let acted = hand.act(op);
+            met.note(&acted);
+            drop(acted);
         }
         met
     }

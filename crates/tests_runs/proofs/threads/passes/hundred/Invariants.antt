@@ -1,6 +1,6 @@
 use Rattle.std.proofs.Common.{◌≡◌}
 use Rattle.world_turn.specs.Passes.{table_of}
-use Rattle.tests_threads.proofs.passes.hundred.Given as goal
+use Rattle.tests_runs.proofs.threads.passes.hundred.Given as goal
 
 -- it is the same pass
 abbrev pub invariant-loop-place : goal.invariant-loop-place

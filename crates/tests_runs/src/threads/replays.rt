@@ -1,6 +1,6 @@
 //! Whole scripts, the workers of each phase of which run beside each other.
 
-use crate::gates::Meeting;
+use crate::threads::gates::Meeting;
 use bucket_core::{
     Fail, FailList, FileList, MemoryBucket, MemoryShelf, MemorySink, MemorySite, MemorySource,
 };
@@ -192,8 +192,9 @@ fn replayed<R: Threads + Wait + Sync, G: Gate + Sync>(
     let status = run.status;
     drop(run);
     drop(site);
-    let text = Vec::from_slice(alloc, sink.bytes()).ok()?;
-    Some(Ended { status, text })
+    drop(source);
+    drop(words);
+    told_by(alloc, status, sink)
 }
 
 /// A run over memory by one thread, in which nothing fails.
@@ -207,8 +208,19 @@ pub(crate) fn by_one(alloc: Global, script: &str) -> Option<Ended> {
     let status = run.status;
     drop(run);
     drop(site);
-    let text = Vec::from_slice(alloc, sink.bytes()).ok()?;
-    Some(Ended { status, text })
+    drop(source);
+    drop(words);
+    told_by(alloc, status, sink)
+}
+
+/// How a run ended that wrote to this sink.
+fn told_by(alloc: Global, status: u8, sink: MemorySink) -> Option<Ended> {
+    let text = Vec::from_slice(alloc, sink.bytes());
+    drop(sink);
+    Some(Ended {
+        status,
+        text: text.ok()?,
+    })
 }
 
 fn words_of(alloc: Global, call: &str) -> Option<Vec<String>> {

@@ -1,7 +1,7 @@
 ghost use Rattle.std.specs.Prelude.{◌≡◌};
 ghost use Rattle.world_core.specs.Operations.{IsLawful};
 
-use crate::met::Met;
+use crate::threads::met::Met;
 use block_keys::Key;
 use phase_runner::Job;
 use std::alloc::Global;
@@ -53,7 +53,9 @@ impl Job for Puts {
             let op = put_index(self.alloc);
             let acted = hand.act(op);
             met.note(&acted);
-            if !is_stored(acted) {
+            let stands = is_stored(&acted);
+            drop(acted);
+            if !stands {
                 break;
             }
             stored = stored.saturating_add(1);
@@ -62,9 +64,9 @@ impl Job for Puts {
     }
 }
 
-fn is_stored(acted: Acted) -> bool {
+fn is_stored(acted: &Acted) -> bool {
     match acted {
-        Acted::Done(seen) => matches!(seen.reply, Reply::Stored),
+        Acted::Done(seen) => matches!(&seen.reply, Reply::Stored),
         _ => false,
     }
 }

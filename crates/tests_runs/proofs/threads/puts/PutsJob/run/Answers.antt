@@ -1,6 +1,6 @@
 use Rattle.world_core.specs.Machines.{gained}
-use Rattle.tests_threads.proofs.Acting.{did_nothing, did_more, wanting}
-use Rattle.tests_threads.proofs.puts.PutsJob.run.Goals as goal
+use Rattle.tests_runs.proofs.Acting.{did_nothing, did_more, wanting}
+use Rattle.tests_runs.proofs.threads.puts.PutsJob.run.Goals as goal
 
 pub loop-init : goal.loop-init
 loop-init g c = did_nothing g.H.Hand.entries g.H.Hand.seat g.H.Hand.refused g.H.Hand.wanted g.H.Hand.keeps _ (g.met.H.Hand.keeps_none _)

@@ -1,8 +1,8 @@
 use Rattle.std.proofs.Common.{ℕ, List, [], ◌∷◌, ◌++◌, ap, ◌∙◌}
 use Rattle.world_core.specs.declared.entry.Entry.{Entry}
 use Rattle.world_turn.specs.Passes.{view_of}
-use Rattle.tests_threads.proofs.Joined.{two_joined}
-use Rattle.tests_threads.proofs.passes.joined_both.Goals as goal
+use Rattle.tests_runs.proofs.Joined.{two_joined}
+use Rattle.tests_runs.proofs.threads.passes.joined_both.Goals as goal
 
 pub returns-clause-all : goal.returns-clause-all
 returns-clause-all c =
