@@ -1,6 +1,6 @@
 #!/usr/bin/env bash
 # Measures `generate 7` beside tight unverified loops that do the same work over the same data, and prints tables, and whether every bar
-# is met: the whole at most 8 times the loops' time, and at most 120,000 kB of memory.
+# is met: the whole at most 8 times the loops' time, and at most 120 MB of memory (117,187 KiB).
 # Its parts are told within one run: perf says some thousand times a second which function runs, and bench/day_parts.awk shares that out
 # by the crates at work. Each part may take a multiple of the loops' time too. Counted (below), a part is what a script of the same
 # blocks takes more with one step more (`serial` over memory). So are the steps of a small day (20 series, a sample each 150 seconds), of
@@ -24,7 +24,7 @@ cat "$top/bench/day.rs" >>"$made/day.rs"
 rustc --edition 2021 -C opt-level=3 -C target-cpu="${LIMIT_CPU:-$([ "$count" ] && echo x86-64-v2 || echo native)}" -A warnings \
     -o "$made/day" "$made/day.rs"
 
-# what a run of the program takes on a file: milliseconds and kB, or instructions
+# what a run of the program takes on a file: milliseconds and KiB, or instructions
 take() {
     if [ "$count" ]; then
         local from=$1
@@ -100,8 +100,8 @@ END {
         row("the cleaning", part["clean"], 0, "-")
         row("the third query, by both gateways", part["end"], 2 * loop["day_query_after_wall"], "-")
     }
-    if (memory) printf "\nGreatest memory of `generate 7`: %d kB, of 120,000.\n", memory
-    if (memory > 120000) missed = missed "memory; "
+    if (memory) printf "\nGreatest memory of `generate 7`: %d KiB, of 117,187 (120 MB).\n", memory
+    if (memory > 117187) missed = missed "memory; "
     print missed ? "\nMissed: " missed : "\nEvery bar is met."
 }' "$made/loops" "$made/whole" "$of_day"
 awk -v unit="${unit:-ms}" '

@@ -1,9 +1,12 @@
 #!/usr/bin/env bash
 # Times `serial` and `replay` of the program in turn, whole runs over a bucket in memory, prints a table, and says whether the bars are
 # met: eight gateways that sync and are asked one query over 24 blocks, which lie on the shelf, at least 2.2 times as fast by `replay`
-# on four processors (1.5 on two); and 64 uploads of small blocks no slower. The blocks are those of bench/run-query.sh: two replicas
-# of each of twelve, of 100 series by 411 or 412 samples. The other rows have no bar: the same query where the script has the samples
-# of the blocks, and uploads of other sizes.
+# on four processors (1.5 on two); and 64 uploads of small blocks no slower, where a small block is two hours of ten series with a
+# sample a minute, one chunk of each. Ratios are held to the bars as they are printed, with two digits behind the point. The blocks of
+# the query are those of bench/run-query.sh: two replicas of each of twelve, of 100 series by 411 or 412 samples. The other rows have no
+# bar: the same query where the script has the samples of the blocks, and uploads of blocks of a few samples, which no server makes.
+# PROCESSORS is how many whole processors the machine has (as many as `nproc` counts). Where that counts the halves of cores, as the
+# cloud's machines do, say how many cores there are.
 # ROUNDS is how often the first is run each way (9; a third as often from text, and eight times as often each of the uploads). PROGRAM
 # names a program that is built already; without it the program is built. SERIES and SAMPLES are the size of what is asked (100, and
 # 480 less each replica's gaps). KEEP names an empty folder in which the scripts, the shelf and the timing program stay.
@@ -71,15 +74,16 @@ small 10 120 >"$made/uploads_10"
 {
     "$made/replay" "$program" "$made/shelf" "$made/gateways" "$rounds" "eight gateways, one query over $blocks blocks of the shelf"
     "$made/replay" "$program" none "$made/gateways_text" $(((rounds + 2) / 3)) "the same blocks in the script's text"
-    "$made/replay" "$program" none "$made/uploads" $((rounds * 8)) "64 uploads of one series by 3 samples"
-    "$made/replay" "$program" none "$made/uploads_4" $((rounds * 8)) "64 uploads of 4 series by 4 samples"
     "$made/replay" "$program" none "$made/uploads_10" $((rounds * 8)) "64 uploads of 10 series by 120 samples"
+    "$made/replay" "$program" none "$made/uploads_4" $((rounds * 8)) "64 uploads of 4 series by 4 samples"
+    "$made/replay" "$program" none "$made/uploads" $((rounds * 8)) "64 uploads of one series by 3 samples"
 } >"$made/lines"
-awk -F '\t' -v processors="$(nproc)" '
+awk -F '\t' -v processors="${PROCESSORS:-$(nproc)}" '
 BEGIN { print "| Script, whole runs over memory | `serial`, ms | `replay`, ms | the middle ones, ms | Ratio | Bar |\n|---|---|---|---|---|---|" }
 {
     bar = NR == 1 ? (processors >= 4 ? 2.2 : 1.5) : NR == 3 ? 1 : 0
-    printf "| %s | %.1f | %.1f | %.1f, %.1f | %.2f | %s |\n", $1, $2, $3, $4, $5, $2 / $3, bar ? bar : "-"
-    if ($2 / $3 < bar) missed = missed $1 "; "
+    ratio = sprintf("%.2f", $2 / $3)
+    printf "| %s | %.1f | %.1f | %.1f, %.1f | %s | %s |\n", $1, $2, $3, $4, $5, ratio, bar ? bar : "-"
+    if (ratio + 0 < bar) missed = missed $1 "; "
 }
 END { print missed ? "\nMissed: " missed : "\nThe bars are met." }' "$made/lines"
