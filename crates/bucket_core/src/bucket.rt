@@ -5,6 +5,7 @@ ghost use Rattle.bucket_core.specs.Contents.{Contents, IsKey, after_put, after_d
 ghost use Rattle.bucket_core.specs.Pages.{ShowsPage};
 
 use crate::{DeleteAnswer, GetAnswer, PageAnswer, PutAnswer};
+use wire_bytes::Blob;
 
 /// Objects under keys. A key is a text that is not empty and does not begin with `/`.
 pub trait Bucket {
@@ -21,7 +22,7 @@ pub trait Bucket {
     ghost quiet: { Self → Type 0 };
 
     /// Puts an object in the place of what stands under the key.
-    fn put(&mut self, key: &str, bytes: &[u8]) -> PutAnswer
+    fn put(&mut self, key: &str, bytes: &Blob) -> PutAnswer
         requires { IsKey key.now }
         ensures left { contents self.new
             ≡ option_map (after_put key.now bytes.now result) (contents self.old) }

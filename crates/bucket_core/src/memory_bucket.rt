@@ -9,7 +9,7 @@ use crate::listing::page_of;
 use crate::objects::{find, put_in, remove_from};
 use crate::stored::Stored;
 use crate::{Bucket, DeleteAnswer, FailList, GetAnswer, PageAnswer, PutAnswer};
-use list_core::NoMemory;
+use list_core::{NoMemory, TryCopy};
 use std::alloc::Global;
 use wire_bytes::Blob;
 
@@ -56,7 +56,7 @@ impl MemoryBucket {
     }
 
     /// Puts an object, and counts nothing.
-    fn store(&mut self, key: &str, bytes: &[u8]) -> Result<(), NoMemory>
+    fn store(&mut self, key: &str, bytes: &Blob) -> Result<(), NoMemory>
         requires { IsKey key.now }
         ensures ok { OnOk result
             (objects_held self.new ≡ with_object key.now bytes.now (objects_held self.old)) }
@@ -88,24 +88,29 @@ impl MemoryBucket {
     }
 }
 
-/// The bytes from a place on, at most `len` of them.
-fn range_in(bytes: &[u8], from: u64, len: u64) -> &[u8]
-    ensures { result.now ≡ range_of from len bytes.now }
-{
-    let start = (from as usize).min(bytes.len());
-    let rest = &bytes[start..];
-    let count = (len as usize).min(rest.len());
-    &rest[..count]
-}
-
-/// The answer that an object's bytes make, where there are any.
-fn answer_of(alloc: Global, bytes: Option<&[u8]>) -> GetAnswer
-    ensures shown { Shows (option_map (λ b. b.now) bytes.entry) result }
+/// The answer that an object makes, where there is one. It shares the object's bytes.
+fn answer_of(object: Option<&Blob>) -> GetAnswer
+    ensures shown { Shows (option_map (λ b. b.now) object.entry) result }
     ensures fails { get_failed result ≡ false }
 {
-    match bytes {
+    match object {
         None => GetAnswer::Absent,
-        Some(bytes) => match Blob::from_bytes(alloc, bytes) {
+        Some(bytes) => match bytes.copy() {
+            Ok(blob) => GetAnswer::Found(blob),
+            Err(NoMemory) => GetAnswer::NoMemory,
+        },
+    }
+}
+
+/// The answer that a part of an object makes, where there is an object. It shares the object's bytes.
+fn part_answer(object: Option<&Blob>, from: u64, len: u64) -> GetAnswer
+    ensures shown { Shows
+        (option_map (range_of from len) (option_map (λ b. b.now) object.entry)) result }
+    ensures fails { get_failed result ≡ false }
+{
+    match object {
+        None => GetAnswer::Absent,
+        Some(bytes) => match bytes.part(from, len) {
             Ok(blob) => GetAnswer::Found(blob),
             Err(NoMemory) => GetAnswer::NoMemory,
         },
@@ -131,7 +136,7 @@ impl Bucket for MemoryBucket {
     ghost only_keys = { λ bucket c key told some. told_is_key bucket.objects.items bucket.keys c key
         told some };
 
-    fn put(&mut self, key: &str, bytes: &[u8]) -> PutAnswer
+    fn put(&mut self, key: &str, bytes: &Blob) -> PutAnswer
         requires { IsKey key.now }
         ensures left { objects_held self.new
             ≡ after_put key.now bytes.now result (objects_held self.old) }
@@ -165,8 +170,7 @@ impl Bucket for MemoryBucket {
             self.fail();
             return GetAnswer::Failed;
         }
-        let found = find(self.objects.as_slice(), key);
-        answer_of(self.alloc, found.map(|blob| blob.bytes()))
+        answer_of(find(self.objects.as_slice(), key))
     }
 
     fn get_range(&mut self, key: &str, from: u64, len: u64) -> GetAnswer
@@ -181,11 +185,7 @@ impl Bucket for MemoryBucket {
             self.fail();
             return GetAnswer::Failed;
         }
-        let found = find(self.objects.as_slice(), key);
-        answer_of(
-            self.alloc,
-            found.map(|blob| range_in(blob.bytes(), from, len)),
-        )
+        part_answer(find(self.objects.as_slice(), key), from, len)
     }
 
     fn delete(&mut self, key: &str) -> DeleteAnswer

@@ -5,7 +5,7 @@ ghost use Rattle.bucket_core.specs.Stored.{first_part as first_part_of, key_cmp,
 
 use crate::stored::Stored;
 use label_sets::Text;
-use list_core::NoMemory;
+use list_core::{NoMemory, TryCopy};
 use std::alloc::Global;
 use std::cmp::Ordering;
 use wire_bytes::Blob;
@@ -94,12 +94,12 @@ fn insert_at(objects: &mut Vec<Stored>, place: usize, object: Stored) -> Result<
     Ok(())
 }
 
-/// Puts an object under the key.
+/// Puts an object under the key. It shares the bytes.
 pub(crate) fn put_in(
     alloc: Global,
     objects: &mut Vec<Stored>,
     key: &str,
-    bytes: &[u8],
+    bytes: &Blob,
 ) -> Result<(), NoMemory>
     requires ordered { IsTrue (in_order objects.old.items) }
     requires keys { IsTrue (have_keys objects.old.items) }
@@ -109,7 +109,7 @@ pub(crate) fn put_in(
     ensures err { OnErr result (objects.new.items ≡ objects.old.items) }
 {
     let place = place_of(objects.as_slice(), key);
-    let kept = Blob::from_bytes(alloc, bytes)?;
+    let kept = bytes.copy()?;
     if stands_at(objects.as_slice(), place, key) {
         replace_at(objects, place, key, kept);
         return Ok(());

@@ -9,7 +9,7 @@ use crate::listing::{page_of_files, page_of_names};
 use crate::names::is_plain;
 use bucket_core::{Bucket, DeleteAnswer, GetAnswer, PageAnswer, PutAnswer, SiteRefusal};
 use label_sets::TextList;
-use list_core::List;
+use list_core::{List, NoMemory};
 use std::io::ErrorKind;
 use std::rt::Files;
 use std::{fs, io};
@@ -66,7 +66,10 @@ impl<R: Files + AllocGlobal + Clone + Drop> DirBucket<R> {
             → bucket_faults self.new ≡ bucket_faults self.old }
     {
         match read {
-            Ok(bytes) => GetAnswer::Found(Blob::from_vec(bytes)),
+            Ok(bytes) => match Blob::from_vec(bytes).shared() {
+                Ok(bytes) => GetAnswer::Found(bytes),
+                Err(NoMemory) => GetAnswer::NoMemory,
+            },
             Err(error) if is_absent(&error) => GetAnswer::Absent,
             Err(error) if error.kind() == ErrorKind::OutOfMemory => GetAnswer::NoMemory,
             Err(_) => {
@@ -117,7 +120,7 @@ impl<R: Files + AllocGlobal + Clone + Drop> Bucket for DirBucket<R> {
 
     ghost only_keys = { λ bucket c key told some. cc };
 
-    fn put(&mut self, key: &str, bytes: &[u8]) -> PutAnswer
+    fn put(&mut self, key: &str, bytes: &Blob) -> PutAnswer
         requires { IsKey key.now }
         ensures kept { KeepsFaults bucket_faults (λ bucket. ⊥) self.old self.new
             (put_failed result) }
@@ -128,7 +131,7 @@ impl<R: Files + AllocGlobal + Clone + Drop> Bucket for DirBucket<R> {
             self.fail();
             return PutAnswer::Failed(false);
         }
-        match put_file(&self.rt, self.folder.as_str(), key, bytes) {
+        match put_file(&self.rt, self.folder.as_str(), key, bytes.bytes()) {
             Ok(()) => {
                 if sync_names(&self.rt, self.folder.as_str(), key).is_err() {
                     self.fail();

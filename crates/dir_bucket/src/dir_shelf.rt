@@ -8,6 +8,7 @@ use crate::files::{is_absent, read_range};
 use crate::names::is_plain;
 use bucket_core::{FILE_LIMIT, Shelf, ShelfAnswer, SiteRefusal};
 use call_notes::NameNotes;
+use list_core::NoMemory;
 use std::io::ErrorKind;
 use std::rt::Files;
 use std::{fs, io};
@@ -57,7 +58,10 @@ impl<R: Files + AllocGlobal + Clone + Drop> DirShelf<R> {
     {
         match read {
             Ok(bytes) if bytes.len() > FILE_LIMIT => ShelfAnswer::TooLarge,
-            Ok(bytes) => ShelfAnswer::Found(Blob::from_vec(bytes)),
+            Ok(bytes) => match Blob::from_vec(bytes).shared() {
+                Ok(bytes) => ShelfAnswer::Found(bytes),
+                Err(NoMemory) => ShelfAnswer::NoMemory,
+            },
             Err(error) if is_absent(&error) => ShelfAnswer::Absent,
             Err(error) if error.kind() == ErrorKind::OutOfMemory => ShelfAnswer::NoMemory,
             Err(_) => {

@@ -4,6 +4,7 @@ use crate::DirBucket;
 use bucket_core::{Bucket, DeleteAnswer, GetAnswer, MemoryBucket, PageAnswer, PutAnswer};
 use call_notes::CallNotes;
 use std::rt::Files;
+use wire_bytes::Blob;
 
 /// A bucket in memory or in a folder, with the notes of its calls. It tells what it was asked, and what it holds where it is in memory.
 #[derive(Drop)]
@@ -27,14 +28,14 @@ impl<R: Files + AllocGlobal + Clone + Drop> Bucket for HostBucket<R> {
     ghost only_keys = { told_is_key };
 
     #[tactic(auto, using(crate::proofs::Noting::noted))]
-    fn put(&mut self, key: &str, bytes: &[u8]) -> PutAnswer {
+    fn put(&mut self, key: &str, bytes: &Blob) -> PutAnswer {
         match self {
             HostBucket::Memory(bucket, notes) => {
-                notes.note_put(key, bytes);
+                notes.note_put(key, bytes.bytes());
                 bucket.put(key, bytes)
             }
             HostBucket::Folder(bucket, notes) => {
-                notes.note_put(key, bytes);
+                notes.note_put(key, bytes.bytes());
                 bucket.put(key, bytes)
             }
         }

@@ -6,3 +6,4 @@ pub mod Fields
 pub mod FieldTexts
 pub mod Written
 pub mod Crc
+pub mod Kept

@@ -38,7 +38,7 @@ fn put<B: Bucket>(alloc: Global, bucket: &mut B, key: Key, bytes: &Blob) -> Resu
     ensures asks { AsksIn B.asked bucket.old bucket.new (Op.Put key bytes.now) result }
 {
     let name = key.text(alloc)?;
-    put_reply(bucket.put(name.as_str(), bytes.bytes()))
+    put_reply(bucket.put(name.as_str(), bytes))
 }
 
 fn get<B: Bucket>(alloc: Global, bucket: &mut B, key: Key) -> Result<Reply, NoMemory>
