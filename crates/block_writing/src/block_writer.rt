@@ -142,11 +142,12 @@ impl BlockWriter {
         Ok(())
     }
 
-    /// Ends a series: the chunks that were put since the one before it was ended are its own. Its labels are greater.
-    pub fn series(&mut self, labels: &LabelSet) -> Result<(), NoMemory>
+    /// Ends a series, whose labels are kept: the chunks that were put since the one before it was ended are its own. Its labels
+    /// are greater.
+    pub fn series(&mut self, labels: LabelSet) -> Result<(), NoMemory>
         requires some { self.old.chunks ≢ [] }
-        requires greater { IsAfterSeries self.old.series labels.now }
-        ensures ok { OnOk result (self.new ≡ with_series self.old labels.now) }
+        requires greater { IsAfterSeries self.old.series labels }
+        ensures ok { OnOk result (self.new ≡ with_series self.old labels) }
         ensures err { OnErr result (self.new ≡ self.old) }
     {
         let alloc = *self.chunks.allocator();

@@ -44,7 +44,7 @@ fn put_series(alloc: Global, writer: &mut BlockWriter, series: &Series) -> Resul
         put_part(alloc, writer, part)?;
         left = after;
     }
-    writer.series(&series.labels)
+    writer.series(series.labels.copy()?)
 }
 
 /// Builds the files of a block of its series, which ascend by their labels and have samples within the plan's times.

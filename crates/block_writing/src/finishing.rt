@@ -13,17 +13,14 @@ use chunk_files::SegmentWriter;
 use index_writing::{IndexWriteRefusal, IndexWriter};
 use list_core::NoMemory;
 use std::alloc::Global;
-use wire_bytes::Blob;
 
-/// The bytes of the segments. The room that their writers had beside is given back, as a block may be kept for long.
+/// The bytes of the segments, which are shared from here on, as a block may be kept for long.
 fn bytes_of(alloc: Global, writers: Vec<SegmentWriter>) -> Result<BlobList, NoMemory>
     ensures { IfOk result (λ segments. segments ≡ writers.items) }
 {
     let mut segments = BlobList::new(alloc);
     for writer in writers {
-        let mut bytes = writer.finish().into_vec();
-        bytes.shrink_to_fit();
-        segments.push(Blob::from_vec(bytes))?;
+        segments.push(writer.finish().shared()?)?;
     }
     Ok(segments)
 }

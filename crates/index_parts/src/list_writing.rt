@@ -67,13 +67,18 @@ fn put_numbers(out: &mut Vec<u8>, numbers: &[u64]) -> Result<(), NoMemory>
     Ok(())
 }
 
+/// How many bytes so many numbers take behind so many counts.
+fn size_of_numbers(numbers: usize, counts: usize) -> usize {
+    numbers.saturating_add(counts).saturating_mul(4)
+}
+
 fn postings_content(alloc: Global, numbers: &[u64]) -> Result<Vec<u8>, NoMemory>
     requires count { length numbers.now < 2 ^ 32 }
     requires numbers { All (λ number. number < 2 ^ 32) numbers.now }
     ensures { IfOk result
         (λ content. content.items ≡ list_content (to_be_bytes w32) numbers.now) }
 {
-    let mut content = Vec::new(alloc);
+    let mut content = Vec::with_capacity(alloc, size_of_numbers(numbers.len(), 1))?;
     put_u32(&mut content, numbers.len() as u32)?;
     put_numbers(&mut content, numbers)?;
     Ok(content)
@@ -99,7 +104,7 @@ fn values_content(alloc: Global, values: &[u64]) -> Result<Vec<u8>, NoMemory>
     requires numbers { All (λ number. number < 2 ^ 32) values.now }
     ensures { IfOk result (λ content. content.items ≡ label_index_content values.now) }
 {
-    let mut content = Vec::new(alloc);
+    let mut content = Vec::with_capacity(alloc, size_of_numbers(values.len(), 2))?;
     put_u32(&mut content, 1)?;
     put_u32(&mut content, values.len() as u32)?;
     put_numbers(&mut content, values)?;

@@ -105,6 +105,13 @@ fn put_chunks(out: &mut Vec<u8>, chunks: &[ChunkPlace]) -> Result<(), NoMemory>
     Ok(())
 }
 
+/// How many bytes the content of a series of so many labels and chunks usually takes at most.
+fn usual_size(labels: usize, chunks: usize) -> usize {
+    let labels = labels.saturating_mul(4);
+    let chunks = chunks.saturating_mul(16);
+    labels.saturating_add(chunks).saturating_add(16)
+}
+
 /// The content of a series.
 #[tactic(auto, unfolding(crate::specs::SeriesEntry::labels_text))]
 fn content_of(alloc: Global, series: &RawSeries) -> Result<Vec<u8>, NoMemory>
@@ -117,8 +124,9 @@ fn content_of(alloc: Global, series: &RawSeries) -> Result<Vec<u8>, NoMemory>
     ensures chunk_count { OnOk result (length series.now.chunks < 2 ^ 64) }
     ensures fit { OnOk result (AllByRecursion FitsTypes series.now.chunks) }
 {
-    let mut content = Vec::new(alloc);
-    put_uvarint(&mut content, series.names.len() as u64)?;
+    let labels = series.names.len();
+    let mut content = Vec::with_capacity(alloc, usual_size(labels, series.chunks.len()))?;
+    put_uvarint(&mut content, labels as u64)?;
     put_labels(
         &mut content,
         series.names.members(),

@@ -61,17 +61,17 @@ impl IndexWriter {
         is_behind(self.series.as_slice(), labels)
     }
 
-    /// Adds a series behind those that were added before. Its labels are greater than theirs, and its chunks follow one
-    /// another in time: `may_add` and `are_in_order` test it.
-    pub fn add(&mut self, labels: &LabelSet, chunks: &ChunkList) -> Result<(), NoMemory>
-        requires greater { IsBehind self.old labels.now }
+    /// Adds a series behind those that were added before, and keeps its labels. They are greater than those before, and its
+    /// chunks follow one another in time: `may_add` and `are_in_order` test it.
+    pub fn add(&mut self, labels: LabelSet, chunks: &ChunkList) -> Result<(), NoMemory>
+        requires greater { IsBehind self.old labels }
         requires chunks { InOrder StartsAfter chunks.now }
         ensures ok { OnOk result
-            (self.new ≡ self.old ++ record { labels = labels.now; chunks = chunks.now } ∷ []) }
+            (self.new ≡ self.old ++ record { labels = labels; chunks = chunks.now } ∷ []) }
         ensures err { OnErr result (self.new ≡ self.old) }
     {
         let series = IndexSeries {
-            labels: labels.copy()?,
+            labels,
             chunks: chunks.copy()?,
         };
         self.series.push(series)?;
@@ -93,7 +93,7 @@ impl IndexWriter {
     {
         let alloc = *self.series.allocator();
         let out = text_of(alloc, self.series.as_slice())?;
-        Ok(Blob::from_vec(out))
+        Ok(Blob::from_vec(out).shared()?)
     }
 }
 
@@ -220,6 +220,19 @@ fn fill(out: &mut Vec<u8>, list: &[IndexSeries]) -> Result<(), IndexWriteRefusal
     put_toc(out, &toc_of(&parts, &places))
 }
 
+/// How many bytes the index of series probably has: some for each series, and some for each of its labels and chunks.
+fn usual_size(list: &[IndexSeries]) -> usize {
+    let mut size = 128usize;
+    for one in list {
+        let labels = one.labels.labels().len().saturating_mul(8);
+        let chunks = one.chunks.len().saturating_mul(8);
+        size = size
+            .saturating_add(labels.saturating_add(chunks))
+            .saturating_add(16);
+    }
+    size
+}
+
 fn text_of(alloc: Global, list: &[IndexSeries]) -> Result<Vec<u8>, IndexWriteRefusal>
     requires { AreWritable list.now }
     ensures exact { MatchResult result
@@ -228,7 +241,7 @@ fn text_of(alloc: Global, list: &[IndexSeries]) -> Result<Vec<u8>, IndexWriteRef
     ensures index { IfOk result (λ out. IsIndex out.items list.now) }
     ensures label_indices { IfOk result (λ out. HasLabelIndices out.items list.now) }
 {
-    let mut out = Vec::new(alloc);
+    let mut out = Vec::with_capacity(alloc, usual_size(list))?;
     fill(&mut out, list)?;
     Ok(out)
 }

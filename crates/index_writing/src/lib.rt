@@ -3,6 +3,7 @@
 
 mod index_writer;
 mod label_groups;
+mod lent_text;
 mod order;
 mod parts;
 mod section_places;

@@ -7,6 +7,7 @@ ghost use Rattle.label_sets.specs.Ordered.{in_order};
 ghost use Rattle.index_parts.specs.declared.raw_series.RawSeries.{RawSeries};
 ghost use Rattle.index_writing.specs.SymbolsInUse.{is_lesser_text, texts_of_labels, texts_of, symbols_of, number_of, symbol_of, raw_of};
 
+use crate::lent_text::LentText;
 use index_file::IndexSeries;
 use index_parts::RawSeries;
 use label_sets::{Label, Text, TextList};
@@ -14,43 +15,64 @@ use list_core::{List, NoMemory, TryCopy};
 use std::alloc::Global;
 use wire_bytes::NumberList;
 
-fn add_texts(texts: &mut Vec<Text>, labels: &[Label]) -> Result<(), NoMemory>
+/// Adds the names and values of labels, which lend them.
+fn add_texts<'a>(texts: &mut Vec<LentText<'a>>, labels: &'a [Label]) -> Result<(), NoMemory>
     ensures { OnOk result (texts.new.items ≡ texts.old.items ++ texts_of_labels labels.now) }
 {
     for label in labels {
-        texts.push(label.name.copy()?)?;
-        texts.push(label.value.copy()?)?;
+        texts.push(LentText::of(&label.name))?;
+        texts.push(LentText::of(&label.value))?;
     }
     Ok(())
 }
 
-/// The names and values of all labels.
+/// How many texts the labels of series have.
+fn text_count(series: &[IndexSeries]) -> usize {
+    let mut labels = 0usize;
+    for one in series {
+        labels = labels.saturating_add(one.labels.labels().len());
+    }
+    labels.saturating_mul(2)
+}
+
+/// The names and values of all labels, which the series lend.
 #[tactic(auto, unfolding(crate::specs::SymbolsInUse::texts_of))]
-fn texts_of(alloc: Global, series: &[IndexSeries]) -> Result<Vec<Text>, NoMemory>
+fn texts_of(alloc: Global, series: &[IndexSeries]) -> Result<Vec<LentText<'_>>, NoMemory>
     ensures texts { IfOk result (λ texts. texts.items ≡ texts_of series.now) }
     ensures lawful { OnOk result (AllByRecursion (λ one. IsLabelSet one.labels) series.now) }
 {
-    let mut texts = Vec::new(alloc);
+    let mut texts = Vec::with_capacity(alloc, text_count(series))?;
     for one in series {
         add_texts(&mut texts, one.labels.labels())?;
     }
     Ok(texts)
 }
 
-fn sort_texts(texts: &mut Vec<Text>) -> Result<(), NoMemory>
+fn sort_texts(texts: &mut Vec<LentText<'_>>) -> Result<(), NoMemory>
     ensures { OnOk result (texts.new.items ≡ in_order is_lesser_text texts.old.items) }
 {
     texts.sort()?;
     Ok(())
 }
 
-fn drop_repeats(texts: &mut Vec<Text>)
+fn drop_repeats(texts: &mut Vec<LentText<'_>>)
     ensures { texts.new.items ≡ dedup bytes_eq texts.old.items }
 {
     texts.dedup();
 }
 
-/// The symbols of series: the texts that are in use, ascending.
+/// Copies of texts, in memory for just so many.
+fn copies_of(alloc: Global, texts: &[LentText<'_>]) -> Result<TextList, NoMemory>
+    ensures { IfOk result (λ copies. copies ≡ texts.now) }
+{
+    let mut copies = Vec::with_capacity(alloc, texts.len())?;
+    for text in texts {
+        copies.push(Text::from_str(alloc, text.as_str())?)?;
+    }
+    Ok(List::from_vec(copies))
+}
+
+/// The symbols of series: the texts that are in use, ascending. Only those that differ are copied.
 #[tactic(auto, unfolding(crate::specs::SymbolsInUse::symbols_of))]
 pub(crate) fn symbols_of(alloc: Global, series: &[IndexSeries]) -> Result<TextList, NoMemory>
     ensures symbols { IfOk result (λ symbols. symbols ≡ symbols_of series.now) }
@@ -59,7 +81,7 @@ pub(crate) fn symbols_of(alloc: Global, series: &[IndexSeries]) -> Result<TextLi
     let mut texts = texts_of(alloc, series)?;
     sort_texts(&mut texts)?;
     drop_repeats(&mut texts);
-    Ok(List::from_vec(texts))
+    copies_of(alloc, texts.as_slice())
 }
 
 /// The number of a symbol: how many stand before it.
@@ -92,13 +114,13 @@ fn numbers_of(
         (λ numbers. (numbers.0 ≡ map (λ l. number_of symbols.now l.name) labels.now)
         × (numbers.1 ≡ map (λ l. number_of symbols.now l.value) labels.now)) }
 {
-    let mut names = NumberList::new(alloc);
-    let mut values = NumberList::new(alloc);
+    let mut names = Vec::with_capacity(alloc, labels.len())?;
+    let mut values = Vec::with_capacity(alloc, labels.len())?;
     for label in labels {
         names.push(number_of(symbols, &label.name))?;
         values.push(number_of(symbols, &label.value))?;
     }
-    Ok((names, values))
+    Ok((NumberList::from_vec(names), NumberList::from_vec(values)))
 }
 
 /// A series with its names and values as symbol numbers.
@@ -124,7 +146,7 @@ pub(crate) fn raws_of(
     requires { IsStrictlySortedBy compare_texts symbols.now }
     ensures { IfOk result (λ raws. raws.items ≡ map (raw_of symbols.now) series.now) }
 {
-    let mut raws = Vec::new(alloc);
+    let mut raws = Vec::with_capacity(alloc, series.len())?;
     for one in series {
         raws.push(raw_of(alloc, symbols, one)?)?;
     }

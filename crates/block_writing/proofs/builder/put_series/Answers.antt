@@ -1,8 +1,8 @@
-use Rattle.std.proofs.Common.{◌≡◌, ◌<◌, length, rules, subst, sym}
+use Rattle.std.proofs.Common.{◌≡◌, ◌<◌, List, length, rules, subst, sym}
 use Rattle.std.specs.Prelude.{min}
 use Rattle.xor_chunks.specs.Written.{AreOfChunk}
 use Rattle.std.specs.List.{AllByRecursion}
-use Rattle.block_writing.specs.Put.{IsWithin}
+use Rattle.block_writing.specs.Put.{PutSeries, IsWithin, IsAfterSeries}
 use Rattle.block_writing.proofs.Parts.{of_chunk, part_within, part_more, has_chunks}
 use Rattle.block_writing.proofs.builder.put_series.Goals as goal
 
@@ -26,3 +26,7 @@ pub series-requires-clause-some : goal.series-requires-clause-some
 series-requires-clause-some c empty =
     let none : length c.loop-left.left.now ≡ 0 = search rules in
     has_chunks c.args.writer.now c.args.series.now.samples c.loop-left.left.now c.loop-left.writer c.loop-left.invariant none c.requires.samples empty
+
+pub series-requires-clause-greater : goal.series-requires-clause-greater
+series-requires-clause-greater c =
+    subst (IsAfterSeries c.loop-left.writer.series) (sym c.in_ok-copy.ensures) (subst (λ (l : List PutSeries). IsAfterSeries l c.args.series.now.labels) (sym c.loop-left.invariant.series_is) c.requires.greater)

@@ -8,7 +8,7 @@ use Rattle.block_writing.proofs.block_writer.BlockWriter.series.Goals as goal
 
 pub add-added-requires-clause-greater : goal.add-added-requires-clause-greater
 add-added-requires-clause-greater c =
-    behind_put c.self.inside.segments.items c.self.inside.index c.args.labels.now (subst (λ (p : Put). IsAfterSeries p.series c.args.labels.now) (sym c.self.view_is) c.requires.greater)
+    behind_put c.self.inside.segments.items c.self.inside.index c.args.labels (subst (λ (p : Put). IsAfterSeries p.series c.args.labels) (sym c.self.view_is) c.requires.greater)
 
 pub invariant_of-self : goal.invariant_of-self
 invariant_of-self c =
@@ -19,15 +19,15 @@ invariant_of-self c =
 
 pub invariant_of-self-2 : goal.invariant_of-self-2
 invariant_of-self-2 c =
-    let more : c.add-added.new.self ≡ c.self.inside.index ++ record { labels = c.args.labels.now; chunks = c.self.inside.chunks.items } ∷ [] = search rules in
-    (series_put c.self.inside.plan c.self.inside.segments.items c.self.inside.index c.add-added.new.self c.self.inside.chunks.items c.clear.new.self.items c.self.inside.counts c.with_series-self-inside.result c.args.labels.now c.self.invariant
-    (λ none. c.requires.some (sym (ap (λ (p : Put). p.chunks) c.self.view_is) ∙ none)) (subst (λ (p : Put). IsAfterSeries p.series c.args.labels.now) (sym c.self.view_is) c.requires.greater)
+    let more : c.add-added.new.self ≡ c.self.inside.index ++ record { labels = c.args.labels; chunks = c.self.inside.chunks.items } ∷ [] = search rules in
+    (series_put c.self.inside.plan c.self.inside.segments.items c.self.inside.index c.add-added.new.self c.self.inside.chunks.items c.clear.new.self.items c.self.inside.counts c.with_series-self-inside.result c.args.labels c.self.invariant
+    (λ none. c.requires.some (sym (ap (λ (p : Put). p.chunks) c.self.view_is) ∙ none)) (subst (λ (p : Put). IsAfterSeries p.series c.args.labels) (sym c.self.view_is) c.requires.greater)
     more c.clear.ensures.items c.with_series-self-inside.ensures).writing
 
 pub returns-clause-ok : goal.returns-clause-ok
 returns-clause-ok c =
-    let more : c.add-added.new.self ≡ c.self.inside.index ++ record { labels = c.args.labels.now; chunks = c.self.inside.chunks.items } ∷ [] = search rules in
-    (series_put c.self.inside.plan c.self.inside.segments.items c.self.inside.index c.add-added.new.self c.self.inside.chunks.items c.clear.new.self.items c.self.inside.counts c.with_series-self-inside.result c.args.labels.now c.self.invariant
-    (λ none. c.requires.some (sym (ap (λ (p : Put). p.chunks) c.self.view_is) ∙ none)) (subst (λ (p : Put). IsAfterSeries p.series c.args.labels.now) (sym c.self.view_is) c.requires.greater)
+    let more : c.add-added.new.self ≡ c.self.inside.index ++ record { labels = c.args.labels; chunks = c.self.inside.chunks.items } ∷ [] = search rules in
+    (series_put c.self.inside.plan c.self.inside.segments.items c.self.inside.index c.add-added.new.self c.self.inside.chunks.items c.clear.new.self.items c.self.inside.counts c.with_series-self-inside.result c.args.labels c.self.invariant
+    (λ none. c.requires.some (sym (ap (λ (p : Put). p.chunks) c.self.view_is) ∙ none)) (subst (λ (p : Put). IsAfterSeries p.series c.args.labels) (sym c.self.view_is) c.requires.greater)
     more c.clear.ensures.items c.with_series-self-inside.ensures).view_is
-    ∙ ap (λ (p : Put). with_series p c.args.labels.now) c.self.view_is
+    ∙ ap (λ (p : Put). with_series p c.args.labels) c.self.view_is
