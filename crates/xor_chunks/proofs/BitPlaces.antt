@@ -2,7 +2,7 @@
 use Rattle.std.proofs.Common.{◌≡◌, ℕ, zero, suc, ◌+◌, ◌-◌, ◌*◌, ◌/◌, ◌%◌, ◌^◌, ◌<◌, ◌≤◌, Bool, true, false, List, [], ◌∷◌, ◌++◌, length, take, drop, Result, Ok, ℤ, pos, ◌+ℤ◌, refl, sym, ap, ◌∙◌, append_assoc, arith}
 use Rattle.std.specs.Prelude.{replicate}
 use Rattle.std.proofs.Math.Seq.{drop-nil}
-use Rattle.std.proofs.lemmas.Bool.{le-ltb}
+use Rattle.std.proofs.lemmas.Bool.{le-ltb, le-leb}
 use Rattle.std.proofs.lemmas.List.{drop_at, drop-drop, take_rest, take-append-drop, take-append-le, length-append, length-drop}
 use Rattle.std.proofs.lemmas.List.Concat.{flat_map-append}
 use Rattle.reading_core.specs.Reading.{◌>>=◌}
@@ -10,12 +10,13 @@ use Rattle.xor_chunks.specs.State.{State, with_pattern}
 use Rattle.xor_chunks.specs.declared.refusal.XorRefusal.{XorRefusal}
 use Rattle.xor_chunks.specs.Bits.{bits_of, bits_in, number_of, EndWith}
 use Rattle.xor_chunks.specs.Buffer.{front, Shows}
-use Rattle.xor_chunks.specs.Window.{Window, told_by, is_inside, changed}
+use Rattle.xor_chunks.specs.Window.{Window, told_by, IsInside, is_inside, changed}
 use Rattle.xor_chunks.specs.Steps.{take_at, behind, change_at, within_at, value_at, time_after, next_at}
 use Rattle.xor_chunks.specs.Spans.{end_at}
 use Rattle.xor_chunks.proofs.BitLists.{length-bits_of, bits_of-append, length-bits_in}
 use Rattle.xor_chunks.proofs.Buffers.{field_below, front-joined}
-use Rattle.xor_chunks.proofs.Peeks.{head_is, same_behind, within_behind, opened_behind, follow_time, next_behind}
+use Rattle.xor_chunks.proofs.Takes.{no_change}
+use Rattle.xor_chunks.proofs.Peeks.{head_is, front-drop, same_behind, within_behind, opened_behind, follow_time, next_behind}
 use Rattle.xor_chunks.proofs.Followed.{passed_on}
 
 -- ---- places
@@ -117,6 +118,16 @@ pass_next known passed last change bits told inside time delta told_change (patt
       ∙ ap (λ (r : Result (ℤ × ℕ) XorRefusal). r >>= λ t. Ok (record { time = t.0; delta = t.1; pattern = pattern; window = told }, drop passed bits)) times,
 )
 
+-- a sample by the same step, whose value stands in the same window
+pub pass_steadily : (word passed : ℕ) (last : State) (after : ℤ) (bits : List Bool) → word / 2 ^ 61 ≡ 2 → Shows word 37 bits → 101 ≤ length bits → passed ≡ 3 + last.window.width → IsInside last.window → time_after last.time (pos last.delta +ℤ pos 0) ≡ Ok (after, last.delta)
+    → (pattern : ℕ) × (next_at last bits ≡ Ok (record { time = after; delta = last.delta; pattern = pattern; window = last.window }, drop passed bits))
+pass_steadily word passed last after bits head shows long is inside times =
+    let one : front 1 bits ≡ 0 = sym (shows.first 1 (omega arith)) ∙ omega (arith, head) in
+    let three : front 3 bits ≡ 2 = sym (shows.first 3 (omega arith)) ∙ head in
+    let two : front 2 (drop 1 bits) ≡ 2 = omega (arith, front-drop 1 2 bits, one, three) in
+    pass_next 1 passed last (pos 0) bits last.window (is_inside last.window) after last.delta (no_change bits one) (pass_within 1 last.window last.pattern passed bits two (omega (arith, is)) (omega (arith, is, inside, long))) refl
+    (le-leb (last.window.lead + last.window.width) 64 inside) times
+
 -- ---- the loop
 
 -- the samples that are left, from where the last one ended, end as all of them
@@ -130,6 +141,10 @@ ends_on count (suc n) less place passed next second last after begin bits h some
     let one : less ≡ n = omega (arith, less_is) in
     h ∙ passed_on n pattern last after (drop place bits) (drop passed (drop place bits)) e ∙ ap (λ (l : List Bool). end_at n after l) (drop-drop passed place bits ∙ ap (λ (k : ℕ). drop k bits) (sym next_is))
     ∙ ap (λ (k : ℕ). end_at k after (drop next bits)) (sym one)
+
+-- the same at another time
+abbrev pub at_time : ℤ → State → State
+at_time time s = record { time = time; delta = s.delta; pattern = s.pattern; window = s.window }
 
 -- the bits that are left from a place on
 pub bits_left : (place greatest : ℕ) (bytes : List ℕ) → place ≤ greatest → greatest ≡ 8 * (length bytes - 16) → 16 ≤ length bytes → 101 ≤ length (drop place (bits_in bytes))

@@ -27,7 +27,7 @@ first_more : (bit : Bool) (j n a b : ℕ) → cond bit (2 ^ (j + n)) 0 + (a * 2 
 first_more true j n a b = omega (arith, pow-add 2 j n)
 first_more false j n a b = omega arith
 
-front-drop : (j n : ℕ) (bits : List Bool) → front (j + n) bits ≡ front j bits * 2 ^ n + front n (drop j bits)
+pub front-drop : (j n : ℕ) (bits : List Bool) → front (j + n) bits ≡ front j bits * 2 ^ n + front n (drop j bits)
 front-drop zero n bits =
     let same : 0 + n ≡ n = omega arith in
     ap (λ (k : ℕ). front k bits) same ∙ omega (arith, ap (λ (k : ℕ). k * 2 ^ n) (front-zero bits))

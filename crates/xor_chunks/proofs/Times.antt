@@ -91,3 +91,11 @@ near_is time change change' delta t wide a few p r le =
     let sum_is : cast_signed w64 delta +ℤ same_64 change' ≡ pos delta +ℤ change' = ap (λ (z : ℤ). z +ℤ same_64 change') (cast_small delta (omega (arith, few))) ∙ ap (λ (z : ℤ). pos delta +ℤ z) (to_z-of_z w64 change' change_fits) in
     let sum_same : same_64 (cast_signed w64 delta +ℤ same_64 change') ≡ pos delta +ℤ change' = ap same_64 sum_is ∙ to_z-of_z w64 (pos delta +ℤ change') (near_sum (pos delta) change' near_delta near_change) in
     near_after time (pos delta +ℤ change') (pos delta +ℤ change) (same_64 (cast_signed w64 delta +ℤ same_64 change')) t (ap (λ (z : ℤ). pos delta +ℤ z) change_is) sum_same (near_sums (pos delta) change' time near_delta near_change near) le
+
+-- the time after the same step as before
+pub steady_after : (time : ℤ) (delta : ℕ) → negsuc (2 ^ 63 - 1) ≤ℤ time → time <ℤ pos (2 ^ 62) → 0 < delta → delta < 2 ^ 62 → time_after time (pos delta +ℤ pos 0) ≡ Ok (same_64 (time +ℤ cast_signed w64 delta), delta)
+steady_after time delta low soon some near =
+    let fits : FitsSigned w64 (time +ℤ pos delta) = fits_both (time +ℤ pos delta) (omega (arith, ints, low)) (omega (arith, ints, soon, near)) in
+    let same : pos delta +ℤ pos 0 ≡ pos delta = omega (arith, ints) in
+    let sum : same_64 (time +ℤ cast_signed w64 delta) ≡ time +ℤ pos delta = ap (λ (z : ℤ). same_64 (time +ℤ z)) (cast_small delta (omega (arith, near))) ∙ to_z-of_z w64 (time +ℤ pos delta) fits in
+    ap (λ (z : ℤ). time_after time z) same ∙ is_after time (pos delta) fits (omega (arith, ints, some)) ∙ ap (λ (z : ℤ). Ok (z, delta)) (sym sum)

@@ -1,9 +1,10 @@
 //! Passing over samples of which only the last time is wanted. Well before the end of the bytes each is passed from the place at
 //! which it begins, so that none waits for the bits of the one before it, and no pattern is put together.
-ghost use Rattle.std.specs.Prelude.{◌≡◌, ◌+◌, ◌-◌, ◌*◌, ◌/◌, ◌^◌, ◌<◌, ◌≤◌, ℕ, Bool, List, Ok, IfSome, length, take, drop};
+ghost use Rattle.std.specs.Prelude.{◌≡◌, ◌+◌, ◌-◌, ◌*◌, ◌/◌, ◌^◌, ◌<◌, ◌≤◌, ◌<ℤ◌, pos, ℕ, Bool, List, Ok, IfSome, IsTrue, length, take, drop};
 ghost use Rattle.xor_chunks.specs.Bits.{bits_of, bits_in, EndWith};
 ghost use Rattle.xor_chunks.specs.Buffer.{Shows};
 ghost use Rattle.xor_chunks.specs.State.{with_pattern};
+ghost use Rattle.xor_chunks.specs.Window.{IsInside};
 ghost use Rattle.xor_chunks.specs.Known.{state_of};
 ghost use Rattle.xor_chunks.specs.Steps.{behind, change_at, value_at, next_at};
 ghost use Rattle.xor_chunks.specs.Spans.{end_at};
@@ -19,6 +20,9 @@ const ROOM: usize = 16;
 
 /// In so many bytes every place has a number.
 const MOST: usize = 0xffff_ffff;
+
+/// Before this time a step of fewer than 63 bits has its end in 64 bits.
+const SOON: i64 = 0x4000_0000_0000_0000;
 
 /// The first eight bytes as a number.
 #[inline(always)]
@@ -81,6 +85,8 @@ fn pass_one(word: u64, last: &Last) -> Option<(Last, u32)>
     ensures passed { IfSome result (λ x. (bits : List Bool) → Shows word 37 bits
         → 101 ≤ length bits → (pattern : ℕ) × (next_at (state_of last.now) bits
         ≡ Ok (with_pattern pattern (state_of x.0), drop x.1 bits))) }
+    ensures steps { IfSome result (λ x. (0 < x.0.delta) × (x.0.delta < 2 ^ 62)) }
+    ensures inside { IfSome result (λ x. IsInside x.0.window) }
 {
     let (change, known) = change_in(word)?;
     let (window, passed) = pass_value(word, known, last.window);
@@ -99,8 +105,60 @@ fn pass_one(word: u64, last: &Last) -> Option<(Last, u32)>
     ))
 }
 
+/// Whether the bits at a word's top tell that a sample comes by the same step as the one before it, which came at this time, and
+/// that its value stands in the same window.
+#[inline(always)]
+fn is_steady(word: u64, time: i64) -> bool
+    ensures told { IsTrue result → word / 2 ^ 61 ≡ 2 }
+    ensures soon { IsTrue result → time <ℤ pos (2 ^ 62) }
+{
+    word >> 61 == 0b010 && time < SOON
+}
+
+/// Passes over samples from their places, the first of which is told, as long as each comes by the same step and its value stands
+/// in the same window.
+#[inline(always)]
+fn pass_steady(count: u16, second: Last, bytes: &[u8], begin: usize) -> (u16, Last, usize)
+    requires room { 16 ≤ length bytes.now }
+    requires few { length bytes.now < 2 ^ 32 }
+    requires within { begin ≤ 8 * length bytes.now }
+    requires steps { (0 < second.delta) × (second.delta < 2 ^ 62) }
+    requires inside { IsInside second.window }
+    ensures end { end_at count (state_of second) (drop begin (bits_in bytes.now))
+        ≡ end_at result.0 (state_of result.1) (drop result.2 (bits_in bytes.now)) }
+    ensures within { result.2 ≤ 8 * length bytes.now }
+    ensures fewer { result.0 ≤ count }
+    ensures step { result.1.delta ≡ second.delta }
+    ensures window { result.1.window ≡ second.window }
+{
+    let greatest = 8 * (bytes.len() - ROOM);
+    let taken = 3 + second.window.width() as usize;
+    let mut left = count;
+    let mut time = second.time;
+    let mut place = begin;
+    while left > 0 && place <= greatest {
+        if !is_steady(word_at(bytes, place), time) {
+            break;
+        }
+        time += second.delta as i64;
+        place += taken;
+        left -= 1;
+    }
+    (
+        left,
+        Last {
+            time,
+            delta: second.delta,
+            pattern: second.pattern,
+            window: second.window,
+        },
+        place,
+    )
+}
+
 /// Passes over samples from their places, the first of which is told: how many are left, the last one, but for its pattern, and
-/// the place behind it.
+/// the place behind it. It stands alone, so that its loops have the registers to themselves.
+#[inline(never)]
 fn pass_near(count: u16, second: Last, bytes: &[u8], begin: usize) -> (u16, Last, usize)
     requires room { 16 ≤ length bytes.now }
     requires few { length bytes.now < 2 ^ 32 }
@@ -117,9 +175,10 @@ fn pass_near(count: u16, second: Last, bytes: &[u8], begin: usize) -> (u16, Last
         let Some((after, passed)) = pass_one(word_at(bytes, place), &last) else {
             return (left, last, place);
         };
-        last = after;
-        place += passed as usize;
-        left -= 1;
+        let (more, far, behind) = pass_steady(left - 1, after, bytes, place + passed as usize);
+        left = more;
+        last = far;
+        place = behind;
     }
     (left, last, place)
 }

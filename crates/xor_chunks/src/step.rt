@@ -38,7 +38,8 @@ fn is_near(number: i64) -> bool
 /// The time after a step, computed in 64 bits, where these hold all sums and no refusal is due.
 #[inline(always)]
 pub(crate) fn near_time(time: i64, delta: u64, change: i128) -> Option<(i64, u64)>
-    ensures { IfSome result (λ x. time_after time (pos delta +ℤ change) ≡ Ok x) }
+    ensures after { IfSome result (λ x. time_after time (pos delta +ℤ change) ≡ Ok x) }
+    ensures steps { IfSome result (λ x. (0 < x.1) × (x.1 < 2 ^ 62)) }
 {
     let Ok(change) = i64::try_from(change) else {
         return None;
