@@ -19,7 +19,7 @@ use crate::{CheckRefusal, Checked, ChunkCause};
 use block_files::BlockFiles;
 use block_meta::Meta;
 use index_parts::ChunkPlace;
-use index_v2::{IndexSeries, IndexSeriesList};
+use index_v2::{IndexSeries, IndexSeriesList, LentSeries};
 use std::alloc::Global;
 use ulid_core::Ulid;
 use wire_bytes::Blob;
@@ -216,6 +216,35 @@ pub(crate) fn count_all(
     let mut series = 0u32;
     for one in indexed {
         let counted = count_series(alloc, meta, segments, series, one.chunks.members(), left)?;
+        samples = samples.saturating_add(counted.samples);
+        outside = found_or_this(outside, series, counted.outside);
+        left = counted.left;
+        series = series.saturating_add(1);
+    }
+    Ok(Counts { samples, outside })
+}
+
+/// The same where the index lends the texts of the series' labels.
+pub(crate) fn count_lent(
+    alloc: Global,
+    meta: &Meta,
+    segments: &[Blob],
+    indexed: &[LentSeries<'_>],
+    budget: usize,
+) -> Result<Counts, CheckRefusal>
+    ensures read { WalksSeries segments.now indexed.now
+        (λ counts parts. (counts.samples ≡ sample_count (list_of indexed.now parts))
+        × IsFirstFound (first_at (first_outside meta.now) (list_of indexed.now parts))
+        counts.outside) result }
+    ensures spent { IfOk result
+        (λ counts. sum_by (series_bytes segments.now) indexed.now ≤ budget) }
+{
+    let mut samples = 0u64;
+    let mut outside = None;
+    let mut left = budget;
+    let mut series = 0u32;
+    for one in indexed {
+        let counted = count_series(alloc, meta, segments, series, one.chunks(), left)?;
         samples = samples.saturating_add(counted.samples);
         outside = found_or_this(outside, series, counted.outside);
         left = counted.left;

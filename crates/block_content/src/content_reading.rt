@@ -18,7 +18,7 @@ use crate::chunk_reading::{append_chunk, refused_chunk};
 use block_files::BlockFiles;
 use block_meta::Meta;
 use index_parts::ChunkPlace;
-use index_v2::{IndexReader, IndexRefusal, IndexSeries, IndexSeriesList};
+use index_v2::{IndexReader, IndexRefusal, IndexSeries, IndexSeriesList, LentSeries};
 use label_sets::{Sample, Series, SeriesList};
 use list_core::List;
 use std::alloc::Global;
@@ -42,6 +42,30 @@ pub fn read_index(alloc: Global, index: &[u8]) -> Result<IndexSeriesList, CheckR
     ensures bytes { IsBytes index.now }
 {
     match whole_index(alloc, index) {
+        Ok(list) => Ok(list),
+        Err(IndexRefusal::NoMemory) => Err(CheckRefusal::NoMemory),
+        Err(refusal) => Err(CheckRefusal::BadIndex(refusal)),
+    }
+}
+
+/// All series of an index, which lends the texts of their labels.
+#[tactic(auto, unfolding(crate::specs::ContentReading::index_at))]
+fn lent_index(alloc: Global, index: &[u8]) -> Result<List<LentSeries<'_>>, IndexRefusal>
+    ensures exact { Gives IndexRefusal.NoMemory (λ list. list) result (index_at index.now) }
+    ensures few { IfOk result (ListsFew index.now) }
+{
+    let reader = IndexReader::open(alloc, index)?;
+    reader.whole_lent(alloc)
+}
+
+/// The same of series whose texts the index lends.
+pub(crate) fn read_lent(alloc: Global, index: &[u8]) -> Result<List<LentSeries<'_>>, CheckRefusal>
+    ensures exact { Gives CheckRefusal.NoMemory
+        (λ list. list) result (refused_as refused_index (index_at index.now)) }
+    ensures few { IfOk result (ListsFew index.now) }
+    ensures bytes { IsBytes index.now }
+{
+    match lent_index(alloc, index) {
         Ok(list) => Ok(list),
         Err(IndexRefusal::NoMemory) => Err(CheckRefusal::NoMemory),
         Err(refusal) => Err(CheckRefusal::BadIndex(refusal)),
@@ -202,6 +226,22 @@ pub(crate) fn first_repeated(indexed: &[IndexSeries]) -> Option<u32>
     let mut series = 0u32;
     for one in indexed {
         if !follow(one.chunks.members()) {
+            return Some(series);
+        }
+        series = series.saturating_add(1);
+    }
+    None
+}
+
+/// The same of lent series.
+pub(crate) fn lent_repeated(indexed: &[LentSeries<'_>]) -> Option<u32>
+    ensures { MatchOption result (first_at repeated_in indexed.now ≡ None)
+        (λ found. (place : ℕ) × (first_at repeated_in indexed.now ≡ Some (place, tt))
+        × (found ≡ fitted place)) }
+{
+    let mut series = 0u32;
+    for one in indexed {
+        if !follow(one.chunks()) {
             return Some(series);
         }
         series = series.saturating_add(1);

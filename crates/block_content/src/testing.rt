@@ -11,35 +11,36 @@ ghost use Rattle.block_content.specs.CheckReading.{IsTested};
 ghost use Rattle.block_content.specs.ContentReading.{ListsFew, series_bytes};
 
 use crate::CheckRefusal;
-use crate::checking::{count_all, test_found};
-use crate::content_reading::{budget_of, first_repeated, read_index};
+use crate::checking::{count_lent, test_found};
+use crate::content_reading::{budget_of, lent_repeated, read_lent};
 use block_files::BlockFiles;
 use block_meta::Meta;
-use index_v2::IndexSeriesList;
+use index_v2::LentSeries;
+use list_core::List;
 use std::alloc::Global;
 use wire_bytes::Blob;
 
-fn test_files(
+fn test_files<'a>(
     alloc: Global,
     meta: &Meta,
-    index: &[u8],
+    index: &'a [u8],
     segments: &[Blob],
-) -> Result<IndexSeriesList, CheckRefusal>
+) -> Result<List<LentSeries<'a>>, CheckRefusal>
     ensures exact { IsTested meta.now index.now segments.now result }
     ensures few { IfOk result (λ indexed. ListsFew index.now indexed
         × (sum_by (series_bytes segments.now) indexed ≤ 8 * sum_by length segments.now)) }
     ensures bytes { IsBytes index.now × AllByRecursion IsBytes segments.now }
 {
     let budget = budget_of(segments);
-    let indexed = read_index(alloc, index)?;
-    let counts = count_all(alloc, meta, segments, indexed.members(), budget)?;
-    test_found(counts.outside, first_repeated(indexed.members()))?;
+    let indexed = read_lent(alloc, index)?;
+    let counts = count_lent(alloc, meta, segments, indexed.members(), budget)?;
+    test_found(counts.outside, lent_repeated(indexed.members()))?;
     Ok(indexed)
 }
 
-/// Tests whether a block's files hold something that can be read, as `content` reads it, and hands back the series of its index.
-/// The samples of one chunk are kept at a time.
-pub fn test_content(alloc: Global, files: &BlockFiles) -> Result<IndexSeriesList, CheckRefusal>
+/// Tests whether a block's files hold something that can be read, as `content` reads it, and hands back the series of its
+/// index, which lends the texts of their labels. The samples of one chunk are kept at a time.
+pub fn test_content(alloc: Global, files: &BlockFiles) -> Result<List<LentSeries<'_>>, CheckRefusal>
     ensures found { IfOk result (λ indexed. IsIndex files.now.index indexed
         × ((list : List Series) × IsContent files.now list)) }
     ensures only { (list : List Series) → IsContent files.now list

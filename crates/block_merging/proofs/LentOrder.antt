@@ -1,19 +1,16 @@
--- Labels that an index lends: those that are kept, and their order.
-use Rattle.std.proofs.Common.{◌≡◌, ℕ, ◌+◌, ◌<◌, ◌≤◌, Bool, true, false, cond, not, Option, None, Some, List, [], ◌∷◌, ◌++◌, length, map, take, drop, get_or, refl, sym, ap, subst, ◌∙◌, arith, append-nil}
-use Rattle.std.specs.declared.cmp.Ordering.{Ordering}
-use Rattle.std.specs.declared.cmp.Ordering.TheVariants.{Less, Equal, Greater}
-use Rattle.std.specs.Ordering.{ordering_then, is_eq}
+-- Labels that an index lends: those that are kept.
+use Rattle.std.proofs.Common.{◌≡◌, ℕ, ◌+◌, ◌<◌, Bool, true, false, cond, not, Option, None, Some, List, [], ◌∷◌, ◌++◌, length, map, take, get_or, refl, sym, ap, subst, ◌∙◌, arith, append-nil}
 use Rattle.std.specs.List.{items_where_true}
 use Rattle.std.specs.List.Retain.{ReturnsInTurn, IsFiltered}
-use Rattle.std.proofs.lemmas.Bool.{true≢false}
-use Rattle.std.proofs.lemmas.List.{map-append, take_more, drop_more, drop_all}
-use Rattle.list_core.proofs.Lists.{take_none, drop_none}
+use Rattle.std.proofs.lemmas.List.{map-append, take_more, length-map}
+use Rattle.list_core.proofs.Lists.{take_none}
 use Rattle.label_sets.specs.declared.label.Label.{Label}
-use Rattle.label_sets.specs.Labels.{compare_labels, compare_sets, value_of}
+use Rattle.label_sets.specs.Labels.{value_of}
 use Rattle.label_sets.specs.Finals.{is_among, reduced_of}
 use Rattle.label_sets.proofs.FinalLabels.{reduced-nil, reduced-append, reduced_external, reduced_own}
 use Rattle.index_v2.specs.declared.lent_label.LentLabel.{LentLabel}
 use Rattle.index_v2.specs.LentLabels.{as_label}
+use Rattle.index_v2.proofs.LentOrder.{at_mapped}
 
 -- ---- labels that are kept
 
@@ -43,6 +40,17 @@ pub label_left_out : (labels : List Label) (kept now : List LentLabel) (k : ℕ)
 label_left_out labels kept now k label d lent external replicas lt at was same one still =
     part_more labels kept now [] k label d external replicas lt at was (ap (λ (l : Label). reduced_of (l ∷ []) external replicas) (sym same) ∙ one) (still ∙ sym (append-nil kept))
 
+-- the same of labels that are lent already
+pub lent_kept : (labels kept now : List LentLabel) (k : ℕ) (x d : LentLabel) (external : List Label) (replicas : List (List ℕ)) → k < length labels → x ≡ get_or labels k d → map as_label kept ≡ reduced_of (take k (map as_label labels)) external replicas
+    → reduced_of (as_label x ∷ []) external replicas ≡ as_label x ∷ [] → now ≡ kept ++ x ∷ [] → map as_label now ≡ reduced_of (take (k + 1) (map as_label labels)) external replicas
+lent_kept labels kept now k x d external replicas lt at was one added =
+    label_kept (map as_label labels) kept now k (as_label x) (as_label x) x external replicas (omega (arith, lt, length-map labels as_label)) (at_mapped labels k x d (as_label x) lt at) was refl one added
+
+pub lent_left_out : (labels kept now : List LentLabel) (k : ℕ) (x d : LentLabel) (external : List Label) (replicas : List (List ℕ)) → k < length labels → x ≡ get_or labels k d → map as_label kept ≡ reduced_of (take k (map as_label labels)) external replicas
+    → reduced_of (as_label x ∷ []) external replicas ≡ [] → now ≡ kept → map as_label now ≡ reduced_of (take (k + 1) (map as_label labels)) external replicas
+lent_left_out labels kept now k x d external replicas lt at was one still =
+    label_left_out (map as_label labels) kept now k (as_label x) (as_label x) x external replicas (omega (arith, lt, length-map labels as_label)) (at_mapped labels k x d (as_label x) lt at) was refl one still
+
 -- lent labels of which a closure keeps those that the reduction keeps
 module _ {F : Type 0} (R : F → LentLabel → Bool → F → Type 0) (f : F) (external : List Label) (replicas : List (List ℕ)) (told : (label : LentLabel) (b : Bool) (f' : F) → R f label b f' → (reduced_of (as_label label ∷ []) external replicas ≡ cond b (as_label label ∷ []) []) × (f' ≡ f)) where
   first_kept : (label : LentLabel) (labels kept : List LentLabel) (b : Bool) → reduced_of (as_label label ∷ []) external replicas ≡ cond b (as_label label ∷ []) [] → map as_label kept ≡ reduced_of (map as_label labels) external replicas
@@ -63,65 +71,3 @@ module _ {F : Type 0} (R : F → LentLabel → Bool → F → Type 0) (f : F) (e
 
   pub retained : (labels kept : List LentLabel) → IsFiltered R f labels kept → map as_label kept ≡ reduced_of (map as_label labels) external replicas
   retained labels kept h = ap (map as_label) h.4 ∙ kept_in_turn h.0 labels f h.1 refl h.2 h.3
-
--- ---- their order
-
-abbrev compared : List LentLabel → List LentLabel → Ordering
-compared one other = compare_sets (map as_label one) (map as_label other)
-
--- so many of the first labels are the same
-pub record SameSoFar (one other : List LentLabel) (place : ℕ) : Type 0 where
-  pub short : place ≤ length one
-  pub within : place ≤ length other
-  pub rest : compared one other ≡ compared (drop place one) (drop place other)
-
-pub same_none : (one other : List LentLabel) → SameSoFar one other 0
-same_none one other = record { short = omega arith; within = omega arith; rest = sym (ap (λ (l : List LentLabel). compared l (drop 0 other)) (drop_none one) ∙ ap (compared one) (drop_none other)) }
-
-next_pair : (one other : List LentLabel) (place : ℕ) (d e : LentLabel) → place < length one → place < length other → SameSoFar one other place
-    → compared one other ≡ ordering_then (compare_labels (as_label (get_or one place d)) (as_label (get_or other place e))) (compared (drop (place + 1) one) (drop (place + 1) other))
-next_pair one other place d e lt less h = h.rest ∙ ap (λ (l : List LentLabel). compared l (drop place other)) (drop_more one place d lt) ∙ ap (compared (get_or one place d ∷ drop (place + 1) one)) (drop_more other place e less)
-
-is_equal : (o : Ordering) → is_eq o ≡ true → o ≡ Equal
-is_equal Equal t = refl
-is_equal Less t = absurd (true≢false (sym t))
-is_equal Greater t = absurd (true≢false (sym t))
-
-pub same_more : (one other : List LentLabel) (place : ℕ) (x y d e : LentLabel) (o : Ordering) → place < length one → place < length other → x ≡ get_or one place d → y ≡ get_or other place e → SameSoFar one other place → o ≡ compare_labels (as_label x) (as_label y) → is_eq o ≡ true → SameSoFar one other (place + 1)
-same_more one other place x y d e o lt less at there h is equal = record {
-  short = omega (arith, lt);
-  within = omega (arith, less);
-  rest = next_pair one other place d e lt less h
-      ∙ ap (λ (r : Ordering). ordering_then r (compared (drop (place + 1) one) (drop (place + 1) other)))
-      (ap (λ (l : LentLabel). compare_labels (as_label l) (as_label (get_or other place e))) (sym at) ∙ ap (λ (l : LentLabel). compare_labels (as_label x) (as_label l)) (sym there) ∙ sym is ∙ is_equal o equal);
-}
-
-told_by_first : (o r : Ordering) → is_eq o ≡ false → ordering_then o r ≡ o
-told_by_first Less r apart = refl
-told_by_first Equal r apart = absurd (true≢false apart)
-told_by_first Greater r apart = refl
-
-pub differ_here : (one other : List LentLabel) (place : ℕ) (x y d e : LentLabel) (o : Ordering) → place < length one → place < length other → x ≡ get_or one place d → y ≡ get_or other place e → SameSoFar one other place → o ≡ compare_labels (as_label x) (as_label y) → is_eq o ≡ false → o ≡ compared one other
-differ_here one other place x y d e o lt less at there h is apart =
-    sym (next_pair one other place d e lt less h
-    ∙ ap (λ (r : Ordering). ordering_then r (compared (drop (place + 1) one) (drop (place + 1) other)))
-    (ap (λ (l : LentLabel). compare_labels (as_label l) (as_label (get_or other place e))) (sym at) ∙ ap (λ (l : LentLabel). compare_labels (as_label x) (as_label l)) (sym there) ∙ sym is)
-    ∙ told_by_first o (compared (drop (place + 1) one) (drop (place + 1) other)) apart)
-
-some_and_none : (one : List LentLabel) (place : ℕ) (d : LentLabel) → place < length one → compared (drop place one) [] ≡ Greater
-some_and_none one place d lt = ap (λ (l : List LentLabel). compared l []) (drop_more one place d lt)
-
-some_label : (labels : List LentLabel) → 0 < length labels → LentLabel
-some_label [] lt = absurd (omega (arith, lt))
-some_label (l ∷ ls) lt = l
-
-pub ends_first : (one other : List LentLabel) (place : ℕ) → place < length one → length other ≤ place → SameSoFar one other place → Greater ≡ compared one other
-ends_first one other place lt all h = sym (h.rest ∙ ap (compared (drop place one)) (drop_all place other all) ∙ some_and_none one place (some_label one (omega (arith, lt))) lt)
-
--- so many of the first labels are all of the one
-pub is_front : (one other : List LentLabel) (place : ℕ) → length one ≤ place → length one < length other → SameSoFar one other place → Less ≡ compared one other
-is_front one other place all longer h =
-    sym (h.rest ∙ ap (λ (l : List LentLabel). compared l (drop place other)) (drop_all place one all) ∙ ap (compared []) (drop_more other place (some_label other (omega (arith, longer))) (omega (arith, h.short, longer))))
-
-pub are_equal : (one other : List LentLabel) (place : ℕ) → length one ≤ place → length other ≤ length one → SameSoFar one other place → Equal ≡ compared one other
-are_equal one other place all shorter h = sym (h.rest ∙ ap (λ (l : List LentLabel). compared l (drop place other)) (drop_all place one all) ∙ ap (compared []) (drop_all place other (omega (arith, all, shorter))))

@@ -157,7 +157,7 @@ fn put_group(
     if chunks.is_empty() {
         return Ok(());
     }
-    merge_series(alloc, writer, &set_of(alloc, labels)?, chunks)
+    merge_series(alloc, writer, set_of(alloc, labels)?, chunks)
 }
 
 /// Ends a writer.

@@ -8,9 +8,8 @@ ghost use Rattle.block_merging.specs.Steps.{joined};
 ghost use Rattle.block_merging.specs.Queues.{IsQueue, have_lesser_labels, lesser, lefts_in, LeastIs, TakesGroup};
 
 use crate::InputChunk;
-use crate::lent_labels::compare;
 use crate::series_queue::{SeriesQueue, next_labels, take_front};
-use index_v2::LentLabel;
+use index_v2::{LentLabel, compare_lent};
 use label_sets::{LabelSet, TextList};
 use list_core::NoMemory;
 use std::alloc::Global;
@@ -25,7 +24,7 @@ fn lesser<'q, 'a>(
         (option_map (λ l. map as_label l.now) other.entry) }
 {
     match (one, other) {
-        (Some(first), Some(second)) if compare(second, first).is_lt() => other,
+        (Some(first), Some(second)) if compare_lent(second, first).is_lt() => other,
         (Some(_), _) => one,
         (None, _) => other,
     }

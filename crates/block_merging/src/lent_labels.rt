@@ -1,14 +1,13 @@
 //! Reduced labels whose texts a block's index lends.
 ghost use Rattle.std.specs.Prelude.{◌≡◌, ◌∷◌, [], if◌then◌else◌, map, IfOk};
-ghost use Rattle.label_sets.specs.Labels.{compare_labels, compare_sets, IsLabelSet};
+ghost use Rattle.label_sets.specs.Labels.{IsLabelSet};
 ghost use Rattle.label_sets.specs.Finals.{is_among, reduced_of};
 ghost use Rattle.index_v2.specs.LentLabels.{as_label};
 
 use index_v2::LentLabel;
-use label_sets::{Label, LabelSet, Text, TextList};
+use label_sets::{LabelSet, Text, TextList};
 use list_core::NoMemory;
 use std::alloc::Global;
-use std::cmp::Ordering;
 
 #[tactic(auto, unfolding(label_sets::specs::Finals::is_among))]
 fn is_among(names: &[Text], name: &str) -> bool
@@ -28,30 +27,20 @@ fn is_kept(label: &LentLabel<'_>, external: &LabelSet, replicas: &TextList) -> b
     }
 }
 
-fn lent(label: &Label) -> LentLabel<'_>
-    ensures { as_label result ≡ label.now }
-{
-    LentLabel {
-        name: label.name.as_str(),
-        value: label.value.as_str(),
-    }
-}
-
-/// The reduced labels of a series with these labels, which lend their texts.
+/// The reduced labels of a series with these labels.
 pub(crate) fn reduced_lent<'a>(
     alloc: Global,
-    labels: &'a [Label],
+    labels: &[LentLabel<'a>],
     external: &LabelSet,
     replicas: &TextList,
 ) -> Result<Vec<LentLabel<'a>>, NoMemory>
     ensures { IfOk result (λ kept. map as_label kept.items
-        ≡ reduced_of labels.now external.now replicas.now) }
+        ≡ reduced_of (map as_label labels.now) external.now replicas.now) }
 {
     let mut kept = Vec::with_capacity(alloc, labels.len())?;
     for label in labels {
-        let label = lent(label);
-        if is_kept(&label, external, replicas) {
-            kept.push(label)?;
+        if is_kept(label, external, replicas) {
+            kept.push(*label)?;
         }
     }
     Ok(kept)
@@ -69,32 +58,6 @@ pub(crate) fn kept_lent<'a>(
     let mut kept = labels;
     kept.retain(|label| is_kept(label, external, replicas));
     kept
-}
-
-fn compare_one(one: &LentLabel<'_>, other: &LentLabel<'_>) -> Ordering
-    ensures { result ≡ compare_labels (as_label one.now) (as_label other.now) }
-{
-    one.name.cmp(other.name).then(one.value.cmp(other.value))
-}
-
-/// The order of label sets, as that of `LabelSet`.
-pub(crate) fn compare(one: &[LentLabel<'_>], other: &[LentLabel<'_>]) -> Ordering
-    ensures { result ≡ compare_sets (map as_label one.now) (map as_label other.now) }
-{
-    for (place, label) in one.iter().enumerate() {
-        if place >= other.len() {
-            return Ordering::Greater;
-        }
-        let order = compare_one(label, &other[place]);
-        if !order.is_eq() {
-            return order;
-        }
-    }
-    if one.len() < other.len() {
-        Ordering::Less
-    } else {
-        Ordering::Equal
-    }
 }
 
 /// The label set of these labels.

@@ -29,22 +29,22 @@ use xor_chunks::{append_stored, encode};
 const PART: usize = 120;
 
 /// Puts the merge of the chunks of one series, and ends it. The chunks stand in the order of their blocks, of which an earlier
-/// one wins at a time that both have.
+/// one wins at a time that both have. The writer keeps the labels.
 pub fn merge_series(
     alloc: Global,
     writer: &mut BlockWriter,
-    labels: &LabelSet,
+    labels: LabelSet,
     chunks: &[InputChunk<'_>],
 ) -> Result<(), NoMemory>
     requires some { chunks.now ≢ [] }
     requires stored { AllByRecursion (IsStored writer.old.plan) (map chunk_of chunks.now) }
     requires times { AreLawfulTimes writer.old.plan.min_time writer.old.plan.max_time }
     requires nothing_left { writer.old.chunks ≡ [] }
-    requires greater { IsAfterSeries writer.old.series labels.now }
+    requires greater { IsAfterSeries writer.old.series labels }
     requires counted { writer.old.samples < 2 ^ 64 }
-    ensures { OnOk result (HasMerged writer.old labels.now (map chunk_of chunks.now) writer.new) }
+    ensures { OnOk result (HasMerged writer.old labels (map chunk_of chunks.now) writer.new) }
 {
-    put_runs(alloc, writer, labels, chunks)?;
+    put_runs(alloc, writer, &labels, chunks)?;
     writer.series(labels)
 }
 

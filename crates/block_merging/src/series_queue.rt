@@ -11,11 +11,11 @@ ghost use Rattle.block_merging.specs.Queues.{IsRead, IsNext, IsQueue, HasAdvance
 
 use crate::InputChunk;
 use crate::lent_chunks::add_chunks;
-use crate::lent_labels::{compare, kept_lent};
+use crate::lent_labels::kept_lent;
 use crate::listing::SeriesPlace;
 use block_files::BlockFiles;
 use index_parts::ChunkPlace;
-use index_v2::{IndexReader, LentLabel, LentSeries};
+use index_v2::{IndexReader, LentLabel, LentSeries, compare_lent};
 use label_sets::{LabelSet, TextList};
 use list_core::NoMemory;
 use std::alloc::Global;
@@ -26,7 +26,7 @@ use std::mem::replace;
 pub(crate) struct SeriesQueue<'a> {
     pub(crate) block: &'a BlockFiles,
     pub(crate) reader: IndexReader<'a>,
-    pub(crate) places: Vec<SeriesPlace>,
+    pub(crate) places: Vec<SeriesPlace<'a>>,
     /// How many were taken.
     pub(crate) taken: usize,
     /// Where the chunks of the next one stand, and its reduced labels.
@@ -56,7 +56,7 @@ pub(crate) fn next_of<'a>(
     external: &LabelSet,
     replicas: &TextList,
     reader: &IndexReader<'a>,
-    places: &[SeriesPlace],
+    places: &[SeriesPlace<'_>],
     taken: usize,
     old_chunks: Vec<ChunkPlace>,
     old_labels: Vec<LentLabel<'a>>,
@@ -120,7 +120,7 @@ pub(crate) fn next_labels<'q, 'a>(queue: &'q SeriesQueue<'a>) -> Option<&'q [Len
 fn has_next(queue: &SeriesQueue<'_>, labels: &[LentLabel<'_>]) -> bool
     ensures { head_is queue.now (map as_label labels.now) result }
 {
-    queue.taken < queue.places.len() && compare(queue.labels.as_slice(), labels).is_eq()
+    queue.taken < queue.places.len() && compare_lent(queue.labels.as_slice(), labels).is_eq()
 }
 
 /// Takes the series that have these labels from the front, and adds their chunks behind others.

@@ -5,6 +5,7 @@ pub mod ValuesListed
 pub mod WholeLoops
 pub mod Spending
 pub mod Differences
+pub mod LentOrder
 pub mod ListNumbers
 pub mod OpeningLaws
 pub mod LabelLaws

@@ -6,7 +6,7 @@ ghost use Rattle.wire_bytes.specs.Fields.{number_at};
 ghost use Rattle.index_parts.specs.Placed.{at_place};
 ghost use Rattle.index_slices.specs.Parts.{part_of};
 
-use crate::{IndexSeries, LentLabel};
+use crate::{LentLabel, LentSeries};
 use index_slices::IndexPart;
 use list_core::NoMemory;
 use wire_bytes::Cursor;
@@ -63,14 +63,10 @@ pub(crate) fn lent_text_bytes(labels: &[LentLabel<'_>]) -> Result<usize, NoMemor
 }
 
 /// How many bytes the texts of a series' labels take.
-pub(crate) fn text_bytes(series: &IndexSeries) -> Result<usize, NoMemory>
+pub(crate) fn text_bytes(series: &LentSeries<'_>) -> Result<usize, NoMemory>
     ensures { IfOk result (λ n. n ≡ text_bytes series.now) }
 {
-    let mut bytes = 0;
-    for label in series.labels.labels() {
-        bytes = with_texts(bytes, label.name.as_str(), label.value.as_str())?;
-    }
-    Ok(bytes)
+    lent_text_bytes(series.labels())
 }
 
 /// What is left of a budget behind this much.
@@ -84,10 +80,10 @@ pub(crate) fn spend(left: usize, much: usize) -> Result<usize, NoMemory>
 }
 
 /// The labels and chunks of a series.
-pub(crate) fn members_of(series: &IndexSeries) -> usize
+pub(crate) fn members_of(series: &LentSeries<'_>) -> usize
     ensures { result ≡ members_of series.now }
 {
-    series.labels.labels().len() + series.chunks.members().len()
+    series.labels().len() + series.chunks().len()
 }
 
 /// How many bytes the series of a number is said to take.

@@ -1,12 +1,12 @@
-ghost use Rattle.std.specs.Prelude.{◌≡◌, ◌==◌, ◌^◌, ◌<◌, ◌≤◌, All, length, zip, None, Some, IfSome, if◌then◌else◌};
+ghost use Rattle.std.specs.Prelude.{◌≡◌, ◌==◌, ◌^◌, ◌<◌, ◌≤◌, All, length, map, zip, None, Some, IfSome, if◌then◌else◌};
 ghost use Rattle.std.specs.List.{list_any, list_all};
+ghost use Rattle.index_v2.specs.LentLabels.{as_label};
 ghost use Rattle.index_v2.specs.WholeReading.{belongs, is_of_row, stray_from, gap_from, gap_of, gap_among, earlier, difference};
 ghost use Rattle.std.specs.List.Sorted.{IsStrictlyIncreasing};
 
-use crate::IndexSeries;
 use crate::nearby::{Spot, Walk, place_near};
 use crate::rows::Rows;
-use label_sets::Label;
+use crate::{LentLabel, LentSeries};
 use wire_bytes::NumberList;
 
 /// The lesser of two places, if there is one.
@@ -22,13 +22,13 @@ fn earlier(one: Option<usize>, other: Option<usize>) -> Option<usize>
 
 /// Whether a series stands in the row of a name and a value.
 #[tactic(auto, unfolding(crate::specs::WholeReading::belongs))]
-fn belongs(name: &str, value: &str, series: &IndexSeries) -> bool
+fn belongs(name: &str, value: &str, series: &LentSeries<'_>) -> bool
     ensures { result ≡ belongs name.now value.now series.now }
 {
     if name.is_empty() && value.is_empty() {
         return true;
     }
-    match series.labels.value(name) {
+    match series.value(name) {
         None => false,
         Some(found) => found == value,
     }
@@ -37,7 +37,7 @@ fn belongs(name: &str, value: &str, series: &IndexSeries) -> bool
 /// Whether this is the number of a listed series that stands in the row, and where that series stands.
 fn is_of_row(
     numbers: &[u64],
-    series: &[IndexSeries],
+    series: &[LentSeries<'_>],
     row: (&str, &str, u64),
     number: u64,
     guess: usize,
@@ -57,7 +57,7 @@ fn is_of_row(
 /// Whether all numbers of a list are of series that stand in the row, and where the list of the next row probably begins.
 fn are_of_row(
     numbers: &[u64],
-    series: &[IndexSeries],
+    series: &[LentSeries<'_>],
     row: (&str, &str, u64),
     list: &[u64],
     guess: usize,
@@ -96,7 +96,7 @@ pub(crate) fn first_stray(
     rows: &Rows<'_>,
     lists: &[NumberList],
     numbers: &[u64],
-    series: &[IndexSeries],
+    series: &[LentSeries<'_>],
 ) -> Option<usize>
     requires rise { IsStrictlyIncreasing numbers.now }
     requires as_many { length numbers.now ≡ length series.now }
@@ -131,14 +131,14 @@ fn gap_at(
     rows: &Rows<'_>,
     lists: &[NumberList],
     number: u64,
-    label: &Label,
+    label: &LentLabel<'_>,
     near: Spot,
 ) -> (Option<usize>, Spot)
     requires rise { All IsStrictlyIncreasing lists.now }
     requires one_each { length rows.now ≡ length lists.now }
-    ensures { result.0 ≡ gap_from 0 rows.now lists.now number label.now }
+    ensures { result.0 ≡ gap_from 0 rows.now lists.now number (as_label label.now) }
 {
-    match rows.place_near(label.name.as_str(), label.value.as_str(), near.row) {
+    match rows.place_near(label.name, label.value, near.row) {
         Ok(row) => {
             let (has, place) = has_number(lists[row].members(), number, near.guess(row));
             (unless_has(has, row), Spot { row, place })
@@ -153,12 +153,12 @@ fn gap_of(
     rows: &Rows<'_>,
     lists: &[NumberList],
     number: u64,
-    labels: &[Label],
+    labels: &[LentLabel<'_>],
     mut near: [Spot; 32],
 ) -> (Option<usize>, [Spot; 32])
     requires rise { All IsStrictlyIncreasing lists.now }
     requires one_each { length rows.now ≡ length lists.now }
-    ensures { result.0 ≡ gap_of rows.now lists.now number labels.now }
+    ensures { result.0 ≡ gap_of rows.now lists.now number (map as_label labels.now) }
 {
     let mut least = None;
     let mut slot = 0usize;
@@ -176,7 +176,7 @@ pub(crate) fn first_gap(
     rows: &Rows<'_>,
     lists: &[NumberList],
     numbers: &[u64],
-    series: &[IndexSeries],
+    series: &[LentSeries<'_>],
 ) -> Option<usize>
     requires rise { All IsStrictlyIncreasing lists.now }
     requires as_many { length numbers.now ≡ length series.now }
@@ -186,7 +186,7 @@ pub(crate) fn first_gap(
     let mut least = None;
     let mut near = [Spot { row: 0, place: 0 }; 32];
     for place in 0..numbers.len() {
-        let labels = series[place].labels.labels();
+        let labels = series[place].labels();
         let (gap, found) = gap_of(rows, lists, numbers[place], labels, near);
         near = found;
         least = earlier(least, gap);
@@ -199,7 +199,7 @@ pub(crate) fn difference(
     rows: &Rows<'_>,
     lists: &[NumberList],
     numbers: &[u64],
-    series: &[IndexSeries],
+    series: &[LentSeries<'_>],
 ) -> Option<usize>
     requires rises { IsStrictlyIncreasing numbers.now }
     requires rise { All IsStrictlyIncreasing lists.now }

@@ -25,11 +25,12 @@ use crate::opening::contents_of;
 use crate::postings::{list_at, list_of, values_of};
 use crate::rows::Rows;
 use crate::symbols::Symbols;
-use crate::whole::whole;
+use crate::whole::{whole, whole_lent};
 use crate::{IndexParts, IndexRefusal, IndexSeries, IndexSeriesList, LentSeries};
 use index_parts::Toc;
 use index_slices::IndexPart;
 use label_sets::TextList;
+use list_core::List;
 use std::alloc::Global;
 use std::marker::Model;
 use wire_bytes::NumberList;
@@ -558,6 +559,55 @@ impl<'a> IndexReader<'a> {
             × All (λ series. 2 * length series.labels + 3 * length series.chunks ≤ length self.now.bytes) list) }
     {
         whole(
+            alloc,
+            self.bytes,
+            &self.toc,
+            &self.symbols,
+            &self.rows,
+            self.lists,
+        )
+    }
+
+    /// Reads every series as `whole` does, with the same tests and the same bounds. The index lends the texts of their labels.
+    pub fn whole_lent(&self, alloc: Global) -> Result<List<LentSeries<'a>>, IndexRefusal>
+        // A whole file is read exactly where its bytes are an index of the list.
+        ensures found { IsWhole self.now → IfOk result (λ list. IsIndex self.now.bytes list) }
+        ensures only { (list : List IndexSeries) → IsIndex self.now.bytes list
+            → IsOkAnd result (λ found. found ≡ list) ⊎ (result ≡ Err IndexRefusal.NoMemory) }
+
+        // The lists are said to differ at a place exactly where the series that the first row lists and the lists of all rows
+        // stand, and it is the first place of the table at which the lists are not exactly those of the series. Only memory may
+        // run out first.
+        ensures differs { IsWhole self.now → (place : ℕ)
+            → result ≡ Err (IndexRefusal.PostingsDiffer place)
+            → DifferFirstAt (opened_of self.now) place }
+        ensures differing { IsWhole self.now → (place : ℕ)
+            → DifferFirstAt (opened_of self.now) place
+            → (result ≡ Err (IndexRefusal.PostingsDiffer place))
+            ⊎ (result ≡ Err IndexRefusal.NoMemory) }
+
+        // The first refusal.
+        ensures exact { Gives IndexRefusal.NoMemory (λ list. list) result (whole_at self.now) }
+
+        // Where parts are there, the first listed series is not; and where no series would be read it is as of the whole index.
+        ensures absent { (number : ℕ) (numbers : List ℕ) → self.now.bytes ≡ []
+            → postings_of self.now [] [] ≡ Ok (number ∷ numbers)
+            → present_at self.now.toc (number ∷ numbers) ≡ Ok tt
+            → (result ≡ Err (IndexRefusal.BadSeries number (Short (16 * number))))
+            ⊎ (result ≡ Err IndexRefusal.NoMemory) }
+        ensures same { (opened : Opened) → IsHeldOf self.now opened
+            → ((row : PostingsRow) → Contains self.now.rows row
+            → HoldsSection self.now.lists row.offset)
+            → ((number : ℕ) (numbers : List ℕ)
+            → postings_of self.now [] [] ≡ Ok (number ∷ numbers)
+            → present_at self.now.toc (number ∷ numbers) ≡ Ok tt → ⊥)
+            → Gives IndexRefusal.NoMemory (λ list. list) result (whole_at (whole_file opened)) }
+        ensures bounded { IfOk result (λ list. sum_by members_of list ≤ 8 * length self.now.bytes) }
+        ensures texts { IfOk result (λ list. sum_by text_bytes list ≤ 64 * length self.now.bytes) }
+        ensures few { IsWhole self.now → IfOk result (λ list. (4 * length list ≤ length self.now.bytes)
+            × All (λ series. 2 * length series.labels + 3 * length series.chunks ≤ length self.now.bytes) list) }
+    {
+        whole_lent(
             alloc,
             self.bytes,
             &self.toc,

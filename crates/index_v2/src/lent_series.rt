@@ -1,9 +1,11 @@
 ghost use Rattle.std.specs.Prelude.{◌≡◌, [], map, Ok, Err, IfOk, MatchResult};
 ghost use Rattle.reading_core.specs.Reading.{Gives};
-ghost use Rattle.label_sets.specs.Labels.{IsLabelSet};
+ghost use Rattle.std.specs.Option.{option_copied};
+ghost use Rattle.label_sets.specs.Labels.{IsLabelSet, compare_sets, value_of};
 ghost use Rattle.index_v2.specs.LentLabels.{as_label};
 ghost use Rattle.index_v2.specs.SeriesLabels.{labelled_at};
 
+use crate::lent_order::{compare_lent, value_in};
 use crate::series_labels::{fault_at, texts_of};
 use crate::symbols::Symbols;
 use crate::{IndexSeries, LentLabel};
@@ -11,6 +13,7 @@ use index_parts::{ChunkList, ChunkPlace, PartRefusal, before_labels, chunks_behi
 use label_sets::LabelSet;
 use list_core::{NoMemory, TryCopy};
 use std::alloc::Global;
+use std::cmp::Ordering;
 use std::marker::Model;
 
 /// A series whose labels' texts the index lends. Handed back to the reader it is room for another one: the memory of its
@@ -73,6 +76,20 @@ impl<'a> LentSeries<'a> {
         ensures lawful { IsLabelSet self.now.labels }
     {
         self.labels.as_slice()
+    }
+
+    /// The value under a name.
+    pub fn value(&self, name: &str) -> Option<&'a str>
+        ensures { option_copied result ≡ value_of self.now.labels name.now }
+    {
+        value_in(self.labels(), name)
+    }
+
+    /// The order of series by their label sets.
+    pub fn compare(&self, other: &LentSeries<'_>) -> Ordering
+        ensures { result ≡ compare_sets self.now.labels other.now.labels }
+    {
+        compare_lent(self.labels(), other.labels())
     }
 
     /// Where the chunks stand.

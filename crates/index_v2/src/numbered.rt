@@ -55,7 +55,7 @@ pub(crate) fn lent_series_of<'a>(
 }
 
 /// Reads the series at a place of the index, and copies its texts, where these are within their budget.
-pub(crate) fn series_at(
+fn series_at(
     alloc: Global,
     index: &[u8],
     symbols: &Symbols<'_>,

@@ -9,15 +9,14 @@ use crate::budget::{
     budget_of, list_bytes, members_of, series_bytes, spend, text_budget_of, text_bytes,
 };
 use crate::difference::difference;
-use crate::numbered::series_at;
 use crate::opening::refused_of;
 use crate::postings::{POSTINGS, list_at, list_of};
 use crate::rows::Rows;
 use crate::symbols::{SYMBOLS, Symbols};
-use crate::{IndexRefusal, IndexSeries, IndexSeriesList};
+use crate::{IndexRefusal, IndexSeriesList, LentSeries};
 use index_parts::{PartRefusal, Toc};
 use index_slices::IndexPart;
-use list_core::List;
+use list_core::{List, NoMemory};
 use std::alloc::Global;
 use std::cmp::Ordering;
 use wire_bytes::NumberList;
@@ -46,36 +45,30 @@ fn absent(section: u8) -> IndexRefusal
 }
 
 /// Whether a series may stand behind the last of those before it.
-fn may_stand_behind(before: &[IndexSeries], series: &IndexSeries) -> bool
+fn may_stand_behind(before: &[LentSeries<'_>], series: &LentSeries<'_>) -> bool
     ensures { result ≡ may_stand_behind (slice_get before.now (length before.now - 1)) series.now }
 {
     match before.last() {
         None => true,
-        Some(last) => last.labels.compare(&series.labels) == Ordering::Less,
+        Some(last) => last.compare(series) == Ordering::Less,
     }
 }
 
 /// Reads the series of a number that stands behind others.
 #[tactic(auto, unfolding(crate::specs::WholeReading::behind_at))]
-fn series_behind(
+fn series_behind<'a>(
     alloc: Global,
     index: &[u8],
-    symbols: &Symbols<'_>,
-    before: &[IndexSeries],
+    symbols: &Symbols<'a>,
+    before: &[LentSeries<'a>],
     number: u64,
-) -> Result<IndexSeries, IndexRefusal>
+) -> Result<LentSeries<'a>, IndexRefusal>
     requires { number < 2 ^ 32 }
     ensures { Gives IndexRefusal.NoMemory
         (λ series. series) result
         (behind_at index.now symbols.now (slice_get before.now (length before.now - 1)) number) }
 {
-    match series_at(
-        alloc,
-        index,
-        symbols,
-        16 * number,
-        text_budget_of(index.len()),
-    ) {
+    match LentSeries::read(index, symbols, 16 * number, LentSeries::new(alloc)) {
         Ok(series) if may_stand_behind(before, &series) => Ok(series),
         Ok(_) => Err(IndexRefusal::BadSeries(number as u32, PartRefusal::Unordered(16 * number))),
         Err(refusal) => Err(refused_of(number as u32, refusal)),
@@ -84,12 +77,12 @@ fn series_behind(
 
 /// Reads the series of these numbers, which ascend by their labels. Their bytes, labels and chunks are within the
 /// budget, and their texts within theirs.
-pub(crate) fn all_series(
+pub(crate) fn all_series<'a>(
     alloc: Global,
     index: &[u8],
-    symbols: &Symbols<'_>,
+    symbols: &Symbols<'a>,
     numbers: &[u64],
-) -> Result<Vec<IndexSeries>, IndexRefusal>
+) -> Result<Vec<LentSeries<'a>>, IndexRefusal>
     requires { All (λ n. n < 2 ^ 32) numbers.now }
     ensures as_many { IfOk result (λ series. length series.items ≡ length numbers.now) }
     ensures bounded { IfOk result
@@ -142,8 +135,54 @@ pub(crate) fn all_lists(
     Ok(lists)
 }
 
-/// Reads every series, and tests that the postings lists are exactly those of the series.
+/// Reads every series, and tests that the postings lists are exactly those of the series. The index lends the texts.
 #[tactic(auto, unfolding(crate::specs::WholeReading::whole_at))]
+pub(crate) fn whole_lent<'a>(
+    alloc: Global,
+    index: &[u8],
+    toc: &Toc,
+    symbols: &Symbols<'a>,
+    rows: &Rows<'_>,
+    part: IndexPart<'_>,
+) -> Result<List<LentSeries<'a>>, IndexRefusal>
+    requires { part.begin + length part.bytes.now < 2 ^ 64 }
+    ensures bounded { IfOk result (λ list. sum_by members_of list ≤ 8 * length index.now) }
+    ensures texts { IfOk result (λ list. sum_by text_bytes list ≤ 64 * length index.now) }
+    ensures exact { (symbols_size rows_size : ℕ) → Gives IndexRefusal.NoMemory
+        (λ list. list) result
+        (whole_at (record {
+          bytes = index.now;
+          toc = toc.now;
+          symbols = symbols.now;
+          rows = rows.now;
+          lists = part_of part.entry;
+          symbols_size = symbols_size;
+          rows_size = rows_size;
+        })) }
+{
+    let numbers = list_of(alloc, part, rows, "", "")?;
+    test_present(toc, numbers.members())?;
+    let series = all_series(alloc, index, symbols, numbers.members())?;
+    let lists = all_lists(alloc, part, rows)?;
+    match difference(rows, lists.as_slice(), numbers.members(), series.as_slice()) {
+        None => Ok(List::from_vec(series)),
+        Some(place) => Err(IndexRefusal::PostingsDiffer(place as u32)),
+    }
+}
+
+/// Copies of series, which lend nothing.
+fn copies_of(alloc: Global, series: &[LentSeries<'_>]) -> Result<IndexSeriesList, NoMemory>
+    ensures { IfOk result (λ copies. copies ≡ series.now) }
+{
+    let mut copies = Vec::with_capacity(alloc, series.len())?;
+    for one in series {
+        let copy = one.to_series(alloc)?;
+        copies.push(copy)?;
+    }
+    Ok(List::from_vec(copies))
+}
+
+/// Reads every series as `whole_lent` does, and copies them.
 pub(crate) fn whole(
     alloc: Global,
     index: &[u8],
@@ -167,12 +206,8 @@ pub(crate) fn whole(
           rows_size = rows_size;
         })) }
 {
-    let numbers = list_of(alloc, part, rows, "", "")?;
-    test_present(toc, numbers.members())?;
-    let series = all_series(alloc, index, symbols, numbers.members())?;
-    let lists = all_lists(alloc, part, rows)?;
-    match difference(rows, lists.as_slice(), numbers.members(), series.as_slice()) {
-        None => Ok(List::from_vec(series)),
-        Some(place) => Err(IndexRefusal::PostingsDiffer(place as u32)),
+    match whole_lent(alloc, index, toc, symbols, rows, part) {
+        Ok(series) => Ok(copies_of(alloc, series.members())?),
+        Err(refusal) => Err(refusal),
     }
 }

@@ -1,11 +1,10 @@
-use Rattle.std.proofs.Common.{arith, refl, sym, ap, ◌∙◌}
-use Rattle.index_file.specs.declared.index_series.IndexSeries.{IndexSeries}
+use Rattle.std.proofs.Common.{arith, refl}
 use Rattle.index_v2.proofs.Differences.{gap_step, gap_end}
 use Rattle.index_v2.proofs.difference.first_gap.Goals as goal
 
 pub loop-place-preserved : goal.loop-place-preserved
 loop-place-preserved c =
-    gap_step _ _ _ _ c.loop-place.place _ c.index-series-place.result _ _ _ _ c.loop-place.invariant c.requires.as_many c.loop-place-test.true refl c.index-series-place.is (c.labels-labels.ensures.value ∙ ap (λ (s : IndexSeries). s.labels) (sym c.index-series-place.is))
+    gap_step _ _ _ _ c.loop-place.place _ c.index-series-place.result _ _ _ _ c.loop-place.invariant c.requires.as_many c.loop-place-test.true refl c.index-series-place.is c.labels-labels.ensures.value
     c.gap_of-gap.ensures c.earlier-least.ensures
 
 pub returns : goal.returns

@@ -1,6 +1,6 @@
 use Rattle.std.proofs.Common.{arith, refl, sym, get_or, ◌∙◌}
-use Rattle.block_merging.proofs.LentOrder.{same_none, same_more, differ_here, ends_first, is_front, are_equal}
-use Rattle.block_merging.proofs.lent_labels.compare.Goals as goal
+use Rattle.index_v2.proofs.LentOrder.{same_none, same_more, differ_here, ends_first, is_front, are_equal}
+use Rattle.index_v2.proofs.lent_order.compare_lent.Goals as goal
 
 pub loop-place-init : goal.loop-place-init
 loop-place-init c = same_none c.args.one.now c.args.other.now
