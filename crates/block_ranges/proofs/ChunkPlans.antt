@@ -1,15 +1,15 @@
 -- How the plan of the reads of chunks goes on, by what was found.
-use Rattle.std.proofs.Common.{◌≡◌, Vec, Global, ℕ, suc, ◌+◌, ◌*◌, ◌<◌, ◌≤◌, ◌==◌, Bool, true, false, List, [], ◌∷◌, ◌++◌, length, map, refl, sym, ap, ap₂, subst, ◌∙◌, inr, append_assoc, append-nil, Option, Some, None, Result, Ok, Err, arith}
+use Rattle.std.proofs.Common.{◌≡◌, Vec, Global, ℕ, ◌+◌, ◌*◌, ◌<◌, ◌≤◌, true, false, List, [], ◌∷◌, ◌++◌, length, map, refl, sym, ap, subst, ◌∙◌, inr, append_assoc, append-nil, Some, Result, Ok, arith}
 use Rattle.std.specs.Prelude.{zip, IsErr}
 use Rattle.std.specs.List.{flat_map}
-use Rattle.std.proofs.lemmas.List.{map_push, length-map}
+use Rattle.std.proofs.lemmas.List.{length-map}
 use Rattle.std.specs.List.Sorted.{IsPermutation, IsNonDecreasingBy, IsStrictlyIncreasing}
 use Rattle.list_core.specs.declared.memory.NoMemory.{NoMemory}
 use Rattle.label_sets.specs.declared.sample.Sample.{Sample}
 use Rattle.label_sets.specs.declared.series.Series.{Series}
 use Rattle.label_sets.specs.Triples.{triples_of}
 use Rattle.block_keys.specs.declared.key.Key.TheVariants.{Segment}
-use Rattle.world_core.specs.Plans.{Plan, Keeps, ends, choose, finds}
+use Rattle.world_core.specs.Plans.{Plan, Keeps, ends, finds}
 use Rattle.world_core.specs.declared.op.Op.TheVariants.{GetRange}
 use Rattle.world_core.proofs.PlanLaws.{comes_kept}
 use Rattle.index_parts.specs.declared.chunk_place.ChunkPlace.{ChunkPlace}
@@ -21,39 +21,35 @@ use Rattle.block_ranges.specs.Stretches.{Stretch, members}
 use Rattle.block_ranges.specs.OneCut.{one_cut}
 use Rattle.block_ranges.specs.OneSet.{one_set}
 use Rattle.block_ranges.specs.ChunkRanges.{Group, group_of, AreGroups, IsNear, IsSetOf, offset_of}
-use Rattle.block_ranges.specs.Reads.{Query, Block, Cache, damaged, if_read}
+use Rattle.block_ranges.specs.Reads.{Query, Block, Cache, damaged}
 use Rattle.block_ranges.specs.IndexReads.{reached}
-use Rattle.block_ranges.specs.ChunkReads.{Read, read, Tests, Glimpse, shows, sticks_out, glimpse_at, tests_at, reads_out, reads_groups, reads_references, reads_chunks, have_keys}
+use Rattle.block_ranges.specs.ChunkReads.{Read, read, Tests, Glimpse, shows, sticks_out, glimpse_at, tests_at, reads_out, reads_groups, reads_references, have_keys}
 use Rattle.block_ranges.specs.BlockReads.{BlockEnd, gives, breaks_off, taken, shown}
 use Rattle.block_ranges.specs.Asking.{query_asked, block_asked}
 use Rattle.block_ranges.specs.ToRead.{group_read, AreGroupsToRead}
-use Rattle.block_ranges.specs.Glimpsed.{pending_chunk, Pends}
-use Rattle.block_ranges.specs.ChunksRead.{reads_of, references_in}
+use Rattle.block_ranges.specs.Glimpsed.{pending_chunk, shown_first}
+use Rattle.block_ranges.specs.ChunksRead.{reads_of, references_read, references_in}
 use Rattle.block_ranges.specs.BlockRuns.{Leading, IsEnd}
-use Rattle.block_ranges.specs.WorkStates.{Where, Leads, most, count_at, AreInOrder, IsGroupWork, IsSingleWork, ArePending, references_left, references_pending, shows_all, shows_groups, shows_out, later_groups, with_group, with_single, chunks_left}
+use Rattle.block_ranges.specs.WorkStates.{Where, Leads, most, AreInOrder, IsGroupWork, IsSingleWork, ArePending, references_left, references_pending, shows_all, shows_groups, shows_out, later_groups, with_group, with_single, chunks_left}
 use Rattle.block_ranges.specs.declared.asked.Asked.{Asked}
-use Rattle.block_ranges.specs.declared.block_outcome.BlockOutcome.{BlockOutcome}
 use Rattle.block_ranges.specs.declared.block_outcome.BlockOutcome.TheVariants as outcome
 use Rattle.block_ranges.specs.declared.group_read.GroupRead.{GroupRead}
 use Rattle.block_ranges.specs.declared.glimpses.Pending.{Pending}
-use Rattle.block_ranges.specs.declared.shown.ChunkRead.{ChunkRead}
+use Rattle.block_ranges.specs.declared.chunk_row.ChunkRow.{ChunkRow}
 use Rattle.block_ranges.specs.declared.work.ChunkWork.{ChunkWork}
 use Rattle.block_ranges.specs.declared.work.Work.TheVariants as work
-use Rattle.block_ranges.specs.ChunkFindings.{ShowsFirst, shown_first}
-use Rattle.block_ranges.specs.declared.chunk_steps.Shown.{Shown}
+use Rattle.block_ranges.specs.ChunkFindings.{ShowsFirst}
+use Rattle.block_ranges.specs.declared.chunk_steps.Shown.{Shown as Came}
 use Rattle.block_ranges.specs.declared.chunk_steps.Shown.TheVariants.{SticksOut, All}
 use Rattle.block_ranges.specs.declared.work.Step.{Step}
-use Rattle.block_ranges.specs.declared.work.Step.TheVariants.{Wait, Done}
-use Rattle.block_ranges.proofs.Leading.{keeps_all, keeps_on, keeps_true, keeps_false, keeps_read, keeps_refused, keeps_found, leads_as, leads_where, leads_held, breaks}
+use Rattle.block_ranges.specs.declared.work.Step.TheVariants.{Wait}
+use Rattle.block_ranges.proofs.Leading.{keeps_all, keeps_on, keeps_true, keeps_false, keeps_read, keeps_refused, keeps_found, leads_where, leads_held, breaks}
 use Rattle.block_ranges.proofs.SameTests.{same_tests}
 
 -- ---- lists
 
 abbrev firsts : List (ℕ × Glimpse) → List ℕ
 firsts chunks = map (λ (one : ℕ × Glimpse). one.0) chunks
-
-abbrev references_read : List Read → List ℕ
-references_read found = map (λ (one : Read). one.reference) found
 
 read_push : (found : List Read) (one : Read) → references_read (found ++ one ∷ []) ≡ references_read found ++ one.reference ∷ []
 read_push [] one = refl
@@ -67,10 +63,6 @@ firsts_zip (x ∷ xs) (y ∷ ys) same = ap (λ (l : List ℕ). x ∷ l) (firsts_
 firsts_pending : (pending : List Pending) → firsts (map pending_chunk pending) ≡ references_pending pending
 firsts_pending [] = refl
 firsts_pending (one ∷ pending) = ap (λ (l : List ℕ). one.reference ∷ l) (firsts_pending pending)
-
-read_as : (found : List ChunkRead) → references_read (reads_of found) ≡ references_in found
-read_as [] = refl
-read_as (one ∷ found) = ap (λ (l : List ℕ). one.reference ∷ l) (read_as found)
 
 left_as : (groups : List GroupRead) → references_left groups ≡ flat_map (λ (group : Group). group.references) (map group_read groups)
 left_as [] = refl
@@ -100,13 +92,13 @@ few_first ((reference, shows samples) ∷ chunks) found = let less = few_first c
 few_first ((reference, sticks_out len) ∷ chunks) found = omega (arith)
 
 -- the order of all chunks stays
-moved_order : (chunks : List Pending) (old new : List ChunkRead) (rest : List (ℕ × Glimpse)) → shown_first (map pending_chunk chunks) (reads_of old) ≡ (reads_of new, rest)
+moved_order : (chunks : List Pending) (old new : List ChunkRow) (rest : List (ℕ × Glimpse)) → shown_first (map pending_chunk chunks) (reads_of old) ≡ (reads_of new, rest)
     → references_in new ++ firsts rest ≡ references_in old ++ references_pending chunks
 moved_order chunks old new rest is =
-    ap (λ (l : List ℕ). l ++ firsts rest) (sym (read_as new)) ∙ sym (ap (λ (p : List Read × List (ℕ × Glimpse)). references_read p.0 ++ firsts p.1) is)
-    ∙ order_first (map pending_chunk chunks) (reads_of old) ∙ ap₂ (λ (l m : List ℕ). l ++ m) (read_as old) (firsts_pending chunks)
+    sym (ap (λ (p : List Read × List (ℕ × Glimpse)). references_read p.0 ++ firsts p.1) is)
+    ∙ order_first (map pending_chunk chunks) (reads_of old) ∙ ap (λ (l : List ℕ). references_in old ++ l) (firsts_pending chunks)
 
-still_rise : (chunks : List Pending) (old new : List ChunkRead) (rest : List (ℕ × Glimpse)) (left : List ℕ) → shown_first (map pending_chunk chunks) (reads_of old) ≡ (reads_of new, rest)
+still_rise : (chunks : List Pending) (old new : List ChunkRow) (rest : List (ℕ × Glimpse)) (left : List ℕ) → shown_first (map pending_chunk chunks) (reads_of old) ≡ (reads_of new, rest)
     → IsStrictlyIncreasing (references_in old ++ (references_pending chunks ++ left)) → IsStrictlyIncreasing (references_in new ++ (firsts rest ++ left))
 still_rise chunks old new rest left is rise =
     subst IsStrictlyIncreasing (sym (append_assoc (references_in old) (references_pending chunks) left) ∙ ap (λ (l : List ℕ). l ++ left) (sym (moved_order chunks old new rest is)) ∙ append_assoc (references_in new) (firsts rest) left) rise
@@ -120,7 +112,7 @@ fewer chunks pending old new one is =
     omega (arith, less, many, all)
 
 -- the same work with other chunks that were read
-abbrev pub with_found : ChunkWork → Vec ChunkRead Global → ChunkWork
+abbrev pub with_found : ChunkWork → Vec ChunkRow Global → ChunkWork
 with_found one found = record { series = one.series; places = one.places; group = one.group; later = one.later; found = found }
 
 -- ---- the steps
@@ -146,7 +138,7 @@ module _ (asked : Asked) where
       })
 
   -- all groups were read
-  pub all_read : (cache : Cache) (series : List IndexSeries) (places : List ChunkPlace) (groups : List GroupRead) (found : List ChunkRead) (made : List Series) → groups ≡ []
+  pub all_read : (cache : Cache) (series : List IndexSeries) (places : List ChunkPlace) (groups : List GroupRead) (found : List ChunkRow) (made : List Series) → groups ≡ []
       → (IsStrictlyIncreasing (references_in found) → triples_of made ≡ flat_map (shown Q B (reads_of found)) series)
       → Where (AreInOrder places found (references_left groups)) (Leading (shows_groups asked cache series places groups (reads_of found))) [] (Some (outcome.Taken made)) cache
   all_read cache series places groups found made is triples =
@@ -154,21 +146,38 @@ module _ (asked : Asked) where
       (λ order. (gives (flat_map (shown Q B (reads_of found)) series) cache, (refl, inr refl), ((made, refl, triples (subst IsStrictlyIncreasing (append-nil (references_in found)) order.rise)), refl)))
 
   -- the read of a group shows its chunks
-  pub group_shown : (cache : Cache) (one : ChunkWork) (pending : List Pending) (seq : ℕ) (bytes : List ℕ) (r : Result Step NoMemory) → length pending + 1 ≤ most
-      → (IsNonDecreasingBy reference_of one.places.items → Pends (λ (l : List Pending). l) one.group.references (each_at (glimpse_at (tests_at B one.places.items) (group_read one.group) bytes) one.group.references) (Some pending))
-      → Leads asked cache (most * length one.later.items + length pending + 1) (Where (ArePending one pending) (Leading (shows_out asked cache one (map pending_chunk pending) (reads_of one.found.items)))) r
+  abbrev pub Shown : ChunkWork → List ℕ → List ChunkRow → List Pending → Type 0
+  Shown one bytes found pending =
+      (seen : List Glimpse) × (each_at (glimpse_at (tests_at B one.places.items) (group_read one.group) bytes) one.group.references ≡ Ok seen)
+      × ◌≡◌ {A = List Read × List (ℕ × Glimpse)} (reads_of found, map pending_chunk pending) (shown_first (zip one.group.references seen) (reads_of one.found.items))
+
+  shown_rise : (one : ChunkWork) (bytes : List ℕ) (found : List ChunkRow) (pending : List Pending) → Shown one bytes found pending
+      → IsStrictlyIncreasing (references_in one.found.items ++ (one.group.references ++ references_left one.later.items)) → IsStrictlyIncreasing (references_in found ++ (references_pending pending ++ references_left one.later.items))
+  shown_rise one bytes found pending are rise =
+      let moved : references_in found ++ references_pending pending ≡ references_in one.found.items ++ one.group.references =
+      ap (λ (l : List ℕ). references_in found ++ l) (sym (firsts_pending pending))
+      ∙ ap (λ (p : List Read × List (ℕ × Glimpse)). references_read p.0 ++ firsts p.1) are.2
+      ∙ order_first (zip one.group.references are.0) (reads_of one.found.items)
+      ∙ ap (λ (l : List ℕ). references_in one.found.items ++ l) (firsts_zip one.group.references are.0 (each_many _ one.group.references are.0 are.1)) in
+      subst IsStrictlyIncreasing
+      (sym (append_assoc (references_in one.found.items) one.group.references (references_left one.later.items)) ∙ ap (λ (l : List ℕ). l ++ references_left one.later.items) (sym moved)
+      ∙ append_assoc (references_in found) (references_pending pending) (references_left one.later.items)) rise
+
+  pub group_shown : (cache : Cache) (one : ChunkWork) (found : Vec ChunkRow Global) (pending : List Pending) (seq : ℕ) (bytes : List ℕ) (r : Result Step NoMemory) → length pending + 1 ≤ most
+      → (IsNonDecreasingBy reference_of one.places.items → Shown one bytes found.items pending)
+      → Leads asked cache (most * length one.later.items + length pending + 1) (Where (ArePending (with_found one found) pending) (Leading (shows_out asked cache (with_found one found) (map pending_chunk pending) (reads_of found.items)))) r
       → Leads asked cache (most * length one.later.items + most) (Where (IsGroupWork one) (Leading (with_group asked cache one seq bytes))) r
-  group_shown cache one pending seq bytes r few pends leads =
-      leads_where asked cache (most * length one.later.items + length pending + 1) (most * length one.later.items + most) (ArePending one pending) (IsGroupWork one) (shows_out asked cache one (map pending_chunk pending) (reads_of one.found.items)) (with_group asked cache one seq bytes) r
+  group_shown cache one found pending seq bytes r few shown_are leads =
+      leads_where asked cache (most * length one.later.items + length pending + 1) (most * length one.later.items + most) (ArePending (with_found one found) pending) (IsGroupWork one)
+      (shows_out asked cache (with_found one found) (map pending_chunk pending) (reads_of found.items)) (with_group asked cache one seq bytes) r
       (omega (arith, few))
-      (λ order. let are = pends order.ascend in record {
-        ascend = order.ascend;
-        rise = subst (λ (l : List ℕ). IsStrictlyIncreasing (references_in one.found.items ++ (l ++ references_left one.later.items)))
-            (sym (firsts_zip one.group.references are.0 (each_many _ one.group.references are.0 are.1)) ∙ sym (ap firsts are.2) ∙ firsts_pending pending) order.rise;
-      })
-      (λ order. let are = pends order.ascend in
-      subst (λ (l : List (ℕ × Glimpse)). Keeps (shows_out asked cache one l (reads_of one.found.items)) (with_group asked cache one seq bytes)) (sym are.2)
-      (keeps_read (each_at (glimpse_at (tests_at B one.places.items) (group_read one.group) bytes) one.group.references) are.0 _ _ are.1))
+      (λ order. record { ascend = order.ascend; rise = shown_rise one bytes found.items pending (shown_are order.ascend) order.rise })
+      (λ order. let are = shown_are order.ascend in
+      subst (λ (p : List Read × List (ℕ × Glimpse)). Keeps (shows_out asked cache one p.1 p.0) (with_group asked cache one seq bytes)) (sym are.2)
+      (keeps_on (shows_out asked cache one (shown_first (zip one.group.references are.0) (reads_of one.found.items)).1 (shown_first (zip one.group.references are.0) (reads_of one.found.items)).0)
+      (shows_out asked cache one (zip one.group.references are.0) (reads_of one.found.items)) (with_group asked cache one seq bytes)
+      (out_first breaks_off B.ulid (tests_at B one.places.items) cache (group_read one.group) (later_groups asked one cache) (zip one.group.references are.0) (reads_of one.found.items))
+      (keeps_read (each_at (glimpse_at (tests_at B one.places.items) (group_read one.group) bytes) one.group.references) are.0 _ _ are.1)))
       leads
 
   -- it shows none
@@ -179,13 +188,13 @@ module _ (asked : Asked) where
       comes_kept (ends (breaks_off (damaged seq) cache)) (with_group asked cache one seq bytes) (IsEnd cache) (keeps_refused _ _ _ (refused order.ascend)) [] (Some (outcome.Damaged seq)) (breaks cache (damaged seq))
 
   -- a chunk sticks out
-  abbrev AsksSingle : Cache → ChunkWork → List Pending → Shown → Type 0
+  abbrev AsksSingle : Cache → ChunkWork → List Pending → Came → Type 0
   AsksSingle cache one chunks (SticksOut found reference len pending) =
       Leads asked cache (most * length one.later.items + length chunks + 1) (Where (ArePending one chunks) (Leading (shows_out asked cache one (map pending_chunk chunks) (reads_of one.found.items))))
       (Ok (Wait (GetRange (Segment asked.ulid one.group.segment) (offset_of reference) len) (work.Single (with_found one found) reference len pending)))
   AsksSingle cache one chunks (All found) = Unit {0}
 
-  pub single_asked : (cache : Cache) (one : ChunkWork) (chunks : List Pending) (shown : Shown) → ShowsFirst one.found.items chunks shown → AsksSingle cache one chunks shown
+  pub single_asked : (cache : Cache) (one : ChunkWork) (chunks : List Pending) (shown : Came) → ShowsFirst one.found.items chunks shown → AsksSingle cache one chunks shown
   single_asked cache one chunks (All found) is = tt
   single_asked cache one chunks (SticksOut found reference len pending) is =
       let less = fewer chunks pending.items (reads_of one.found.items) (reads_of found.items) (reference, sticks_out len) is in
@@ -205,7 +214,7 @@ module _ (asked : Asked) where
       }
 
   -- all of them were shown
-  pub all_shown_on : (cache : Cache) (one : ChunkWork) (found : Vec ChunkRead Global) (chunks : List Pending) (r : Result Step NoMemory)
+  pub all_shown_on : (cache : Cache) (one : ChunkWork) (found : Vec ChunkRow Global) (chunks : List Pending) (r : Result Step NoMemory)
       → shown_first (map pending_chunk chunks) (reads_of one.found.items) ≡ (reads_of found.items, [])
       → Leads asked cache (most * length one.later.items + 1) (Where (AreInOrder one.places.items found.items (references_left one.later.items)) (Leading (shows_groups asked cache one.series.items one.places.items one.later.items (reads_of found.items)))) r
       → Leads asked cache (most * length one.later.items + length chunks + 1) (Where (ArePending one chunks) (Leading (shows_out asked cache one (map pending_chunk chunks) (reads_of one.found.items)))) r
@@ -219,26 +228,25 @@ module _ (asked : Asked) where
       leads
 
   -- a chunk that stuck out was read
-  pub single_read : (cache : Cache) (one : ChunkWork) (found : Vec ChunkRead Global) (reference : ℕ) (samples : List Sample) (pending : List Pending) (added : ChunkRead) (seq : ℕ) (bytes : List ℕ) (r : Result Step NoMemory)
-      → found.items ≡ one.found.items ++ added ∷ [] → added.reference ≡ reference → added.samples ≡ samples
-      → (IsNonDecreasingBy reference_of one.places.items → tests_at B one.places.items reference bytes ≡ Ok samples)
+  pub single_read : (cache : Cache) (one : ChunkWork) (found : Vec ChunkRow Global) (reference : ℕ) (pending : List Pending) (seq : ℕ) (bytes : List ℕ) (r : Result Step NoMemory)
+      → (IsNonDecreasingBy reference_of one.places.items
+      → (samples : List Sample) × (tests_at B one.places.items reference bytes ≡ Ok samples) × (reads_of found.items ≡ reads_of one.found.items ++ read reference samples ∷ []))
       → Leads asked cache (most * length one.later.items + length pending + 1) (Where (ArePending (with_found one found) pending) (Leading (shows_out asked cache (with_found one found) (map pending_chunk pending) (reads_of found.items)))) r
       → Leads asked cache (most * length one.later.items + length pending + 1) (Where (IsSingleWork one reference pending) (Leading (with_single asked cache one reference pending seq bytes))) r
-  single_read cache one found reference samples pending added seq bytes r more is held tested leads =
+  single_read cache one found reference pending seq bytes r tested leads =
       leads_where asked cache (most * length one.later.items + length pending + 1) (most * length one.later.items + length pending + 1) (ArePending (with_found one found) pending) (IsSingleWork one reference pending)
       (shows_out asked cache (with_found one found) (map pending_chunk pending) (reads_of found.items)) (with_single asked cache one reference pending seq bytes) r
       (omega (arith))
-      (λ order. record {
+      (λ order. let are = tested order.ascend in record {
         ascend = order.ascend;
         rise = subst IsStrictlyIncreasing
             (sym (append_assoc (references_in one.found.items) (reference ∷ []) (references_pending pending ++ references_left one.later.items))
             ∙ ap (λ (l : List ℕ). l ++ (references_pending pending ++ references_left one.later.items))
-            (ap (λ (n : ℕ). references_in one.found.items ++ n ∷ []) (sym is) ∙ sym (map_push (λ (c : ChunkRead). c.reference) one.found.items added) ∙ ap references_in (sym more))) order.rise;
+            (sym (read_push (reads_of one.found.items) (read reference are.0)) ∙ sym (ap references_read are.2))) order.rise;
       })
-      (λ order.
-      subst (λ (l : List Read). Keeps (shows_out asked cache one (map pending_chunk pending) l) (with_single asked cache one reference pending seq bytes))
-      (ap₂ (λ (n : ℕ) (s : List Sample). reads_of one.found.items ++ read n s ∷ []) (sym is) (sym held) ∙ sym (map_push (λ (c : ChunkRead). read c.reference c.samples) one.found.items added) ∙ ap reads_of (sym more))
-      (keeps_read (tests_at B one.places.items reference bytes) samples _ _ (tested order.ascend)))
+      (λ order. let are = tested order.ascend in
+      subst (λ (l : List Read). Keeps (shows_out asked cache one (map pending_chunk pending) l) (with_single asked cache one reference pending seq bytes)) (sym are.2)
+      (keeps_read (tests_at B one.places.items reference bytes) are.0 _ _ are.1))
       leads
 
   pub single_damaged : (cache : Cache) (one : ChunkWork) (reference : ℕ) (pending : List Pending) (seq : ℕ) (bytes : List ℕ)
@@ -278,7 +286,7 @@ module _ (asked : Asked) where
   left_are : (references : List ℕ) (groups : List GroupRead) → AreGroupsToRead references groups → references_left groups ≡ references
   left_are references groups (cut, are, same) = left_as groups ∙ ap (flat_map (λ (group : Group). group.references)) same ∙ cut_as cut ∙ are.whole
 
-  pub chunks_begun : (cache : Cache) (last : ℕ) (series : List IndexSeries) (sorted : List ChunkPlace) (references : List ℕ) (groups : List GroupRead) (found : List ChunkRead) (r : Result Step NoMemory) → have_keys (places_of series) ≡ true
+  pub chunks_begun : (cache : Cache) (last : ℕ) (series : List IndexSeries) (sorted : List ChunkPlace) (references : List ℕ) (groups : List GroupRead) (found : List ChunkRow) (r : Result Step NoMemory) → have_keys (places_of series) ≡ true
       → IsSetOf (map reference_of (places_of series)) references → AreGroupsToRead references groups → IsPermutation (places_of series) sorted → IsNonDecreasingBy reference_of sorted → found ≡ [] → length groups ≤ most
       → Leads asked cache (most * length groups + 1) (Where (AreInOrder sorted found (references_left groups)) (Leading (shows_groups asked cache series sorted groups (reads_of found)))) r
       → Leads asked cache (3 * most * most) (Leading (chunks_left asked (reached last cache) series)) r
@@ -286,4 +294,4 @@ module _ (asked : Asked) where
       leads_held asked cache (most * length groups + 1) (3 * most * most) (AreInOrder sorted [] (references_left groups)) (shows_groups asked cache series sorted groups []) (chunks_left asked (reached last cache) series) r
       (omega (arith, few)) (record { ascend = ascend; rise = subst IsStrictlyIncreasing (sym (left_are references groups are)) set.increasing })
       (groups_kept cache last series sorted references groups keys set are permuted)
-      (subst (λ (l : List ChunkRead). Leads asked cache (most * length groups + 1) (Where (AreInOrder sorted l (references_left groups)) (Leading (shows_groups asked cache series sorted groups (reads_of l)))) r) none leads)
+      (subst (λ (l : List ChunkRow). Leads asked cache (most * length groups + 1) (Where (AreInOrder sorted l (references_left groups)) (Leading (shows_groups asked cache series sorted groups (reads_of l)))) r) none leads)

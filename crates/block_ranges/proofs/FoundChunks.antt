@@ -10,11 +10,11 @@ use Rattle.index_parts.specs.declared.chunk_place.ChunkPlace.{ChunkPlace}
 use Rattle.index_parts.specs.SeriesEntry.{reference_of}
 use Rattle.block_ranges.specs.ChunkReads.{Read, read}
 use Rattle.block_ranges.specs.BlockReads.{samples_of}
-use Rattle.block_ranges.specs.ChunksRead.{reads_of, references_in}
+use Rattle.block_ranges.specs.ChunksRead.{reads_apart, references_apart}
 use Rattle.block_ranges.specs.declared.shown.ChunkRead.{ChunkRead}
 
 abbrev found_at : List ChunkRead → ℕ → Option Read
-found_at found r = find (λ one. one.reference == r) (reads_of found)
+found_at found r = find (λ one. one.reference == r) (reads_apart found)
 
 passed : (one : ChunkRead) (found : List ChunkRead) (r : ℕ) → (one.reference == r) ≡ false → found_at (one ∷ found) r ≡ found_at found r
 passed one found r is = rw is refl
@@ -42,34 +42,34 @@ abbrev samples_in : Option Read → List Sample
 samples_in found = unwrap_or (option_map (λ one. one.samples) found) []
 
 pub samples_there : (found : List ChunkRead) (place : ChunkPlace) (p : ℕ) (d : ChunkRead) → ((k : ℕ) → k < p → k < length found → (get_or found k d).reference < reference_of place) → p < length found
-    → (get_or found p d).reference ≡ reference_of place → (get_or found p d).samples ≡ samples_of (reads_of found) place
+    → (get_or found p d).reference ≡ reference_of place → (get_or found p d).samples ≡ samples_of (reads_apart found) place
 samples_there found place p d below within is = sym (ap samples_in (there found (reference_of place) p d below within is))
 
-pub samples_nowhere : (found : List ChunkRead) (place : ChunkPlace) → ((k : ℕ) (d : ChunkRead) → k < length found → (get_or found k d).reference ≡ reference_of place → ⊥) → [] ≡ samples_of (reads_of found) place
+pub samples_nowhere : (found : List ChunkRead) (place : ChunkPlace) → ((k : ℕ) (d : ChunkRead) → k < length found → (get_or found k d).reference ≡ reference_of place → ⊥) → [] ≡ samples_of (reads_apart found) place
 samples_nowhere found place none = sym (ap samples_in (nowhere found (reference_of place) none))
 
 -- ---- by the point at which those with lesser references end
 
-reference_at : (found : List ChunkRead) (k : ℕ) (d : ChunkRead) → k < length found → get_or (references_in found) k 0 ≡ (get_or found k d).reference
+reference_at : (found : List ChunkRead) (k : ℕ) (d : ChunkRead) → k < length found → get_or (references_apart found) k 0 ≡ (get_or found k d).reference
 reference_at [] k d within = absurd (omega (arith, within))
 reference_at (one ∷ found) zero d within = refl
 reference_at (one ∷ found) (suc k) d within = reference_at found k d (omega (arith, within))
 
-as_many : (found : List ChunkRead) → length (references_in found) ≡ length found
+as_many : (found : List ChunkRead) → length (references_apart found) ≡ length found
 as_many [] = refl
 as_many (one ∷ found) = ap (λ n. suc n) (as_many found)
 
-pub rising : (found : List ChunkRead) → IsStrictlyIncreasing (references_in found) → IsNonDecreasingBy (λ one. one.reference) found
+pub rising : (found : List ChunkRead) → IsStrictlyIncreasing (references_apart found) → IsNonDecreasingBy (λ one. one.reference) found
 rising found up i j d le within =
-    let rises = non_decreasing_from_sorted (references_in found) (sorted_from_strictly_increasing (references_in found) up) in
-    let h : get_or (references_in found) i 0 ≤ get_or (references_in found) j 0 = rises i j 0 le (omega (arith, within, as_many found)) in
+    let rises = non_decreasing_from_sorted (references_apart found) (sorted_from_strictly_increasing (references_apart found) up) in
+    let h : get_or (references_apart found) i 0 ≤ get_or (references_apart found) j 0 = rises i j 0 le (omega (arith, within, as_many found)) in
     omega (arith, h, reference_at found i d (omega (arith, le, within)), reference_at found j d within)
 
 abbrev pub IsPoint : List ChunkRead → ℕ → ℕ → Type 0
 IsPoint found r p = IsPartitionPoint (λ (y : ChunkRead). nat_lt y.reference r ≡ true) (λ (y : ChunkRead). nat_lt y.reference r ≡ false) found p
 
 pub found_there : (found : List ChunkRead) (place : ChunkPlace) (p : ℕ) (one : ChunkRead) → IsPoint found (reference_of place) p → slice_get found p ≡ Some one → one.reference ≡ reference_of place
-    → one.samples ≡ samples_of (reads_of found) place
+    → one.samples ≡ samples_of (reads_apart found) place
 found_there found place p one point is same =
     let at : get_or found p one ≡ one = get_or_from_slice_get found p one one is in
     sym (ap (λ (x : ChunkRead). x.samples) at)
@@ -80,14 +80,14 @@ found_there found place p one point is same =
 split : (k p : ℕ) → (k < p) ⊎ ((k ≡ p) ⊎ (p + 1 ≤ k))
 split k p = grind arith
 
-pub not_there : (found : List ChunkRead) (place : ChunkPlace) (p : ℕ) → IsStrictlyIncreasing (references_in found) → IsPoint found (reference_of place) p
-    → ((one : ChunkRead) → slice_get found p ≡ Some one → one.reference ≡ reference_of place → ⊥) → [] ≡ samples_of (reads_of found) place
+pub not_there : (found : List ChunkRead) (place : ChunkPlace) (p : ℕ) → IsStrictlyIncreasing (references_apart found) → IsPoint found (reference_of place) p
+    → ((one : ChunkRead) → slice_get found p ≡ Some one → one.reference ≡ reference_of place → ⊥) → [] ≡ samples_of (reads_apart found) place
 not_there found place p up point none = samples_nowhere found place (λ k d within is. elim (split k p) [
   | inl a ↦ let t : nat_lt (get_or found k d).reference (reference_of place) ≡ true = point.0 k d (omega arith) a in absurd (grind (arith, nat_tests))
   | inr (inl b) ↦ none (get_or found k d) (subst (λ i. slice_get found i ≡ Some (get_or found k d)) b (slice_get-get_or found k d within)) is
   | inr (inr b) ↦
       let f : nat_lt (get_or found p d).reference (reference_of place) ≡ false = point.1 p d (omega arith) (omega (arith, b, within)) in
-      let next : get_or (references_in found) p 0 < get_or (references_in found) (p + 1) 0 = up p (omega (arith, b, within, as_many found)) in
+      let next : get_or (references_apart found) p 0 < get_or (references_apart found) (p + 1) 0 = up p (omega (arith, b, within, as_many found)) in
       let e0 = reference_at found p d (omega (arith, b, within)) in
       let e1 = reference_at found (p + 1) d (omega (arith, b, within)) in
       let le : (get_or found (p + 1) d).reference ≤ (get_or found k d).reference = rising found up (p + 1) k d b within in

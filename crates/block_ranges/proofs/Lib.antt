@@ -3,10 +3,15 @@ pub mod OneChunk
 pub mod Spans
 pub mod Between
 pub mod Readings
+pub mod Rows
+pub mod ChunkBehind
+pub mod GroupShows
 pub mod SameTests
 pub mod FoundChunks
 pub mod NotKept
 pub mod ShownSamples
+pub mod RowSamples
+pub mod RowsApart
 pub mod Cutting
 pub mod Least
 pub mod Sorting

@@ -1,13 +1,11 @@
 -- Reading the members of a list one after another.
-use Rattle.std.proofs.Common.{◌≡◌, ℕ, ◌+◌, ◌<◌, List, [], ◌∷◌, ◌++◌, map, take, drop, length, get_or, Option, Some, None, Result, Ok, Err, refl, sym, ap, ap₂, subst, ◌∙◌, append_assoc, append-nil, arith}
+use Rattle.std.proofs.Common.{◌≡◌, ℕ, ◌+◌, ◌<◌, List, [], ◌∷◌, ◌++◌, take, drop, length, get_or, Option, Some, None, Result, Ok, Err, refl, sym, ap, subst, ◌∙◌, append_assoc, append-nil, arith}
 use Rattle.std.specs.Prelude.{zip, IsErr}
-use Rattle.std.proofs.lemmas.List.{take_more, drop_more, take-append-drop, map_push}
+use Rattle.std.proofs.lemmas.List.{take_more, drop_more, take-append-drop}
 use Rattle.block_content.specs.Firsts.{each_at}
-use Rattle.block_content.proofs.FirstLaws.{each_push, each_many, each_stop}
+use Rattle.block_content.proofs.FirstLaws.{each_push, each_stop}
 use Rattle.block_ranges.specs.Findings.{ReadsAs, ReadsBehind}
 use Rattle.block_ranges.specs.ChunkReads.{Glimpse}
-use Rattle.block_ranges.specs.Glimpsed.{glimpse_seen, pending_chunk, Pends}
-use Rattle.block_ranges.specs.declared.glimpses.Pending.{Pending}
 
 pub err_of : {A E : Type 0} (r : Result A E) → IsErr r → (e : E) × (r ≡ Err e)
 err_of (Ok x) h = absurd (cc (h))
@@ -49,26 +47,8 @@ module _ {A B E : Type 0} (read : A → Result B E) (xs : List A) (i : ℕ) (d :
   behind_more front all more y within (ys, was, are) is so =
       (ys ++ y ∷ [], each_more ys y within was is, so ∙ ap (λ (l : List B). l ++ y ∷ []) are ∙ append_assoc front ys (y ∷ []))
 
-zip_push : (xs : List ℕ) (ys : List Glimpse) (x : ℕ) (y : Glimpse) → length xs ≡ length ys → zip (xs ++ x ∷ []) (ys ++ y ∷ []) ≡ zip xs ys ++ (x, y) ∷ []
+pub zip_push : (xs : List ℕ) (ys : List Glimpse) (x : ℕ) (y : Glimpse) → length xs ≡ length ys → zip (xs ++ x ∷ []) (ys ++ y ∷ []) ≡ zip xs ys ++ (x, y) ∷ []
 zip_push [] [] x y same = refl
 zip_push [] (b ∷ ys) x y same = absurd (omega (arith, same))
 zip_push (a ∷ xs) [] x y same = absurd (omega (arith, same))
 zip_push (a ∷ xs) (b ∷ ys) x y same = ap (λ (l : List (ℕ × Glimpse)). (a, b) ∷ l) (zip_push xs ys x y (omega (arith, same)))
-
-module _ {R : Type 0} (read : ℕ → Result Glimpse R) (refs : List ℕ) where
-  abbrev pub PendsUpto : ℕ → List Pending → Type 0
-  PendsUpto i pending = Pends (λ (l : List Pending). l) (take i refs) (each_at read (take i refs)) (Some pending)
-
-  pub pends_none : PendsUpto 0 []
-  unfolding each_at
-  pends_none = ([], refl, refl)
-
-  pub pends_more : (i : ℕ) (pending more : List Pending) (one : Pending) → i < length refs → PendsUpto i pending → one.reference ≡ get_or refs i 0 → read (get_or refs i 0) ≡ Ok (glimpse_seen one.glimpse) → more ≡ pending ++ one ∷ [] → PendsUpto (i + 1) more
-  pends_more i pending more one within (seen, was, are) same is so =
-      let g = glimpse_seen one.glimpse in
-      let up = take_more refs i 0 within in (
-        seen ++ g ∷ [],
-        each_more read refs i 0 seen g within was is,
-        ap (map pending_chunk) so ∙ map_push pending_chunk pending one ∙ ap₂ (λ (l : List (ℕ × Glimpse)) (k : ℕ). l ++ (k, g) ∷ []) are same
-            ∙ sym (zip_push (take i refs) seen (get_or refs i 0) g (each_many read (take i refs) seen was)) ∙ sym (ap (λ (l : List ℕ). zip l (seen ++ g ∷ [])) up),
-      )

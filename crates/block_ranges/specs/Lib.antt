@@ -13,10 +13,12 @@ pub mod ChunkReads
 pub mod BlockReads
 pub mod BlockRuns
 pub mod ToRead
+pub mod RowCounts
+pub mod ChunksRead
 pub mod Glimpsed
+pub mod RowsFit
 pub mod Selecting
 pub mod Caching
-pub mod ChunksRead
 pub mod WorkStates
 pub mod RunFindings
 pub mod ChunkFindings

@@ -38,7 +38,7 @@ use Rattle.block_ranges.specs.declared.work.Work.{Work}
 use Rattle.block_ranges.specs.declared.work.Work.TheVariants.{Fresh, Contents, Symbols, Table, Lists, Run as AtRun, Whole, Group, Single, Over}
 use Rattle.block_ranges.specs.declared.group_read.GroupRead.{GroupRead}
 use Rattle.block_ranges.specs.declared.glimpses.Pending.{Pending}
-use Rattle.block_ranges.specs.declared.shown.ChunkRead.{ChunkRead}
+use Rattle.block_ranges.specs.declared.chunk_row.ChunkRow.{ChunkRow}
 use Rattle.block_ranges.specs.declared.work.Step.{Step}
 use Rattle.block_ranges.specs.declared.work.Step.TheVariants.{Wait, Done}
 
@@ -89,7 +89,7 @@ abbrev pub references_pending : List Pending → List ℕ
 references_pending pending = map (λ one. one.reference) pending
 
 -- The places ascend, and so do the chunks that were read, with those that are still to be read behind them.
-pub record AreInOrder (places : List ChunkPlace) (found : List ChunkRead) (left : List ℕ) : Type 0 where
+pub record AreInOrder (places : List ChunkPlace) (found : List ChunkRow) (left : List ℕ) : Type 0 where
   pub ascend : IsNonDecreasingBy reference_of places
   pub rise : IsStrictlyIncreasing (references_in found ++ left)
 

@@ -1,5 +1,5 @@
 //! The reads of chunks, and the end of a call.
-ghost use Rattle.std.specs.Prelude.{◌≡◌, ◌+◌, ◌*◌, length, map, IfOk};
+ghost use Rattle.std.specs.Prelude.{◌+◌, ◌*◌, length, map, IfOk};
 ghost use Rattle.block_ranges.specs.Reads.{Cache};
 ghost use Rattle.block_ranges.specs.IndexReads.{reached};
 ghost use Rattle.block_ranges.specs.ChunksRead.{reads_of};
@@ -9,12 +9,13 @@ ghost use Rattle.block_ranges.specs.WorkStates.{most, Leads, Where, AreInOrder, 
 ghost use Rattle.block_ranges.specs.ChunkFindings.{ShowsFirst};
 
 use crate::asked::Asked;
-use crate::chunks::chunk_samples;
-use crate::glimpses::{Glimpse, Pending, glimpses, places_of};
+use crate::chunk_row::ChunkRow;
+use crate::chunk_rows::{read_behind, row_of_one};
+use crate::glimpses::{Glimpse, GroupShown, Pending, glimpses, places_of};
 use crate::group_read::GroupRead;
 use crate::group_reads::groups_to_read;
 use crate::places::{have_keys, sorted_places, taken_places};
-use crate::shown::{ChunkRead, all_shown};
+use crate::row_shown::all_shown;
 use crate::work::{ChunkWork, Step, Work};
 use crate::{BlockOutcome, references_of};
 use block_keys::Key;
@@ -30,13 +31,13 @@ use world_core::Op;
 pub(crate) enum Shown {
     /// A chunk that sticks out, by its reference and how many bytes it takes, and those behind it.
     SticksOut {
-        found: Vec<ChunkRead>,
+        found: Vec<ChunkRow>,
         reference: u64,
         len: u64,
         pending: VecDeque<Pending>,
     },
     /// Nothing.
-    All(Vec<ChunkRead>),
+    All(Vec<ChunkRow>),
 }
 
 /// Reads the chunks of these series that meet the range. The number is that of the entry that told
@@ -71,7 +72,7 @@ fn go_on_groups(
     series: Vec<IndexSeries>,
     places: Vec<ChunkPlace>,
     groups: VecDeque<GroupRead>,
-    found: Vec<ChunkRead>,
+    found: Vec<ChunkRow>,
 ) -> Result<Step, NoMemory>
     ensures { (cache : Cache) → Leads asked.now cache (most * length groups.items + 1)
         (Where (AreInOrder places.items found.items (references_left groups.items))
@@ -94,7 +95,7 @@ fn go_on_groups(
                 found,
             }),
         )),
-        None => Ok(Step::Done(BlockOutcome::Taken(all_shown(asked, &series, &found)?))),
+        None => Ok(Step::Done(BlockOutcome::Taken(all_shown(asked, &series, found)?))),
     }
 }
 
@@ -109,10 +110,30 @@ pub(crate) fn take_group(
         (Where (IsGroupWork work)
         (Leading (with_group asked.now cache work seq bytes))) result }
 {
-    let shown = glimpses(asked, &work.places, &work.group, bytes.bytes())?;
+    let ChunkWork {
+        series,
+        places,
+        group,
+        later,
+        found,
+    } = work;
+    let shown = glimpses(asked, &series, &places, &group, bytes.bytes(), found)?;
     drop(bytes);
     match shown {
-        Some(pending) => go_on_chunks(asked, work, pending),
+        Some(made) => {
+            let GroupShown { rows, pending } = made;
+            go_on_chunks(
+                asked,
+                ChunkWork {
+                    series,
+                    places,
+                    group,
+                    later,
+                    found: rows,
+                },
+                pending,
+            )
+        }
         None => Ok(Step::Done(BlockOutcome::Damaged(seq))),
     }
 }
@@ -166,7 +187,7 @@ fn go_on_chunks(
 }
 
 /// The chunks that were shown, up to one that sticks out, behind others.
-fn shown_chunks(found: Vec<ChunkRead>, chunks: VecDeque<Pending>) -> Result<Shown, NoMemory>
+fn shown_chunks(found: Vec<ChunkRow>, chunks: VecDeque<Pending>) -> Result<Shown, NoMemory>
     ensures { IfOk result (ShowsFirst found.items chunks.items) }
 {
     let mut all = found;
@@ -174,7 +195,7 @@ fn shown_chunks(found: Vec<ChunkRead>, chunks: VecDeque<Pending>) -> Result<Show
     while let Some(one) = pending.pop_front() {
         let Pending { reference, glimpse } = one;
         match glimpse {
-            Glimpse::Shows(samples) => all.push(ChunkRead { reference, samples })?,
+            Glimpse::Shows(samples) => all.push(row_of_one(reference, samples)?)?,
             Glimpse::SticksOut(len) => {
                 return Ok(Shown::SticksOut {
                     found: all,
@@ -202,27 +223,26 @@ pub(crate) fn take_single(
         (Where (IsSingleWork work reference pending.items)
         (Leading (with_single asked.now cache work reference pending.items seq bytes.now))) result }
 {
-    let samples = match chunk_samples(asked, places_of(&work.places, reference), bytes)? {
-        Some(samples) => samples,
-        None => return Ok(Step::Done(BlockOutcome::Damaged(seq))),
-    };
     let ChunkWork {
         series,
         places,
         group,
         later,
-        mut found,
+        found,
     } = work;
-    found.push(ChunkRead { reference, samples })?;
-    go_on_chunks(
-        asked,
-        ChunkWork {
-            series,
-            places,
-            group,
-            later,
-            found,
-        },
-        pending,
-    )
+    let own = places_of(&places, reference);
+    match read_behind(asked, &series, own, found, reference, bytes)? {
+        Some(found) => go_on_chunks(
+            asked,
+            ChunkWork {
+                series,
+                places,
+                group,
+                later,
+                found,
+            },
+            pending,
+        ),
+        None => Ok(Step::Done(BlockOutcome::Damaged(seq))),
+    }
 }

@@ -1,11 +1,11 @@
 //! One chunk of a segment, by the bytes that were read of it.
-ghost use Rattle.std.specs.Prelude.{◌≡◌, ◌+◌, ◌≤◌, ◌<◌, ◌-◌, ◌*◌, length, drop, map, option_copied, IfOk, IfSome, Ok, Err};
+ghost use Rattle.std.specs.Prelude.{◌≡◌, ◌↔◌, ◌+◌, ◌≤◌, ◌<◌, ◌-◌, length, drop, option_copied, IsTrue, IfOk, IfSome, Ok, Err};
 ghost use Rattle.std.specs.List.{list_all};
 ghost use Rattle.std.specs.Result.{result_ok};
 ghost use Rattle.block_content.specs.ContentReading.{is_time, have_times_of};
 ghost use Rattle.block_ranges.specs.Asking.{block_asked};
 ghost use Rattle.block_ranges.specs.ChunkReads.{chunk_len_at, is_chunk_of, stored_at, chunk_samples_at};
-ghost use Rattle.block_ranges.specs.Findings.{ReadsAs};
+ghost use Rattle.block_ranges.specs.Findings.{ReadsAs, ReadsBehind};
 
 use crate::asked::Asked;
 use chunk_files::take_chunk;
@@ -13,7 +13,7 @@ use index_parts::ChunkPlace;
 use label_sets::{Sample, SampleList};
 use list_core::NoMemory;
 use wire_bytes::Cursor;
-use xor_chunks::{XorRefusal, decode_stored};
+use xor_chunks::{XorRefusal, append_stored};
 
 /// How many bytes a chunk's data has at most.
 const MOST: u64 = 67_108_864;
@@ -83,25 +83,71 @@ fn are_chunks_of(asked: &Asked<'_>, samples: &[Sample], places: &[ChunkPlace]) -
     true
 }
 
-/// The samples that the data of the chunk at the front of these bytes stands for.
-#[tactic(auto, unfolding(crate::specs::ChunkReads::stored_at))]
-fn stored_samples(asked: &Asked<'_>, bytes: &[u8]) -> Result<Option<SampleList>, NoMemory>
-    ensures { IfOk result (ReadsAs (λ samples. samples) (stored_at bytes.now)) }
+/// The samples behind so many.
+fn behind(samples: &[Sample], count: usize) -> &[Sample]
+    requires { count ≤ length samples.now }
+    ensures { result.now ≡ drop count samples.now }
+{
+    &samples[count..]
+}
+
+/// Whether memory ran out.
+fn wants_memory(refusal: XorRefusal) -> bool
+    ensures { IsTrue result ↔ (refusal ≡ XorRefusal.NoMemory) }
+{
+    match refusal {
+        XorRefusal::NoMemory => true,
+        XorRefusal::Short => false,
+        XorRefusal::Falling => false,
+        XorRefusal::OutOfRange => false,
+        XorRefusal::Trailing => false,
+    }
+}
+
+/// Reads the samples that the data of the chunk at the front of these bytes stands for, behind
+/// others.
+fn append_data(samples: Vec<Sample>, bytes: &[u8]) -> Result<Option<Vec<Sample>>, NoMemory>
+    ensures { IfOk result (ReadsBehind (λ all. all.items) samples.items (stored_at bytes.now)) }
 {
     let content = match take_chunk(bytes) {
         Ok(content) => content,
         Err(_) => return Ok(None),
     };
-    match decode_stored(asked.alloc, content) {
-        Ok(samples) => Ok(Some(samples)),
-        Err(XorRefusal::NoMemory) => Err(NoMemory),
-        Err(_) => Ok(None),
+    match append_stored(samples, content) {
+        Ok(all) => Ok(Some(all)),
+        Err(refusal) => if wants_memory(refusal) {
+            Err(NoMemory)
+        } else {
+            Ok(None)
+        },
     }
+}
+
+/// Reads the samples of the chunk at the front of these bytes, behind others. None where it is not
+/// a chunk of each of these places.
+pub(crate) fn append_chunk(
+    asked: &Asked<'_>,
+    places: &[ChunkPlace],
+    samples: Vec<Sample>,
+    bytes: &[u8],
+) -> Result<Option<Vec<Sample>>, NoMemory>
+    ensures { IfOk result
+        (ReadsBehind (λ all. all.items) samples.items
+        (chunk_samples_at (block_asked asked.now) places.now bytes.now)) }
+{
+    let before = samples.len();
+    let all = match append_data(samples, bytes)? {
+        Some(all) => all,
+        None => return Ok(None),
+    };
+    if !are_chunks_of(asked, behind(all.as_slice(), before), places) {
+        return Ok(None);
+    }
+    Ok(Some(all))
 }
 
 /// The samples of the chunk at the front of these bytes. None where it is not a chunk of each of
 /// these places.
-#[tactic(auto, unfolding(crate::specs::ChunkReads::chunk_samples_at))]
 pub(crate) fn chunk_samples(
     asked: &Asked<'_>,
     places: &[ChunkPlace],
@@ -111,12 +157,8 @@ pub(crate) fn chunk_samples(
         (ReadsAs (λ samples. samples)
         (chunk_samples_at (block_asked asked.now) places.now bytes.now)) }
 {
-    let samples = match stored_samples(asked, bytes)? {
-        Some(samples) => samples,
-        None => return Ok(None),
-    };
-    if !are_chunks_of(asked, samples.members(), places) {
-        return Ok(None);
+    match append_chunk(asked, places, Vec::new(asked.alloc), bytes)? {
+        Some(samples) => Ok(Some(SampleList::from_vec(samples))),
+        None => Ok(None),
     }
-    Ok(Some(samples))
 }

@@ -1,14 +1,14 @@
 //! The samples that are asked for, under their final labels.
-ghost use Rattle.std.specs.Prelude.{◌≡◌, [], ◌∷◌, ◌++◌, List, map, slice_get, IfOk, OnOk};
+ghost use Rattle.std.specs.Prelude.{◌≡◌, [], ◌∷◌, ◌++◌, slice_get, IfOk, OnOk};
 ghost use Rattle.std.specs.Option.{option_copied};
 ghost use Rattle.std.specs.List.{filter, flat_map};
 ghost use Rattle.std.specs.List.Sorted.{IsStrictlyIncreasing};
 ghost use Rattle.label_sets.specs.Triples.{triples_under, triples_of};
 ghost use Rattle.matchers.specs.Selected.{is_between};
 ghost use Rattle.block_ranges.specs.ChunkRanges.{meets};
-ghost use Rattle.block_ranges.specs.BlockReads.{samples_of, shown, taken};
+ghost use Rattle.block_ranges.specs.BlockReads.{samples_of, shown};
 ghost use Rattle.block_ranges.specs.Asking.{query_asked, block_asked};
-ghost use Rattle.block_ranges.specs.ChunksRead.{reads_of, references_in};
+ghost use Rattle.block_ranges.specs.ChunksRead.{reads_apart, references_apart};
 
 use crate::asked::Asked;
 use crate::places::meets;
@@ -34,8 +34,8 @@ fn chunk_at(found: &[ChunkRead], there: usize) -> Option<&ChunkRead>
 
 /// The samples that were read at a place, among chunks that ascend by their references.
 fn samples_of<'a>(found: &'a [ChunkRead], place: &ChunkPlace) -> &'a [Sample]
-    ensures { IsStrictlyIncreasing (references_in found.now)
-        → result.now ≡ samples_of (reads_of found.now) place.now }
+    ensures { IsStrictlyIncreasing (references_apart found.now)
+        → result.now ≡ samples_of (reads_apart found.now) place.now }
 {
     let reference = reference_of(place);
     let there = found.partition_point(|one| one.reference < reference);
@@ -51,9 +51,9 @@ fn samples_of<'a>(found: &'a [ChunkRead], place: &ChunkPlace) -> &'a [Sample]
 
 /// The samples of a series in the range, under its final labels.
 fn shown(asked: &Asked<'_>, series: &IndexSeries, found: &[ChunkRead]) -> Result<Series, NoMemory>
-    ensures { IsStrictlyIncreasing (references_in found.now)
+    ensures { IsStrictlyIncreasing (references_apart found.now)
         → IfOk result (λ made. triples_under made.labels made.samples
-        ≡ shown (query_asked asked.now) (block_asked asked.now) (reads_of found.now) series.now) }
+        ≡ shown (query_asked asked.now) (block_asked asked.now) (reads_apart found.now) series.now) }
 {
     let labels = final_labels(
         asked.alloc,
@@ -71,10 +71,10 @@ fn samples_within(
     chunks: &[ChunkPlace],
     found: &[ChunkRead],
 ) -> Result<SampleList, NoMemory>
-    ensures { IsStrictlyIncreasing (references_in found.now)
+    ensures { IsStrictlyIncreasing (references_apart found.now)
         → IfOk result (λ samples. samples
         ≡ filter (λ s. is_between asked.now.low asked.now.high s.time)
-        (flat_map (samples_of (reads_of found.now))
+        (flat_map (samples_of (reads_apart found.now))
         (filter (meets asked.now.low asked.now.high) chunks.now))) }
 {
     let room = count_read(asked, chunks, found);
@@ -104,9 +104,9 @@ fn add_samples(
     found: &[ChunkRead],
     samples: &mut Vec<Sample>,
 ) -> Result<(), NoMemory>
-    ensures { IsStrictlyIncreasing (references_in found.now)
+    ensures { IsStrictlyIncreasing (references_apart found.now)
         → OnOk result (samples.new.items ≡ samples.old.items
-        ++ flat_map (samples_of (reads_of found.now))
+        ++ flat_map (samples_of (reads_apart found.now))
         (filter (meets asked.now.low asked.now.high) (place.now ∷ []))) }
 {
     if meets(asked, place) {
@@ -115,16 +115,17 @@ fn add_samples(
     Ok(())
 }
 
-/// The samples of these series in the range, each under its final labels.
-pub(crate) fn all_shown(
+/// The samples of these series in the range, each under its final labels, where the chunks were
+/// read each by itself.
+pub(crate) fn shown_apart(
     asked: &Asked<'_>,
     series: &[IndexSeries],
     found: &[ChunkRead],
 ) -> Result<SeriesList, NoMemory>
-    ensures { IsStrictlyIncreasing (references_in found.now)
+    ensures { IsStrictlyIncreasing (references_apart found.now)
         → IfOk result (λ made. triples_of made
         ≡ flat_map (shown (query_asked asked.now) (block_asked asked.now)
-        (reads_of found.now)) series.now) }
+        (reads_apart found.now)) series.now) }
 {
     let mut made = Vec::new(asked.alloc);
     for one in series {

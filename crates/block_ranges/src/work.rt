@@ -2,11 +2,11 @@
 ghost use Rattle.std.specs.Prelude.{◌+◌, ◌^◌, ◌<◌, ◌≤◌, length};
 
 use crate::BlockOutcome;
+use crate::chunk_row::ChunkRow;
 use crate::glimpses::Pending;
 use crate::group_read::GroupRead;
 use crate::run_read::RunRead;
 use crate::sections::Sections;
-use crate::shown::ChunkRead;
 use crate::symbol_texts::SymbolTexts;
 use index_parts::ChunkPlace;
 use index_v2::IndexSeries;
@@ -55,7 +55,7 @@ pub(crate) struct ChunkWork {
     pub(crate) places: Vec<ChunkPlace>,
     pub(crate) group: GroupRead,
     pub(crate) later: VecDeque<GroupRead>,
-    pub(crate) found: Vec<ChunkRead>,
+    pub(crate) found: Vec<ChunkRow>,
 }
 
 /// What a call waits for.

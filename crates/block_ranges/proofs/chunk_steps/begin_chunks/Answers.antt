@@ -1,4 +1,4 @@
-use Rattle.std.proofs.Common.{◌≡◌, ◌*◌, ◌^◌, ◌<◌, ℕ, List, map, sym, ap, subst, ◌∙◌, false, true, arith}
+use Rattle.std.proofs.Common.{◌*◌, ◌^◌, ◌<◌, ℕ, List, map, sym, ap, subst, ◌∙◌, false, true, arith}
 use Rattle.std.specs.Prelude.{All}
 use Rattle.std.specs.List.{flat_map}
 use Rattle.std.specs.List.Sorted.{IsPermutation}

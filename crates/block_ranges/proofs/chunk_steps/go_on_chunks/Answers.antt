@@ -1,6 +1,6 @@
 use Rattle.std.proofs.Common.{subst}
 use Rattle.block_ranges.specs.ChunkFindings.{ShowsFirst}
-use Rattle.block_ranges.specs.declared.chunk_steps.Shown.TheVariants.{SticksOut, All}
+use Rattle.block_ranges.specs.declared.chunk_steps.Shown.TheVariants.{SticksOut}
 use Rattle.block_ranges.proofs.ChunkPlans.{single_asked, all_shown_on}
 use Rattle.block_ranges.proofs.chunk_steps.go_on_chunks.Goals as goal
 

@@ -14,9 +14,8 @@ returns-in_ok-all_shown-in-None c = λ cache.
     let made = c.in_ok-all_shown-in-None.field-0 in
     all_read c.args.asked.now cache c.args.series.items c.args.places.items c.args.groups.items c.args.found.items made
     (nil_from_length c.args.groups.items (sym c.args.groups.ok.0 ∙ c.in-None.ensures.cases.0))
-    (subst (λ l. IsStrictlyIncreasing (references_in l) → triples_of made ≡ flat_map (shown (query_asked c.args.asked.now) (block_asked c.args.asked.now) (reads_of l)) c.args.series.items) c.deref-in-None.ensures.value
-    (subst (λ m. IsStrictlyIncreasing (references_in c.deref-in-None.result.now) → triples_of made ≡ flat_map (shown (query_asked c.args.asked.now) (block_asked c.args.asked.now) (reads_of c.deref-in-None.result.now)) m) c.deref.ensures.value
-    c.in_ok-all_shown-in-None.ensures))
+    (subst (λ m. IsStrictlyIncreasing (references_in c.args.found.items) → triples_of made ≡ flat_map (shown (query_asked c.args.asked.now) (block_asked c.args.asked.now) (reads_of c.args.found.items)) m) c.deref.ensures.value
+    c.in_ok-all_shown-in-None.ensures)
 
 pub returns-in-Some : goal.returns-in-Some
 returns-in-Some c = λ cache.

@@ -1,7 +1,6 @@
-use Rattle.std.proofs.Common.{refl, sym, map}
+use Rattle.std.proofs.Common.{map}
 use Rattle.block_ranges.specs.ChunksRead.{reads_of}
-use Rattle.block_ranges.specs.Glimpsed.{pending_chunk}
-use Rattle.block_ranges.specs.ChunkFindings.{shown_first}
+use Rattle.block_ranges.specs.Glimpsed.{pending_chunk, shown_first}
 use Rattle.block_ranges.proofs.ShownLoop.{shows_more, sticks_there}
 use Rattle.block_ranges.proofs.chunk_steps.shown_chunks.Goals as goal
 
@@ -11,5 +10,5 @@ returns-in-SticksOut c =
 
 pub loop-one-preserved : goal.loop-one-preserved
 loop-one-preserved c =
-    shows_more c.loop-one.pending.items c.pop_front.new.self.items c.in-Some.one c.loop-one.all.items (shown_first (map pending_chunk c.args.chunks.items) (reads_of c.args.found.items)) (record { reference = c.in-Some.one.reference; samples = c.in-Shows.samples }) c.push.new.self.items
-    c.in-Some.ensures.items c.in-Shows.is refl c.in_ok-push-in-Shows.ensures.items c.loop-one.invariant
+    shows_more c.loop-one.pending.items c.pop_front.new.self.items c.in-Some.one c.loop-one.all.items (shown_first (map pending_chunk c.args.chunks.items) (reads_of c.args.found.items)) c.in-Shows.samples c.in_ok-row_of_one-in-Shows.field-0 c.push.new.self.items
+    c.in-Some.ensures.items c.in-Shows.is c.in_ok-row_of_one-in-Shows.ensures c.in_ok-push-in-Shows.ensures.items c.loop-one.invariant

@@ -1,32 +1,33 @@
-use Rattle.std.proofs.Common.{ℕ, List, Some, refl, sym, subst}
+use Rattle.std.proofs.Common.{ℕ, List, Some, ap, subst, get_or, map}
 use Rattle.std.proofs.lemmas.List.{take_all}
 use Rattle.block_content.specs.Firsts.{each_at}
 use Rattle.block_ranges.specs.Asking.{block_asked}
 use Rattle.block_ranges.specs.ToRead.{group_read}
 use Rattle.block_ranges.specs.ChunkReads.{tests_at, glimpse_at}
-use Rattle.block_ranges.specs.Glimpsed.{glimpse_seen, Pends}
+use Rattle.block_ranges.specs.ChunksRead.{reads_of}
+use Rattle.block_ranges.specs.Glimpsed.{pending_chunk, shown_so, ShowsOne, ShowsGroup}
 use Rattle.block_ranges.specs.declared.glimpses.Pending.{Pending}
-use Rattle.block_ranges.proofs.Readings.{PendsUpto, pends_none, pends_more, some_read, none_read, each_refused}
+use Rattle.block_ranges.proofs.GroupShows.{shown_none, shown_more, shown_refused}
 use Rattle.block_ranges.proofs.glimpses.glimpses_at.Goals as goal
 
 pub loop-reference-init : goal.loop-reference-init
 loop-reference-init c = λ up.
-    let read = glimpse_at (tests_at (block_asked c.args.asked.now) c.args.places.now) (group_read c.args.group.now) c.args.bytes.now in
-    subst (λ (l : List Pending). PendsUpto read c.args.references.now 0 l) (sym c.new-pending.ensures.items) (pends_none read c.args.references.now)
+    let reads = glimpse_at (tests_at (block_asked c.args.asked.now) c.args.places.now) (group_read c.args.group.now) c.args.bytes.now in
+    shown_none reads c.args.references.now (reads_of c.args.found.items) (record { rows = c.args.found; pending = c.new.result }) (ap (λ (l : List Pending). (reads_of c.args.found.items, map pending_chunk l)) c.new.ensures.items)
 
 pub returns-in-None : goal.returns-in-None
 returns-in-None c = λ up.
-    let read = glimpse_at (tests_at (block_asked c.args.asked.now) c.args.places.now) (group_read c.args.group.now) c.args.bytes.now in
-    each_refused read c.args.references.now c.loop-reference.reference-index 0 _ c.loop-reference-test.true (c.loop-reference.invariant up).1
-    (none_read glimpse_seen _ c.in_ok-glimpse.field-0 c.in-None.is (c.in_ok-glimpse.ensures up))
+    let reads = glimpse_at (tests_at (block_asked c.args.asked.now) c.args.places.now) (group_read c.args.group.now) c.args.bytes.now in
+    shown_refused reads c.args.references.now (reads_of c.args.found.items) c.loop-reference.reference-index c.loop-reference.shown c.loop-reference-test.true (c.loop-reference.invariant up)
+    (subst (ShowsOne (shown_so c.loop-reference.shown) (get_or c.args.references.now c.loop-reference.reference-index 0) (reads (get_or c.args.references.now c.loop-reference.reference-index 0))) c.in-None.is (c.in_ok-next.ensures up))
 
 pub loop-reference-preserved : goal.loop-reference-preserved
 loop-reference-preserved c = λ up.
-    let read = glimpse_at (tests_at (block_asked c.args.asked.now) c.args.places.now) (group_read c.args.group.now) c.args.bytes.now in
-    pends_more read c.args.references.now c.loop-reference.reference-index c.loop-reference.pending.items c.push_back.new.self.items _ c.loop-reference-test.true (c.loop-reference.invariant up) refl
-    (some_read glimpse_seen _ c.in_ok-glimpse.field-0 c.in-Some.glimpse c.in-Some.is (c.in_ok-glimpse.ensures up)) c.in_ok-push_back-in-Some.ensures.items
+    let reads = glimpse_at (tests_at (block_asked c.args.asked.now) c.args.places.now) (group_read c.args.group.now) c.args.bytes.now in
+    shown_more reads c.args.references.now (reads_of c.args.found.items) c.loop-reference.reference-index c.loop-reference.shown c.in-Some.more c.loop-reference-test.true (c.loop-reference.invariant up)
+    (subst (ShowsOne (shown_so c.loop-reference.shown) (get_or c.args.references.now c.loop-reference.reference-index 0) (reads (get_or c.args.references.now c.loop-reference.reference-index 0))) c.in-Some.is (c.in_ok-next.ensures up))
 
 pub returns : goal.returns
 returns c = λ up.
-    let read = glimpse_at (tests_at (block_asked c.args.asked.now) c.args.places.now) (group_read c.args.group.now) c.args.bytes.now in
-    subst (λ (l : List ℕ). Pends (λ (x : List Pending). x) l (each_at read l) (Some c.loop-reference.pending.items)) (take_all c.loop-reference.reference-index c.args.references.now c.loop-reference-test.false) (c.loop-reference.invariant up)
+    let reads = glimpse_at (tests_at (block_asked c.args.asked.now) c.args.places.now) (group_read c.args.group.now) c.args.bytes.now in
+    subst (λ (l : List ℕ). ShowsGroup (reads_of c.args.found.items) l (each_at reads l) (Some c.loop-reference.shown)) (take_all c.loop-reference.reference-index c.args.references.now c.loop-reference-test.false) (c.loop-reference.invariant up)

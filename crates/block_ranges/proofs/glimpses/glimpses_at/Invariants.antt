@@ -3,8 +3,9 @@ use Rattle.index_parts.specs.SeriesEntry.{reference_of}
 use Rattle.block_ranges.specs.Asking.{block_asked}
 use Rattle.block_ranges.specs.ToRead.{group_read}
 use Rattle.block_ranges.specs.ChunkReads.{tests_at, glimpse_at}
-use Rattle.block_ranges.proofs.Readings.{PendsUpto}
+use Rattle.block_ranges.specs.ChunksRead.{reads_of}
+use Rattle.block_ranges.proofs.GroupShows.{ShownUpto}
 use Rattle.block_ranges.proofs.glimpses.glimpses_at.Given as goal
 
 abbrev pub invariant-loop-reference : goal.invariant-loop-reference
-invariant-loop-reference l = IsNonDecreasingBy reference_of l.places → PendsUpto (glimpse_at (tests_at (block_asked l.asked) l.places) (group_read l.group) l.bytes) l.references l.reference-index l.pending.items
+invariant-loop-reference l = IsNonDecreasingBy reference_of l.places → ShownUpto (glimpse_at (tests_at (block_asked l.asked) l.places) (group_read l.group) l.bytes) l.references (reads_of l.fn.found.items) l.reference-index l.shown

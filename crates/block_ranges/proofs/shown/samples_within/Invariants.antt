@@ -3,8 +3,8 @@ use Rattle.std.specs.List.{flat_map}
 use Rattle.std.specs.List.Sorted.{IsStrictlyIncreasing}
 use Rattle.block_ranges.specs.ChunkRanges.{meets}
 use Rattle.block_ranges.specs.BlockReads.{samples_of}
-use Rattle.block_ranges.specs.ChunksRead.{reads_of, references_in}
+use Rattle.block_ranges.specs.ChunksRead.{reads_apart, references_apart}
 use Rattle.block_ranges.proofs.shown.samples_within.Given as goal
 
 abbrev pub invariant-loop-place : goal.invariant-loop-place
-invariant-loop-place l = IsStrictlyIncreasing (references_in l.found) → l.samples.items ≡ flat_map (samples_of (reads_of l.found)) (filter (meets l.asked.low l.asked.high) (take l.place-index l.chunks))
+invariant-loop-place l = IsStrictlyIncreasing (references_apart l.found) → l.samples.items ≡ flat_map (samples_of (reads_apart l.found)) (filter (meets l.asked.low l.asked.high) (take l.place-index l.chunks))

@@ -6,11 +6,11 @@ use Rattle.index_parts.specs.declared.chunk_place.ChunkPlace.{ChunkPlace}
 use Rattle.block_ranges.specs.ChunkRanges.{meets}
 use Rattle.block_ranges.specs.BlockReads.{samples_of}
 use Rattle.block_ranges.specs.Asking.{query_asked, block_asked}
-use Rattle.block_ranges.specs.ChunksRead.{reads_of}
+use Rattle.block_ranges.specs.ChunksRead.{reads_apart}
 use Rattle.block_ranges.proofs.ShownSamples.{shown_is}
 use Rattle.block_ranges.proofs.shown.shown.Goals as goal
 
 pub returns : goal.returns
-returns c = λ up. shown_is (query_asked c.args.asked.now) (block_asked c.args.asked.now) (reads_of c.args.found.now) c.args.series.now _ _ c.in_ok-labels.ensures
+returns c = λ up. shown_is (query_asked c.args.asked.now) (block_asked c.args.asked.now) (reads_apart c.args.found.now) c.args.series.now _ _ c.in_ok-labels.ensures
     (c.in_ok-samples.ensures up ∙ ap (λ (l : List ChunkPlace). filter (λ (s : Sample). is_between c.args.asked.now.low c.args.asked.now.high s.time)
-    (flat_map (samples_of (reads_of c.args.found.now)) (filter (meets c.args.asked.now.low c.args.asked.now.high) l))) c.members.ensures)
+    (flat_map (samples_of (reads_apart c.args.found.now)) (filter (meets c.args.asked.now.low c.args.asked.now.high) l))) c.members.ensures)
