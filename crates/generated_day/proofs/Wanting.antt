@@ -12,7 +12,7 @@ use Rattle.matchers.specs.SelectorText.{commas_text, opening_text}
 use Rattle.script_core.specs.Fields.{lines_of, newline, next_field}
 use Rattle.script_core.specs.GivenUp.{HasPattern, IsPatternAmong, IsPatternLine}
 use Rattle.script_core.specs.Limits.{longest_text}
-use Rattle.script_core.specs.Lines.{Asked, question_at}
+use Rattle.script_core.specs.Lines.{Asked, has_begun, question_at}
 use Rattle.script_core.specs.Parts.{AreNextGivenUp, HasRead, IsEnded, IsPartRefused, Reads, is_long, no_script}
 use Rattle.script_core.specs.Reading.{lines_at, script_of}
 use Rattle.script_core.specs.State.{State, start}
@@ -55,7 +55,7 @@ no_pattern text unquoted has =
     let bad : not (34 == 34) ≡ true = holds_there (λ byte. not (byte == 34)) front 34 stands.rest (subst (λ t. is_unquoted t ≡ true) stands.stands unquoted) in
     absurd cc
 
-selector_is : (st : State) (left : Option (List ℕ)) (asked : Asked) → question_at st left ≡ Ok asked → asked.text ≡ selector_text left
+selector_is : (st : State) (left : Option (List ℕ)) (asked : Asked) → question_at (has_begun st) left ≡ Ok asked → asked.text ≡ selector_text left
 selector_is st left asked is =
     let asks = question_found st left asked is in
     let rest : List ℕ = asks.high_text ++ 32 ∷ asked.text in

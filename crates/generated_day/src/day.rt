@@ -1,8 +1,7 @@
 //! The script of the generated day.
 
-ghost use Rattle.std.specs.Prelude.{◌≡◌, ◌++◌, IfErr, IfOk, MatchResult, OnOk};
+ghost use Rattle.std.specs.Prelude.{◌≡◌, ◌++◌, IfErr, IfOk, OnOk};
 ghost use Rattle.script_core.specs.Lawful.{IsLawfulScript};
-ghost use Rattle.script_core.specs.Parts.{HasRead};
 ghost use Rattle.script_core.specs.Spelling.{Spells};
 ghost use Rattle.script_core.specs.declared.script_refusal.ScriptRefusal.TheVariants as refusals;
 ghost use Rattle.generated_day.specs.Wanting.{ReadsOrWants};
@@ -26,19 +25,11 @@ pub fn generated(alloc: Global, number: u64) -> Result<Script, ScriptRefusal>
     // Where it is refused, memory was wanting.
     ensures refused { IfErr result (λ e. e ≡ refusals.NoMemory) }
 {
-    reader_of(alloc, number)?.finish(alloc)
-}
-
-/// What has read the day.
-fn reader_of(alloc: Global, number: u64) -> Result<PartReader, ScriptRefusal>
-    ensures { MatchResult result (λ reader. HasRead reader (day_text number))
-        (λ e. e ≡ refusals.NoMemory) }
-{
     let mut reader = PartReader::new(alloc);
     match read_day(&mut reader, alloc, number) {
-        Ok(()) => Ok(reader),
+        Ok(()) => reader.finish(alloc),
         Err(refusal) => {
-            drop(reader);
+            reader.discard();
             Err(refusal)
         }
     }

@@ -19,7 +19,7 @@ use Rattle.script_workers.specs.declared.work.Work.TheVariants as works
 use Rattle.script_core.specs.Fields.{is_empty, next_field, only_field}
 use Rattle.script_workers.specs.Hands.{gateway_count, with_hands}
 use Rattle.script_core.specs.Values.{agree, stop_count}
-use Rattle.script_core.specs.Lines.{may_begin, at_line, stop_field, upload_line, sync_line, compact_line, clean_line, query_line, Asked, bad, question_at, selector_field}
+use Rattle.script_core.specs.Lines.{may_begin, at_line, stop_field, upload_line, sync_line, compact_line, clean_line, query_line, Asked, bad, has_begun, question_at, selector_field}
 use Rattle.script_core.specs.State.{State, all_phases, begin_phase, add_task, add_query, note_sync, is_declared, is_synced, script_of_state, are_all_synced, phase_compacts}
 use Rattle.script_workers.specs.Works.{is_sync_of}
 use Rattle.script_core.specs.Spelling.{spaced, IsTimeText, AtLine, AddsTask, AreStopTexts, no_stop, stops_at, UploadLine, SyncLine, CompactLine, CleanLine, QueryLine}
@@ -116,7 +116,7 @@ some_left : (left : Option (List ℕ)) → not (is_empty (unwrap_or left [])) �
 some_left None some = absurd cc
 some_left (Some text) some = refl
 
-pub question_found : (st : State) (left : Option (List ℕ)) (asked : Asked) → question_at st left ≡ Ok asked → Asks st left asked
+pub question_found : (st : State) (left : Option (List ℕ)) (asked : Asked) → question_at (has_begun st) left ≡ Ok asked → Asks st left asked
 unfolding question_at
 question_found st left asked h =
     let low_text = (next_field left).0 in
@@ -296,7 +296,7 @@ module _ (st after : State) (number : ℕ) (line : List ℕ) (left : Option (Lis
   pub query_line_found : Starts line (codes "query") left → query_line (closed st) number left ≡ Ok after → QueryLine (so_far_of st) number line (so_far_of after) × Kept after
   unfolding query_line add_query
   query_line_found starts h =
-      let a = bind_ok (question_at (closed st) left) _ _ h in
+      let a = bind_ok (question_at (has_begun st) left) _ _ h in
       let b = bind_ok (bad (selector_field st.rules.replicas a.0.text)) _ _ a.2 in
       let c = unless_ok (are_all_synced (closed st)) _ _ _ b.2 in
       let d = bind_ok _ _ _ c.1 in

@@ -25,8 +25,8 @@ use Rattle.script_core.specs.declared.cause.LineCause.TheVariants as causes
 use Rattle.script_core.specs.declared.line_refusal.LineRefusal.TheVariants.{Bad}
 use Rattle.script_core.specs.Fields.{is_empty, is_space, after_space}
 use Rattle.script_core.specs.Values.{is_time}
-use Rattle.script_core.specs.Samples.{is_colon, texts_of, are_whole, is_small_number, has_small_number, have_small_numbers, samples_from, are_within}
-use Rattle.script_core.specs.Lines.{first_labels, series_line}
+use Rattle.script_core.specs.Samples.{is_colon, texts_of, are_whole, is_small_number, has_small_number, have_small_numbers, samples_from, samples_of, are_rising, are_within}
+use Rattle.script_core.specs.Lines.{first_labels, line_samples, series_line}
 use Rattle.script_core.specs.State.{State, Last, block_of, with_last, all_blocks, add_series, test_block, with_series, has_series, script_of_state}
 use Rattle.script_core.specs.Spelling.{spaced, inside, IsSampleField, AreSampleFields, SeriesLine}
 use Rattle.script_core.proofs.FieldLaws.{no_space, space_is}
@@ -133,6 +133,16 @@ samples_found (text ∷ texts) samples free whole small h =
     let all : AreSampleFields (text ∷ texts) (a.0 ∷ b.0) = (first, samples_found texts b.0 f.1 w.1 s.1 b.1) in
     subst (AreSampleFields (text ∷ texts)) (ok_is _ _ b.2) all
 
+line_samples_found : (texts : List ℕ) (samples : List Sample) → line_samples texts ≡ Ok samples
+    → (are_whole texts ≡ true) × (have_small_numbers texts ≡ true) × (samples_of texts ≡ Ok samples) × (are_rising samples ≡ true)
+line_samples_found texts samples h =
+    let whole = unless_ok (are_whole texts) (Bad causes.BadShape) _ _ h in
+    let small = unless_ok (have_small_numbers texts) (Bad causes.BadNumber) _ _ whole.1 in
+    let read = bind_ok _ _ _ small.1 in
+    let rising = unless_ok (are_rising read.0) (Bad causes.FallingTimes) _ _ read.2 in
+    let same : read.0 ≡ samples = ok_is _ _ rising.1 in
+    (whole.0, small.0, refused_as_ok _ _ _ read.1 ∙ ap Ok same, subst (λ s. are_rising s ≡ true) same rising.0)
+
 -- ---- the last block
 
 pub record InLast (blocks : List Block) (continues : Bool) (last : Option Last) (series : Series) : Type 0 where
@@ -175,11 +185,9 @@ pub series_line_found : (st after : State) (line : List ℕ) (left : Option (Lis
 unfolding series_line add_series
 series_line_found st after line left kept starts h =
     let a = bind_ok _ _ _ h in
-    let b = unless_ok (are_whole a.0.1) (Bad causes.BadShape) _ _ a.2 in
-    let c = unless_ok (have_small_numbers a.0.1) (Bad causes.BadNumber) _ _ b.1 in
-    let d = bind_ok _ _ _ c.1 in
-    let e = unless_ok _ _ _ _ d.2 in
-    let f = then_ok _ _ _ e.1 in
+    let d = bind_ok _ _ _ a.2 in
+    let read = line_samples_found a.0.1 d.0 d.1 in
+    let f = then_ok _ _ _ d.2 in
     let same = ok_is _ _ f.2 in
     let series : Series = record { labels = a.0.0; samples = d.0 } in
     let last = in_last st.blocks st.continues st.last series (f.1 ∙ unit_is f.0) in
@@ -198,8 +206,8 @@ series_line_found st after line left kept starts h =
         spelled = starts found.0 found.1 ∙ ap (λ t. codes "series" ++ 32 ∷ t) (set.whole ∙ rest);
         are_labels = set.are_labels;
         some = some_pieces a.0.1;
-        are_samples = samples_found texts d.0 (pieces_free a.0.1) b.0 c.0 (refused_as_ok _ _ _ d.1);
-        rising = rise_spelled d.0 e.0;
+        are_samples = samples_found texts d.0 (pieces_free a.0.1) read.0 read.1 read.2;
+        rising = rise_spelled d.0 read.3;
         in_block = last.follows;
         others = st.blocks;
         ulid = last.block.ulid;

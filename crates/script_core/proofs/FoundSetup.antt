@@ -1,9 +1,9 @@
 -- What is read of a line before the first phase is what the line spells; of series lines FoundSeries speaks.
-use Rattle.std.proofs.Common.{◌≡◌, ℕ, ◌%◌, ◌^◌, ◌<◌, ℤ, ◌<ℤ◌, ◌≤ℤ◌, true, false, not, ◌==◌, ◌&&◌, ltb-true, int_lt, List, [], ◌∷◌, ◌++◌, length, Option, Some, None, Result, Ok, Err, refl, sym, ap, ◌∙◌, subst, arith, codes, ◌⊎◌, inl, inr, append-nil, append_assoc}
+use Rattle.std.proofs.Common.{◌≡◌, ℕ, ◌%◌, ◌^◌, ◌<◌, ℤ, ◌<ℤ◌, ◌≤ℤ◌, Bool, true, false, not, ◌==◌, ◌&&◌, ltb-true, int_lt, List, [], ◌∷◌, ◌++◌, length, Option, Some, None, Result, Ok, Err, refl, sym, ap, ◌∙◌, subst, arith, codes, ◌⊎◌, inl, inr, append-nil, append_assoc}
 use Rattle.std.proofs.lemmas.Bool.Decides.{nat_tests}
 use Rattle.std.proofs.lemmas.Int.{ints}
 use Rattle.std.proofs.lemmas.Option.{same_Some}
-use Rattle.reading_core.proofs.Binds.{bind_ok, unless_ok, ok_is, refused_as_ok, ok_or_ok}
+use Rattle.reading_core.proofs.Binds.{bind_ok, then_ok, unless_is, unless_ok, ok_is, refused_as_ok, ok_or_ok}
 use Rattle.std.proofs.lemmas.Bool.{and_parts, not-true}
 use Rattle.std.proofs.lemmas.List.{take_all}
 use Rattle.label_sets.proofs.SetLaws.{set_text_found}
@@ -16,18 +16,19 @@ use Rattle.script_core.specs.declared.body.Body.TheVariants.{Inline, OnShelf}
 use Rattle.script_core.specs.declared.cause.LineCause.TheVariants as causes
 use Rattle.script_core.specs.declared.line_refusal.LineRefusal.TheVariants.{Bad}
 use Rattle.moment_core.specs.declared.rules.Rules.{Rules}
+use Rattle.script_core.specs.declared.inline_block.BlockHead.{BlockHead}
 use Rattle.script_core.specs.declared.rule_kind.RuleKind.{RuleKind}
 use Rattle.script_core.specs.declared.rule_kind.RuleKind.TheVariants.{Valued, ReplicaLabel, Retention}
 use Rattle.moment_core.specs.declared.partition.Partition.{Partition}
 use Rattle.script_core.specs.Fields.{is_empty, next_field, only_field, rule_kind}
-use Rattle.script_core.specs.Values.{add_replica, apply_rule, set_rule, set_retention, retention_from, time_field}
-use Rattle.script_core.specs.Lines.{bad, rule_line, partition_field, gateway_line, block_line, whole_labels, last_labels, shelf_line}
-use Rattle.script_core.specs.State.{State, add_gateway, all_phases, begin_block, is_declared, script_of_state, add_shelf, all_blocks, with_last}
+use Rattle.script_core.specs.Values.{add_replica, apply_rule, set_rule, set_retention, is_reserved, retention_from, time_field, ulid_field}
+use Rattle.script_core.specs.Lines.{bad, is_early, rule_line, partition_field, gateway_line, block_head, test_head, block_line, whole_labels, last_labels, test_shelf, shelf_line}
+use Rattle.script_core.specs.State.{State, Last, add_gateway, all_phases, begin_block, is_declared, script_of_state, add_shelf, all_blocks, with_last}
 use Rattle.script_core.specs.Spelling.{SoFar, spaced, IsField, IsTimeText, outside, Sets, RuleLine, ReplicaLine, RetentionLine, ArePartitionTexts, at_all_times, from_to, GatewayLine, BlockLine, ShelfLine, HasEnded, inside}
 use Rattle.script_core.proofs.FieldLaws.{no_space, Cut, cut_found}
 use Rattle.script_core.proofs.ValueLaws.{is_none_is, time_found, ulid_found, value_found, span_found}
 use Rattle.script_core.proofs.Kept.{Kept, so_far_of, gateway_kept, block_kept, shelf_kept}
-use Rattle.script_core.proofs.LineTools.{is_field, cut_rest, cut_end, only_found, valued_found, replica_found, retention_found, early_found, ended_again}
+use Rattle.script_core.proofs.LineTools.{unit_is, is_field, cut_rest, cut_end, only_found, valued_found, replica_found, retention_found, early_found, ended_again}
 use Rattle.script_core.proofs.SpelledValues.{near_spelled, free_spelled}
 use Rattle.script_core.proofs.SpelledRules.{rule_sets, keeps_for}
 use Rattle.script_core.specs.Limits.{most_blocks}
@@ -94,6 +95,25 @@ pub named_cut : (left : Option (List ℕ)) (name : List ℕ) (rest : Option (Lis
     → (left ≡ Some (spaced (name ∷ texts))) × (no_space name ≡ true)
 named_cut left name rest [] cut some are = cut_end left name rest cut are some
 named_cut left name rest (text ∷ texts) cut some are = cut_rest left name rest (spaced (text ∷ texts)) cut are
+
+-- what a block line says before its labels, and what it is tested for
+head_found : (ulid_text min_text max_text : List ℕ) (head : BlockHead) → block_head ulid_text min_text max_text ≡ Ok head
+    → (time_field min_text ≡ Ok head.min_time) × (time_field max_text ≡ Ok head.max_time) × (ulid_field ulid_text ≡ Ok head.ulid)
+head_found ulid_text min_text max_text head h =
+    let low = bind_ok (time_field min_text) _ _ h in
+    let high = bind_ok (time_field max_text) _ _ low.2 in
+    let ulid = bind_ok (ulid_field ulid_text) _ _ high.2 in
+    let made : record { ulid = ulid.0; min_time = low.0; max_time = high.0 } ≡ head = ok_is _ _ ulid.2 in (
+      low.1 ∙ ap (λ (one : BlockHead). Ok one.min_time) made,
+      high.1 ∙ ap (λ (one : BlockHead). Ok one.max_time) made,
+      ulid.1 ∙ ap (λ (one : BlockHead). Ok one.ulid) made,
+    )
+
+head_tested : (early : Bool) (head : BlockHead) → test_head early head ≡ Ok tt → (early ≡ true) × (int_lt head.min_time head.max_time ≡ true) × (not (is_reserved head.ulid) ≡ true)
+head_tested early head tested =
+    let a = unless_ok early (Bad causes.LateLine) _ _ tested in
+    let b = unless_ok (int_lt head.min_time head.max_time) (Bad causes.BadTimes) _ _ a.1 in
+    (a.0, b.0, unless_is (not (is_reserved head.ulid)) _ b.1)
 
 -- a rule line of one of the three kinds
 abbrev pub IsRuleLine : SoFar → List ℕ → SoFar → Type 0
@@ -206,46 +226,47 @@ module _ (st after : State) (line : List ℕ) (left : Option (List ℕ)) (kept :
       let a = unless_ok (not (is_empty ulid_text) && not (is_empty min_text) && not (is_empty max_text)) (Bad causes.BadShape) _ _ h in
       let b = bind_ok _ _ _ a.1 in
       let c = bind_ok _ _ _ b.2 in
-      let d = bind_ok _ _ _ c.2 in
-      let e = bind_ok _ _ _ d.2 in
-      let f = bind_ok _ _ _ e.2 in
-      let g = unless_ok _ _ _ _ f.2 in
-      let i = unless_ok _ _ _ _ g.1 in
-      let j = unless_ok _ _ _ _ i.1 in
-      let k = unless_ok _ _ _ _ j.1 in
+      let head = c.0 in
+      let f = bind_ok _ _ _ c.2 in
+      let stands = then_ok (test_head (is_early st) head) _ _ f.2 in
+      let tests = head_tested (is_early st) head (stands.1 ∙ unit_is stands.0) in
+      let declared = bind_ok _ _ _ stands.2 in
+      let k = unless_ok _ _ _ _ declared.1 in
       let l = unless_ok _ _ _ _ k.1 in
-      let same = ok_is _ _ l.1 in
+      let new : Last = record { line = number; ulid = head.ulid; labels = f.0; min_time = head.min_time; max_time = head.max_time; series = [] } in
+      let same = ap (λ (s : State). record s { last = Some new; continues = true }) (ok_is _ _ l.1) ∙ ok_is _ _ declared.2 in
       let front = and_parts (not (is_empty ulid_text) && not (is_empty min_text)) (not (is_empty max_text)) a.0 in
       let fields = and_parts (not (is_empty ulid_text)) (not (is_empty min_text)) front.0 in
       let set = labels_found after_max f.0 (subst (λ o. last_labels after_max ≡ Ok o) (ok_or_ok b.0 _ f.0 f.1) b.1) in
       let third = cut_rest after_min max_text after_max set.0 (cut_found after_min) set.1 in
       let second = cut_rest after_ulid min_text after_min (max_text ++ 32 ∷ set.0) (cut_found after_ulid) third.0 in
       let first = cut_rest left ulid_text after_ulid (min_text ++ 32 ∷ (max_text ++ 32 ∷ set.0)) (cut_found left) second.0 in
-      let min_is = time_found min_text c.0 (refused_as_ok _ _ _ c.1) in
-      let max_is = time_found max_text d.0 (refused_as_ok _ _ _ d.1) in
-      let fresh : is_declared st e.0 ≡ false = not-true _ k.0 in
+      let read = head_found ulid_text min_text max_text head (refused_as_ok _ _ _ c.1) in
+      let min_is = time_found min_text head.min_time read.0 in
+      let max_is = time_found max_text head.max_time read.1 in
+      let fresh : is_declared st head.ulid ≡ false = not-true _ k.0 in
       let few : length st.ulids < most_blocks = ltb-true _ _ l.0 in (
         record {
           ulid_text = ulid_text;
           min_text = min_text;
           max_text = max_text;
           labels_text = set.0;
-          ulid = e.0;
-          min_time = c.0;
-          max_time = d.0;
+          ulid = head.ulid;
+          min_time = head.min_time;
+          max_time = head.max_time;
           labels = f.0;
           spelled = starts (ulid_text ++ 32 ∷ (min_text ++ 32 ∷ (max_text ++ 32 ∷ set.0))) first.0;
-          is_ulid = record { field = is_field ulid_text fields.0 first.1; written = ulid_found ulid_text e.0 (refused_as_ok _ _ _ e.1); not_reserved = free_spelled (e.0 % 2 ^ 80) (not-true _ j.0) };
-          is_min = record { field = is_field min_text fields.1 second.1; written = min_is.0; near = near_spelled c.0 min_is.1 };
-          is_max = record { field = is_field max_text front.1 third.1; written = max_is.0; near = near_spelled d.0 max_is.1 };
+          is_ulid = record { field = is_field ulid_text fields.0 first.1; written = ulid_found ulid_text head.ulid read.2; not_reserved = free_spelled (head.ulid % 2 ^ 80) (not-true _ tests.2) };
+          is_min = record { field = is_field min_text fields.1 second.1; written = min_is.0; near = near_spelled head.min_time min_is.1 };
+          is_max = record { field = is_field max_text front.1 third.1; written = max_is.0; near = near_spelled head.max_time max_is.1 };
           are_labels = set.2;
-          early = early_found st.phases st.phase kept.tasks.no_phase g.0;
-          times = below_is c.0 d.0 i.0;
-          new = sym (kept.blocks.declared e.0) ∙ fresh;
+          early = early_found st.phases st.phase kept.tasks.no_phase tests.0;
+          times = below_is head.min_time head.max_time tests.1;
+          new = sym (kept.blocks.declared head.ulid) ∙ fresh;
           few = omega (arith, kept.blocks.count, few);
-          adds = ap so_far_of (sym same) ∙ ap (λ (bs : List Block). inside (record (script_of_state st) { blocks = bs })) (append-nil (all_blocks st.blocks st.last st.shelved ++ record { ulid = e.0; labels = f.0; body = Inline c.0 d.0 [] } ∷ []));
+          adds = ap so_far_of (sym same) ∙ ap (λ (bs : List Block). inside (record (script_of_state st) { blocks = bs })) (append-nil (all_blocks st.blocks st.last st.shelved ++ record { ulid = head.ulid; labels = f.0; body = Inline head.min_time head.max_time [] } ∷ []));
         },
-        subst Kept same (record { blocks = block_kept st.blocks st.last st.shelved st.ulids kept.blocks (record { line = number; ulid = e.0; labels = f.0; min_time = c.0; max_time = d.0; series = [] }) refl fresh; follows = λ c. refl; tasks = kept.tasks }),
+        subst Kept same (record { blocks = block_kept st.blocks st.last st.shelved st.ulids kept.blocks new refl fresh; follows = λ c. refl; tasks = kept.tasks }),
       )
 
   pub shelf_line_found : HasEnded (all_blocks st.blocks st.last st.shelved) → Starts line (codes "shelf") left → shelf_line (closed st) left ≡ Ok after → ShelfLine (so_far_of st) line (so_far_of after) × Kept after
@@ -257,16 +278,18 @@ module _ (st after : State) (line : List ℕ) (left : Option (List ℕ)) (kept :
       let b = bind_ok _ _ _ a.1 in
       let c = bind_ok _ _ _ b.2 in
       let d = bind_ok _ _ _ c.2 in
-      let e = unless_ok _ _ _ _ d.2 in
-      let f = unless_ok _ _ _ _ e.1 in
-      let g = unless_ok _ _ _ _ f.1 in
+      let stands = then_ok (test_shelf (is_early st) c.0) _ _ d.2 in
+      let e = unless_ok (is_early st) (Bad causes.LateLine) _ _ (stands.1 ∙ unit_is stands.0) in
+      let free = unless_is (not (is_reserved c.0)) _ e.1 in
+      let declared = bind_ok _ _ _ stands.2 in
+      let g = unless_ok _ _ _ _ declared.1 in
       let i = unless_ok _ _ _ _ g.1 in
-      let same = ok_is _ _ i.1 in
+      let new : Block = record { ulid = c.0; labels = d.0; body = OnShelf } in
+      let same = ap (λ (s : State). record s { shelved = s.shelved ++ new ∷ [] }) (ok_is _ _ i.1) ∙ ok_is _ _ declared.2 in
       let set = labels_found after_ulid d.0 (subst (λ o. last_labels after_ulid ≡ Ok o) (ok_or_ok b.0 _ d.0 d.1) b.1) in
       let first = cut_rest left ulid_text after_ulid set.0 (cut_found left) set.1 in
       let fresh : is_declared st c.0 ≡ false = not-true _ g.0 in
       let few : length st.ulids < most_blocks = ltb-true _ _ i.0 in
-      let new : Block = record { ulid = c.0; labels = d.0; body = OnShelf } in
       let ends = ended_again st.blocks st.last st.shelved kept.blocks.ended ended in (
         record {
           ulid_text = ulid_text;
@@ -274,7 +297,7 @@ module _ (st after : State) (line : List ℕ) (left : Option (List ℕ)) (kept :
           ulid = c.0;
           labels = d.0;
           spelled = starts (ulid_text ++ 32 ∷ set.0) first.0;
-          is_ulid = record { field = is_field ulid_text a.0 first.1; written = ulid_found ulid_text c.0 (refused_as_ok _ _ _ c.1); not_reserved = free_spelled (c.0 % 2 ^ 80) (not-true _ f.0) };
+          is_ulid = record { field = is_field ulid_text a.0 first.1; written = ulid_found ulid_text c.0 (refused_as_ok _ _ _ c.1); not_reserved = free_spelled (c.0 % 2 ^ 80) (not-true _ free) };
           are_labels = set.2;
           early = early_found st.phases st.phase kept.tasks.no_phase e.0;
           new = sym (kept.blocks.declared c.0) ∙ fresh;

@@ -10,18 +10,18 @@ use Rattle.script_core.specs.declared.script_refusal.ScriptRefusal.{ScriptRefusa
 use Rattle.script_core.specs.Fields.{lines_of, is_silent, next_field, line_kind}
 use Rattle.script_core.specs.GivenUp.{IsSelectorGivenUp, IsQueryGivenUp, IsKindGivenUp, IsTextGivenUp, IsLineGivenUp, AreLinesGivenUp, IsWholeGivenUp}
 use Rattle.script_core.specs.Limits.{longest_text}
-use Rattle.script_core.specs.Lines.{Asked, bad, query_line, question_at, selector_field}
+use Rattle.script_core.specs.Lines.{Asked, bad, has_begun, query_line, question_at, selector_field}
 use Rattle.script_core.specs.Reading.{of_line, is_series}
 use Rattle.script_core.specs.State.{State, start, end_block}
 
 -- a query whose selector is given up
-query_given_up : (st : State) (left : Option (List ℕ)) (asked : Asked) (refusal : LineRefusal) → question_at st left ≡ Ok asked → IsSelectorGivenUp asked.text refusal → IsQueryGivenUp st left refusal
+query_given_up : (st : State) (left : Option (List ℕ)) (asked : Asked) (refusal : LineRefusal) → question_at (has_begun st) left ≡ Ok asked → IsSelectorGivenUp asked.text refusal → IsQueryGivenUp st left refusal
 query_given_up st left asked refusal is (inl memory) = inl memory
 query_given_up st left asked refusal is (inr large) =
     inr (large.0, record { asked = asked; is_asked = is; pattern = large.1 })
 
 -- a query whose selector is refused
-pub query_refused : (st : State) (number : ℕ) (left : Option (List ℕ)) (asked : Asked) (refusal : LineRefusal) → question_at st left ≡ Ok asked
+pub query_refused : (st : State) (number : ℕ) (left : Option (List ℕ)) (asked : Asked) (refusal : LineRefusal) → question_at (has_begun st) left ≡ Ok asked
     → IsSelectorGivenUp asked.text refusal ⊎ (bad (selector_field st.rules.replicas asked.text) ≡ Err refusal) → IsQueryGivenUp st left refusal ⊎ (query_line st number left ≡ Err refusal)
 unfolding query_line
 query_refused st number left asked refusal is (inl given_up) = inl (query_given_up st left asked refusal is given_up)

@@ -6,25 +6,24 @@ use Rattle.std.proofs.lemmas.List.{drop_all, length-append, take_all}
 use Rattle.std.proofs.lemmas.List.Splits.{slice_split_first, slice_split_none}
 use Rattle.std.proofs.lemmas.List.Sums.{fails_before_first}
 use Rattle.reading_core.proofs.Binds.{bind_ok, ok_is}
-use Rattle.moment_core.specs.StandardRules.{standard_rules}
 use Rattle.script_core.specs.declared.script_refusal.ScriptRefusal.{ScriptRefusal}
 use Rattle.script_core.specs.Fields.{is_newline, lines_of}
 use Rattle.script_core.specs.GivenUp.{IsLineGivenUp, AreLinesGivenUp}
 use Rattle.script_core.specs.Reading.{line_at, lines_at}
-use Rattle.script_core.specs.State.{State, start}
+use Rattle.script_core.specs.State.{State}
 use Rattle.script_core.proofs.LineLists.{lines_refuse}
 
 -- the lines before those that are left, and what they leave
-pub record ReadSoFar (text left : List ℕ) (number : ℕ) (st : State) : Type 0 where
+pub record ReadSoFar (at_first : State) (text left : List ℕ) (number : ℕ) (st : State) : Type 0 where
   pub earlier : List (List ℕ)
   pub count : number ≡ length earlier
-  pub read : lines_at (start standard_rules) 1 earlier ≡ Ok st
+  pub read : lines_at at_first 1 earlier ≡ Ok st
   -- Where nothing is left, the last line had no newline, or one that ends the text.
   pub stands : 0 < length left → lines_of text ≡ earlier ++ lines_of left
 
-pub none_read : (text : List ℕ) (st : State) → st ≡ start standard_rules → ReadSoFar text text 0 st
+pub none_read : (text : List ℕ) (st : State) → ReadSoFar st text text 0 st
 unfolding lines_at
-none_read text st is = record { earlier = []; count = refl; read = ap Ok (sym is); stands = λ some. refl }
+none_read text st = record { earlier = []; count = refl; read = refl; stands = λ some. refl }
 
 -- one more line
 pub lines_at-push : (st after last : State) (number : ℕ) (earlier : List (List ℕ)) (line : List ℕ) → lines_at st number earlier ≡ Ok after → line_at after (number + length earlier) line ≡ Ok last
@@ -57,7 +56,7 @@ more_by left false test =
 more_left : (left : List ℕ) → (later : List (List ℕ)) × (lines_of left ≡ before_first is_newline left ∷ later) × (0 < length (after_first is_newline left) → later ≡ lines_of (after_first is_newline left))
 more_left left = more_by left (nat_lt (position_or_len is_newline left) (length left)) refl
 
-module _ (text left line rest : List ℕ) (number : ℕ) (st : State) (so_far : ReadSoFar text left number st) (some : 0 < length left) (line_is : line ≡ before_first is_newline left) where
+module _ (at_first : State) (text left line rest : List ℕ) (number : ℕ) (st : State) (so_far : ReadSoFar at_first text left number st) (some : 0 < length left) (line_is : line ≡ before_first is_newline left) where
   begins : (later : List (List ℕ)) × (lines_of text ≡ so_far.earlier ++ line ∷ later) × (0 < length (after_first is_newline left) → later ≡ lines_of (after_first is_newline left))
   begins =
       let more = more_left left in
@@ -66,11 +65,11 @@ module _ (text left line rest : List ℕ) (number : ℕ) (st : State) (so_far : 
   place_is : number + 1 ≡ 1 + length so_far.earlier
   place_is = omega (arith, so_far.count)
 
-  pub one_read : (after : State) → rest ≡ after_first is_newline left → line_at st (number + 1) line ≡ Ok after → ReadSoFar text rest (number + 1) after
+  pub one_read : (after : State) → rest ≡ after_first is_newline left → line_at st (number + 1) line ≡ Ok after → ReadSoFar at_first text rest (number + 1) after
   one_read after rest_is read = record {
     earlier = so_far.earlier ++ line ∷ [];
     count = omega (arith, so_far.count, length-append so_far.earlier (line ∷ []));
-    read = lines_at-push (start standard_rules) st after 1 so_far.earlier line so_far.read (ap (λ n. line_at st n line) (sym place_is) ∙ read);
+    read = lines_at-push at_first st after 1 so_far.earlier line so_far.read (ap (λ n. line_at st n line) (sym place_is) ∙ read);
     stands = λ more.
         let later = begins.2 (subst (λ (l : List ℕ). 0 < length l) rest_is more) in
         begins.1 ∙ ap (λ ls. so_far.earlier ++ line ∷ ls) (later ∙ ap lines_of (sym rest_is))
@@ -78,7 +77,7 @@ module _ (text left line rest : List ℕ) (number : ℕ) (st : State) (so_far : 
   }
 
   -- a line that is given up
-  pub one_given_up : (refusal : ScriptRefusal) → IsLineGivenUp st (number + 1) line refusal → AreLinesGivenUp (start standard_rules) 1 (lines_of text) refusal
+  pub one_given_up : (refusal : ScriptRefusal) → IsLineGivenUp st (number + 1) line refusal → AreLinesGivenUp at_first 1 (lines_of text) refusal
   one_given_up refusal (inl memory) = inl memory
   one_given_up refusal (inr large) = inr (
     number + 1,
@@ -99,7 +98,7 @@ module _ (text left line rest : List ℕ) (number : ℕ) (st : State) (so_far : 
 
   -- a line that is refused ends the reading
   pub refused_there : (refusal : ScriptRefusal) (whole : Result State ScriptRefusal) → IsLineGivenUp st (number + 1) line refusal ⊎ (line_at st (number + 1) line ≡ Err refusal)
-      → lines_at st (number + 1) (lines_of left) ≡ whole → AreLinesGivenUp (start standard_rules) 1 (lines_of text) refusal ⊎ (whole ≡ Err refusal)
+      → lines_at st (number + 1) (lines_of left) ≡ whole → AreLinesGivenUp at_first 1 (lines_of text) refusal ⊎ (whole ≡ Err refusal)
   refused_there refusal whole (inl given_up) so_far_is = inl (one_given_up refusal given_up)
   refused_there refusal whole (inr refused) so_far_is =
       inr (lines_refuse st st (number + 1) left line rest whole refusal line_is refused so_far_is)

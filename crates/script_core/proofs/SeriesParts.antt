@@ -17,13 +17,14 @@ use Rattle.label_sets.specs.declared.sample.Sample.{Sample}
 use Rattle.label_sets.proofs.SetLaws.{set_text_again}
 use Rattle.script_core.specs.declared.line_kind.LineKind.TheVariants as kinds
 use Rattle.script_core.specs.Fields.{is_empty, is_newline, is_silent, next_field}
-use Rattle.reading_core.specs.Reading.{Gives, unless}
-use Rattle.reading_core.proofs.Binds.{ok_not_err, one_answer}
+use Rattle.reading_core.specs.Reading.{Gives}
+use Rattle.reading_core.proofs.Binds.{ok_not_err, one_answer, unless_is, unless_ok}
 use Rattle.script_core.specs.declared.cause.LineCause.{LineCause}
+use Rattle.script_core.specs.declared.cause.LineCause.TheVariants as causes
 use Rattle.script_core.specs.declared.line_refusal.LineRefusal.{LineRefusal}
 use Rattle.script_core.specs.declared.line_refusal.LineRefusal.TheVariants as lines
 use Rattle.script_core.specs.Lines.{fields_line, first_labels, last_labels, series_line}
-use Rattle.script_core.specs.Parts.{AreSeriesParts, HasField, IsOneLine, has_field, series_front}
+use Rattle.script_core.specs.Parts.{AreSeriesParts, HasField, IsOneLine, has_field, test_samples, series_front}
 use Rattle.script_core.specs.Reading.{kind_line, line_at, of_line, spoken_line, text_line}
 use Rattle.script_core.specs.Samples.{texts_of, are_whole, has_small_number, have_small_numbers, samples_from, are_rising}
 use Rattle.script_core.specs.Spelling.{AreSampleFields}
@@ -182,6 +183,17 @@ all_fields samples have = λ k d below.
     let small = parts.1 in
     record { near = near_spelled sample.time parts.0; pattern = grind (arith, nat_tests) }
 
+some_not_none : (samples : List Sample) → not (length samples == 0) ≡ true → samples ≡ [] → ⊥
+some_not_none [] some none = absurd cc
+some_not_none (sample ∷ samples) some none = absurd cc
+
+-- samples that pass the tests
+pub samples_tested : (samples : List Sample) → test_samples samples ≡ Ok tt → (samples ≢ []) × All HasField samples × (are_rising samples ≡ true)
+samples_tested samples tested =
+    let some = unless_ok (not (length samples == 0)) (lines.Bad causes.BadShape) _ _ tested in
+    let fields = unless_ok (list_all has_field samples) (lines.Bad causes.BadNumber) _ _ some.1 in
+    (λ none. some_not_none samples some.0 none, all_fields samples fields.0, unless_is (are_rising samples) _ fields.1)
+
 text_known : (text inner : List ℕ) (b : Bool) → cond b (Some text) None ≡ Some inner → text ≡ inner
 text_known text inner true is = same_Some _ _ is
 text_known text inner false is = absurd cc
@@ -211,22 +223,25 @@ set_there found set refusal lacking is refused =
 
 -- ---- what adding a series has refused
 
--- parts of a series line pass each test
-pub unless_not : (b : Bool) (d e : LineRefusal) → unless b d ≡ Err e → b ≡ false
-unless_not true d e refused = absurd cc
-unless_not false d e refused = refl
-
-pub none_by : (samples : List Sample) (count : ℕ) → count ≡ length samples → nat_lt 0 count ≡ false → samples ≡ []
-none_by [] count is none = refl
-none_by (sample ∷ samples) count is none = absurd (grind (arith, nat_tests))
-
-pub have_all : (samples : List Sample) → All HasField samples → list_all has_field samples ≡ true
+-- the samples of a series line pass each test
+have_all : (samples : List Sample) → All HasField samples → list_all has_field samples ≡ true
 have_all [] all = refl
 have_all (sample ∷ samples) all =
     let has = All-head HasField sample samples all in
     let fits = has.pattern in
     let small : nat_le sample.pattern (2 ^ 64 - 1) ≡ true = grind (arith, nat_tests) in
     rw (near_tested sample.time has.near, small) (have_all samples (All-tail HasField sample samples all))
+
+some_by : (samples : List Sample) → samples ≢ [] → not (length samples == 0) ≡ true
+some_by [] some = absurd (some refl)
+some_by (sample ∷ samples) some = grind (arith, nat_tests)
+
+samples_pass : (samples : List Sample) → samples ≢ [] → All HasField samples → are_rising samples ≡ true → test_samples samples ≡ Ok tt
+samples_pass samples some all rising = rw (some_by samples some, have_all samples all, rising) refl
+
+pub none_refused : (samples : List Sample) (refusal : LineRefusal) → samples ≢ [] → All HasField samples → are_rising samples ≡ true → test_samples samples ≡ Err refusal → ⊥
+none_refused samples refusal some all rising refused =
+    ok_not_err tt refusal (test_samples samples) (samples_pass samples some all rising) refused
 
 pub adding_refused : (st after : State) (own set : List Label) (samples : List Sample) (result : Result (Unit {0}) LineRefusal) → own ≡ set → Gives lines.NoMemory (λ _. after) result (add_series st (record { labels = own; samples = samples })) → IfErr result (λ e. (e ≡ lines.NoMemory) ⊎ (add_series st (record { labels = set; samples = samples }) ≡ Err e))
 adding_refused st after own set samples (Ok done) same gives = tt

@@ -15,7 +15,7 @@ use Rattle.script_core.specs.declared.script_refusal.ScriptRefusal.{ScriptRefusa
 use Rattle.script_core.specs.declared.script_refusal.ScriptRefusal.TheVariants as scripts
 use Rattle.script_core.specs.Fields.{lines_of, is_silent, next_field, line_kind}
 use Rattle.script_core.specs.State.{State, start, end_block}
-use Rattle.script_core.specs.Lines.{Asked, question_at}
+use Rattle.script_core.specs.Lines.{Asked, has_begun, question_at}
 use Rattle.script_core.specs.Reading.{lines_at}
 use Rattle.script_core.specs.Spelling.{spaced, IsTimeText, SoFar, nothing, HasEnded, Say}
 
@@ -76,7 +76,7 @@ IsSelectorGivenUp text refusal =
 -- a query whose line is lawful up to its selector, which has such a pattern
 pub record AsksPattern (st : State) (left : Option (List ℕ)) : Type 0 where
   pub asked : Asked
-  pub is_asked : question_at st left ≡ Ok asked
+  pub is_asked : question_at (has_begun st) left ≡ Ok asked
   pub pattern : HasPattern asked.text
 
 abbrev pub IsQueryGivenUp : State → Option (List ℕ) → LineRefusal → Type 0

@@ -5,6 +5,7 @@ use Rattle.std.specs.Str.{bytes_eq}
 use Rattle.reading_core.specs.Reading.{◌>>=◌, ◌>>◌, unless, refused_as}
 use Rattle.label_sets.specs.declared.label.Label.{Label}
 use Rattle.label_sets.specs.declared.label_refusal.LabelRefusal.{LabelRefusal}
+use Rattle.label_sets.specs.declared.sample.Sample.{Sample}
 use Rattle.matchers.specs.declared.matcher.Matcher.{Matcher}
 use Rattle.moment_core.specs.Partitions.{all_times}
 use Rattle.moment_core.specs.declared.moment.Moment.{Moment}
@@ -17,6 +18,7 @@ use Rattle.script_core.specs.declared.line_kind.LineKind.{LineKind}
 use Rattle.script_core.specs.declared.line_kind.LineKind.TheVariants as kinds
 use Rattle.script_core.specs.declared.line_refusal.LineRefusal.{LineRefusal}
 use Rattle.script_core.specs.declared.line_refusal.LineRefusal.TheVariants.{Bad, FallingMoment, UnknownBlock, BadRules, NeverSynced, TwoCompactors}
+use Rattle.script_core.specs.declared.inline_block.BlockHead.{BlockHead}
 use Rattle.script_workers.specs.declared.phase.Phase.{Phase}
 use Rattle.script_workers.specs.declared.work.Work.TheVariants as works
 use Rattle.script_core.specs.Fields.{is_empty, next_field, only_field, after_space, rule_kind}
@@ -85,6 +87,20 @@ last_labels left = do
   unless (not (is_empty (unwrap_or left []))) (Bad causes.BadShape)
   whole_labels (length (unwrap_or left [])) (read_set (unwrap_or left []))
 
+-- the ULID and the times of a block line, which are read in another order than they stand
+abbrev pub block_head : List ℕ → List ℕ → List ℕ → Result BlockHead LineCause
+block_head ulid_text min_text max_text = do
+  min_time ← time_field min_text
+  max_time ← time_field max_text
+  ulid ← ulid_field ulid_text
+  Ok (record { ulid = ulid; min_time = min_time; max_time = max_time })
+
+abbrev pub test_head : Bool → BlockHead → Result (Unit {0}) LineRefusal
+test_head early head = do
+  unless early (Bad causes.LateLine)
+  unless (int_lt head.min_time head.max_time) (Bad causes.BadTimes)
+  unless (not (is_reserved head.ulid)) (Bad causes.ReservedUlid)
+
 -- block ULID MIN MAX LABELS
 unfoldable pub block_line : State → ℕ → Option (List ℕ) → Result State LineRefusal
 block_line st number left = do
@@ -93,14 +109,15 @@ block_line st number left = do
   let max_text = next_field min_text.1
   unless (not (is_empty ulid_text.0) && not (is_empty min_text.0) && not (is_empty max_text.0)) (Bad causes.BadShape)
   set ← last_labels max_text.1
-  min_time ← bad (time_field min_text.0)
-  max_time ← bad (time_field max_text.0)
-  ulid ← bad (ulid_field ulid_text.0)
+  head ← bad (block_head ulid_text.0 min_text.0 max_text.0)
   labels ← ok_or set (Bad causes.BadLabelText)
-  unless (is_early st) (Bad causes.LateLine)
-  unless (int_lt min_time max_time) (Bad causes.BadTimes)
+  test_head (is_early st) head
+  begin_block st (record { line = number; ulid = head.ulid; labels = labels; min_time = head.min_time; max_time = head.max_time; series = [] })
+
+abbrev pub test_shelf : Bool → ℕ → Result (Unit {0}) LineRefusal
+test_shelf early ulid = do
+  unless early (Bad causes.LateLine)
   unless (not (is_reserved ulid)) (Bad causes.ReservedUlid)
-  begin_block st (record { line = number; ulid = ulid; labels = labels; min_time = min_time; max_time = max_time; series = [] })
 
 -- shelf ULID LABELS
 unfoldable pub shelf_line : State → Option (List ℕ) → Result State LineRefusal
@@ -110,8 +127,7 @@ shelf_line st left = do
   set ← last_labels ulid_text.1
   ulid ← bad (ulid_field ulid_text.0)
   labels ← ok_or set (Bad causes.BadLabelText)
-  unless (is_early st) (Bad causes.LateLine)
-  unless (not (is_reserved ulid)) (Bad causes.ReservedUlid)
+  test_shelf (is_early st) ulid
   add_shelf st (record { ulid = ulid; labels = labels; body = OnShelf })
 
 -- the label set at the front of what is left of a line, and what follows the space after it
@@ -122,14 +138,20 @@ first_labels left = do
   texts ← bad (after_space (drop found.1 (unwrap_or left [])))
   Ok (found.0, texts)
 
+-- TIME:PATTERN TIME:PATTERN ..
+abbrev pub line_samples : List ℕ → Result (List Sample) LineRefusal
+line_samples texts = do
+  unless (are_whole texts) (Bad causes.BadShape)
+  unless (have_small_numbers texts) (Bad causes.BadNumber)
+  samples ← bad (samples_of texts)
+  unless (are_rising samples) (Bad causes.FallingTimes)
+  Ok samples
+
 -- series LABELS TIME:PATTERN TIME:PATTERN ..
 unfoldable pub series_line : State → Option (List ℕ) → Result State LineRefusal
 series_line st left = do
   found ← first_labels left
-  unless (are_whole found.1) (Bad causes.BadShape)
-  unless (have_small_numbers found.1) (Bad causes.BadNumber)
-  samples ← bad (samples_of found.1)
-  unless (are_rising samples) (Bad causes.FallingTimes)
+  samples ← line_samples found.1
   add_series st (record { labels = found.0; samples = samples })
 
 -- the first phase asks that the rules agree, a later one that it is not before the last
@@ -199,16 +221,16 @@ pub record Asked : Type 0 where
   -- the text of the selector
   pub text : List ℕ
 
--- LOW HIGH SELECTOR, where all that is left behind the times is the selector
-unfoldable pub question_at : State → Option (List ℕ) → Result Asked LineRefusal
-question_at st left = do
+-- LOW HIGH SELECTOR, where all that is left behind the times is the selector, and a phase has to have begun
+unfoldable pub question_at : Bool → Option (List ℕ) → Result Asked LineRefusal
+question_at begun left = do
   let low_text = next_field left
   let high_text = next_field low_text.1
   let text = unwrap_or high_text.1 []
   unless (not (is_empty low_text.0) && not (is_empty high_text.0) && not (is_empty text)) (Bad causes.BadShape)
   low ← bad (time_field low_text.0)
   high ← bad (time_field high_text.0)
-  unless (has_begun st) (Bad causes.NoPhase)
+  unless begun (Bad causes.NoPhase)
   unless (not (int_lt high low)) (Bad causes.BadTimes)
   Ok (record { low = low; high = high; text = text })
 
@@ -224,7 +246,7 @@ selector_field replicas text = do
 -- query LOW HIGH SELECTOR
 unfoldable pub query_line : State → ℕ → Option (List ℕ) → Result State LineRefusal
 query_line st number left = do
-  asked ← question_at st left
+  asked ← question_at (has_begun st) left
   selector ← bad (selector_field st.rules.replicas asked.text)
   unless (are_all_synced st) NeverSynced
   add_query st number asked.low asked.high selector

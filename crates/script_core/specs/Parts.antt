@@ -1,5 +1,5 @@
 -- A script that comes part by part.
-use Rattle.std.specs.Prelude.{◌≡◌, ◌≢◌, ℕ, ◌+◌, ◌-◌, ◌*◌, ◌<◌, ◌≤◌, ◌^◌, Bool, ◌&&◌, nat_le, List, [], ◌∷◌, ◌++◌, length, not, All, IsTrue, Err, codes}
+use Rattle.std.specs.Prelude.{◌≡◌, ◌≢◌, ℕ, ◌+◌, ◌-◌, ◌*◌, ◌<◌, ◌≤◌, ◌^◌, Bool, ◌&&◌, ◌==◌, nat_le, List, [], ◌∷◌, ◌++◌, length, not, All, IsTrue, Result, Err, codes}
 use Rattle.std.specs.List.{flat_map, list_all}
 use Rattle.std.specs.Str.{is_utf8}
 use Rattle.label_sets.specs.SampleText.{spaced_sample_text}
@@ -7,6 +7,10 @@ use Rattle.label_sets.specs.SetText.{IsSetText}
 use Rattle.label_sets.specs.declared.label.Label.{Label}
 use Rattle.label_sets.specs.declared.sample.Sample.{Sample}
 use Rattle.moment_core.specs.StandardRules.{standard_rules}
+use Rattle.reading_core.specs.Reading.{◌>>◌, unless}
+use Rattle.script_core.specs.declared.cause.LineCause.TheVariants.{BadNumber, BadShape, FallingTimes}
+use Rattle.script_core.specs.declared.line_refusal.LineRefusal.{LineRefusal}
+use Rattle.script_core.specs.declared.line_refusal.LineRefusal.TheVariants.{Bad}
 use Rattle.script_core.specs.Fields.{lines_of, newline, is_newline}
 use Rattle.script_core.specs.GivenUp.{AreLinesGivenUp}
 use Rattle.script_core.specs.Limits.{longest_text}
@@ -55,6 +59,13 @@ pub record HasField (sample : Sample) : Type 0 where
 -- the same as a test
 abbrev pub has_field : Sample → Bool
 has_field sample = is_time sample.time && nat_le sample.pattern (2 ^ 64 - 1)
+
+-- whether a series line can have these samples
+abbrev pub test_samples : List Sample → Result (Unit {0}) LineRefusal
+test_samples samples = do
+  unless (not (length samples == 0)) (Bad BadShape)
+  unless (list_all has_field samples) (Bad BadNumber)
+  unless (are_rising samples) (Bad FallingTimes)
 
 -- labels and samples of which there is a series line, whether or not it fits the lines before it
 pub record AreSeriesParts (labels : List ℕ) (set : List Label) (samples : List Sample) : Type 0 where

@@ -134,18 +134,23 @@ add_gateway st name partition = do
   unless (nat_lt (length st.gateways) most_gateways) TooMany
   Ok (record st { gateways = st.gateways ++ name ∷ []; partitions = st.partitions ++ partition ∷ [] })
 
+-- the ULID of one block more
+abbrev pub declare : State → ℕ → Result State LineRefusal
+declare st ulid = do
+  unless (not (is_declared st ulid)) BlockChanged
+  unless (nat_lt (length st.ulids) most_blocks) TooMany
+  Ok (record st { ulids = insert_key nat_cmp st.ulids ulid })
+
 unfoldable pub begin_block : State → Last → Result State LineRefusal
 begin_block st block = do
-  unless (not (is_declared st block.ulid)) BlockChanged
-  unless (nat_lt (length st.ulids) most_blocks) TooMany
-  Ok (record st { blocks = all_blocks st.blocks st.last st.shelved; last = Some block; shelved = []; continues = true; ulids = insert_key nat_cmp st.ulids block.ulid })
+  declared ← declare (store_blocks st) block.ulid
+  Ok (record declared { last = Some block; continues = true })
 
 -- a block of the shelf
 unfoldable pub add_shelf : State → Block → Result State LineRefusal
 add_shelf st block = do
-  unless (not (is_declared st block.ulid)) BlockChanged
-  unless (nat_lt (length st.ulids) most_blocks) TooMany
-  Ok (record st { shelved = st.shelved ++ block ∷ []; ulids = insert_key nat_cmp st.ulids block.ulid })
+  declared ← declare st block.ulid
+  Ok (record declared { shelved = declared.shelved ++ block ∷ [] })
 
 -- whether the block has a series with these labels
 abbrev pub has_series : List Series → List Label → Bool
@@ -220,6 +225,11 @@ are_all_synced st = list_all (is_synced st.synced) (range_with_len 0 (length st.
 abbrev pub script_of_state : State → Script
 script_of_state st =
     record { rules = st.rules; gateways = st.gateways; partitions = st.partitions; blocks = all_blocks st.blocks st.last st.shelved; selectors = st.selectors; phases = all_phases st.phases st.phase }
+
+-- the same where the last block, those behind it and the last phase are stored
+abbrev pub stored_script : State → Script
+stored_script st =
+    record { rules = st.rules; gateways = st.gateways; partitions = st.partitions; blocks = st.blocks; selectors = st.selectors; phases = st.phases }
 
 -- what is left after the last line, as a script
 unfoldable pub finish : State → Result Script ScriptRefusal

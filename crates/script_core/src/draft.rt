@@ -7,7 +7,7 @@ use crate::line_refusal::LineRefusal;
 use crate::samples::are_within;
 use crate::texts::text_place;
 use crate::{Block, BlockList, LineCause, Script, ScriptRefusal};
-use label_sets::{LabelSet, Sample, SampleList, Text, TextList};
+use label_sets::{Series, Text, TextList};
 use list_core::NoMemory;
 use matchers::{Selector, SelectorList};
 use moment_core::{Partition, PartitionList, Rules};
@@ -65,7 +65,7 @@ impl Draft {
     ghost use Rattle.script_core.specs.declared.cause.LineCause.TheVariants as causes;
     ghost use Rattle.script_core.specs.declared.line_refusal.LineRefusal.TheVariants as line_refusals;
     ghost use Rattle.script_core.specs.declared.script_refusal.ScriptRefusal.TheVariants as script_refusals;
-    ghost use Rattle.script_core.specs.State.{start, end_block, gateway_named, add_gateway, is_declared, begin_block, add_shelf, test_series, add_series, begin_phase, add_task, add_query, note_sync, are_all_synced, phase_compacts, finish, store_inline, store_blocks, store_phase, last_of};
+    ghost use Rattle.script_core.specs.State.{start, end_block, gateway_named, add_gateway, is_declared, begin_block, add_shelf, test_series, add_series, begin_phase, add_task, add_query, note_sync, are_all_synced, phase_compacts, declare, finish, stored_script, store_inline, store_blocks, store_phase, last_of};
     ghost use Rattle.script_core.specs.View.{state_of};
 
     /// What is there before the first line.
@@ -92,22 +92,44 @@ impl Draft {
     }
 
     /// What is left after the last line, as a script.
-    #[tactic(auto, unfolding(crate::specs::View::state_of, crate::specs::State::finish))]
     pub(crate) fn finish(mut self, alloc: Global) -> Result<Script, ScriptRefusal>
         ensures { Gives script_refusals.NoMemory (λ script. script) result
             (finish (state_of self)) }
     {
+        match self.end(alloc) {
+            Ok(()) => Ok(self.into_script()),
+            Err(refusal) => {
+                drop(self);
+                Err(refusal)
+            }
+        }
+    }
+
+    /// The last block and the last phase join those before them.
+    #[tactic(auto, unfolding(crate::specs::View::state_of, crate::specs::State::finish))]
+    fn end(&mut self, alloc: Global) -> Result<(), ScriptRefusal>
+        ensures { Gives script_refusals.NoMemory (λ _. stored_script (state_of self.new)) result
+            (finish (state_of self.old)) }
+    {
         self.end_block()?;
         self.store_blocks(alloc)?;
         self.store_phase(alloc)?;
-        Ok(Script {
+        Ok(())
+    }
+
+    /// The script, where the last block and the last phase have joined those before them.
+    #[tactic(auto, unfolding(crate::specs::View::state_of))]
+    fn into_script(self) -> Script
+        ensures { result ≡ stored_script (state_of self) }
+    {
+        Script {
             rules: self.rules,
             gateways: self.gateways,
             partitions: self.partitions,
             blocks: self.blocks,
             selectors: self.selectors,
             phases: self.phases,
-        })
+        }
     }
 
     /// No series line follows the last block's lines.
@@ -189,6 +211,18 @@ impl Draft {
         self.ulids.contains(&ulid)
     }
 
+    /// The ULID joins those of all blocks, unless it is one of them.
+    #[tactic(auto, unfolding(crate::specs::View::state_of))]
+    fn declare(&mut self, ulid: Ulid) -> Result<(), LineRefusal>
+        ensures { Gives line_refusals.NoMemory (λ _. state_of self.new) result
+            (declare (state_of self.old) ulid) }
+    {
+        LineRefusal::BlockChanged.unless(!self.is_declared(ulid))?;
+        LineRefusal::TooMany.unless(self.ulids.len() < MOST_BLOCKS)?;
+        self.ulids.insert(ulid)?;
+        Ok(())
+    }
+
     #[tactic(auto, unfolding(crate::specs::View::state_of, crate::specs::State::begin_block))]
     pub(crate) fn begin_block(
         &mut self,
@@ -198,12 +232,23 @@ impl Draft {
         ensures { Gives line_refusals.NoMemory (λ _. state_of self.new) result
             (begin_block (state_of self.old) (last_of block)) }
     {
-        LineRefusal::BlockChanged.unless(!self.is_declared(block.ulid))?;
-        LineRefusal::TooMany.unless(self.ulids.len() < MOST_BLOCKS)?;
-        self.store_blocks(alloc)?;
-        self.ulids.insert(block.ulid)?;
-        self.last = Some(block);
+        if let Err(refusal) = self.declare_next(alloc, block.ulid) {
+            drop(block);
+            return Err(refusal);
+        }
+        drop(mem::replace(&mut self.last, Some(block)));
         self.continues = true;
+        Ok(())
+    }
+
+    /// Declares the ULID of an inline block, before which the others join those before them.
+    #[tactic(auto, unfolding(crate::specs::View::state_of))]
+    fn declare_next(&mut self, alloc: Global, ulid: Ulid) -> Result<(), LineRefusal>
+        ensures { Gives line_refusals.NoMemory (λ _. state_of self.new) result
+            (declare (store_blocks (state_of self.old)) ulid) }
+    {
+        self.declare(ulid)?;
+        self.store_blocks(alloc)?;
         Ok(())
     }
 
@@ -212,41 +257,39 @@ impl Draft {
         ensures { Gives line_refusals.NoMemory (λ _. state_of self.new) result
             (add_shelf (state_of self.old) block) }
     {
-        LineRefusal::BlockChanged.unless(!self.is_declared(block.ulid))?;
-        LineRefusal::TooMany.unless(self.ulids.len() < MOST_BLOCKS)?;
-        self.ulids.insert(block.ulid)?;
+        if let Err(refusal) = self.declare(block.ulid) {
+            drop(block);
+            return Err(refusal);
+        }
         self.shelved.push(block)?;
         Ok(())
     }
 
     /// Adds a series to the last block.
     #[tactic(auto, unfolding(crate::specs::View::state_of, crate::specs::State::add_series))]
-    pub(crate) fn add_series(
-        &mut self,
-        labels: LabelSet,
-        samples: SampleList,
-    ) -> Result<(), LineRefusal>
+    pub(crate) fn add_series(&mut self, series: Series) -> Result<(), LineRefusal>
         ensures { Gives line_refusals.NoMemory (λ _. state_of self.new) result
-            (add_series (state_of self.old) (record { labels = labels; samples = samples })) }
+            (add_series (state_of self.old) series) }
     {
-        self.test_series(&labels, samples.members())?;
+        self.test_series(&series)?;
         if let Some(block) = &mut self.last {
-            block.insert_series(labels, samples)?;
+            block.insert_series(series)?;
         }
         Ok(())
     }
 
     /// Whether a series fits the last block.
     #[tactic(auto, unfolding(crate::specs::View::state_of))]
-    fn test_series(&self, labels: &LabelSet, samples: &[Sample]) -> Result<(), LineRefusal>
-        ensures { result ≡ test_series (state_of self.now) labels.now samples.now }
+    fn test_series(&self, series: &Series) -> Result<(), LineRefusal>
+        ensures { result
+            ≡ test_series (state_of self.now) series.now.labels series.now.samples }
     {
         let Some(block) = &self.last else {
             return Err(LineRefusal::Bad(LineCause::NoBlock));
         };
-        let inside = are_within(samples, block.min_time, block.max_time);
+        let inside = are_within(series.samples.members(), block.min_time, block.max_time);
         LineCause::OutsideBlock.unless(inside)?;
-        LineCause::RepeatedSeries.unless(!block.has_series(labels))?;
+        LineCause::RepeatedSeries.unless(!block.has_series(&series.labels))?;
         LineCause::NoBlock.unless(self.continues)
     }
 

@@ -1,10 +1,18 @@
 use crate::series_map::series_list;
 use crate::{Block, Body};
-use label_sets::{LabelSet, SampleList};
+use label_sets::{LabelSet, SampleList, Series};
 use list_core::NoMemory;
 use std::alloc::Global;
 use std::collections::BTreeMap;
 use ulid_core::Ulid;
+
+/// What a block line says before its labels.
+#[derive(Clone, Copy)]
+pub(crate) struct BlockHead {
+    pub ulid: Ulid,
+    pub min_time: i64,
+    pub max_time: i64,
+}
 
 /// A declared block whose series lines may still come.
 #[derive(Drop)]
@@ -20,31 +28,24 @@ pub(crate) struct InlineBlock {
 
 impl InlineBlock {
     ghost use Rattle.std.specs.Prelude.{◌≡◌, [], IfOk, OnOk};
-    ghost use Rattle.script_core.specs.State.{last_of, block_of, has_series, with_series, series_of};
+    ghost use Rattle.script_core.specs.State.{last_of, block_of, has_series, with_series};
 
-    pub(crate) fn new(
-        alloc: Global,
-        line: u32,
-        ulid: Ulid,
-        labels: LabelSet,
-        min_time: i64,
-        max_time: i64,
-    ) -> InlineBlock
+    pub(crate) fn new(alloc: Global, line: u32, head: BlockHead, labels: LabelSet) -> InlineBlock
         ensures { last_of result ≡ record {
           line = line;
-          ulid = ulid;
+          ulid = head.ulid;
           labels = labels;
-          min_time = min_time;
-          max_time = max_time;
+          min_time = head.min_time;
+          max_time = head.max_time;
           series = [];
         } }
     {
         InlineBlock {
             line,
-            ulid,
+            ulid: head.ulid,
             labels,
-            min_time,
-            max_time,
+            min_time: head.min_time,
+            max_time: head.max_time,
             series: BTreeMap::new(alloc),
         }
     }
@@ -57,15 +58,10 @@ impl InlineBlock {
     }
 
     #[tactic(auto, using(crate::proofs::SeriesLists::insert_series_entries))]
-    pub(crate) fn insert_series(
-        &mut self,
-        labels: LabelSet,
-        samples: SampleList,
-    ) -> Result<(), NoMemory>
-        ensures { OnOk result
-            (last_of self.new ≡ with_series (series_of (labels, samples)) (last_of self.old)) }
+    pub(crate) fn insert_series(&mut self, series: Series) -> Result<(), NoMemory>
+        ensures { OnOk result (last_of self.new ≡ with_series series (last_of self.old)) }
     {
-        self.series.insert(labels, samples)?;
+        self.series.insert(series.labels, series.samples)?;
         Ok(())
     }
 

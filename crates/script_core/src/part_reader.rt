@@ -103,6 +103,11 @@ impl PartReader {
         Ok(())
     }
 
+    /// Lets go of what was read, as after a refusal.
+    pub fn discard(self) {
+        drop(self);
+    }
+
     /// The script of all that was read.
     pub fn finish(self, alloc: Global) -> Result<Script, ScriptRefusal>
         ensures spelled { (text : List ℕ) → HasRead self text

@@ -183,17 +183,16 @@ pub(crate) fn query_line(
         (λ _. state_of draft.new) result
         (query_line (state_of draft.old) number (option_copied fields.entry)) }
 {
-    let asked = read_question(draft, fields)?;
+    let asked = read_question(draft.phase.is_some(), fields)?;
     let selector = selector(alloc, asked.selector, &draft.rules.replicas)?;
     LineRefusal::NeverSynced.unless(draft.are_all_synced())?;
     draft.add_query(number, asked.low, asked.high, selector)
 }
 
 /// `LOW HIGH SELECTOR`, where all that is left behind the times is the selector.
-#[tactic(auto, unfolding(crate::specs::View::state_of, crate::specs::Lines::question_at))]
-fn read_question<'a>(draft: &Draft, fields: Option<&'a str>) -> Result<Question<'a>, LineRefusal>
-    ensures { Answers asked_of result
-        (question_at (state_of draft.now) (option_copied fields.entry)) }
+#[tactic(auto, unfolding(crate::specs::Lines::question_at))]
+fn read_question<'a>(begun: bool, fields: Option<&'a str>) -> Result<Question<'a>, LineRefusal>
+    ensures { Answers asked_of result (question_at begun (option_copied fields.entry)) }
 {
     let (low_text, rest) = next_field(fields);
     let (high_text, rest) = next_field(rest);
@@ -202,7 +201,7 @@ fn read_question<'a>(draft: &Draft, fields: Option<&'a str>) -> Result<Question<
     LineCause::BadShape.unless(whole)?;
     let low = time(low_text)?;
     let high = time(high_text)?;
-    LineCause::NoPhase.unless(draft.phase.is_some())?;
+    LineCause::NoPhase.unless(begun)?;
     LineCause::BadTimes.unless(low <= high)?;
     Ok(Question {
         low,

@@ -6,8 +6,6 @@ ghost use Rattle.script_core.specs.Reading.{is_series, kind_line, text_line, lin
 ghost use Rattle.std.specs.Str.{is_utf8};
 ghost use Rattle.script_core.specs.Fields.{lines_of};
 ghost use Rattle.script_core.specs.Limits.{longest_text};
-ghost use Rattle.script_core.specs.State.{start};
-ghost use Rattle.moment_core.specs.StandardRules.{standard_rules};
 ghost use Rattle.script_core.specs.View.{state_of};
 
 use crate::draft::Draft;
@@ -32,25 +30,31 @@ pub(crate) fn read_script(alloc: Global, text: &[u8]) -> Result<Script, ScriptRe
     if text.len() > LONGEST_TEXT {
         return Err(ScriptRefusal::TooLong);
     }
-    read_lines(alloc, text)?.finish(alloc)
+    let mut draft = Draft::new(alloc, Rules::standard(alloc));
+    match read_lines(&mut draft, alloc, text) {
+        Ok(()) => draft.finish(alloc),
+        Err(refusal) => {
+            drop(draft);
+            Err(refusal)
+        }
+    }
 }
 
-/// Reads the lines of a text in order, and answers what they leave.
-fn read_lines(alloc: Global, text: &[u8]) -> Result<Draft, ScriptRefusal>
+/// Reads the lines of a text in order.
+fn read_lines(draft: &mut Draft, alloc: Global, text: &[u8]) -> Result<(), ScriptRefusal>
     requires { length text.now ≤ longest_text }
-    ensures { GivesUnless (AreLinesGivenUp (start standard_rules) 1 (lines_of text.now)) state_of
-        result (lines_at (start standard_rules) 1 (lines_of text.now)) }
+    ensures { GivesUnless (AreLinesGivenUp (state_of draft.old) 1 (lines_of text.now))
+        (λ _. state_of draft.new) result (lines_at (state_of draft.old) 1 (lines_of text.now)) }
 {
-    let mut draft = Draft::new(alloc, Rules::standard(alloc));
     let mut number = 0u32;
     let mut left = text;
     while !left.is_empty() {
         let (line, rest) = cut_line(left);
         number += 1;
-        read_line(&mut draft, alloc, number, line)?;
+        read_line(draft, alloc, number, line)?;
         left = rest;
     }
-    Ok(draft)
+    Ok(())
 }
 
 #[tactic(auto, using(crate::proofs::GivenUpLines::line_given_up), unfolding(crate::specs::Reading::line_at, crate::specs::Reading::spoken_line))]

@@ -7,7 +7,7 @@ ghost use Rattle.label_sets.specs.SetText.{IsSetText};
 ghost use Rattle.label_sets.specs.declared.label.Label.{Label};
 ghost use Rattle.script_core.specs.Fields.{is_newline};
 ghost use Rattle.script_core.specs.Limits.{longest_text};
-ghost use Rattle.script_core.specs.Parts.{AreSeriesParts, IsOneLine, has_field, series_front};
+ghost use Rattle.script_core.specs.Parts.{AreSeriesParts, IsOneLine, has_field, test_samples, series_front};
 ghost use Rattle.script_core.specs.Reading.{line_at};
 ghost use Rattle.script_core.specs.State.{add_series};
 ghost use Rattle.script_core.specs.View.{state_of};
@@ -21,7 +21,7 @@ use crate::samples::are_rising;
 use crate::setup_lines::last_labels;
 use crate::values::is_time;
 use crate::{LineCause, ScriptRefusal};
-use label_sets::{LabelSet, Sample, SampleList};
+use label_sets::{LabelSet, Sample, SampleList, Series};
 use std::alloc::Global;
 
 /// How many bytes a sample has at most: a space, a sign, 19 digits of a time, a colon and 16 of a pattern.
@@ -58,10 +58,11 @@ pub(crate) fn put_series(
         ≡ Err e)) }
 {
     let set = read_labels(alloc, labels)?;
-    LineCause::BadShape.unless(samples.len() > 0)?;
-    LineCause::BadNumber.unless(have_fields(samples.members()))?;
-    LineCause::FallingTimes.unless(are_rising(samples.members()))?;
-    draft.add_series(set, samples)
+    test_samples(samples.members())?;
+    draft.add_series(Series {
+        labels: set,
+        samples,
+    })
 }
 
 /// The label set of a text that is one on one line.
@@ -77,6 +78,15 @@ fn read_labels(alloc: Global, text: &[u8]) -> Result<LabelSet, LineRefusal>
     let text = text_of(text).ok_or(LineCause::NotText)?;
     let set = last_labels(alloc, Some(text))?.ok_or(LineCause::BadLabelText)?;
     Ok(set)
+}
+
+/// Whether a series line can have these samples.
+fn test_samples(samples: &[Sample]) -> Result<(), LineRefusal>
+    ensures { result ≡ test_samples samples.now }
+{
+    LineCause::BadShape.unless(!samples.is_empty())?;
+    LineCause::BadNumber.unless(have_fields(samples))?;
+    LineCause::FallingTimes.unless(are_rising(samples))
 }
 
 fn is_one_line(text: &[u8]) -> bool

@@ -3,20 +3,21 @@
 ghost use Rattle.std.specs.Prelude.{◌≡◌, option_copied};
 ghost use Rattle.reading_core.specs.Reading.{Gives};
 ghost use Rattle.script_core.specs.declared.line_refusal.LineRefusal.TheVariants as line_refusals;
-ghost use Rattle.script_core.specs.Lines.{rule_line, partition_field, gateway_line, block_line, shelf_line, last_labels, series_line, first_labels};
+ghost use Rattle.script_core.specs.Lines.{rule_line, partition_field, gateway_line, block_head, test_head, block_line, test_shelf, shelf_line, last_labels, line_samples, series_line, first_labels};
 ghost use Rattle.script_core.specs.View.{state_of};
 
 use crate::draft::Draft;
 use crate::fields::{after_space, next_field, only_field};
-use crate::inline_block::InlineBlock;
+use crate::inline_block::{BlockHead, InlineBlock};
 use crate::line_refusal::LineRefusal;
 use crate::rule_kind::RuleKind;
 use crate::samples::{are_rising, are_whole, have_small_numbers, read_samples};
 use crate::values::{is_reserved, time, ulid};
 use crate::{Block, Body, LineCause};
-use label_sets::{LabelRefusal, LabelSet, Text, is_name};
+use label_sets::{LabelRefusal, LabelSet, SampleList, Series, Text, is_name};
 use moment_core::Partition;
 use std::alloc::Global;
+use ulid_core::Ulid;
 
 /// `rule NAME VALUE`, where the name `replica-label` adds a label and each other name sets its rule
 #[tactic(auto, unfolding(crate::specs::View::state_of, crate::specs::Lines::rule_line))]
@@ -91,17 +92,33 @@ pub(crate) fn block_line(
     let whole = !ulid_text.is_empty() && !min_text.is_empty() && !max_text.is_empty();
     LineCause::BadShape.unless(whole)?;
     let labels = last_labels(alloc, rest)?;
+    let head = block_head(ulid_text, min_text, max_text)?;
+    let labels = labels.ok_or(LineCause::BadLabelText)?;
+    test_head(draft.phase.is_none(), &head)?;
+    draft.begin_block(alloc, InlineBlock::new(alloc, number, head, labels))
+}
+
+/// Reads what a block line says before its labels.
+fn block_head(ulid_text: &str, min_text: &str, max_text: &str) -> Result<BlockHead, LineCause>
+    ensures { result ≡ block_head ulid_text.now min_text.now max_text.now }
+{
     let min_time = time(min_text)?;
     let max_time = time(max_text)?;
     let ulid = ulid(ulid_text)?;
-    let labels = labels.ok_or(LineCause::BadLabelText)?;
-    LineCause::LateLine.unless(draft.phase.is_none())?;
-    LineCause::BadTimes.unless(min_time < max_time)?;
-    LineCause::ReservedUlid.unless(!is_reserved(ulid))?;
-    draft.begin_block(
-        alloc,
-        InlineBlock::new(alloc, number, ulid, labels, min_time, max_time),
-    )
+    Ok(BlockHead {
+        ulid,
+        min_time,
+        max_time,
+    })
+}
+
+/// Whether a block line may have these, and stands before the first phase.
+fn test_head(early: bool, head: &BlockHead) -> Result<(), LineRefusal>
+    ensures { result ≡ test_head early head.now }
+{
+    LineCause::LateLine.unless(early)?;
+    LineCause::BadTimes.unless(head.min_time < head.max_time)?;
+    LineCause::ReservedUlid.unless(!is_reserved(head.ulid))
 }
 
 /// `shelf ULID LABELS`
@@ -119,13 +136,20 @@ pub(crate) fn shelf_line(
     let labels = last_labels(alloc, rest)?;
     let ulid = ulid(ulid_text)?;
     let labels = labels.ok_or(LineCause::BadLabelText)?;
-    LineCause::LateLine.unless(draft.phase.is_none())?;
-    LineCause::ReservedUlid.unless(!is_reserved(ulid))?;
+    test_shelf(draft.phase.is_none(), ulid)?;
     draft.add_shelf_block(Block {
         ulid,
         labels,
         body: Body::OnShelf,
     })
+}
+
+/// Whether a shelf line may have this ULID, and stands before the first phase.
+fn test_shelf(early: bool, ulid: Ulid) -> Result<(), LineRefusal>
+    ensures { result ≡ test_shelf early ulid }
+{
+    LineCause::LateLine.unless(early)?;
+    LineCause::ReservedUlid.unless(!is_reserved(ulid))
 }
 
 /// The label set that is left of a line, or none where the text is no label set.
@@ -160,11 +184,19 @@ pub(crate) fn series_line(
         (series_line (state_of draft.old) (option_copied fields.entry)) }
 {
     let (labels, texts) = first_labels(alloc, fields)?;
+    let samples = line_samples(alloc, texts)?;
+    draft.add_series(Series { labels, samples })
+}
+
+/// The samples of a series line, whose times rise.
+fn line_samples(alloc: Global, texts: &str) -> Result<SampleList, LineRefusal>
+    ensures { Gives line_refusals.NoMemory (λ samples. samples) result (line_samples texts.now) }
+{
     LineCause::BadShape.unless(are_whole(texts))?;
     LineCause::BadNumber.unless(have_small_numbers(texts))?;
     let samples = read_samples(alloc, texts)?;
     LineCause::FallingTimes.unless(are_rising(samples.members()))?;
-    draft.add_series(labels, samples)
+    Ok(samples)
 }
 
 /// The label set at the front of what is left of a line, and the text behind the space after it.

@@ -5,5 +5,5 @@ use Rattle.script_core.proofs.inline_block.InlineBlock.insert_series.Goals as go
 
 pub returns : goal.returns
 returns c =
-    let put = ap (map series_of) c.in_ok-insert.ensures.entries ∙ insert_series_entries c.args.labels c.args.samples c.args.self.now.series.entries in
+    let put = ap (map series_of) c.in_ok-insert.ensures.entries ∙ insert_series_entries c.args.series.labels c.args.series.samples c.args.self.now.series.entries in
     rw put refl
