@@ -625,6 +625,7 @@ module _ {W : Type 0} (journal : W → List Entry) (ticks faults : W → ℕ) (a
         record {
           ticks = h.3.tick ∙ sym (ap (λ (o : Opened). o.tick) (f.comes live));
           front = saw_all s r id v at root live seat bare all ∙ sym h.2;
+          known = subst (λ (es : List Entry). v.known ≤ length es) (sym h.2) f.known;
           own = f.own live ∙ ap₂ of_seat seat (sym h.2);
           joined = subst (λ (j : List (ℕ × List Entry)). AllByRecursion (λ k. k.1 ≡ of_seat k.0 (journal h.0)) j) (sym x.1) (each_of (IsKept r.log s.views r.seats) (λ k. k.1 ≡ of_seat k.0 (journal h.0)) (λ k i. i.own ∙ ap (of_seat k.0) (sym h.2)) r.joined r.kept);
           nobody = λ n le. ap (of_seat n) h.2 ∙ (let m = x.0 in r.nobody n (omega arith));

@@ -2,7 +2,8 @@
 -- with one another between any two steps. There is one journal, of which the rule says:
 --
 --   1. The first word counts its entries, and the second is 1 while the turn is held and 0 while it is free.
---   2. Each front that a pass has seen begins it, that of some live view is all of it, and no known length passes its length.
+--   2. Each front that a pass has seen begins it, and no known length passes its length. All of it was seen by some live view: it is
+--      the front of that, or one that lies beside it, taken in with another pass and not yet compared.
 --   3. While the turn is free the world is at home, has this journal, and comes from the one that was opened.
 --   4. While the turn is held the world is out, and one view holds the turn: no other does, and it holds the whole journal.
 --   5. Each seat that was made has a live view, or was joined. No two live views have the same seat, and none has one that
