@@ -234,6 +234,7 @@ pub(crate) fn take_turn(
             if is_asked(&w.asks, &e.op) {
                 goes_on(alloc, w, e)
             } else {
+                drop(w);
                 begins(alloc, rules, e)
             }
         }
