@@ -1,5 +1,5 @@
 -- What a call leaves of the answers to its run's operations, and what it says by them.
-use Rattle.std.specs.Prelude.{◌≡◌, ◌≢◌, ◌⊎◌, ℕ, Bool, true, false, List, [], Option, Some, None, IfSome}
+use Rattle.std.specs.Prelude.{◌≡◌, ◌≢◌, ◌⊎◌, ◌&&◌, ℕ, Bool, not, true, false, List, [], Option, Some, None, IfSome}
 use Rattle.bucket_core.specs.Asking.{Call}
 use Rattle.bucket_core.specs.Causes.{Rose}
 use Rattle.world_core.specs.declared.entry.Entry.{Entry}
@@ -14,23 +14,32 @@ abbrev pub tells_full : Verdict → Bool
 tells_full (verdict.Full lines) = true
 tells_full other = false
 
+-- Whether a call tells that the journal is full, by whether an operation was answered so, and whether memory was wanted for one. Where
+-- the tasks are done one after another, a run ends with the first of these answers.
+abbrev pub met : Bool → Bool → Bool
+met full wanted = full
+
+-- With threads it may have both: then want of memory is told.
+abbrev pub met_alone : Bool → Bool → Bool
+met_alone full wanted = full && not wanted
+
 -- The note is of the journal and the bucket that are handed back, and of the answers by which the call comes to its verdict.
-pub record IsNoteOf {B : Type 0} (asked : B → Option (List Call)) (v : Verdict) (journal : Option (List Entry)) (store : Option B) (note : RunNote B) : Type 0 where
+pub record IsNoteOf {B : Type 0} (tells : Bool → Bool → Bool) (asked : B → Option (List Call)) (v : Verdict) (journal : Option (List Entry)) (store : Option B) (note : RunNote B) : Type 0 where
   pub journal_is : journal ≡ Some note.world.value.journal
   pub store_is : store ≡ Some note.world.value.bucket
-  -- an operation was answered that the journal is full just where the verdict tells that
-  pub full : note.full ≡ tells_full v
-  -- memory was wanted for an operation only where the verdict tells that, or the full journal
-  pub short : note.wanted ≡ true → (v ≡ verdict.NoMemory) ⊎ (tells_full v ≡ true)
+  -- the verdict tells that the journal is full just where the answers ask for it
+  pub full : tells note.full note.wanted ≡ tells_full v
+  -- memory was wanted for an operation only where the verdict tells that
+  pub short : note.wanted ≡ true → v ≡ verdict.NoMemory
   -- unless it was, the bucket was asked for what the journal shows
   pub asks : note.wanted ≡ false → WasAskedAsShown asked note.world.value.journal note.world.value.bucket
 
 -- The call has such a note. Or it has none, no operation was done, and the bucket was asked for its opening page at most.
-abbrev pub IsNoted : {B : Type 0} → (B → Option (List Call)) → Verdict → Option (List Entry) → Option B → Option (RunNote B) → Type 0
-IsNoted {B} asked verdict journal store (Some note) = IsNoteOf asked verdict journal store note
-IsNoted {B} asked verdict journal store None = IfSome journal (λ entries. entries ≡ []) × (tells_full verdict ≡ false) × IfSome store (WasOnlyOpened asked)
+abbrev pub IsNoted : {B : Type 0} → (Bool → Bool → Bool) → (B → Option (List Call)) → Verdict → Option (List Entry) → Option B → Option (RunNote B) → Type 0
+IsNoted {B} tells asked verdict journal store (Some note) = IsNoteOf tells asked verdict journal store note
+IsNoted {B} tells asked verdict journal store None = IfSome journal (λ entries. entries ≡ []) × (tells_full verdict ≡ false) × IfSome store (WasOnlyOpened asked)
 
--- Where an operation was answered that the journal is full, the status is 8, or 4 as the sink failed. Else it is not 8.
+-- Where the full journal is to be told, the status is 8, or 4 as the sink failed. Else it is not 8.
 abbrev pub IsFullSaid : Bool → Saying → ℕ → Type 0
 IsFullSaid true saying number = (number ≡ 8) ⊎ ((number ≡ 4) × Rose saying.faults_before saying.faults_after)
 IsFullSaid false saying number = number ≢ 8

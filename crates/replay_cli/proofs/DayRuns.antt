@@ -29,7 +29,7 @@ use Rattle.call_verdicts.specs.report_lines.specs.declared.tally.Tally.{Tally}
 use Rattle.call_verdicts.specs.breach_finding.specs.declared.found.Breach.{Breach}
 use Rattle.run_notes.specs.declared.run_note.RunNote.{RunNote}
 use Rattle.call_verdicts.specs.Kept.{IsTrueOfStore}
-use Rattle.call_verdicts.specs.Noted.{IsNoted, tells_full}
+use Rattle.call_verdicts.specs.Noted.{IsNoted, met, tells_full}
 use Rattle.call_verdicts.proofs.HandedBack.{true_of}
 use Rattle.call_verdicts.specs.declared.verdict.Verdict.{Verdict}
 use Rattle.call_verdicts.specs.declared.verdict.Verdict.TheVariants as verdict
@@ -117,7 +117,7 @@ day_full_told script journal tally (Err broken.NoMemory) v whole filled short = 
 pub unnoted_day : (entries : List Entry) → entries ≡ [] → IsDayNoted verdict.NoMemory (Some entries) None
 unnoted_day entries none = (none, refl, tt)
 
-pub day_noted : (v : Verdict) (entries : List Entry) (bucket : MemoryBucket) (note : Option (RunNote MemoryBucket)) → IsNoted (λ (b : MemoryBucket). None) v (Some entries) (Some bucket) note → IsDayNoted v (Some entries) note
+pub day_noted : (v : Verdict) (entries : List Entry) (bucket : MemoryBucket) (note : Option (RunNote MemoryBucket)) → IsNoted met (λ (b : MemoryBucket). None) v (Some entries) (Some bucket) note → IsDayNoted v (Some entries) note
 day_noted v entries bucket None noted = (noted.0, noted.1, tt)
 day_noted v entries bucket (Some n) noted = record { journal_is = noted.journal_is; store_is = refl; full = noted.full; short = noted.short; asks = noted.asks }
 

@@ -1,5 +1,5 @@
 -- What a run comes to whose phases' workers were beside each other.
-use Rattle.std.proofs.Common.{◌≡◌, ◌≢◌, ℕ, ◌+◌, List, [], ◌∷◌, ◌++◌, length, refl, sym, ◌∙◌, ap, subst, arith}
+use Rattle.std.proofs.Common.{◌≡◌, ℕ, ◌+◌, Bool, true, false, List, [], ◌∷◌, ◌++◌, length, refl, sym, ◌∙◌, ap, subst, arith}
 use Rattle.std.specs.Prelude.{Some, Result, Ok, Err}
 use Rattle.std.specs.List.{list_all}
 use Rattle.std.proofs.lemmas.List.{length-append}
@@ -18,7 +18,7 @@ use Rattle.call_verdicts.specs.lifecycle_core.specs.Tasks.{End}
 use Rattle.call_verdicts.specs.lifecycle_core.specs.Guarantees.{IsGuaranteedJournal}
 use Rattle.call_verdicts.specs.lifecycle_core.proofs.Assembling.{all_guaranteed, none_guaranteed}
 use Rattle.call_verdicts.specs.script_running.specs.Beside.{HasRunBeside}
-use Rattle.call_verdicts.specs.script_running.specs.Reporting.{TellsFirst}
+use Rattle.call_verdicts.specs.script_running.specs.Reporting.{HasToldFirst, TellsFirst}
 use Rattle.call_verdicts.specs.script_running.specs.Outcomes.{PhasesCame, TasksCame, is_as_asked}
 use Rattle.call_verdicts.specs.script_running.specs.declared.came.Broken.{Broken}
 use Rattle.call_verdicts.specs.script_running.specs.declared.came.Broken.TheVariants as broken
@@ -31,6 +31,7 @@ use Rattle.call_verdicts.specs.Verdicts.{IsRun}
 use Rattle.call_verdicts.specs.report_lines.specs.Telling.{report_of, tasks_of}
 use Rattle.call_verdicts.specs.report_lines.specs.declared.lines.Lines.{Lines}
 use Rattle.replay_cli.proofs.NoneInPhases.{none_in_phases}
+use Rattle.replay_cli.proofs.Wanted.{IsTold}
 use Rattle.call_verdicts.specs.report_lines.proofs.ToldLines.{told_none}
 use Rattle.call_verdicts.specs.declared.verdict.Verdict.{Verdict}
 use Rattle.call_verdicts.specs.declared.verdict.Verdict.TheVariants as verdict
@@ -119,18 +120,29 @@ module _ (setting : Setting) (lawful : IsLawfulScript setting.script) (journal :
 pub short_beside : (setting : Setting) → IsLawfulScript setting.script → (journal : List Entry) → IsOfBytes journal → (outcomes : List Outcome) (came : Result (Unit {0}) Broken) → HasRunBeside setting journal outcomes came → IsRun IsInPhases setting (Some nothing) ⊥ (Some journal) verdict.NoMemory
 short_beside setting lawful journal bytes outcomes came r = ((r.ends, r.run, r.turns), (r.ends, r.run, r.turns, all_guaranteed setting journal r.ends lawful r.run bytes))
 
--- what a run beside comes to has its cause
-pub beside_told : (setting : Setting) → IsLawfulScript setting.script → (journal : List Entry) → IsOfBytes journal → (outcomes : List Outcome) (report : Lines) (came : Result (Unit {0}) Broken) (v : Verdict)
-    → (came ≢ Err broken.NoMemory → TellsFirst AreLinesOf setting.script report outcomes) → HasRunBeside setting journal outcomes came → (came ≡ Ok tt → EndsReport setting.script journal report v) → (came ≡ Err broken.Full → v ≡ verdict.Full report.text) → (came ≡ Err broken.NoMemory → v ≡ verdict.NoMemory)
+-- what a run beside comes to has its cause, unless memory was wanted in an operation
+beside_by : (setting : Setting) → IsLawfulScript setting.script → (journal : List Entry) → IsOfBytes journal → (outcomes : List Outcome) (report : Lines) (came : Result (Unit {0}) Broken) (v : Verdict)
+    → HasToldFirst AreLinesOf setting.script report outcomes came → HasRunBeside setting journal outcomes came → (came ≡ Ok tt → EndsReport setting.script journal report v) → (came ≡ Err broken.Full → v ≡ verdict.Full report.text) → (came ≡ Err broken.NoMemory → v ≡ verdict.NoMemory)
     → IsRun IsInPhases setting (Some nothing) ⊥ (Some journal) v
-beside_told setting lawful journal bytes outcomes report (Ok done) v told ran whole full none =
-    let t = lines_told setting.script report outcomes (told (λ e. absurd (cc (e)))) in
+beside_by setting lawful journal bytes outcomes report (Ok done) v told ran whole full none =
+    let first = subst (λ (lines : Lines). TellsFirst AreLinesOf setting.script lines outcomes) (told.1 (λ e. absurd (cc (e)))) told.2 in
+    let t = lines_told setting.script report outcomes first in
     whole_beside setting lawful journal bytes outcomes report t.0 t.1 ran v (whole refl)
-beside_told setting lawful journal bytes outcomes report (Err broken.Full) v told ran whole full none =
-    let t = lines_told setting.script report outcomes (told (λ e. absurd (cc (e)))) in
+beside_by setting lawful journal bytes outcomes report (Err broken.Full) v told ran whole full none =
+    let first = subst (λ (lines : Lines). TellsFirst AreLinesOf setting.script lines outcomes) (told.1 (λ e. absurd (cc (e)))) told.2 in
+    let t = lines_told setting.script report outcomes first in
     subst (IsRun IsInPhases setting (Some nothing) ⊥ (Some journal)) (sym (full refl)) (full_beside setting lawful journal bytes outcomes report t.0 t.1 ran)
-beside_told setting lawful journal bytes outcomes report (Err broken.NoMemory) v told ran whole full none =
+beside_by setting lawful journal bytes outcomes report (Err broken.NoMemory) v told ran whole full none =
     subst (IsRun IsInPhases setting (Some nothing) ⊥ (Some journal)) (sym (none refl)) (short_beside setting lawful journal bytes outcomes (Err broken.NoMemory) ran)
+
+-- and if it was
+pub beside_told : (setting : Setting) → IsLawfulScript setting.script → (journal : List Entry) → IsOfBytes journal → (outcomes : List Outcome) (report : Lines) (wanted : Bool) (came now : Result (Unit {0}) Broken) (v : Verdict) → IsTold wanted came now
+    → HasToldFirst AreLinesOf setting.script report outcomes came → HasRunBeside setting journal outcomes came → (now ≡ Ok tt → EndsReport setting.script journal report v) → (now ≡ Err broken.Full → v ≡ verdict.Full report.text) → (now ≡ Err broken.NoMemory → v ≡ verdict.NoMemory)
+    → IsRun IsInPhases setting (Some nothing) ⊥ (Some journal) v
+beside_told setting lawful journal bytes outcomes report true came now v is told ran whole full none =
+    subst (IsRun IsInPhases setting (Some nothing) ⊥ (Some journal)) (sym (none is)) (short_beside setting lawful journal bytes outcomes came ran)
+beside_told setting lawful journal bytes outcomes report false came now v is told ran whole full none =
+    beside_by setting lawful journal bytes outcomes report came v told ran (λ e. whole (is ∙ e)) (λ e. full (is ∙ e)) (λ e. none (is ∙ e))
 
 -- nothing was begun
 pub none_beside : (setting : Setting) (journal : List Entry) → journal ≡ [] → IsRun IsInPhases setting (Some nothing) ⊥ (Some journal) verdict.NoMemory

@@ -20,7 +20,7 @@ use Rattle.call_verdicts.specs.report_lines.specs.declared.tally.Tally.{Tally}
 use Rattle.script_workers.specs.declared.task.Task.{Task}
 use Rattle.call_verdicts.specs.script_running.specs.declared.outcome.Outcome.{Outcome}
 use Rattle.run_notes.specs.declared.run_note.RunNote.{RunNote}
-use Rattle.call_verdicts.specs.Noted.{IsNoted}
+use Rattle.call_verdicts.specs.Noted.{IsNoted, met}
 use Rattle.call_verdicts.specs.Verdicts.{Around, IfShort, IsCaused, IsFullRun, IsWholeRun}
 use Rattle.call_verdicts.specs.declared.verdict.Verdict.{Verdict}
 use Rattle.call_verdicts.specs.declared.verdict.Verdict.TheVariants as verdict
@@ -54,7 +54,7 @@ pub record IsDayRun (number : ℕ) (entries : List Entry) (v : Verdict) : Type 0
 -- The note of a day's run is of the journal that is handed back, and of the answers by which the call comes to its verdict. The bucket
 -- does not tell what it was asked, and is not handed back.
 abbrev pub IsDayNoted : Verdict → Option (List Entry) → Option (RunNote MemoryBucket) → Type 0
-IsDayNoted v journal note = IsNoted (λ bucket. None) v journal (option_map (λ n. n.world.value.bucket) note) note
+IsDayNoted v journal note = IsNoted met (λ bucket. None) v journal (option_map (λ n. n.world.value.bucket) note) note
 
 -- ---- the call
 

@@ -5,7 +5,7 @@ ghost use Rattle.world_core.specs.Worlds.{IsJournal, IsOfBytes, failed_count};
 ghost use Rattle.script_core.specs.Lawful.{IsLawfulScript};
 ghost use Rattle.call_verdicts.specs.Kept.{IsTrueOfStore};
 ghost use Rattle.call_verdicts.specs.Asked.{WasAsked, for_opening};
-ghost use Rattle.call_verdicts.specs.Noted.{IsNoted};
+ghost use Rattle.call_verdicts.specs.Noted.{IsNoted, met};
 ghost use Rattle.replay_cli.specs.Days.{EndsDay, IsBareFull, IsDay, IsDayNoted, IsDayRun};
 
 use bucket_core::{Bucket, FailList, MemoryBucket};
@@ -82,7 +82,7 @@ fn run_script<B: Bucket>(
     ensures came { IsDay script.now result.1 result.0 }
     ensures back { IsTrueOfStore B.contents B.faults result.1 result.2 }
     ensures unfailed { B.quiet world.bucket → failed_count result.1 ≡ 0 }
-    ensures noted { IsNoted B.asked result.0 (Some result.1) (Some result.2) result.3 }
+    ensures noted { IsNoted met B.asked result.0 (Some result.1) (Some result.2) result.3 }
 {
     let (came, tally, hand) = do_in_line(alloc, script, &[], world);
     let world = hand.world();

@@ -1,9 +1,8 @@
-ghost use Rattle.std.specs.Prelude.{◌≡◌, ◌≢◌, false, [], Some, None, IfSome, is_some};
+ghost use Rattle.std.specs.Prelude.{◌≡◌, ◌≢◌, [], Some, None, IfSome, is_some};
 ghost use Rattle.replay_cli.specs.InPhases.{IsInPhases};
-ghost use Rattle.call_verdicts.specs.Noted.{IsFullSaid, IsNoted};
+ghost use Rattle.call_verdicts.specs.Noted.{IsFullSaid, IsNoted, met_alone};
 ghost use Rattle.call_verdicts.specs.Kept.{IsHandedBack, IsHandedOut, IsNotAsked, IsShelfOf, IsUnfailed, IsUntouched, told_of};
 ghost use Rattle.call_verdicts.specs.Asked.{IsBucketAsked, WasReadFor};
-ghost use Rattle.call_verdicts.specs.Noted.{tells_full};
 ghost use Rattle.call_verdicts.specs.Statuses.{number_of};
 ghost use Rattle.call_verdicts.specs.Verdicts.{EndsCalmly, IfShort, IsCaused, IsSaid, IsWorked, around_call, saying_to};
 ghost use Rattle.call_verdicts.specs.Words.{named_by, replay_shelf, replay_word};
@@ -32,10 +31,10 @@ pub fn run_replay<S: Site, R: Source, K: Sink, G: Gate + Sync, T: Threads + Wait
 ) -> Run<S::Store, S::Files>
 where
     S::Store: Send,
-    // The call comes to a verdict that has its cause, and says it. The journal is one of workers beside each other. Unless want
-    // of memory is told or the full journal, the bucket was asked for what the journal shows, behind the page that opens it, and
-    // for nothing else. The note of the run is of its journal and its bucket, and tells of an operation that was answered with the full
-    // journal just where the verdict does.
+    // The call comes to a verdict that has its cause, and says it. The journal is one of workers beside each other. Unless that is
+    // want of memory, the bucket was asked for what the journal shows, behind the page that opens it, and for nothing else. The note of
+    // the run is of its journal and its bucket. The verdict tells of the full journal just where the note says that an operation was
+    // answered with it, and that memory was wanted for none.
     ensures verdict { (verdict : Verdict) × (status : Status)
         × IsCaused
         (around_call IsInPhases R.left R.faults script.old script.new
@@ -45,13 +44,13 @@ where
         result.store result.shelf result.journal) verdict
         × IsSaid verdict (saying_to K.faults K.written out.old out.new) status
         × (result.status ≡ number_of status)
-        × (verdict ≢ Verdict.NoMemory → tells_full verdict ≡ false
+        × (verdict ≢ Verdict.NoMemory
         → IsBucketAsked S.Store.asked verdict result.journal result.store)
-        × IsNoted S.Store.asked verdict result.journal result.store result.note }
+        × IsNoted met_alone S.Store.asked verdict result.journal result.store result.note }
 
-    // Where an operation of the run was answered that the journal is full, the status says that, unless the sink failed: want
-    // of memory is never told in its place.
-    ensures full { IfSome result.note (λ note. IsFullSaid note.full
+    // Where an operation of the run was answered that the journal is full, and memory was wanted for none, the status says that the
+    // journal is full, unless the sink failed. In no other run does it say so.
+    ensures full { IfSome result.note (λ note. IsFullSaid (met_alone note.full note.wanted)
         (saying_to K.faults K.written out.old out.new) result.status) }
 
     // No generated day is run.
@@ -105,10 +104,9 @@ where
     ensures back { IsHandedBack S.Store.contents S.Store.faults result.conclusion.journal
         result.conclusion.store }
     ensures asked_bucket { result.conclusion.verdict ≢ Verdict.NoMemory
-        → tells_full result.conclusion.verdict ≡ false
         → IsBucketAsked S.Store.asked result.conclusion.verdict result.conclusion.journal
         result.conclusion.store }
-    ensures noted { IsNoted S.Store.asked result.conclusion.verdict
+    ensures noted { IsNoted met_alone S.Store.asked result.conclusion.verdict
         result.conclusion.journal result.conclusion.store result.note }
     ensures untouched { IfSome (told_of (S.next_bucket site.old) (replay_word words.now))
         (λ c. IsUntouched S.Store.contents c result.conclusion.journal result.conclusion.store) }
@@ -157,10 +155,9 @@ where
     ensures back { IsHandedBack S.Store.contents S.Store.faults result.conclusion.journal
         result.conclusion.store }
     ensures asked_bucket { result.conclusion.verdict ≢ Verdict.NoMemory
-        → tells_full result.conclusion.verdict ≡ false
         → IsBucketAsked S.Store.asked result.conclusion.verdict result.conclusion.journal
         result.conclusion.store }
-    ensures noted { IsNoted S.Store.asked result.conclusion.verdict
+    ensures noted { IsNoted met_alone S.Store.asked result.conclusion.verdict
         result.conclusion.journal result.conclusion.store result.note }
     ensures untouched { IfSome (S.next_bucket site.old bucket.now)
         (λ c. IsUntouched S.Store.contents c result.conclusion.journal result.conclusion.store) }

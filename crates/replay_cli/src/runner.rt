@@ -1,6 +1,6 @@
 //! A script is run over a world: by the caller itself, in the order of the lines, or with the workers of a phase beside each other in threads.
 
-ghost use Rattle.std.specs.Prelude.{◌≡◌, ◌≢◌, ◌++◌, List, [], Ok, Err, Option, Some, IfErr, IfOk, OnOk, IsTrue, false};
+ghost use Rattle.std.specs.Prelude.{◌≡◌, ◌≢◌, ◌++◌, List, [], Ok, Err, Option, Some, IfErr, IfOk, IsTrue, MatchBool, OnOk, false};
 ghost use Rattle.bucket_core.specs.Asking.{Call};
 ghost use Rattle.bucket_core.specs.Contents.{nothing};
 ghost use Rattle.world_core.specs.Asking.{IsAllAsked};
@@ -10,7 +10,7 @@ ghost use Rattle.call_verdicts.specs.lifecycle_core.specs.InLine.{IsInLine};
 ghost use Rattle.call_verdicts.specs.script_running.specs.Shelves.{AreAllAtHand, setting_by};
 ghost use Rattle.call_verdicts.specs.Asked.{IsBroken, WasAsked, for_opening};
 ghost use Rattle.replay_cli.specs.InPhases.{IsInPhases};
-ghost use Rattle.call_verdicts.specs.Noted.{IsNoted};
+ghost use Rattle.call_verdicts.specs.Noted.{IsNoted, met, met_alone};
 ghost use Rattle.call_verdicts.specs.report_lines.specs.BreachLines.{HasBreach, breach_text};
 ghost use Rattle.call_verdicts.specs.Noted.{tells_full};
 ghost use Rattle.replay_cli.specs.Endings.{EndsReport};
@@ -56,7 +56,7 @@ pub(crate) fn run_read_in_line<B: Bucket>(
         → IsAllAsked B.asked before world → IsAllAsked B.asked before result.1.world }
 
     // The note says what the operations of the run were answered.
-    ensures noted { IsNoted B.asked result.0 (Some result.1.world.journal)
+    ensures noted { IsNoted met B.asked result.0 (Some result.1.world.journal)
         (Some result.1.world.bucket) result.1.note }
 {
     match read {
@@ -90,10 +90,9 @@ pub(crate) fn run_read_with_threads<B: Bucket + Send, G: Gate + Sync, T: Threads
     ensures unread { IfErr read (λ v. (result.0 ≡ v) × (result.1.world.journal ≡ [])) }
     ensures unfailed { failed_count result.1.world.journal ≡ 0
         → B.faults result.1.world.bucket ≡ B.faults world.bucket }
-    ensures all { result.0 ≢ Verdict.NoMemory → tells_full result.0 ≡ false
-        → (before : List Call) → IsAllAsked B.asked before world
-        → IsAllAsked B.asked before result.1.world }
-    ensures noted { IsNoted B.asked result.0 (Some result.1.world.journal)
+    ensures all { result.0 ≢ Verdict.NoMemory → (before : List Call)
+        → IsAllAsked B.asked before world → IsAllAsked B.asked before result.1.world }
+    ensures noted { IsNoted met_alone B.asked result.0 (Some result.1.world.journal)
         (Some result.1.world.bucket) result.1.note }
 {
     match read {
@@ -160,21 +159,19 @@ fn run_with_threads<B: Bucket + Send, G: Gate + Sync, T: Threads + Wait + Sync>(
     ensures unfailed { failed_count result.1.world.journal ≡ 0
         → B.faults result.1.world.bucket ≡ B.faults world.bucket }
 
-    // All that the bucket was asked is journaled if it was before, unless want of memory is told, or the full journal. (Where one
-    // worker meets that, another may have wanted memory.)
-    ensures all { result.0 ≢ Verdict.NoMemory → tells_full result.0 ≡ false
-        → (before : List Call) → IsAllAsked B.asked before world
-        → IsAllAsked B.asked before result.1.world }
+    // Unless want of memory is told, all that the bucket was asked is journaled if it was before.
+    ensures all { result.0 ≢ Verdict.NoMemory → (before : List Call)
+        → IsAllAsked B.asked before world → IsAllAsked B.asked before result.1.world }
 
-    // The note says what the operations of the run were answered. The full journal is told just where one was answered so, and want
-    // of memory only where none was.
-    ensures noted { IsNoted B.asked result.0 (Some result.1.world.journal)
+    // The note says what the operations of the run were answered. The full journal is told just where one was answered so, and
+    // memory was wanted for none.
+    ensures noted { IsNoted met_alone B.asked result.0 (Some result.1.world.journal)
         (Some result.1.world.bucket) result.1.note }
 {
     let mut report = Lines::new(alloc);
     match run_beside(rt, alloc, script, shelf, world, gate, &mut report) {
         Ok((end, closed)) => {
-            let came = end.came;
+            let came = with_wanted(end.came, closed.wanted());
             drop(end);
             let world = closed.world();
             let journal = world.journal();
@@ -183,6 +180,13 @@ fn run_with_threads<B: Bucket + Send, G: Gate + Sync, T: Threads + Wait + Sync>(
         }
         Err(world) => (Verdict::NoMemory, Finished::unbegun(world)),
     }
+}
+
+/// What is told of a run that came to this: want of memory, where that was met in an operation.
+fn with_wanted(came: Result<(), Broken>, wanted: bool) -> Result<(), Broken>
+    ensures { MatchBool wanted (result ≡ Err Broken.NoMemory) (result ≡ came) }
+{
+    if wanted { Err(Broken::NoMemory) } else { came }
 }
 
 /// What a run comes to that left this journal, by what broke it off.

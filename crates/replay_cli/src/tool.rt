@@ -1,6 +1,6 @@
 ghost use Rattle.std.specs.Prelude.{◌≡◌, ◌≢◌, ℕ, [], Some, None, IfSome, IsSome, is_some};
 ghost use Rattle.call_verdicts.specs.Checks.{files_of};
-ghost use Rattle.call_verdicts.specs.Noted.{IsFullSaid, IsNoted};
+ghost use Rattle.call_verdicts.specs.Noted.{IsFullSaid, IsNoted, met};
 ghost use Rattle.call_verdicts.specs.Kept.{IsHandedBack, IsHandedOut, IsNotAsked, IsShelfOf, IsUnfailed, IsUntouched, told_of};
 ghost use Rattle.call_verdicts.specs.Asked.{IsBroken, IsBucketAsked, IsUndecided, WasAskedFor, WasReadFor};
 ghost use Rattle.call_verdicts.specs.Statuses.{number_of};
@@ -45,7 +45,7 @@ pub fn run_tool<S: Site, R: Source, K: Sink>(
         × (verdict ≢ Verdict.NoMemory
         → IsBucketAsked S.Store.asked verdict result.journal result.store)
         × (number_word words.now ≡ None
-        → IsNoted S.Store.asked verdict result.journal result.store result.note)
+        → IsNoted met S.Store.asked verdict result.journal result.store result.note)
         × (IsSome (number_word words.now)
         → IsDayNoted verdict result.journal result.day) }
 
@@ -138,7 +138,7 @@ fn come_to<S: Site, R: Source>(
         (λ c. IsUntouched S.Store.contents c result.conclusion.journal result.conclusion.store) }
     ensures closed { bucket_word words.now ≡ None
         → IsNotAsked S.buckets S.next_bucket site.old site.new }
-    ensures noted { IsNoted S.Store.asked result.conclusion.verdict
+    ensures noted { IsNoted met S.Store.asked result.conclusion.verdict
         result.conclusion.journal result.conclusion.store result.note }
     ensures shelf { IsShelfOf S.shelves S.next_shelf S.Files.files (shelf_word words.now)
         site.old site.new result.shelf }
@@ -187,7 +187,7 @@ fn read_and_run<S: Site, R: Source>(
     ensures asked_bucket { result.conclusion.verdict ≢ Verdict.NoMemory
         → IsBucketAsked S.Store.asked result.conclusion.verdict result.conclusion.journal
         result.conclusion.store }
-    ensures noted { IsNoted S.Store.asked result.conclusion.verdict
+    ensures noted { IsNoted met S.Store.asked result.conclusion.verdict
         result.conclusion.journal result.conclusion.store result.note }
     ensures untouched { IfSome (S.next_bucket site.old bucket.now)
         (λ c. IsUntouched S.Store.contents c result.conclusion.journal result.conclusion.store) }

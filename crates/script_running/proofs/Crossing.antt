@@ -7,6 +7,9 @@ use Rattle.std.proofs.MapsCrossing.{crosses as maps_cross}
 use Rattle.lru.proofs.list.List.TheSendSync as nodes
 use Rattle.lru.proofs.entry.Deed.TheSendSync as deed
 use Rattle.lru.proofs.key_ref.KeyRef.TheSendSync as key
+use Rattle.wire_bytes.specs.contracts.blob.Kept as Kept
+use Rattle.wire_bytes.specs.contracts.blob.Blob as Blob
+use Rattle.block_keys.specs.contracts.object.Object as Object
 use Rattle.label_sets.specs.contracts.label_set.LabelSet as LabelSet
 use Rattle.meta_fetcher.specs.contracts.view.View as View
 use Rattle.sync_filters.specs.contracts.found.Found as Found
@@ -20,8 +23,23 @@ use Rattle.script_running.specs.contracts.worker.WorkerJob as WorkerJob
 use Rattle.script_running.specs.contracts.shelf.ShelfBlock as ShelfBlock
 use Rattle.script_running.specs.contracts.shelf.ShelfFound as ShelfFound
 
+kept_sync : IsSync Kept.the_row
+kept_sync = search (sendable, crosses) depth 24
+
+kept_field : IsSync (Kept.the_field).row
+kept_field = let kept = kept_sync in search (sendable, crosses) depth 24
+
+blob_sync : IsSync Blob.the_row
+blob_sync = let kept = kept_field in search (sendable, crosses) depth 24
+
+blob_field : IsSync (Blob.the_field).row
+blob_field = let blob = blob_sync in search (sendable, crosses) depth 24
+
+object_field : IsSync (Object.the_field).row
+object_field = let blob = blob_field in search (sendable, crosses) depth 24
+
 found_sync : IsSync ShelfFound.the_row
-found_sync = search (sendable, crosses) depth 24
+found_sync = let object = object_field in search (sendable, crosses) depth 24
 
 found_field : IsSync (ShelfFound.the_field).row
 found_field = let found = found_sync in search (sendable, crosses) depth 24

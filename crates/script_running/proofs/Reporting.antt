@@ -7,7 +7,7 @@ use Rattle.list_core.proofs.Lists.{take_none, take_place}
 use Rattle.script_core.specs.declared.script.Script.{Script}
 use Rattle.script_workers.specs.declared.phase.Phase.{Phase}
 use Rattle.script_workers.specs.declared.task.Task.{Task}
-use Rattle.script_running.specs.Reporting.{TellsFirst}
+use Rattle.script_running.specs.Reporting.{HasToldFirst, TellsFirst}
 use Rattle.script_running.specs.declared.came.Broken.{Broken}
 use Rattle.script_running.specs.declared.came.Broken.TheVariants as broken
 use Rattle.script_running.specs.declared.outcome.Outcome.{Outcome}
@@ -33,10 +33,20 @@ module _ {P : Type 0} (tells : P → Script → List Task → List Outcome → T
   pub tells_first : (report : P) (place : ℕ) (outcomes : List Outcome) → tells report script (tasks_in (take place script.phases)) outcomes → TellsFirst tells script report outcomes
   tells_first report place outcomes told = (take place script.phases, drop place script.phases, sym (take-append-drop place script.phases), told)
 
+  -- a run that no phase broke off
+  pub tells_all : (report : P) (place : ℕ) (outcomes : List Outcome) → tells report script (tasks_in (take place script.phases)) outcomes → HasToldFirst tells script report outcomes (Ok tt)
+  tells_all report place outcomes told = (report, (λ never. refl), tells_first report place outcomes told)
+
   -- the full journal left it as it was
+  still_same : (report now : P) (why : Broken) → (◌≡◌ {A = Result (Unit {0}) Broken} (Err why) (Err broken.Full) → now ≡ report) → ◌≢◌ {A = Result (Unit {0}) Broken} (Err why) (Err broken.NoMemory) → report ≡ now
+  still_same report now broken.Full same never = sym (same refl)
+  still_same report now broken.NoMemory same never = absurd (never refl)
+
+  -- a phase that broke off added no outcome
   pub tells_still : (report now : P) (place : ℕ) (outcomes after : List Outcome) (why : Broken) → tells report script (tasks_in (take place script.phases)) outcomes
-      → (◌≡◌ {A = Result (Unit {0}) Broken} (Err why) (Err broken.Full) → (now ≡ report) × (after ≡ outcomes)) → ◌≢◌ {A = Result (Unit {0}) Broken} (Err why) (Err broken.NoMemory) → TellsFirst tells script now after
-  tells_still report now place outcomes after broken.NoMemory told same never = absurd (never refl)
-  tells_still report now place outcomes after broken.Full told same never =
-      let s = same refl in
-      tells_first now place after (subst (λ (p : P). tells p script (tasks_in (take place script.phases)) after) (sym s.0) (subst (λ (os : List Outcome). tells report script (tasks_in (take place script.phases)) os) (sym s.1) told))
+      → (◌≡◌ {A = Result (Unit {0}) Broken} (Err why) (Err broken.Full) → now ≡ report) → after ≡ outcomes → HasToldFirst tells script now after (Err why)
+  tells_still report now place outcomes after why told same kept = (
+    report,
+    still_same report now why same,
+    tells_first report place after (subst (λ (os : List Outcome). tells report script (tasks_in (take place script.phases)) os) (sym kept) told),
+  )

@@ -1,6 +1,6 @@
 //! A script's phases one after another, the workers of each beside each other in threads.
 
-ghost use Rattle.std.specs.Prelude.{◌≡◌, ◌≢◌, ◌+◌, ◌++◌, ◌<◌, ◌^◌, ◌||◌, List, [], Ok, Err, Some, IfOk, IfErr, OnOk, false, length, slice_get, take};
+ghost use Rattle.std.specs.Prelude.{◌≡◌, ◌≢◌, ◌+◌, ◌++◌, ◌<◌, ◌^◌, ◌||◌, List, [], Ok, Err, Some, IfOk, IfErr, OnErr, OnOk, false, length, slice_get, take};
 ghost use Rattle.std.specs.List.{All};
 ghost use Rattle.bucket_core.specs.Asking.{Call};
 ghost use Rattle.world_core.specs.Asking.{IsAllAsked};
@@ -10,7 +10,7 @@ ghost use Rattle.script_core.specs.Workers.{seats_before};
 ghost use Rattle.script_workers.specs.declared.task.Task.{Task};
 ghost use Rattle.script_running.specs.Shelves.{AreAllAtHand, setting_by};
 ghost use Rattle.script_running.specs.Beside.{HasRunBeside};
-ghost use Rattle.script_running.specs.Reporting.{TellsFirst};
+ghost use Rattle.script_running.specs.Reporting.{HasToldFirst};
 ghost use Rattle.script_running.specs.Going.{HasCome, HasGone, IsClockSet};
 ghost use Rattle.script_running.specs.Sights.{no_sight};
 ghost use Rattle.script_running.specs.Tasks.{is_full_came};
@@ -73,9 +73,9 @@ pub fn run_beside<B: Bucket + Send, G: Gate + Sync, P: Report, R: Threads + Wait
     ensures refused { IfOk result
         (λ run. (view_of run.1.root.value).refused ≡ is_full_came run.0.came) }
 
-    // The report tells of the tasks of some first phases, unless memory was wanting: just those that have these outcomes.
-    ensures reported { IfOk result (λ run. run.0.came ≢ Err Broken.NoMemory
-        → TellsFirst P.tells script.now report.new run.0.outcomes) }
+    // The report tells of the tasks of some first phases, or for want of memory it did: just of those that have these outcomes.
+    ensures reported { IfOk result (λ run. HasToldFirst P.tells script.now report.new
+        run.0.outcomes run.0.came) }
 
     // The bucket has failed no more often than before, unless the journal shows it.
     ensures unfailed { IfOk result (λ run. failed_count run.1.world.journal ≡ 0
@@ -174,8 +174,7 @@ fn run_phases<B: Bucket + Send, G: Gate + Sync, P: Report, R: Threads + Wait + S
     ensures all { AllJoined (view_of result.1) }
     ensures came { HasCome (setting_by script.now means.now.shelf) (view_of result.1) script.now.phases
         standing.new.sights.items standing.new.outcomes result.0 }
-    ensures reported { result.0 ≢ Err Broken.NoMemory
-        → TellsFirst P.tells script.now report.new standing.new.outcomes }
+    ensures reported { HasToldFirst P.tells script.now report.new standing.new.outcomes result.0 }
 {
     let mut root = root;
     for (place, phase) in script.phases.members().iter().enumerate() {
@@ -227,8 +226,8 @@ fn phase_beside<B: Bucket + Send, G: Gate + Sync, P: Report, R: Threads + Wait +
         → P.tells report.old script.now before standing.old.outcomes
         → OnOk result.0
         (P.tells report.new script.now (before ++ phase.now.tasks) standing.new.outcomes) }
-    ensures unreported { result.0 ≡ Err Broken.Full
-        → (report.new ≡ report.old) × (standing.new.outcomes ≡ standing.old.outcomes) }
+    ensures unreported { result.0 ≡ Err Broken.Full → report.new ≡ report.old }
+    ensures kept { OnErr result.0 (standing.new.outcomes ≡ standing.old.outcomes) }
 {
     let Ok(staff) = script.workers_after(alloc, place, root.splits()) else {
         return (Err(Broken::NoMemory), root);

@@ -102,8 +102,8 @@ pub(crate) fn gather<P: Report>(
         outcomes.new result }
     ensures reported { (before : List Task) → P.tells report.old script.now before outcomes.old
         → OnOk result (P.tells report.new script.now (before ++ tasks.now) outcomes.new) }
-    ensures unreported { result ≡ Err Broken.Full
-        → (report.new ≡ report.old) × (outcomes.new ≡ outcomes.old) }
+    ensures unreported { result ≡ Err Broken.Full → report.new ≡ report.old }
+    ensures kept { OnErr result (outcomes.new ≡ outcomes.old) }
 {
     if any_full(&ends) {
         return Err(Broken::Full);

@@ -6,8 +6,7 @@ ghost use Rattle.replay_cli.specs.lifecycle_core.specs.InLine.{IsInLine};
 ghost use Rattle.replay_cli.specs.call_verdicts.specs.Asked.{IsBucketAsked};
 ghost use Rattle.replay_cli.specs.InPhases.{IsInPhases};
 ghost use Rattle.replay_cli.specs.call_verdicts.specs.Kept.{IsHandedBack, IsHandedOut, IsNotAsked, IsShelfOf};
-ghost use Rattle.replay_cli.specs.call_verdicts.specs.Noted.{IsNoted};
-ghost use Rattle.replay_cli.specs.call_verdicts.specs.Noted.{tells_full};
+ghost use Rattle.replay_cli.specs.call_verdicts.specs.Noted.{IsNoted, met, met_alone};
 ghost use Rattle.replay_cli.specs.call_verdicts.specs.Verdicts.{IsCaused, around_call, saying_to};
 ghost use Rattle.replay_cli.specs.call_verdicts.specs.Words.{block_word, bucket_word, number_word, replay_shelf, replay_word, shelf_word};
 ghost use Rattle.replay_cli.specs.Days.{IsDayNoted, IsToolCaused};
@@ -72,7 +71,7 @@ where
         (λ verdict. verdict ≢ NoMemory
         → IsBucketAsked S.Store.asked verdict result.journal result.store)
         (λ verdict. (number_word words.now ≡ None
-        → IsNoted S.Store.asked verdict result.journal result.store result.note)
+        → IsNoted met S.Store.asked verdict result.journal result.store result.note)
         × (IsSome (number_word words.now) → IsDayNoted verdict result.journal result.day))
         result.status }
     ensures replay { names_replay words.now ≡ true → IsServed
@@ -82,9 +81,9 @@ where
         None site.old site.new S.Store.faults S.Files.faults
         result.store result.shelf result.journal))
         (saying_to K.faults K.written out.old out.new)
-        (λ verdict. verdict ≢ NoMemory → tells_full verdict ≡ false
+        (λ verdict. verdict ≢ NoMemory
         → IsBucketAsked S.Store.asked verdict result.journal result.store)
-        (λ verdict. IsNoted S.Store.asked verdict result.journal result.store result.note) result.status }
+        (λ verdict. IsNoted met_alone S.Store.asked verdict result.journal result.store result.note) result.status }
 
     // There is the note of a generated day only where the words name one.
     ensures no_day { names_replay words.now ≡ false → number_word words.now ≡ None

@@ -1,6 +1,7 @@
 use Rattle.std.proofs.Common.{Some, refl, sym, ◌∙◌, ap, subst}
 use Rattle.world_core.specs.Asking.{IsAllAsked}
 use Rattle.world_core.specs.Worlds.{IsJournal, IsOfBytes}
+use Rattle.call_verdicts.specs.Noted.{met}
 use Rattle.call_verdicts.proofs.BucketAsked.{run_asked}
 use Rattle.call_verdicts.proofs.Noted.{noted_as, noted_world, short_by}
 use Rattle.call_verdicts.proofs.ShelfReads.{none_at_hand}
@@ -44,9 +45,9 @@ pub returns-clause-noted : goal.returns-clause-noted
 returns-clause-noted g c =
     let hand = c.do_in_line-came.result.2 in
     let v = c.verdict_on-verdict.result in
-    noted_as g.B.Bucket.asked v v c.of_hand.result.world (Some c.into_parts-note.result.1) (Some c.into_parts-note.result.2) c.of_hand.result.note c.into_parts-note.result.0
+    noted_as met g.B.Bucket.asked v v c.of_hand.result.world (Some c.into_parts-note.result.1) (Some c.into_parts-note.result.2) c.of_hand.result.note c.into_parts-note.result.0
     refl (ap (λ j. Some j) c.into_parts-note.ensures.journal) (ap (λ b. Some b) c.into_parts-note.ensures.bucket) c.into_parts-note.ensures.note
-    (noted_world g.B.Bucket.asked v c.of_hand.result.world hand.refused hand.wanted c.of_hand.result.note c.of_hand.ensures.note
+    (noted_world met g.B.Bucket.asked v c.of_hand.result.world hand.refused hand.wanted c.of_hand.result.note c.of_hand.ensures.note
     (c.do_in_line-came.ensures.refused ∙ day_full_told c.args.script.now c.entries.result.now c.do_in_line-came.result.1 c.do_in_line-came.result.0 v c.verdict_on-verdict.ensures.whole c.verdict_on-verdict.ensures.full c.verdict_on-verdict.ensures.none)
     (short_by hand.wanted v (λ so. c.verdict_on-verdict.ensures.none (c.do_in_line-came.ensures.wanted so)))
     (λ never. run_asked g.B.Bucket.asked c.args.world c.of_hand.result.world c.requires.fresh c.requires.asked

@@ -6,7 +6,7 @@ use Rattle.call_verdicts.specs.Words.{named_by, replay_shelf, replay_word}
 use Rattle.call_verdicts.specs.declared.words.Named.{Named}
 use Rattle.call_verdicts.proofs.Checks.{caused_run, caused_words, not_named}
 use Rattle.call_verdicts.proofs.BucketAsked.{none_asked}
-use Rattle.call_verdicts.specs.Noted.{tells_full}
+use Rattle.call_verdicts.specs.Noted.{met_alone, tells_full}
 use Rattle.call_verdicts.proofs.Noted.{without_bucket}
 use Rattle.call_verdicts.proofs.Openings.{shelf_named, untouched_named}
 use Rattle.call_verdicts.proofs.Verdicts.{is_named}
@@ -56,7 +56,7 @@ pub returns-in-Some-clause-asked_bucket : goal.returns-in-Some-clause-asked_buck
 returns-in-Some-clause-asked_bucket g c = c.read_and_run.ensures.asked_bucket
 
 pub returns-in-None-clause-asked_bucket : goal.returns-in-None-clause-asked_bucket
-returns-in-None-clause-asked_bucket g c = λ never told.
+returns-in-None-clause-asked_bucket g c = λ never.
     none_asked g.S.Store.Bucket.asked c.without_bucket.result.verdict c.without_bucket.result.journal c.without_bucket.result.store c.without_bucket.ensures.journal
 
 -- ---- the note of a run
@@ -66,4 +66,4 @@ returns-in-Some-clause-noted g c = c.read_and_run.ensures.noted
 
 pub returns-in-None-clause-noted : goal.returns-in-None-clause-noted
 returns-in-None-clause-noted g c =
-    without_bucket g.S.Store.Bucket.asked c.without_bucket.result.verdict c.without_bucket.result.journal c.without_bucket.result.store None refl c.without_bucket.ensures.journal c.without_bucket.ensures.store (ap tells_full c.without_bucket.ensures.verdict)
+    without_bucket met_alone g.S.Store.Bucket.asked c.without_bucket.result.verdict c.without_bucket.result.journal c.without_bucket.result.store None refl c.without_bucket.ensures.journal c.without_bucket.ensures.store (ap tells_full c.without_bucket.ensures.verdict)

@@ -8,7 +8,7 @@ use Rattle.replay_cli.specs.InPhases.{IsInPhases}
 use Rattle.call_verdicts.specs.Kept.{IsUntouched}
 use Rattle.call_verdicts.specs.Verdicts.{IsScriptRead, SiteFailed, around_call}
 use Rattle.call_verdicts.specs.Words.{named_by}
-use Rattle.call_verdicts.specs.Noted.{tells_full}
+use Rattle.call_verdicts.specs.Noted.{met_alone}
 use Rattle.call_verdicts.proofs.BucketAsked.{ended_asked}
 use Rattle.call_verdicts.proofs.Checks.{handed_some}
 use Rattle.replay_cli.proofs.NoneInPhases.{none_in_phases}
@@ -66,28 +66,28 @@ returns-in-Ok-clause-untouched g c =
     if_nothing (λ k. IsUntouched g.S.Store.Bucket.contents k c.of_run-conclusion.result.0.journal c.of_run-conclusion.result.0.store) (g.S.Site.next_bucket c.args.site.now c.args.bucket.now) c.in-Ok.ensures.empty c.of_run-conclusion.ensures.untouched
 
 pub returns-in-Ok-clause-asked_bucket : goal.returns-in-Ok-clause-asked_bucket
-returns-in-Ok-clause-asked_bucket g c = λ never told.
+returns-in-Ok-clause-asked_bucket g c = λ never.
     ended_asked g.S.Store.Bucket.asked c.in-Ok.field-0.world c.run_read_with_threads-verdict.result.1.world c.of_run-conclusion.result.0.verdict c.of_run-conclusion.result.0.journal c.of_run-conclusion.result.0.store
-    c.in-Ok.ensures.fresh c.in-Ok.ensures.asked (c.run_read_with_threads-verdict.ensures.all (λ is. never (c.of_run-conclusion.ensures.verdict ∙ is)) (ap tells_full (sym c.of_run-conclusion.ensures.verdict) ∙ told))
+    c.in-Ok.ensures.fresh c.in-Ok.ensures.asked (c.run_read_with_threads-verdict.ensures.all (λ is. never (c.of_run-conclusion.ensures.verdict ∙ is)))
     c.of_run-conclusion.ensures.journal c.of_run-conclusion.ensures.store
 
 pub returns-in-Ok-clause-noted : goal.returns-in-Ok-clause-noted
 returns-in-Ok-clause-noted g c =
-    noted_as g.S.Store.Bucket.asked c.run_read_with_threads-verdict.result.0 c.of_run-conclusion.result.0.verdict c.run_read_with_threads-verdict.result.1.world c.of_run-conclusion.result.0.journal c.of_run-conclusion.result.0.store c.run_read_with_threads-verdict.result.1.note c.of_run-conclusion.result.1
+    noted_as met_alone g.S.Store.Bucket.asked c.run_read_with_threads-verdict.result.0 c.of_run-conclusion.result.0.verdict c.run_read_with_threads-verdict.result.1.world c.of_run-conclusion.result.0.journal c.of_run-conclusion.result.0.store c.run_read_with_threads-verdict.result.1.note c.of_run-conclusion.result.1
     c.of_run-conclusion.ensures.verdict c.of_run-conclusion.ensures.journal c.of_run-conclusion.ensures.store c.of_run-conclusion.ensures.note c.run_read_with_threads-verdict.ensures.noted
 
 -- ---- a call that ended before
 
 pub returns-in-Err-clause-noted : goal.returns-in-Err-clause-noted
 returns-in-Err-clause-noted g c =
-    undone_noted g.S.Store.Bucket.asked
+    undone_noted met_alone g.S.Store.Bucket.asked
     (around_call IsInPhases g.R.Source.left g.R.Source.faults c.args.script.now c.read_and_open.new.script g.S.Site.buckets g.S.Site.next_bucket g.S.Site.shelves g.S.Site.next_shelf g.S.Site.faults (Some c.args.bucket.now) (named_by c.args.shelf.now) None
     c.args.site.now c.read_and_open.new.site g.S.Store.Bucket.faults g.S.Files.Shelf.faults
     c.in-Err.ended.conclusion.store c.in-Err.ended.shelf c.in-Err.ended.conclusion.journal)
     c.in-Err.ended.conclusion.verdict c.in-Err.ended.conclusion.store c.in-Err.ended.note c.in-Err.ensures.unnoted c.in-Err.ensures.only_opened c.in-Err.ensures.cause
 
 pub returns-in-Err-clause-asked_bucket : goal.returns-in-Err-clause-asked_bucket
-returns-in-Err-clause-asked_bucket g c = λ never told. c.in-Err.ensures.back_asked never
+returns-in-Err-clause-asked_bucket g c = c.in-Err.ensures.back_asked
 
 pub returns-in-Err-clause-cause : goal.returns-in-Err-clause-cause
 returns-in-Err-clause-cause g c =

@@ -1,10 +1,9 @@
-use Rattle.std.proofs.Common.{◌≡◌, ◌≢◌, false, refl, ap}
+use Rattle.std.proofs.Common.{◌≡◌, ◌≢◌, refl, ap}
 use Rattle.std.specs.Prelude.{None, IfSome, is_some}
 use Rattle.replay_cli.specs.InPhases.{IsInPhases}
 use Rattle.call_verdicts.specs.Kept.{IsHandedBack, IsHandedOut, IsShelfOf, IsUntouched, told_of}
 use Rattle.call_verdicts.specs.Asked.{IsBucketAsked, WasReadFor}
-use Rattle.call_verdicts.specs.Noted.{tells_full}
-use Rattle.call_verdicts.specs.Noted.{IsFullSaid, IsNoted}
+use Rattle.call_verdicts.specs.Noted.{IsFullSaid, IsNoted, met_alone}
 use Rattle.call_verdicts.specs.Statuses.{number_of}
 use Rattle.call_verdicts.specs.Verdicts.{EndsCalmly, IsCaused, IsSaid, around_call, saying_to}
 use Rattle.call_verdicts.specs.Words.{replay_shelf, replay_word}
@@ -20,7 +19,7 @@ pub returns-clause-verdict : goal.returns-clause-verdict
 returns-clause-verdict g c =
     left_by c.into_run.result _ _ _ _ _ c.into_run.ensures.2
     (λ status journal store shelf note. (verdict : Verdict) × (said : Status) × IsCaused (around_call IsInPhases g.R.Source.left g.R.Source.faults c.args.script.now c.come_to.new.script g.S.Site.buckets g.S.Site.next_bucket g.S.Site.shelves g.S.Site.next_shelf g.S.Site.faults (replay_word c.args.words.now) (replay_shelf c.args.words.now) None
-    c.args.site.now c.come_to.new.site g.S.Store.Bucket.faults g.S.Files.Shelf.faults store shelf journal) verdict × IsSaid verdict (saying_to g.K.Sink.faults g.K.Sink.written c.args.out.now c.into_run.new.out) said × (status ≡ number_of said) × (verdict ≢ NoMemory → tells_full verdict ≡ false → IsBucketAsked g.S.Store.Bucket.asked verdict journal store) × IsNoted g.S.Store.Bucket.asked verdict journal store note)
+    c.args.site.now c.come_to.new.site g.S.Store.Bucket.faults g.S.Files.Shelf.faults store shelf journal) verdict × IsSaid verdict (saying_to g.K.Sink.faults g.K.Sink.written c.args.out.now c.into_run.new.out) said × (status ≡ number_of said) × (verdict ≢ NoMemory → IsBucketAsked g.S.Store.Bucket.asked verdict journal store) × IsNoted met_alone g.S.Store.Bucket.asked verdict journal store note)
     (c.come_to.result.conclusion.verdict, c.into_run.ensures.0, c.come_to.ensures.cause, c.into_run.ensures.1, refl, c.come_to.ensures.asked_bucket, c.come_to.ensures.noted)
 
 pub returns-clause-calm : goal.returns-clause-calm
@@ -33,8 +32,8 @@ returns-clause-calm g c =
 pub returns-clause-full : goal.returns-clause-full
 returns-clause-full g c =
     left_by c.into_run.result _ _ _ _ _ c.into_run.ensures.2
-    (λ status journal store shelf note. IfSome note (λ n. IsFullSaid n.full (saying_to g.K.Sink.faults g.K.Sink.written c.args.out.now c.into_run.new.out) status))
-    (full_said g.S.Store.Bucket.asked c.come_to.result.conclusion.verdict _ c.into_run.ensures.0 c.come_to.result.conclusion.journal c.come_to.result.conclusion.store c.come_to.result.note c.come_to.ensures.noted c.into_run.ensures.1)
+    (λ status journal store shelf note. IfSome note (λ n. IsFullSaid (met_alone n.full n.wanted) (saying_to g.K.Sink.faults g.K.Sink.written c.args.out.now c.into_run.new.out) status))
+    (full_said met_alone g.S.Store.Bucket.asked c.come_to.result.conclusion.verdict _ c.into_run.ensures.0 c.come_to.result.conclusion.journal c.come_to.result.conclusion.store c.come_to.result.note c.come_to.ensures.noted c.into_run.ensures.1)
 
 pub returns-clause-handed : goal.returns-clause-handed
 returns-clause-handed g c =

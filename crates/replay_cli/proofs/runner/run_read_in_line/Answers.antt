@@ -6,6 +6,7 @@ use Rattle.call_verdicts.specs.lifecycle_core.specs.InLine.{IsInLine}
 use Rattle.bucket_core.specs.Contents.{nothing}
 use Rattle.call_verdicts.specs.script_running.specs.Shelves.{setting_by}
 use Rattle.call_verdicts.specs.Asked.{IsBroken, WasAsked, for_opening}
+use Rattle.call_verdicts.specs.Noted.{met}
 use Rattle.call_verdicts.specs.Verdicts.{IsRun}
 use Rattle.call_verdicts.proofs.BucketAsked.{run_asked}
 use Rattle.call_verdicts.proofs.Noted.{noted_world, short_by, unnoted, unwanted_by}
@@ -32,7 +33,7 @@ returns-in-Ok-clause-all g c = λ never before was.
 
 pub returns-in-Ok-clause-noted : goal.returns-in-Ok-clause-noted
 returns-in-Ok-clause-noted g c =
-    noted_world g.B.Bucket.asked c.run_in_line-verdict.result.0 c.of_hand.result.world c.run_in_line-verdict.result.1.refused c.run_in_line-verdict.result.1.wanted c.of_hand.result.note c.of_hand.ensures.note c.run_in_line-verdict.ensures.refused
+    noted_world met g.B.Bucket.asked c.run_in_line-verdict.result.0 c.of_hand.result.world c.run_in_line-verdict.result.1.refused c.run_in_line-verdict.result.1.wanted c.of_hand.result.note c.of_hand.ensures.note c.run_in_line-verdict.ensures.refused
     (short_by c.run_in_line-verdict.result.1.wanted c.run_in_line-verdict.result.0 c.run_in_line-verdict.ensures.wanted)
     (λ never. run_asked g.B.Bucket.asked c.args.world c.of_hand.result.world c.requires.fresh c.requires.asked
     (λ before was. subst (IsAllAsked g.B.Bucket.asked before) (sym c.of_hand.ensures.world) (c.run_in_line-verdict.ensures.all never before was)))
@@ -50,6 +51,6 @@ returns-in-Err-clause-all g c = λ never before was. subst (IsAllAsked g.B.Bucke
 
 pub returns-in-Err-clause-noted : goal.returns-in-Err-clause-noted
 returns-in-Err-clause-noted g c =
-    unnoted g.B.Bucket.asked c.in-Err.verdict (Some c.unbegun.result.world.journal) (Some c.unbegun.result.world.bucket) c.unbegun.result.note c.unbegun.ensures.note
+    unnoted met g.B.Bucket.asked c.in-Err.verdict (Some c.unbegun.result.world.journal) (Some c.unbegun.result.world.bucket) c.unbegun.result.note c.unbegun.ensures.note
     (ap (λ w. w.journal) c.unbegun.ensures.world ∙ c.requires.fresh) (tells_none c.in-Err.verdict (subst (λ r. IfErr r IsBroken) c.in-Err.is c.requires.broken))
     (inr (subst (WasAsked g.B.Bucket.asked for_opening) (sym (ap (λ w. w.bucket) c.unbegun.ensures.world)) c.requires.asked))

@@ -4,6 +4,7 @@ use Rattle.world_core.specs.Asking.{IsAllAsked}
 use Rattle.bucket_core.specs.Contents.{nothing}
 use Rattle.call_verdicts.specs.script_running.specs.Shelves.{setting_by}
 use Rattle.call_verdicts.specs.Asked.{IsBroken, WasAsked, for_opening}
+use Rattle.call_verdicts.specs.Noted.{met_alone}
 use Rattle.call_verdicts.specs.Verdicts.{IsRun}
 use Rattle.replay_cli.specs.InPhases.{IsInPhases}
 use Rattle.call_verdicts.proofs.Noted.{unnoted}
@@ -25,10 +26,10 @@ pub returns-in-Err-clause-unfailed : goal.returns-in-Err-clause-unfailed
 returns-in-Err-clause-unfailed g c = λ none. ap (λ w. g.B.Bucket.faults w.bucket) c.unbegun.ensures.world
 
 pub returns-in-Err-clause-all : goal.returns-in-Err-clause-all
-returns-in-Err-clause-all g c = λ never told before was. subst (IsAllAsked g.B.Bucket.asked before) (sym c.unbegun.ensures.world) was
+returns-in-Err-clause-all g c = λ never before was. subst (IsAllAsked g.B.Bucket.asked before) (sym c.unbegun.ensures.world) was
 
 pub returns-in-Err-clause-noted : goal.returns-in-Err-clause-noted
 returns-in-Err-clause-noted g c =
-    unnoted g.B.Bucket.asked c.in-Err.verdict (Some c.unbegun.result.world.journal) (Some c.unbegun.result.world.bucket) c.unbegun.result.note c.unbegun.ensures.note
+    unnoted met_alone g.B.Bucket.asked c.in-Err.verdict (Some c.unbegun.result.world.journal) (Some c.unbegun.result.world.bucket) c.unbegun.result.note c.unbegun.ensures.note
     (ap (λ w. w.journal) c.unbegun.ensures.world ∙ c.requires.fresh) (tells_none c.in-Err.verdict (subst (λ r. IfErr r IsBroken) c.in-Err.is c.requires.broken))
     (inr (subst (WasAsked g.B.Bucket.asked for_opening) (sym (ap (λ w. w.bucket) c.unbegun.ensures.world)) c.requires.asked))

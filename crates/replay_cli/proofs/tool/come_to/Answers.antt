@@ -6,7 +6,7 @@ use Rattle.call_verdicts.specs.Words.{block_word, bucket_word, named_by, shelf_w
 use Rattle.call_verdicts.specs.declared.words.Named.{Named}
 use Rattle.call_verdicts.proofs.Checks.{back_none, behind_map, caused_check, caused_run, caused_words, handed_none, not_named, untouched_none}
 use Rattle.call_verdicts.proofs.BucketAsked.{none_asked}
-use Rattle.call_verdicts.specs.Noted.{tells_full}
+use Rattle.call_verdicts.specs.Noted.{met, tells_full}
 use Rattle.call_verdicts.proofs.Noted.{checked_tells, without_bucket}
 use Rattle.call_verdicts.proofs.Openings.{shelf_named, untouched_named}
 use Rattle.call_verdicts.proofs.Verdicts.{is_named}
@@ -122,9 +122,9 @@ returns-in-Some-clause-noted g c = c.read_and_run.ensures.noted
 
 pub returns-in-Some-read_check-clause-noted : goal.returns-in-Some-read_check-clause-noted
 returns-in-Some-read_check-clause-noted g c =
-    without_bucket g.S.Store.Bucket.asked c.check_block.result.conclusion.verdict c.check_block.result.conclusion.journal c.check_block.result.conclusion.store c.check_block.result.note c.check_block.ensures.note c.check_block.ensures.journal c.check_block.ensures.store
+    without_bucket met g.S.Store.Bucket.asked c.check_block.result.conclusion.verdict c.check_block.result.conclusion.journal c.check_block.result.conclusion.store c.check_block.result.note c.check_block.ensures.note c.check_block.ensures.journal c.check_block.ensures.store
     (checked_tells _ _ _ c.check_block.result.conclusion.verdict c.check_block.ensures.cause)
 
 pub returns-in-None-clause-noted : goal.returns-in-None-clause-noted
 returns-in-None-clause-noted g c =
-    without_bucket g.S.Store.Bucket.asked c.without_bucket.result.verdict c.without_bucket.result.journal c.without_bucket.result.store None refl c.without_bucket.ensures.journal c.without_bucket.ensures.store (ap tells_full c.without_bucket.ensures.verdict)
+    without_bucket met g.S.Store.Bucket.asked c.without_bucket.result.verdict c.without_bucket.result.journal c.without_bucket.result.store None refl c.without_bucket.ensures.journal c.without_bucket.ensures.store (ap tells_full c.without_bucket.ensures.verdict)

@@ -11,6 +11,7 @@ use Rattle.call_verdicts.specs.Verdicts.{IsScriptRead, SiteFailed, around_call}
 use Rattle.call_verdicts.specs.Words.{named_by}
 use Rattle.call_verdicts.proofs.BucketAsked.{ended_asked}
 use Rattle.call_verdicts.proofs.Checks.{handed_some}
+use Rattle.call_verdicts.specs.Noted.{met}
 use Rattle.call_verdicts.proofs.Noted.{noted_as, undone_noted}
 use Rattle.call_verdicts.proofs.CheckedShelf.{named_kept, shelf_kept}
 use Rattle.call_verdicts.proofs.HandedBack.{if_map}
@@ -72,14 +73,14 @@ returns-in-Ok-clause-asked_bucket g c = λ never.
 
 pub returns-in-Ok-clause-noted : goal.returns-in-Ok-clause-noted
 returns-in-Ok-clause-noted g c =
-    noted_as g.S.Store.Bucket.asked c.run_read_in_line-verdict.result.0 c.of_run-conclusion.result.0.verdict c.run_read_in_line-verdict.result.1.world c.of_run-conclusion.result.0.journal c.of_run-conclusion.result.0.store c.run_read_in_line-verdict.result.1.note c.of_run-conclusion.result.1
+    noted_as met g.S.Store.Bucket.asked c.run_read_in_line-verdict.result.0 c.of_run-conclusion.result.0.verdict c.run_read_in_line-verdict.result.1.world c.of_run-conclusion.result.0.journal c.of_run-conclusion.result.0.store c.run_read_in_line-verdict.result.1.note c.of_run-conclusion.result.1
     c.of_run-conclusion.ensures.verdict c.of_run-conclusion.ensures.journal c.of_run-conclusion.ensures.store c.of_run-conclusion.ensures.note c.run_read_in_line-verdict.ensures.noted
 
 -- ---- a call that ended before
 
 pub returns-in-Err-clause-noted : goal.returns-in-Err-clause-noted
 returns-in-Err-clause-noted g c =
-    undone_noted g.S.Store.Bucket.asked
+    undone_noted met g.S.Store.Bucket.asked
     (around_call IsInLine g.R.Source.left g.R.Source.faults c.args.script.now c.read_and_open.new.script g.S.Site.buckets g.S.Site.next_bucket g.S.Site.shelves g.S.Site.next_shelf g.S.Site.faults (Some c.args.bucket.now) (named_by c.args.shelf.now) None
     c.args.site.now c.read_and_open.new.site g.S.Store.Bucket.faults g.S.Files.Shelf.faults
     c.in-Err.ended.conclusion.store c.in-Err.ended.shelf c.in-Err.ended.conclusion.journal)

@@ -4,7 +4,7 @@ use Rattle.call_verdicts.specs.lifecycle_core.specs.InLine.{IsInLine}
 use Rattle.call_verdicts.specs.Checks.{files_of}
 use Rattle.call_verdicts.specs.Kept.{IsHandedBack, IsHandedOut, IsShelfOf, IsUntouched, told_of}
 use Rattle.call_verdicts.specs.Asked.{IsBucketAsked, IsUndecided, WasAskedFor}
-use Rattle.call_verdicts.specs.Noted.{IsFullSaid, IsNoted}
+use Rattle.call_verdicts.specs.Noted.{IsFullSaid, IsNoted, met}
 use Rattle.call_verdicts.specs.Statuses.{number_of}
 use Rattle.call_verdicts.specs.Verdicts.{EndsCalmly, IsCheckSaid, IsSaid, around_call, saying_to}
 use Rattle.call_verdicts.specs.Words.{block_word, bucket_word, number_word, shelf_word}
@@ -27,7 +27,7 @@ pub returns-in-None-clause-verdict : goal.returns-in-None-clause-verdict
 returns-in-None-clause-verdict g c =
     left_by c.into_run.result _ _ _ _ _ c.into_run.ensures.2
     (λ status journal store shelf note. (verdict : Verdict) × (said : Status) × IsToolCaused (number_word c.args.words.now) (around_call IsInLine g.R.Source.left g.R.Source.faults c.args.script.now c.come_to.new.script g.S.Site.buckets g.S.Site.next_bucket g.S.Site.shelves g.S.Site.next_shelf g.S.Site.faults (bucket_word c.args.words.now) (shelf_word c.args.words.now) (block_word c.args.words.now)
-    c.args.site.now c.come_to.new.site g.S.Store.Bucket.faults g.S.Files.Shelf.faults store shelf journal) verdict × IsSaid verdict (saying_to g.K.Sink.faults g.K.Sink.written c.args.out.now c.into_run.new.out) said × (status ≡ number_of said) × (verdict ≢ NoMemory → IsBucketAsked g.S.Store.Bucket.asked verdict journal store) × (number_word c.args.words.now ≡ None → IsNoted g.S.Store.Bucket.asked verdict journal store note)
+    c.args.site.now c.come_to.new.site g.S.Store.Bucket.faults g.S.Files.Shelf.faults store shelf journal) verdict × IsSaid verdict (saying_to g.K.Sink.faults g.K.Sink.written c.args.out.now c.into_run.new.out) said × (status ≡ number_of said) × (verdict ≢ NoMemory → IsBucketAsked g.S.Store.Bucket.asked verdict journal store) × (number_word c.args.words.now ≡ None → IsNoted met g.S.Store.Bucket.asked verdict journal store note)
     × (IsSome (number_word c.args.words.now) → IsDayNoted verdict journal c.into_run.result.day))
     (c.come_to.result.conclusion.verdict, c.into_run.ensures.0, script_caused (number_word c.args.words.now) _ c.come_to.result.conclusion.verdict (sym c.in-None.ensures.number) c.come_to.ensures.cause, c.into_run.ensures.1, refl, c.come_to.ensures.asked_bucket, λ none. c.come_to.ensures.noted, λ some. absurd (not_named_number (number_word c.args.words.now) (sym c.in-None.ensures.number) some))
 
@@ -48,7 +48,7 @@ pub returns-in-None-clause-full : goal.returns-in-None-clause-full
 returns-in-None-clause-full g c =
     left_by c.into_run.result _ _ _ _ _ c.into_run.ensures.2
     (λ status journal store shelf note. IfSome note (λ n. IsFullSaid n.full (saying_to g.K.Sink.faults g.K.Sink.written c.args.out.now c.into_run.new.out) status))
-    (full_said g.S.Store.Bucket.asked c.come_to.result.conclusion.verdict _ c.into_run.ensures.0 c.come_to.result.conclusion.journal c.come_to.result.conclusion.store c.come_to.result.note c.come_to.ensures.noted c.into_run.ensures.1)
+    (full_said met g.S.Store.Bucket.asked c.come_to.result.conclusion.verdict _ c.into_run.ensures.0 c.come_to.result.conclusion.journal c.come_to.result.conclusion.store c.come_to.result.note c.come_to.ensures.noted c.into_run.ensures.1)
 
 pub returns-in-None-clause-handed : goal.returns-in-None-clause-handed
 returns-in-None-clause-handed g c =
@@ -104,7 +104,7 @@ pub returns-in-Some-clause-verdict : goal.returns-in-Some-clause-verdict
 returns-in-Some-clause-verdict g c =
     left_by c.into_run-run.result _ _ _ _ _ c.into_run-run.ensures.2
     (λ status journal store shelf note. (verdict : Verdict) × (said : Status) × IsToolCaused (number_word c.args.words.now) (around_call IsInLine g.R.Source.left g.R.Source.faults c.args.script.now c.args.script.now g.S.Site.buckets g.S.Site.next_bucket g.S.Site.shelves g.S.Site.next_shelf g.S.Site.faults (bucket_word c.args.words.now) (shelf_word c.args.words.now) (block_word c.args.words.now)
-    c.args.site.now c.args.site.now g.S.Store.Bucket.faults g.S.Files.Shelf.faults store shelf journal) verdict × IsSaid verdict (saying_to g.K.Sink.faults g.K.Sink.written c.args.out.now c.into_run-run.new.out) said × (status ≡ number_of said) × (verdict ≢ NoMemory → IsBucketAsked g.S.Store.Bucket.asked verdict journal store) × (number_word c.args.words.now ≡ None → IsNoted g.S.Store.Bucket.asked verdict journal store note)
+    c.args.site.now c.args.site.now g.S.Store.Bucket.faults g.S.Files.Shelf.faults store shelf journal) verdict × IsSaid verdict (saying_to g.K.Sink.faults g.K.Sink.written c.args.out.now c.into_run-run.new.out) said × (status ≡ number_of said) × (verdict ≢ NoMemory → IsBucketAsked g.S.Store.Bucket.asked verdict journal store) × (number_word c.args.words.now ≡ None → IsNoted met g.S.Store.Bucket.asked verdict journal store note)
     × (IsSome (number_word c.args.words.now) → IsDayNoted verdict journal c.run_day-ended.result.1)) (
       c.run_day-ended.result.0.conclusion.verdict,
       c.into_run-run.ensures.0,
@@ -189,4 +189,4 @@ pub returns-in-Some-clause-day_full : goal.returns-in-Some-clause-day_full
 returns-in-Some-clause-day_full g c =
     left_by c.into_run-run.result _ _ _ _ _ c.into_run-run.ensures.2
     (λ status journal store shelf note. IfSome c.run_day-ended.result.1 (λ n. IsFullSaid n.full (saying_to g.K.Sink.faults g.K.Sink.written c.args.out.now c.into_run-run.new.out) status))
-    (full_said (λ (bucket : MemoryBucket). None) c.run_day-ended.result.0.conclusion.verdict _ c.into_run-run.ensures.0 c.run_day-ended.result.0.conclusion.journal (option_map (λ (n : RunNote MemoryBucket). n.world.value.bucket) c.run_day-ended.result.1) c.run_day-ended.result.1 c.run_day-ended.ensures.noted c.into_run-run.ensures.1)
+    (full_said met (λ (bucket : MemoryBucket). None) c.run_day-ended.result.0.conclusion.verdict _ c.into_run-run.ensures.0 c.run_day-ended.result.0.conclusion.journal (option_map (λ (n : RunNote MemoryBucket). n.world.value.bucket) c.run_day-ended.result.1) c.run_day-ended.result.1 c.run_day-ended.ensures.noted c.into_run-run.ensures.1)

@@ -169,17 +169,26 @@ returns-in_default-clause-reported g c = λ before told. tt
 pub returns-in_default-clause-unreported : goal.returns-in_default-clause-unreported
 returns-in_default-clause-unreported g c = λ full. absurd (cc full)
 
+pub returns-in_default-clause-kept : goal.returns-in_default-clause-kept
+returns-in_default-clause-kept g c = refl
+
 pub returns-in_default-jobs_of-clause-reported : goal.returns-in_default-jobs_of-clause-reported
 returns-in_default-jobs_of-clause-reported g c = λ before told. tt
 
 pub returns-in_default-jobs_of-clause-unreported : goal.returns-in_default-jobs_of-clause-unreported
 returns-in_default-jobs_of-clause-unreported g c = λ full. absurd (cc full)
 
+pub returns-in_default-jobs_of-clause-kept : goal.returns-in_default-jobs_of-clause-kept
+returns-in_default-jobs_of-clause-kept g c = refl
+
 pub returns-in-Err-clause-reported : goal.returns-in-Err-clause-reported
 returns-in-Err-clause-reported g c = λ before told. tt
 
 pub returns-in-Err-clause-unreported : goal.returns-in-Err-clause-unreported
-returns-in-Err-clause-unreported g c = λ full. (refl, refl)
+returns-in-Err-clause-unreported g c = λ full. refl
+
+pub returns-in-Err-clause-kept : goal.returns-in-Err-clause-kept
+returns-in-Err-clause-kept g c = refl
 
 pub returns-then-end-clause-reported : goal.returns-then-end-clause-reported
 returns-then-end-clause-reported g c = λ before told. tt
@@ -187,12 +196,18 @@ returns-then-end-clause-reported g c = λ before told. tt
 pub returns-then-end-clause-unreported : goal.returns-then-end-clause-unreported
 returns-then-end-clause-unreported g c = λ full. absurd (cc full)
 
+pub returns-then-end-clause-kept : goal.returns-then-end-clause-kept
+returns-then-end-clause-kept g c = refl
+
 pub returns-clause-reported : goal.returns-clause-reported
 returns-clause-reported g c = λ before told.
     subst (λ (ts : List Task). OnOk c.gather-came.result (g.P.Report.tells c.gather-came.new.report c.args.script.now (before ++ ts) c.gather-came.new.outcomes)) c.members.ensures (c.gather-came.ensures.reported before told)
 
 pub returns-clause-unreported : goal.returns-clause-unreported
 returns-clause-unreported g c = c.gather-came.ensures.unreported
+
+pub returns-clause-kept : goal.returns-clause-kept
+returns-clause-kept g c = c.gather-came.ensures.kept
 
 -- ---- jobs cross threads
 
