@@ -1,29 +1,32 @@
-//! Makes calls on buckets and operations on worlds, asks the filters of a view about blocks, asks for plans of blocks and which
-//! gateways a query asks, gathers their answers, runs uploads, syncs, cleanings and compactions over a world, and prints what
-//! comes of it. A line of standard input is one question, in the notation that its head explains, or, for compactions, the head of
-//! theirs; one that begins with `= ` is a heading. The long list of plans was computed by another program, and the rest by hand.
+//! Uploads, syncs, cleanings, compactions and gateways' calls over a world or by replies that are written out, operations on a
+//! world, what a bucket in memory opens, plans of blocks, filters of a view, and what a query asks and gathers. Each line of
+//! standard input is one question, in the notation that its head explains; one that begins with `= ` is a heading, and one that
+//! gives bytes a name prints nothing. The long list of plans and the objects of blocks were made by another program or come from a
+//! Prometheus server (2.42); the rest was worked out by hand.
 #![tactic(auto)]
 
-mod buckets;
-mod cleanings;
-mod compactions;
-mod ends;
-mod failing;
+mod calls;
 mod filters;
-mod marks;
-mod metas;
+mod names;
+mod ops;
 mod planning;
+mod played;
 mod replies;
+mod runs;
 mod says;
-mod syncs;
-mod turns;
-mod uploads;
+mod setting;
+mod streams;
+mod told;
+mod upload;
 
-use crate::buckets::print_buckets;
-use crate::compactions::{Named, add_bytes, add_text, print_compactions};
-use crate::filters::print_row;
-use crate::says::cut;
-use crate::syncs::{print_fault, print_two_syncs};
+use crate::calls::print_calls;
+use crate::filters::{print_kept, print_split};
+use crate::names::{Named, add_bytes, add_text};
+use crate::planning::{print_asks, print_gathered, print_groups, print_plan};
+use crate::runs::print_run;
+use crate::says::{cut, put, say};
+use crate::setting::print_opened;
+use crate::streams::{print_shelf, print_sink, print_site, print_source};
 use std::io;
 
 fn main(rt: HostRuntime) -> io::Result<()> {
@@ -32,21 +35,37 @@ fn main(rt: HostRuntime) -> io::Result<()> {
         do_row(&rt, &mut objects, row?.as_str());
     }
     drop(objects);
-    print_two_syncs(&rt);
-    print_fault(&rt);
-    print_buckets(&rt);
     Ok(())
 }
 
-/// Does what a row says. Rows that name bytes print nothing.
 fn do_row(rt: &HostRuntime, objects: &mut Vec<Named>, row: &str) {
     let (word, text) = cut(row);
     match word {
         "bytes" => add_bytes(objects, text),
         "text" => add_text(objects, text),
-        "compact" | "texts" | "answered" | "told" => {
-            print_compactions(rt, objects.as_slice(), row, word, text);
+        "=" => say(rt, row),
+        _ => {
+            put(rt, row);
+            put(rt, " ->");
+            print_row(rt, objects.as_slice(), word, text);
         }
-        _ => print_row(rt, row),
+    }
+}
+
+fn print_row(rt: &HostRuntime, objects: &[Named], word: &str, text: &str) {
+    match word {
+        "run" => print_run(rt, objects, text),
+        "calls" => print_calls(rt, objects, text),
+        "open" => print_opened(rt, text),
+        "split" => print_split(rt, objects, text),
+        "groups" => print_groups(rt, objects, text),
+        "young" | "marked" | "expiring" | "within" => print_kept(rt, objects, word, text),
+        "asks" => print_asks(rt, text),
+        "gather" => print_gathered(rt, text),
+        "site" => print_site(rt, text),
+        "shelf" => print_shelf(rt, text),
+        "source" => print_source(rt, text),
+        "sink" => print_sink(rt, text),
+        _ => print_plan(rt, word, text),
     }
 }

@@ -1,124 +1,73 @@
-ghost use Rattle.std.specs.Prelude.{◌≡◌, [], ◌∷◌, ◌++◌, IsTrue, IfOk, OnErr};
-ghost use Rattle.world_core.specs.Operations.{IsReplyTo, entry_of};
-
-use list_core::{NoMemory, TryCopy};
-use moment_core::Moment;
+//! The replies that rows write out.
+use crate::names::{Named, bytes_of, text_of};
+use crate::says::{number_of, part};
+use label_sets::{Text, TextList};
+use list_core::NoMemory;
 use std::alloc::Global;
-use std::collections::VecDeque;
-use world_core::{Acted, Entry, Hand, Op, Reply, Seen};
+use wire_bytes::Blob;
+use world_core::Reply;
 
-/// The least number that is no moment of an entry: 2^48.
-const LIMIT: u64 = 0x1_0000_0000_0000;
-
-/// A hand of the seat 1 that answers by replies which were written out, as long as they are such as the operation may have.
+/// What answers an operation.
 #[derive(Drop)]
-pub(crate) struct Replies {
-    waiting: VecDeque<(u64, Reply)>,
-    entries: Vec<Entry>,
+pub(crate) enum Answer {
+    /// What the world does.
+    World,
+    /// A reply that is written out, at that millisecond.
+    Told(u64, Reply),
 }
 
-impl Replies {
-    /// A hand without a reply.
-    pub(crate) fn new(alloc: Global) -> Replies {
-        Replies {
-            waiting: VecDeque::new(alloc),
-            entries: Vec::new(alloc),
-        }
+/// The answer of a word, at the millisecond behind `@`, or else at this one. One that is none is answered as want of memory is.
+pub(crate) fn answer_of(
+    alloc: Global,
+    objects: &[Named],
+    ms: &str,
+    word: &str,
+) -> Result<Answer, NoMemory> {
+    let (word, ms) = word.split_once('@').unwrap_or((word, ms));
+    if word == "world" {
+        return Ok(Answer::World);
     }
-
-    /// One reply more, at that millisecond.
-    pub(crate) fn push(&mut self, ms: u64, reply: Reply) {
-        drop(self.waiting.push_back((ms, reply)));
-    }
-
-    /// What was asked for and answered.
-    pub(crate) fn entries(&self) -> &[Entry] {
-        self.entries.as_slice()
-    }
+    Ok(Answer::Told(number_of(ms), reply_of(alloc, objects, word)?))
 }
 
-impl Hand for Replies {
-    ghost use Rattle.std.specs.Prelude.{None, false};
-
-    ghost entries = { λ hand. hand.entries.items };
-
-    ghost seat = { λ hand. 1 };
-
-    ghost front = { λ hand. None };
-
-    ghost refused = { λ hand. false };
-
-    ghost wanted = { λ hand. false };
-
-    ghost keeps = { λ old new. Unit {0} };
-
-    ghost keeps_none = { λ hand. tt };
-
-    ghost keeps_more = { λ first next last one two. tt };
-
-    fn act(&mut self, op: Op) -> Acted {
-        let Some((ms, reply)) = self.waiting.pop_front() else {
-            drop(op);
-            return Acted::NoMemory;
-        };
-        if ms >= LIMIT || !may_answer(&op, &reply) {
-            drop(op);
-            drop(reply);
-            return Acted::NoMemory;
-        }
-        match record(&mut self.entries, op, Moment { ms }, reply) {
-            Ok(seen) => Acted::Done(seen),
-            Err(NoMemory) => Acted::NoMemory,
-        }
+fn reply_of(alloc: Global, objects: &[Named], word: &str) -> Result<Reply, NoMemory> {
+    let (word, name) = part(word);
+    match word {
+        "absent" => Ok(Reply::Absent),
+        "stored" => Ok(Reply::Stored),
+        "deleted" => Ok(Reply::Deleted),
+        "failed" => Ok(Reply::Failed(false)),
+        "landed" => Ok(Reply::Failed(true)),
+        "names" => Ok(Reply::Names(names_in(alloc, text_of(objects, name)))),
+        "many" => Ok(Reply::Names(many_names(alloc, name.parse().unwrap_or(0)))),
+        "found" => Ok(Reply::Found(Blob::from_bytes(alloc, bytes_of(objects, name))?)),
+        _ => Err(NoMemory),
     }
 }
 
-/// Adds the entry of an operation.
-fn record(entries: &mut Vec<Entry>, op: Op, moment: Moment, reply: Reply) -> Result<Seen, NoMemory>
-    ensures added { IfOk result
-        (λ seen. entries.new.items ≡ entries.old.items ++ entry_of 1 op seen ∷ []) }
-    ensures moment { IfOk result (λ seen. seen.moment ≡ moment) }
-    ensures reply { IfOk result (λ seen. seen.reply ≡ reply) }
-    ensures err { OnErr result (entries.new.items ≡ entries.old.items) }
-{
-    let Ok(told) = reply.copy() else {
-        drop(op);
-        drop(reply);
-        return Err(NoMemory);
-    };
-    let seq = entries.len() as u64 + 1;
-    let pushed = entries.push(Entry {
-        seq,
-        seat: 1,
-        moment,
-        op,
-        reply,
-    });
-    if pushed.ok().is_none() {
-        drop(told);
-        return Err(NoMemory);
+/// The names of a text, each behind a comma.
+fn names_in(alloc: Global, text: &str) -> TextList {
+    let mut names = TextList::new(alloc);
+    if let Some(listed) = text.strip_prefix(',') {
+        for name in listed.split(',') {
+            if let Ok(name) = Text::from_str(alloc, name) {
+                let _ = names.push(name);
+            }
+        }
     }
-    Ok(Seen {
-        seq,
-        moment,
-        reply: told,
-    })
+    names
 }
 
-/// Tells whether the operation may be answered so.
-fn may_answer(op: &Op, reply: &Reply) -> bool
-    ensures { IsTrue result → IsReplyTo op.now reply.now }
-{
-    match op {
-        Op::Get(_) => matches!(
-            reply,
-            Reply::Found(_) | Reply::Absent | Reply::Failed(false)
-        ),
-        Op::Put(_, _) => matches!(reply, Reply::Stored | Reply::Failed(_)),
-        Op::Delete(_) => matches!(reply, Reply::Deleted | Reply::Failed(_)),
-        Op::RootPage(_, _) | Op::BlockPage(_, _, _) => {
-            matches!(reply, Reply::Names(_) | Reply::Failed(false))
+/// So many names, which ascend.
+fn many_names(alloc: Global, count: u32) -> TextList {
+    let mut names = TextList::new(alloc);
+    for number in 0..count {
+        if let Ok(name) = u64::from(number)
+            .saturating_add(10_000_000)
+            .to_string(alloc)
+        {
+            let _ = names.push(Text::from_string(name));
         }
-        _ => false,
     }
+    names
 }

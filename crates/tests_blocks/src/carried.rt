@@ -43,7 +43,7 @@ fn block_of(alloc: Global, plan: BlockPlan, bytes: &[u8], time: i64) -> Option<B
         drop(writer);
         return None;
     };
-    let Ok(()) = writer.series(&labels) else {
+    let Ok(()) = writer.series(labels) else {
         drop(writer);
         return None;
     };
@@ -58,7 +58,7 @@ fn carry(alloc: Global, bytes: &[u8]) -> Option<BlockFiles> {
     let [sample] = samples.members() else {
         return None;
     };
-    let Some(plan) = wide_plan(alloc) else {
+    let Some(plan) = wide_plan(alloc, 1) else {
         return None;
     };
     if !is_within(&plan, sample) {

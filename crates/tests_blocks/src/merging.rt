@@ -9,9 +9,11 @@ mod merges;
 mod real;
 mod series;
 
+pub(crate) use crate::merging::chunks::print_block;
 use crate::merging::given::read_blocks;
 use crate::merging::merges::print_merge;
 pub(crate) use crate::merging::real::print_real;
+pub(crate) use crate::merging::series::{read_list, read_samples};
 
 /// Prints the chunks of what the blocks of a row become.
 pub(crate) fn print_merged(rt: &HostRuntime, row: &str) {

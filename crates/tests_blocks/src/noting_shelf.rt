@@ -31,10 +31,8 @@ impl NotingShelf {
     }
 
     /// The names that the shelf was asked for, in order.
-    pub(crate) fn into_names(self) -> TextList
-        ensures { result ≡ self.names }
-    {
-        self.names
+    pub(crate) fn names(&self) -> &[Text] {
+        self.names.members()
     }
 
     fn note(&mut self, name: &str) -> Result<(), NoMemory>

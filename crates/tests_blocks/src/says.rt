@@ -17,11 +17,6 @@ pub(crate) fn show<T: fmt::Debug>(rt: &HostRuntime, value: &T) {
     let _ = println!(rt; "{value:?}");
 }
 
-/// Prints a word and a number on a line.
-pub(crate) fn say_number(rt: &HostRuntime, word: &str, number: u64) {
-    let _ = println!(rt; "{word}{number}");
-}
-
 /// Prints bytes that are a text.
 pub(crate) fn say_text(rt: &HostRuntime, text: &[u8]) {
     say(rt, str::from_utf8(text).unwrap_or("no text"));

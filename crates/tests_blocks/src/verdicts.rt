@@ -2,15 +2,20 @@
 use crate::checks::verdict_on;
 use crate::says::{put, say, say_text, show};
 use block_content::{CheckRefusal, Checked, content};
+use block_files::BlockFiles;
 use block_keys::Key;
 use block_loading::LoadRefusal;
 use label_sets::Series;
 
 /// Prints whether the block that a row names may be shipped.
 pub(crate) fn print_verdict(rt: &HostRuntime, in_two: bool, text: &str) {
-    match verdict_on(rt, text, in_two) {
+    print_end(rt, verdict_on(rt, text, in_two));
+}
+
+pub(crate) fn print_end(rt: &HostRuntime, verdict: Result<Checked, LoadRefusal>) {
+    match verdict {
         Ok(checked) => {
-            print_counts(rt, checked.series(), checked.samples());
+            print_counts(rt, &checked);
             drop(checked);
         }
         Err(LoadRefusal::Refused(refusal)) => print_refusal(rt, &refusal),
@@ -19,8 +24,12 @@ pub(crate) fn print_verdict(rt: &HostRuntime, in_two: bool, text: &str) {
     }
 }
 
-pub(crate) fn print_counts(rt: &HostRuntime, series: u64, samples: u64) {
-    let _ = println!(rt; "ok {series} series {samples} samples");
+pub(crate) fn print_counts(rt: &HostRuntime, checked: &Checked) {
+    let _ = println!(rt;
+        "ok {} series {} samples",
+        checked.series(),
+        checked.samples()
+    );
 }
 
 fn print_refusal(rt: &HostRuntime, refusal: &CheckRefusal) {
@@ -67,12 +76,17 @@ pub(crate) fn print_name(rt: &HostRuntime, key: Key) {
 
 /// Prints the series that a block holds.
 pub(crate) fn print_content(rt: &HostRuntime, text: &str) {
-    let Ok(checked) = verdict_on(rt, text, false) else {
-        return say(rt, "not read");
-    };
-    let held = content(rt.alloc(), checked.files());
-    drop(checked);
-    match held {
+    match verdict_on(rt, text, false) {
+        Ok(checked) => {
+            print_held(rt, checked.files());
+            drop(checked);
+        }
+        Err(_) => say(rt, "not read"),
+    }
+}
+
+fn print_held(rt: &HostRuntime, files: &BlockFiles) {
+    match content(rt.alloc(), files) {
         Ok(list) => {
             print_list(rt, list.members());
             drop(list);

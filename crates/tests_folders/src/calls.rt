@@ -12,12 +12,14 @@ use std::os::unix::fs::PermissionsExt;
 use std::sync::Wait;
 use std::thread::Threads;
 use std::{fs, io, str};
+use wire_bytes::Blob;
 
-/// A bucket and a shelf over one folder.
+/// A bucket and a shelf over one folder, and a bucket in memory.
 #[derive(Drop)]
 pub(crate) struct Folder {
     pub(crate) bucket: HostBucket<HostRuntime>,
     pub(crate) shelf: DirShelf<HostRuntime>,
+    pub(crate) memory: HostBucket<HostRuntime>,
 }
 
 /// Prints a call and its answer, or does something to the folder itself. `.` stands for an empty text.
@@ -44,6 +46,10 @@ pub(crate) fn print_call<R: Threads + Wait + Sync>(
         "file" => show(rt, &write_zeros(rt, text).is_ok()),
         "mode" => show(rt, &set_mode(rt, text).is_ok()),
         "read" => print_read(rt, folder.shelf.read(text)),
+        "memory" => {
+            let (kind, text) = cut(text);
+            print_answer(rt, &mut folder.memory, kind, text);
+        }
         _ => print_answer(rt, &mut folder.bucket, kind, text),
     }
 }
@@ -74,7 +80,10 @@ fn print_put(rt: &HostRuntime, bucket: &mut HostBucket<HostRuntime>, text: &str)
     if !is_key(key) {
         return say(rt, "no key");
     }
-    show(rt, &bucket.put(key, bytes.as_bytes()));
+    match Blob::from_bytes(rt.alloc(), bytes.as_bytes()) {
+        Ok(bytes) => show(rt, &bucket.put(key, &bytes)),
+        Err(_) => say(rt, "no memory"),
+    }
 }
 
 fn print_range(rt: &HostRuntime, bucket: &mut HostBucket<HostRuntime>, text: &str) {

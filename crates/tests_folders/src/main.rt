@@ -1,5 +1,5 @@
-//! Makes calls on a bucket and a shelf in one real folder, and whole runs over others and over a shelf in memory, and prints what
-//! each is answered. What is to be printed was worked out by hand; what a server's blocks hold was told by Prometheus' own reader.
+//! Makes calls on a bucket and a shelf in one real folder and on a bucket in memory, and whole runs over other folders and over a
+//! shelf in memory, and prints what each is answered. What is to be printed was worked out by hand; what a server's blocks hold was told by Prometheus' own reader.
 #![tactic(auto)]
 
 mod calls;
@@ -69,7 +69,16 @@ fn open_both(site: &mut HostSite<HostRuntime>) -> Option<Folder> {
         drop(bucket);
         return None;
     };
-    Some(Folder { bucket, shelf })
+    let Some(memory) = site.open_bucket("memory").ok() else {
+        drop(bucket);
+        drop(shelf);
+        return None;
+    };
+    Some(Folder {
+        bucket,
+        shelf,
+        memory,
+    })
 }
 
 fn print_calls<R: Threads + Wait + Sync>(

@@ -65,7 +65,12 @@ fn put_to(rt: &HostRuntime, index: &mut Vec<u8>, pieces: &str) {
 
 fn write(rt: &HostRuntime, index: &mut Vec<u8>, series: &str) {
     match written(rt.alloc(), series) {
-        Ok(text) => *index = text.into_vec(),
+        Ok(text) => {
+            index.clear();
+            if index.extend_from_slice(text.bytes()).is_err() {
+                say(rt, "no bytes");
+            }
+        }
         Err(refusal) => show(rt, &refusal),
     }
 }

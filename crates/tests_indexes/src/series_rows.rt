@@ -13,18 +13,19 @@ pub(crate) fn written(alloc: Global, text: &str) -> Result<Blob, IndexWriteRefus
     let mut writer = IndexWriter::new(alloc);
     for part in text.split("; ") {
         if let Some(series) = series_of(alloc, part) {
-            add(&mut writer, &series)?;
+            add(&mut writer, series)?;
         }
     }
     writer.finish()
 }
 
 /// Adds a series, where it may stand behind those that were added.
-fn add(writer: &mut IndexWriter, series: &IndexSeries) -> Result<(), NoMemory> {
-    if writer.may_add(&series.labels) && are_in_order(series.chunks.members()) {
-        writer.add(&series.labels, &series.chunks)?;
+fn add(writer: &mut IndexWriter, series: IndexSeries) -> Result<(), NoMemory> {
+    let IndexSeries { labels, chunks } = series;
+    if !writer.may_add(&labels) || !are_in_order(chunks.members()) {
+        return Ok(());
     }
-    Ok(())
+    writer.add(labels, &chunks)
 }
 
 fn series_of(alloc: Global, text: &str) -> Option<IndexSeries> {

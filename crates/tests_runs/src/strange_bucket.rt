@@ -105,8 +105,8 @@ impl Bucket for StrangeBucket {
     ghost only_keys = { λ b c key told stands. absurd (Prim.cc told) };
 
     #[tactic(auto, using(crate::proofs::Noting::noted))]
-    fn put(&mut self, key: &str, bytes: &[u8]) -> PutAnswer {
-        self.told.note_put(key, bytes);
+    fn put(&mut self, key: &str, bytes: &Blob) -> PutAnswer {
+        self.told.note_put(key, bytes.bytes());
         if note(&mut self.notes, "put ", key).is_err() {
             return PutAnswer::NoMemory;
         }

@@ -1,4 +1,4 @@
-use crate::says::{put, put_number, say};
+use crate::says::{item, part, put, put_number, say};
 use label_sets::{LabelSet, Sample, SampleList, Series, SeriesList};
 use querier::{Answer, Gather};
 use std::alloc::Global;
@@ -25,17 +25,13 @@ fn print_answer(rt: &HostRuntime, answer: &Answer) {
     }
     put(rt, ";");
     for series in answer.series.members() {
-        print_series(rt, series);
+        put(rt, " ");
+        put(rt, series.labels.value("a").unwrap_or(""));
+        for sample in series.samples.members() {
+            let _ = print!(rt; ":{},{}", sample.time, sample.pattern);
+        }
     }
     say(rt, "");
-}
-
-fn print_series(rt: &HostRuntime, series: &Series) {
-    put(rt, " ");
-    put(rt, series.labels.value("a").unwrap_or(""));
-    for sample in series.samples.members() {
-        let _ = print!(rt; ":{},{}", sample.time, sample.pattern);
-    }
 }
 
 /// Adds an answer, which is SOURCE,SOURCE;VALUE:TIME,PATTERN;VALUE:TIME,PATTERN
@@ -43,9 +39,7 @@ fn add_answer(alloc: Global, gather: &mut Gather, word: &str) {
     let (sources, samples) = word.split_once(';').unwrap_or((word, ""));
     let mut series = SeriesList::new(alloc);
     for sample in samples.split(';') {
-        if !sample.is_empty() {
-            add_series(alloc, &mut series, sample);
-        }
+        add_series(alloc, &mut series, sample);
     }
     let sources = sources_of(alloc, sources);
     let _ = gather.add(&series, &sources);
@@ -56,26 +50,21 @@ fn add_answer(alloc: Global, gather: &mut Gather, word: &str) {
 fn sources_of(alloc: Global, text: &str) -> UlidList {
     let mut sources = UlidList::new(alloc);
     for source in text.split(',') {
-        let _ = sources.push(Ulid::from_parts(0, u128::from(number_of(source))));
+        let _ = sources.push(Ulid::from_parts(0, u128::from(source.parse::<u32>().unwrap_or(0))));
     }
     sources
 }
 
-/// Adds a series of one sample.
+/// Adds a series of one sample, if the text is one.
 fn add_series(alloc: Global, series: &mut SeriesList, text: &str) {
-    let (value, sample) = text.split_once(':').unwrap_or((text, ""));
-    let (time, pattern) = sample.split_once(',').unwrap_or((sample, ""));
+    let (value, sample) = part(text);
+    let (time, pattern) = item(sample);
+    let (Ok(time), Ok(pattern)) = (time.parse(), pattern.parse()) else {
+        return;
+    };
     let mut labels = LabelSet::empty(alloc);
     let _ = labels.add("a", value);
     let mut samples = SampleList::new(alloc);
-    let _ = samples.push(Sample {
-        time: i64::from(number_of(time)),
-        pattern: u64::from(number_of(pattern)),
-    });
+    let _ = samples.push(Sample { time, pattern });
     let _ = series.push(Series { labels, samples });
-}
-
-/// A number of the row, which is small.
-fn number_of(text: &str) -> u32 {
-    text.parse().unwrap_or(0)
 }

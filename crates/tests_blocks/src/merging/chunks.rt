@@ -71,17 +71,24 @@ fn chunk_bytes(segments: &[Blob], place: ChunkPlace) -> &[u8] {
 
 /// Whether the data stand in a segment of one of the blocks.
 fn is_given(given: &[BlockFiles], bytes: &[u8]) -> bool {
-    given
-        .iter()
-        .any(|block| stand_in(block.segments.members(), bytes))
-}
-
-fn stand_in(segments: &[Blob], bytes: &[u8]) -> bool {
-    segments
-        .iter()
-        .any(|segment| contains(segment.bytes(), bytes))
+    for block in given {
+        for segment in block.segments.members() {
+            if contains(segment.bytes(), bytes) {
+                return true;
+            }
+        }
+    }
+    false
 }
 
 fn contains(segment: &[u8], bytes: &[u8]) -> bool {
-    !bytes.is_empty() && segment.windows(bytes.len()).any(|window| window == bytes)
+    if bytes.is_empty() {
+        return false;
+    }
+    for window in segment.windows(bytes.len()) {
+        if window == bytes {
+            return true;
+        }
+    }
+    false
 }

@@ -12,11 +12,16 @@ use wire_bytes::Blob;
 pub(crate) fn read_blocks(alloc: Global, row: &str) -> Vec<BlockFiles> {
     let mut blocks = Vec::new(alloc);
     for text in row.split(" / ") {
-        if let Some(block) = read_block(alloc, text) {
-            let _ = blocks.push(block);
-        }
+        add_block(&mut blocks, read_block(alloc, text));
     }
     blocks
+}
+
+/// Adds a block, if there is one.
+pub(crate) fn add_block(blocks: &mut Vec<BlockFiles>, block: Option<BlockFiles>) {
+    if let Some(block) = block {
+        drop(blocks.push(block));
+    }
 }
 
 fn read_block(alloc: Global, text: &str) -> Option<BlockFiles> {

@@ -1,4 +1,4 @@
-use crate::built::merged_plan;
+use crate::built::wide_plan;
 use crate::merging::chunks::print_block;
 use crate::says::say;
 use block_files::BlockFiles;
@@ -9,7 +9,7 @@ use std::alloc::Global;
 
 /// Prints the chunks of the block that blocks become.
 pub(crate) fn print_merge(rt: &HostRuntime, blocks: &[BlockFiles]) {
-    match merged_plan(rt.alloc()) {
+    match wide_plan(rt.alloc(), 2) {
         Some(plan) => {
             print_planned(rt, &plan, blocks);
             drop(plan);

@@ -1,12 +1,12 @@
 //! Blocks of a server, merged with themselves moved in time: `real ULID STEP`.
 use crate::built::block_of;
 use crate::checks::open;
+use crate::merging::given::add_block;
 use crate::merging::merges::print_merge;
 use crate::says::{cut, say};
 use block_content::content;
 use block_files::BlockFiles;
 use block_loading::load;
-use dir_bucket::DirShelf;
 use label_sets::{Sample, SampleList, Series, SeriesList};
 use list_core::TryCopy;
 use std::alloc::Global;
@@ -24,22 +24,24 @@ pub(crate) fn print_real(rt: &HostRuntime, row: &str) {
 fn print_moved(rt: &HostRuntime, block: BlockFiles, step: i64) {
     let later = moved(rt.alloc(), &block, step);
     let mut blocks = Vec::new(rt.alloc());
-    let _ = blocks.push(block);
-    if let Some(later) = later {
-        let _ = blocks.push(later);
-    }
+    add_block(&mut blocks, Some(block));
+    add_block(&mut blocks, later);
     print_merge(rt, blocks.as_slice());
     drop(blocks);
 }
 
 fn loaded(rt: &HostRuntime, name: &str) -> Option<BlockFiles> {
-    let ulid = Ulid::read(name).ok()?;
-    load_from(rt.alloc(), open(rt, "server")?, ulid)
-}
-
-fn load_from(alloc: Global, folder: DirShelf<HostRuntime>, ulid: Ulid) -> Option<BlockFiles> {
-    let mut shelf = folder;
-    load(alloc, &mut shelf, ulid).ok()
+    let Ok(ulid) = Ulid::read(name) else {
+        return None;
+    };
+    match open(rt, 0, "server") {
+        Some(mut shelf) => {
+            let block = load(rt.alloc(), &mut shelf, ulid);
+            drop(shelf);
+            block.ok()
+        }
+        None => None,
+    }
 }
 
 /// A block of the same series, so many milliseconds later.

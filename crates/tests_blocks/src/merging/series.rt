@@ -15,7 +15,8 @@ pub(crate) fn read_list(alloc: Global, text: &str) -> SeriesList {
     list
 }
 
-fn read_samples(alloc: Global, text: &str) -> SampleList {
+/// The samples of a text.
+pub(crate) fn read_samples(alloc: Global, text: &str) -> SampleList {
     let mut samples = SampleList::new(alloc);
     for word in text.split(' ') {
         if let Some((times, pattern)) = word.split_once(':') {

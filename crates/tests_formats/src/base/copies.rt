@@ -53,7 +53,7 @@ fn keeps_bytes(alloc: Global) -> bool {
         return false;
     };
     match blob.copy() {
-        Ok(copy) => Blob::from_vec(copy.into_vec()).bytes() == b"kept".as_slice(),
+        Ok(copy) => blob.bytes() == b"kept".as_slice() && copy.bytes() == b"kept".as_slice(),
         Err(_) => false,
     }
 }
