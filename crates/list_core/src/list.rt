@@ -81,10 +81,10 @@ impl<T: Drop> List<T> {
 
 impl<T: TryCopy> TryCopy for List<T> {
     fn copy(&self) -> Result<Self, NoMemory> {
-        let mut made = List::new(*self.items.allocator());
+        let mut made = Vec::with_capacity(*self.items.allocator(), self.items.len())?;
         for item in self.members() {
             made.push(item.copy()?)?;
         }
-        Ok(made)
+        Ok(List::from_vec(made))
     }
 }

@@ -1,5 +1,5 @@
 -- What is written for a number is a text of it, and no text of it is shorter.
-use Rattle.std.proofs.Common.{◌≡◌, ℕ, zero, suc, ◌+◌, ◌/◌, ◌%◌, ◌^◌, ◌<◌, ◌≤◌, List, [], ◌∷◌, length, refl, arith, inl, inr, ℤ, pos, negsuc}
+use Rattle.std.proofs.Common.{◌≡◌, ℕ, zero, suc, ◌+◌, ◌/◌, ◌%◌, ◌^◌, ◌<◌, ◌≤◌, List, [], ◌∷◌, length, refl, ap, ◌∙◌, arith, inl, inr, ℤ, pos, negsuc}
 use Rattle.std.specs.Int.{w64}
 use Rattle.std.specs.Int.RustNames.{FitsSigned}
 use Rattle.std.proofs.lemmas.Bool.{cases_lt, le-ltb, lt-ltb}
@@ -11,6 +11,9 @@ use Rattle.wire_bytes.proofs.GroupLaws.{limit, more_groups}
 top_group : (n : ℕ) → groups_text 0 n ≡ n ∷ []
 unfolding groups_text
 top_group n = refl
+
+thirds : (n : ℕ) → n / 128 / 128 ≡ n / 16384
+thirds n = omega arith
 
 one_group : (more n : ℕ) → n < 128 → groups_text more n ≡ n ∷ []
 unfolding groups_text
@@ -28,6 +31,25 @@ groups_text_is (suc more) n small =
       | inl low ↦ rw (one_group (suc more) n low) (low, refl)
       | inr large ↦ rw (group_and_more more n large) (more_groups (128 + n % 128) n (n / 128) (groups_text more (n / 128)) (omega arith) (omega arith) (omega arith) (groups_text_is more (n / 128) (omega arith)))
     ]
+
+-- ---- numbers of at most three groups
+
+pub one_put : (n : ℕ) → n < 128 → uvarint_text n ≡ n ∷ []
+one_put n small = one_group 9 n small
+
+pub two_put : (n : ℕ) → 128 ≤ n → n < 16384 → uvarint_text n ≡ (128 + n % 128) ∷ n / 128 ∷ []
+two_put n large small = group_and_more 8 n large ∙ ap (λ (text : List ℕ). (128 + n % 128) ∷ text) (one_group 8 (n / 128) (omega (arith, small)))
+
+pub three_put : (n : ℕ) → 16384 ≤ n → n < 2 ^ 21 → uvarint_text n ≡ (128 + n % 128) ∷ (128 + n / 128 % 128) ∷ n / 16384 ∷ []
+three_put n large small =
+    group_and_more 8 n (omega (arith, large))
+    ∙ ap (λ (text : List ℕ). (128 + n % 128) ∷ text) (group_and_more 7 (n / 128) (omega (arith, large)) ∙ ap (λ (text : List ℕ). (128 + n / 128 % 128) ∷ text) (one_group 7 (n / 128 / 128) (omega (arith, small)) ∙ ap (λ (m : ℕ). m ∷ []) (thirds n)))
+
+pub two_groups : (n low : ℕ) → low ≡ 128 + n % 128 → low ∷ n / 128 ∷ [] ≡ (128 + n % 128) ∷ n / 128 ∷ []
+two_groups n low is = ap (λ (m : ℕ). m ∷ n / 128 ∷ []) is
+
+pub three_groups : (n low next : ℕ) → low ≡ 128 + n % 128 → next ≡ 128 + n / 128 % 128 → low ∷ next ∷ n / 16384 ∷ [] ≡ (128 + n % 128) ∷ (128 + n / 128 % 128) ∷ n / 16384 ∷ []
+three_groups n low next is are = ap (λ (m : ℕ). m ∷ next ∷ n / 16384 ∷ []) is ∙ ap (λ (m : ℕ). (128 + n % 128) ∷ m ∷ n / 16384 ∷ []) are
 
 pub few_groups : (more n : ℕ) → length (groups_text more n) ≤ suc more
 few_groups zero n = rw (top_group n) (omega arith)

@@ -1,4 +1,4 @@
-ghost use Rattle.std.specs.Prelude.{◌≡◌, ◌++◌, ◌∷◌, [], ◌≤◌, List, length, take, OnOk, OnErr, ℕ, ℤ};
+ghost use Rattle.std.specs.Prelude.{◌≡◌, ◌+◌, ◌%◌, ◌^◌, ◌<◌, ◌++◌, ◌∷◌, [], ◌≤◌, List, length, take, OnOk, OnErr, ℕ, ℤ};
 ghost use Rattle.std.specs.Int.{w16, w32, w64, to_be_bytes};
 ghost use Rattle.wire_bytes.specs.Fields.{zigzag};
 ghost use Rattle.wire_bytes.specs.FieldTexts.{IsUvarint, IsVarint};
@@ -49,6 +49,42 @@ pub fn put_uvarint(out: &mut Vec<u8>, n: u64) -> Result<(), NoMemory>
     // What is put is a text of the number, and no text of it is shorter.
     ensures lawful { IsUvarint (uvarint_text n) n }
     ensures least { (text : List ℕ) → IsUvarint text n → length (uvarint_text n) ≤ length text }
+{
+    if n < 1 << 21 {
+        put_short(out, n)
+    } else {
+        put_long(out, n)
+    }
+}
+
+/// The lowest group of a number, behind which others follow.
+#[inline(always)]
+fn low_group(n: u64) -> u8
+    ensures { result ≡ 128 + n % 128 }
+{
+    (128 + n % 128) as u8
+}
+
+/// Appends a number of at most three groups. How many bytes are put is known in each branch, so no call copies them.
+#[inline(always)]
+fn put_short(out: &mut Vec<u8>, n: u64) -> Result<(), NoMemory>
+    requires { n < 2 ^ 21 }
+    ensures ok { OnOk result (out.new.items ≡ out.old.items ++ uvarint_text n) }
+    ensures err { OnErr result (out.new.items ≡ out.old.items) }
+{
+    if n < 128 {
+        put_bytes(out, &[n as u8])
+    } else if n < 16_384 {
+        put_bytes(out, &[low_group(n), (n / 128) as u8])
+    } else {
+        put_bytes(out, &[low_group(n), low_group(n / 128), (n / 16_384) as u8])
+    }
+}
+
+/// Appends a number of any size.
+fn put_long(out: &mut Vec<u8>, n: u64) -> Result<(), NoMemory>
+    ensures ok { OnOk result (out.new.items ≡ out.old.items ++ uvarint_text n) }
+    ensures err { OnErr result (out.new.items ≡ out.old.items) }
 {
     let (groups, count) = groups(n);
     put_bytes(out, &groups[..count])
