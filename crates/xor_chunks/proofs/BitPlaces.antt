@@ -128,6 +128,13 @@ pass_steadily word passed last after bits head shows long is inside times =
     pass_next 1 passed last (pos 0) bits last.window (is_inside last.window) after last.delta (no_change bits one) (pass_within 1 last.window last.pattern passed bits two (omega (arith, is)) (omega (arith, is, inside, long))) refl
     (le-leb (last.window.lead + last.window.width) 64 inside) times
 
+-- a sample whose value stays or stands in the same window
+pub pass_kept_next : (known passed : ℕ) (last : State) (begin : ℤ) (step : ℕ) (change : ℤ) (bits : List Bool) (time : ℤ) (delta : ℕ) → last.time ≡ begin → last.delta ≡ step → IsInside last.window → change_at bits ≡ behind known (λ after. Ok (change, after)) bits → IsPassed known last.window last.pattern bits last.window passed
+    → time_after begin (pos step +ℤ change) ≡ Ok (time, delta) → (pattern : ℕ) × (next_at last bits ≡ Ok (record { time = time; delta = delta; pattern = pattern; window = last.window }, drop passed bits))
+pass_kept_next known passed last begin step change bits time delta begin_is step_is inside told value times =
+    pass_next known passed last change bits last.window (is_inside last.window) time delta told value refl (le-leb (last.window.lead + last.window.width) 64 inside)
+    (ap (λ (z : ℤ). time_after z (pos last.delta +ℤ change)) begin_is ∙ ap (λ (n : ℕ). time_after begin (pos n +ℤ change)) step_is ∙ times)
+
 -- ---- the loop
 
 -- the samples that are left, from where the last one ended, end as all of them
@@ -142,9 +149,19 @@ ends_on count (suc n) less place passed next second last after begin bits h some
     h ∙ passed_on n pattern last after (drop place bits) (drop passed (drop place bits)) e ∙ ap (λ (l : List Bool). end_at n after l) (drop-drop passed place bits ∙ ap (λ (k : ℕ). drop k bits) (sym next_is))
     ∙ ap (λ (k : ℕ). end_at k after (drop next bits)) (sym one)
 
--- the same at another time
-abbrev pub at_time : ℤ → State → State
-at_time time s = record { time = time; delta = s.delta; pattern = s.pattern; window = s.window }
+-- the same at another time, behind another step
+abbrev pub at_time : ℤ → ℕ → State → State
+at_time time delta s = record { time = time; delta = delta; pattern = s.pattern; window = s.window }
+
+-- a sample in the same window is passed, and time, step and place are those behind it
+pub kept_on : (count left place passed next : ℕ) (second : State) (begin bits : List Bool) (t u v : ℤ) (d e f : ℕ) → EndsAlike count second begin left (at_time t d second) (drop place bits) → 0 < left → next ≡ place + passed → v ≡ u → f ≡ e
+    → ((pattern : ℕ) × (next_at (at_time t d second) (drop place bits) ≡ Ok (with_pattern pattern (at_time u e second), drop passed (drop place bits)))) → EndsAlike count second begin (left - 1) (at_time v f second) (drop next bits)
+kept_on count left place passed next second begin bits t u v d e f h some next_is v_is f_is (pattern, found) =
+    ends_on count left (left - 1) place passed next second (at_time t d second) (at_time v f second) begin bits h some refl next_is (
+      pattern,
+      found ∙ ap (λ (z : ℤ). Ok (with_pattern pattern (at_time z e second), drop passed (drop place bits))) (sym v_is)
+          ∙ ap (λ (n : ℕ). Ok (with_pattern pattern (at_time v n second), drop passed (drop place bits))) (sym f_is),
+    )
 
 -- the bits that are left from a place on
 pub bits_left : (place greatest : ℕ) (bytes : List ℕ) → place ≤ greatest → greatest ≡ 8 * (length bytes - 16) → 16 ≤ length bytes → 101 ≤ length (drop place (bits_in bytes))

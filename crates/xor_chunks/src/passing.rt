@@ -3,8 +3,8 @@
 ghost use Rattle.std.specs.Prelude.{◌≡◌, ◌+◌, ◌-◌, ◌*◌, ◌/◌, ◌^◌, ◌<◌, ◌≤◌, ◌<ℤ◌, pos, ℕ, Bool, List, Ok, IfSome, IsTrue, length, take, drop};
 ghost use Rattle.xor_chunks.specs.Bits.{bits_of, bits_in, EndWith};
 ghost use Rattle.xor_chunks.specs.Buffer.{Shows};
-ghost use Rattle.xor_chunks.specs.State.{with_pattern};
-ghost use Rattle.xor_chunks.specs.Window.{IsInside};
+ghost use Rattle.xor_chunks.specs.State.{State, with_pattern};
+ghost use Rattle.xor_chunks.specs.Window.{Window as WindowParts, IsInside};
 ghost use Rattle.xor_chunks.specs.Known.{state_of};
 ghost use Rattle.xor_chunks.specs.Steps.{behind, change_at, value_at, next_at};
 ghost use Rattle.xor_chunks.specs.Spans.{end_at};
@@ -115,10 +115,53 @@ fn is_steady(word: u64, time: i64) -> bool
     word >> 61 == 0b010 && time < SOON
 }
 
-/// Passes over samples from their places, the first of which is told, as long as each comes by the same step and its value stands
-/// in the same window.
+/// How many bits a sample takes with its value, behind `known` others in a word, where that stays or stands in the window that was
+/// told last, which is so wide.
 #[inline(always)]
-fn pass_steady(count: u16, second: Last, bytes: &[u8], begin: usize) -> (u16, Last, usize)
+fn pass_kept(word: u64, known: u32, width: u32) -> Option<u32>
+    requires known { known ≤ 24 }
+    requires width { width ≤ 64 }
+    ensures few { IfSome result (λ passed. passed ≤ 101) }
+    ensures passed { IfSome result (λ passed. (bits : List Bool) (pattern : ℕ)
+        (window : WindowParts) → window.width ≡ width → Shows word (known + 13) bits
+        → 101 ≤ length bits → (after : ℕ) × (behind known (value_at pattern window) bits
+        ≡ Ok ((after, window), drop passed bits))) }
+{
+    let head = word << known;
+    if head >> 62 == 0b10 {
+        Some(known + 2 + width)
+    } else if head >> 63 == 0 {
+        Some(known + 1)
+    } else {
+        None
+    }
+}
+
+/// The time of the next sample, how long it comes after the one before it, and how many bits it takes, where its value stays or
+/// stands in the window that was told last, which is so wide.
+#[inline(always)]
+fn pass_within(word: u64, time: i64, delta: u64, width: u32) -> Option<(i64, u64, u32)>
+    requires { width ≤ 64 }
+    ensures few { IfSome result (λ x. x.2 ≤ 101) }
+    ensures passed { IfSome result (λ x. (bits : List Bool) (last : State) → last.time ≡ time
+        → last.delta ≡ delta → last.window.width ≡ width → IsInside last.window
+        → Shows word 37 bits → 101 ≤ length bits → (pattern : ℕ) × (next_at last bits
+        ≡ Ok (
+          record { time = x.0; delta = x.1; pattern = pattern; window = last.window },
+          drop x.2 bits,
+        ))) }
+    ensures steps { IfSome result (λ x. (0 < x.1) × (x.1 < 2 ^ 62)) }
+{
+    let (change, known) = change_in(word)?;
+    let passed = pass_kept(word, known, width)?;
+    let (time, delta) = near_time(time, delta, i128::from(change))?;
+    Some((time, delta, passed))
+}
+
+/// Passes over samples from their places, the first of which is told, as long as each one's value stays or stands in the same
+/// window.
+#[inline(always)]
+fn pass_window(count: u16, second: Last, bytes: &[u8], begin: usize) -> (u16, Last, usize)
     requires room { 16 ≤ length bytes.now }
     requires few { length bytes.now < 2 ^ 32 }
     requires within { begin ≤ 8 * length bytes.now }
@@ -128,27 +171,33 @@ fn pass_steady(count: u16, second: Last, bytes: &[u8], begin: usize) -> (u16, La
         ≡ end_at result.0 (state_of result.1) (drop result.2 (bits_in bytes.now)) }
     ensures within { result.2 ≤ 8 * length bytes.now }
     ensures fewer { result.0 ≤ count }
-    ensures step { result.1.delta ≡ second.delta }
-    ensures window { result.1.window ≡ second.window }
 {
     let greatest = 8 * (bytes.len() - ROOM);
-    let taken = 3 + second.window.width() as usize;
+    let width = second.window.width();
     let mut left = count;
     let mut time = second.time;
+    let mut delta = second.delta;
     let mut place = begin;
     while left > 0 && place <= greatest {
-        if !is_steady(word_at(bytes, place), time) {
-            break;
+        let word = word_at(bytes, place);
+        if is_steady(word, time) {
+            time += delta as i64;
+            place += 3 + width as usize;
+        } else {
+            let Some((after, step, passed)) = pass_within(word, time, delta, width) else {
+                break;
+            };
+            time = after;
+            delta = step;
+            place += passed as usize;
         }
-        time += second.delta as i64;
-        place += taken;
         left -= 1;
     }
     (
         left,
         Last {
             time,
-            delta: second.delta,
+            delta,
             pattern: second.pattern,
             window: second.window,
         },
@@ -175,7 +224,7 @@ fn pass_near(count: u16, second: Last, bytes: &[u8], begin: usize) -> (u16, Last
         let Some((after, passed)) = pass_one(word_at(bytes, place), &last) else {
             return (left, last, place);
         };
-        let (more, far, behind) = pass_steady(left - 1, after, bytes, place + passed as usize);
+        let (more, far, behind) = pass_window(left - 1, after, bytes, place + passed as usize);
         left = more;
         last = far;
         place = behind;
