@@ -20,6 +20,7 @@ pub mod LabelsOwned
 pub mod WholeParts
 pub mod WholeLaws
 pub mod WholeRead
+pub mod WholeGives
 pub mod LeastPlaces
 pub mod Faults
 pub mod PostingsLaws

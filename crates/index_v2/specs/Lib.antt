@@ -13,4 +13,5 @@ pub mod RowOrder
 pub mod PostingsLists
 pub mod WholeReading
 pub mod Differing
+pub mod WholeGiven
 pub mod Budget

@@ -1,4 +1,4 @@
-ghost use Rattle.std.specs.Prelude.{◌≡◌, ◌⊎◌, ◌+◌, ◌-◌, ◌*◌, ◌^◌, ◌<◌, ◌≤◌, [], ◌∷◌, length, sum_by, All, slice_get, MatchResult, IfOk, IfErr, IfSome, Ok, Err, Some, None, option_map};
+ghost use Rattle.std.specs.Prelude.{◌≡◌, ◌⊎◌, ◌+◌, ◌-◌, ◌*◌, ◌^◌, ◌<◌, ◌≤◌, [], length, All, slice_get, MatchResult, IfOk, IfErr, IfSome, Ok, Err, Some, None, option_map};
 ghost use Rattle.std.specs.Result.{IsOkAnd};
 ghost use Rattle.std.specs.Option.{option_copied};
 ghost use Rattle.reading_core.specs.Reading.{Gives};
@@ -13,8 +13,8 @@ ghost use Rattle.index_slices.specs.Parts.{part_of, file, known, IsPartOf, Holds
 ghost use Rattle.index_v2.specs.Held.{opened_in, opened_of, whole_file, IsWhole, IsHeldOf, IsReaderOf, HasList, AreSlicesOf, HoldTables};
 ghost use Rattle.index_v2.specs.Opening.{contents_at, opened_at, over_at};
 ghost use Rattle.index_v2.specs.SeriesLabels.{numbered_at};
-ghost use Rattle.index_v2.specs.Budget.{members_of, text_bytes, list_bytes};
-ghost use Rattle.index_v2.specs.WholeReading.{present_at, whole_at};
+ghost use Rattle.index_v2.specs.Budget.{text_bytes, list_bytes};
+ghost use Rattle.index_v2.specs.WholeGiven.{GivesWhole};
 ghost use Rattle.index_v2.specs.PostingsLists.{is_row_of, row_of, list_of, postings_of, values_of};
 ghost use Rattle.index_v2.specs.RowOrder.{BeginsAt, IsAlone};
 ghost use Rattle.std.specs.List.Sorted.{IsStrictlyIncreasing, IsStrictlySortedBy};
@@ -91,7 +91,6 @@ impl<'a> Model for IndexReader<'a> {
 impl<'a> IndexReader<'a> {
     ghost use Rattle.std.specs.Prelude.{List, ℕ};
     ghost use Rattle.index_file.specs.Opened.{Opened};
-    ghost use Rattle.index_v2.specs.Differing.{DifferFirstAt};
     ghost use Rattle.std.specs.List.{Contains, filter};
     ghost use Rattle.reading_core.specs.Grammar.{IsBytes};
     ghost use Rattle.index_file.specs.IndexFile.{IsOpened, IsSeriesOf, IsIndex, AreNumbersOf, AreValuesOf};
@@ -521,42 +520,7 @@ impl<'a> IndexReader<'a> {
     /// that a server writes, neither comes to two. The texts of the labels, which each series has for itself, come to 64 bytes
     /// for each byte of the index at most.
     pub fn whole(&self, alloc: Global) -> Result<IndexSeriesList, IndexRefusal>
-        // A whole file is read exactly where its bytes are an index of the list.
-        ensures found { IsWhole self.now → IfOk result (λ list. IsIndex self.now.bytes list) }
-        ensures only { (list : List IndexSeries) → IsIndex self.now.bytes list
-            → IsOkAnd result (λ found. found ≡ list) ⊎ (result ≡ Err IndexRefusal.NoMemory) }
-
-        // The lists are said to differ at a place exactly where the series that the first row lists and the lists of all rows
-        // stand, and it is the first place of the table at which the lists are not exactly those of the series. Only memory may
-        // run out first.
-        ensures differs { IsWhole self.now → (place : ℕ)
-            → result ≡ Err (IndexRefusal.PostingsDiffer place)
-            → DifferFirstAt (opened_of self.now) place }
-        ensures differing { IsWhole self.now → (place : ℕ)
-            → DifferFirstAt (opened_of self.now) place
-            → (result ≡ Err (IndexRefusal.PostingsDiffer place))
-            ⊎ (result ≡ Err IndexRefusal.NoMemory) }
-
-        // The first refusal.
-        ensures exact { Gives IndexRefusal.NoMemory (λ list. list) result (whole_at self.now) }
-
-        // Where parts are there, the first listed series is not; and where no series would be read it is as of the whole index.
-        ensures absent { (number : ℕ) (numbers : List ℕ) → self.now.bytes ≡ []
-            → postings_of self.now [] [] ≡ Ok (number ∷ numbers)
-            → present_at self.now.toc (number ∷ numbers) ≡ Ok tt
-            → (result ≡ Err (IndexRefusal.BadSeries number (Short (16 * number))))
-            ⊎ (result ≡ Err IndexRefusal.NoMemory) }
-        ensures same { (opened : Opened) → IsHeldOf self.now opened
-            → ((row : PostingsRow) → Contains self.now.rows row
-            → HoldsSection self.now.lists row.offset)
-            → ((number : ℕ) (numbers : List ℕ)
-            → postings_of self.now [] [] ≡ Ok (number ∷ numbers)
-            → present_at self.now.toc (number ∷ numbers) ≡ Ok tt → ⊥)
-            → Gives IndexRefusal.NoMemory (λ list. list) result (whole_at (whole_file opened)) }
-        ensures bounded { IfOk result (λ list. sum_by members_of list ≤ 8 * length self.now.bytes) }
-        ensures texts { IfOk result (λ list. sum_by text_bytes list ≤ 64 * length self.now.bytes) }
-        ensures few { IsWhole self.now → IfOk result (λ list. (4 * length list ≤ length self.now.bytes)
-            × All (λ series. 2 * length series.labels + 3 * length series.chunks ≤ length self.now.bytes) list) }
+        ensures { GivesWhole self.now result }
     {
         whole(
             alloc,
@@ -570,42 +534,7 @@ impl<'a> IndexReader<'a> {
 
     /// Reads every series as `whole` does, with the same tests and the same bounds. The index lends the texts of their labels.
     pub fn whole_lent(&self, alloc: Global) -> Result<List<LentSeries<'a>>, IndexRefusal>
-        // A whole file is read exactly where its bytes are an index of the list.
-        ensures found { IsWhole self.now → IfOk result (λ list. IsIndex self.now.bytes list) }
-        ensures only { (list : List IndexSeries) → IsIndex self.now.bytes list
-            → IsOkAnd result (λ found. found ≡ list) ⊎ (result ≡ Err IndexRefusal.NoMemory) }
-
-        // The lists are said to differ at a place exactly where the series that the first row lists and the lists of all rows
-        // stand, and it is the first place of the table at which the lists are not exactly those of the series. Only memory may
-        // run out first.
-        ensures differs { IsWhole self.now → (place : ℕ)
-            → result ≡ Err (IndexRefusal.PostingsDiffer place)
-            → DifferFirstAt (opened_of self.now) place }
-        ensures differing { IsWhole self.now → (place : ℕ)
-            → DifferFirstAt (opened_of self.now) place
-            → (result ≡ Err (IndexRefusal.PostingsDiffer place))
-            ⊎ (result ≡ Err IndexRefusal.NoMemory) }
-
-        // The first refusal.
-        ensures exact { Gives IndexRefusal.NoMemory (λ list. list) result (whole_at self.now) }
-
-        // Where parts are there, the first listed series is not; and where no series would be read it is as of the whole index.
-        ensures absent { (number : ℕ) (numbers : List ℕ) → self.now.bytes ≡ []
-            → postings_of self.now [] [] ≡ Ok (number ∷ numbers)
-            → present_at self.now.toc (number ∷ numbers) ≡ Ok tt
-            → (result ≡ Err (IndexRefusal.BadSeries number (Short (16 * number))))
-            ⊎ (result ≡ Err IndexRefusal.NoMemory) }
-        ensures same { (opened : Opened) → IsHeldOf self.now opened
-            → ((row : PostingsRow) → Contains self.now.rows row
-            → HoldsSection self.now.lists row.offset)
-            → ((number : ℕ) (numbers : List ℕ)
-            → postings_of self.now [] [] ≡ Ok (number ∷ numbers)
-            → present_at self.now.toc (number ∷ numbers) ≡ Ok tt → ⊥)
-            → Gives IndexRefusal.NoMemory (λ list. list) result (whole_at (whole_file opened)) }
-        ensures bounded { IfOk result (λ list. sum_by members_of list ≤ 8 * length self.now.bytes) }
-        ensures texts { IfOk result (λ list. sum_by text_bytes list ≤ 64 * length self.now.bytes) }
-        ensures few { IsWhole self.now → IfOk result (λ list. (4 * length list ≤ length self.now.bytes)
-            × All (λ series. 2 * length series.labels + 3 * length series.chunks ≤ length self.now.bytes) list) }
+        ensures { GivesWhole self.now result }
     {
         whole_lent(
             alloc,

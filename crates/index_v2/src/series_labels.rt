@@ -50,6 +50,16 @@ fn label_of<'a>(
     }
 }
 
+/// For how many labels a list begins with room: for so many, where the bytes that are left can hold them.
+fn room_for(count: u64, left: usize) -> usize {
+    let most = left / 2;
+    if count < most as u64 {
+        count as usize
+    } else {
+        most
+    }
+}
+
 /// The labels of so many pairs of symbol numbers, in place of those that the list has, or the number that is refused; and what
 /// follows the numbers.
 #[inline(always)]
@@ -64,6 +74,7 @@ pub(crate) fn texts_of<'a, 'b>(
         result (texts_at symbols.now [] 0 count cursor.entry) }
 {
     labels.clear();
+    labels.reserve_exact(room_for(count, cursor.rest().len()))?;
     let mut before = "";
     for place in 0..count {
         let ((name, value), rest) = next_label(cursor)?;

@@ -1,4 +1,4 @@
-use Rattle.std.proofs.Common.{◌≡◌, ℕ, List, map, ap, subst, sum_by, ◌∙◌}
+use Rattle.std.proofs.Common.{◌≡◌, ℕ, List, subst, sum_by}
 use Rattle.std.specs.Prelude.{IfOk}
 use Rattle.label_sets.specs.declared.label.Label.{Label}
 use Rattle.index_v2.specs.Budget.{label_bytes}

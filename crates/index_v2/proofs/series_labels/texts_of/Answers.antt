@@ -7,7 +7,7 @@ use Rattle.index_v2.proofs.series_labels.texts_of.Goals as goal
 
 pub returns-in_err-name : goal.returns-in_err-name
 returns-in_err-name c =
-    gives_err _ _ c.from_residual.result c.in_err-name.field-0.0 _ c.from_residual.ensures.1
+    gives_err _ _ c.from_residual-in_err-name.result c.in_err-name.field-0.0 _ c.from_residual-in_err-name.ensures.1
     (texts_stop _ _ _ c.loop-place.before.now c.loop-place.place (map as_label c.loop-place.labels.items) c.loop-place.cursor _ c.loop-place.invariant.0 c.in_err-name.ensures c.loop-place-test.true)
 
 pub returns-in-Err : goal.returns-in-Err
