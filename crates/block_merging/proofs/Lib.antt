@@ -17,6 +17,8 @@ pub mod StoredInputs
 pub mod StandingData
 pub mod UnderNumbers
 pub mod LentOrder
+pub mod SameLabels
+pub mod WholeListing
 pub mod Rooms
 pub mod QueueSteps
 pub mod AllQueues

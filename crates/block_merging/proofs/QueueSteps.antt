@@ -67,7 +67,7 @@ map_map {A} {B} {C} g f (x ∷ xs) = ap (λ (l : List C). g (f x) ∷ l) (map_ma
 pub listed_ranked : IsStrictWeakOrder is_listed_before
 listed_ranked = ranks_by sets_total listed_labels
 
-maps_more : {A B : Type 0} (f : A → B) (made new : List A) (x : A) (xs : List B) (k : ℕ) (d : B) → k < length xs → map f made ≡ take k xs → f x ≡ get_or xs k d → new ≡ made ++ x ∷ [] → map f new ≡ take (k + 1) xs
+pub maps_more : {A B : Type 0} (f : A → B) (made new : List A) (x : A) (xs : List B) (k : ℕ) (d : B) → k < length xs → map f made ≡ take k xs → f x ≡ get_or xs k d → new ≡ made ++ x ∷ [] → map f new ≡ take (k + 1) xs
 maps_more {A} {B} f made new x xs k d lt was is added =
     ap (map f) added ∙ map-append f made (x ∷ []) ∙ ap (λ (l : List B). l ++ f x ∷ []) was ∙ ap (λ (y : B). take k xs ++ y ∷ []) is ∙ sym (take_more xs k d lt)
 
@@ -99,7 +99,7 @@ listed_all external replicas numbers indexed place made as_many all h = record {
   series_are = h.series_are ∙ take_all place indexed all;
 }
 
-zip_maps : {A B C : Type 0} (f : A → B) (g : A → C) (xs : List A) → map (λ x. (f x, g x)) xs ≡ zip (map f xs) (map g xs)
+pub zip_maps : {A B C : Type 0} (f : A → B) (g : A → C) (xs : List A) → map (λ x. (f x, g x)) xs ≡ zip (map f xs) (map g xs)
 zip_maps f g [] = refl
 zip_maps {A} {B} {C} f g (x ∷ xs) = ap (λ (l : List (B × C)). (f x, g x) ∷ l) (zip_maps f g xs)
 
@@ -328,9 +328,9 @@ chunks_next queue segments places before after segments_are places_are added =
 pub next_again : (external : List Label) (replicas : List (List ℕ)) (items places : List SeriesPlace) (taken : ℕ) (labels : List Label) (chunks : List ChunkPlace) → items ≡ places → IsNext external replicas items taken labels chunks → IsNext external replicas places taken labels chunks
 next_again external replicas items places taken labels chunks same next = subst (λ (l : List SeriesPlace). IsNext external replicas l taken labels chunks) same next
 
-pub head_then : (queue : SeriesQueue) (items labels : List Label) (order : Ordering) (b : Bool) → queue.taken < length queue.places.items → items ≡ labels_in queue → order ≡ compare_sets items labels → b ≡ is_eq order → head_is queue labels b
-head_then queue items labels order b lt items_are order_is told =
-    told ∙ ap is_eq (order_is ∙ ap (λ (l : List Label). compare_sets l labels) items_are) ∙ sym (ap (λ (x : Bool). x && is_eq (compare_sets (labels_in queue) labels)) (lt-ltb queue.taken (length queue.places.items) lt))
+pub head_then : (queue : SeriesQueue) (items labels : List Label) (b : Bool) → queue.taken < length queue.places.items → items ≡ labels_in queue → b ≡ is_eq (compare_sets items labels) → head_is queue labels b
+head_then queue items labels b lt items_are told =
+    told ∙ ap (λ (l : List Label). is_eq (compare_sets l labels)) items_are ∙ sym (ap (λ (x : Bool). x && is_eq (compare_sets (labels_in queue) labels)) (lt-ltb queue.taken (length queue.places.items) lt))
 
 pub head_else : (queue : SeriesQueue) (labels : List Label) → length queue.places.items ≤ queue.taken → head_is queue labels false
 head_else queue labels all = sym (ap (λ (x : Bool). x && is_eq (compare_sets (labels_in queue) labels)) (le-ltb queue.taken (length queue.places.items) all))

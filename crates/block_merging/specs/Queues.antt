@@ -51,6 +51,10 @@ listed_pair one = (one.number, one.series.now)
 abbrev pub place_pair : SeriesPlace → ℕ × IndexSeries
 place_pair place = (place.number, place.indexed.value)
 
+-- no label of a series is left out
+abbrev pub LosesNothing : List Label → List (List ℕ) → IndexSeries → Type 0
+LosesNothing external replicas series = reduced_of series.labels external replicas ≡ series.labels
+
 abbrev pub IsReducedAs : List Label → List (List ℕ) → ListedSeries → Type 0
 IsReducedAs external replicas one = listed_labels one ≡ reduced_of one.series.now.labels external replicas
 

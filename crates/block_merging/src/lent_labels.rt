@@ -1,6 +1,7 @@
 //! Reduced labels whose texts a block's index lends.
 ghost use Rattle.std.specs.Prelude.{◌≡◌, ◌∷◌, [], if◌then◌else◌, map, IfOk};
-ghost use Rattle.label_sets.specs.Labels.{IsLabelSet};
+ghost use Rattle.std.specs.Ordering.{is_eq};
+ghost use Rattle.label_sets.specs.Labels.{IsLabelSet, compare_labels, compare_sets};
 ghost use Rattle.label_sets.specs.Finals.{is_among, reduced_of};
 ghost use Rattle.index_v2.specs.LentLabels.{as_label};
 
@@ -17,7 +18,7 @@ fn is_among(names: &[Text], name: &str) -> bool
 }
 
 /// Whether a label's name is neither that of an external label nor a replica label.
-fn is_kept(label: &LentLabel<'_>, external: &LabelSet, replicas: &TextList) -> bool
+pub(crate) fn is_kept(label: &LentLabel<'_>, external: &LabelSet, replicas: &TextList) -> bool
     ensures { reduced_of (as_label label.now ∷ []) external.now replicas.now
         ≡ (if result then as_label label.now ∷ [] else []) }
 {
@@ -58,6 +59,30 @@ pub(crate) fn kept_lent<'a>(
     let mut kept = labels;
     kept.retain(|label| is_kept(label, external, replicas));
     kept
+}
+
+/// Whether a label is another one. Values are looked at first, since these differ most.
+fn is_same(one: &LentLabel<'_>, other: &LentLabel<'_>) -> bool
+    ensures { result ≡ is_eq (compare_labels (as_label one.now) (as_label other.now)) }
+{
+    one.value == other.value && one.name == other.name
+}
+
+/// Whether both are the same labels. They are looked at from their ends: there series that follow one another differ most.
+pub(crate) fn are_same(one: &[LentLabel<'_>], other: &[LentLabel<'_>]) -> bool
+    ensures { result ≡ is_eq (compare_sets (map as_label one.now) (map as_label other.now)) }
+{
+    if one.len() != other.len() {
+        return false;
+    }
+    let mut left = one.len();
+    while left > 0 {
+        left -= 1;
+        if !is_same(&one[left], &other[left]) {
+            return false;
+        }
+    }
+    true
 }
 
 /// The label set of these labels.

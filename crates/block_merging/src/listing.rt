@@ -1,9 +1,14 @@
 //! The series of one block in the order of their reduced labels.
-ghost use Rattle.std.specs.Prelude.{◌≡◌, ◌^◌, ◌<◌, All, length, map, zip, IfOk, OnOk};
+ghost use Rattle.std.specs.Prelude.{◌≡◌, ◌^◌, ◌<◌, All, length, map, zip, IfOk, IsTrue, OnOk};
+ghost use Rattle.std.specs.List.{AllByRecursion};
+ghost use Rattle.std.specs.List.Sorted.{IsStrictlySortedBy};
 ghost use Rattle.list_core.specs.Ordered.{in_order};
-ghost use Rattle.block_merging.specs.Queues.{listed_pair, place_pair, IsReducedAs, is_listed_before, is_reduced_before, AreListed};
+ghost use Rattle.label_sets.specs.Finals.{reduced_of};
+ghost use Rattle.index_file.specs.IndexFile.{compare_series};
+ghost use Rattle.index_v2.specs.LentLabels.{as_label};
+ghost use Rattle.block_merging.specs.Queues.{listed_pair, place_pair, LosesNothing, IsReducedAs, is_listed_before, is_reduced_before, AreListed};
 
-use crate::lent_labels::reduced_lent;
+use crate::lent_labels::{is_kept, reduced_lent};
 use index_v2::{LentLabel, LentSeries, compare_lent};
 use label_sets::{LabelSet, TextList};
 use list_core::NoMemory;
@@ -24,6 +29,58 @@ pub(crate) struct SeriesPlace<'a> {
     pub(crate) number: u32,
     /// The series as it stands there. It has no bytes: contracts alone see it.
     pub(crate) indexed: Snapshot<LentSeries<'a>>,
+}
+
+/// Whether none of these labels is left out.
+fn keeps_all(labels: &[LentLabel<'_>], external: &LabelSet, replicas: &TextList) -> bool
+    ensures { IsTrue result → reduced_of (map as_label labels.now) external.now replicas.now
+        ≡ map as_label labels.now }
+{
+    for label in labels {
+        if !is_kept(label, external, replicas) {
+            return false;
+        }
+    }
+    true
+}
+
+/// Whether no label of these series is left out.
+fn keep_all(indexed: &[LentSeries<'_>], external: &LabelSet, replicas: &TextList) -> bool
+    ensures { IsTrue result → AllByRecursion (LosesNothing external.now replicas.now) indexed.now }
+{
+    for one in indexed {
+        if !keeps_all(one.labels(), external, replicas) {
+            return false;
+        }
+    }
+    true
+}
+
+/// Where series stand, in the order of the index.
+fn places_as_listed<'a>(
+    alloc: Global,
+    numbers: &[u64],
+    indexed: &[LentSeries<'a>],
+) -> Result<Vec<SeriesPlace<'a>>, NoMemory>
+    requires as_many { length numbers.now ≡ length indexed.now }
+    requires small { All (λ n. n < 2 ^ 32) numbers.now }
+    ensures { IfOk result (λ places. map place_pair places.items ≡ zip numbers.now indexed.now) }
+{
+    let mut places = Vec::with_capacity(alloc, indexed.len())?;
+    for (place, series) in indexed.iter().enumerate() {
+        places.push(place_at(numbers[place], series))?;
+    }
+    Ok(places)
+}
+
+fn place_at<'a>(number: u64, series: &LentSeries<'a>) -> SeriesPlace<'a>
+    requires { number < 2 ^ 32 }
+    ensures { place_pair result ≡ (number, series.now) }
+{
+    SeriesPlace {
+        number: number as u32,
+        indexed: Snapshot::of(series),
+    }
 }
 
 fn listed_one<'s, 'a>(
@@ -96,7 +153,8 @@ fn places_of<'a>(
     Ok(places)
 }
 
-/// Where the series of an index stand, in the order of their reduced labels. Those that have the same keep their order.
+/// Where the series of an index stand, in the order of their reduced labels. Those that have the same keep their order. Where no
+/// label is left out they stand in the order of the index, and none is copied.
 pub(crate) fn ordered_places<'a>(
     alloc: Global,
     external: &LabelSet,
@@ -106,9 +164,13 @@ pub(crate) fn ordered_places<'a>(
 ) -> Result<Vec<SeriesPlace<'a>>, NoMemory>
     requires as_many { length numbers.now ≡ length indexed.now }
     requires small { All (λ n. n < 2 ^ 32) numbers.now }
+    requires ascend { IsStrictlySortedBy compare_series indexed.now }
     ensures { IfOk result (λ places. map place_pair places.items
         ≡ in_order (is_reduced_before external.now replicas.now) (zip numbers.now indexed.now)) }
 {
+    if keep_all(indexed, external, replicas) {
+        return places_as_listed(alloc, numbers, indexed);
+    }
     let mut series = listed(alloc, external, replicas, numbers, indexed)?;
     sort_by_labels(&mut series)?;
     places_of(alloc, series.as_slice())

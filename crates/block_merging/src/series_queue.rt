@@ -11,11 +11,11 @@ ghost use Rattle.block_merging.specs.Queues.{IsRead, IsNext, IsQueue, HasAdvance
 
 use crate::InputChunk;
 use crate::lent_chunks::add_chunks;
-use crate::lent_labels::kept_lent;
+use crate::lent_labels::{are_same, kept_lent};
 use crate::listing::SeriesPlace;
 use block_files::BlockFiles;
 use index_parts::ChunkPlace;
-use index_v2::{IndexReader, LentLabel, LentSeries, compare_lent};
+use index_v2::{IndexReader, LentLabel, LentSeries};
 use label_sets::{LabelSet, TextList};
 use list_core::NoMemory;
 use std::alloc::Global;
@@ -120,7 +120,7 @@ pub(crate) fn next_labels<'q, 'a>(queue: &'q SeriesQueue<'a>) -> Option<&'q [Len
 fn has_next(queue: &SeriesQueue<'_>, labels: &[LentLabel<'_>]) -> bool
     ensures { head_is queue.now (map as_label labels.now) result }
 {
-    queue.taken < queue.places.len() && compare_lent(queue.labels.as_slice(), labels).is_eq()
+    queue.taken < queue.places.len() && are_same(queue.labels.as_slice(), labels)
 }
 
 /// Takes the series that have these labels from the front, and adds their chunks behind others.

@@ -3,6 +3,7 @@ use Rattle.std.specs.List.{AllByRecursion}
 use Rattle.block_merging.specs.Queues.{IsRead}
 use Rattle.block_merging.proofs.InputWalks.{test_stopped, test_short, test_passed}
 use Rattle.block_merging.proofs.QueueSteps.{numbers_small, numbers_many, each_read, next_again, queue_begins}
+use Rattle.block_merging.proofs.WholeListing.{index_ascends}
 use Rattle.block_merging.proofs.queues.queue_of.Goals as goal
 
 pub returns-in_err-indexed-clause-tested : goal.returns-in_err-indexed-clause-tested
@@ -26,6 +27,9 @@ pub ordered_places-requires-clause-as_many : goal.ordered_places-requires-clause
 ordered_places-requires-clause-as_many c =
     let is = c.in_ok-indexed.ensures.found.0 in
     numbers_many c.args.block.now.index c.in_ok-indexed.indexed c.members-members.result.now is c.in_ok-reader.reader c.in_ok-reader.numbers c.members-listed.result.now (c.in_ok-reader.ensures c.args.block.now.index c.in_ok-indexed.indexed is (sym c.bytes.ensures)) c.members-listed.ensures c.members-members.ensures
+
+pub ordered_places-requires-clause-ascend : goal.ordered_places-requires-clause-ascend
+ordered_places-requires-clause-ascend c = index_ascends c.args.block.now.index c.in_ok-indexed.indexed c.members-members.result.now c.in_ok-indexed.ensures.found.0 c.members-members.ensures
 
 pub next_of-requires : goal.next_of-requires
 next_of-requires c =

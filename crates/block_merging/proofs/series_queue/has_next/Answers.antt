@@ -7,7 +7,7 @@ use Rattle.block_merging.proofs.series_queue.has_next.Goals as goal
 
 pub returns-then-queue-len : goal.returns-then-queue-len
 returns-then-queue-len c =
-    head_then c.args.queue.now (map as_label c.as_slice.result.now) (map as_label c.args.labels.now) c.compare_lent.result c.is_eq.result (let ok = c.args.queue.now.places.ok in omega (arith, c.if-queue-len.true)) (ap (map as_label) c.as_slice.ensures.value) c.compare_lent.ensures c.is_eq.ensures
+    head_then c.args.queue.now (map as_label c.as_slice.result.now) (map as_label c.args.labels.now) c.are_same.result (let ok = c.args.queue.now.places.ok in omega (arith, c.if-queue-len.true)) (ap (map as_label) c.as_slice.ensures.value) c.are_same.ensures
 
 pub returns-else-queue-len : goal.returns-else-queue-len
 returns-else-queue-len c =
