@@ -1,7 +1,7 @@
 -- The drive of a gateway's call, with what the call leaves.
 use Rattle.std.proofs.Common.{◌≡◌, ℕ, ℤ, List, [], ◌∷◌, ◌++◌, ◌∙◌, ap, subst}
 use Rattle.std.specs.Prelude.{Option, Some, None}
-use Rattle.block_ranges.specs.Reads.{Cache, Query}
+use Rattle.read_ranges.specs.Reads.{Cache, Query}
 use Rattle.index_cache.specs.declared.cache.IndexCache.{IndexCache}
 use Rattle.matchers.specs.declared.matcher.Matcher.{Matcher}
 use Rattle.meta_fetcher.specs.declared.view.View.{View}

@@ -1,6 +1,6 @@
 -- A gateway's call with what it leaves.
 use Rattle.std.specs.Prelude.{List, Option, option_map}
-use Rattle.block_ranges.specs.Reads.{Cache, Query}
+use Rattle.read_ranges.specs.Reads.{Cache, Query}
 use Rattle.index_cache.specs.Caches.{held}
 use Rattle.meta_fetcher.specs.declared.view.View.{View}
 use Rattle.series_calls.specs.SeriesCalls.{CallEnd, SeriesRun}

@@ -16,13 +16,13 @@ use Rattle.world_core.specs.declared.entry.Entry.{Entry}
 use Rattle.world_core.specs.declared.act.Act.{Act}
 use Rattle.world_core.specs.declared.act.Act.TheVariants as act
 use Rattle.index_cache.specs.Caches.{held}
-use Rattle.block_ranges.specs.Reads.{Cache, missing, fault}
+use Rattle.read_ranges.specs.Reads.{Cache, missing, fault}
 use Rattle.block_ranges.specs.BlockReads.{BlockEnd, breaks_off as ends_off}
-use Rattle.block_ranges.specs.Asking.{query_asked, block_asked}
+use Rattle.read_ranges.specs.Asking.{query_asked, block_asked}
 use Rattle.block_ranges.specs.BlockRuns.{Onward, Leading, IsEnd, cache_of}
 use Rattle.block_ranges.specs.WorkStates.{Where, Holds, Leads, most, may_at, asked_at, count_at, left_at, goes_after, with_bytes}
 use Rattle.block_ranges.specs.CallStates.{ActsAs, may_call, asked_call, count_call}
-use Rattle.block_ranges.specs.declared.asked.Asked.{Asked}
+use Rattle.read_ranges.specs.declared.asked.Asked.{Asked}
 use Rattle.block_ranges.specs.declared.block_call.BlockCall.{BlockCall}
 use Rattle.block_ranges.specs.declared.block_outcome.BlockOutcome.{BlockOutcome}
 use Rattle.block_ranges.specs.declared.block_outcome.BlockOutcome.TheVariants as outcome

@@ -9,11 +9,11 @@ use Rattle.xor_chunks.specs.declared.refusal.XorRefusal.TheVariants as xor
 use Rattle.xor_chunks.specs.Data.{data_at, with_samples}
 use Rattle.chunk_files.specs.ChunkReading.{chunk_at}
 use Rattle.block_content.proofs.Appending.{parts_of_whole, part_behind}
-use Rattle.block_ranges.specs.Reads.{Block}
+use Rattle.read_ranges.specs.Reads.{Block}
 use Rattle.block_ranges.specs.ChunkReads.{is_chunk_of, stored_at, chunk_samples_at}
-use Rattle.block_ranges.specs.Findings.{ReadsBehind}
+use Rattle.read_ranges.specs.Findings.{ReadsBehind}
 use Rattle.block_ranges.proofs.OneChunk.{no_data, stored}
-use Rattle.block_ranges.proofs.Readings.{err_of}
+use Rattle.read_ranges.proofs.Readings.{err_of}
 
 -- ---- its data
 

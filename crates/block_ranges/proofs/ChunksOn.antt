@@ -6,10 +6,10 @@ use Rattle.label_sets.specs.declared.sample.Sample.{Sample}
 use Rattle.index_parts.specs.declared.chunk_place.ChunkPlace.{ChunkPlace}
 use Rattle.index_parts.specs.SeriesEntry.{reference_of}
 use Rattle.block_content.specs.Firsts.{each_at}
-use Rattle.block_ranges.specs.ChunkRanges.{Group}
-use Rattle.block_ranges.specs.Reads.{Block}
+use Rattle.read_ranges.specs.ChunkRanges.{Group}
+use Rattle.read_ranges.specs.Reads.{Block}
 use Rattle.block_ranges.specs.ChunkReads.{Read, glimpse_at, tests_at, places_at, chunk_samples_at}
-use Rattle.block_ranges.specs.Findings.{ReadsAs}
+use Rattle.read_ranges.specs.Findings.{ReadsAs}
 use Rattle.block_ranges.specs.Glimpsed.{ShowsGroup, ReadsOn}
 use Rattle.block_ranges.specs.declared.glimpses.GroupShown.{GroupShown}
 

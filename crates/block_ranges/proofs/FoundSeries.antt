@@ -10,15 +10,15 @@ use Rattle.index_v2.specs.Held.{Held, opened_of}
 use Rattle.index_v2.specs.Opening.{opened_at}
 use Rattle.index_v2.specs.SeriesLabels.{numbered_at}
 use Rattle.block_content.specs.Firsts.{each_at}
-use Rattle.block_ranges.specs.Reads.{Query, Block}
-use Rattle.block_ranges.specs.IndexReads.{Tables, tables_of, part_at}
-use Rattle.block_ranges.specs.Findings.{ReadsAs}
-use Rattle.block_ranges.specs.Selecting.{tables_held, Selects}
-use Rattle.block_ranges.specs.ToRead.{AreRunsToRead}
+use Rattle.read_ranges.specs.Reads.{Query, Block}
+use Rattle.read_ranges.specs.IndexReads.{Tables, tables_of, part_at}
+use Rattle.read_ranges.specs.Findings.{ReadsAs}
+use Rattle.read_ranges.specs.Selecting.{tables_held, Selects}
+use Rattle.read_ranges.specs.ToRead.{AreRunsToRead}
 use Rattle.block_ranges.specs.WorkStates.{tables_in, texts_of, rows_in, read_or_none, table_piece, lists_piece}
 use Rattle.block_ranges.specs.RunFindings.{FindsSeries, SelectsRuns}
-use Rattle.block_ranges.specs.declared.selection.Selection.{Selection}
-use Rattle.block_ranges.specs.declared.run_read.RunRead.{RunRead}
+use Rattle.read_ranges.specs.declared.selection.Selection.{Selection}
+use Rattle.read_ranges.specs.declared.run_read.RunRead.{RunRead}
 use Rattle.block_ranges.specs.declared.work.TablesRead.{TablesRead}
 
 -- ---- the whole index

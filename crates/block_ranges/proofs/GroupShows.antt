@@ -8,7 +8,7 @@ use Rattle.block_content.specs.Firsts.{each_at}
 use Rattle.block_content.proofs.FirstLaws.{each_many}
 use Rattle.list_core.specs.declared.memory.NoMemory.{NoMemory}
 use Rattle.label_sets.specs.declared.sample.Sample.{Sample}
-use Rattle.block_ranges.specs.ChunkRanges.{Group}
+use Rattle.read_ranges.specs.ChunkRanges.{Group}
 use Rattle.block_ranges.specs.ChunkReads.{Read, read, Tests, Glimpse, shows, sticks_out, glimpse, glimpse_at, chunk_len_at}
 use Rattle.block_ranges.specs.ChunksRead.{reads_of}
 use Rattle.block_ranges.specs.Glimpsed.{glimpse_seen, pending_chunk, shown_first, shows_one, shown_so, ShowsOne, ShowsGroup}
@@ -16,7 +16,7 @@ use Rattle.block_ranges.specs.declared.glimpses.Glimpse.TheVariants.{Shows, Stic
 use Rattle.block_ranges.specs.declared.glimpses.Pending.{Pending}
 use Rattle.block_ranges.specs.declared.glimpses.GroupShown.{GroupShown}
 use Rattle.block_ranges.specs.declared.chunk_row.ChunkRow.{ChunkRow}
-use Rattle.block_ranges.proofs.Readings.{err_of, each_none, each_more, each_refused, zip_push}
+use Rattle.read_ranges.proofs.Readings.{err_of, each_none, each_more, each_refused, zip_push}
 
 -- one chunk more, of those that were shown
 pub first_push : (chunks : List (ℕ × Glimpse)) (found : List Read) (reference : ℕ) (seen : Glimpse)

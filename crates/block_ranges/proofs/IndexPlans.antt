@@ -17,19 +17,19 @@ use Rattle.index_v2.specs.WholeReading.{lists_at}
 use Rattle.index_v2.specs.SeriesLabels.{numbered_at}
 use Rattle.series_selection.specs.Selections.{rows_read}
 use Rattle.block_content.specs.Firsts.{each_at}
-use Rattle.block_ranges.specs.OneCut.{one_cut}
-use Rattle.block_ranges.specs.OneSet.{one_selection}
-use Rattle.block_ranges.specs.IndexRanges.{Run, least_size, has_bytes, has_sections, Follows, AreRuns, run_of}
-use Rattle.block_ranges.specs.Reads.{Query, Block, Cache, damaged, Reached, if_read}
-use Rattle.block_ranges.specs.IndexReads.{Tables, tables_of, IsTakenBy, Goes, reached, part_at, selects, falls_back, after_runs, after_sections, after_contents, after_whole, by_size}
+use Rattle.read_ranges.specs.OneCut.{one_cut}
+use Rattle.read_ranges.specs.OneSet.{one_selection}
+use Rattle.read_ranges.specs.IndexRanges.{Run, least_size, has_bytes, has_sections, Follows, AreRuns, run_of}
+use Rattle.read_ranges.specs.Reads.{Query, Block, Cache, damaged, Reached, if_read}
+use Rattle.read_ranges.specs.IndexReads.{Tables, tables_of, IsTakenBy, Goes, reached, part_at, selects, falls_back, after_runs, after_sections, after_contents, after_whole, by_size}
 use Rattle.block_ranges.specs.BlockReads.{BlockEnd, breaks_off, block_call}
-use Rattle.block_ranges.specs.Asking.{query_asked, block_asked}
-use Rattle.block_ranges.specs.ToRead.{run_read, AreRunsToRead}
+use Rattle.read_ranges.specs.Asking.{query_asked, block_asked}
+use Rattle.read_ranges.specs.ToRead.{run_read, AreRunsToRead}
 use Rattle.block_ranges.specs.WorkStates.{after_index, contents_left, whole_left, range_left, sized_left, runs_left, chunks_left, with_symbols, with_table, with_lists, with_run, symbols_piece, table_piece, lists_piece, rows_in, texts_of, tables_in, read_or_none}
 use Rattle.block_ranges.specs.RunFindings.{FindsSections, TestsSymbols, TestsTable, FindsRuns, FindsSeries, AreSelectedRuns, TakesRun}
-use Rattle.block_ranges.specs.declared.asked.Asked.{Asked}
-use Rattle.block_ranges.specs.declared.sections.Sections.{Sections}
-use Rattle.block_ranges.specs.declared.run_read.RunRead.{RunRead}
+use Rattle.read_ranges.specs.declared.asked.Asked.{Asked}
+use Rattle.read_ranges.specs.declared.sections.Sections.{Sections}
+use Rattle.read_ranges.specs.declared.run_read.RunRead.{RunRead}
 use Rattle.block_ranges.specs.declared.work.SymbolsRead.{SymbolsRead}
 use Rattle.block_ranges.specs.declared.work.TablesRead.{TablesRead}
 use Rattle.block_ranges.proofs.Leading.{keeps_all, keeps_on, keeps_true, keeps_false, keeps_read, keeps_refused, keeps_found, keeps_sized, keeps_unsized}

@@ -8,7 +8,7 @@ use Rattle.std.proofs.lemmas.List.{take_more}
 use Rattle.list_core.proofs.Membership.{each_member, all_members, of_map}
 use Rattle.index_parts.specs.declared.chunk_place.ChunkPlace.{ChunkPlace}
 use Rattle.index_parts.specs.SeriesEntry.{reference_of}
-use Rattle.block_ranges.specs.ChunkRanges.{IsSetOf}
+use Rattle.read_ranges.specs.ChunkRanges.{IsSetOf}
 use Rattle.block_ranges.specs.ChunkReads.{have_keys}
 
 pub small_references : (places : List ChunkPlace) (references : List ℕ) (most : ℕ) → IsSetOf (map reference_of places) references

@@ -11,14 +11,14 @@ use Rattle.world_core.specs.declared.op.Op.{Op}
 use Rattle.world_core.specs.declared.op.Op.TheVariants.{GetRange}
 use Rattle.world_core.specs.declared.entry.Entry.{Entry}
 use Rattle.index_cache.specs.Caches.{same_range}
-use Rattle.block_ranges.specs.IndexRanges.{Piece}
-use Rattle.block_ranges.specs.Reads.{Cache, Break, damaged, Reached, used, range_of, sized, by_cache, takes, if_read}
-use Rattle.block_ranges.specs.IndexReads.{reached, falls_back}
+use Rattle.read_ranges.specs.IndexRanges.{Piece}
+use Rattle.read_ranges.specs.Reads.{Cache, Break, damaged, Reached, used, range_of, sized, by_cache, takes, if_read}
+use Rattle.read_ranges.specs.IndexReads.{reached, falls_back}
 use Rattle.block_ranges.specs.BlockReads.{BlockEnd, breaks_off}
-use Rattle.block_ranges.specs.Asking.{query_asked, block_asked}
+use Rattle.read_ranges.specs.Asking.{query_asked, block_asked}
 use Rattle.block_ranges.specs.BlockRuns.{Onward, Leading, IsEnd, outcome_of}
 use Rattle.block_ranges.specs.WorkStates.{Where, Holds, Leads, Waits, may_at, asked_at, count_at, waits, left_at, after_index, range_left, sized_left, whole_left}
-use Rattle.block_ranges.specs.declared.asked.Asked.{Asked}
+use Rattle.read_ranges.specs.declared.asked.Asked.{Asked}
 use Rattle.block_ranges.specs.declared.block_outcome.BlockOutcome.{BlockOutcome}
 use Rattle.block_ranges.specs.declared.work.Work.{Work}
 use Rattle.block_ranges.specs.declared.work.Step.{Step}

@@ -6,7 +6,7 @@ use Rattle.std.proofs.lemmas.List.{append-nil, take_more}
 use Rattle.std.proofs.lemmas.List.Sums.{fold-append}
 use Rattle.std.proofs.lemmas.List.Elements.{filter-append}
 use Rattle.std.proofs.lemmas.Bool.Decides.{nat_tests}
-use Rattle.block_ranges.specs.IndexRanges.{least, with_less}
+use Rattle.read_ranges.specs.IndexRanges.{least, with_less}
 
 least_push : (xs : List ℕ) (x : ℕ) → least (xs ++ x ∷ []) ≡ Some (with_less (least xs) x)
 least_push [] x = refl

@@ -1,20 +1,14 @@
-pub mod Behind
 pub mod OneChunk
-pub mod Spans
 pub mod Between
-pub mod Readings
 pub mod Rows
 pub mod ChunkBehind
 pub mod GroupShows
 pub mod SameTests
 pub mod FoundChunks
-pub mod NotKept
 pub mod ShownSamples
 pub mod RowSamples
 pub mod RowsApart
-pub mod Cutting
 pub mod Least
-pub mod Sorting
 pub mod SmallReads
 pub mod SmallQueries
 pub mod Leading
@@ -30,6 +24,3 @@ pub mod KeyedReferences
 pub mod FoundSeries
 pub mod ChunksOn
 pub mod ShownLoop
-pub mod TextsKept
-pub mod LabelsAdded
-pub mod SeriesNamed

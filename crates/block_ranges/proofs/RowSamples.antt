@@ -19,7 +19,7 @@ use Rattle.matchers.specs.Selected.{is_between}
 use Rattle.index_parts.specs.declared.chunk_place.ChunkPlace.{ChunkPlace}
 use Rattle.index_parts.specs.SeriesEntry.{reference_of}
 use Rattle.index_file.specs.declared.index_series.IndexSeries.{IndexSeries}
-use Rattle.block_ranges.specs.Reads.{Query, Block}
+use Rattle.read_ranges.specs.Reads.{Query, Block}
 use Rattle.block_ranges.specs.ChunkReads.{Read}
 use Rattle.block_ranges.specs.BlockReads.{samples_of, taken, shown}
 use Rattle.block_ranges.specs.ChunksRead.{row_reads, reads_of, references_read, references_in}

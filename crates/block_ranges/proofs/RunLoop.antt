@@ -5,15 +5,15 @@ use Rattle.world_core.specs.Plans.{Plan, Keeps}
 use Rattle.block_keys.specs.declared.key.Key.TheVariants.{Index}
 use Rattle.index_cache.specs.Caches.{same_range}
 use Rattle.index_file.specs.declared.index_series.IndexSeries.{IndexSeries}
-use Rattle.block_ranges.specs.Reads.{Cache, used, range_of}
-use Rattle.block_ranges.specs.IndexReads.{reached}
+use Rattle.read_ranges.specs.Reads.{Cache, used, range_of}
+use Rattle.read_ranges.specs.IndexReads.{reached}
 use Rattle.block_ranges.specs.BlockReads.{BlockEnd}
-use Rattle.block_ranges.specs.Asking.{piece_of}
-use Rattle.block_ranges.specs.ToRead.{run_read}
+use Rattle.read_ranges.specs.Asking.{piece_of}
+use Rattle.read_ranges.specs.ToRead.{run_read}
 use Rattle.block_ranges.specs.WorkStates.{runs_left, chunks_left, whole_left, with_run, sized_left, range_left}
 use Rattle.block_ranges.specs.RunFindings.{TakesRun}
-use Rattle.block_ranges.specs.declared.asked.Asked.{Asked}
-use Rattle.block_ranges.specs.declared.run_read.RunRead.{RunRead}
+use Rattle.read_ranges.specs.declared.asked.Asked.{Asked}
+use Rattle.read_ranges.specs.declared.run_read.RunRead.{RunRead}
 use Rattle.block_ranges.proofs.Leading.{keeps_on, keeps_cached}
 use Rattle.block_ranges.proofs.IndexPlans.{run_read_on, run_refused}
 

@@ -6,16 +6,16 @@ use Rattle.world_core.proofs.PlanLaws.{comes_kept}
 use Rattle.world_core.specs.Plans.{Plan}
 use Rattle.world_core.specs.declared.op.Op.TheVariants.{GetRange}
 use Rattle.index_file.specs.declared.index_series.IndexSeries.{IndexSeries}
-use Rattle.block_ranges.specs.Reads.{Cache}
-use Rattle.block_ranges.specs.IndexReads.{reached}
+use Rattle.read_ranges.specs.Reads.{Cache}
+use Rattle.read_ranges.specs.IndexReads.{reached}
 use Rattle.block_ranges.specs.BlockReads.{BlockEnd}
-use Rattle.block_ranges.specs.Asking.{query_asked, block_asked, piece_of}
-use Rattle.block_ranges.specs.ToRead.{run_read}
+use Rattle.read_ranges.specs.Asking.{query_asked, block_asked, piece_of}
+use Rattle.read_ranges.specs.ToRead.{run_read}
 use Rattle.block_ranges.specs.BlockRuns.{Leading, IsEnd}
 use Rattle.block_ranges.specs.WorkStates.{most, Leads, waits, left_at, runs_left, with_run, with_lists, sized_left, texts_of, lists_piece}
 use Rattle.block_ranges.specs.RunFindings.{GoesOnRuns, FindsRuns, TakesRun}
-use Rattle.block_ranges.specs.declared.asked.Asked.{Asked}
-use Rattle.block_ranges.specs.declared.run_read.RunRead.{RunRead}
+use Rattle.read_ranges.specs.declared.asked.Asked.{Asked}
+use Rattle.read_ranges.specs.declared.run_read.RunRead.{RunRead}
 use Rattle.block_ranges.specs.declared.run_steps.Taken.{Taken}
 use Rattle.block_ranges.specs.declared.run_steps.Taken.TheVariants as taken
 use Rattle.block_ranges.specs.declared.work.RunWork.{RunWork}

@@ -2,9 +2,9 @@
 -- ranges are read follows.
 use Rattle.std.proofs.Common.{◌≡◌, ℕ, [], ◌∷◌, refl, arith}
 use Rattle.index_parts.specs.declared.toc.Toc.{Toc}
-use Rattle.block_ranges.specs.Stretches.{Stretch, AreStretches}
-use Rattle.block_ranges.specs.IndexRanges.{Piece, section_piece, end_of, run_piece}
-use Rattle.block_ranges.specs.ChunkRanges.{IsSetOf, group_piece}
+use Rattle.read_ranges.specs.Stretches.{Stretch, AreStretches}
+use Rattle.read_ranges.specs.IndexRanges.{Piece, section_piece, end_of, run_piece}
+use Rattle.read_ranges.specs.ChunkRanges.{IsSetOf, group_piece}
 
 abbrev pub piece : ℕ → ℕ → Piece
 piece from len = record { from = from; len = len }

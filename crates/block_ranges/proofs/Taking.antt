@@ -3,13 +3,13 @@ use Rattle.std.proofs.Common.{◌≡◌, ℕ, List, sym, ap, subst, ◌∙◌, R
 use Rattle.block_keys.specs.declared.key.Key.TheVariants.{Index}
 use Rattle.list_core.specs.declared.memory.NoMemory.{NoMemory}
 use Rattle.world_core.specs.Plans.{Plan, Keeps}
-use Rattle.block_ranges.specs.IndexRanges.{Piece}
-use Rattle.block_ranges.specs.Reads.{Cache, Reached, kept, range_of}
-use Rattle.block_ranges.specs.IndexReads.{reached}
+use Rattle.read_ranges.specs.IndexRanges.{Piece}
+use Rattle.read_ranges.specs.Reads.{Cache, Reached, kept, range_of}
+use Rattle.read_ranges.specs.IndexReads.{reached}
 use Rattle.block_ranges.specs.BlockReads.{BlockEnd}
 use Rattle.block_ranges.specs.BlockRuns.{Leading}
 use Rattle.block_ranges.specs.WorkStates.{Where, Leads, Holds, count_at, with_bytes, sized_left, kept_left}
-use Rattle.block_ranges.specs.declared.asked.Asked.{Asked}
+use Rattle.read_ranges.specs.declared.asked.Asked.{Asked}
 use Rattle.block_ranges.specs.declared.work.Work.{Work}
 use Rattle.block_ranges.specs.declared.work.Step.{Step}
 use Rattle.block_ranges.proofs.Leading.{leads_free, keeps_all}

@@ -5,15 +5,15 @@ use Rattle.block_keys.specs.declared.key.Key.TheVariants.{Index}
 use Rattle.world_core.proofs.PlanLaws.{comes_kept}
 use Rattle.world_core.specs.declared.op.Op.TheVariants.{GetRange}
 use Rattle.world_core.specs.Plans.{Plan, Keeps}
-use Rattle.block_ranges.specs.IndexRanges.{Piece}
-use Rattle.block_ranges.specs.Reads.{Cache, Reached, range_of}
-use Rattle.block_ranges.specs.Caching.{IsFromCache}
-use Rattle.block_ranges.specs.IndexReads.{reached}
+use Rattle.read_ranges.specs.IndexRanges.{Piece}
+use Rattle.read_ranges.specs.Reads.{Cache, Reached, range_of}
+use Rattle.read_ranges.specs.Caching.{IsFromCache}
+use Rattle.read_ranges.specs.IndexReads.{reached}
 use Rattle.block_ranges.specs.BlockReads.{BlockEnd}
-use Rattle.block_ranges.specs.Asking.{query_asked, block_asked}
+use Rattle.read_ranges.specs.Asking.{query_asked, block_asked}
 use Rattle.block_ranges.specs.BlockRuns.{Leading, IsEnd}
 use Rattle.block_ranges.specs.WorkStates.{Leads, Holds, asked_at, count_at, left_at, waits, range_left, sized_left}
-use Rattle.block_ranges.specs.declared.asked.Asked.{Asked}
+use Rattle.read_ranges.specs.declared.asked.Asked.{Asked}
 use Rattle.block_ranges.specs.declared.work.Work.{Work}
 use Rattle.block_ranges.specs.declared.work.Step.{Step}
 use Rattle.block_ranges.specs.declared.work.Step.TheVariants.{Wait}

@@ -9,9 +9,9 @@ use Rattle.world_core.specs.Plans.{Plan, ends}
 use Rattle.index_parts.specs.declared.chunk_place.ChunkPlace.{ChunkPlace}
 use Rattle.index_parts.specs.SeriesEntry.{reference_of}
 use Rattle.index_file.specs.declared.index_series.IndexSeries.{IndexSeries}
-use Rattle.block_ranges.specs.ChunkRanges.{meets}
-use Rattle.block_ranges.specs.Reads.{Query, Block, Cache, Break}
-use Rattle.block_ranges.specs.IndexReads.{reads_index}
+use Rattle.read_ranges.specs.ChunkRanges.{meets}
+use Rattle.read_ranges.specs.Reads.{Query, Block, Cache, Break}
+use Rattle.read_ranges.specs.IndexReads.{reads_index}
 use Rattle.block_ranges.specs.ChunkReads.{Read, reads_chunks}
 
 -- ---- what is taken

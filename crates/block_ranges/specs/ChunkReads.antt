@@ -16,10 +16,10 @@ use Rattle.index_parts.specs.declared.chunk_place.ChunkPlace.{ChunkPlace}
 use Rattle.index_parts.specs.SeriesEntry.{reference_of}
 use Rattle.block_content.specs.Firsts.{each_at}
 use Rattle.block_content.specs.ContentReading.{are_some, have_times_of}
-use Rattle.block_ranges.specs.OneCut.{one_cut}
-use Rattle.block_ranges.specs.OneSet.{one_set}
-use Rattle.block_ranges.specs.ChunkRanges.{IsSetOf, IsNear, AreGroups, offset_of, Group, group_of}
-use Rattle.block_ranges.specs.Reads.{Block, Cache, Break, damaged, reads, if_read}
+use Rattle.read_ranges.specs.OneCut.{one_cut}
+use Rattle.read_ranges.specs.OneSet.{one_set}
+use Rattle.read_ranges.specs.ChunkRanges.{IsSetOf, IsNear, AreGroups, offset_of, Group, group_of}
+use Rattle.read_ranges.specs.Reads.{Block, Cache, Break, damaged, reads, if_read}
 
 -- ---- one chunk
 

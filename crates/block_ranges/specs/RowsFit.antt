@@ -3,7 +3,7 @@ use Rattle.std.specs.Prelude.{◌≡◌, ℕ, List, [], ◌∷◌, map}
 use Rattle.label_sets.specs.declared.sample.Sample.{Sample}
 use Rattle.index_parts.specs.SeriesEntry.{reference_of}
 use Rattle.index_file.specs.declared.index_series.IndexSeries.{IndexSeries}
-use Rattle.block_ranges.specs.Reads.{Query}
+use Rattle.read_ranges.specs.Reads.{Query}
 use Rattle.block_ranges.specs.BlockReads.{taken}
 use Rattle.block_ranges.specs.declared.row_chunk.RowChunk.{RowChunk}
 use Rattle.block_ranges.specs.declared.chunk_row.ChunkRow.{ChunkRow}

@@ -18,15 +18,15 @@ use Rattle.index_v2.specs.WholeReading.{lists_at}
 use Rattle.index_v2.specs.SeriesLabels.{numbered_at}
 use Rattle.series_selection.specs.Selections.{rows_read}
 use Rattle.block_content.specs.Firsts.{each_at}
-use Rattle.block_ranges.specs.IndexRanges.{Run, has_bytes, has_sections}
-use Rattle.block_ranges.specs.Reads.{Query, Block, Cache, range_of}
-use Rattle.block_ranges.specs.IndexReads.{Tables, reached, part_at, tables_of, IsTakenBy}
-use Rattle.block_ranges.specs.Asking.{query_asked, block_asked, piece_of}
-use Rattle.block_ranges.specs.ToRead.{run_read, AreRunsToRead}
+use Rattle.read_ranges.specs.IndexRanges.{Run, has_bytes, has_sections}
+use Rattle.read_ranges.specs.Reads.{Query, Block, Cache, range_of}
+use Rattle.read_ranges.specs.IndexReads.{Tables, reached, part_at, tables_of, IsTakenBy}
+use Rattle.read_ranges.specs.Asking.{query_asked, block_asked, piece_of}
+use Rattle.read_ranges.specs.ToRead.{run_read, AreRunsToRead}
 use Rattle.block_ranges.specs.WorkStates.{whole_left, runs_left, chunks_left, tables_in, texts_of, symbols_piece, table_piece, lists_piece}
-use Rattle.block_ranges.specs.declared.asked.Asked.{Asked}
-use Rattle.block_ranges.specs.declared.sections.Sections.{Sections}
-use Rattle.block_ranges.specs.declared.run_read.RunRead.{RunRead}
+use Rattle.read_ranges.specs.declared.asked.Asked.{Asked}
+use Rattle.read_ranges.specs.declared.sections.Sections.{Sections}
+use Rattle.read_ranges.specs.declared.run_read.RunRead.{RunRead}
 use Rattle.block_ranges.specs.declared.run_steps.Taken.{Taken}
 use Rattle.block_ranges.specs.declared.run_steps.Taken.TheVariants.{Waits, All, Refused}
 use Rattle.block_ranges.specs.declared.work.SymbolsRead.{SymbolsRead}

@@ -17,26 +17,26 @@ use Rattle.index_parts.specs.SeriesEntry.{reference_of}
 use Rattle.index_parts.specs.RowsReading.{postings_table_at}
 use Rattle.index_slices.specs.Parts.{known}
 use Rattle.index_file.specs.declared.index_series.IndexSeries.{IndexSeries}
-use Rattle.block_ranges.specs.IndexRanges.{Piece, Run, contents_piece, section_piece}
-use Rattle.block_ranges.specs.ChunkRanges.{offset_of}
-use Rattle.block_ranges.specs.Reads.{Query, Block, Cache, damaged, Reached, kept, range_of, sized, by_cache, takes, if_read}
-use Rattle.block_ranges.specs.IndexReads.{Tables, Goes, reached, part_at, falls_back, after_symbols, after_table, after_lists, after_run, reads_runs, reads_whole, reads_contents, after_contents, after_whole}
+use Rattle.read_ranges.specs.IndexRanges.{Piece, Run, contents_piece, section_piece}
+use Rattle.read_ranges.specs.ChunkRanges.{offset_of}
+use Rattle.read_ranges.specs.Reads.{Query, Block, Cache, damaged, Reached, kept, range_of, sized, by_cache, takes, if_read}
+use Rattle.read_ranges.specs.IndexReads.{Tables, Goes, reached, part_at, falls_back, after_symbols, after_table, after_lists, after_run, reads_runs, reads_whole, reads_contents, after_contents, after_whole}
 use Rattle.block_ranges.specs.ChunkReads.{Read, read, Glimpse, glimpse_at, tests_at, reads_one, reads_out, reads_group, reads_groups, reads_chunks}
 use Rattle.block_ranges.specs.BlockReads.{BlockEnd, gives, breaks_off, taken, shown, block_call}
 use Rattle.block_ranges.specs.BlockRuns.{Onward, Leading}
-use Rattle.block_ranges.specs.Asking.{query_asked, block_asked, piece_of}
-use Rattle.block_ranges.specs.ToRead.{group_read, run_read}
+use Rattle.read_ranges.specs.Asking.{query_asked, block_asked, piece_of}
+use Rattle.read_ranges.specs.ToRead.{group_read, run_read}
 use Rattle.block_ranges.specs.Glimpsed.{pending_chunk}
 use Rattle.block_ranges.specs.ChunksRead.{reads_of, references_in}
-use Rattle.block_ranges.specs.declared.asked.Asked.{Asked}
-use Rattle.block_ranges.specs.declared.sections.Sections.{Sections}
+use Rattle.read_ranges.specs.declared.asked.Asked.{Asked}
+use Rattle.read_ranges.specs.declared.sections.Sections.{Sections}
 use Rattle.block_ranges.specs.declared.block_outcome.BlockOutcome.{BlockOutcome}
 use Rattle.block_ranges.specs.declared.work.ChunkWork.{ChunkWork}
 use Rattle.block_ranges.specs.declared.work.SymbolsRead.{SymbolsRead}
 use Rattle.block_ranges.specs.declared.work.TablesRead.{TablesRead}
 use Rattle.block_ranges.specs.declared.work.Work.{Work}
 use Rattle.block_ranges.specs.declared.work.Work.TheVariants.{Fresh, Contents, Symbols, Table, Lists, Run as AtRun, Whole, Group, Single, Over}
-use Rattle.block_ranges.specs.declared.group_read.GroupRead.{GroupRead}
+use Rattle.read_ranges.specs.declared.group_read.GroupRead.{GroupRead}
 use Rattle.block_ranges.specs.declared.glimpses.Pending.{Pending}
 use Rattle.block_ranges.specs.declared.chunk_row.ChunkRow.{ChunkRow}
 use Rattle.block_ranges.specs.declared.work.Step.{Step}

@@ -4,13 +4,11 @@ ghost use Rattle.index_cache.specs.Caches.{held};
 ghost use Rattle.world_core.specs.Operations.{IsAnswer, entry_of};
 ghost use Rattle.world_core.specs.declared.entry.Entry.{Entry};
 ghost use Rattle.world_core.specs.declared.op.Op.{Op};
-ghost use Rattle.block_ranges.specs.Reads.{block_of};
+ghost use Rattle.read_ranges.specs.Reads.{block_of};
 ghost use Rattle.block_ranges.specs.BlockRuns.{Leading};
 ghost use Rattle.block_ranges.specs.WorkStates.{Leads, Where, Holds, asked_at, count_at, with_bytes, goes_after};
 
 use crate::BlockOutcome;
-use crate::asked::Asked;
-use crate::cache_reads::keep;
 use crate::chunk_steps::{take_group, take_single};
 use crate::index_steps::{
     begin, lists_range, symbols_range, table_range, take_contents, take_lists, take_run,
@@ -23,6 +21,7 @@ use index_cache::IndexCache;
 use label_sets::TextList;
 use list_core::NoMemory;
 use matchers::Selector;
+use read_ranges::{Asked, keep};
 use std::alloc::Global;
 use std::mem;
 use ulid_core::Ulid;

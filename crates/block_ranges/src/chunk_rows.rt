@@ -1,20 +1,19 @@
 //! Chunks that are read behind those of their series.
 ghost use Rattle.std.specs.Prelude.{◌≡◌, [], ◌∷◌, ◌++◌, IfOk};
-ghost use Rattle.block_ranges.specs.Asking.{block_asked};
+ghost use Rattle.read_ranges.specs.Asking.{block_asked};
 ghost use Rattle.block_ranges.specs.ChunkReads.{read, chunk_samples_at};
 ghost use Rattle.block_ranges.specs.ChunksRead.{row_reads, reads_of};
 ghost use Rattle.block_ranges.specs.Glimpsed.{ReadsOn};
 
-use crate::asked::Asked;
 use crate::chunk_row::ChunkRow;
 use crate::chunks::append_chunk;
 use crate::places::meets;
-use crate::references::reference_of;
 use crate::row_chunk::RowChunk;
 use index_parts::ChunkPlace;
 use index_v2::IndexSeries;
 use label_sets::SampleList;
 use list_core::NoMemory;
+use read_ranges::{Asked, reference_of};
 
 /// How many samples most chunks have.
 const SAMPLES: usize = 120;

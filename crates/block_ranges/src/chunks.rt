@@ -3,15 +3,15 @@ ghost use Rattle.std.specs.Prelude.{◌≡◌, ◌↔◌, ◌+◌, ◌≤◌, �
 ghost use Rattle.std.specs.List.{list_all};
 ghost use Rattle.std.specs.Result.{result_ok};
 ghost use Rattle.block_content.specs.ContentReading.{is_time, have_times_of};
-ghost use Rattle.block_ranges.specs.Asking.{block_asked};
+ghost use Rattle.read_ranges.specs.Asking.{block_asked};
 ghost use Rattle.block_ranges.specs.ChunkReads.{chunk_len_at, is_chunk_of, stored_at, chunk_samples_at};
-ghost use Rattle.block_ranges.specs.Findings.{ReadsAs, ReadsBehind};
+ghost use Rattle.read_ranges.specs.Findings.{ReadsAs, ReadsBehind};
 
-use crate::asked::Asked;
 use chunk_files::take_chunk;
 use index_parts::ChunkPlace;
 use label_sets::{Sample, SampleList};
 use list_core::NoMemory;
+use read_ranges::Asked;
 use wire_bytes::Cursor;
 use xor_chunks::{XorRefusal, append_stored};
 

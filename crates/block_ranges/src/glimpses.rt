@@ -3,22 +3,20 @@ ghost use Rattle.std.specs.Prelude.{◌≡◌, ◌+◌, ◌-◌, ◌<◌, ◌≤
 ghost use Rattle.std.specs.List.Sorted.{IsNonDecreasingBy};
 ghost use Rattle.index_parts.specs.SeriesEntry.{reference_of};
 ghost use Rattle.block_content.specs.Firsts.{each_at};
-ghost use Rattle.block_ranges.specs.Asking.{block_asked};
-ghost use Rattle.block_ranges.specs.ToRead.{group_read};
+ghost use Rattle.read_ranges.specs.Asking.{block_asked};
+ghost use Rattle.read_ranges.specs.ToRead.{group_read};
 ghost use Rattle.block_ranges.specs.ChunkReads.{places_at, tests_at, glimpse, glimpse_at};
 ghost use Rattle.block_ranges.specs.ChunksRead.{reads_of};
 ghost use Rattle.block_ranges.specs.Glimpsed.{shown_so, ShowsOne, ShowsGroup};
 
-use crate::asked::Asked;
 use crate::chunk_row::ChunkRow;
 use crate::chunk_rows::read_behind;
 use crate::chunks::{chunk_len, chunk_samples};
-use crate::group_read::GroupRead;
-use crate::references::reference_of;
 use index_parts::ChunkPlace;
 use index_v2::IndexSeries;
 use label_sets::SampleList;
 use list_core::NoMemory;
+use read_ranges::{Asked, GroupRead, reference_of};
 use std::collections::VecDeque;
 
 /// What the read of a group shows of a chunk.

@@ -1,29 +1,28 @@
 //! The reads of a block's index, up to the series that the selector takes.
 ghost use Rattle.std.specs.Prelude.{◌≡◌, ◌+◌, ◌*◌, ◌^◌, ◌<◌, ◌≤◌, length, map, option_map, IfOk, Ok, Some};
 ghost use Rattle.index_cache.specs.Caches.{held};
-ghost use Rattle.block_ranges.specs.Reads.{Cache};
-ghost use Rattle.block_ranges.specs.IndexReads.{reached, after_contents, after_whole, by_size};
+ghost use Rattle.read_ranges.specs.Reads.{Cache};
+ghost use Rattle.read_ranges.specs.IndexReads.{reached, after_contents, after_whole, by_size};
 ghost use Rattle.block_ranges.specs.BlockReads.{block_call, breaks_off};
-ghost use Rattle.block_ranges.specs.Asking.{query_asked, block_asked, piece_of};
-ghost use Rattle.block_ranges.specs.ToRead.{run_read};
+ghost use Rattle.read_ranges.specs.Asking.{query_asked, block_asked, piece_of};
+ghost use Rattle.read_ranges.specs.ToRead.{run_read};
 ghost use Rattle.block_ranges.specs.BlockRuns.{Leading};
 ghost use Rattle.block_ranges.specs.WorkStates.{most, Leads, after_index, whole_left, range_left, sized_left, runs_left, with_run, with_symbols, with_table, with_lists, texts_of, symbols_piece, table_piece, lists_piece, contents_left};
 ghost use Rattle.block_ranges.specs.RunFindings.{HasSections, FindsSections, TestsSymbols, TestsTable, FindsRuns};
 
-use crate::asked::{Asked, index_size};
-use crate::cache_reads::from_cache;
+use crate::BlockOutcome;
 use crate::chunk_steps::begin_chunks;
-use crate::run_read::RunRead;
 use crate::run_steps::{Taken, cached_runs, have_bytes, run_taken, selected_runs, whole_series};
-use crate::section_tests::{is_table, symbols_of};
-use crate::sections::Sections;
 use crate::work::{IndexSize, RunWork, Step, SymbolsRead, TablesRead, Work};
-use crate::{BlockOutcome, ByteRange, has_sections, section_range};
 use block_keys::Key;
 use index_cache::IndexCache;
 use index_parts::{Toc, read_toc};
 use index_v2::IndexSeries;
 use list_core::NoMemory;
+use read_ranges::{
+    Asked, ByteRange, RunRead, Sections, from_cache, has_sections, index_size, is_table,
+    section_range, symbols_of,
+};
 use std::collections::VecDeque;
 use wire_bytes::Blob;
 use world_core::Op;

@@ -3,16 +3,15 @@ ghost use Rattle.std.specs.Prelude.{◌≡◌, ◌++◌, ◌*◌, ◌^◌, ◌<�
 ghost use Rattle.std.specs.List.{filter, flat_map};
 ghost use Rattle.std.specs.List.Sorted.{IsPermutation, IsNonDecreasingBy};
 ghost use Rattle.index_parts.specs.SeriesEntry.{reference_of};
-ghost use Rattle.block_ranges.specs.ChunkRanges.{meets};
+ghost use Rattle.read_ranges.specs.ChunkRanges.{meets};
 ghost use Rattle.block_ranges.specs.ChunkReads.{have_keys};
 ghost use Rattle.block_ranges.specs.BlockReads.{taken};
-ghost use Rattle.block_ranges.specs.Asking.{query_asked};
+ghost use Rattle.read_ranges.specs.Asking.{query_asked};
 
-use crate::asked::Asked;
-use crate::references::reference_of;
 use index_parts::ChunkPlace;
 use index_v2::IndexSeries;
 use list_core::NoMemory;
+use read_ranges::{Asked, reference_of};
 
 /// How many segments a block may have.
 const MOST_SEGMENTS: u32 = 999_999;

@@ -6,25 +6,24 @@ ghost use Rattle.label_sets.specs.Finals.{final_of};
 ghost use Rattle.label_sets.specs.Triples.{triples_of};
 ghost use Rattle.matchers.specs.Selected.{is_between};
 ghost use Rattle.index_parts.specs.SeriesEntry.{reference_of};
-ghost use Rattle.block_ranges.specs.ChunkRanges.{meets};
+ghost use Rattle.read_ranges.specs.ChunkRanges.{meets};
 ghost use Rattle.block_ranges.specs.BlockReads.{shown};
-ghost use Rattle.block_ranges.specs.Asking.{query_asked, block_asked};
+ghost use Rattle.read_ranges.specs.Asking.{query_asked, block_asked};
 ghost use Rattle.block_ranges.specs.ChunkReads.{read};
 ghost use Rattle.block_ranges.specs.RowCounts.{counted};
 ghost use Rattle.block_ranges.specs.ChunksRead.{reads_from, row_reads, reads_of, reads_apart, references_in};
 ghost use Rattle.block_ranges.specs.RowsFit.{references_taken, row_names, Begins, HaveRows, row_begun};
 ghost use Rattle.block_ranges.specs.declared.chunk_row.ChunkRow.{ChunkRow};
 
-use crate::asked::Asked;
 use crate::chunk_row::ChunkRow;
 use crate::places::meets;
-use crate::references::reference_of;
 use crate::row_chunk::RowChunk;
 use crate::shown::{ChunkRead, shown_apart};
 use index_parts::ChunkPlace;
 use index_v2::IndexSeries;
 use label_sets::{Sample, SampleList, Series, SeriesList, final_labels};
 use list_core::NoMemory;
+use read_ranges::{Asked, reference_of};
 use std::alloc::Global;
 use std::collections::VecDeque;
 

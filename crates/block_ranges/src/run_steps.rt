@@ -4,25 +4,22 @@ ghost use Rattle.std.specs.List.{list_all};
 ghost use Rattle.index_cache.specs.Caches.{held};
 ghost use Rattle.index_parts.specs.RowsReading.{postings_table_at};
 ghost use Rattle.index_slices.specs.Parts.{known};
-ghost use Rattle.block_ranges.specs.IndexRanges.{has_bytes};
-ghost use Rattle.block_ranges.specs.IndexReads.{reached};
-ghost use Rattle.block_ranges.specs.Asking.{query_asked, block_asked};
-ghost use Rattle.block_ranges.specs.ToRead.{run_read};
+ghost use Rattle.read_ranges.specs.IndexRanges.{has_bytes};
+ghost use Rattle.read_ranges.specs.IndexReads.{reached};
+ghost use Rattle.read_ranges.specs.Asking.{query_asked, block_asked};
+ghost use Rattle.read_ranges.specs.ToRead.{run_read};
 ghost use Rattle.block_ranges.specs.WorkStates.{tables_in, texts_of};
 ghost use Rattle.block_ranges.specs.RunFindings.{GoesOnRuns, FindsSeries, SelectsRuns, TakesRun};
 
-use crate::asked::Asked;
-use crate::cache_reads::from_cache;
-use crate::run_read::RunRead;
-use crate::run_reads::runs_to_read;
-use crate::selecting::select;
-use crate::series_reads::{series_of_run, series_of_whole};
 use crate::work::{SymbolsRead, TablesRead};
 use block_keys::Key;
 use index_cache::IndexCache;
 use index_parts::Toc;
 use index_v2::{IndexParts, IndexReader, IndexRefusal, IndexSeries};
 use list_core::NoMemory;
+use read_ranges::{
+    Asked, RunRead, from_cache, runs_to_read, select, series_of_run, series_of_whole,
+};
 use std::alloc::Global;
 use std::collections::VecDeque;
 

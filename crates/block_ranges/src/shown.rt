@@ -5,18 +5,17 @@ ghost use Rattle.std.specs.List.{filter, flat_map};
 ghost use Rattle.std.specs.List.Sorted.{IsStrictlyIncreasing};
 ghost use Rattle.label_sets.specs.Triples.{triples_under, triples_of};
 ghost use Rattle.matchers.specs.Selected.{is_between};
-ghost use Rattle.block_ranges.specs.ChunkRanges.{meets};
+ghost use Rattle.read_ranges.specs.ChunkRanges.{meets};
 ghost use Rattle.block_ranges.specs.BlockReads.{samples_of, shown};
-ghost use Rattle.block_ranges.specs.Asking.{query_asked, block_asked};
+ghost use Rattle.read_ranges.specs.Asking.{query_asked, block_asked};
 ghost use Rattle.block_ranges.specs.ChunksRead.{reads_apart, references_apart};
 
-use crate::asked::Asked;
 use crate::places::meets;
-use crate::references::reference_of;
 use index_parts::ChunkPlace;
 use index_v2::IndexSeries;
 use label_sets::{Sample, SampleList, Series, SeriesList, final_labels};
 use list_core::NoMemory;
+use read_ranges::{Asked, reference_of};
 
 /// The samples of a chunk that was read, by its reference.
 #[derive(Drop)]

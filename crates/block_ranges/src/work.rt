@@ -4,12 +4,9 @@ ghost use Rattle.std.specs.Prelude.{◌+◌, ◌^◌, ◌<◌, ◌≤◌, length
 use crate::BlockOutcome;
 use crate::chunk_row::ChunkRow;
 use crate::glimpses::Pending;
-use crate::group_read::GroupRead;
-use crate::run_read::RunRead;
-use crate::sections::Sections;
-use crate::symbol_texts::SymbolTexts;
 use index_parts::ChunkPlace;
 use index_v2::IndexSeries;
+use read_ranges::{GroupRead, RunRead, Sections, SymbolTexts};
 use std::collections::VecDeque;
 use wire_bytes::Blob;
 use world_core::Op;

@@ -8,7 +8,7 @@ use Rattle.report_lines.specs.lifecycle_core.specs.Setting.{Setting}
 use Rattle.bucket_core.specs.Asking.{Call}
 use Rattle.bucket_core.specs.Contents.{Contents}
 use Rattle.call_verdicts.specs.Asked.{WasAskedAsShown, WasOnlyOpened}
-use Rattle.call_verdicts.specs.Noted.{IsFullSaid, IsNoteOf, IsNoted}
+use Rattle.call_verdicts.specs.Noted.{IsFullSaid, IsNoted}
 use Rattle.call_verdicts.specs.Noted.{tells_full}
 use Rattle.call_verdicts.specs.Statuses.{number_of}
 use Rattle.call_verdicts.specs.Undone.{IsUndone}

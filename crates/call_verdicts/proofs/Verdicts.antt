@@ -11,12 +11,12 @@ use Rattle.world_core.specs.declared.entry.Entry.{Entry}
 use Rattle.script_core.specs.GivenUp.{HasPatternLine, IsGivenUp, IsGivenUpFor}
 use Rattle.script_core.specs.Lawful.{IsLawfulScript}
 use Rattle.script_core.specs.Reading.{script_of}
-use Rattle.script_core.specs.declared.cause.LineCause.{LineCause}
-use Rattle.script_core.specs.declared.cause.LineCause.TheVariants.{PatternSizeText}
+use Rattle.script_fields.specs.declared.cause.LineCause.{LineCause}
+use Rattle.script_fields.specs.declared.cause.LineCause.TheVariants.{PatternSizeText}
 use Rattle.script_core.specs.declared.script.Script.{Script}
-use Rattle.script_core.specs.declared.script_refusal.ScriptRefusal.{ScriptRefusal}
-use Rattle.script_core.specs.declared.script_refusal.ScriptRefusal.TheVariants.{BadLine, TooLong, NoMemory as NoScriptMemory}
-use Rattle.script_core.specs.Limits.{longest_text}
+use Rattle.script_fields.specs.declared.script_refusal.ScriptRefusal.{ScriptRefusal}
+use Rattle.script_fields.specs.declared.script_refusal.ScriptRefusal.TheVariants.{BadLine, TooLong, NoMemory as NoScriptMemory}
+use Rattle.script_fields.specs.Limits.{longest_text}
 use Rattle.call_verdicts.specs.Kept.{HoldsNothing}
 use Rattle.call_verdicts.specs.ShelfReads.{IsOfShelf}
 use Rattle.call_verdicts.specs.Undone.{IsUndone}

@@ -11,12 +11,12 @@ use Rattle.world_core.specs.declared.entry.Entry.{Entry}
 use Rattle.script_core.specs.GivenUp.{HasPatternLine}
 use Rattle.script_core.specs.Lawful.{IsLawfulScript}
 use Rattle.script_core.specs.Reading.{script_of}
-use Rattle.script_core.specs.Wording.{refusal_text}
+use Rattle.script_fields.specs.Wording.{refusal_text}
 use Rattle.script_workers.specs.declared.phase.Phase.{Phase}
 use Rattle.script_core.specs.declared.script.Script.{Script}
-use Rattle.script_core.specs.declared.cause.LineCause.TheVariants.{PatternSizeText}
-use Rattle.script_core.specs.declared.script_refusal.ScriptRefusal.{ScriptRefusal}
-use Rattle.script_core.specs.declared.script_refusal.ScriptRefusal.TheVariants.{BadLine, TooLong}
+use Rattle.script_fields.specs.declared.cause.LineCause.TheVariants.{PatternSizeText}
+use Rattle.script_fields.specs.declared.script_refusal.ScriptRefusal.{ScriptRefusal}
+use Rattle.script_fields.specs.declared.script_refusal.ScriptRefusal.TheVariants.{BadLine, TooLong}
 use Rattle.report_lines.specs.lifecycle_core.specs.Breaches.{IsUnbroken}
 use Rattle.report_lines.specs.lifecycle_core.specs.Causes.{AreWell}
 use Rattle.report_lines.specs.lifecycle_core.specs.Cuts.{IsCutBehind}

@@ -1,6 +1,6 @@
 ghost use Rattle.std.specs.Prelude.{◌≡◌, ◌≢◌, ◌≤◌, ◌<◌, ◌++◌, [], List, ℕ, Option, Some, Err, IfOk, IfSome, length, option_map};
 ghost use Rattle.bucket_core.specs.Causes.{Rose};
-ghost use Rattle.script_core.specs.Limits.{longest_text};
+ghost use Rattle.script_fields.specs.Limits.{longest_text};
 
 use crate::InputRefusal;
 use bucket_core::{ReadAnswer, Source};

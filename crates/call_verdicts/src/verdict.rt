@@ -1,7 +1,7 @@
 ghost use Rattle.std.specs.Prelude.{◌≡◌, ◌≢◌, ◌++◌, ◌∷◌, [], codes, false, IfOk, OnErr, OnOk};
 ghost use Rattle.report_lines.specs.CheckLines.{check_line};
 ghost use Rattle.report_lines.specs.Reports.{newline};
-ghost use Rattle.script_core.specs.Wording.{refusal_text};
+ghost use Rattle.script_fields.specs.Wording.{refusal_text};
 ghost use Rattle.call_verdicts.specs.Verdicts.{first_of, is_at_hand, last_of, status_of};
 
 use crate::Status;

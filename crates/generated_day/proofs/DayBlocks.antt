@@ -21,7 +21,7 @@ use Rattle.moment_core.specs.Partitions.{all_times}
 use Rattle.moment_core.specs.StandardRules.{standard_rules}
 use Rattle.moment_core.specs.declared.rules.Rules.{Rules}
 use Rattle.script_core.specs.Blocks.{declares}
-use Rattle.script_core.specs.Fields.{is_silent, is_space, newline}
+use Rattle.script_fields.specs.Fields.{is_silent, is_space, newline}
 use Rattle.script_core.specs.Lawful.{HasSeries}
 use Rattle.script_core.specs.Spelling.{BlockLine, GatewayLine, HasEnded, IsField, IsTimeText, IsUlidField, ReplicaLine, SoFar, at_all_times, inside, nothing, outside, spaced}
 use Rattle.script_core.specs.Spelling as spelling

@@ -5,7 +5,7 @@ use Rattle.std.proofs.lemmas.Fmt.{length_signed_le}
 use Rattle.reading_core.specs.Decimal.{decimal_text, signed_text}
 use Rattle.reading_core.proofs.Printed.{printed_signed}
 use Rattle.script_core.specs.Spelling.{IsNear}
-use Rattle.script_core.specs.Values.{is_time}
+use Rattle.script_fields.specs.Values.{is_time}
 use Rattle.script_core.proofs.SpelledValues.{near_spelled, near_tested}
 use Rattle.script_core.proofs.ValueLaws.{time_fits}
 

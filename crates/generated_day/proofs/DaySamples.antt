@@ -12,9 +12,9 @@ use Rattle.reading_core.proofs.Positional.{length-fixed_digits}
 use Rattle.label_sets.specs.SampleText.{hex_sign, hex_text, pattern_text, sample_text, spaced_sample_text, timed_text}
 use Rattle.label_sets.specs.declared.sample.Sample.{Sample}
 use Rattle.script_core.specs.Parts.{HasField}
-use Rattle.script_core.specs.Samples.{are_rising, rise_after}
+use Rattle.script_fields.specs.Samples.{are_rising, rise_after}
 use Rattle.script_core.specs.Spelling.{IsWithin}
-use Rattle.script_core.specs.Values.{is_time}
+use Rattle.script_fields.specs.Values.{is_time}
 use Rattle.script_core.proofs.SpelledValues.{near_spelled}
 use Rattle.generated_day.specs.Day.{block_start, day_samples, has_sample, sample, sample_part, samples_text}
 use Rattle.generated_day.proofs.DayNumbers.{decimal_short}

@@ -12,8 +12,8 @@ use Rattle.script_workers.specs.Works.{has_sync, works_in}
 use Rattle.script_workers.specs.declared.phase.Phase.{Phase}
 use Rattle.script_workers.specs.declared.task.Task.{Task}
 use Rattle.script_workers.specs.declared.work.Work.TheVariants as works
-use Rattle.script_core.specs.Fields.{lines_of}
-use Rattle.script_core.specs.Limits.{longest_text}
+use Rattle.script_fields.specs.Fields.{lines_of}
+use Rattle.script_fields.specs.Limits.{longest_text}
 use Rattle.script_core.specs.Spelling.{Say, SoFar, nothing}
 use Rattle.script_core.specs.declared.block.Block.{Block}
 use Rattle.generated_day.specs.Day.{all_blocks_text, all_rounds_text, all_uploads_text, at_line, block_start, cleaning_text, day_start, day_text, hours, look_text, minutes, phases_text, round_text, setup_text, ulid_of, upload_line, uploads_at}

@@ -3,7 +3,7 @@ use Rattle.std.proofs.Common.{◌≡◌, ℕ, suc, ◌+◌, ◌-◌, ◌<◌, �
 use Rattle.std.specs.List.{flat_map, range_with_len}
 use Rattle.script_core.specs.declared.part_reader.PartReader.{PartReader}
 use Rattle.script_core.specs.Parts.{Reads}
-use Rattle.script_core.specs.declared.script_refusal.ScriptRefusal.{ScriptRefusal}
+use Rattle.script_fields.specs.declared.script_refusal.ScriptRefusal.{ScriptRefusal}
 use Rattle.script_core.proofs.PartLaws.{reads_nothing, reads_both}
 use Rattle.generated_day.specs.Wanting.{IsWanting}
 use Rattle.generated_day.proofs.Wanting.{first_wants, then_wants}

@@ -4,9 +4,9 @@ use Rattle.std.specs.List.{flat_map, list_all, range_with_len}
 use Rattle.std.specs.Str.{bytes_eq}
 use Rattle.reading_core.specs.Decimal.{decimal_text}
 use Rattle.ulid_core.specs.UlidText.{text_of}
-use Rattle.script_core.specs.Fields.{lines_of, newline, next_field}
+use Rattle.script_fields.specs.Fields.{lines_of, newline, next_field}
 use Rattle.script_core.specs.Parts.{IsEnded, IsOneLine}
-use Rattle.script_core.proofs.FieldLaws.{cut_again, no_space}
+use Rattle.script_fields.proofs.FieldLaws.{cut_again, no_space}
 use Rattle.script_core.proofs.PartLaws.{cut_one}
 use Rattle.script_core.proofs.SampleSigns.{all_joined}
 use Rattle.generated_day.specs.Day.{all_blocks_text, all_rounds_text, all_uploads_text, at_line, block_line, block_start, cleaning_text, day_start, hours, look_text, minutes, phases_text, round_text, setup_text, ulid_of, upload_line, uploads_at}

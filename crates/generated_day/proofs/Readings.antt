@@ -3,11 +3,11 @@ use Rattle.std.proofs.Common.{◌≡◌, ℕ, ◌<◌, true, List, Result, Err, 
 use Rattle.std.specs.List.{list_all}
 use Rattle.label_sets.specs.declared.label.Label.{Label}
 use Rattle.label_sets.specs.declared.sample.Sample.{Sample}
-use Rattle.script_core.specs.Fields.{lines_of}
+use Rattle.script_fields.specs.Fields.{lines_of}
 use Rattle.script_core.specs.Parts.{AreNextGivenUp, AreSeriesParts, IsEnded, IsPartRefused, Reads, series_front, series_text}
 use Rattle.script_core.specs.declared.part_reader.PartReader.{PartReader}
-use Rattle.script_core.specs.declared.script_refusal.ScriptRefusal.{ScriptRefusal}
-use Rattle.script_core.specs.declared.script_refusal.ScriptRefusal.TheVariants.{NoMemory}
+use Rattle.script_fields.specs.declared.script_refusal.ScriptRefusal.{ScriptRefusal}
+use Rattle.script_fields.specs.declared.script_refusal.ScriptRefusal.TheVariants.{NoMemory}
 use Rattle.generated_day.specs.Day.{day_samples, labels_text, samples_text, series_line}
 use Rattle.generated_day.specs.Wanting.{IsWanting, ReadsOrWants}
 use Rattle.generated_day.proofs.DaySeries.{labels_at, series_parts}

@@ -9,9 +9,9 @@ use Rattle.reading_core.specs.Reading.{Gives}
 use Rattle.reading_core.proofs.Binds.{ok_not_err}
 use Rattle.moment_core.specs.StandardRules.{standard_rules}
 use Rattle.matchers.specs.SelectorText.{commas_text, opening_text}
-use Rattle.script_core.specs.Fields.{lines_of, newline, next_field}
+use Rattle.script_fields.specs.Fields.{lines_of, newline, next_field}
 use Rattle.script_core.specs.GivenUp.{HasPattern, IsPatternAmong, IsPatternLine}
-use Rattle.script_core.specs.Limits.{longest_text}
+use Rattle.script_fields.specs.Limits.{longest_text}
 use Rattle.script_core.specs.Lines.{Asked, has_begun, question_at}
 use Rattle.script_core.specs.Parts.{AreNextGivenUp, HasRead, IsEnded, IsPartRefused, Reads, is_long, no_script}
 use Rattle.script_core.specs.Reading.{lines_at, script_of}
@@ -19,10 +19,10 @@ use Rattle.script_core.specs.State.{State, start}
 use Rattle.script_core.specs.View.{state_of}
 use Rattle.script_core.specs.declared.part_reader.PartReader.{PartReader}
 use Rattle.script_core.specs.declared.script.Script.{Script}
-use Rattle.script_core.specs.declared.script_refusal.ScriptRefusal.{ScriptRefusal}
-use Rattle.script_core.specs.declared.script_refusal.ScriptRefusal.TheVariants.{NoMemory}
+use Rattle.script_fields.specs.declared.script_refusal.ScriptRefusal.{ScriptRefusal}
+use Rattle.script_fields.specs.declared.script_refusal.ScriptRefusal.TheVariants.{NoMemory}
 use Rattle.script_core.proofs.AgainLines.{script_again}
-use Rattle.script_core.proofs.FieldLaws.{cut_again}
+use Rattle.script_fields.proofs.FieldLaws.{cut_again}
 use Rattle.script_core.proofs.FoundPhases.{question_found}
 use Rattle.script_core.proofs.LineTools.{kind_found}
 use Rattle.script_core.proofs.PartLaws.{reads_both}

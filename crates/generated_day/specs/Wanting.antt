@@ -1,12 +1,12 @@
 -- How the reading of a part of the day's text ends.
 use Rattle.std.specs.Prelude.{◌≡◌, ◌⊎◌, ◌*◌, ◌≤◌, ℕ, List, ◌++◌, length, Result, MatchResult}
-use Rattle.script_core.specs.Limits.{longest_text}
+use Rattle.script_fields.specs.Limits.{longest_text}
 use Rattle.script_core.specs.Parts.{HasRead, Reads}
 use Rattle.script_core.specs.Spelling.{Spells}
 use Rattle.script_core.specs.declared.part_reader.PartReader.{PartReader}
 use Rattle.script_core.specs.declared.script.Script.{Script}
-use Rattle.script_core.specs.declared.script_refusal.ScriptRefusal.{ScriptRefusal}
-use Rattle.script_core.specs.declared.script_refusal.ScriptRefusal.TheVariants.{NoMemory}
+use Rattle.script_fields.specs.declared.script_refusal.ScriptRefusal.{ScriptRefusal}
+use Rattle.script_fields.specs.declared.script_refusal.ScriptRefusal.TheVariants.{NoMemory}
 
 -- The text spells a script, and has at most half of the bytes that one may have.
 pub record IsShortScript (text : List ℕ) : Type 0 where

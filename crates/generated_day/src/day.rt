@@ -3,7 +3,7 @@
 ghost use Rattle.std.specs.Prelude.{◌≡◌, ◌++◌, IfErr, IfOk, OnOk};
 ghost use Rattle.script_core.specs.Lawful.{IsLawfulScript};
 ghost use Rattle.script_core.specs.Spelling.{Spells};
-ghost use Rattle.script_core.specs.declared.script_refusal.ScriptRefusal.TheVariants as refusals;
+ghost use Rattle.script_fields.specs.declared.script_refusal.ScriptRefusal.TheVariants as refusals;
 ghost use Rattle.generated_day.specs.Wanting.{ReadsOrWants};
 ghost use Rattle.generated_day.specs.Day.{all_blocks_text, all_uploads_text, all_rounds_text, setup_text, cleaning_text, phases_text, day_text};
 

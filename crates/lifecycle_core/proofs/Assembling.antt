@@ -28,7 +28,7 @@ use Rattle.cleaner.specs.Cleanings.{CleanRun, cleaning}
 use Rattle.cleaner.specs.declared.clean_end.CleanEnd.{CleanEnd}
 use Rattle.cleaner.specs.declared.clean_end.CleanEnd.TheVariants as cleanup
 use Rattle.meta_fetcher.specs.declared.view.View.{View}
-use Rattle.block_ranges.specs.Reads.{Cache, Query as Question}
+use Rattle.read_ranges.specs.Reads.{Cache, Query as Question}
 use Rattle.series_calls.specs.SeriesCalls.{CallEnd, SeriesRun, asking}
 use Rattle.series_calls.specs.declared.series_end.SeriesEnd.{SeriesEnd}
 use Rattle.series_calls.specs.declared.series_end.SeriesEnd.TheVariants as called

@@ -5,7 +5,7 @@ use Rattle.label_sets.specs.Triples.{triples_of}
 use Rattle.label_sets.specs.declared.series.Series.{Series}
 use Rattle.world_core.specs.Standing.{IsHonest}
 use Rattle.world_core.specs.Worlds.{failed_count}
-use Rattle.block_ranges.specs.Reads.{Query as Question}
+use Rattle.read_ranges.specs.Reads.{Query as Question}
 use Rattle.series_calls.specs.declared.series_end.SeriesEnd.{SeriesEnd}
 use Rattle.series_calls.specs.declared.series_end.SeriesEnd.TheVariants as ended
 use Rattle.script_core.specs.Workers.{workers_of}

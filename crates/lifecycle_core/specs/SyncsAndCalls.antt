@@ -6,7 +6,7 @@ use Rattle.meta_fetcher.specs.Syncs.{SyncRun}
 use Rattle.meta_fetcher.specs.declared.rules.SyncRules.{SyncRules}
 use Rattle.meta_fetcher.specs.declared.sync_end.SyncEnd.{SyncEnd}
 use Rattle.meta_fetcher.specs.declared.sync_end.SyncEnd.TheVariants as fetched
-use Rattle.block_ranges.specs.Reads.{Cache, Query as Question}
+use Rattle.read_ranges.specs.Reads.{Cache, Query as Question}
 use Rattle.series_calls.specs.Asking.{IsReadOf}
 use Rattle.series_calls.specs.KeptRanges.{IsOfReads}
 use Rattle.series_calls.specs.SeriesCalls.{CallEnd, SeriesRun}

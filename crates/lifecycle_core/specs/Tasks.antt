@@ -17,7 +17,7 @@ use Rattle.meta_fetcher.specs.declared.sync_end.SyncEnd.{SyncEnd}
 use Rattle.meta_fetcher.specs.declared.sync_end.SyncEnd.TheVariants as sync
 use Rattle.meta_fetcher.specs.Syncs.{SyncRun}
 use Rattle.series_calls.specs.declared.series_end.SeriesEnd.{SeriesEnd}
-use Rattle.block_ranges.specs.Reads.{Query as Question}
+use Rattle.read_ranges.specs.Reads.{Query as Question}
 use Rattle.series_calls.specs.SeriesCalls.{CallEnd, SeriesRun, asking}
 use Rattle.lifecycle_core.specs.Shipped.{IsRefused, IsShipped}
 use Rattle.querier.specs.declared.ask.Ask.{Ask}

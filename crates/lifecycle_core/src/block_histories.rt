@@ -108,5 +108,6 @@ pub fn compactions_miss_nothing_without_cause()
         (seat number : ℕ) → IsLawfulScript setting.script → IsOfBytes journal
         → IsCompactorAt setting acts.seats seat
         → CompactRun setting.script.rules (of_seat seat journal) (Some (compacting.Missing number))
-        → IsExplainedBy setting (watched_compaction journal seat) IsBlamedInCompaction journal number }
+        → IsExplainedBy setting (watched_compaction journal seat) IsBlamedInCompaction
+        journal number }
 {}

@@ -18,7 +18,7 @@ ghost use Rattle.block_keys.specs.declared.key.Key.{Key};
 ghost use Rattle.block_keys.specs.declared.object.Object.{Object};
 ghost use Rattle.sync_filters.specs.declared.found.Found.{Found};
 ghost use Rattle.world_core.specs.declared.reply.Reply.TheVariants.{Absent};
-ghost use Rattle.block_ranges.specs.Reads.{Cache, Query as Question};
+ghost use Rattle.read_ranges.specs.Reads.{Cache, Query as Question};
 ghost use Rattle.series_calls.specs.SeriesCalls.{CallEnd, SeriesRun, asking};
 ghost use Rattle.series_calls.specs.declared.series_end.SeriesEnd.{SeriesEnd};
 ghost use Rattle.series_calls.specs.declared.series_end.SeriesEnd.TheVariants as ended;

@@ -29,7 +29,8 @@ pub fn do_in_line<B: Bucket, R: PhaseReport + Drop>(
     requires lawful { IsLawfulScript script.now }
     requires at_hand { AreAllAtHand script.now shelf.now }
     requires fresh { world.journal ≡ [] }
-    ensures came { (gateways : List Sight) × RunCame R.tells (setting_by script.now shelf.now) gateways
+    ensures came { (gateways : List Sight)
+        × RunCame R.tells (setting_by script.now shelf.now) gateways
         result.2.world.journal result.1 result.0 }
 
     // The full journal broke the run off just where an operation was answered so.

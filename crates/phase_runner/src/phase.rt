@@ -123,7 +123,8 @@ fn join_all<B: Bucket, J: Job + Drop>(
     ends: &mut Vec<J::End>,
 ) -> Pass
     requires own { (table_of root ≡ shared.now.table.shared.table_id) × (root.seat ≡ 0) }
-    requires ended { AreEnded J.may (record { full = J.met_full; wanted = J.wanted }) shared.now.table.shared.table_id (view_of first.now.value)
+    requires ended { AreEnded J.may (record { full = J.met_full; wanted = J.wanted })
+        shared.now.table.shared.table_id (view_of first.now.value)
         (first.now.value.splits + 1) jobs.now.value.items
         (map (λ w. (w.pass, w.end)) works.items) }
     requires room { (ends.old.items ≡ []) × (vec_len works ≤ ends.old.cap) }

@@ -24,7 +24,8 @@ fn run_one<B: Bucket, J: Job + Drop, G: Gate, R: Wait>(
     work: &mut Work<J>,
 )
     requires { IsReady shared.now.table.shared.table_id work.old.job work.old.pass }
-    ensures { IsDone J.may (record { full = J.met_full; wanted = J.wanted }) work.old.job work.old.pass work.new.end work.new.pass }
+    ensures { IsDone J.may (record { full = J.met_full; wanted = J.wanted })
+        work.old.job work.old.pass work.new.end work.new.pass }
 {
     let Some(job) = work.job.take() else {
         unreachable!()
@@ -69,7 +70,8 @@ where
     J::End: Send,
     requires { All (λ w. IsReady shared.now.table.shared.table_id w.job w.pass) works.old }
     ensures { (i : ℕ) (d : _) → i < length works.old
-        → IsDone J.may (record { full = J.met_full; wanted = J.wanted }) (slice_index_or works.old i d).job (slice_index_or works.old i d).pass
+        → IsDone J.may (record { full = J.met_full; wanted = J.wanted })
+        (slice_index_or works.old i d).job (slice_index_or works.old i d).pass
         (slice_index_or works.new i d).end (slice_index_or works.new i d).pass }
 {
     if works.is_empty() {

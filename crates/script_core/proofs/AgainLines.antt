@@ -5,14 +5,15 @@ use Rattle.std.specs.Str.{is_utf8}
 use Rattle.std.proofs.lemmas.Bool.Decides.{nat_tests}
 use Rattle.reading_core.specs.Reading.{◌>>=◌, refused_as}
 use Rattle.moment_core.specs.StandardRules.{standard_rules}
-use Rattle.script_core.specs.declared.line_kind.LineKind.{LineKind}
-use Rattle.script_core.specs.declared.line_kind.LineKind.TheVariants as kinds
+use Rattle.script_fields.specs.declared.line_kind.LineKind.{LineKind}
+use Rattle.script_fields.specs.declared.line_kind.LineKind.TheVariants as kinds
 use Rattle.script_core.specs.declared.script.Script.{Script}
-use Rattle.script_core.specs.declared.script_refusal.ScriptRefusal.{ScriptRefusal}
-use Rattle.script_core.specs.Fields.{lines_of, is_silent, next_field, line_kind}
+use Rattle.script_fields.specs.declared.script_refusal.ScriptRefusal.{ScriptRefusal}
+use Rattle.script_fields.specs.Fields.{lines_of, is_silent, next_field, line_kind}
 use Rattle.script_core.specs.Lines.{fields_line}
 use Rattle.script_core.specs.State.{State, start, all_blocks, end_block, finish, script_of_state}
-use Rattle.script_core.specs.Reading.{of_line, is_series, kind_line, text_line, spoken_line, line_at, lines_at, script_of}
+use Rattle.script_fields.specs.LineRefusals.{of_line}
+use Rattle.script_core.specs.Reading.{is_series, kind_line, text_line, spoken_line, line_at, lines_at, script_of}
 use Rattle.script_core.specs.Spelling as spelling
 use Rattle.script_core.specs.Spelling.{SoFar, HasEnded, Says, Say, Spells}
 use Rattle.script_core.proofs.Kept.{Kept, so_far_of, start_kept, start_is}
@@ -22,7 +23,7 @@ use Rattle.script_core.proofs.FoundLines.{text_found}
 use Rattle.script_core.proofs.AgainSetup.{IsRead, rule_line_again, replica_line_again, retention_line_again, gateway_line_again, block_line_again, shelf_line_again}
 use Rattle.script_core.proofs.AgainSeries.{series_line_again}
 use Rattle.script_core.proofs.AgainPhases.{at_line_again, upload_line_again, sync_line_again, compact_line_again, clean_line_again, query_line_again}
-use Rattle.script_core.specs.Limits.{longest_text}
+use Rattle.script_fields.specs.Limits.{longest_text}
 
 end_again : (st : State) → Kept st → HasEnded (all_blocks st.blocks st.last st.shelved) → end_block st ≡ Ok (closed st)
 unfolding end_block

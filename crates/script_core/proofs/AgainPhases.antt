@@ -10,18 +10,18 @@ use Rattle.matchers.specs.declared.matcher.Matcher.{Matcher}
 use Rattle.moment_core.specs.declared.moment.Moment.{Moment}
 use Rattle.moment_core.specs.declared.rules.Rules.{Rules}
 use Rattle.reading_core.specs.Decimal.{decimal_text}
-use Rattle.script_core.specs.declared.line_kind.LineKind.TheVariants as kinds
+use Rattle.script_fields.specs.declared.line_kind.LineKind.TheVariants as kinds
 use Rattle.script_workers.specs.declared.phase.Phase.{Phase}
 use Rattle.script_core.specs.declared.script.Script.{Script}
 use Rattle.script_workers.specs.declared.work.Work.{Work}
 use Rattle.script_workers.specs.declared.work.Work.TheVariants as works
-use Rattle.script_core.specs.Fields.{is_empty, next_field}
+use Rattle.script_fields.specs.Fields.{is_empty, next_field}
 use Rattle.script_workers.specs.Hands.{gateway_count, with_hands, hands_of}
-use Rattle.script_core.specs.Values.{is_reserved, agree, moment_from}
+use Rattle.script_fields.specs.Values.{is_reserved, agree, moment_from}
 use Rattle.script_core.specs.Lines.{fields_line, may_begin, at_line, stop_field, upload_line, sync_line, compact_line, clean_line, query_line, question_at, selector_field}
 use Rattle.script_core.specs.State.{State, all_phases, begin_phase, add_task, add_query, note_sync, is_declared, is_synced, script_of_state, are_all_synced, phase_compacts}
 use Rattle.script_core.specs.Spelling.{SoFar, spaced, IsField, AtLine, AddsTask, AreStopTexts, no_stop, stops_at, UploadLine, SyncLine, CompactLine, CleanLine, QueryLine}
-use Rattle.script_core.proofs.FieldLaws.{no_space, cut_again, cut_last}
+use Rattle.script_fields.proofs.FieldLaws.{no_space, cut_again, cut_last}
 use Rattle.script_core.proofs.ValueLaws.{time_again, ulid_again, moment_again, stop_count_again}
 use Rattle.script_core.proofs.Kept.{Kept, at, so_far_of, hands_of-append}
 use Rattle.script_core.proofs.LineTools.{is_some_field, only_again, last_phase, word_free}
@@ -31,7 +31,7 @@ use Rattle.script_core.proofs.SpelledValues.{near_tested, free_tested, agree_tes
 use Rattle.script_core.proofs.ReadSelectors.{selector_again}
 use Rattle.script_workers.proofs.HandLaws.{few_counted}
 use Rattle.script_workers.specs.Limits.{most_workers}
-use Rattle.script_core.specs.Limits.{most_tasks, latest_stop}
+use Rattle.script_fields.specs.Limits.{most_tasks, latest_stop}
 
 may_again : (rules : Rules) (phases : List Phase) (phase : Option Phase) (moment : Moment) → (phase ≡ None → phases ≡ []) → (all_phases phases phase ≡ [] → agree rules ≡ true) → ((others : List Phase) (last : Phase) → all_phases phases phase ≡ others ++ last ∷ [] → last.moment.ms ≤ moment.ms) → may_begin rules phase moment ≡ Ok tt
 may_again rules phases None moment first agreed later = let agrees = agreed (first refl) in rw agrees refl

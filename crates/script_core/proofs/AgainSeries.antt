@@ -15,15 +15,15 @@ use Rattle.label_sets.specs.declared.series.Series.{Series}
 use Rattle.script_core.specs.declared.block.Block.{Block}
 use Rattle.script_core.specs.declared.body.Body.{Body}
 use Rattle.script_core.specs.declared.body.Body.TheVariants.{Inline, OnShelf}
-use Rattle.script_core.specs.declared.line_kind.LineKind.TheVariants as kinds
-use Rattle.script_core.specs.Fields.{is_empty, is_space, after_space}
-use Rattle.script_core.specs.Values.{is_time}
-use Rattle.script_core.specs.Samples.{is_colon, texts_of, are_whole, is_small_number, has_small_number, have_small_numbers, samples_from, are_within, are_rising}
+use Rattle.script_fields.specs.declared.line_kind.LineKind.TheVariants as kinds
+use Rattle.script_fields.specs.Fields.{is_empty, is_space, after_space}
+use Rattle.script_fields.specs.Values.{is_time}
+use Rattle.script_fields.specs.Samples.{is_colon, texts_of, are_whole, is_small_number, has_small_number, have_small_numbers, samples_from, are_within, are_rising}
 use Rattle.script_core.specs.Lines.{fields_line, first_labels, series_line}
 use Rattle.script_core.specs.State.{State, Last, block_of, with_last, add_series, test_block, with_series, has_series, insert_series, script_of_state}
 use Rattle.script_core.specs.Spelling.{SoFar, inside, spaced, IsSampleField, AreSampleFields, SeriesLine}
 use Rattle.std.proofs.lemmas.Bool.{and_parts}
-use Rattle.script_core.proofs.FieldLaws.{no_space, spaceless}
+use Rattle.script_fields.proofs.FieldLaws.{no_space, spaceless}
 use Rattle.script_core.proofs.ValueLaws.{time_fits}
 use Rattle.script_core.proofs.Kept.{Kept, so_far_of}
 use Rattle.script_core.proofs.LineTools.{is_some_field, no_end}

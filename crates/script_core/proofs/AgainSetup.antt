@@ -10,15 +10,15 @@ use Rattle.label_sets.specs.SetText.{IsSetText}
 use Rattle.label_sets.specs.declared.label.Label.{Label}
 use Rattle.script_core.specs.declared.block.Block.{Block}
 use Rattle.script_core.specs.declared.body.Body.TheVariants.{OnShelf}
-use Rattle.script_core.specs.declared.line_kind.LineKind.{LineKind}
-use Rattle.script_core.specs.declared.line_kind.LineKind.TheVariants as kinds
-use Rattle.script_core.specs.declared.rule_kind.RuleKind.TheVariants.{Valued}
-use Rattle.script_core.specs.Fields.{is_empty, next_field, only_field, rule_kind}
-use Rattle.script_core.specs.Values.{add_replica, is_reserved, with_rule, set_rule, set_retention, span_from, retention_from}
+use Rattle.script_fields.specs.declared.line_kind.LineKind.{LineKind}
+use Rattle.script_fields.specs.declared.line_kind.LineKind.TheVariants as kinds
+use Rattle.script_fields.specs.declared.rule_kind.RuleKind.TheVariants.{Valued}
+use Rattle.script_fields.specs.Fields.{is_empty, next_field, only_field, rule_kind}
+use Rattle.script_fields.specs.Values.{add_replica, is_reserved, with_rule, set_rule, set_retention, span_from, retention_from}
 use Rattle.script_core.specs.Lines.{fields_line, rule_line, partition_field, gateway_line, block_line, shelf_line, last_labels}
 use Rattle.script_core.specs.State.{State, Last, add_gateway, gateway_named, add_shelf, begin_block, block_of, is_declared, with_last, all_blocks, script_of_state}
 use Rattle.script_core.specs.Spelling.{SoFar, outside, spaced, IsField, IsTimeText, rule_word, RuleLine, ReplicaLine, RetentionLine, ArePartitionTexts, at_all_times, from_to, GatewayLine, BlockLine, ShelfLine, inside}
-use Rattle.script_core.proofs.FieldLaws.{cut_again, cut_last}
+use Rattle.script_fields.proofs.FieldLaws.{cut_again, cut_last}
 use Rattle.script_core.proofs.ValueLaws.{time_again, ulid_again, value_again, span_again}
 use Rattle.script_core.proofs.Kept.{Kept, so_far_of}
 use Rattle.script_core.proofs.LineTools.{is_some_field, only_again, line_word, word_free, name_free, valued_again, replica_free, retention_free, early_again}
@@ -29,7 +29,7 @@ use Rattle.moment_core.specs.declared.rules.Rules.{Rules}
 use Rattle.moment_core.specs.declared.span.Span.{Span}
 use Rattle.script_core.proofs.SpelledValues.{near_tested, free_tested}
 use Rattle.script_core.proofs.SpelledRules.{rule_set, keeps_again}
-use Rattle.script_core.specs.Limits.{most_gateways, most_blocks}
+use Rattle.script_fields.specs.Limits.{most_gateways, most_blocks}
 
 -- A line that is read in this state as one of a kind, and leads to what is so far.
 pub record IsRead (st : State) (number : ℕ) (line : List ℕ) (kind : LineKind) (next : SoFar) : Type 0 where

@@ -22,7 +22,7 @@ use Rattle.script_core.specs.declared.block.Block.{Block}
 use Rattle.script_core.specs.declared.body.Body.TheVariants.{Inline, OnShelf}
 use Rattle.script_core.specs.declared.script.Script.{Script}
 use Rattle.script_core.specs.Counts.{members_of_name, members_of_series, members_of_block, members_of_selector, members_of_phase, members_of_script}
-use Rattle.script_core.specs.Fields.{lines_of, is_silent, space}
+use Rattle.script_fields.specs.Fields.{lines_of, is_silent, space}
 use Rattle.script_core.specs.GivenUp.{GivesUnless, IsWholeGivenUp}
 use Rattle.script_core.specs.Reading.{script_of}
 use Rattle.script_core.specs.Spelling.{spaced, IsField, AreSampleFields, SoFar, nothing, GatewayLine, BlockLine, ShelfLine, SeriesLine, AtLine, AddsTask, UploadLine, SyncLine, CompactLine, CleanLine, QueryLine, RuleLine, ReplicaLine, RetentionLine, Says, Say, Spells}

@@ -7,25 +7,26 @@ use Rattle.std.proofs.lemmas.Option.{same_Some}
 use Rattle.reading_core.specs.Reading.{◌>>=◌, ◌>>◌, refused_as}
 use Rattle.reading_core.proofs.Binds.{bind_ok, ok_is, refused_as_ok, then_ok}
 use Rattle.moment_core.specs.StandardRules.{standard_rules}
-use Rattle.script_core.specs.declared.cause.LineCause.TheVariants as causes
-use Rattle.script_core.specs.declared.line_kind.LineKind.{LineKind}
-use Rattle.script_core.specs.declared.line_kind.LineKind.TheVariants as kinds
+use Rattle.script_fields.specs.declared.cause.LineCause.TheVariants as causes
+use Rattle.script_fields.specs.declared.line_kind.LineKind.{LineKind}
+use Rattle.script_fields.specs.declared.line_kind.LineKind.TheVariants as kinds
 use Rattle.script_core.specs.declared.script.Script.{Script}
-use Rattle.script_core.specs.declared.script_refusal.ScriptRefusal.{ScriptRefusal}
-use Rattle.script_core.specs.declared.script_refusal.ScriptRefusal.TheVariants.{BadLine, TooLong}
-use Rattle.script_core.specs.Fields.{lines_of, is_silent, next_field, line_kind}
+use Rattle.script_fields.specs.declared.script_refusal.ScriptRefusal.{ScriptRefusal}
+use Rattle.script_fields.specs.declared.script_refusal.ScriptRefusal.TheVariants.{BadLine, TooLong}
+use Rattle.script_fields.specs.Fields.{lines_of, is_silent, next_field, line_kind}
 use Rattle.script_core.specs.State.{State, start, all_blocks, has_ended, end_block, finish, script_of_state}
 use Rattle.script_core.specs.Lines.{fields_line}
-use Rattle.script_core.specs.Reading.{of_line, is_series, kind_line, text_line, spoken_line, line_at, lines_at, script_of}
+use Rattle.script_fields.specs.LineRefusals.{of_line}
+use Rattle.script_core.specs.Reading.{is_series, kind_line, text_line, spoken_line, line_at, lines_at, script_of}
 use Rattle.script_core.specs.Spelling as spelling
 use Rattle.script_core.specs.Spelling.{SoFar, HasEnded, Says, Say, Spells}
-use Rattle.script_core.proofs.FieldLaws.{Cut, cut_found}
+use Rattle.script_fields.proofs.FieldLaws.{Cut, cut_found}
 use Rattle.script_core.proofs.Kept.{Kept, so_far_of, start_kept, start_is}
 use Rattle.script_core.proofs.LineTools.{cut_rest, line_word, kind_found, ended_found, unit_is}
 use Rattle.script_core.proofs.FoundSetup.{Starts, closed, rule_line_found, gateway_line_found, block_line_found, shelf_line_found}
 use Rattle.script_core.proofs.FoundSeries.{series_line_found}
 use Rattle.script_core.proofs.FoundPhases.{at_line_found, upload_line_found, sync_line_found, compact_line_found, clean_line_found, query_line_found}
-use Rattle.script_core.specs.Limits.{longest_text}
+use Rattle.script_fields.specs.Limits.{longest_text}
 
 -- the block has ended
 pub end_found : (st before : State) → Kept st → end_block st ≡ Ok before → HasEnded (all_blocks st.blocks st.last st.shelved) × (closed st ≡ before)

@@ -11,19 +11,20 @@ use Rattle.reading_core.proofs.Parsed.{true_or_false}
 use Rattle.list_core.proofs.Bools.{bytes_eq-same}
 use Rattle.moment_core.specs.declared.moment.Moment.{Moment}
 use Rattle.moment_core.specs.declared.rules.Rules.{Rules}
-use Rattle.script_core.specs.declared.cause.LineCause.TheVariants as causes
-use Rattle.script_core.specs.declared.line_refusal.LineRefusal.TheVariants.{Bad, BadRules, FallingMoment}
+use Rattle.script_fields.specs.declared.cause.LineCause.TheVariants as causes
+use Rattle.script_fields.specs.declared.line_refusal.LineRefusal.TheVariants.{Bad, BadRules, FallingMoment}
 use Rattle.script_workers.specs.declared.phase.Phase.{Phase}
 use Rattle.script_workers.specs.declared.work.Work.{Work}
 use Rattle.script_workers.specs.declared.work.Work.TheVariants as works
-use Rattle.script_core.specs.Fields.{is_empty, next_field, only_field}
+use Rattle.script_fields.specs.Fields.{is_empty, next_field, only_field}
 use Rattle.script_workers.specs.Hands.{gateway_count, with_hands}
-use Rattle.script_core.specs.Values.{agree, stop_count}
-use Rattle.script_core.specs.Lines.{may_begin, at_line, stop_field, upload_line, sync_line, compact_line, clean_line, query_line, Asked, bad, has_begun, question_at, selector_field}
+use Rattle.script_fields.specs.Values.{agree, stop_count}
+use Rattle.script_fields.specs.LineRefusals.{bad}
+use Rattle.script_core.specs.Lines.{may_begin, at_line, stop_field, upload_line, sync_line, compact_line, clean_line, query_line, Asked, has_begun, question_at, selector_field}
 use Rattle.script_core.specs.State.{State, all_phases, begin_phase, add_task, add_query, note_sync, is_declared, is_synced, script_of_state, are_all_synced, phase_compacts}
 use Rattle.script_workers.specs.Works.{is_sync_of}
 use Rattle.script_core.specs.Spelling.{spaced, IsTimeText, AtLine, AddsTask, AreStopTexts, no_stop, stops_at, UploadLine, SyncLine, CompactLine, CleanLine, QueryLine}
-use Rattle.script_core.proofs.FieldLaws.{Cut, cut_found}
+use Rattle.script_fields.proofs.FieldLaws.{Cut, cut_found}
 use Rattle.script_core.proofs.ValueLaws.{time_found, ulid_found, moment_found, stop_count_found}
 use Rattle.script_core.proofs.Kept.{Kept, KeepsTasks, at, so_far_of, phase_kept, task_kept, sync_noted, hands_of-append}
 use Rattle.script_core.proofs.LineTools.{is_field, cut_rest, only_found, last_phase, no_end, unit_is}
@@ -32,7 +33,7 @@ use Rattle.script_core.proofs.SpelledValues.{near_spelled, free_spelled, agree_s
 use Rattle.script_core.proofs.ReadSelectors.{selector_found}
 use Rattle.script_workers.proofs.HandLaws.{few_spelled}
 use Rattle.script_workers.specs.Limits.{most_workers}
-use Rattle.script_core.specs.Limits.{most_tasks}
+use Rattle.script_fields.specs.Limits.{most_tasks}
 
 -- ---- moments
 

@@ -20,16 +20,16 @@ use Rattle.label_sets.specs.declared.sample.Sample.{Sample}
 use Rattle.label_sets.specs.declared.series.Series.{Series}
 use Rattle.script_core.specs.declared.block.Block.{Block}
 use Rattle.script_core.specs.declared.body.Body.TheVariants.{Inline}
-use Rattle.script_core.specs.declared.cause.LineCause.{LineCause}
-use Rattle.script_core.specs.declared.cause.LineCause.TheVariants as causes
-use Rattle.script_core.specs.declared.line_refusal.LineRefusal.TheVariants.{Bad}
-use Rattle.script_core.specs.Fields.{is_empty, is_space, after_space}
-use Rattle.script_core.specs.Values.{is_time}
-use Rattle.script_core.specs.Samples.{is_colon, texts_of, are_whole, is_small_number, has_small_number, have_small_numbers, samples_from, samples_of, are_rising, are_within}
+use Rattle.script_fields.specs.declared.cause.LineCause.{LineCause}
+use Rattle.script_fields.specs.declared.cause.LineCause.TheVariants as causes
+use Rattle.script_fields.specs.declared.line_refusal.LineRefusal.TheVariants.{Bad}
+use Rattle.script_fields.specs.Fields.{is_empty, is_space, after_space}
+use Rattle.script_fields.specs.Values.{is_time}
+use Rattle.script_fields.specs.Samples.{is_colon, texts_of, are_whole, is_small_number, has_small_number, have_small_numbers, samples_from, samples_of, are_rising, are_within}
 use Rattle.script_core.specs.Lines.{first_labels, line_samples, series_line}
 use Rattle.script_core.specs.State.{State, Last, block_of, with_last, all_blocks, add_series, test_block, with_series, has_series, script_of_state}
 use Rattle.script_core.specs.Spelling.{spaced, inside, IsSampleField, AreSampleFields, SeriesLine}
-use Rattle.script_core.proofs.FieldLaws.{no_space, space_is}
+use Rattle.script_fields.proofs.FieldLaws.{no_space, space_is}
 use Rattle.script_core.proofs.Kept.{Kept, KeepsBlocks, at, so_far_of, series_kept}
 use Rattle.script_core.proofs.LineTools.{is_field, unit_is}
 use Rattle.script_core.proofs.FoundSetup.{Starts}

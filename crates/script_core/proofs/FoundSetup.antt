@@ -13,25 +13,26 @@ use Rattle.label_sets.specs.declared.label.Label.{Label}
 use Rattle.label_sets.specs.declared.label_refusal.LabelRefusal.{LabelRefusal}
 use Rattle.script_core.specs.declared.block.Block.{Block}
 use Rattle.script_core.specs.declared.body.Body.TheVariants.{Inline, OnShelf}
-use Rattle.script_core.specs.declared.cause.LineCause.TheVariants as causes
-use Rattle.script_core.specs.declared.line_refusal.LineRefusal.TheVariants.{Bad}
+use Rattle.script_fields.specs.declared.cause.LineCause.TheVariants as causes
+use Rattle.script_fields.specs.declared.line_refusal.LineRefusal.TheVariants.{Bad}
 use Rattle.moment_core.specs.declared.rules.Rules.{Rules}
 use Rattle.script_core.specs.declared.inline_block.BlockHead.{BlockHead}
-use Rattle.script_core.specs.declared.rule_kind.RuleKind.{RuleKind}
-use Rattle.script_core.specs.declared.rule_kind.RuleKind.TheVariants.{Valued, ReplicaLabel, Retention}
+use Rattle.script_fields.specs.declared.rule_kind.RuleKind.{RuleKind}
+use Rattle.script_fields.specs.declared.rule_kind.RuleKind.TheVariants.{Valued, ReplicaLabel, Retention}
 use Rattle.moment_core.specs.declared.partition.Partition.{Partition}
-use Rattle.script_core.specs.Fields.{is_empty, next_field, only_field, rule_kind}
-use Rattle.script_core.specs.Values.{add_replica, apply_rule, set_rule, set_retention, is_reserved, retention_from, time_field, ulid_field}
-use Rattle.script_core.specs.Lines.{bad, is_early, rule_line, partition_field, gateway_line, block_head, test_head, block_line, whole_labels, last_labels, test_shelf, shelf_line}
+use Rattle.script_fields.specs.Fields.{is_empty, next_field, only_field, rule_kind}
+use Rattle.script_fields.specs.Values.{add_replica, apply_rule, set_rule, set_retention, is_reserved, retention_from, time_field, ulid_field}
+use Rattle.script_fields.specs.LineRefusals.{bad}
+use Rattle.script_core.specs.Lines.{is_early, rule_line, partition_field, gateway_line, block_head, test_head, block_line, whole_labels, last_labels, test_shelf, shelf_line}
 use Rattle.script_core.specs.State.{State, Last, add_gateway, all_phases, begin_block, is_declared, script_of_state, add_shelf, all_blocks, with_last}
 use Rattle.script_core.specs.Spelling.{SoFar, spaced, IsField, IsTimeText, outside, Sets, RuleLine, ReplicaLine, RetentionLine, ArePartitionTexts, at_all_times, from_to, GatewayLine, BlockLine, ShelfLine, HasEnded, inside}
-use Rattle.script_core.proofs.FieldLaws.{no_space, Cut, cut_found}
+use Rattle.script_fields.proofs.FieldLaws.{no_space, Cut, cut_found}
 use Rattle.script_core.proofs.ValueLaws.{is_none_is, time_found, ulid_found, value_found, span_found}
 use Rattle.script_core.proofs.Kept.{Kept, so_far_of, gateway_kept, block_kept, shelf_kept}
 use Rattle.script_core.proofs.LineTools.{unit_is, is_field, cut_rest, cut_end, only_found, valued_found, replica_found, retention_found, early_found, ended_again}
 use Rattle.script_core.proofs.SpelledValues.{near_spelled, free_spelled}
 use Rattle.script_core.proofs.SpelledRules.{rule_sets, keeps_for}
-use Rattle.script_core.specs.Limits.{most_blocks}
+use Rattle.script_fields.specs.Limits.{most_blocks}
 
 -- what is left stands behind the line's word and a space
 abbrev pub Starts : List ℕ → List ℕ → Option (List ℕ) → Type 0

@@ -3,15 +3,17 @@ use Rattle.std.proofs.Common.{◌≡◌, ℕ, true, false, nat_lt, List, Option,
 use Rattle.std.specs.Str.{is_utf8}
 use Rattle.std.proofs.lemmas.Bool.Decides.{nat_tests}
 use Rattle.moment_core.specs.StandardRules.{standard_rules}
-use Rattle.script_core.specs.declared.line_kind.LineKind.{LineKind}
-use Rattle.script_core.specs.declared.line_kind.LineKind.TheVariants as kinds
-use Rattle.script_core.specs.declared.line_refusal.LineRefusal.{LineRefusal}
-use Rattle.script_core.specs.declared.script_refusal.ScriptRefusal.{ScriptRefusal}
-use Rattle.script_core.specs.Fields.{lines_of, is_silent, next_field, line_kind}
+use Rattle.script_fields.specs.declared.line_kind.LineKind.{LineKind}
+use Rattle.script_fields.specs.declared.line_kind.LineKind.TheVariants as kinds
+use Rattle.script_fields.specs.declared.line_refusal.LineRefusal.{LineRefusal}
+use Rattle.script_fields.specs.declared.script_refusal.ScriptRefusal.{ScriptRefusal}
+use Rattle.script_fields.specs.Fields.{lines_of, is_silent, next_field, line_kind}
 use Rattle.script_core.specs.GivenUp.{IsSelectorGivenUp, IsQueryGivenUp, IsKindGivenUp, IsTextGivenUp, IsLineGivenUp, AreLinesGivenUp, IsWholeGivenUp}
-use Rattle.script_core.specs.Limits.{longest_text}
-use Rattle.script_core.specs.Lines.{Asked, bad, has_begun, query_line, question_at, selector_field}
-use Rattle.script_core.specs.Reading.{of_line, is_series}
+use Rattle.script_fields.specs.Limits.{longest_text}
+use Rattle.script_fields.specs.LineRefusals.{bad}
+use Rattle.script_core.specs.Lines.{Asked, has_begun, query_line, question_at, selector_field}
+use Rattle.script_fields.specs.LineRefusals.{of_line}
+use Rattle.script_core.specs.Reading.{is_series}
 use Rattle.script_core.specs.State.{State, start, end_block}
 
 -- a query whose selector is given up

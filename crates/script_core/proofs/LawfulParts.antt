@@ -20,7 +20,7 @@ use Rattle.std.proofs.lemmas.List.Quantifiers.{all_pairs_push}
 use Rattle.script_workers.specs.Works.{is_compaction, has_compaction, CompactOnce}
 use Rattle.script_workers.specs.declared.phase.Phase.{Phase}
 use Rattle.script_workers.specs.declared.task.Task.{Task}
-use Rattle.script_core.specs.Values.{is_time}
+use Rattle.script_fields.specs.Values.{is_time}
 use Rattle.script_core.specs.State.{insert_series}
 use Rattle.script_core.specs.Blocks.{declares}
 

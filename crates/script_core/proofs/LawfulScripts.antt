@@ -21,16 +21,16 @@ use Rattle.list_core.proofs.Order.{sorted_nil}
 use Rattle.script_core.specs.declared.block.Block.{Block}
 use Rattle.script_core.specs.declared.body.Body.TheVariants.{Inline, OnShelf}
 use Rattle.script_workers.specs.declared.phase.Phase.{Phase}
-use Rattle.script_core.specs.declared.rule_name.RuleName.{RuleName}
-use Rattle.script_core.specs.declared.rule_name.RuleName.TheVariants as names
+use Rattle.script_fields.specs.declared.rule_name.RuleName.{RuleName}
+use Rattle.script_fields.specs.declared.rule_name.RuleName.TheVariants as names
 use Rattle.script_core.specs.declared.script.Script.{Script}
 use Rattle.script_workers.specs.declared.task.Task.{Task}
 use Rattle.script_workers.specs.declared.work.Work.{Work}
 use Rattle.script_workers.specs.declared.work.Work.TheVariants.{Upload, Sync, Compact, Clean, Query}
-use Rattle.script_core.specs.Fields.{lines_of, is_silent}
+use Rattle.script_fields.specs.Fields.{lines_of, is_silent}
 use Rattle.script_workers.specs.Hands.{gateway_count, hands_of, hands_from}
 use Rattle.script_core.specs.State.{gateway_named}
-use Rattle.script_core.specs.Values.{with_rule, agree}
+use Rattle.script_fields.specs.Values.{with_rule, agree}
 use Rattle.script_workers.specs.Works.{works_in, works_of, has_sync, is_compaction, has_compaction, CompactOnce}
 use Rattle.script_core.specs.Lawful.{AreLawfulRules, AreLawfulLabels, HasLawfulSamples, IsLawfulInline, HasSeries, IsLawfulBlock, AreLawfulBlocks, IsLawfulRetention, IsLawfulStop, IsLawfulWork, IsLawfulPhase, AreLawfulPhases, IsLawfulPartition, IsLawfulSelector, IsLawfulScript}
 use Rattle.script_core.specs.Spelling as spelling
@@ -44,7 +44,7 @@ use Rattle.script_core.proofs.SpelledSeries.{each_placed}
 use Rattle.script_workers.proofs.HandLaws.{few_counted}
 use Rattle.script_core.proofs.SpelledRules.{rule_set}
 use Rattle.script_workers.specs.Limits.{most_workers}
-use Rattle.script_core.specs.Limits.{most_gateways, most_tasks}
+use Rattle.script_fields.specs.Limits.{most_gateways, most_tasks}
 
 -- what is lawful so far: all but the last block have series
 pub record InOrder (so_far : SoFar) : Type 0 where

@@ -2,8 +2,6 @@ pub mod SeriesLists
 pub mod Finishing
 pub mod LineLists
 pub mod LinesSoFar
-pub mod FieldLaws
-pub mod SampleLists
 pub mod ValueLaws
 pub mod Kept
 pub mod LineTools

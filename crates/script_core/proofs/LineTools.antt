@@ -14,19 +14,19 @@ use Rattle.list_core.proofs.Bools.{bytes_eq-same}
 use Rattle.list_core.proofs.Lists.{nil_not_middle, some-from_length, length-some}
 use Rattle.script_core.specs.declared.block.Block.{Block}
 use Rattle.script_core.specs.declared.body.Body.TheVariants.{OnShelf}
-use Rattle.script_core.specs.declared.cause.LineCause.TheVariants.{BadShape}
-use Rattle.script_core.specs.declared.line_kind.LineKind.{LineKind}
-use Rattle.script_core.specs.declared.line_kind.LineKind.TheVariants as kinds
+use Rattle.script_fields.specs.declared.cause.LineCause.TheVariants.{BadShape}
+use Rattle.script_fields.specs.declared.line_kind.LineKind.{LineKind}
+use Rattle.script_fields.specs.declared.line_kind.LineKind.TheVariants as kinds
 use Rattle.script_workers.specs.declared.phase.Phase.{Phase}
-use Rattle.script_core.specs.declared.rule_kind.RuleKind.{RuleKind}
-use Rattle.script_core.specs.declared.rule_kind.RuleKind.TheVariants.{Valued, ReplicaLabel, Retention}
-use Rattle.script_core.specs.declared.rule_name.RuleName.{RuleName}
-use Rattle.script_core.specs.declared.rule_name.RuleName.TheVariants as names
-use Rattle.script_core.specs.Fields.{is_empty, next_field, only_field, line_words, rule_words, line_kind, rule_kind, rule_name}
+use Rattle.script_fields.specs.declared.rule_kind.RuleKind.{RuleKind}
+use Rattle.script_fields.specs.declared.rule_kind.RuleKind.TheVariants.{Valued, ReplicaLabel, Retention}
+use Rattle.script_fields.specs.declared.rule_name.RuleName.{RuleName}
+use Rattle.script_fields.specs.declared.rule_name.RuleName.TheVariants as names
+use Rattle.script_fields.specs.Fields.{is_empty, next_field, only_field, line_words, rule_words, line_kind, rule_kind, rule_name}
 use Rattle.script_core.specs.State.{Last, block_of, with_last, all_blocks, all_phases, has_ended}
 use Rattle.script_core.specs.Lawful.{HasSeries}
 use Rattle.script_core.specs.Spelling.{IsField, rule_word, HasEnded}
-use Rattle.script_core.proofs.FieldLaws.{no_space, Cut, cut_nothing, cut_whole, cut_front, cut_found, cut_last}
+use Rattle.script_fields.proofs.FieldLaws.{no_space, Cut, cut_nothing, cut_whole, cut_front, cut_found, cut_last}
 use Rattle.script_core.proofs.LawfulParts.{ends, All-last}
 use Rattle.script_core.proofs.ValueLaws.{is_none_is}
 

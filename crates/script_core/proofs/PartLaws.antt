@@ -10,11 +10,11 @@ use Rattle.reading_core.specs.Reading.{Gives}
 use Rattle.moment_core.specs.StandardRules.{standard_rules}
 use Rattle.script_core.specs.declared.part_reader.PartReader.{PartReader}
 use Rattle.script_core.specs.declared.script.Script.{Script}
-use Rattle.script_core.specs.declared.script_refusal.ScriptRefusal.{ScriptRefusal}
-use Rattle.script_core.specs.declared.script_refusal.ScriptRefusal.TheVariants.{NoMemory}
-use Rattle.script_core.specs.Fields.{is_newline, lines_of, newline}
+use Rattle.script_fields.specs.declared.script_refusal.ScriptRefusal.{ScriptRefusal}
+use Rattle.script_fields.specs.declared.script_refusal.ScriptRefusal.TheVariants.{NoMemory}
+use Rattle.script_fields.specs.Fields.{is_newline, lines_of, newline}
 use Rattle.script_core.specs.Lawful.{IsLawfulScript}
-use Rattle.script_core.specs.Limits.{longest_text}
+use Rattle.script_fields.specs.Limits.{longest_text}
 use Rattle.script_core.specs.Parts.{Leaves, HasRead, Reads, IsOneLine}
 use Rattle.script_core.specs.Reading.{line_at, lines_at, script_of}
 use Rattle.script_core.specs.Spelling.{Spells}

@@ -7,16 +7,17 @@ use Rattle.label_sets.specs.declared.label.Label.{Label}
 use Rattle.label_sets.specs.declared.sample.Sample.{Sample}
 use Rattle.moment_core.specs.StandardRules.{standard_rules}
 use Rattle.script_core.specs.declared.draft.Draft.{Draft}
-use Rattle.script_core.specs.declared.line_refusal.LineRefusal.{LineRefusal}
-use Rattle.script_core.specs.declared.line_refusal.LineRefusal.TheVariants as lines
+use Rattle.script_fields.specs.declared.line_refusal.LineRefusal.{LineRefusal}
+use Rattle.script_fields.specs.declared.line_refusal.LineRefusal.TheVariants as lines
 use Rattle.script_core.specs.declared.part_reader.PartReader.{PartReader}
-use Rattle.script_core.specs.declared.script_refusal.ScriptRefusal.{ScriptRefusal}
-use Rattle.script_core.specs.declared.script_refusal.ScriptRefusal.TheVariants.{NoMemory, TooLong}
-use Rattle.script_core.specs.Fields.{is_newline, lines_of, newline}
+use Rattle.script_fields.specs.declared.script_refusal.ScriptRefusal.{ScriptRefusal}
+use Rattle.script_fields.specs.declared.script_refusal.ScriptRefusal.TheVariants.{NoMemory, TooLong}
+use Rattle.script_fields.specs.Fields.{is_newline, lines_of, newline}
 use Rattle.script_core.specs.GivenUp.{IsLineGivenUp}
-use Rattle.script_core.specs.Limits.{longest_text}
+use Rattle.script_fields.specs.Limits.{longest_text}
 use Rattle.script_core.specs.Parts.{AreNextGivenUp, AreRefused, AreSeriesParts, HasRead, IsEnded, IsOneLine, IsPartRefused, Reads, is_long, no_script, series_front, series_text}
-use Rattle.script_core.specs.Reading.{line_at, lines_at, of_line}
+use Rattle.script_fields.specs.LineRefusals.{of_line}
+use Rattle.script_core.specs.Reading.{line_at, lines_at}
 use Rattle.script_core.specs.State.{State, add_series, start}
 use Rattle.script_core.specs.View.{state_of}
 use Rattle.script_core.proofs.PartLaws.{ReadFront, before_one, cut_line_is, cut_one}

@@ -2,14 +2,14 @@
 use Rattle.std.proofs.Common.{◌≡◌, ◌≢◌, ℕ, ◌≤◌, true, List, [], ◌∷◌, ◌++◌, length, Option, Some, None, is_some, Result, Ok, Err, IfOk, MatchResult, inl, inr, sym, ap, ◌∙◌, subst, arith}
 use Rattle.reading_core.proofs.Binds.{one_answer, ok_not_err}
 use Rattle.moment_core.specs.StandardRules.{standard_rules}
-use Rattle.script_core.specs.declared.line_kind.LineKind.TheVariants as kinds
+use Rattle.script_fields.specs.declared.line_kind.LineKind.TheVariants as kinds
 use Rattle.script_core.specs.declared.script.Script.{Script}
-use Rattle.script_core.specs.declared.script_refusal.ScriptRefusal.{ScriptRefusal}
+use Rattle.script_fields.specs.declared.script_refusal.ScriptRefusal.{ScriptRefusal}
 use Rattle.script_workers.specs.declared.phase.Phase.{Phase}
-use Rattle.script_core.specs.Fields.{lines_of, next_field}
+use Rattle.script_fields.specs.Fields.{lines_of, next_field}
 use Rattle.script_core.specs.GivenUp.{GivesUnless, IsGivenUp, IsWholeGivenUp, IsPatternAmong, IsPatternLine, HasPatternLine, AsksByPattern}
 use Rattle.script_core.specs.Lawful.{IsLawfulScript}
-use Rattle.script_core.specs.Limits.{longest_text}
+use Rattle.script_fields.specs.Limits.{longest_text}
 use Rattle.script_core.specs.Reading.{script_of}
 use Rattle.script_core.specs.Spelling.{SoFar, Say, Spells}
 use Rattle.script_core.specs.State.{State, all_phases, start}

@@ -12,12 +12,13 @@ use Rattle.matchers.specs.Stages.{Next, read_whole, selector_of}
 use Rattle.matchers.proofs.OneCause.{only_of, exact_of}
 use Rattle.matchers.proofs.Stops.{read_is_whole, whole_is_text}
 use Rattle.matchers.proofs.TextsRead.{text_is_read}
-use Rattle.script_core.specs.declared.cause.LineCause.{LineCause}
-use Rattle.script_core.specs.declared.cause.LineCause.TheVariants as causes
-use Rattle.script_core.specs.declared.line_refusal.LineRefusal.{LineRefusal}
-use Rattle.script_core.specs.declared.line_refusal.LineRefusal.TheVariants as lines
+use Rattle.script_fields.specs.declared.cause.LineCause.{LineCause}
+use Rattle.script_fields.specs.declared.cause.LineCause.TheVariants as causes
+use Rattle.script_fields.specs.declared.line_refusal.LineRefusal.{LineRefusal}
+use Rattle.script_fields.specs.declared.line_refusal.LineRefusal.TheVariants as lines
 use Rattle.script_core.specs.GivenUp.{IsSelectorGivenUp}
-use Rattle.script_core.specs.Lines.{bad, selector_field}
+use Rattle.script_fields.specs.LineRefusals.{bad}
+use Rattle.script_core.specs.Lines.{selector_field}
 
 -- what a selector is tested for once its text is read
 abbrev tested : List (List ℕ) → List Matcher → Result (List Matcher) LineCause

@@ -17,7 +17,7 @@ use Rattle.reading_core.proofs.Printed.{printed_signed}
 use Rattle.label_sets.specs.SampleText.{is_hex_sign, hex_sign, pattern_of, pattern_text, hex_text, hex_number, timed_text, sample_text, spaced_sample_text}
 use Rattle.label_sets.specs.declared.sample.Sample.{Sample}
 use Rattle.label_sets.proofs.HexTexts.{pattern_again}
-use Rattle.script_core.specs.Fields.{is_space, is_newline}
+use Rattle.script_fields.specs.Fields.{is_space, is_newline}
 use Rattle.script_core.specs.Parts.{HasField}
 use Rattle.script_core.specs.Spelling.{IsField, IsNear, AreSampleFields}
 use Rattle.script_core.proofs.SpelledValues.{near_tested}

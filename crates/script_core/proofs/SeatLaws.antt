@@ -12,7 +12,7 @@ use Rattle.script_workers.proofs.PhaseCounts.{few_hands, works_upto, workers_cou
 use Rattle.script_workers.proofs.StaffLaws.{are_places}
 use Rattle.script_core.specs.declared.script.Script.{Script}
 use Rattle.script_core.specs.Lawful.{IsLawfulScript}
-use Rattle.script_core.specs.Limits.{most_gateways}
+use Rattle.script_fields.specs.Limits.{most_gateways}
 use Rattle.script_core.specs.Workers.{seats_before, workers_after, workers_of, workers_before}
 
 pub few_gateways : (script : Script) → IsLawfulScript script → gateway_count script.gateways ≤ most_gateways

@@ -15,21 +15,22 @@ use Rattle.label_sets.specs.SetText.{IsSetText}
 use Rattle.label_sets.specs.declared.label.Label.{Label}
 use Rattle.label_sets.specs.declared.sample.Sample.{Sample}
 use Rattle.label_sets.proofs.SetLaws.{set_text_again}
-use Rattle.script_core.specs.declared.line_kind.LineKind.TheVariants as kinds
-use Rattle.script_core.specs.Fields.{is_empty, is_newline, is_silent, next_field}
+use Rattle.script_fields.specs.declared.line_kind.LineKind.TheVariants as kinds
+use Rattle.script_fields.specs.Fields.{is_empty, is_newline, is_silent, next_field}
 use Rattle.reading_core.specs.Reading.{Gives}
 use Rattle.reading_core.proofs.Binds.{ok_not_err, one_answer, unless_is, unless_ok}
-use Rattle.script_core.specs.declared.cause.LineCause.{LineCause}
-use Rattle.script_core.specs.declared.cause.LineCause.TheVariants as causes
-use Rattle.script_core.specs.declared.line_refusal.LineRefusal.{LineRefusal}
-use Rattle.script_core.specs.declared.line_refusal.LineRefusal.TheVariants as lines
+use Rattle.script_fields.specs.declared.cause.LineCause.{LineCause}
+use Rattle.script_fields.specs.declared.cause.LineCause.TheVariants as causes
+use Rattle.script_fields.specs.declared.line_refusal.LineRefusal.{LineRefusal}
+use Rattle.script_fields.specs.declared.line_refusal.LineRefusal.TheVariants as lines
 use Rattle.script_core.specs.Lines.{fields_line, first_labels, last_labels, series_line}
 use Rattle.script_core.specs.Parts.{AreSeriesParts, HasField, IsOneLine, has_field, test_samples, series_front}
-use Rattle.script_core.specs.Reading.{kind_line, line_at, of_line, spoken_line, text_line}
-use Rattle.script_core.specs.Samples.{texts_of, are_whole, has_small_number, have_small_numbers, samples_from, are_rising}
+use Rattle.script_fields.specs.LineRefusals.{of_line}
+use Rattle.script_core.specs.Reading.{kind_line, line_at, spoken_line, text_line}
+use Rattle.script_fields.specs.Samples.{texts_of, are_whole, has_small_number, have_small_numbers, samples_from, are_rising}
 use Rattle.script_core.specs.Spelling.{AreSampleFields}
 use Rattle.script_core.specs.State.{State, add_series}
-use Rattle.script_core.specs.Values.{is_time}
+use Rattle.script_fields.specs.Values.{is_time}
 use Rattle.script_core.proofs.FoundSetup.{labels_found}
 use Rattle.script_core.proofs.Kept.{so_far_of}
 use Rattle.script_core.proofs.SpelledValues.{near_spelled, near_tested}

@@ -3,9 +3,9 @@ use Rattle.std.proofs.Common.{◌≡◌, ◌≢◌, ℕ, Bool, true, false, ◌=
 use Rattle.std.proofs.lemmas.Bool.Decides.{nat_tests}
 use Rattle.moment_core.specs.declared.rules.Rules.{Rules}
 use Rattle.moment_core.specs.declared.span.Span.{Span}
-use Rattle.script_core.specs.declared.rule_name.RuleName.{RuleName}
-use Rattle.script_core.specs.declared.rule_name.RuleName.TheVariants as names
-use Rattle.script_core.specs.Values.{with_rule, span_from, retention_from}
+use Rattle.script_fields.specs.declared.rule_name.RuleName.{RuleName}
+use Rattle.script_fields.specs.declared.rule_name.RuleName.TheVariants as names
+use Rattle.script_fields.specs.Values.{with_rule, span_from, retention_from}
 use Rattle.script_core.specs.Spelling.{rule_value, Sets, KeepsFor, for_ever, so_long}
 
 set_value : (name : RuleName) (value : ℕ) (rules : Rules) → rule_value name (with_rule name value rules) ≡ value

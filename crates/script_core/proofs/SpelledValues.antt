@@ -11,8 +11,8 @@ use Rattle.std.proofs.lemmas.List.Elements.{All-nil, All-cons, All-head, All-tai
 use Rattle.std.proofs.lemmas.Bool.{and_parts, not-true}
 use Rattle.label_sets.specs.declared.sample.Sample.{Sample}
 use Rattle.moment_core.specs.declared.rules.Rules.{Rules}
-use Rattle.script_core.specs.Samples.{is_within, are_within, times_of, rise_after, are_rising}
-use Rattle.script_core.specs.Values.{is_time, agree}
+use Rattle.script_fields.specs.Samples.{is_within, are_within, times_of, rise_after, are_rising}
+use Rattle.script_fields.specs.Values.{is_time, agree}
 use Rattle.script_core.specs.Spelling.{IsNear, IsWithin, DoAgree}
 use Rattle.script_core.proofs.LawfulParts.{near_low, near_high}
 

@@ -16,13 +16,13 @@ use Rattle.moment_core.specs.declared.moment.Moment.{Moment}
 use Rattle.moment_core.specs.declared.span.Span.{Span}
 use Rattle.ulid_core.proofs.UlidLaws.{ulid_of-found, ulid_of-only}
 use Rattle.ulid_core.specs.UlidText.{IsUlidText}
-use Rattle.script_core.specs.declared.cause.LineCause.TheVariants.{BadNumber}
-use Rattle.script_core.specs.declared.rule_name.RuleName.{RuleName}
-use Rattle.script_core.specs.declared.rule_name.RuleName.TheVariants as names
-use Rattle.script_core.specs.Values.{is_time, time_field, page_limit_field, stop_count, span_from, span_field, tick_field, moment_from, moment_field, ulid_field, value_field}
+use Rattle.script_fields.specs.declared.cause.LineCause.TheVariants.{BadNumber}
+use Rattle.script_fields.specs.declared.rule_name.RuleName.{RuleName}
+use Rattle.script_fields.specs.declared.rule_name.RuleName.TheVariants as names
+use Rattle.script_fields.specs.Values.{is_time, time_field, page_limit_field, stop_count, span_from, span_field, tick_field, moment_from, moment_field, ulid_field, value_field}
 use Rattle.script_core.specs.Spelling.{IsValueText}
 use Rattle.moment_core.specs.Limits.{longest_tick}
-use Rattle.script_core.specs.Limits.{latest_stop}
+use Rattle.script_fields.specs.Limits.{latest_stop}
 
 pub is_none_is : {A : Type 0} (o : Option A) → is_none o ≡ true → o ≡ None
 is_none_is None h = refl

@@ -17,7 +17,7 @@ use Rattle.moment_core.specs.Limits.{longest_tick}
 use Rattle.moment_core.specs.Partitions.{all_times}
 use Rattle.moment_core.specs.declared.partition.Partition.{Partition}
 use Rattle.script_workers.specs.Limits.{most_workers}
-use Rattle.script_core.specs.Limits.{most_gateways, most_blocks, most_tasks, latest_stop}
+use Rattle.script_fields.specs.Limits.{most_gateways, most_blocks, most_tasks, latest_stop}
 use Rattle.script_core.specs.declared.block.Block.{Block}
 use Rattle.script_core.specs.declared.body.Body.{Body}
 use Rattle.script_core.specs.declared.body.Body.TheVariants.{Inline, OnShelf}
@@ -25,8 +25,8 @@ use Rattle.script_workers.specs.declared.phase.Phase.{Phase}
 use Rattle.script_core.specs.declared.script.Script.{Script}
 use Rattle.script_workers.specs.declared.work.Work.{Work}
 use Rattle.script_workers.specs.declared.work.Work.TheVariants.{Upload, Sync, Compact, Clean, Query}
-use Rattle.script_core.specs.Values.{is_reserved, agree}
-use Rattle.script_core.specs.Samples.{times_of, are_within}
+use Rattle.script_fields.specs.Values.{is_reserved, agree}
+use Rattle.script_fields.specs.Samples.{times_of, are_within}
 use Rattle.script_workers.specs.Hands.{gateway_count, hands_of}
 use Rattle.script_workers.specs.Works.{works_of, has_sync, CompactOnce}
 use Rattle.script_core.specs.Blocks.{declares}

@@ -2,12 +2,8 @@ pub use Rattle.script_workers.specs.Hands
 pub use Rattle.script_workers.specs.Whose
 pub use Rattle.script_workers.specs.Works
 pub use Rattle.script_workers.specs.Staff
-pub mod Limits
 pub mod Counts
 pub mod Workers
-pub mod Fields
-pub mod Values
-pub mod Samples
 pub mod Blocks
 pub mod State
 pub mod View
@@ -17,4 +13,3 @@ pub mod Lawful
 pub mod Spelling
 pub mod GivenUp
 pub mod Parts
-pub mod Wording

@@ -12,26 +12,23 @@ use Rattle.moment_core.specs.declared.moment.Moment.{Moment}
 use Rattle.moment_core.specs.declared.partition.Partition.{Partition}
 use Rattle.moment_core.specs.declared.rules.Rules.{Rules}
 use Rattle.script_core.specs.declared.body.Body.TheVariants.{OnShelf}
-use Rattle.script_core.specs.declared.cause.LineCause.{LineCause}
-use Rattle.script_core.specs.declared.cause.LineCause.TheVariants as causes
-use Rattle.script_core.specs.declared.line_kind.LineKind.{LineKind}
-use Rattle.script_core.specs.declared.line_kind.LineKind.TheVariants as kinds
-use Rattle.script_core.specs.declared.line_refusal.LineRefusal.{LineRefusal}
-use Rattle.script_core.specs.declared.line_refusal.LineRefusal.TheVariants.{Bad, FallingMoment, UnknownBlock, BadRules, NeverSynced, TwoCompactors}
+use Rattle.script_fields.specs.declared.cause.LineCause.{LineCause}
+use Rattle.script_fields.specs.declared.cause.LineCause.TheVariants as causes
+use Rattle.script_fields.specs.declared.line_kind.LineKind.{LineKind}
+use Rattle.script_fields.specs.declared.line_kind.LineKind.TheVariants as kinds
+use Rattle.script_fields.specs.declared.line_refusal.LineRefusal.{LineRefusal}
+use Rattle.script_fields.specs.declared.line_refusal.LineRefusal.TheVariants.{Bad, FallingMoment, UnknownBlock, BadRules, NeverSynced, TwoCompactors}
 use Rattle.script_core.specs.declared.inline_block.BlockHead.{BlockHead}
 use Rattle.script_workers.specs.declared.phase.Phase.{Phase}
 use Rattle.script_workers.specs.declared.work.Work.TheVariants as works
-use Rattle.script_core.specs.Fields.{is_empty, next_field, only_field, after_space, rule_kind}
-use Rattle.script_core.specs.Values.{time_field, moment_field, ulid_field, stop_count, is_reserved, apply_rule, agree}
-use Rattle.script_core.specs.Samples.{are_whole, have_small_numbers, samples_of, are_rising}
+use Rattle.script_fields.specs.Fields.{is_empty, next_field, only_field, after_space, rule_kind}
+use Rattle.script_fields.specs.Values.{time_field, moment_field, ulid_field, stop_count, is_reserved, apply_rule, agree}
+use Rattle.script_fields.specs.Samples.{are_whole, have_small_numbers, samples_of, are_rising}
+use Rattle.script_fields.specs.LineRefusals.{bad}
 use Rattle.script_core.specs.State.{State, gateway_named, add_gateway, is_declared, begin_block, add_shelf, add_series, begin_phase, add_task, add_query, note_sync, are_all_synced, phase_compacts}
 use Rattle.matchers.specs.SelectorText.{are_lawful, named_replicas}
 use Rattle.matchers.specs.Stages.{read_whole, selector_of}
 use Rattle.label_sets.specs.Notation.{is_name, read_set}
-
--- a cause of `BadLine` as a refusal
-abbrev pub bad : {A : Type 0} → Result A LineCause → Result A LineRefusal
-bad result = refused_as Bad result
 
 -- before the first phase, and after its beginning
 abbrev pub is_early : State → Bool

@@ -8,21 +8,21 @@ use Rattle.label_sets.specs.declared.label.Label.{Label}
 use Rattle.label_sets.specs.declared.sample.Sample.{Sample}
 use Rattle.moment_core.specs.StandardRules.{standard_rules}
 use Rattle.reading_core.specs.Reading.{◌>>◌, unless}
-use Rattle.script_core.specs.declared.cause.LineCause.TheVariants.{BadNumber, BadShape, FallingTimes}
-use Rattle.script_core.specs.declared.line_refusal.LineRefusal.{LineRefusal}
-use Rattle.script_core.specs.declared.line_refusal.LineRefusal.TheVariants.{Bad}
-use Rattle.script_core.specs.Fields.{lines_of, newline, is_newline}
+use Rattle.script_fields.specs.declared.cause.LineCause.TheVariants.{BadNumber, BadShape, FallingTimes}
+use Rattle.script_fields.specs.declared.line_refusal.LineRefusal.{LineRefusal}
+use Rattle.script_fields.specs.declared.line_refusal.LineRefusal.TheVariants.{Bad}
+use Rattle.script_fields.specs.Fields.{lines_of, newline, is_newline}
 use Rattle.script_core.specs.GivenUp.{AreLinesGivenUp}
-use Rattle.script_core.specs.Limits.{longest_text}
+use Rattle.script_fields.specs.Limits.{longest_text}
 use Rattle.script_core.specs.Reading.{lines_at}
-use Rattle.script_core.specs.Samples.{are_rising}
+use Rattle.script_fields.specs.Samples.{are_rising}
 use Rattle.script_core.specs.Spelling.{IsNear}
 use Rattle.script_core.specs.State.{State, start}
-use Rattle.script_core.specs.Values.{is_time}
+use Rattle.script_fields.specs.Values.{is_time}
 use Rattle.script_core.specs.View.{state_of}
 use Rattle.script_core.specs.declared.part_reader.PartReader.{PartReader}
-use Rattle.script_core.specs.declared.script_refusal.ScriptRefusal.{ScriptRefusal}
-use Rattle.script_core.specs.declared.script_refusal.ScriptRefusal.TheVariants.{TooLong}
+use Rattle.script_fields.specs.declared.script_refusal.ScriptRefusal.{ScriptRefusal}
+use Rattle.script_fields.specs.declared.script_refusal.ScriptRefusal.TheVariants.{TooLong}
 
 -- A text of so many lines leaves this state: whatever follows it, what is read of the whole is what is read from there.
 abbrev pub Leaves : List ℕ → ℕ → State → Type 0

@@ -2,31 +2,20 @@
 use Rattle.std.specs.Prelude.{ℕ, ◌+◌, List, [], ◌∷◌, length, Bool, true, false, nat_lt, ok_or, Option, None, Some, Result, Ok, Err, if◌then◌else◌}
 use Rattle.std.specs.Str.{is_utf8}
 use Rattle.reading_core.specs.Reading.{◌>>=◌, ◌>>◌, refused_as}
-use Rattle.script_core.specs.Limits.{longest_text}
-use Rattle.script_core.specs.declared.cause.LineCause.TheVariants as causes
-use Rattle.script_core.specs.declared.line_kind.LineKind.{LineKind}
-use Rattle.script_core.specs.declared.line_kind.LineKind.TheVariants as kinds
-use Rattle.script_core.specs.declared.line_refusal.LineRefusal.{LineRefusal}
-use Rattle.script_core.specs.declared.line_refusal.LineRefusal.TheVariants as lines
+use Rattle.script_fields.specs.Limits.{longest_text}
+use Rattle.script_fields.specs.declared.cause.LineCause.TheVariants as causes
+use Rattle.script_fields.specs.declared.line_kind.LineKind.{LineKind}
+use Rattle.script_fields.specs.declared.line_kind.LineKind.TheVariants as kinds
+use Rattle.script_fields.specs.declared.line_refusal.LineRefusal.{LineRefusal}
+use Rattle.script_fields.specs.declared.line_refusal.LineRefusal.TheVariants as lines
 use Rattle.script_core.specs.declared.script.Script.{Script}
-use Rattle.script_core.specs.declared.script_refusal.ScriptRefusal.{ScriptRefusal}
-use Rattle.script_core.specs.declared.script_refusal.ScriptRefusal.TheVariants as scripts
-use Rattle.script_core.specs.Fields.{lines_of, is_silent, next_field, line_kind}
+use Rattle.script_fields.specs.declared.script_refusal.ScriptRefusal.{ScriptRefusal}
+use Rattle.script_fields.specs.declared.script_refusal.ScriptRefusal.TheVariants as scripts
+use Rattle.script_fields.specs.Fields.{lines_of, is_silent, next_field, line_kind}
 use Rattle.script_core.specs.State.{State, start, end_block, finish}
+use Rattle.script_fields.specs.LineRefusals.{of_line}
 use Rattle.script_core.specs.Lines.{fields_line}
 use Rattle.moment_core.specs.StandardRules.{standard_rules}
-
--- the refusal of the line with a number
-abbrev pub of_line : ℕ → LineRefusal → ScriptRefusal
-of_line number (lines.Bad cause) = scripts.BadLine number cause
-of_line number lines.FallingMoment = scripts.FallingMoment number
-of_line number lines.UnknownBlock = scripts.UnknownBlock number
-of_line number lines.BlockChanged = scripts.BlockChanged number
-of_line number lines.BadRules = scripts.BadRules number
-of_line number lines.NeverSynced = scripts.NeverSynced number
-of_line number lines.TwoCompactors = scripts.TwoCompactors number
-of_line number lines.TooMany = scripts.TooMany number
-of_line number lines.NoMemory = scripts.NoMemory
 
 abbrev pub is_series : Option LineKind → Bool
 is_series None = false

@@ -27,22 +27,22 @@ use Rattle.moment_core.specs.declared.rules.Rules.{Rules}
 use Rattle.moment_core.specs.declared.span.Span.{Span}
 use Rattle.ulid_core.specs.UlidText.{IsUlidText}
 use Rattle.moment_core.specs.Limits.{longest_tick}
-use Rattle.script_core.specs.Limits.{longest_text, most_gateways, most_blocks, most_tasks, latest_stop}
+use Rattle.script_fields.specs.Limits.{longest_text, most_gateways, most_blocks, most_tasks, latest_stop}
 use Rattle.script_core.specs.declared.block.Block.{Block}
 use Rattle.script_core.specs.declared.body.Body.TheVariants.{Inline, OnShelf}
 use Rattle.script_workers.specs.declared.phase.Phase.{Phase}
-use Rattle.script_core.specs.declared.rule_name.RuleName.{RuleName}
-use Rattle.script_core.specs.declared.rule_name.RuleName.TheVariants as names
+use Rattle.script_fields.specs.declared.rule_name.RuleName.{RuleName}
+use Rattle.script_fields.specs.declared.rule_name.RuleName.TheVariants as names
 use Rattle.script_core.specs.declared.script.Script.{Script}
 use Rattle.script_workers.specs.declared.work.Work.{Work}
 use Rattle.script_workers.specs.declared.work.Work.TheVariants.{Upload, Sync, Compact, Clean, Query}
-use Rattle.script_core.specs.Fields.{lines_of, is_silent, space, is_space}
+use Rattle.script_fields.specs.Fields.{lines_of, is_silent, space, is_space}
 use Rattle.script_workers.specs.Hands.{gateway_count}
 use Rattle.script_workers.specs.Whose.{FewWorkers}
 use Rattle.script_workers.specs.Works.{works_of, has_sync, has_compaction}
 use Rattle.script_core.specs.Blocks.{declares}
 use Rattle.script_core.specs.Lawful.{HasSeries}
-use Rattle.script_core.specs.Samples.{times_of}
+use Rattle.script_fields.specs.Samples.{times_of}
 
 -- ---- fields and values
 

@@ -14,20 +14,20 @@ use Rattle.matchers.specs.declared.matcher.Matcher.{Matcher}
 use Rattle.moment_core.specs.declared.partition.Partition.{Partition}
 use Rattle.moment_core.specs.declared.rules.Rules.{Rules}
 use Rattle.script_workers.specs.Limits.{most_workers}
-use Rattle.script_core.specs.Limits.{most_gateways, most_blocks, most_tasks}
-use Rattle.script_core.specs.declared.cause.LineCause.TheVariants.{EmptyInline, NoBlock, NoPhase, OutsideBlock, RepeatedSeries}
-use Rattle.script_core.specs.declared.line_refusal.LineRefusal.{LineRefusal}
-use Rattle.script_core.specs.declared.line_refusal.LineRefusal.TheVariants.{Bad, BlockChanged, TooMany}
+use Rattle.script_fields.specs.Limits.{most_gateways, most_blocks, most_tasks}
+use Rattle.script_fields.specs.declared.cause.LineCause.TheVariants.{EmptyInline, NoBlock, NoPhase, OutsideBlock, RepeatedSeries}
+use Rattle.script_fields.specs.declared.line_refusal.LineRefusal.{LineRefusal}
+use Rattle.script_fields.specs.declared.line_refusal.LineRefusal.TheVariants.{Bad, BlockChanged, TooMany}
 use Rattle.script_core.specs.declared.block.Block.{Block}
 use Rattle.script_core.specs.declared.body.Body.TheVariants.{Inline}
 use Rattle.script_workers.specs.declared.phase.Phase.{Phase}
 use Rattle.script_workers.specs.declared.work.Work.{Work}
 use Rattle.script_workers.specs.declared.work.Work.TheVariants.{Query}
 use Rattle.script_core.specs.declared.script.Script.{Script}
-use Rattle.script_core.specs.declared.script_refusal.ScriptRefusal.{ScriptRefusal}
-use Rattle.script_core.specs.declared.script_refusal.ScriptRefusal.TheVariants.{BadLine}
+use Rattle.script_fields.specs.declared.script_refusal.ScriptRefusal.{ScriptRefusal}
+use Rattle.script_fields.specs.declared.script_refusal.ScriptRefusal.TheVariants.{BadLine}
 use Rattle.script_core.specs.declared.inline_block.InlineBlock.{InlineBlock}
-use Rattle.script_core.specs.Samples.{are_within}
+use Rattle.script_fields.specs.Samples.{are_within}
 use Rattle.script_workers.specs.Hands.{gateway_count, with_hands}
 use Rattle.script_workers.specs.Works.{has_compaction}
 use Rattle.script_workers.specs.declared.hand.Hand.{Hand}

@@ -1,16 +1,14 @@
 ghost use Rattle.std.specs.Prelude.{◌≡◌, ◌≤◌, ◌++◌, OnOk, length};
-ghost use Rattle.script_core.specs.Limits.{most_tasks};
+ghost use Rattle.script_fields.specs.Limits.{most_tasks};
 ghost use Rattle.script_workers.specs.Works.{has_compaction};
 
 use crate::inline_block::InlineBlock;
-use crate::line_refusal::LineRefusal;
-use crate::samples::are_within;
-use crate::texts::text_place;
-use crate::{Block, BlockList, LineCause, Script, ScriptRefusal};
+use crate::{Block, BlockList, Script};
 use label_sets::{Series, Text, TextList};
 use list_core::NoMemory;
 use matchers::{Selector, SelectorList};
 use moment_core::{Partition, PartitionList, Rules};
+use script_fields::{LineCause, LineRefusal, ScriptRefusal, are_within, text_place};
 use script_workers::{Hand, Phase, PhaseList, Task, Work, add_hands, gateway_count};
 use std::alloc::Global;
 use std::collections::BTreeSet;
@@ -62,9 +60,9 @@ pub(crate) struct Draft {
 impl Draft {
     ghost use Rattle.std.specs.Prelude.{◌≡◌, ◌+◌, [], None, OnOk, ok_or, option_map, length};
     ghost use Rattle.reading_core.specs.Reading.{Gives};
-    ghost use Rattle.script_core.specs.declared.cause.LineCause.TheVariants as causes;
-    ghost use Rattle.script_core.specs.declared.line_refusal.LineRefusal.TheVariants as line_refusals;
-    ghost use Rattle.script_core.specs.declared.script_refusal.ScriptRefusal.TheVariants as script_refusals;
+    ghost use Rattle.script_fields.specs.declared.cause.LineCause.TheVariants as causes;
+    ghost use Rattle.script_fields.specs.declared.line_refusal.LineRefusal.TheVariants as line_refusals;
+    ghost use Rattle.script_fields.specs.declared.script_refusal.ScriptRefusal.TheVariants as script_refusals;
     ghost use Rattle.script_core.specs.State.{start, end_block, gateway_named, add_gateway, is_declared, begin_block, add_shelf, test_series, add_series, begin_phase, add_task, add_query, note_sync, are_all_synced, phase_compacts, declare, finish, stored_script, store_inline, store_blocks, store_phase, last_of};
     ghost use Rattle.script_core.specs.View.{state_of};
 

@@ -1,15 +1,15 @@
 //! Reading a script that comes part by part, so that its text need not stand anywhere as a whole.
 
 ghost use Rattle.std.specs.Prelude.{◌≡◌, ◌<◌, ◌≤◌, ◌+◌};
-ghost use Rattle.script_core.specs.Limits.{longest_text};
+ghost use Rattle.script_fields.specs.Limits.{longest_text};
 
+use crate::Script;
 use crate::draft::Draft;
-use crate::fields::cut_line;
 use crate::reader::{LONGEST_TEXT, read_line};
 use crate::series_parts::{line_size, put_series};
-use crate::{LineCause, Script, ScriptRefusal};
 use label_sets::SampleList;
 use moment_core::Rules;
+use script_fields::{LineCause, ScriptRefusal, cut_line};
 use std::alloc::Global;
 
 /// What was read of a script so far. After a refusal it is of no use.
@@ -28,11 +28,11 @@ impl PartReader {
     ghost use Rattle.std.specs.Prelude.{◌≡◌, ◌⊎◌, ◌<◌, ◌+◌, ℕ, List, [], ◌∷◌, ◌++◌, IfErr, IfOk, OnOk, IsTrue};
     ghost use Rattle.label_sets.specs.declared.label.Label.{Label};
     ghost use Rattle.reading_core.specs.Reading.{Gives};
-    ghost use Rattle.script_core.specs.Limits.{longest_text};
+    ghost use Rattle.script_fields.specs.Limits.{longest_text};
     ghost use Rattle.script_core.specs.Reading.{script_of};
-    ghost use Rattle.script_core.specs.declared.script_refusal.ScriptRefusal.TheVariants as refusals;
+    ghost use Rattle.script_fields.specs.declared.script_refusal.ScriptRefusal.TheVariants as refusals;
     ghost use Rattle.std.specs.List.{list_all};
-    ghost use Rattle.script_core.specs.Fields.{newline};
+    ghost use Rattle.script_fields.specs.Fields.{newline};
     ghost use Rattle.script_core.specs.Lawful.{IsLawfulScript};
     ghost use Rattle.script_core.specs.Parts.{AreNextGivenUp, AreSeriesParts, HasRead, IsEnded, IsPartRefused, Reads, series_text};
     ghost use Rattle.script_core.specs.Spelling.{Spells};

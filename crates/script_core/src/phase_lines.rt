@@ -2,20 +2,20 @@
 
 ghost use Rattle.std.specs.Prelude.{◌≡◌, option_copied};
 ghost use Rattle.reading_core.specs.Reading.{Answers, Gives};
-ghost use Rattle.script_core.specs.declared.line_refusal.LineRefusal.TheVariants as line_refusals;
-ghost use Rattle.script_core.specs.Values.{agree, moment_field};
+ghost use Rattle.script_fields.specs.declared.line_refusal.LineRefusal.TheVariants as line_refusals;
+ghost use Rattle.script_fields.specs.Values.{agree, moment_field};
 ghost use Rattle.script_core.specs.GivenUp.{GivesUnless, IsQueryGivenUp, IsSelectorGivenUp};
-ghost use Rattle.script_core.specs.Lines.{bad, may_begin, at_line, stop_field, upload_line, sync_line, compact_line, clean_line, query_line, question_at, selector_field};
+ghost use Rattle.script_fields.specs.LineRefusals.{bad};
+ghost use Rattle.script_core.specs.Lines.{may_begin, at_line, stop_field, upload_line, sync_line, compact_line, clean_line, query_line, question_at, selector_field};
 ghost use Rattle.script_core.specs.View.{asked_of, state_of};
 
-use crate::LineCause;
 use crate::draft::Draft;
-use crate::fields::{next_field, only_field};
-use crate::line_refusal::LineRefusal;
-use crate::values::{is_reserved, stop_count, time, ulid};
 use label_sets::{TextList, is_name};
 use matchers::{Selector, SelectorRefusal};
 use moment_core::{Moment, MomentRefusal, Rules};
+use script_fields::{
+    LineCause, LineRefusal, is_reserved, next_field, only_field, stop_count, time, ulid,
+};
 use script_workers::{Phase, TaskList, Work};
 use std::alloc::Global;
 
@@ -41,7 +41,7 @@ pub(crate) fn at_line(
     Ok(())
 }
 
-#[tactic(auto, unfolding(crate::specs::Values::moment_field))]
+#[tactic(auto, unfolding(script_fields::specs::Values::moment_field))]
 fn moment(alloc: Global, field: &str) -> Result<Moment, LineRefusal>
     ensures { Gives line_refusals.NoMemory (λ moment. moment) result
         (bad (moment_field field.now)) }

@@ -4,18 +4,18 @@ ghost use Rattle.std.specs.Prelude.{◌≡◌, ◌≤◌, Some, None, length, op
 ghost use Rattle.script_core.specs.GivenUp.{GivesUnless, IsKindGivenUp, IsTextGivenUp, IsLineGivenUp, AreLinesGivenUp, IsWholeGivenUp};
 ghost use Rattle.script_core.specs.Reading.{is_series, kind_line, text_line, line_at, lines_at, script_of};
 ghost use Rattle.std.specs.Str.{is_utf8};
-ghost use Rattle.script_core.specs.Fields.{lines_of};
-ghost use Rattle.script_core.specs.Limits.{longest_text};
+ghost use Rattle.script_fields.specs.Fields.{lines_of};
+ghost use Rattle.script_fields.specs.Limits.{longest_text};
 ghost use Rattle.script_core.specs.View.{state_of};
 
+use crate::Script;
 use crate::draft::Draft;
-use crate::fields::{cut_line, is_silent, next_field};
-use crate::line_kind::LineKind;
-use crate::line_refusal::LineRefusal;
 use crate::phase_lines::{at_line, clean_line, compact_line, query_line, sync_line, upload_line};
 use crate::setup_lines::{block_line, gateway_line, rule_line, series_line, shelf_line};
-use crate::{LineCause, Script, ScriptRefusal};
 use moment_core::Rules;
+use script_fields::{
+    LineCause, LineKind, LineRefusal, ScriptRefusal, cut_line, is_silent, next_field,
+};
 use std::alloc::Global;
 
 /// How many bytes a script may have.

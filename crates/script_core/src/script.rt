@@ -1,9 +1,10 @@
+use crate::BlockList;
 use crate::reader::read_script;
-use crate::{BlockList, ScriptRefusal};
 use label_sets::TextList;
 use list_core::NoMemory;
 use matchers::SelectorList;
 use moment_core::{PartitionList, Rules};
+use script_fields::ScriptRefusal;
 use script_workers::{PhaseList, WorkerList, gateway_count, phase_workers, seats_of};
 use std::alloc::Global;
 

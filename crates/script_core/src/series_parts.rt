@@ -5,23 +5,20 @@ ghost use Rattle.std.specs.List.{list_all};
 ghost use Rattle.std.specs.Str.{is_utf8};
 ghost use Rattle.label_sets.specs.SetText.{IsSetText};
 ghost use Rattle.label_sets.specs.declared.label.Label.{Label};
-ghost use Rattle.script_core.specs.Fields.{is_newline};
-ghost use Rattle.script_core.specs.Limits.{longest_text};
+ghost use Rattle.script_fields.specs.Fields.{is_newline};
+ghost use Rattle.script_fields.specs.Limits.{longest_text};
 ghost use Rattle.script_core.specs.Parts.{AreSeriesParts, IsOneLine, has_field, test_samples, series_front};
 ghost use Rattle.script_core.specs.Reading.{line_at};
 ghost use Rattle.script_core.specs.State.{add_series};
 ghost use Rattle.script_core.specs.View.{state_of};
-ghost use Rattle.script_core.specs.declared.line_refusal.LineRefusal.TheVariants as line_refusals;
-ghost use Rattle.script_core.specs.declared.script_refusal.ScriptRefusal.TheVariants.{TooLong};
+ghost use Rattle.script_fields.specs.declared.line_refusal.LineRefusal.TheVariants as line_refusals;
+ghost use Rattle.script_fields.specs.declared.script_refusal.ScriptRefusal.TheVariants.{TooLong};
 
 use crate::draft::Draft;
-use crate::line_refusal::LineRefusal;
 use crate::reader::{LONGEST_TEXT, text_of};
-use crate::samples::are_rising;
 use crate::setup_lines::last_labels;
-use crate::values::is_time;
-use crate::{LineCause, ScriptRefusal};
 use label_sets::{LabelSet, Sample, SampleList, Series};
+use script_fields::{LineCause, LineRefusal, ScriptRefusal, are_rising, is_time};
 use std::alloc::Global;
 
 /// How many bytes a sample has at most: a space, a sign, 19 digits of a time, a colon and 16 of a pattern.

@@ -2,20 +2,19 @@
 
 ghost use Rattle.std.specs.Prelude.{◌≡◌, option_copied};
 ghost use Rattle.reading_core.specs.Reading.{Gives};
-ghost use Rattle.script_core.specs.declared.line_refusal.LineRefusal.TheVariants as line_refusals;
+ghost use Rattle.script_fields.specs.declared.line_refusal.LineRefusal.TheVariants as line_refusals;
 ghost use Rattle.script_core.specs.Lines.{rule_line, partition_field, gateway_line, block_head, test_head, block_line, test_shelf, shelf_line, last_labels, line_samples, series_line, first_labels};
 ghost use Rattle.script_core.specs.View.{state_of};
 
 use crate::draft::Draft;
-use crate::fields::{after_space, next_field, only_field};
 use crate::inline_block::{BlockHead, InlineBlock};
-use crate::line_refusal::LineRefusal;
-use crate::rule_kind::RuleKind;
-use crate::samples::{are_rising, are_whole, have_small_numbers, read_samples};
-use crate::values::{is_reserved, time, ulid};
-use crate::{Block, Body, LineCause};
+use crate::{Block, Body};
 use label_sets::{LabelRefusal, LabelSet, SampleList, Series, Text, is_name};
 use moment_core::Partition;
+use script_fields::{
+    LineCause, LineRefusal, RuleKind, after_space, are_rising, are_whole, have_small_numbers,
+    is_reserved, next_field, only_field, read_samples, time, ulid,
+};
 use std::alloc::Global;
 use ulid_core::Ulid;
 

@@ -3,7 +3,7 @@ use Rattle.std.proofs.Common.{◌≡◌, ℕ, ℤ, List, refl, ap, subst}
 use Rattle.std.specs.Prelude.{Option, Some, None, option_map, Ok, Err, IfSome}
 use Rattle.activity_runs.specs.Calls.{CallRun, end_by}
 use Rattle.activity_runs.specs.declared.call_left.CallLeft.{CallLeft}
-use Rattle.block_ranges.specs.Reads.{Cache, Query as Question}
+use Rattle.read_ranges.specs.Reads.{Cache, Query as Question}
 use Rattle.index_cache.specs.declared.cache.IndexCache.{IndexCache}
 use Rattle.world_core.specs.Machines.{Drives, end_of}
 use Rattle.world_core.specs.declared.driven.Driven.{Driven}

@@ -13,7 +13,7 @@ use Rattle.meta_fetcher.specs.declared.sync_end.SyncEnd.TheVariants as fetched
 use Rattle.meta_fetcher.specs.declared.view.View.{View}
 use Rattle.meta_fetcher.specs.Syncs.{SyncRun}
 use Rattle.matchers.specs.declared.matcher.Matcher.{Matcher}
-use Rattle.block_ranges.specs.Reads.{Cache, Query as Question}
+use Rattle.read_ranges.specs.Reads.{Cache, Query as Question}
 use Rattle.index_cache.specs.declared.cache.IndexCache.{IndexCache}
 use Rattle.series_calls.specs.SeriesCalls.{CallEnd, SeriesRun, asking, series_call}
 use Rattle.world_core.proofs.PlanLaws.{breaks_off}

@@ -65,7 +65,8 @@ pub fn run_beside<B: Bucket + Send, G: Gate + Sync, P: Report, R: Threads + Wait
     requires fresh { world.journal ≡ [] }
     requires tick { world.tick ≡ script.now.rules.tick.ms }
     requires untold { P.tells report.old script.now [] [] }
-    ensures ran { IfOk result (λ run. HasRunBeside (setting_by script.now shelf.now) run.1.world.journal
+    ensures ran { IfOk result (λ run. HasRunBeside (setting_by script.now shelf.now)
+        run.1.world.journal
         run.0.outcomes run.0.came) }
     ensures tick { IfOk result (λ run. run.1.world.tick ≡ world.tick) }
 
@@ -163,7 +164,8 @@ fn run_phases<B: Bucket + Send, G: Gate + Sync, P: Report, R: Threads + Wait + S
     requires seats { root.splits ≡ seats_before script.now 0 }
     requires unwanted { (view_of root).wanted ≡ false }
     requires all { AllJoined (view_of root) }
-    requires gone { HasGone (setting_by script.now means.now.shelf) (view_of root) [] standing.old.sights.items
+    requires gone { HasGone (setting_by script.now means.now.shelf)
+        (view_of root) [] standing.old.sights.items
         standing.old.outcomes }
     requires untold { P.tells report.old script.now [] standing.old.outcomes }
     ensures pass { (table_of result.1 ≡ table_of root) × (result.1.seat ≡ 0) }
@@ -172,7 +174,8 @@ fn run_phases<B: Bucket + Send, G: Gate + Sync, P: Report, R: Threads + Wait + S
         ≡ ((view_of root).refused || is_full_came result.0) }
     ensures unwanted { result.0 ≡ Ok tt → (view_of result.1).wanted ≡ false }
     ensures all { AllJoined (view_of result.1) }
-    ensures came { HasCome (setting_by script.now means.now.shelf) (view_of result.1) script.now.phases
+    ensures came { HasCome (setting_by script.now means.now.shelf)
+        (view_of result.1) script.now.phases
         standing.new.sights.items standing.new.outcomes result.0 }
     ensures reported { HasToldFirst P.tells script.now report.new standing.new.outcomes result.0 }
 {
@@ -210,7 +213,8 @@ fn phase_beside<B: Bucket + Send, G: Gate + Sync, P: Report, R: Threads + Wait +
     requires seats { root.splits ≡ seats_before script.now place }
     requires unwanted { (view_of root).wanted ≡ false }
     requires all { AllJoined (view_of root) }
-    requires gone { HasGone (setting_by script.now means.now.shelf) (view_of root) (take place script.now.phases)
+    requires gone { HasGone (setting_by script.now means.now.shelf) (view_of root)
+        (take place script.now.phases)
         standing.old.sights.items standing.old.outcomes }
     ensures pass { (table_of result.1 ≡ table_of root) × (result.1.seat ≡ 0) }
     ensures tick { (view_of result.1).tick ≡ (view_of root).tick }

@@ -18,14 +18,14 @@ use Rattle.index_v2.specs.WholeReading.{lists_at}
 use Rattle.series_selection.specs.Selections.{rows_read}
 use Rattle.block_content.specs.Firsts.{each_at}
 use Rattle.block_ranges.specs.BlockReads.{taken}
-use Rattle.block_ranges.specs.ChunkRanges.{group_of, group_piece, offset_of, segment_of}
+use Rattle.read_ranges.specs.ChunkRanges.{group_of, group_piece, offset_of, segment_of}
 use Rattle.block_ranges.specs.ChunkReads.{Read, Tests, glimpse_at, have_keys, sticks_out, tests_at}
-use Rattle.block_ranges.specs.Stretches.{Stretch, last_of, members}
+use Rattle.read_ranges.specs.Stretches.{Stretch, last_of, members}
 use Rattle.index_parts.specs.SeriesEntry.{reference_of}
 use Rattle.index_v2.specs.PostingsLists.{list_of}
-use Rattle.block_ranges.specs.IndexRanges.{Piece, contents_piece, has_bytes, has_sections, section_piece}
-use Rattle.block_ranges.specs.IndexReads.{IsTakenBy, Tables, part_at, tables_of}
-use Rattle.block_ranges.specs.Reads.{Block, Query}
+use Rattle.read_ranges.specs.IndexRanges.{Piece, contents_piece, has_bytes, has_sections, section_piece}
+use Rattle.read_ranges.specs.IndexReads.{IsTakenBy, Tables, part_at, tables_of}
+use Rattle.read_ranges.specs.Reads.{Block, Query}
 
 -- A reference of a group: in the segment of the first one, and between the first and the last.
 pub record IsWithin (stretch : Stretch ℕ) (reference : ℕ) : Type 0 where

@@ -30,10 +30,10 @@ use Rattle.block_keys.specs.declared.key.Key.TheVariants.{Index, Segment}
 use Rattle.bucket_core.specs.Contents.{Contents}
 use Rattle.bucket_core.specs.Contents as stored
 use Rattle.block_ranges.specs.BlockReads.{samples_of, shown, taken}
-use Rattle.block_ranges.specs.ChunkRanges.{IsSetOf, meets, offset_of, segment_of}
+use Rattle.read_ranges.specs.ChunkRanges.{IsSetOf, meets, offset_of, segment_of}
 use Rattle.block_ranges.specs.ChunkReads.{Read, places_at, tests_at}
-use Rattle.block_ranges.specs.IndexRanges.{Piece}
-use Rattle.block_ranges.specs.Reads.{Block, Query, range_of}
+use Rattle.read_ranges.specs.IndexRanges.{Piece}
+use Rattle.read_ranges.specs.Reads.{Block, Query, range_of}
 use Rattle.series_calls.specs.Exact.{HoldsBlock, StandsIn, asked_of, held_by}
 use Rattle.series_calls.proofs.BlockFindings.{AreChunksRead, AreSeries, IsChunkRead}
 use Rattle.series_calls.proofs.ExactChunks.{found_read, offset_of_place, same_offset, segment_of_place, stored_same, tested_read}

@@ -24,8 +24,8 @@ use Rattle.meta_fetcher.specs.declared.view.View.{View}
 use Rattle.vertical_merge.specs.Merged.{IsMerge}
 use Rattle.index_cache.specs.Caches.{same_key, same_range}
 use Rattle.index_cache.specs.declared.range.Range.{Range}
-use Rattle.block_ranges.specs.IndexRanges.{Piece}
-use Rattle.block_ranges.specs.Reads.{Block, Cache, Query, missing, damaged, fault, range_of}
+use Rattle.read_ranges.specs.IndexRanges.{Piece}
+use Rattle.read_ranges.specs.Reads.{Block, Cache, Query, missing, damaged, fault, range_of}
 use Rattle.block_ranges.specs.BlockReads.{BlockEnd, gives, breaks_off, block_call}
 use Rattle.series_calls.specs.Exact.{AreShown, HoldsBlock, IsCacheOf, StandsIn, asked_of, asked_of_all}
 use Rattle.series_calls.specs.SeriesCalls.{Called, took, broke, CallEnd, Gives, SeriesRun, after_block, reading, sources_of, to_read}

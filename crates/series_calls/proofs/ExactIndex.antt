@@ -40,11 +40,11 @@ use Rattle.index_v2.proofs.ListNumbers.{none_rise, numbers_rise}
 use Rattle.index_v2.proofs.OpeningLaws.{opened_again}
 use Rattle.series_selection.specs.Selections.{IsSelection}
 use Rattle.series_selection.proofs.Matching.{above_first, first_of, rest_rises, selection_matches}
-use Rattle.block_ranges.specs.IndexRanges.{Piece, contents_piece, section_piece}
-use Rattle.block_ranges.specs.IndexReads.{part_at, tables_of}
-use Rattle.block_ranges.specs.ChunkRanges.{IsSetOf}
-use Rattle.block_ranges.specs.OneSet.{one_set}
-use Rattle.block_ranges.specs.Reads.{Block, Query}
+use Rattle.read_ranges.specs.IndexRanges.{Piece, contents_piece, section_piece}
+use Rattle.read_ranges.specs.IndexReads.{part_at, tables_of}
+use Rattle.read_ranges.specs.ChunkRanges.{IsSetOf}
+use Rattle.read_ranges.specs.OneSet.{one_set}
+use Rattle.read_ranges.specs.Reads.{Block, Query}
 use Rattle.block_keys.specs.declared.key.Key.{Key}
 use Rattle.block_keys.specs.declared.key.Key.TheVariants.{Index}
 use Rattle.series_calls.proofs.BlockFindings.{AreOfRanges, AreOfWhole, AreSeries, AreTaken, IsFull, IsSeriesRead}

@@ -50,12 +50,12 @@ use Rattle.world_core.proofs.PlanLaws.{EndsAre, end_is}
 use Rattle.world_core.proofs.PlanParts.{Parts, broken, both, parts}
 use Rattle.meta_fetcher.specs.declared.view.View.{View}
 use Rattle.block_ranges.specs.BlockReads.{BlockEnd, gives, breaks_off, block_call, taken}
-use Rattle.block_ranges.specs.ChunkRanges.{group_of, group_piece, meets, offset_of, segment_of}
+use Rattle.read_ranges.specs.ChunkRanges.{group_of, group_piece, meets, offset_of, segment_of}
 use Rattle.block_ranges.specs.ChunkReads.{Glimpse, chunk_len_at, chunk_samples_at, glimpse_at, have_keys, is_chunk_of, places_at, sticks_out, tests_at}
-use Rattle.block_ranges.specs.IndexRanges.{Piece}
-use Rattle.block_ranges.specs.IndexReads.{tables_of}
-use Rattle.block_ranges.specs.Reads.{Block, Cache, Query, missing, damaged, fault, range_of}
-use Rattle.block_ranges.specs.Stretches.{Stretch, last_of, members}
+use Rattle.read_ranges.specs.IndexRanges.{Piece}
+use Rattle.read_ranges.specs.IndexReads.{tables_of}
+use Rattle.read_ranges.specs.Reads.{Block, Cache, Query, missing, damaged, fault, range_of}
+use Rattle.read_ranges.specs.Stretches.{Stretch, last_of, members}
 use Rattle.series_calls.specs.Exact.{AreShown, HoldsBlock, HoldsWhole, IsCacheOf, IsInBounds, StandsIn}
 use Rattle.series_calls.specs.SeriesCalls.{Called, took, broke, CallEnd, Gives, SeriesRun, after_block, reading, sources_of, to_read}
 use Rattle.series_calls.specs.declared.series_end.SeriesEnd.TheVariants as ended

@@ -12,7 +12,7 @@ use Rattle.world_core.specs.declared.entry.Entry.{Entry}
 use Rattle.world_core.proofs.PlanLaws.{AsksFor, EachAfter, EndsAre, asked_are, end_is, nothing_given}
 use Rattle.world_core.proofs.PlanParts.{Parts, broken, both, parts}
 use Rattle.meta_fetcher.specs.declared.view.View.{View}
-use Rattle.block_ranges.specs.Reads.{Block, Break, Cache, Query, damaged, fault, missing, reads}
+use Rattle.read_ranges.specs.Reads.{Block, Break, Cache, Query, damaged, fault, missing, reads}
 use Rattle.block_ranges.specs.BlockReads.{BlockEnd, gives, breaks_off, block_call}
 use Rattle.series_calls.specs.SeriesCalls.{Called, took, broke, CallEnd, Gives, SeriesRun, after_block, reading, sources_of, to_read}
 use Rattle.series_calls.specs.declared.series_end.SeriesEnd.TheVariants as ended

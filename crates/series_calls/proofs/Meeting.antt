@@ -7,7 +7,7 @@ use Rattle.std.proofs.lemmas.List.{drop_all, nil_from_length, take_rest}
 use Rattle.label_sets.proofs.LabelValues.{by_bool}
 use Rattle.label_sets.proofs.StableSorts.{filter_hit, filter_miss}
 use Rattle.sync_filters.specs.declared.found.Found.{Found}
-use Rattle.block_ranges.specs.Reads.{Query, Block, block_of}
+use Rattle.read_ranges.specs.Reads.{Query, Block, block_of}
 use Rattle.series_calls.specs.SeriesCalls.{meets, to_read, StartsMeeting}
 
 abbrev pub read_of : Found → Block

@@ -4,8 +4,8 @@ use Rattle.label_sets.specs.declared.series.Series.{Series}
 use Rattle.world_core.specs.declared.entry.Entry.{Entry}
 use Rattle.world_core.proofs.PlanLaws.{one_end}
 use Rattle.meta_fetcher.specs.declared.view.View.{View}
-use Rattle.block_ranges.specs.OneSet.{one_set}
-use Rattle.block_ranges.specs.Reads.{Query, Cache}
+use Rattle.read_ranges.specs.OneSet.{one_set}
+use Rattle.read_ranges.specs.Reads.{Query, Cache}
 use Rattle.series_calls.specs.SeriesCalls.{Called, took, broke, CallEnd, Gives, SeriesRun, series_call, sources_of}
 use Rattle.series_calls.specs.declared.series_end.SeriesEnd.{SeriesEnd}
 use Rattle.series_calls.specs.declared.series_end.SeriesEnd.TheVariants as ended

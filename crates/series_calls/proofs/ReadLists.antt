@@ -10,10 +10,10 @@ use Rattle.index_parts.specs.declared.toc.Toc.{Toc}
 use Rattle.series_selection.proofs.Matching.{rest_rises}
 use Rattle.block_content.specs.Firsts.{each_at}
 use Rattle.block_content.proofs.FirstLaws.{each_found}
-use Rattle.block_ranges.specs.ChunkRanges.{AreGroups, Group, IsNear, segment_of}
+use Rattle.read_ranges.specs.ChunkRanges.{AreGroups, Group, IsNear, segment_of}
 use Rattle.block_ranges.specs.ChunkReads.{Tests, chunk_len_at, glimpse, glimpse_at, shows}
-use Rattle.block_ranges.specs.IndexRanges.{AreRuns, Run, has_bytes, has_sections, run_of, section_piece}
-use Rattle.block_ranges.specs.Stretches.{AreJoined, IsJoined, Stretch, last_behind, last_of, members}
+use Rattle.read_ranges.specs.IndexRanges.{AreRuns, Run, has_bytes, has_sections, run_of, section_piece}
+use Rattle.read_ranges.specs.Stretches.{AreJoined, IsJoined, Stretch, last_behind, last_of, members}
 use Rattle.series_calls.proofs.BlockFindings.{IsWithin}
 
 -- ---- members

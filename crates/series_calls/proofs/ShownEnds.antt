@@ -9,7 +9,7 @@ use Rattle.world_core.specs.declared.reply.Reply.TheVariants.{Absent}
 use Rattle.world_core.proofs.PlanLaws.{EndsAre, end_is, nothing_given}
 use Rattle.world_core.proofs.PlanParts.{Parts, broken, both, parts}
 use Rattle.meta_fetcher.specs.declared.view.View.{View}
-use Rattle.block_ranges.specs.Reads.{Block, Break, Cache, Query, missing, damaged, fault}
+use Rattle.read_ranges.specs.Reads.{Block, Break, Cache, Query, missing, damaged, fault}
 use Rattle.block_ranges.specs.BlockReads.{BlockEnd, gives, breaks_off, block_call}
 use Rattle.series_calls.specs.LastEntries.{EndsWith}
 use Rattle.series_calls.specs.SeriesCalls.{Called, took, broke, CallEnd, Gives, SeriesRun, after_block, end_of_break, reading, sources_of, to_read}

@@ -21,7 +21,7 @@ use Rattle.xor_chunks.proofs.TextsRead.{data_again}
 use Rattle.index_parts.specs.Placed.{at_place}
 use Rattle.block_ranges.specs.ChunkReads.{Glimpse, chunk_len_at, glimpse, glimpse_at, shows, sticks_out, stored_at}
 use Rattle.block_ranges.specs.ChunkReads as reads
-use Rattle.block_ranges.specs.ChunkRanges.{Group}
+use Rattle.read_ranges.specs.ChunkRanges.{Group}
 
 -- ---- fronts
 

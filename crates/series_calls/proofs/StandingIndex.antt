@@ -32,8 +32,8 @@ use Rattle.series_selection.specs.Selections.{IsListed, IsSelection, deciding, d
 use Rattle.series_selection.proofs.Matching.{one_list}
 use Rattle.block_content.specs.Firsts.{each_at}
 use Rattle.block_content.proofs.FirstLaws.{each_again}
-use Rattle.block_ranges.specs.IndexReads.{tables_of}
-use Rattle.block_ranges.specs.Reads.{Block, Query}
+use Rattle.read_ranges.specs.IndexReads.{tables_of}
+use Rattle.read_ranges.specs.Reads.{Block, Query}
 use Rattle.series_calls.proofs.BlockFindings.{LackLists}
 use Rattle.series_calls.proofs.ExactIndex.{IsTakenFrom}
 use Rattle.series_calls.proofs.ExactSelection.{selection_stands}

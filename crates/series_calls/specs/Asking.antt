@@ -3,7 +3,7 @@ use Rattle.std.specs.Prelude.{◌≡◌, ℕ, List, Contains}
 use Rattle.block_keys.specs.declared.key.Key.TheVariants.{Index, Segment}
 use Rattle.world_core.specs.declared.op.Op.{Op}
 use Rattle.world_core.specs.declared.op.Op.TheVariants.{Get, GetRange}
-use Rattle.block_ranges.specs.Reads.{Block}
+use Rattle.read_ranges.specs.Reads.{Block}
 
 -- The operation reads the index of this block, or a range of it, or a range of one of its segments.
 abbrev pub IsReadOf : ℕ → Op → Type 0

@@ -16,7 +16,7 @@ use Rattle.index_file.specs.IndexFile.{IsIndex}
 use Rattle.index_file.specs.declared.index_series.IndexSeries.{IndexSeries}
 use Rattle.block_content.specs.Content.{HoldsSeries}
 use Rattle.index_cache.specs.declared.range.Range.{Range}
-use Rattle.block_ranges.specs.Reads.{Block, Cache, Query}
+use Rattle.read_ranges.specs.Reads.{Block, Cache, Query}
 
 -- ---- what is shown
 

@@ -4,7 +4,7 @@ use Rattle.world_core.specs.declared.op.Op.TheVariants.{GetRange}
 use Rattle.world_core.specs.declared.reply.Reply.TheVariants.{Found}
 use Rattle.world_core.specs.declared.entry.Entry.{Entry}
 use Rattle.index_cache.specs.declared.range.Range.{Range}
-use Rattle.block_ranges.specs.Reads.{Cache}
+use Rattle.read_ranges.specs.Reads.{Cache}
 
 -- Some entry of these read the range so.
 abbrev pub IsReadIn : List Entry → Range → List ℕ → Type 0

@@ -11,8 +11,8 @@ use Rattle.sync_filters.specs.declared.found.Found.{Found}
 use Rattle.meta_fetcher.specs.declared.view.View.{View}
 use Rattle.matchers.specs.declared.matcher.Matcher.{Matcher}
 use Rattle.vertical_merge.specs.Merged.{IsMerge}
-use Rattle.block_ranges.specs.ChunkRanges.{IsSetOf}
-use Rattle.block_ranges.specs.Reads.{Query, Block, Cache, Break, missing, damaged, fault, block_of}
+use Rattle.read_ranges.specs.ChunkRanges.{IsSetOf}
+use Rattle.read_ranges.specs.Reads.{Query, Block, Cache, Break, missing, damaged, fault, block_of}
 use Rattle.block_ranges.specs.BlockReads.{BlockEnd, gives, breaks_off, block_call}
 use Rattle.series_calls.specs.declared.series_end.SeriesEnd.{SeriesEnd}
 use Rattle.series_calls.specs.declared.series_end.SeriesEnd.TheVariants as ended

@@ -12,7 +12,7 @@ ghost use Rattle.world_core.specs.declared.reply.Reply.TheVariants.{Absent};
 ghost use Rattle.meta_fetcher.specs.declared.view.View.{View};
 ghost use Rattle.matchers.specs.Selected.{is_between};
 ghost use Rattle.vertical_merge.specs.Merged.{IsMerge};
-ghost use Rattle.block_ranges.specs.Reads.{Query, Cache};
+ghost use Rattle.read_ranges.specs.Reads.{Query, Cache};
 ghost use Rattle.series_calls.specs.SeriesCalls.{CallEnd, SeriesRun, to_read};
 ghost use Rattle.series_calls.specs.Shares.{AreShares, all_shares};
 ghost use Rattle.series_calls.specs.Asking.{IsReadOfOne};
@@ -27,7 +27,8 @@ pub fn answers_are_of_shares()
         (series : List Series) (sources : List ℕ)
         → SeriesRun view query before entries
         (Some (record { end = ended.Answer series sources; cache = after }))
-        → (shares : List (List Triple)) × AreShares query (to_read query view.kept) before entries shares after
+        → (shares : List (List Triple))
+        × AreShares query (to_read query view.kept) before entries shares after
         × IsMerge (all_shares shares) series }
     ensures ascend { (view : View) (query : Query) (before after : Cache) (entries : List Entry)
         (series : List Series) (sources : List ℕ)
@@ -38,14 +39,17 @@ pub fn answers_are_of_shares()
 
 /// A law: the entries of a call, with the cache before it, tell its end and the cache that it leaves.
 pub fn calls_have_one_end()
-    ensures { (view : View) (query : Query) (cache : Cache) (entries : List Entry) (one other : CallEnd)
-        → SeriesRun view query cache entries (Some one) → SeriesRun view query cache entries (Some other)
+    ensures { (view : View) (query : Query) (cache : Cache) (entries : List Entry)
+        (one other : CallEnd)
+        → SeriesRun view query cache entries (Some one)
+        → SeriesRun view query cache entries (Some other)
         → one ≡ other }
 {}
 
 /// A law: a call asks for nothing but the index of blocks that meet its range of times, ranges of it, and ranges of their segments.
 pub fn calls_read_their_blocks()
-    ensures { (view : View) (query : Query) (cache : Cache) (entries : List Entry) (end : Option CallEnd)
+    ensures { (view : View) (query : Query) (cache : Cache) (entries : List Entry)
+        (end : Option CallEnd)
         → SeriesRun view query cache entries end
         → All (λ e. IsReadOfOne (to_read query view.kept) e.op) entries }
 {}
@@ -53,7 +57,8 @@ pub fn calls_read_their_blocks()
 /// A law: each range that a call leaves in its cache was read, with these bytes, where those were that it had before and where the
 /// call's own entries stand.
 pub fn caches_are_of_reads()
-    ensures { (view : View) (query : Query) (before : Cache) (entries journal : List Entry) (call : CallEnd)
+    ensures { (view : View) (query : Query) (before : Cache) (entries journal : List Entry)
+        (call : CallEnd)
         → SeriesRun view query before entries (Some call) → All (Contains journal) entries
         → IsOfReads journal before → IsOfReads journal call.cache }
 {}

@@ -2,7 +2,7 @@
 ghost use Rattle.std.specs.Prelude.{◌≡◌, ◌<◌, length, IfOk, IfSome, FitsSigned};
 ghost use Rattle.std.specs.Int.{w64};
 ghost use Rattle.std.specs.List.{position};
-ghost use Rattle.block_ranges.specs.ChunkRanges.{IsSetOf};
+ghost use Rattle.read_ranges.specs.ChunkRanges.{IsSetOf};
 ghost use Rattle.series_calls.specs.SeriesCalls.{meets, sources_of, to_read, StartsMeeting};
 ghost use Rattle.series_calls.specs.CallStates.{query_of};
 

@@ -5,7 +5,7 @@ ghost use Rattle.world_core.specs.declared.op.Op.{Op};
 ghost use Rattle.world_core.specs.declared.entry.Entry.{Entry};
 ghost use Rattle.world_core.specs.declared.act.Act.TheVariants as act;
 ghost use Rattle.index_cache.specs.Caches.{held};
-ghost use Rattle.block_ranges.specs.Reads.{block_of};
+ghost use Rattle.read_ranges.specs.Reads.{block_of};
 ghost use Rattle.series_calls.specs.SeriesCalls.{SeriesRun, asking};
 ghost use Rattle.block_ranges.specs.BlockRuns.{most_reads};
 ghost use Rattle.series_calls.specs.declared.stage.Stage.TheVariants as stage;

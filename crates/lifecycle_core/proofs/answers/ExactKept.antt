@@ -25,8 +25,8 @@ use Rattle.vertical_merge.specs.Merged.{IsDeduplication, IsMerge}
 use Rattle.vertical_merge.proofs.Laws.{deduplicates}
 use Rattle.vertical_merge.proofs.Orders.{keys_total, same_key}
 use Rattle.block_meta.specs.MetaFields.{MetaFields, fields_of}
-use Rattle.block_ranges.specs.ChunkRanges.{IsSetOf}
-use Rattle.block_ranges.specs.Reads.{Query as Question, block_of}
+use Rattle.read_ranges.specs.ChunkRanges.{IsSetOf}
+use Rattle.read_ranges.specs.Reads.{Query as Question, block_of}
 use Rattle.series_calls.specs.Exact.{asked_of, asked_of_all}
 use Rattle.series_calls.specs.SeriesCalls.{asking, meets, sources_of, to_read}
 use Rattle.sync_filters.specs.declared.found.Found.{Found}

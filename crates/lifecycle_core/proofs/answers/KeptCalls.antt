@@ -26,7 +26,7 @@ use Rattle.world_core.specs.declared.op.Op.{Op}
 use Rattle.world_core.specs.declared.op.Op.TheVariants as op
 use Rattle.world_core.specs.declared.reply.Reply.{Reply}
 use Rattle.world_core.specs.declared.reply.Reply.TheVariants as reply
-use Rattle.block_ranges.specs.Reads.{Block, Cache, Query as Question, block_of}
+use Rattle.read_ranges.specs.Reads.{Block, Cache, Query as Question, block_of}
 use Rattle.series_calls.specs.Asking.{IsReadOf, IsReadOfOne}
 use Rattle.matchers.specs.SelectorText.{named_replicas}
 use Rattle.vertical_merge.specs.Merged.{IsMerge}

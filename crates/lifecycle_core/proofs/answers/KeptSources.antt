@@ -6,8 +6,8 @@ use Rattle.std.specs.Prelude.{option_map}
 use Rattle.std.proofs.lemmas.List.Elements.{All-contains, All-from_recursion}
 use Rattle.label_sets.specs.declared.series.Series.{Series}
 use Rattle.block_meta.specs.MetaFields.{fields_of}
-use Rattle.block_ranges.specs.ChunkRanges.{IsSetOf}
-use Rattle.block_ranges.specs.Reads.{Query as Question, damaged, fault, missing}
+use Rattle.read_ranges.specs.ChunkRanges.{IsSetOf}
+use Rattle.read_ranges.specs.Reads.{Query as Question, damaged, fault, missing}
 use Rattle.series_calls.specs.SeriesCalls.{CallEnd, Called, Gives, SeriesRun, broke, sources_of, took}
 use Rattle.series_calls.specs.declared.series_end.SeriesEnd.{SeriesEnd}
 use Rattle.series_calls.specs.declared.series_end.SeriesEnd.TheVariants as called

@@ -7,7 +7,7 @@ use Rattle.label_sets.specs.declared.series.Series.{Series}
 use Rattle.label_sets.specs.Triples.{triples_of}
 use Rattle.block_keys.specs.KeyText.{key_text}
 use Rattle.block_keys.specs.declared.key.Key.{Key}
-use Rattle.block_ranges.specs.Reads.{Query as Question}
+use Rattle.read_ranges.specs.Reads.{Query as Question}
 use Rattle.matchers.specs.Selected.{IsQueryAnswer}
 use Rattle.matchers.specs.SelectorText.{named_replicas}
 use Rattle.matchers.specs.declared.matcher.Matcher.{Matcher}

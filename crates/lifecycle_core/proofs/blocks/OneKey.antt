@@ -14,7 +14,7 @@ use Rattle.block_meta.specs.MetaValue.{meta_text}
 use Rattle.world_core.specs.declared.op.Op.TheVariants as op
 use Rattle.world_core.specs.declared.entry.Entry.{Entry}
 use Rattle.script_core.specs.Lawful.{IsLawfulScript}
-use Rattle.script_core.specs.Values.{is_reserved}
+use Rattle.script_fields.specs.Values.{is_reserved}
 use Rattle.script_core.specs.declared.block.Block.{Block as Declared}
 use Rattle.compactor.specs.NewBlocks.{new_ulid}
 use Rattle.activity_laws.specs.CompactionOps.{IsObjectMade, Stores}

@@ -12,7 +12,7 @@ use Rattle.compactor.specs.Compactions.{CompactRun}
 use Rattle.compactor.specs.declared.compact_end.CompactEnd.{CompactEnd}
 use Rattle.cleaner.specs.Cleanings.{CleanRun}
 use Rattle.cleaner.specs.declared.clean_end.CleanEnd.{CleanEnd}
-use Rattle.script_core.specs.Values.{agree}
+use Rattle.script_fields.specs.Values.{agree}
 use Rattle.script_core.specs.declared.block.Block.{Block}
 use Rattle.lifecycle_core.specs.Acting.{IsReading}
 use Rattle.lifecycle_core.specs.Conducts.{of_seat}

@@ -7,7 +7,7 @@ use Rattle.block_keys.specs.Keys.{key_ulid}
 use Rattle.block_keys.specs.KeyText.{key_text}
 use Rattle.block_keys.specs.declared.key.Key.{Key}
 use Rattle.bucket_core.specs.Contents.{Contents}
-use Rattle.block_ranges.specs.Reads.{Block, Query as Question, block_of}
+use Rattle.read_ranges.specs.Reads.{Block, Query as Question, block_of}
 use Rattle.series_calls.specs.Asking.{IsReadOfOne}
 use Rattle.series_calls.specs.LastEntries.{EndsWith}
 use Rattle.series_calls.specs.SeriesCalls.{CallEnd, SeriesRun, meets, to_read}

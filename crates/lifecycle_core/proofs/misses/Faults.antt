@@ -20,7 +20,7 @@ use Rattle.meta_fetcher.specs.declared.rules.SyncRules.{SyncRules}
 use Rattle.meta_fetcher.specs.declared.sync_end.SyncEnd.{SyncEnd}
 use Rattle.meta_fetcher.specs.declared.sync_end.SyncEnd.TheVariants as fetched
 use Rattle.meta_fetcher.specs.declared.view.View.{View}
-use Rattle.block_ranges.specs.Reads.{Cache, Query as Question}
+use Rattle.read_ranges.specs.Reads.{Cache, Query as Question}
 use Rattle.series_calls.specs.SeriesCalls.{CallEnd, SeriesRun}
 use Rattle.series_calls.proofs.ShownEnds.{shows_failed}
 use Rattle.series_calls.specs.declared.series_end.SeriesEnd.TheVariants as called

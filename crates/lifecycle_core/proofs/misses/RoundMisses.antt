@@ -1,6 +1,6 @@
 -- A compaction that found an object missing: its last entry is a read of an index that shows nothing, or of a segment that an index which it
 -- read before names.
-use Rattle.std.proofs.Common.{◌≡◌, ℕ, ◌+◌, append_assoc, ◌∙◌, List, [], ◌∷◌, ◌++◌, Some, sym, ap}
+use Rattle.std.proofs.Common.{◌≡◌, ℕ, append_assoc, ◌∙◌, List, [], ◌∷◌, ◌++◌, Some, sym, ap}
 use Rattle.std.proofs.lemmas.List.Elements.{Contains-append_right}
 use Rattle.moment_core.specs.declared.rules.Rules.{Rules}
 use Rattle.world_core.specs.declared.entry.Entry.{Entry}

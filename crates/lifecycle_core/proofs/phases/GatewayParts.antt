@@ -10,7 +10,7 @@ use Rattle.moment_core.specs.declared.partition.Partition.{Partition}
 use Rattle.querier.specs.declared.ask.Ask.{Ask}
 use Rattle.querier.specs.Asks.{ask_of, asks_from, has_times}
 use Rattle.world_core.specs.declared.entry.Entry.{Entry}
-use Rattle.block_ranges.specs.Reads.{Query as Question}
+use Rattle.read_ranges.specs.Reads.{Query as Question}
 use Rattle.lifecycle_core.specs.Holdings.{Holding, Use}
 use Rattle.lifecycle_core.specs.Setting.{Setting}
 use Rattle.series_calls.specs.SeriesCalls.{CallEnd, SeriesRun}

@@ -17,7 +17,7 @@ use Rattle.cleaner.specs.Cleanings.{cleaning}
 use Rattle.shipper.specs.declared.upload_end.UploadEnd.{UploadEnd}
 use Rattle.meta_fetcher.specs.Syncs.{IsEnd, SyncRun, sync}
 use Rattle.meta_fetcher.specs.declared.sync_end.SyncEnd.{SyncEnd}
-use Rattle.block_ranges.specs.Reads.{Query as Question}
+use Rattle.read_ranges.specs.Reads.{Query as Question}
 use Rattle.series_calls.specs.SeriesCalls.{CallEnd, Gives, SeriesRun, series_call, sources_of}
 use Rattle.series_calls.proofs.OneCall.{call_tells}
 use Rattle.script_workers.specs.Hands.{gateway_count, hands_of, seats_after, workers_from}

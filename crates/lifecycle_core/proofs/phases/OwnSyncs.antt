@@ -16,7 +16,7 @@ use Rattle.meta_fetcher.specs.declared.rules.SyncRules.{SyncRules}
 use Rattle.meta_fetcher.specs.declared.sync_end.SyncEnd.{SyncEnd}
 use Rattle.meta_fetcher.specs.declared.sync_end.SyncEnd.TheVariants as fetched
 use Rattle.meta_fetcher.specs.declared.view.View.{View}
-use Rattle.block_ranges.specs.Reads.{Query as Question}
+use Rattle.read_ranges.specs.Reads.{Query as Question}
 use Rattle.series_calls.specs.Asking.{IsReadOf, IsReadOfOne}
 use Rattle.series_calls.specs.SeriesCalls.{to_read}
 use Rattle.series_calls.proofs.CallLaws.{call_asks}

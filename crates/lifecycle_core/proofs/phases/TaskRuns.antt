@@ -11,7 +11,7 @@ use Rattle.meta_fetcher.specs.Syncs.{SyncRun}
 use Rattle.meta_fetcher.specs.declared.view.View.{View}
 use Rattle.meta_fetcher.specs.declared.sync_end.SyncEnd.{SyncEnd}
 use Rattle.meta_fetcher.specs.declared.sync_end.SyncEnd.TheVariants as fetched
-use Rattle.block_ranges.specs.Reads.{Query as Question}
+use Rattle.read_ranges.specs.Reads.{Query as Question}
 use Rattle.series_calls.specs.SeriesCalls.{CallEnd, SeriesRun, series_call}
 use Rattle.world_core.proofs.PlanLaws.{breaks_off}
 use Rattle.matchers.specs.declared.matcher.Matcher.{Matcher}

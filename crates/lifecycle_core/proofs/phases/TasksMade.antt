@@ -25,7 +25,7 @@ use Rattle.lifecycle_core.specs.Breaches.{IsSeatOf}
 use Rattle.lifecycle_core.specs.Causes.{SomeCame}
 use Rattle.lifecycle_core.specs.Conducts.{AreDone, Assigned, CameTo, PhaseRun, TasksAt, TasksRun, Who, WorkerRun, of_seat, who_of}
 use Rattle.index_cache.specs.declared.range.Range.{Range}
-use Rattle.block_ranges.specs.Reads.{Cache, Query as Question}
+use Rattle.read_ranges.specs.Reads.{Cache, Query as Question}
 use Rattle.series_calls.specs.KeptRanges.{IsOfReads, IsReadIn}
 use Rattle.series_calls.specs.SeriesCalls.{CallEnd, SeriesRun, to_read}
 use Rattle.series_calls.specs.Asking.{IsReadOfOne}

@@ -41,7 +41,7 @@ use Rattle.compactor.specs.Compactions as compactions
 use Rattle.compactor.specs.declared.compact_end.CompactEnd.{CompactEnd}
 use Rattle.compactor.specs.declared.compact_end.CompactEnd.TheVariants as compact
 use Rattle.cleaner.specs.Cleanings.{cleaning}
-use Rattle.block_ranges.specs.Reads.{Query as Question}
+use Rattle.read_ranges.specs.Reads.{Query as Question}
 use Rattle.series_calls.specs.SeriesCalls.{CallEnd}
 use Rattle.series_calls.specs.declared.series_end.SeriesEnd.{SeriesEnd}
 use Rattle.script_core.specs.declared.block.Block.{Block}

@@ -35,7 +35,7 @@ use Rattle.compactor.specs.Compactions.{CompactRun, metas_of, sync_rules}
 use Rattle.compactor.specs.NewBlocks.{new_ulid}
 use Rattle.compactor.specs.declared.compact_end.CompactEnd.TheVariants as compact
 use Rattle.script_core.specs.Lawful.{IsLawfulScript}
-use Rattle.script_core.specs.Values.{is_reserved}
+use Rattle.script_fields.specs.Values.{is_reserved}
 use Rattle.activity_laws.specs.CompactionOps.{HasSynced, IsCompactOp, IsInputRead, IsObjectMade, ReadsObject, WasRead}
 use Rattle.activity_laws.specs.Sights.{IsSeen}
 use Rattle.activity_laws.proofs.CompactionAsks.{compaction_op}

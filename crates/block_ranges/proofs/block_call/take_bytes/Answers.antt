@@ -1,8 +1,8 @@
 use Rattle.std.proofs.Common.{◌*◌, ◌+◌, length, map, refl}
 use Rattle.index_cache.specs.Caches.{held}
 use Rattle.block_ranges.specs.WorkStates.{most, symbols_piece, table_piece, lists_piece, with_symbols, with_table, with_lists, with_run, with_bytes, texts_of}
-use Rattle.block_ranges.specs.Asking.{piece_of}
-use Rattle.block_ranges.specs.ToRead.{run_read}
+use Rattle.read_ranges.specs.Asking.{piece_of}
+use Rattle.read_ranges.specs.ToRead.{run_read}
 use Rattle.block_ranges.specs.declared.work.Work.TheVariants as work
 use Rattle.block_ranges.proofs.Taking.{takes_as, leads_freely, leads_read}
 use Rattle.block_ranges.proofs.block_call.take_bytes.Goals as goal

@@ -1,5 +1,5 @@
 use Rattle.std.proofs.Common.{subst}
-use Rattle.block_ranges.specs.Asking.{block_asked}
+use Rattle.read_ranges.specs.Asking.{block_asked}
 use Rattle.block_ranges.specs.ChunkReads.{chunk_samples_at}
 use Rattle.block_ranges.specs.ChunksRead.{row_reads}
 use Rattle.block_ranges.specs.Glimpsed.{ReadsOn}

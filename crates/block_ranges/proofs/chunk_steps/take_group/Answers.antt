@@ -6,8 +6,8 @@ use Rattle.index_parts.specs.SeriesEntry.{reference_of}
 use Rattle.block_ranges.specs.ChunkReads.{glimpse_at, tests_at}
 use Rattle.block_ranges.specs.ChunksRead.{reads_of}
 use Rattle.block_ranges.specs.Glimpsed.{ShowsGroup}
-use Rattle.block_ranges.specs.Asking.{block_asked}
-use Rattle.block_ranges.specs.ToRead.{group_read}
+use Rattle.read_ranges.specs.Asking.{block_asked}
+use Rattle.read_ranges.specs.ToRead.{group_read}
 use Rattle.block_ranges.proofs.ChunkPlans.{group_shown, group_damaged}
 use Rattle.block_ranges.proofs.ChunksOn.{shown_as, refused_as_seen}
 use Rattle.block_ranges.proofs.chunk_steps.take_group.Goals as goal

@@ -3,7 +3,7 @@ use Rattle.std.specs.Prelude.{IsErr}
 use Rattle.std.specs.List.Sorted.{IsNonDecreasingBy}
 use Rattle.index_parts.specs.declared.chunk_place.ChunkPlace.{ChunkPlace}
 use Rattle.index_parts.specs.SeriesEntry.{reference_of}
-use Rattle.block_ranges.specs.Asking.{block_asked}
+use Rattle.read_ranges.specs.Asking.{block_asked}
 use Rattle.block_ranges.specs.ChunkReads.{tests_at}
 use Rattle.block_ranges.specs.ChunksRead.{reads_of}
 use Rattle.block_ranges.specs.Glimpsed.{ReadsOn}

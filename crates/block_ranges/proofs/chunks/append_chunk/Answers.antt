@@ -1,6 +1,6 @@
 use Rattle.std.proofs.Common.{◌∙◌, List, ap, drop, sym}
 use Rattle.label_sets.specs.declared.sample.Sample.{Sample}
-use Rattle.block_ranges.specs.Asking.{block_asked}
+use Rattle.read_ranges.specs.Asking.{block_asked}
 use Rattle.block_ranges.proofs.ChunkBehind.{chunk_stops, chunk_behind, chunk_fails, some_behind, none_behind}
 use Rattle.block_ranges.proofs.chunks.append_chunk.Goals as goal
 

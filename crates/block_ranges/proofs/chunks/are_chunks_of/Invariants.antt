@@ -1,6 +1,6 @@
 use Rattle.std.proofs.Common.{◌≡◌, true, take}
 use Rattle.std.specs.List.{list_all}
-use Rattle.block_ranges.specs.Asking.{block_asked}
+use Rattle.read_ranges.specs.Asking.{block_asked}
 use Rattle.block_ranges.specs.ChunkReads.{is_chunk_of}
 use Rattle.block_ranges.proofs.chunks.are_chunks_of.Given as goal
 

@@ -1,5 +1,5 @@
 use Rattle.std.proofs.Common.{refl, Vec, Global}
-use Rattle.block_ranges.specs.Asking.{block_asked}
+use Rattle.read_ranges.specs.Asking.{block_asked}
 use Rattle.block_ranges.specs.ChunksRead.{reads_of}
 use Rattle.block_ranges.specs.declared.chunk_row.ChunkRow.{ChunkRow}
 use Rattle.block_ranges.proofs.GroupShows.{shows_read, shows_waiting, shows_refused, one_waits, none_waits}

@@ -1,6 +1,6 @@
 use Rattle.std.proofs.Common.{arith}
-use Rattle.block_ranges.specs.Asking.{block_asked}
-use Rattle.block_ranges.specs.ToRead.{group_read}
+use Rattle.read_ranges.specs.Asking.{block_asked}
+use Rattle.read_ranges.specs.ToRead.{group_read}
 use Rattle.block_ranges.specs.ChunkReads.{tests_at}
 use Rattle.block_ranges.specs.Glimpsed.{shown_so}
 use Rattle.block_ranges.proofs.GroupShows.{none_measured, out_measured, within_measured}

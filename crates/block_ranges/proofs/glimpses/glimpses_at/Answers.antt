@@ -1,8 +1,8 @@
 use Rattle.std.proofs.Common.{ℕ, List, Some, ap, subst, get_or, map}
 use Rattle.std.proofs.lemmas.List.{take_all}
 use Rattle.block_content.specs.Firsts.{each_at}
-use Rattle.block_ranges.specs.Asking.{block_asked}
-use Rattle.block_ranges.specs.ToRead.{group_read}
+use Rattle.read_ranges.specs.Asking.{block_asked}
+use Rattle.read_ranges.specs.ToRead.{group_read}
 use Rattle.block_ranges.specs.ChunkReads.{tests_at, glimpse_at}
 use Rattle.block_ranges.specs.ChunksRead.{reads_of}
 use Rattle.block_ranges.specs.Glimpsed.{pending_chunk, shown_so, ShowsOne, ShowsGroup}

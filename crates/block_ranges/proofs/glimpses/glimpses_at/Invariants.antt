@@ -1,7 +1,7 @@
 use Rattle.std.specs.List.Sorted.{IsNonDecreasingBy}
 use Rattle.index_parts.specs.SeriesEntry.{reference_of}
-use Rattle.block_ranges.specs.Asking.{block_asked}
-use Rattle.block_ranges.specs.ToRead.{group_read}
+use Rattle.read_ranges.specs.Asking.{block_asked}
+use Rattle.read_ranges.specs.ToRead.{group_read}
 use Rattle.block_ranges.specs.ChunkReads.{tests_at, glimpse_at}
 use Rattle.block_ranges.specs.ChunksRead.{reads_of}
 use Rattle.block_ranges.proofs.GroupShows.{ShownUpto}

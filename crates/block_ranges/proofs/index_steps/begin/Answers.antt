@@ -1,6 +1,6 @@
 use Rattle.std.proofs.Common.{◌*◌, Some, None, Ok, sym, ◌∙◌, arith}
-use Rattle.block_ranges.specs.Asking.{query_asked, block_asked}
-use Rattle.block_ranges.specs.IndexReads.{by_size}
+use Rattle.read_ranges.specs.Asking.{query_asked, block_asked}
+use Rattle.read_ranges.specs.IndexReads.{by_size}
 use Rattle.block_ranges.specs.BlockReads.{block_call, breaks_off}
 use Rattle.block_ranges.specs.WorkStates.{most, after_index, whole_left}
 use Rattle.block_ranges.proofs.Leading.{leads_kept}

@@ -1,7 +1,7 @@
 use Rattle.std.proofs.Common.{◌+◌, ◌*◌, length, map, Ok, subst, arith}
 use Rattle.index_cache.specs.Caches.{held}
-use Rattle.block_ranges.specs.ToRead.{run_read}
-use Rattle.block_ranges.specs.IndexReads.{reached}
+use Rattle.read_ranges.specs.ToRead.{run_read}
+use Rattle.read_ranges.specs.IndexReads.{reached}
 use Rattle.block_ranges.specs.WorkStates.{most, texts_of, runs_left, chunks_left, whole_left}
 use Rattle.block_ranges.specs.RunFindings.{GoesOnRuns}
 use Rattle.block_ranges.proofs.Leading.{leads_kept}

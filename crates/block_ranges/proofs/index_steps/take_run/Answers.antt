@@ -1,8 +1,8 @@
 use Rattle.std.proofs.Common.{◌*◌, ◌+◌, ◌∙◌, List, ℕ, [], length, map, option_map, Option, Some, None, Ok, refl, sym, ap, subst, arith}
 use Rattle.index_cache.specs.Caches.{held}
-use Rattle.block_ranges.specs.Asking.{piece_of}
-use Rattle.block_ranges.specs.ToRead.{run_read}
-use Rattle.block_ranges.specs.IndexReads.{reached}
+use Rattle.read_ranges.specs.Asking.{piece_of}
+use Rattle.read_ranges.specs.ToRead.{run_read}
+use Rattle.read_ranges.specs.IndexReads.{reached}
 use Rattle.block_ranges.specs.WorkStates.{most, sized_left, runs_left, with_run, whole_left, texts_of}
 use Rattle.block_ranges.specs.RunFindings.{TakesRun}
 use Rattle.block_ranges.proofs.Leading.{leads_kept}

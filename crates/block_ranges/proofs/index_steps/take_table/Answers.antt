@@ -1,6 +1,6 @@
 use Rattle.std.proofs.Common.{◌*◌, ◌+◌, ◌∙◌, List, ℕ, [], length, map, option_map, Option, Some, None, Ok, refl, sym, ap, subst, arith}
 use Rattle.index_cache.specs.Caches.{held}
-use Rattle.block_ranges.specs.IndexReads.{reached}
+use Rattle.read_ranges.specs.IndexReads.{reached}
 use Rattle.block_ranges.specs.RunFindings.{TestsTable}
 use Rattle.block_ranges.specs.WorkStates.{most, range_left, sized_left, symbols_piece, table_piece, lists_piece, with_symbols, with_table, with_lists, whole_left}
 use Rattle.block_ranges.proofs.Leading.{leads_kept}

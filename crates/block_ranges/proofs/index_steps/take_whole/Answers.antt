@@ -2,9 +2,9 @@ use Rattle.std.proofs.Common.{◌*◌, ◌+◌, ◌∙◌, List, ℕ, [], length
 use Rattle.index_cache.specs.Caches.{held}
 use Rattle.world_core.specs.Plans.{ends}
 use Rattle.world_core.proofs.PlanLaws.{comes_kept}
-use Rattle.block_ranges.specs.Asking.{query_asked, block_asked}
-use Rattle.block_ranges.specs.Reads.{damaged}
-use Rattle.block_ranges.specs.IndexReads.{reached, after_whole}
+use Rattle.read_ranges.specs.Asking.{query_asked, block_asked}
+use Rattle.read_ranges.specs.Reads.{damaged}
+use Rattle.read_ranges.specs.IndexReads.{reached, after_whole}
 use Rattle.block_ranges.specs.BlockReads.{breaks_off}
 use Rattle.block_ranges.specs.BlockRuns.{IsEnd}
 use Rattle.block_ranges.specs.WorkStates.{most, after_index, chunks_left}

@@ -1,5 +1,5 @@
 use Rattle.std.proofs.Common.{◌≡◌, ◌++◌, take, filter}
-use Rattle.block_ranges.specs.ChunkRanges.{meets}
+use Rattle.read_ranges.specs.ChunkRanges.{meets}
 use Rattle.block_ranges.proofs.places.add_taken.Given as goal
 
 abbrev pub invariant-loop-place : goal.invariant-loop-place

@@ -1,6 +1,6 @@
 use Rattle.std.proofs.Common.{◌≡◌, take}
 use Rattle.std.specs.List.{flat_map}
-use Rattle.block_ranges.specs.Asking.{query_asked}
+use Rattle.read_ranges.specs.Asking.{query_asked}
 use Rattle.block_ranges.specs.BlockReads.{taken}
 use Rattle.block_ranges.proofs.places.taken_places.Given as goal
 

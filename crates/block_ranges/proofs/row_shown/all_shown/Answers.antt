@@ -3,7 +3,7 @@ use Rattle.std.specs.Prelude.{IfOk}
 use Rattle.std.specs.List.{flat_map}
 use Rattle.std.specs.List.Sorted.{IsStrictlyIncreasing}
 use Rattle.label_sets.specs.Triples.{triples_of}
-use Rattle.block_ranges.specs.Asking.{query_asked, block_asked}
+use Rattle.read_ranges.specs.Asking.{query_asked, block_asked}
 use Rattle.block_ranges.specs.BlockReads.{shown}
 use Rattle.block_ranges.specs.ChunkReads.{Read}
 use Rattle.block_ranges.specs.ChunksRead.{reads_of, reads_apart, references_in, references_apart}

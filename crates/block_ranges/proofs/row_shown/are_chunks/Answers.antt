@@ -1,4 +1,4 @@
-use Rattle.block_ranges.specs.ChunkRanges.{meets}
+use Rattle.read_ranges.specs.ChunkRanges.{meets}
 use Rattle.block_ranges.specs.RowsFit.{row_names}
 use Rattle.block_ranges.proofs.RowSamples.{no_chunks, place_more, places_all}
 use Rattle.block_ranges.proofs.row_shown.are_chunks.Goals as goal

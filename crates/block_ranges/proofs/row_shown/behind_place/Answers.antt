@@ -1,5 +1,5 @@
 use Rattle.std.proofs.Common.{◌∙◌, ◌<◌, length, refl, sym, arith}
-use Rattle.block_ranges.specs.ChunkRanges.{meets}
+use Rattle.read_ranges.specs.ChunkRanges.{meets}
 use Rattle.block_ranges.specs.RowsFit.{row_names}
 use Rattle.block_ranges.proofs.RowSamples.{place_passed, place_met, first_chunk_and}
 use Rattle.block_ranges.proofs.row_shown.behind_place.Goals as goal

@@ -3,8 +3,8 @@ use Rattle.std.specs.Prelude.{not}
 use Rattle.std.specs.List.{list_all}
 use Rattle.index_parts.specs.declared.chunk_place.ChunkPlace.{ChunkPlace}
 use Rattle.index_parts.specs.SeriesEntry.{reference_of}
-use Rattle.block_ranges.specs.Asking.{query_asked}
-use Rattle.block_ranges.specs.ChunkRanges.{meets}
+use Rattle.read_ranges.specs.Asking.{query_asked}
+use Rattle.read_ranges.specs.ChunkRanges.{meets}
 use Rattle.block_ranges.specs.RowsFit.{references_taken, row_names}
 use Rattle.block_ranges.proofs.RowSamples.{begins_with, begins_not, none_named, some_named, first_row_and}
 use Rattle.block_ranges.proofs.row_shown.behind_row.Goals as goal

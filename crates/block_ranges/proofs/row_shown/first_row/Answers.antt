@@ -3,8 +3,8 @@ use Rattle.std.specs.Prelude.{not}
 use Rattle.std.specs.List.{list_all}
 use Rattle.std.proofs.lemmas.List.{nil_from_length}
 use Rattle.index_parts.specs.declared.chunk_place.ChunkPlace.{ChunkPlace}
-use Rattle.block_ranges.specs.Asking.{query_asked}
-use Rattle.block_ranges.specs.ChunkRanges.{meets}
+use Rattle.read_ranges.specs.Asking.{query_asked}
+use Rattle.read_ranges.specs.ChunkRanges.{meets}
 use Rattle.block_ranges.specs.RowsFit.{references_taken}
 use Rattle.block_ranges.proofs.RowSamples.{none_named, some_named, took_none, took_first, took_nothing}
 use Rattle.block_ranges.proofs.row_shown.first_row.Goals as goal

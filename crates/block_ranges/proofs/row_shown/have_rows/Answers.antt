@@ -1,7 +1,7 @@
 use Rattle.std.proofs.Common.{List, sym, subst}
 use Rattle.std.proofs.lemmas.List.{drop_all}
 use Rattle.index_file.specs.declared.index_series.IndexSeries.{IndexSeries}
-use Rattle.block_ranges.specs.Asking.{query_asked}
+use Rattle.read_ranges.specs.Asking.{query_asked}
 use Rattle.block_ranges.specs.RowsFit.{HaveRows}
 use Rattle.block_ranges.proofs.RowSamples.{series_more}
 use Rattle.block_ranges.proofs.row_shown.have_rows.Goals as goal

@@ -1,5 +1,5 @@
 use Rattle.std.proofs.Common.{drop}
-use Rattle.block_ranges.specs.Asking.{query_asked}
+use Rattle.read_ranges.specs.Asking.{query_asked}
 use Rattle.block_ranges.specs.RowsFit.{HaveRows}
 use Rattle.block_ranges.proofs.row_shown.have_rows.Given as goal
 

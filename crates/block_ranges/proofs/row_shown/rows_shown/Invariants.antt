@@ -1,4 +1,4 @@
-use Rattle.block_ranges.specs.Asking.{query_asked, block_asked}
+use Rattle.read_ranges.specs.Asking.{query_asked, block_asked}
 use Rattle.block_ranges.proofs.RowSamples.{RowsLeft}
 use Rattle.block_ranges.proofs.row_shown.rows_shown.Given as goal
 

@@ -1,12 +1,12 @@
 use Rattle.std.proofs.Common.{◌≡◌, ◌∷◌, List, ℕ, None, Some, length, map, option_map, ap, subst, arith}
 use Rattle.block_keys.specs.declared.key.Key.TheVariants.{Index}
 use Rattle.index_cache.specs.Caches.{held}
-use Rattle.block_ranges.specs.Asking.{piece_of}
-use Rattle.block_ranges.specs.ToRead.{run_read}
-use Rattle.block_ranges.specs.declared.run_read.RunRead.{RunRead}
-use Rattle.block_ranges.specs.Reads.{range_of}
-use Rattle.block_ranges.specs.Caching.{IsFromCache}
-use Rattle.block_ranges.specs.IndexReads.{reached}
+use Rattle.read_ranges.specs.Asking.{piece_of}
+use Rattle.read_ranges.specs.ToRead.{run_read}
+use Rattle.read_ranges.specs.declared.run_read.RunRead.{RunRead}
+use Rattle.read_ranges.specs.Reads.{range_of}
+use Rattle.read_ranges.specs.Caching.{IsFromCache}
+use Rattle.read_ranges.specs.IndexReads.{reached}
 use Rattle.block_ranges.specs.WorkStates.{runs_left, texts_of}
 use Rattle.block_ranges.specs.RunFindings.{TakesRun}
 use Rattle.block_ranges.proofs.RunLoop.{run_goes_on, run_breaks}

@@ -1,8 +1,8 @@
 use Rattle.std.proofs.Common.{◌≤◌, length, map}
 use Rattle.world_core.specs.Plans.{Keeps}
 use Rattle.index_cache.specs.Caches.{held}
-use Rattle.block_ranges.specs.IndexReads.{reached}
-use Rattle.block_ranges.specs.ToRead.{run_read}
+use Rattle.read_ranges.specs.IndexReads.{reached}
+use Rattle.read_ranges.specs.ToRead.{run_read}
 use Rattle.block_ranges.specs.WorkStates.{runs_left, texts_of}
 use Rattle.block_ranges.proofs.run_steps.cached_runs.Given as goal
 

@@ -1,9 +1,9 @@
 use Rattle.std.proofs.Common.{ℕ, nat_lt, ap, sym, ◌∙◌}
 use Rattle.std.proofs.lemmas.List.Folds.{list_all-map, list_all_at}
-use Rattle.block_ranges.specs.IndexRanges.{has_bytes, Run}
-use Rattle.block_ranges.specs.Asking.{piece_of}
-use Rattle.block_ranges.specs.ToRead.{run_read}
-use Rattle.block_ranges.specs.declared.run_read.RunRead.{RunRead}
+use Rattle.read_ranges.specs.IndexRanges.{has_bytes, Run}
+use Rattle.read_ranges.specs.Asking.{piece_of}
+use Rattle.read_ranges.specs.ToRead.{run_read}
+use Rattle.read_ranges.specs.declared.run_read.RunRead.{RunRead}
 use Rattle.block_ranges.proofs.run_steps.have_bytes.Goals as goal
 
 pub returns-then-run-eq0 : goal.returns-then-run-eq0

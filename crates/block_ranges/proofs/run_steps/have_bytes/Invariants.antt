@@ -1,7 +1,7 @@
 use Rattle.std.proofs.Common.{◌≡◌, true, take, map}
 use Rattle.std.specs.List.{list_all}
-use Rattle.block_ranges.specs.IndexRanges.{has_bytes}
-use Rattle.block_ranges.specs.ToRead.{run_read}
+use Rattle.read_ranges.specs.IndexRanges.{has_bytes}
+use Rattle.read_ranges.specs.ToRead.{run_read}
 use Rattle.block_ranges.proofs.run_steps.have_bytes.Given as goal
 
 abbrev pub invariant-loop-run : goal.invariant-loop-run

@@ -1,10 +1,10 @@
 use Rattle.std.proofs.Common.{◌≡◌, List, ℕ, Ok, subst}
 use Rattle.index_parts.specs.RowsReading.{postings_table_at}
 use Rattle.index_slices.specs.Parts.{known}
-use Rattle.block_ranges.specs.IndexReads.{part_at}
-use Rattle.block_ranges.specs.Asking.{query_asked, block_asked}
-use Rattle.block_ranges.specs.Selecting.{Selects, tables_held}
-use Rattle.block_ranges.specs.ToRead.{AreRunsToRead}
+use Rattle.read_ranges.specs.IndexReads.{part_at}
+use Rattle.read_ranges.specs.Asking.{query_asked, block_asked}
+use Rattle.read_ranges.specs.Selecting.{Selects, tables_held}
+use Rattle.read_ranges.specs.ToRead.{AreRunsToRead}
 use Rattle.block_ranges.specs.WorkStates.{table_piece}
 use Rattle.block_ranges.proofs.FoundSeries.{parts_found}
 use Rattle.block_ranges.proofs.run_steps.selected_runs.Goals as goal

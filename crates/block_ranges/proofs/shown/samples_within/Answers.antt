@@ -5,7 +5,7 @@ use Rattle.std.proofs.lemmas.List.{take_all}
 use Rattle.label_sets.specs.declared.sample.Sample.{Sample}
 use Rattle.index_parts.specs.declared.chunk_place.ChunkPlace.{ChunkPlace}
 use Rattle.matchers.specs.Selected.{is_between}
-use Rattle.block_ranges.specs.ChunkRanges.{meets}
+use Rattle.read_ranges.specs.ChunkRanges.{meets}
 use Rattle.block_ranges.specs.BlockReads.{samples_of}
 use Rattle.block_ranges.specs.ChunksRead.{reads_apart}
 use Rattle.block_ranges.proofs.ShownSamples.{met_more}

@@ -1,7 +1,7 @@
 use Rattle.std.proofs.Common.{◌≡◌, take, filter}
 use Rattle.std.specs.List.{flat_map}
 use Rattle.std.specs.List.Sorted.{IsStrictlyIncreasing}
-use Rattle.block_ranges.specs.ChunkRanges.{meets}
+use Rattle.read_ranges.specs.ChunkRanges.{meets}
 use Rattle.block_ranges.specs.BlockReads.{samples_of}
 use Rattle.block_ranges.specs.ChunksRead.{reads_apart, references_apart}
 use Rattle.block_ranges.proofs.shown.samples_within.Given as goal

@@ -3,9 +3,9 @@ use Rattle.std.specs.List.{flat_map}
 use Rattle.label_sets.specs.declared.sample.Sample.{Sample}
 use Rattle.matchers.specs.Selected.{is_between}
 use Rattle.index_parts.specs.declared.chunk_place.ChunkPlace.{ChunkPlace}
-use Rattle.block_ranges.specs.ChunkRanges.{meets}
+use Rattle.read_ranges.specs.ChunkRanges.{meets}
 use Rattle.block_ranges.specs.BlockReads.{samples_of}
-use Rattle.block_ranges.specs.Asking.{query_asked, block_asked}
+use Rattle.read_ranges.specs.Asking.{query_asked, block_asked}
 use Rattle.block_ranges.specs.ChunksRead.{reads_apart}
 use Rattle.block_ranges.proofs.ShownSamples.{shown_is}
 use Rattle.block_ranges.proofs.shown.shown.Goals as goal

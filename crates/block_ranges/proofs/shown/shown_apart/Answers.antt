@@ -1,6 +1,6 @@
 use Rattle.std.proofs.Common.{ap, ◌∙◌}
 use Rattle.label_sets.specs.Triples.{triples_of}
-use Rattle.block_ranges.specs.Asking.{query_asked, block_asked}
+use Rattle.read_ranges.specs.Asking.{query_asked, block_asked}
 use Rattle.block_ranges.specs.ChunksRead.{reads_apart}
 use Rattle.block_ranges.specs.BlockReads.{shown}
 use Rattle.block_ranges.proofs.ShownSamples.{none_shown, more_shown}

@@ -1,10 +1,10 @@
 use Rattle.std.proofs.Common.{◌≡◌, ◌≤◌, ◌+◌, length}
-use Rattle.script_core.specs.Fields.{lines_of}
+use Rattle.script_fields.specs.Fields.{lines_of}
 use Rattle.script_core.specs.Reading.{lines_at}
 use Rattle.script_core.specs.View.{state_of}
 use Rattle.script_core.proofs.LinesSoFar.{ReadSoFar}
 use Rattle.script_core.proofs.reader.read_lines.Given as goal
-use Rattle.script_core.specs.Limits.{longest_text}
+use Rattle.script_fields.specs.Limits.{longest_text}
 
 -- what is read of the lines that are left is what is read of all
 abbrev pub invariant-loop-left : goal.invariant-loop-left

@@ -1,4 +1,4 @@
-use Rattle.std.proofs.Common.{◌≡◌, ℕ, List, get_or, refl, sym, ◌∙◌, subst}
+use Rattle.std.proofs.Common.{◌≡◌, ℕ, List, refl, sym, ◌∙◌, subst}
 use Rattle.matchers.specs.SelectorRefusals.{IsReadable}
 use Rattle.script_running.proofs.Taking.{found}
 use Rattle.script_running.proofs.means.read_at.Goals as goal

@@ -3,7 +3,7 @@ use Rattle.std.proofs.lemmas.List.{take_all}
 use Rattle.std.specs.Prelude.{Ok}
 use Rattle.script_running.specs.Lending.{setting_in}
 use Rattle.script_running.specs.Tasks.{is_full_came}
-use Rattle.script_running.proofs.WorkerSteps.{all_worked, default_any, none_done, none_worked, place_within, refused_broken, refused_none, short_by, step_broken, step_worked, unrefused}
+use Rattle.script_running.proofs.WorkerSteps.{all_worked, default_any, none_done, none_worked, refused_broken, refused_none, short_by, step_broken, step_worked, unrefused}
 use Rattle.script_running.proofs.worker.do_tasks.Goals as goal
 
 pub returns-in_default-clause-worked : goal.returns-in_default-clause-worked

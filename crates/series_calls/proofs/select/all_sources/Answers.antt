@@ -1,8 +1,8 @@
 use Rattle.std.proofs.Common.{◌∙◌, ℕ, List, ap, eqb, subst}
 use Rattle.std.proofs.lemmas.List.{take_all}
 use Rattle.std.proofs.lemmas.List.Filters.{dedup_is}
-use Rattle.block_ranges.specs.ChunkRanges.{IsSetOf}
-use Rattle.block_ranges.proofs.Sorting.{set_of}
+use Rattle.read_ranges.specs.ChunkRanges.{IsSetOf}
+use Rattle.read_ranges.proofs.Sorting.{set_of}
 use Rattle.series_calls.specs.SeriesCalls.{sources_of}
 use Rattle.series_calls.proofs.select.all_sources.Goals as goal
 

@@ -1,5 +1,4 @@
-use Rattle.std.proofs.Common.{ap, subst, ◌∙◌}
-use Rattle.script_core.specs.Blocks.{declares}
+use Rattle.std.proofs.Common.{subst}
 use Rattle.script_running.specs.Lending.{Loan, setting_in}
 use Rattle.script_running.specs.Shelves.{Knows}
 use Rattle.script_running.proofs.Shelves.{knows}

@@ -1,0 +1,60 @@
+//! The reads of groups of chunks.
+ghost use Rattle.std.specs.Prelude.{◌≡◌, ◌+◌, ◌*◌, ◌^◌, ◌<◌, ◌≤◌, map, All, length, IfOk};
+ghost use Rattle.std.specs.List.Sorted.{IsStrictlyIncreasing};
+ghost use Rattle.read_ranges.specs.Stretches.{stretch_at, IsSpanOf};
+ghost use Rattle.read_ranges.specs.ChunkRanges.{group_of};
+ghost use Rattle.read_ranges.specs.ToRead.{group_read, AreGroupsToRead};
+
+use crate::group_read::GroupRead;
+use crate::{ByteRange, Span, groups_of_references};
+use list_core::NoMemory;
+use std::alloc::Global;
+use wire_bytes::NumberList;
+
+/// How many bytes are read from the last chunk of a group on: as much as most chunks take.
+const BEHIND: u64 = 4096;
+
+/// The groups of references to chunks, which ascend, with what is read of each at first.
+pub fn groups_to_read(alloc: Global, references: &[u64]) -> Result<Vec<GroupRead>, NoMemory>
+    requires rise { IsStrictlyIncreasing references.now }
+    requires keys { All (λ r. r < 999_999 * 2 ^ 32) references.now }
+    ensures { IfOk result (λ groups. AreGroupsToRead references.now groups.items) }
+{
+    let spans = groups_of_references(alloc, references)?;
+    all_groups(alloc, references, &spans)
+}
+
+fn all_groups(alloc: Global, references: &[u64], spans: &[Span]) -> Result<Vec<GroupRead>, NoMemory>
+    requires keys { All (λ r. r < 999_999 * 2 ^ 32) references.now }
+    requires within { All (IsSpanOf references.now) spans.now }
+    ensures { IfOk result
+        (λ groups. map group_read groups.items
+        ≡ map group_of (map (stretch_at references.now) spans.now)) }
+{
+    let mut groups = Vec::new(alloc);
+    for span in spans {
+        groups.push(group_to_read(alloc, references, *span)?)?;
+    }
+    Ok(groups)
+}
+
+fn group_to_read(alloc: Global, references: &[u64], span: Span) -> Result<GroupRead, NoMemory>
+    requires keys { All (λ r. r < 999_999 * 2 ^ 32) references.now }
+    requires within { IsSpanOf references.now span }
+    ensures { IfOk result (λ group. group_read group ≡ group_of (stretch_at references.now span)) }
+{
+    let first = references[span.start];
+    let last = references[span.end - 1];
+    Ok(GroupRead {
+        segment: (first / 0x1_0000_0000) as u32 + 1,
+        first,
+        range: ByteRange {
+            from: first % 0x1_0000_0000,
+            len: last.saturating_sub(first) + BEHIND,
+        },
+        references: NumberList::from_vec(Vec::from_slice(
+            alloc,
+            &references[span.start..span.end],
+        )?),
+    })
+}

@@ -1,9 +1,0 @@
-use Rattle.std.proofs.Common.{lit<, rules, tests}
-use Rattle.std.proofs.lemmas.Iterator.Search.{all_from_yields_List}
-use Rattle.std.proofs.lemmas.Iterator.Splits.{YieldsList-from_str_split}
-use Rattle.script_core.specs.Samples.{has_small_number}
-use Rattle.script_core.proofs.samples.have_small_numbers.Goals as goal
-
-pub returns : goal.returns
-returns c =
-    all_from_yields_List has_small_number _ _ _ c.all.ensures.ran (YieldsList-from_str_split 32 c.args.texts.now (lit< tt) c.split.ensures.text c.split.ensures.has_more c.split.ensures.pattern) (λ x b q k. search (rules, tests))
