@@ -26,8 +26,20 @@ fn shorter(one: usize, other: usize) -> usize
     if one < other { one } else { other }
 }
 
-/// The first bytes in which two texts differ, where a text's end counts as 256.
+/// The first bytes in which two texts differ, where a text's end counts as 256. Texts that are the same, as those of nearly all
+/// replies are, are compared many bytes at a time.
+#[tactic(auto, using(crate::proofs::Texts::same_texts))]
 pub(crate) fn first_difference(one: &[u8], other: &[u8]) -> Option<(u64, u64)>
+    ensures { IsDifference one.now other.now result }
+{
+    if one == other {
+        return None;
+    }
+    difference_by_bytes(one, other)
+}
+
+/// The same, byte by byte.
+fn difference_by_bytes(one: &[u8], other: &[u8]) -> Option<(u64, u64)>
     ensures { IsDifference one.now other.now result }
 {
     let count = shorter(one.len(), other.len());

@@ -149,7 +149,8 @@ fn keep_view(
     told: Option<Told>,
 ) -> Result<(), NoMemory>
     ensures { OnOk result ((other : ℕ) → get nat_cmp views.new other
-        ≡ gateway_or (given_by told) (is_eq (nat_cmp gateway other)) (get nat_cmp views.old other)) }
+        ≡ gateway_or (given_by told) (is_eq (nat_cmp gateway other))
+        (get nat_cmp views.old other)) }
 {
     if let Some(begin) = given(told) {
         views.insert(gateway, begin)?;

@@ -11,7 +11,8 @@ ghost use Rattle.breach_finding.specs.declared.found.Breach.{Breach};
 /// A law: of a journal there is one answer. Where it has a breach, the answer is that breach, and where no rule refuses an
 /// entry, there is none.
 pub fn answers_are_one()
-    ensures one { (setting : Setting) (tick : ℕ) (journal : List Entry) → IsLawfulScript setting.script
+    ensures one { (setting : Setting) (tick : ℕ) (journal : List Entry)
+        → IsLawfulScript setting.script
         → IsJournal tick journal → (one other : Option Breach) → IsAnswer setting journal one
         → IsAnswer setting journal other → one ≡ other }
     ensures breach { (setting : Setting) (journal : List Entry) (rule : Rule) (number x y : ℕ)

@@ -1,6 +1,6 @@
 use Rattle.std.proofs.Common.{◌≡◌, take, length, sym, ◌∙◌, subst, arith}
 use Rattle.breach_finding.proofs.Texts.{differ_at, ends_apart, one_further}
-use Rattle.breach_finding.proofs.differing.first_difference.Goals as goal
+use Rattle.breach_finding.proofs.differing.difference_by_bytes.Goals as goal
 
 pub returns-then-x-y : goal.returns-then-x-y
 returns-then-x-y c = differ_at c.args.one.now c.args.other.now c.loop-place.place c.byte_at-x.result c.byte_at-y.result c.loop-place.invariant c.byte_at-x.ensures.next c.byte_at-y.ensures.next c.if-x-y.true
