@@ -1,5 +1,5 @@
 -- Tallies to which activities are added.
-use Rattle.std.proofs.Common.{◌≡◌, ◌&&◌, ℕ, ◌+◌, ◌-◌, Bool, true, false, List, [], ◌∷◌, ◌++◌, length, refl, sym, ◌∙◌, ap, ap₂, subst, append_assoc, append-nil, arith}
+use Rattle.std.proofs.Common.{◌≡◌, ◌&&◌, ℕ, Bool, true, false, List, [], ◌∷◌, ◌++◌, length, refl, sym, ◌∙◌, ap, ap₂, subst, append_assoc, append-nil, arith}
 use Rattle.std.specs.Prelude.{Ok, Err, OnErr, OnOk, Result, take}
 use Rattle.std.specs.List.{list_all, sum_by}
 use Rattle.std.proofs.lemmas.List.{length-append}

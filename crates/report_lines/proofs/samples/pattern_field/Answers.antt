@@ -1,0 +1,21 @@
+use Rattle.std.proofs.Common.{◌+◌, ◌*◌, ◌-◌, refl, arith, ◌∙◌, replicate}
+use Rattle.std.proofs.lemmas.List.{length-set}
+use Rattle.label_sets.specs.SampleText.{pattern_text}
+use Rattle.report_lines.proofs.Signs.{two_before, none_stand, all_stand}
+use Rattle.report_lines.proofs.samples.pattern_field.Goals as goal
+
+pub loop-pair-init : goal.loop-pair-init
+loop-pair-init c = record { size = refl; few = omega arith; whole = none_stand c.args.pattern (replicate 40 32) refl }
+
+pub loop-pair-preserved : goal.loop-pair-preserved
+loop-pair-preserved c =
+    let l = c.loop-pair in
+    record {
+      size = length-set _ _ _ ∙ (length-set l.field (25 + 2 * (l.pair - 1)) c.sign_pair-high.result.1 ∙ l.invariant.size);
+      few = omega (arith, l.invariant.few);
+      whole = two_before (pattern_text c.args.pattern) l.field l.pair l.rest c.sign_pair-high.result.0 c.sign_pair-high.result.1 (24 + 2 * (l.pair - 1)) (25 + 2 * (l.pair - 1))
+          c.loop-pair-test.true l.invariant.size l.invariant.few refl refl c.sign_pair-high.ensures.high c.sign_pair-high.ensures.low l.invariant.whole;
+    }
+
+pub returns : goal.returns
+returns c = all_stand c.args.pattern c.loop-pair.field c.loop-pair.pair c.loop-pair.rest c.loop-pair-test.false c.loop-pair.invariant.whole

@@ -1,0 +1,8 @@
+use Rattle.report_lines.proofs.Signs.{signs_at}
+use Rattle.report_lines.proofs.samples.sign_pair.Goals as goal
+
+pub returns-clause-high : goal.returns-clause-high
+returns-clause-high c = (signs_at c.args.number c.requires).0
+
+pub returns-clause-low : goal.returns-clause-low
+returns-clause-low c = (signs_at c.args.number c.requires).1
