@@ -21,11 +21,11 @@ use Rattle.lifecycle_core.proofs.phases.OneEnding.{alike, at_tells, first_longer
 use Rattle.tests_worked.specs.OneBlock as one
 use Rattle.tests_worked.specs.QueryAgain as again
 use Rattle.tests_worked.specs.SmallRuns as runs
-use Rattle.tests_worked.proofs.Each.{workers_seats}
-use Rattle.tests_worked.proofs.OneBlock.{uploader}
+use Rattle.tests_worked.proofs.small.Each.{workers_seats}
+use Rattle.tests_worked.proofs.one.OneBlock.{uploader}
 use Rattle.tests_worked.proofs.QueryAgain.{at, first_tasks, first_workers, second_workers, worker}
-use Rattle.tests_worked.proofs.SmallCalls.{call_again, called_by, left, query_task, question, synced_by, up_asked}
-use Rattle.tests_worked.proofs.SmallTasks.{sync_run}
+use Rattle.tests_worked.proofs.small.SmallCalls.{call_again, called_by, left, query_task, question, synced_by, up_asked}
+use Rattle.tests_worked.proofs.small.SmallTasks.{sync_run}
 
 abbrev Ran : List Entry → Holding → List Assigned → List Entry → List End → Holding → Type 0
 Ran = TasksRun (by_script again.setting) (who_of worker)

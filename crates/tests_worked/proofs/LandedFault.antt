@@ -26,10 +26,10 @@ use Rattle.lifecycle_core.specs.Ways.{PhasesRun}
 use Rattle.lifecycle_core.proofs.journals.Positions.{stands_in}
 use Rattle.tests_worked.specs.SmallBlock as small
 use Rattle.tests_worked.specs.LandedFault as fault
-use Rattle.tests_worked.proofs.Bucket.{shows_meta}
-use Rattle.tests_worked.proofs.SmallMeta.{is_meta_text, meta_is}
-use Rattle.tests_worked.proofs.Each.{each_of, by_workers_alone}
-use Rattle.tests_worked.proofs.BuiltBlock.{shipped_objects}
+use Rattle.tests_worked.proofs.small.Bucket.{shows_meta}
+use Rattle.tests_worked.proofs.small.SmallMeta.{is_meta_text, meta_is}
+use Rattle.tests_worked.proofs.small.Each.{each_of, by_workers_alone}
+use Rattle.tests_worked.proofs.small.BuiltBlock.{shipped_objects}
 
 -- ---- the workers
 

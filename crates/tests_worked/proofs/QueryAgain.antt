@@ -23,12 +23,12 @@ use Rattle.tests_worked.specs.OneBlock as one
 use Rattle.tests_worked.specs.QueryAgain as again
 use Rattle.tests_worked.specs.SmallBlock as small
 use Rattle.tests_worked.specs.SmallRuns as runs
-use Rattle.tests_worked.proofs.Bucket.{contents_told, chunk_told, full, page, query_told, shows_meta, shows_index, shows_segment, shows_no_mark}
-use Rattle.tests_worked.proofs.Each.{each_after, each_of, by_workers_alone}
-use Rattle.tests_worked.proofs.OneBlock.{uploader}
-use Rattle.tests_worked.proofs.SmallCalls.{answer, call_again, called_by, left_again, query_task, question, synced_by, up_asked}
-use Rattle.tests_worked.proofs.SmallTasks.{sync_run, upload_task}
-use Rattle.tests_worked.proofs.YoungBlock.{kept_else, with_held}
+use Rattle.tests_worked.proofs.small.Bucket.{contents_told, chunk_told, full, page, query_told, shows_meta, shows_index, shows_segment, shows_no_mark}
+use Rattle.tests_worked.proofs.small.Each.{each_after, each_of, by_workers_alone}
+use Rattle.tests_worked.proofs.one.OneBlock.{uploader}
+use Rattle.tests_worked.proofs.small.SmallCalls.{answer, call_again, called_by, left_again, query_task, question, synced_by, up_asked}
+use Rattle.tests_worked.proofs.small.SmallTasks.{sync_run, upload_task}
+use Rattle.tests_worked.proofs.young.YoungBlock.{kept_else, with_held}
 
 -- what the gateway holds in the end
 abbrev last : Holding

@@ -41,11 +41,11 @@ use Rattle.tests_worked.specs.Entries.{clock}
 use Rattle.tests_worked.specs.ShelfBlock as shelf
 use Rattle.tests_worked.specs.SmallBlock as small
 use Rattle.tests_worked.specs.SmallFiles as files
-use Rattle.tests_worked.proofs.BuiltBlock.{bytes, content, index_fits, same_objects, segment_fits}
-use Rattle.tests_worked.proofs.Each.{each_of, by_workers_alone}
-use Rattle.tests_worked.proofs.Ends.{of_each}
-use Rattle.tests_worked.proofs.OneBlock.{uploader}
-use Rattle.tests_worked.proofs.SmallMeta.{meta_is}
+use Rattle.tests_worked.proofs.small.BuiltBlock.{bytes, content, index_fits, same_objects, segment_fits}
+use Rattle.tests_worked.proofs.small.Each.{each_of, by_workers_alone}
+use Rattle.tests_worked.proofs.small.Ends.{of_each}
+use Rattle.tests_worked.proofs.one.OneBlock.{uploader}
+use Rattle.tests_worked.proofs.small.SmallMeta.{meta_is}
 
 -- ---- what is shipped
 

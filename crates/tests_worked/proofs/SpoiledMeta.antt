@@ -28,12 +28,12 @@ use Rattle.tests_worked.specs.Entries.{clock, found}
 use Rattle.tests_worked.specs.SmallBlock as small
 use Rattle.tests_worked.specs.OneBlock as one
 use Rattle.tests_worked.specs.SpoiledMeta as spoilt
-use Rattle.tests_worked.proofs.Bucket.{shows_meta}
-use Rattle.tests_worked.proofs.SmallMeta.{a_reads}
-use Rattle.tests_worked.proofs.Each.{each_of, by_workers_alone}
-use Rattle.tests_worked.proofs.OneBlock.{first_done, first_ends, first_phase, first_tasks, first_workers, gateway, second_own, second_tasks, second_workers}
-use Rattle.tests_worked.proofs.OneUnbroken.{front, front_is_kept}
-use Rattle.tests_worked.proofs.SmallTasks.{rules}
+use Rattle.tests_worked.proofs.small.Bucket.{shows_meta}
+use Rattle.tests_worked.proofs.small.SmallMeta.{a_reads}
+use Rattle.tests_worked.proofs.small.Each.{each_of, by_workers_alone}
+use Rattle.tests_worked.proofs.one.OneBlock.{first_done, first_ends, first_phase, first_tasks, first_workers, gateway, second_own, second_tasks, second_workers}
+use Rattle.tests_worked.proofs.one.OneUnbroken.{front, front_is_kept}
+use Rattle.tests_worked.proofs.small.SmallTasks.{rules}
 
 -- ---- the sync
 

@@ -60,12 +60,12 @@ use Rattle.tests_worked.specs.OneBlock as one
 use Rattle.tests_worked.specs.SmallBlock as small
 use Rattle.tests_worked.specs.SmallRuns as runs
 use Rattle.tests_worked.specs.TwoGateways as two
-use Rattle.tests_worked.proofs.Bucket.{full, page, query_told, shows_index, shows_meta, shows_no_mark, shows_segment}
-use Rattle.tests_worked.proofs.SmallMeta.{a_reads, meta_reads}
-use Rattle.tests_worked.proofs.Each.{each_after, each_of, by_workers_alone}
-use Rattle.tests_worked.proofs.SmallOutcomes.{small_answer, sync_out, upload_out}
-use Rattle.tests_worked.proofs.SmallCalls.{answer, call_run, called_by, left, query_task as query_by, synced_by, up_asked}
-use Rattle.tests_worked.proofs.SmallTasks.{sync_run, upload_task}
+use Rattle.tests_worked.proofs.small.Bucket.{full, page, query_told, shows_index, shows_meta, shows_no_mark, shows_segment}
+use Rattle.tests_worked.proofs.small.SmallMeta.{a_reads, meta_reads}
+use Rattle.tests_worked.proofs.small.Each.{each_after, each_of, by_workers_alone}
+use Rattle.tests_worked.proofs.small.SmallOutcomes.{small_answer, sync_out, upload_out}
+use Rattle.tests_worked.proofs.small.SmallCalls.{answer, call_run, called_by, left, query_task as query_by, synced_by, up_asked}
+use Rattle.tests_worked.proofs.small.SmallTasks.{sync_run, upload_task}
 
 -- ---- the tasks of the gateway that has a partition
 

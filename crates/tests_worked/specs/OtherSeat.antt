@@ -2,7 +2,7 @@
 -- view of the gateway's sync.
 use Rattle.std.specs.Prelude.{pos, List, [], ◌∷◌, ◌++◌}
 use Rattle.world_core.specs.declared.entry.Entry.{Entry}
-use Rattle.block_ranges.specs.Reads.{Query}
+use Rattle.read_ranges.specs.Reads.{Query}
 use Rattle.series_calls.specs.SeriesCalls.{asking}
 use Rattle.series_calls.specs.declared.series_end.SeriesEnd.{SeriesEnd}
 use Rattle.series_calls.specs.declared.series_end.SeriesEnd.TheVariants as called

@@ -1,4 +1,4 @@
-use Rattle.tests_worked.proofs.PairBlocks as row
+use Rattle.tests_worked.proofs.pair.PairBlocks as row
 use Rattle.tests_worked.proofs.compacted_pair.compacted_block_is_the_cause.Goals as goal
 
 pub returns : goal.returns

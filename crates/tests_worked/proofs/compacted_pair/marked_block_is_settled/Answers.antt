@@ -1,4 +1,4 @@
-use Rattle.tests_worked.proofs.PairBlocks as row
+use Rattle.tests_worked.proofs.pair.PairBlocks as row
 use Rattle.tests_worked.proofs.compacted_pair.marked_block_is_settled.Goals as goal
 
 pub returns : goal.returns

@@ -1,4 +1,4 @@
-use Rattle.tests_worked.proofs.CompactedPair as row
+use Rattle.tests_worked.proofs.pair.CompactedPair as row
 use Rattle.tests_worked.proofs.compacted_pair.pair_is_compacted.Goals as goal
 
 pub returns : goal.returns

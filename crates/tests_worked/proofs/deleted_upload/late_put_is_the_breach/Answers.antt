@@ -1,4 +1,4 @@
-use Rattle.tests_worked.proofs.DeletedBreach.{explained, is_breach, only_cause}
+use Rattle.tests_worked.proofs.deleted.DeletedBreach.{explained, is_breach, only_cause}
 use Rattle.tests_worked.proofs.deleted_upload.late_put_is_the_breach.Goals as goal
 
 pub returns : goal.returns

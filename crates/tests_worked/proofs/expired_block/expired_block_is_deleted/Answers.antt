@@ -1,4 +1,4 @@
-use Rattle.tests_worked.proofs.ExpiredBlock as row
+use Rattle.tests_worked.proofs.expired.ExpiredBlock as row
 use Rattle.tests_worked.proofs.expired_block.expired_block_is_deleted.Goals as goal
 
 pub returns : goal.returns

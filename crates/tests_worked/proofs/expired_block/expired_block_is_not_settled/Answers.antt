@@ -1,4 +1,4 @@
-use Rattle.tests_worked.proofs.ExpiredBreach as row
+use Rattle.tests_worked.proofs.expired.ExpiredBreach as row
 use Rattle.tests_worked.proofs.expired_block.expired_block_is_not_settled.Goals as goal
 
 pub returns : goal.returns

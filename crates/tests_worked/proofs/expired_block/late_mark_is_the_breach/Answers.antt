@@ -1,5 +1,5 @@
-use Rattle.tests_worked.proofs.ExpiredBlock as row
-use Rattle.tests_worked.proofs.ExpiredBreach.{hasty_breach}
+use Rattle.tests_worked.proofs.expired.ExpiredBlock as row
+use Rattle.tests_worked.proofs.expired.ExpiredBreach.{hasty_breach}
 use Rattle.tests_worked.proofs.expired_block.late_mark_is_the_breach.Goals as goal
 
 pub returns : goal.returns

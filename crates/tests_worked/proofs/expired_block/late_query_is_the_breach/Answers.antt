@@ -1,4 +1,4 @@
-use Rattle.tests_worked.proofs.ExpiredBreach as row
+use Rattle.tests_worked.proofs.expired.ExpiredBreach as row
 use Rattle.tests_worked.proofs.expired_block.late_query_is_the_breach.Goals as goal
 
 pub returns : goal.returns

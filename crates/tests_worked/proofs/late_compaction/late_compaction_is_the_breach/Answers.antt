@@ -1,4 +1,4 @@
-use Rattle.tests_worked.proofs.LateBreach.{explained, is_breach, only_cause}
+use Rattle.tests_worked.proofs.late.LateBreach.{explained, is_breach, only_cause}
 use Rattle.tests_worked.proofs.late_compaction.late_compaction_is_the_breach.Goals as goal
 
 pub returns : goal.returns

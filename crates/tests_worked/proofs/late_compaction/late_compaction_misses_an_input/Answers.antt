@@ -1,5 +1,5 @@
-use Rattle.tests_worked.proofs.LateCompaction.{finished, honest, run}
-use Rattle.tests_worked.proofs.LateRules.{lawful}
+use Rattle.tests_worked.proofs.late.LateCompaction.{finished, honest, run}
+use Rattle.tests_worked.proofs.late.LateRules.{lawful}
 use Rattle.tests_worked.proofs.late_compaction.late_compaction_misses_an_input.Goals as goal
 
 pub returns : goal.returns

@@ -1,5 +1,5 @@
-use Rattle.tests_worked.proofs.NoCause as row
-use Rattle.tests_worked.proofs.OneUnbroken.{lost_is_only_cause}
+use Rattle.tests_worked.proofs.one.NoCause as row
+use Rattle.tests_worked.proofs.one.OneUnbroken.{lost_is_only_cause}
 use Rattle.tests_worked.proofs.lost_index.lost_index_has_no_other_cause.Goals as goal
 
 pub returns : goal.returns

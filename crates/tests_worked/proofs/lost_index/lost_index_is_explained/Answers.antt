@@ -1,4 +1,4 @@
-use Rattle.tests_worked.proofs.OneGuaranteed as row
+use Rattle.tests_worked.proofs.one.OneGuaranteed as row
 use Rattle.tests_worked.proofs.lost_index.lost_index_is_explained.Goals as goal
 
 pub returns : goal.returns

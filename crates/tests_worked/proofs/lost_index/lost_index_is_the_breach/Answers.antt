@@ -1,4 +1,4 @@
-use Rattle.tests_worked.proofs.OneUnbroken.{lost_is_breach}
+use Rattle.tests_worked.proofs.one.OneUnbroken.{lost_is_breach}
 use Rattle.tests_worked.proofs.lost_index.lost_index_is_the_breach.Goals as goal
 
 pub returns : goal.returns

@@ -1,5 +1,5 @@
 use Rattle.std.proofs.Common.{refl}
-use Rattle.tests_worked.proofs.OneGuaranteed as row
+use Rattle.tests_worked.proofs.one.OneGuaranteed as row
 use Rattle.tests_worked.proofs.lost_index.lost_index_runs.Goals as goal
 
 pub returns : goal.returns

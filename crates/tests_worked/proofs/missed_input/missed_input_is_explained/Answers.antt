@@ -1,4 +1,4 @@
-use Rattle.tests_worked.proofs.MissedInput as row
+use Rattle.tests_worked.proofs.pair.MissedInput as row
 use Rattle.tests_worked.proofs.missed_input.missed_input_is_explained.Goals as goal
 
 pub returns : goal.returns

@@ -1,4 +1,4 @@
-use Rattle.tests_worked.proofs.OneAnswer as answer
+use Rattle.tests_worked.proofs.one.OneAnswer as answer
 use Rattle.tests_worked.proofs.one_block.one_block_is_answered.Goals as goal
 
 pub returns : goal.returns

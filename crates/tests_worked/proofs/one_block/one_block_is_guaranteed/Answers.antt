@@ -1,4 +1,4 @@
-use Rattle.tests_worked.proofs.OneGuaranteed.{guaranteed}
+use Rattle.tests_worked.proofs.one.OneGuaranteed.{guaranteed}
 use Rattle.tests_worked.proofs.one_block.one_block_is_guaranteed.Goals as goal
 
 pub returns : goal.returns

@@ -1,4 +1,4 @@
-use Rattle.tests_worked.proofs.OneInTime as time
+use Rattle.tests_worked.proofs.one.OneInTime as time
 use Rattle.tests_worked.proofs.one_block.one_block_is_in_time.Goals as goal
 
 pub returns : goal.returns

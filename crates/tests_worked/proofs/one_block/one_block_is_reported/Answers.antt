@@ -1,10 +1,10 @@
-use Rattle.tests_worked.proofs.OneGuaranteed.{guaranteed}
+use Rattle.tests_worked.proofs.one.OneGuaranteed.{guaranteed}
 use Rattle.std.proofs.Common.{None, append-nil, sym}
 use Rattle.tests_worked.specs.OneBlock.{ends, report}
-use Rattle.tests_worked.proofs.OneBlock.{run, finished}
-use Rattle.tests_worked.proofs.OneOutcomes.{one_report}
-use Rattle.tests_worked.proofs.OneReport.{reports}
-use Rattle.tests_worked.proofs.OneUnbroken.{unbroken_over}
+use Rattle.tests_worked.proofs.one.OneBlock.{run, finished}
+use Rattle.tests_worked.proofs.one.OneOutcomes.{one_report}
+use Rattle.tests_worked.proofs.one.OneReport.{reports}
+use Rattle.tests_worked.proofs.one.OneUnbroken.{unbroken_over}
 use Rattle.tests_worked.proofs.one_block.one_block_is_reported.Goals as goal
 
 pub returns : goal.returns

@@ -1,4 +1,4 @@
-use Rattle.tests_worked.proofs.OneRefused.{index_first_refused}
+use Rattle.tests_worked.proofs.one.OneRefused.{index_first_refused}
 use Rattle.tests_worked.proofs.one_block_changed.index_before_segment_is_refused.Goals as goal
 
 pub returns : goal.returns

@@ -1,4 +1,4 @@
-use Rattle.tests_worked.proofs.OneRefused.{no_look_refused}
+use Rattle.tests_worked.proofs.one.OneRefused.{no_look_refused}
 use Rattle.tests_worked.proofs.one_block_changed.put_without_look_is_refused.Goals as goal
 
 pub returns : goal.returns

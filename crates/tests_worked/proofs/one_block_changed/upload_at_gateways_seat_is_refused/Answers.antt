@@ -1,4 +1,4 @@
-use Rattle.tests_worked.proofs.OneRefused.{seat_refused}
+use Rattle.tests_worked.proofs.one.OneRefused.{seat_refused}
 use Rattle.tests_worked.proofs.one_block_changed.upload_at_gateways_seat_is_refused.Goals as goal
 
 pub returns : goal.returns

@@ -1,4 +1,4 @@
-use Rattle.tests_worked.proofs.OtherSeat.{acts, call_is, not_lawful, view_is}
+use Rattle.tests_worked.proofs.one.OtherSeat.{acts, call_is, not_lawful, view_is}
 use Rattle.tests_worked.proofs.other_seat.call_at_another_seat_acts.Goals as goal
 
 pub returns : goal.returns

@@ -1,4 +1,4 @@
-use Rattle.tests_worked.proofs.OtherSeat.{unwatched_keeps, watched_refuses}
+use Rattle.tests_worked.proofs.one.OtherSeat.{unwatched_keeps, watched_refuses}
 use Rattle.tests_worked.proofs.other_seat.late_read_at_another_seat_is_refused.Goals as goal
 
 pub returns : goal.returns

@@ -1,4 +1,4 @@
-use Rattle.tests_worked.proofs.SideBySide.{run, honest, given}
+use Rattle.tests_worked.proofs.one.SideBySide.{run, honest, given}
 use Rattle.tests_worked.proofs.side_by_side.side_by_side_runs.Goals as goal
 
 pub returns : goal.returns

@@ -1,4 +1,4 @@
-use Rattle.tests_worked.proofs.StoppedCompaction as row
+use Rattle.tests_worked.proofs.pair.StoppedCompaction as row
 use Rattle.tests_worked.proofs.stopped_compaction.stopped_compaction_is_cleaned.Goals as goal
 
 pub returns : goal.returns

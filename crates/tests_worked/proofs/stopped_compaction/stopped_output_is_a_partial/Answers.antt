@@ -1,4 +1,4 @@
-use Rattle.tests_worked.proofs.StoppedCompaction as row
+use Rattle.tests_worked.proofs.pair.StoppedCompaction as row
 use Rattle.tests_worked.proofs.stopped_compaction.stopped_output_is_a_partial.Goals as goal
 
 pub returns : goal.returns

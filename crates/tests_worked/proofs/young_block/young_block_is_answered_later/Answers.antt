@@ -1,5 +1,5 @@
 use Rattle.tests_worked.specs.YoungBlock.{early, late, early_turned, late_turned}
-use Rattle.tests_worked.proofs.YoungAnswers.{some_given, some_exact}
+use Rattle.tests_worked.proofs.young.YoungAnswers.{some_given, some_exact}
 use Rattle.tests_worked.proofs.young_block.young_block_is_answered_later.Goals as goal
 
 pub returns : goal.returns

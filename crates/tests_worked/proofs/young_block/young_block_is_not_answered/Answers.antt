@@ -1,6 +1,6 @@
 use Rattle.std.proofs.Common.{lit<}
 use Rattle.tests_worked.specs.YoungBlock as young
-use Rattle.tests_worked.proofs.YoungAnswers.{none_given, none_exact, not_settled}
+use Rattle.tests_worked.proofs.young.YoungAnswers.{none_given, none_exact, not_settled}
 use Rattle.tests_worked.proofs.young_block.young_block_is_not_answered.Goals as goal
 
 pub returns : goal.returns

@@ -1,4 +1,4 @@
-use Rattle.tests_worked.proofs.YoungBlock.{run_turned, honest_turned}
+use Rattle.tests_worked.proofs.young.YoungBlock.{run_turned, honest_turned}
 use Rattle.tests_worked.proofs.young_block.young_block_is_not_kept.Goals as goal
 
 pub returns : goal.returns

@@ -1,7 +1,7 @@
 use Rattle.std.proofs.Common.{refl}
 use Rattle.tests_worked.specs.YoungBlock.{early, late, early_turned, late_turned}
-use Rattle.tests_worked.proofs.YoungBlock.{finished}
-use Rattle.tests_worked.proofs.YoungReport.{reports}
+use Rattle.tests_worked.proofs.young.YoungBlock.{finished}
+use Rattle.tests_worked.proofs.young.YoungReport.{reports}
 use Rattle.tests_worked.proofs.young_block.young_block_is_reported.Goals as goal
 
 pub returns : goal.returns

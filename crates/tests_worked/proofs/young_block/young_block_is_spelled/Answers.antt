@@ -1,4 +1,4 @@
-use Rattle.tests_worked.proofs.Texts.{young_spelled, young_lawful}
+use Rattle.tests_worked.proofs.small.Texts.{young_spelled, young_lawful}
 use Rattle.tests_worked.proofs.young_block.young_block_is_spelled.Goals as goal
 
 pub returns : goal.returns

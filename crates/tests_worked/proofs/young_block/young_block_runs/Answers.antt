@@ -1,4 +1,4 @@
-use Rattle.tests_worked.proofs.YoungBlock.{run, honest}
+use Rattle.tests_worked.proofs.young.YoungBlock.{run, honest}
 use Rattle.tests_worked.proofs.young_block.young_block_runs.Goals as goal
 
 pub returns : goal.returns

@@ -1,0 +1,3 @@
+pub mod DeletedBucket
+pub mod DeletedUpload
+pub mod DeletedBreach

@@ -1,0 +1,11 @@
+pub mod SmallBytes
+pub mod SmallIndex
+pub mod SmallMeta
+pub mod BuiltBlock
+pub mod SmallCalls
+pub mod Each
+pub mod SmallTasks
+pub mod Bucket
+pub mod SmallOutcomes
+pub mod Ends
+pub mod Texts

@@ -1,0 +1,3 @@
+pub mod YoungBlock
+pub mod YoungReport
+pub mod YoungAnswers
