@@ -1,8 +1,7 @@
 //! The texts and bytes of the lowest crates: a word for their kind, and the text; bytes are in hexadecimal. `written` prints
-//! what the crates write, and `copies` what is kept and copied.
+//! what the crates write, and `rules` whether the standard rules are copied as they are.
 
 mod bytes;
-mod copies;
 mod rows;
 mod written;
 

@@ -38,9 +38,7 @@ fn print_call(rt: &HostRuntime, table: &str, call: &str) {
         "base" => base::print_call(rt, word, text),
         "labels" => labels::print_call(rt, word, text),
         "metas" => metas::print_call(rt, word, text),
-        "scripts" => {
-            let _ = scripts::print_call(rt, call);
-        }
+        "scripts" => scripts::print_call(rt, call),
         "xor" => xor::print_call(rt, word, text),
         _ => say(rt, "no table"),
     }

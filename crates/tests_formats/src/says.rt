@@ -1,5 +1,6 @@
 //! What the rows print. Want of memory, and a line that cannot be written, show as what is lacking in the output, by which the
 //! row fails; so no call here hands them on.
+use list_core::TryCopy;
 use std::{fmt, str};
 
 /// Prints a line.
@@ -12,9 +13,15 @@ pub(crate) fn put(rt: &HostRuntime, text: &str) {
     let _ = rt.print(text);
 }
 
-/// Prints a value as it is told for debugging.
+/// Prints a word, and a value as it is told for debugging, with no line's end behind them.
+pub(crate) fn tell<T: fmt::Debug>(rt: &HostRuntime, word: &str, value: &T) {
+    let _ = print!(rt; "{word}{value:?}");
+}
+
+/// Prints a value as it is told for debugging, on a line.
 pub(crate) fn show<T: fmt::Debug>(rt: &HostRuntime, value: &T) {
-    let _ = println!(rt; "{value:?}");
+    tell(rt, "", value);
+    say(rt, "");
 }
 
 /// Prints bytes that are a text.
@@ -33,4 +40,11 @@ pub(crate) fn say_hex(rt: &HostRuntime, bytes: &[u8]) {
 /// The first word of a text, and what stands behind the blank after it.
 pub(crate) fn cut(text: &str) -> (&str, &str) {
     text.split_once(' ').unwrap_or((text, ""))
+}
+
+/// The copy of a value that is gone.
+pub(crate) fn copied<T: TryCopy>(value: T) -> Option<T> {
+    let copy = value.copy();
+    drop(value);
+    copy.ok()
 }

@@ -6,28 +6,37 @@ mod notation;
 mod parts;
 mod words;
 
+use crate::says::{cut, say, show};
 use crate::scripts::day::print_day;
 use crate::scripts::notation::spelled;
-use crate::scripts::parts::print_parts;
+use crate::scripts::parts::{PHASES, print_parts};
 use crate::scripts::words::print_words;
-use script_core::Script;
-use std::io;
+use generated_day::generated;
+use script_core::{Script, ScriptRefusal};
 
-pub(crate) fn print_call(rt: &HostRuntime, row: &str) -> io::Result<()> {
-    match row {
-        "=parts" => print_parts(rt),
+pub(crate) fn print_call(rt: &HostRuntime, row: &str) {
+    let (word, number) = cut(row);
+    match word {
         "=words" => print_words(rt),
-        _ => match row.strip_prefix("=day ") {
-            Some(number) => print_day(rt, number),
-            None => print_read(rt, row),
-        },
+        "=parts" => print_read(rt, word, Script::read(rt.alloc(), PHASES.as_bytes())),
+        "=day" => print_read(rt, word, generated(rt.alloc(), number.parse().unwrap_or(0))),
+        _ => print_read(rt, "", Script::read(rt.alloc(), &spelled(rt.alloc(), row))),
     }
 }
 
-fn print_read(rt: &HostRuntime, row: &str) -> io::Result<()> {
-    let text = spelled(rt.alloc(), row)?;
-    match Script::read(rt.alloc(), text.as_slice()) {
-        Ok(_) => println!(rt; "a script"),
-        Err(refusal) => println!(rt; "{refusal:?}"),
+/// Prints what the word asks of a script, or why the text is none.
+fn print_read(rt: &HostRuntime, word: &str, read: Result<Script, ScriptRefusal>) {
+    match &read {
+        Ok(script) => print_script(rt, word, script),
+        Err(refusal) => show(rt, refusal),
+    }
+    drop(read);
+}
+
+fn print_script(rt: &HostRuntime, word: &str, script: &Script) {
+    match word {
+        "=parts" => print_parts(rt, script),
+        "=day" => print_day(rt, script),
+        _ => say(rt, "a script"),
     }
 }

@@ -1,9 +1,6 @@
 //! XOR data and segments of it: `decode` or `stored` and bytes in hexadecimal, `encode` and samples, `chunk` and a place of a
-//! segment, `front` and bytes, or `segment` and the data of chunks. `widths`, `places` and `changes` count what is read back and
-//! what is refused, and `fields` writes fields of bits and reads them.
+//! segment, `front` and bytes, or `segment` and the data of chunks.
 
-mod fields;
-mod read_back;
 mod rows;
 mod segments;
 

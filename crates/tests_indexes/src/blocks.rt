@@ -1,128 +1,92 @@
-//! Blocks that a Prometheus server wrote, each in a folder with its meta, its index and its one segment: printed are its ULID,
-//! its series with all their samples, and how many chunks it has, each byte of which is guarded by its sum. What is to be
-//! printed comes from Prometheus' own reader and from the blocks' metas.
+//! Blocks that a Prometheus server wrote, each in a folder with its index and its one segment: printed are its series under their
+//! final labels, with all their samples, and how many chunks it has, each byte of which is guarded by its sum. What is to be
+//! printed comes from Prometheus' own reader.
 
-mod block_fault;
-mod chunks;
-mod guarded;
-
-use crate::blocks::block_fault::BlockFault;
-use crate::blocks::chunks::samples_of;
-use crate::says::{put, say, say_text, show};
-use block_meta::Meta;
-use index_v2::{IndexReader, IndexSeries};
-use label_sets::{LabelSet, Series, TextList, final_labels};
+use crate::says::{put, say, show};
+use crate::taken::{labels_of, put_final};
+use chunk_files::{ChunkRefusal, read_chunk, take_chunk};
+use index_parts::ChunkPlace;
+use index_v2::IndexSeries;
+use label_sets::Sample;
 use std::alloc::Global;
 use std::fs;
+use xor_chunks::decode_stored;
 
 /// The external labels under which the blocks were asked for.
 const EXTERNAL: &str = "{cluster=\"c\"}";
 
-/// Prints the block in a folder, or why it is refused.
-pub(crate) fn print_block(rt: &HostRuntime, folder: &str) {
-    print_source(rt, file_of(rt, folder, "meta.json").as_slice());
-    let index = file_of(rt, folder, "index");
-    let segment = file_of(rt, folder, "segment");
-    print_contents(rt, index.as_slice(), segment.as_slice());
-}
+/// What a chunk has beside its length and its data: a byte of encoding and four of its sum.
+const BESIDE: usize = 5;
 
 /// The bytes of a file, or none.
-pub(crate) fn file_of(rt: &HostRuntime, folder: &str, name: &str) -> Vec<u8> {
-    let Ok(path) = format!(in rt.alloc(); "{folder}/{name}") else {
-        return Vec::new(rt.alloc());
-    };
-    match fs::read(rt, path.as_str()) {
+pub(crate) fn file_of(rt: &HostRuntime, path: &str) -> Vec<u8> {
+    match fs::read(rt, path) {
         Ok(bytes) => bytes,
         Err(_) => Vec::new(rt.alloc()),
     }
 }
 
-/// Prints the ULID of a meta.
-fn print_source(rt: &HostRuntime, text: &[u8]) {
-    put(rt, "source ");
-    match Meta::read(rt.alloc(), text) {
-        Ok(meta) => {
-            say_text(rt, &meta.ulid.text());
-            drop(meta);
-        }
-        Err(_) => say(rt, "no meta"),
-    }
-}
-
-/// Prints the series of a block in the order of their final labels, and the count of its chunks.
-fn print_contents(rt: &HostRuntime, index: &[u8], segment: &[u8]) {
-    match IndexReader::open(rt.alloc(), index) {
-        Ok(reader) => {
-            print_whole(rt, &reader, segment);
-            drop(reader);
-        }
-        Err(refusal) => show(rt, &refusal),
-    }
-}
-
-fn print_whole(rt: &HostRuntime, reader: &IndexReader<'_>, segment: &[u8]) {
-    match reader.whole(rt.alloc()) {
-        Ok(list) => {
-            print_list(rt, list.members(), segment);
-            drop(list);
-        }
-        Err(refusal) => show(rt, &refusal),
-    }
-}
-
-fn print_list(rt: &HostRuntime, list: &[IndexSeries], segment: &[u8]) {
-    match sorted_series(rt.alloc(), list, segment) {
-        Ok(series) => print_series(rt, series.as_slice()),
-        Err(fault) => show(rt, &fault),
-    }
+/// Prints series with all their samples, out of a segment, and the count of their chunks.
+pub(crate) fn print_block(rt: &HostRuntime, list: &[IndexSeries], path: &str) {
+    let segment = file_of(rt, path);
+    let external = labels_of(rt.alloc(), EXTERNAL);
     let mut count = 0usize;
     for series in list {
+        put(rt, "series ");
+        put_final(rt, &series.labels, &external);
+        for place in series.chunks.members() {
+            print_chunk(rt, *place, segment.as_slice());
+        }
+        say(rt, "");
         count = count.saturating_add(series.chunks.len());
     }
     let _ = println!(rt; "chunks {count}");
 }
 
-fn print_series(rt: &HostRuntime, series: &[Series]) {
-    for one in series {
-        let mut text = Vec::new(rt.alloc());
-        let _ = one.write(&mut text);
-        put(rt, "series ");
-        say_text(rt, text.as_slice());
+/// Prints the samples of a chunk, each behind a blank, or what is wrong with it.
+fn print_chunk(rt: &HostRuntime, place: ChunkPlace, segment: &[u8]) {
+    match read_chunk(segment, u64::from(place.offset)) {
+        Ok(data) if place.segment == 0 => {
+            let alloc = rt.alloc();
+            let part = segment.get(place.offset as usize..).unwrap_or(&[]);
+            if !is_guarded(alloc, part, data.len()) {
+                put(rt, " not guarded");
+            }
+            match decode_stored(alloc, data) {
+                Ok(samples) => print_samples(rt, samples.members()),
+                Err(refusal) => show(rt, &refusal),
+            }
+        }
+        _ => put(rt, " no chunk"),
     }
 }
 
-/// The series of an index under their final labels, and ascending by these.
-fn sorted_series(
-    alloc: Global,
-    list: &[IndexSeries],
-    segment: &[u8],
-) -> Result<Vec<Series>, BlockFault> {
-    let mut series = series_of(alloc, list, segment)?;
-    match series.sort_by(|one, other| one.labels.compare(&other.labels)) {
-        Ok(()) => Ok(series),
-        Err(_) => Err(BlockFault::NoMemory),
+fn print_samples(rt: &HostRuntime, samples: &[Sample]) {
+    for sample in samples {
+        let _ = print!(rt; " {}:{:016x}", sample.time, sample.pattern);
     }
 }
 
-/// The series of an index, with their samples out of the block's segment.
-fn series_of(
-    alloc: Global,
-    list: &[IndexSeries],
-    segment: &[u8],
-) -> Result<Vec<Series>, BlockFault> {
-    let mut all = Vec::new(alloc);
-    for series in list {
-        let _ = all.push(Series {
-            samples: samples_of(alloc, series.chunks.members(), segment)?,
-            labels: labels_of(alloc, &series.labels)?,
-        });
+/// Whether the chunk at the front of a part of a segment, with so many bytes of data, is refused by its sum with any one byte
+/// behind its length changed: in its first bit, in its last one or in all of them.
+fn is_guarded(alloc: Global, part: &[u8], size: usize) -> bool {
+    let Ok(mut changed) = Vec::from_slice(alloc, part) else {
+        return false;
+    };
+    let front = if size < 128 { 1 } else { 2 };
+    for place in front..size.saturating_add(front + BESIDE) {
+        for bits in [0x80, 0x01, 0xff] {
+            if let Some(byte) = changed.get_mut(place) {
+                *byte ^= bits;
+            }
+            let read = take_chunk(changed.as_slice());
+            if !matches!(read, Err(ChunkRefusal::BadSum { .. })) {
+                return false;
+            }
+            if let Some(byte) = changed.get_mut(place) {
+                *byte ^= bits;
+            }
+        }
     }
-    Ok(all)
-}
-
-fn labels_of(alloc: Global, own: &LabelSet) -> Result<LabelSet, BlockFault> {
-    match LabelSet::read(alloc, EXTERNAL) {
-        Ok((external, _)) => Ok(final_labels(alloc, own, &external, &TextList::new(alloc))?),
-        Err(_) => Err(BlockFault::Labels),
-    }
+    true
 }

@@ -1,72 +1,83 @@
+use crate::blocks::print_block;
 use crate::chunk_notation::print_chunks;
-use crate::says::{put, say, show};
+use crate::says::{cut, put_labels, say, show, show_of};
+use crate::taken::print_taken;
 use index_v2::{IndexReader, IndexRefusal, IndexSeries, IndexSeriesList, LentSeries};
-use label_sets::TextList;
-use std::{fmt, str};
+use std::fmt;
 use wire_bytes::NumberList;
 
 /// Prints what a call on the reader of an index gives: `open` that it is opened, `whole` its series, `count` how many these
-/// are, `symbol NUMBER` a symbol, `postings NAME=VALUE` the numbers of series, `values NAME` the values of a name, `first NAME`
-/// at which row its rows begin and how many rows there are, `row PLACE` a row with its list, `series NUMBER` a series, and
-/// `lent NUMBER` a copy of one whose texts the index lends.
-pub(crate) fn print_read(rt: &HostRuntime, index: &[u8], word: &str, argument: &str) {
-    match IndexReader::open(rt.alloc(), index) {
+/// are, `block FILE` these with all samples, out of a segment, `symbol NUMBER` a symbol, `postings NAME=VALUE`
+/// the numbers of series, `take EXTERNAL SELECTOR` the series that a selector takes, `values NAME` the values of a name,
+/// `first NAME` at which row its rows begin and how many rows there are, `row PLACE` a row with its list, `series NUMBER` a
+/// series, `lent NUMBER` a copy of one whose texts the index lends, and `in FROM END NUMBER` one as it is read in these bytes.
+pub(crate) fn print_reader(
+    rt: &HostRuntime,
+    index: &[u8],
+    opened: Result<IndexReader<'_>, IndexRefusal>,
+    call: &str,
+) {
+    match opened {
         Ok(reader) => {
-            print_opened(rt, &reader, word, argument);
+            print_opened(rt, index, &reader, call);
             drop(reader);
         }
         Err(refusal) => show(rt, &refusal),
     }
 }
 
-pub(crate) fn print_opened(rt: &HostRuntime, reader: &IndexReader<'_>, word: &str, argument: &str) {
-    let (name, value) = argument.split_once('=').unwrap_or((argument, ""));
+fn print_opened(rt: &HostRuntime, index: &[u8], reader: &IndexReader<'_>, call: &str) {
+    let alloc = rt.alloc();
+    let (word, argument) = cut(call, ' ');
+    let (name, value) = cut(argument, '=');
     let number = argument.parse().unwrap_or(0);
     match word {
-        "whole" => print_whole(rt, reader.whole(rt.alloc())),
-        "count" => print_count(rt, reader.whole(rt.alloc())),
+        "whole" | "count" | "block" => print_whole(rt, reader.whole(alloc), word, argument),
         "symbol" => show(rt, &reader.symbol(number)),
-        "postings" => print_numbers(rt, reader.postings(rt.alloc(), name, value)),
-        "values" => print_values(rt, reader.label_values(rt.alloc(), name)),
-        "first" => {
-            let _ = println!(rt; "{} of {}", reader.first_row(name), reader.row_count());
-        }
+        "postings" => print_numbers(rt, reader.postings(alloc, name, value)),
+        "take" => print_taken(rt, index, reader, argument),
+        "values" => print_values(rt, reader, name),
+        "first" => show_of(rt, &reader.first_row(name), reader.row_count()),
         "row" => print_row(rt, reader, number as usize),
-        "series" => print_series(rt, reader.series(rt.alloc(), number)),
-        "lent" => print_lent(rt, reader.lent_series(number, LentSeries::new(rt.alloc()))),
+        "series" => print_series(rt, reader.series(alloc, number)),
+        "lent" => print_lent(rt, reader.lent_series(number, LentSeries::new(alloc))),
+        "in" => print_in(rt, index, reader, argument),
         _ => say(rt, "opened"),
     }
 }
 
-fn print_whole(rt: &HostRuntime, read: Result<IndexSeriesList, IndexRefusal>) {
+fn print_whole(
+    rt: &HostRuntime,
+    read: Result<IndexSeriesList, IndexRefusal>,
+    word: &str,
+    path: &str,
+) {
     match read {
-        Ok(list) => print_all(rt, list.members()),
+        Ok(list) => {
+            print_list(rt, list.members(), word, path);
+            drop(list);
+        }
         Err(refusal) => show(rt, &refusal),
     }
 }
 
-fn print_all(rt: &HostRuntime, list: &[IndexSeries]) {
+fn print_list(rt: &HostRuntime, list: &[IndexSeries], word: &str, path: &str) {
     let _ = println!(rt; "{} series", list.len());
-    for series in list {
-        print_one(rt, series);
+    match word {
+        "block" => print_block(rt, list, path),
+        "whole" => {
+            for series in list {
+                print_one(rt, series);
+            }
+        }
+        _ => (),
     }
 }
 
 /// Prints the labels and the chunks of a series.
 fn print_one(rt: &HostRuntime, series: &IndexSeries) {
-    let mut text = Vec::new(rt.alloc());
-    let _ = series.labels.write(&mut text);
-    put(rt, str::from_utf8(text.as_slice()).unwrap_or("no text"));
-    print_chunks(rt, series.chunks.members())
-}
-
-fn print_count(rt: &HostRuntime, read: Result<IndexSeriesList, IndexRefusal>) {
-    match read {
-        Ok(list) => {
-            let _ = println!(rt; "{} series", list.len());
-        }
-        Err(refusal) => show(rt, &refusal),
-    }
+    put_labels(rt, &series.labels);
+    print_chunks(rt, series.chunks.members());
 }
 
 /// Prints numbers, or why they are not read.
@@ -77,8 +88,8 @@ pub(crate) fn print_numbers<E: fmt::Debug + Drop>(rt: &HostRuntime, read: Result
     }
 }
 
-fn print_values(rt: &HostRuntime, read: Result<TextList, IndexRefusal>) {
-    match read {
+fn print_values(rt: &HostRuntime, reader: &IndexReader<'_>, name: &str) {
+    match reader.label_values(rt.alloc(), name) {
         Ok(values) => show(rt, &values.members()),
         Err(refusal) => show(rt, &refusal),
     }
@@ -89,10 +100,10 @@ fn print_row(rt: &HostRuntime, reader: &IndexReader<'_>, place: usize) {
         return say(rt, "no row");
     };
     let _ = print!(rt; "{name:?} {value:?} {offset} ");
-    print_numbers(rt, reader.row_numbers(rt.alloc(), place))
+    print_numbers(rt, reader.row_numbers(rt.alloc(), place));
 }
 
-pub(crate) fn print_series(rt: &HostRuntime, read: Result<IndexSeries, IndexRefusal>) {
+fn print_series<E: fmt::Debug + Drop>(rt: &HostRuntime, read: Result<IndexSeries, E>) {
     match read {
         Ok(series) => print_one(rt, &series),
         Err(refusal) => show(rt, &refusal),
@@ -101,10 +112,21 @@ pub(crate) fn print_series(rt: &HostRuntime, read: Result<IndexSeries, IndexRefu
 
 fn print_lent(rt: &HostRuntime, read: Result<LentSeries<'_>, IndexRefusal>) {
     match read {
-        Ok(series) => match series.to_series(rt.alloc()) {
-            Ok(copy) => print_one(rt, &copy),
-            Err(_) => say(rt, "no memory"),
-        },
+        Ok(series) => print_series(rt, series.to_series(rt.alloc())),
         Err(refusal) => show(rt, &refusal),
+    }
+}
+
+fn print_in(rt: &HostRuntime, index: &[u8], reader: &IndexReader<'_>, argument: &str) {
+    let (from, rest) = cut(argument, ' ');
+    let (end, number) = cut(rest, ' ');
+    let from: usize = from.parse().unwrap_or(0);
+    let number: u32 = number.parse().unwrap_or(0);
+    let at = from as u64;
+    match index.get(from..end.parse().unwrap_or(0)) {
+        Some(part) if at <= 16 * u64::from(number) => {
+            print_series(rt, reader.series_in(rt.alloc(), part, at, number));
+        }
+        _ => say(rt, "no bytes"),
     }
 }

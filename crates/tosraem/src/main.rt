@@ -48,8 +48,8 @@ fn main(rt: HostRuntime) -> ExitCode {
     ExitCode::from(number)
 }
 
-/// Does what the words ask for: with threads where they name a replay, and else one task after another. It hands back the run, of
-/// which all holds that holds of the call that made it; here its verdict is said once more.
+/// Does what the words ask for: with threads where they name a replay, and else one task after another. It hands back the run that
+/// the call made, and says once more what comes of its verdict. What else that call promises of a run stands in its own clauses.
 fn run<S: Site, R: Source, K: Sink, T: Threads + Wait + Sync>(
     threads: &T,
     alloc: Global,
@@ -83,7 +83,8 @@ where
         (saying_to K.faults K.written out.old out.new)
         (λ verdict. verdict ≢ NoMemory
         → IsBucketAsked S.Store.asked verdict result.journal result.store)
-        (λ verdict. IsNoted met_alone S.Store.asked verdict result.journal result.store result.note) result.status }
+        (λ verdict. IsNoted met_alone S.Store.asked verdict result.journal result.store result.note)
+        result.status }
 
     // There is the note of a generated day only where the words name one.
     ensures no_day { names_replay words.now ≡ false → number_word words.now ≡ None

@@ -1,4 +1,4 @@
-use crate::says::{say, show};
+use crate::says::{put, say, say_hex, show, tell};
 use wire_bytes::{Cursor, crc_of};
 
 /// Prints what bytes are read as.
@@ -11,9 +11,7 @@ pub(crate) fn print_bytes(rt: &HostRuntime, kind: &str, text: &str) {
 
 fn print_read(rt: &HostRuntime, kind: &str, bytes: &[u8]) {
     match kind {
-        "sum" => {
-            let _ = println!(rt; "{:08x}", crc_of(bytes));
-        }
+        "sum" => say_hex(rt, &crc_of(bytes).to_be_bytes()),
         "uvarint" => show(rt, &Cursor::new(bytes).take_uvarint()),
         "varint" => show(rt, &Cursor::new(bytes).take_varint()),
         "fields" => print_fields(rt, bytes),
@@ -36,7 +34,8 @@ fn print_fields(rt: &HostRuntime, bytes: &[u8]) {
 
 fn print_rest(rt: &HostRuntime, bytes: &[u8], place: usize) {
     let mut cursor = Cursor::at(bytes, place.min(bytes.len()));
-    let _ = print!(rt; "at {place}: ");
+    tell(rt, "at ", &place);
+    put(rt, ": ");
     show(rt, &cursor.rest());
     show(rt, &cursor.take_bytes(2));
     show(rt, &cursor.take_bytes(1));

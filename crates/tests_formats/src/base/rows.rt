@@ -1,9 +1,10 @@
 use crate::base::bytes::print_bytes;
-use crate::base::copies::print_copies;
 use crate::base::written::print_written;
-use crate::says::{cut, put, say, show};
+use crate::says::{copied, cut, put, say, show};
 use block_keys::Key;
-use moment_core::{Moment, Span};
+use label_sets::Text;
+use list_core::NoMemory;
+use moment_core::{Moment, Rules, Span};
 use reading_core::{read_signed, read_unsigned};
 use ulid_core::Ulid;
 
@@ -19,7 +20,7 @@ pub(crate) fn print_call(rt: &HostRuntime, kind: &str, text: &str) {
         "ulids" => show(rt, &are_ordered_ulids(text)),
         "keys" => show(rt, &are_ordered_keys(text)),
         "written" => print_written(rt),
-        "copies" => print_copies(rt),
+        "rules" => show(rt, &are_kept(copied(Rules::standard(rt.alloc())))),
         _ => print_bytes(rt, kind, text),
     }
 }
@@ -29,14 +30,14 @@ fn print_ulid(rt: &HostRuntime, text: &str) {
     match Ulid::read(text) {
         Ok(ulid) => {
             let _ = print!(rt; "{} and {:x}, written ", ulid.time(), ulid.entropy());
-            print_written_ulid(rt, ulid);
+            say_string(rt, ulid.to_string(rt.alloc()));
         }
         Err(refusal) => show(rt, &refusal),
     }
 }
 
-fn print_written_ulid(rt: &HostRuntime, ulid: Ulid) {
-    match ulid.to_string(rt.alloc()) {
+fn say_string(rt: &HostRuntime, text: Result<String, NoMemory>) {
+    match text {
         Ok(text) => say(rt, text.as_str()),
         Err(_) => say(rt, "no memory"),
     }
@@ -44,12 +45,15 @@ fn print_written_ulid(rt: &HostRuntime, ulid: Ulid) {
 
 /// Prints the text that is written of a key.
 fn print_key(rt: &HostRuntime, text: &str) {
-    let key = match Key::read(text) {
-        Ok(key) => key,
-        Err(refusal) => return show(rt, &refusal),
-    };
+    match Key::read(text) {
+        Ok(key) => say_written(rt, key.text(rt.alloc())),
+        Err(refusal) => show(rt, &refusal),
+    }
+}
+
+fn say_written(rt: &HostRuntime, text: Result<Text, NoMemory>) {
     put(rt, "written ");
-    match key.text(rt.alloc()) {
+    match text {
         Ok(text) => say(rt, text.as_str()),
         Err(_) => say(rt, "no memory"),
     }
@@ -70,5 +74,13 @@ fn are_ordered_keys(text: &str) -> bool {
     match (Key::read(one), Key::read(other)) {
         (Ok(one), Ok(other)) => one < other,
         _ => false,
+    }
+}
+
+/// Whether the copy of the standard rules has what they have.
+fn are_kept(copy: Option<Rules>) -> bool {
+    match &copy {
+        Some(rules) => rules.upload == rules.consistency && rules.replicas.len() == 0,
+        None => false,
     }
 }

@@ -20,6 +20,7 @@ fn add_series(merger: &mut Merger, series: Series) {
         let _ = merger.take(series);
     } else {
         let _ = merger.add(&series.labels, &series.samples);
+        drop(series);
     }
 }
 

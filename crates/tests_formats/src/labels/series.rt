@@ -1,15 +1,12 @@
 use crate::labels::sets::set_of;
-use crate::says::{cut, say, say_text, show};
+use crate::says::{copied, cut, say_text, show};
 use label_sets::{Sample, SampleList, Series};
-use list_core::TryCopy;
 use std::alloc::Global;
 
 /// Prints a sample, or why the text is none.
 pub(crate) fn print_sample(rt: &HostRuntime, text: &str) {
     match Sample::read(text) {
-        Ok(sample) => {
-            let _ = println!(rt; "{} {:x}", sample.time, sample.pattern);
-        }
+        Ok(sample) => show(rt, &sample),
         Err(refusal) => show(rt, &refusal),
     }
 }
@@ -17,13 +14,11 @@ pub(crate) fn print_sample(rt: &HostRuntime, text: &str) {
 /// Prints a series as its copy is written.
 pub(crate) fn print_series(rt: &HostRuntime, text: &str) {
     let mut out = Vec::new(rt.alloc());
-    match series_of(rt.alloc(), text).copy() {
-        Ok(copy) => {
-            let _ = copy.write(&mut out);
-            say_text(rt, out.as_slice());
-        }
-        Err(_) => say(rt, "no memory"),
+    if let Some(copy) = copied(series_of(rt.alloc(), text)) {
+        let _ = copy.write(&mut out);
+        drop(copy);
     }
+    say_text(rt, out.as_slice());
 }
 
 /// The series of a text: a label set, and samples after spaces.

@@ -1,27 +1,19 @@
-use crate::says::{cut, say, say_text, show};
+use crate::says::{cut, put, say, show, tell};
 use label_sets::{LabelSet, Text, TextList, final_labels, reduced};
-use list_core::TryCopy;
+use list_core::{NoMemory, TryCopy};
 use std::alloc::Global;
+use std::str;
 
 /// Prints a label set as its copy is written and how many bytes it took, or why the text is none.
 pub(crate) fn print_set(rt: &HostRuntime, text: &str) {
     match LabelSet::read(rt.alloc(), text) {
         Ok((labels, taken)) => {
-            let _ = print!(rt; "{taken} bytes: ");
-            print_labels(rt, &labels);
+            tell(rt, "", &taken);
+            put(rt, " bytes: ");
+            put_labels(rt, labels.copy());
+            say(rt, "");
         }
         Err(refusal) => show(rt, &refusal),
-    }
-}
-
-fn print_labels(rt: &HostRuntime, labels: &LabelSet) {
-    let mut out = Vec::new(rt.alloc());
-    match labels.copy() {
-        Ok(copy) => {
-            let _ = copy.write(&mut out);
-            say_text(rt, out.as_slice());
-        }
-        Err(_) => say(rt, "no memory"),
     }
 }
 
@@ -31,7 +23,10 @@ pub(crate) fn print_added(rt: &HostRuntime, text: &str) {
     let (name, value) = cut(label);
     let mut labels = set_of(rt.alloc(), set);
     match labels.add(name, value) {
-        Ok(()) => print_labels(rt, &labels),
+        Ok(()) => {
+            put_labels(rt, labels.copy());
+            say(rt, "");
+        }
         Err(refusal) => show(rt, &refusal),
     }
 }
@@ -40,12 +35,12 @@ pub(crate) fn print_added(rt: &HostRuntime, text: &str) {
 pub(crate) fn print_final(rt: &HostRuntime, text: &str) {
     let (own, others) = cut(text);
     let (external, replica) = cut(others);
-    print_both(
-        rt,
-        &set_of(rt.alloc(), own),
-        &set_of(rt.alloc(), external),
-        &one_replica(rt.alloc(), replica),
-    );
+    let own = set_of(rt.alloc(), own);
+    let external = set_of(rt.alloc(), external);
+    let replicas = one_replica(rt.alloc(), replica);
+    put_labels(rt, final_labels(rt.alloc(), &own, &external, &replicas));
+    put_labels(rt, reduced(rt.alloc(), &own, &external, &replicas));
+    say(rt, "");
 }
 
 fn one_replica(alloc: Global, replica: &str) -> TextList {
@@ -56,15 +51,14 @@ fn one_replica(alloc: Global, replica: &str) -> TextList {
     replicas
 }
 
-fn print_both(rt: &HostRuntime, own: &LabelSet, external: &LabelSet, replicas: &TextList) {
+/// Prints a label set with no line's end behind it.
+fn put_labels(rt: &HostRuntime, labels: Result<LabelSet, NoMemory>) {
     let mut out = Vec::new(rt.alloc());
-    if let Ok(labels) = final_labels(rt.alloc(), own, external, replicas) {
+    if let Ok(labels) = &labels {
         let _ = labels.write(&mut out);
     }
-    if let Ok(labels) = reduced(rt.alloc(), own, external, replicas) {
-        let _ = labels.write(&mut out);
-    }
-    say_text(rt, out.as_slice());
+    drop(labels);
+    put(rt, str::from_utf8(&out).unwrap_or("no text"));
 }
 
 /// The set that a text begins with, or the set without labels.

@@ -1,9 +1,8 @@
-use crate::metas::copies::print_copy;
-use crate::metas::server_metas::print_server_meta;
-use crate::says::{put, say};
+use crate::metas::fields::print_fields;
+use crate::says::{copied, put, say};
 use block_meta::{DeletionMark, Meta, MetaRefusal};
-use list_core::{NoMemory, TryCopy};
-use std::alloc::Global;
+use list_core::NoMemory;
+use std::fs;
 use wire_bytes::Blob;
 
 /// A lawful meta without its last brace.
@@ -19,9 +18,8 @@ pub(crate) fn print_call(rt: &HostRuntime, kind: &str, text: &str) {
         "meta" | "mark" => print_text(rt, kind, text.as_bytes()),
         "meta+" => print_longer(rt, "meta", LAWFUL, text),
         "mark+" => print_longer(rt, "mark", LAWFUL_MARK, text),
-        "bytes" => print_meta(rt, b"{\"version\":\"\xff\"}"),
-        "file" => print_server_meta(rt, text),
-        "copy" => print_copy(rt),
+        "bytes" => print_text(rt, "meta", b"{\"version\":\"\xff\"}"),
+        "file" => print_file(rt, text),
         _ => say(rt, "no call"),
     }
 }
@@ -34,56 +32,66 @@ fn print_longer(rt: &HostRuntime, kind: &str, first: &str, others: &str) {
     }
 }
 
-fn print_text(rt: &HostRuntime, kind: &str, text: &[u8]) {
-    match kind {
-        "meta" => print_meta(rt, text),
-        _ => print_mark(rt, text),
+fn print_file(rt: &HostRuntime, name: &str) {
+    match fs::read(rt, name) {
+        Ok(text) => print_text(rt, "file", text.as_slice()),
+        Err(_) => say(rt, "no file"),
     }
 }
 
-/// Prints whether a text is a meta, and whether its copy is written again as it stood there, or why it is none.
-fn print_meta(rt: &HostRuntime, text: &[u8]) {
-    match Meta::read(rt.alloc(), text) {
-        Ok(meta) => print_read(rt, text, meta_again(rt.alloc(), &meta)),
-        Err(refusal) => print_refusal(rt, &refusal),
+/// Prints what a mark's or a meta's text has or is, or why it is none.
+fn print_text(rt: &HostRuntime, kind: &str, text: &[u8]) {
+    if kind == "mark" {
+        print_mark(rt, text);
+    } else {
+        match Meta::read(rt.alloc(), text) {
+            Ok(meta) => print_meta(rt, kind, text, copied(meta)),
+            Err(refusal) => print_refusal(rt, refusal),
+        }
     }
+}
+
+/// Prints what the copy of a meta has that was read of a file, and else whether it is written again as the text stood.
+fn print_meta(rt: &HostRuntime, kind: &str, text: &[u8], copy: Option<Meta>) {
+    match &copy {
+        Some(meta) if kind == "file" => print_fields(rt, meta),
+        Some(meta) => print_again(rt, text, meta.write(rt.alloc())),
+        None => say(rt, "no memory"),
+    }
+    drop(copy);
 }
 
 fn print_mark(rt: &HostRuntime, text: &[u8]) {
     match DeletionMark::read(rt.alloc(), text) {
-        Ok(mark) => print_read(rt, text, mark_again(rt.alloc(), &mark)),
-        Err(refusal) => print_refusal(rt, &refusal),
+        Ok(mark) => print_mark_copy(rt, text, copied(mark)),
+        Err(refusal) => print_refusal(rt, refusal),
     }
 }
 
-fn meta_again(alloc: Global, meta: &Meta) -> Result<Blob, NoMemory> {
-    match meta.copy() {
-        Ok(copy) => copy.write(alloc),
-        Err(_) => Err(NoMemory),
+fn print_mark_copy(rt: &HostRuntime, text: &[u8], copy: Option<DeletionMark>) {
+    match &copy {
+        Some(mark) => print_again(rt, text, mark.write(rt.alloc())),
+        None => say(rt, "no memory"),
     }
-}
-
-fn mark_again(alloc: Global, mark: &DeletionMark) -> Result<Blob, NoMemory> {
-    match mark.copy() {
-        Ok(copy) => copy.write(alloc),
-        Err(_) => Err(NoMemory),
-    }
+    drop(copy);
 }
 
 /// Prints that a text was read, and whether it was written again as it stood there.
-fn print_read(rt: &HostRuntime, text: &[u8], again: Result<Blob, NoMemory>) {
-    match again {
+fn print_again(rt: &HostRuntime, text: &[u8], again: Result<Blob, NoMemory>) {
+    match &again {
         Ok(again) if again.bytes() == text => say(rt, "read, and written again"),
         Ok(_) => say(rt, "read"),
         Err(_) => say(rt, "no memory"),
     }
+    drop(again);
 }
 
 /// Prints the case of a refusal, and the field that it names.
-pub(crate) fn print_refusal(rt: &HostRuntime, refusal: &MetaRefusal) {
-    let (case, field) = case_of(refusal);
+fn print_refusal(rt: &HostRuntime, refusal: MetaRefusal) {
+    let (case, field) = case_of(&refusal);
     put(rt, case);
     say(rt, field);
+    drop(refusal);
 }
 
 fn case_of(refusal: &MetaRefusal) -> (&'static str, &str) {

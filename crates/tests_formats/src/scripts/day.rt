@@ -1,48 +1,41 @@
-use generated_day::generated;
+use crate::says::{put, say, say_hex, tell};
 use label_sets::{Series, sample_count};
-use script_core::{Block, Body, Phase, Script};
-use std::io;
+use script_core::{Block, Body, Script};
 
-/// Prints how much there is in the generated day of a number, block by block and phase by phase.
-pub(crate) fn print_day(rt: &HostRuntime, number: &str) -> io::Result<()> {
-    match generated(rt.alloc(), number.parse().unwrap_or(0)) {
-        Ok(script) => print_script(rt, &script),
-        Err(_) => println!(rt; "no memory"),
-    }
-}
-
-fn print_script(rt: &HostRuntime, script: &Script) -> io::Result<()> {
-    println!(rt;
-        "{} blocks, {} selectors",
-        script.blocks.len(),
-        script.selectors.len()
-    )?;
+/// Prints how much there is in the generated day, block by block and phase by phase.
+pub(crate) fn print_day(rt: &HostRuntime, script: &Script) {
+    tell(rt, "", &script.blocks.len());
+    tell(rt, " blocks, ", &script.selectors.len());
+    say(rt, " selectors");
     for block in script.blocks.members() {
-        print_block(rt, block)?;
+        print_block(rt, block);
     }
     for phase in script.phases.members() {
-        print_phase(rt, phase)?;
+        tell(rt, "line ", &phase.line);
+        tell(rt, ": a phase from ", &phase.moment.ms);
+        tell(rt, ", ", &phase.tasks.len());
+        say(rt, " tasks");
     }
-    Ok(())
 }
 
 /// Prints a block's times, how many series and samples it has, and all its patterns in one.
-fn print_block(rt: &HostRuntime, block: &Block) -> io::Result<()> {
-    print!(rt; "block {} {} ", block.ulid.time(), block.ulid.entropy())?;
+fn print_block(rt: &HostRuntime, block: &Block) {
+    tell(rt, "block ", &block.ulid.time());
+    tell(rt, " ", &block.ulid.entropy());
     match &block.body {
         Body::Inline {
             min_time,
             max_time,
             series,
         } => {
-            let samples = sample_count(series.members());
-            let mixed = mixed_patterns(series.members());
-            println!(rt;
-                "from {min_time} to {max_time}: {} series, {samples} samples, {mixed:016x}",
-                series.len()
-            )
+            tell(rt, " from ", min_time);
+            tell(rt, " to ", max_time);
+            tell(rt, ": ", &series.len());
+            tell(rt, " series, ", &sample_count(series.members()));
+            put(rt, " samples, ");
+            say_hex(rt, &mixed_patterns(series.members()).to_be_bytes());
         }
-        Body::OnShelf => println!(rt; "on the shelf"),
+        Body::OnShelf => say(rt, " on the shelf"),
     }
 }
 
@@ -54,13 +47,4 @@ fn mixed_patterns(series: &[Series]) -> u64 {
         }
     }
     mixed
-}
-
-fn print_phase(rt: &HostRuntime, phase: &Phase) -> io::Result<()> {
-    println!(rt;
-        "line {}: a phase from {}, {} tasks",
-        phase.line,
-        phase.moment.ms,
-        phase.tasks.len()
-    )
 }

@@ -1,100 +1,90 @@
-use label_sets::Series;
+use crate::says::{put, say, show, tell};
 use list_core::NoMemory;
-use script_core::{Block, Body, Phase, Script, Worker, WorkerList};
-use std::io;
+use script_core::{Block, Body, Phase, Script, WorkerList};
 
 /// A script of three phases.
-static PHASES: &str =
+pub(crate) static PHASES: &str =
     "rule tick 5ms\nrule retention 1h\ngateway g\nblock 0000000000000000000000000A 1000 2000 {}\nseries {b=\"1\"} 1000:3ff0000000000000\nseries {a=\"1\"} 1000:0000000000000001 1001:0000000000000002\nshelf 0000000000000000000000000B {}\nat 0\nupload 0000000000000000000000000A\nsync g\nupload 0000000000000000000000000A\nat 1800000\nquery 0 5000 up\nsync g\nat 3600000\nclean\nupload 0000000000000000000000000B stop 3\ncompact stop 12\nsync g";
 
-/// Prints what the script has, and its workers.
-pub(crate) fn print_parts(rt: &HostRuntime) -> io::Result<()> {
-    match Script::read(rt.alloc(), PHASES.as_bytes()) {
-        Ok(script) => print_script(rt, &script),
-        Err(refusal) => println!(rt; "{refusal:?}"),
-    }
-}
-
-fn print_script(rt: &HostRuntime, script: &Script) -> io::Result<()> {
-    let rules = &script.rules;
-    println!(rt; "tick {}, page-limit {}", rules.tick.ms, rules.page_limit)?;
-    println!(rt; "retention {:?}", rules.retention)?;
-    for gateway in script.gateways.members() {
-        println!(rt; "gateway {}", gateway.as_str())?;
-    }
-    for partition in script.partitions.members() {
-        println!(rt; "from {} to {}", partition.low, partition.high)?;
-    }
-    println!(rt; "selectors: {}", script.selectors.len())?;
+/// Prints what the script has, its workers, and those of the third phase behind two.
+pub(crate) fn print_parts(rt: &HostRuntime, script: &Script) {
+    print_rules(rt, script);
     for block in script.blocks.members() {
-        print_block(rt, block)?;
+        print_block(rt, block);
     }
     for phase in script.phases.members() {
-        print_phase(rt, phase)?;
+        print_phase(rt, phase);
     }
-    print_all_workers(rt, script)
+    print_workers(rt, "first phase", script.workers(rt.alloc(), 0));
+    print_workers(rt, "second phase", script.workers(rt.alloc(), 1));
+    print_workers(rt, "third phase", script.workers(rt.alloc(), 2));
+    print_workers(
+        rt,
+        "third phase, behind two",
+        script.workers_after(rt.alloc(), 2, 2),
+    );
 }
 
-fn print_block(rt: &HostRuntime, block: &Block) -> io::Result<()> {
-    print!(rt; "block {} ", block.ulid.entropy())?;
+fn print_rules(rt: &HostRuntime, script: &Script) {
+    tell(rt, "tick ", &script.rules.tick.ms);
+    tell(rt, ", page-limit ", &script.rules.page_limit);
+    put(rt, "\nretention ");
+    show(rt, &script.rules.retention);
+    for gateway in script.gateways.members() {
+        put(rt, "gateway ");
+        say(rt, gateway.as_str());
+    }
+    for partition in script.partitions.members() {
+        tell(rt, "from ", &partition.low);
+        put(rt, " to ");
+        show(rt, &partition.high);
+    }
+    put(rt, "selectors: ");
+    show(rt, &script.selectors.len());
+}
+
+fn print_block(rt: &HostRuntime, block: &Block) {
+    tell(rt, "block ", &block.ulid.entropy());
     match &block.body {
         Body::Inline {
             min_time,
             max_time,
             series,
         } => {
-            println!(rt; "from {min_time} to {max_time}")?;
-            print_series(rt, series.members())
+            tell(rt, " from ", min_time);
+            put(rt, " to ");
+            show(rt, max_time);
+            for one in series.members() {
+                tell(rt, "series, a: ", &one.labels.value("a"));
+                put(rt, ", samples: ");
+                show(rt, &one.samples.len());
+            }
         }
-        Body::OnShelf => println!(rt; "on the shelf"),
+        Body::OnShelf => say(rt, " on the shelf"),
     }
 }
 
-fn print_series(rt: &HostRuntime, series: &[Series]) -> io::Result<()> {
-    for one in series {
-        println!(rt;
-            "series, a: {:?}, samples: {}",
-            one.labels.value("a"),
-            one.samples.len()
-        )?;
-    }
-    Ok(())
-}
-
-fn print_phase(rt: &HostRuntime, phase: &Phase) -> io::Result<()> {
-    println!(rt; "line {}: a phase from {}", phase.line, phase.moment.ms)?;
+fn print_phase(rt: &HostRuntime, phase: &Phase) {
+    tell(rt, "line ", &phase.line);
+    put(rt, ": a phase from ");
+    show(rt, &phase.moment.ms);
     for task in phase.tasks.members() {
-        println!(rt; "line {}: {:?}", task.line, task.work)?;
-    }
-    Ok(())
-}
-
-/// Prints the workers of all phases, and those of the third behind two.
-fn print_all_workers(rt: &HostRuntime, script: &Script) -> io::Result<()> {
-    println!(rt; "= workers of the first phase")?;
-    print_workers(rt, script.workers(rt.alloc(), 0))?;
-    println!(rt; "= workers of the second phase")?;
-    print_workers(rt, script.workers(rt.alloc(), 1))?;
-    println!(rt; "= workers of the third phase")?;
-    print_workers(rt, script.workers(rt.alloc(), 2))?;
-    println!(rt; "= workers of the third phase, behind two")?;
-    print_workers(rt, script.workers_after(rt.alloc(), 2, 2))
-}
-
-fn print_workers(rt: &HostRuntime, workers: Result<WorkerList, NoMemory>) -> io::Result<()> {
-    match workers {
-        Ok(workers) => print_each(rt, workers.members()),
-        Err(_) => println!(rt; "no memory"),
+        tell(rt, "line ", &task.line);
+        put(rt, ": ");
+        show(rt, &task.work);
     }
 }
 
-fn print_each(rt: &HostRuntime, workers: &[Worker]) -> io::Result<()> {
-    for worker in workers {
-        let tasks = worker.tasks.members();
-        println!(rt;
-            "seat {}, gateway {:?}, tasks {tasks:?}",
-            worker.seat, worker.gateway
-        )?;
+fn print_workers(rt: &HostRuntime, phase: &str, workers: Result<WorkerList, NoMemory>) {
+    put(rt, "= workers of the ");
+    say(rt, phase);
+    if let Ok(workers) = &workers {
+        for worker in workers.members() {
+            tell(rt, "seat ", &worker.seat);
+            tell(rt, ", gateway ", &worker.gateway);
+            put(rt, ", tasks ");
+            show(rt, &worker.tasks.members());
+        }
     }
-    Ok(())
+    drop(workers);
 }

@@ -1,9 +1,9 @@
+use crate::says::say_text;
 use script_core::LineCause::{PatternSizeText, UnknownWord};
 use script_core::ScriptRefusal::{
     self, BadLine, BadRules, BlockChanged, FallingMoment, NeverSynced, TooLong, TooMany,
     TwoCompactors, UnknownBlock,
 };
-use std::io::{self, Write};
 
 /// Refusals of each kind.
 static REFUSALS: [ScriptRefusal; 10] = [
@@ -20,18 +20,14 @@ static REFUSALS: [ScriptRefusal; 10] = [
 ];
 
 /// Prints how reports word the refusals.
-pub(crate) fn print_words(rt: &HostRuntime) -> io::Result<()> {
+pub(crate) fn print_words(rt: &HostRuntime) {
     for refusal in REFUSALS {
-        print_refusal(rt, refusal)?;
+        print_refusal(rt, refusal);
     }
-    Ok(())
 }
 
-fn print_refusal(rt: &HostRuntime, refusal: ScriptRefusal) -> io::Result<()> {
+fn print_refusal(rt: &HostRuntime, refusal: ScriptRefusal) {
     let mut text = Vec::new(rt.alloc());
-    match refusal.write(&mut text) {
-        Ok(()) => io::writer(rt).write_all(text.as_slice())?,
-        Err(_) => print!(rt; "no memory")?,
-    }
-    println!(rt; "")
+    let _ = refusal.write(&mut text);
+    say_text(rt, text.as_slice());
 }

@@ -1,8 +1,7 @@
 use crate::labels::samples_of;
-use crate::says::{say, say_hex, show};
-use crate::xor::fields::print_fields;
-use crate::xor::read_back::{print_places, print_widths};
-use crate::xor::segments::{print_changes, print_chunk_at, print_front, print_segment};
+use crate::says::{cut, say, say_hex, say_text, show};
+use crate::xor::segments::{print_lent, print_segment};
+use chunk_files::{read_chunk, take_chunk};
 use label_sets::{Sample, SampleList};
 use xor_chunks::{XorRefusal, decode, decode_stored, encode, fit_a_chunk};
 
@@ -10,51 +9,59 @@ use xor_chunks::{XorRefusal, decode, decode_stored, encode, fit_a_chunk};
 pub(crate) fn print_call(rt: &HostRuntime, kind: &str, text: &str) {
     match kind {
         "encode" => print_encoded(rt, samples_of(rt.alloc(), text).members()),
-        "chunk" => print_chunk_at(rt, text),
-        "front" => print_front(rt, text),
         "segment" => print_segment(rt, text),
-        "widths" => print_widths(rt),
-        "places" => print_places(rt),
-        "changes" => print_changes(rt),
-        "fields" => print_fields(rt),
-        _ => print_decoded(rt, kind, text),
+        "chunk" => {
+            let (place, bytes) = cut(text);
+            print_bytes(rt, kind, place, bytes);
+        }
+        _ => print_bytes(rt, kind, "", text),
     }
 }
 
-fn print_decoded(rt: &HostRuntime, kind: &str, text: &str) {
-    let Ok(bytes) = hex::decode(rt.alloc(), text) else {
-        return say(rt, "no bytes");
-    };
+/// Prints what bytes are read as. Those of a chunk are read at a place.
+fn print_bytes(rt: &HostRuntime, kind: &str, place: &str, text: &str) {
+    match hex::decode(rt.alloc(), text) {
+        Ok(bytes) => print_read(rt, kind, place, bytes.as_slice()),
+        Err(_) => say(rt, "no bytes"),
+    }
+}
+
+fn print_read(rt: &HostRuntime, kind: &str, place: &str, bytes: &[u8]) {
     match kind {
-        "stored" => print_read(rt, decode_stored(rt.alloc(), bytes.as_slice())),
-        _ => print_read(rt, decode(rt.alloc(), bytes.as_slice())),
+        "chunk" => print_lent(rt, read_chunk(bytes, place.parse().unwrap_or(0))),
+        "front" => print_lent(rt, take_chunk(bytes)),
+        "stored" => print_decoded(rt, decode_stored(rt.alloc(), bytes)),
+        _ => print_decoded(rt, decode(rt.alloc(), bytes)),
     }
 }
 
 fn print_encoded(rt: &HostRuntime, samples: &[Sample]) {
-    if !fit_a_chunk(samples) {
-        return say(rt, "no chunk");
-    }
-    match encode(rt.alloc(), samples) {
-        Ok(text) => say_hex(rt, text.bytes()),
-        Err(_) => say(rt, "no memory"),
+    if fit_a_chunk(samples) {
+        match encode(rt.alloc(), samples) {
+            Ok(text) => say_hex(rt, text.bytes()),
+            Err(_) => say(rt, "no memory"),
+        }
+    } else {
+        say(rt, "no chunk");
     }
 }
 
-fn print_read(rt: &HostRuntime, read: Result<SampleList, XorRefusal>) {
+fn print_decoded(rt: &HostRuntime, read: Result<SampleList, XorRefusal>) {
     match read {
         Ok(samples) => print_samples(rt, samples.members()),
         Err(refusal) => show(rt, &refusal),
     }
 }
 
+/// Prints samples, each as in a script.
 fn print_samples(rt: &HostRuntime, samples: &[Sample]) {
-    if samples.is_empty() {
-        return say(rt, "no samples");
+    let mut out = Vec::new(rt.alloc());
+    for sample in samples {
+        let _ = out.push(b' ');
+        let _ = sample.write(&mut out);
     }
-    for (place, sample) in samples.iter().enumerate() {
-        let gap = if place == 0 { "" } else { " " };
-        let _ = print!(rt; "{gap}{}:{:016x}", sample.time, sample.pattern);
+    match out.split_first() {
+        Some((_, text)) => say_text(rt, text),
+        None => say(rt, "no samples"),
     }
-    say(rt, "");
 }
