@@ -91,20 +91,43 @@ fn main() {
         }
         return;
     }
-    for kind in ["replicas", "following"] {
+    // Both kinds are measured in turn, since the bar on the second speaks of the loops' time on the first.
+    let mut sides = ["replicas", "following"].map(Side::of);
+    let start = Instant::now();
+    while start.elapsed().as_secs_f64() < 16.0 {
+        sides.iter_mut().for_each(Side::measure);
+    }
+    for side in &sides {
+        println!("{} {:.2} {:.2} {:.3}", side.kind, side.limit / side.count, (side.thrice - side.once) / 2.0 / side.count, side.copy / side.count);
+    }
+}
+
+/// What is merged, how many samples it has, and the least times so far: of the loops, of copying, and of one merge and three.
+struct Side {
+    kind: &'static str,
+    count: f64,
+    blocks: [Block; 2],
+    pairs: [Vec<Pair>; 2],
+    limit: f64,
+    copy: f64,
+    once: f64,
+    thrice: f64,
+}
+
+impl Side {
+    fn of(kind: &'static str) -> Side {
         let series = inputs(kind);
-        let count: usize = series.iter().flatten().map(|s| s.len()).sum();
-        let blocks = series.each_ref().map(|s| written(s));
-        let pairs = series.each_ref().map(|s| pairs_of(s));
-        let (mut limit, mut copy, mut once, mut thrice) = (f64::INFINITY, f64::INFINITY, f64::INFINITY, f64::INFINITY);
-        let start = Instant::now();
-        while start.elapsed().as_secs_f64() < 8.0 {
-            limit = limit.min(loops(&blocks[0], &blocks[1]));
-            copy = copy.min(copies(&blocks[0], &blocks[1]));
-            once = once.min(merges(&pairs, 1));
-            thrice = thrice.min(merges(&pairs, 3));
-        }
-        let all = count as f64;
-        println!("{kind} {:.2} {:.2} {:.3}", limit / all, (thrice - once) / 2.0 / all, copy / all);
+        let count = series.iter().flatten().map(|s| s.len()).sum::<usize>() as f64;
+        let far = f64::INFINITY;
+        let (blocks, pairs) = (series.each_ref().map(|s| written(s)), series.each_ref().map(|s| pairs_of(s)));
+        Side { kind, count, blocks, pairs, limit: far, copy: far, once: far, thrice: far }
+    }
+
+    fn measure(&mut self) {
+        let [first, second] = &self.blocks;
+        self.limit = self.limit.min(loops(first, second));
+        self.copy = self.copy.min(copies(first, second));
+        self.once = self.once.min(merges(&self.pairs, 1));
+        self.thrice = self.thrice.min(merges(&self.pairs, 3));
     }
 }
