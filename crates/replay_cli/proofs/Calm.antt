@@ -9,8 +9,8 @@ use Rattle.bucket_core.specs.Pages.{IsName, IsPage}
 use Rattle.world_core.specs.declared.entry.Entry.{Entry}
 use Rattle.script_core.specs.GivenUp.{HasPatternLine}
 use Rattle.script_core.specs.Reading.{script_of}
-use Rattle.script_core.specs.declared.script_refusal.ScriptRefusal.{ScriptRefusal}
-use Rattle.script_core.specs.declared.script_refusal.ScriptRefusal.TheVariants.{TooLong}
+use Rattle.script_fields.specs.declared.script_refusal.ScriptRefusal.{ScriptRefusal}
+use Rattle.script_fields.specs.declared.script_refusal.ScriptRefusal.TheVariants.{TooLong}
 use Rattle.call_verdicts.specs.Statuses.{number_of}
 use Rattle.call_verdicts.specs.Verdicts.{Around, IsAdded, IsBegun, IsCalm, IsCalmJournal, IsCaused, IsFullRun, IsRunOfText, IsSaid, IsUnread, IsWholeRun, IsWorked, MeetsLimit, Saying, TellsRefused, status_of, text_of}
 use Rattle.call_verdicts.specs.declared.status.Status.{Status}

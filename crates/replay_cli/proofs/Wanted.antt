@@ -1,6 +1,6 @@
 -- What is told of a run that may have wanted memory in an operation.
 use Rattle.std.proofs.Common.{◌≡◌, Bool, true, false, refl, sym, ◌∙◌, ap, subst}
-use Rattle.std.specs.Prelude.{MatchBool, Result, Ok, Err}
+use Rattle.std.specs.Prelude.{MatchBool, Result, Err}
 use Rattle.call_verdicts.specs.script_running.specs.Tasks.{is_full_came}
 use Rattle.call_verdicts.specs.script_running.specs.declared.came.Broken.{Broken}
 use Rattle.call_verdicts.specs.script_running.specs.declared.came.Broken.TheVariants as broken

@@ -3,6 +3,7 @@
 
 mod day;
 mod laws;
+mod preparing;
 mod replay;
 mod runner;
 mod standard;

@@ -1,17 +1,18 @@
-ghost use Rattle.std.specs.Prelude.{◌≡◌, ◌≢◌, [], Some, None, IfSome, is_some};
+ghost use Rattle.std.specs.Prelude.{◌≡◌, ◌≢◌, Some, None, IfSome, is_some};
+ghost use Rattle.replay_cli.specs.Calls.{Leaves, outside};
 ghost use Rattle.replay_cli.specs.InPhases.{IsInPhases};
+ghost use Rattle.replay_cli.specs.Ways.{beside};
 ghost use Rattle.call_verdicts.specs.Noted.{IsFullSaid, IsNoted, met_alone};
-ghost use Rattle.call_verdicts.specs.Kept.{IsHandedBack, IsHandedOut, IsNotAsked, IsShelfOf, IsUnfailed, IsUntouched, told_of};
+ghost use Rattle.call_verdicts.specs.Kept.{IsHandedBack, IsHandedOut, IsNotAsked, IsShelfOf, IsUntouched, told_of};
 ghost use Rattle.call_verdicts.specs.Asked.{IsBucketAsked, WasReadFor};
 ghost use Rattle.call_verdicts.specs.Statuses.{number_of};
-ghost use Rattle.call_verdicts.specs.Verdicts.{EndsCalmly, IfShort, IsCaused, IsSaid, IsWorked, around_call, saying_to};
+ghost use Rattle.call_verdicts.specs.Verdicts.{EndsCalmly, IsCaused, IsSaid, around_call, saying_to};
 ghost use Rattle.call_verdicts.specs.Words.{named_by, replay_shelf, replay_word};
 
-use crate::runner::run_read_with_threads;
+use crate::preparing::{Prepared, end_run, prepare};
+use crate::runner::run_with_threads;
 use bucket_core::{Sink, Site, Source};
-use call_verdicts::{
-    Conclusion, Ended, Ready, Run, Status, Verdict, read_and_open, read_blocks, read_replay,
-};
+use call_verdicts::{Conclusion, Ended, Run, Status, Verdict, read_replay};
 use phase_runner::Gate;
 use std::alloc::Global;
 use std::sync::Wait;
@@ -127,6 +128,7 @@ where
 }
 
 /// Reads the script and runs it.
+#[tactic(auto, using(crate::proofs::Calls::may_run))]
 fn read_and_run<S: Site, R: Source, G: Gate + Sync, T: Threads + Wait + Sync>(
     rt: &T,
     alloc: Global,
@@ -138,49 +140,31 @@ fn read_and_run<S: Site, R: Source, G: Gate + Sync, T: Threads + Wait + Sync>(
 ) -> Ended<S::Store, S::Files>
 where
     S::Store: Send,
-    ensures cause { IsWorked
-        (around_call IsInPhases R.left R.faults script.old script.new
-        S.buckets S.next_bucket S.shelves S.next_shelf S.faults
-        (Some bucket.now) (named_by shelf.now)
-        None site.old site.new S.Store.faults S.Files.faults
-        result.conclusion.store result.shelf result.conclusion.journal)
-        result.conclusion.verdict }
-    ensures short { IfShort result.conclusion.verdict
-        ((R.faults script.new ≡ R.faults script.old) × (S.faults site.new ≡ S.faults site.old)
-        × IsUnfailed S.Store.faults 0 result.conclusion.journal result.conclusion.store
-        × IfSome result.shelf (λ files. S.Files.faults files ≡ 0)) }
-    ensures asked { IfSome result.shelf (WasReadFor S.Files.asked (R.left script.old)) }
-    ensures handed { IsHandedOut S.buckets site.old site.new result.conclusion.store }
-    ensures kept { is_some result.conclusion.journal ≡ is_some result.conclusion.store }
-    ensures back { IsHandedBack S.Store.contents S.Store.faults result.conclusion.journal
-        result.conclusion.store }
-    ensures asked_bucket { result.conclusion.verdict ≢ Verdict.NoMemory
-        → IsBucketAsked S.Store.asked result.conclusion.verdict result.conclusion.journal
-        result.conclusion.store }
-    ensures noted { IsNoted met_alone S.Store.asked result.conclusion.verdict
-        result.conclusion.journal result.conclusion.store result.note }
-    ensures untouched { IfSome (S.next_bucket site.old bucket.now)
-        (λ c. IsUntouched S.Store.contents c result.conclusion.journal result.conclusion.store) }
-    ensures shelf { IsShelfOf S.shelves S.next_shelf S.Files.files (named_by shelf.now)
-        site.old site.new result.shelf }
+    ensures { Leaves beside (outside R.left R.faults script.old script.new
+        S.buckets S.next_bucket S.shelves S.next_shelf S.faults site.old site.new
+        S.Store.contents S.Store.faults S.Store.asked S.Files.files S.Files.faults S.Files.asked
+        bucket.now (named_by shelf.now)) result }
 {
-    match read_and_open(alloc, bucket, shelf, site, script) {
+    match prepare(alloc, bucket, shelf, site, script) {
         Ok(
-            Ready {
+            Prepared {
                 script,
+                blocks,
                 world,
                 shelf,
             },
         ) => {
-            let (read, shelf) = read_blocks(alloc, &script, shelf);
-            let (verdict, finished) = run_read_with_threads(rt, alloc, gate, &script, read, world);
+            let (verdict, run) = run_with_threads(
+                rt,
+                alloc,
+                gate,
+                &script,
+                blocks.members(),
+                world,
+            );
+            drop(blocks);
             drop(script);
-            let (conclusion, note) = Conclusion::of_run(verdict, finished);
-            Ended {
-                conclusion,
-                shelf,
-                note,
-            }
+            end_run(verdict, run, shelf)
         }
         Err(ended) => ended,
     }

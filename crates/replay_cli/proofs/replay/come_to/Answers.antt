@@ -27,6 +27,15 @@ returns-in-Some-clause-cause g c = (
   c.read_and_run.ensures.short,
 )
 
+pub returns-in-Some-clause-handed : goal.returns-in-Some-clause-handed
+returns-in-Some-clause-handed g c = c.read_and_run.ensures.handed
+
+pub returns-in-Some-clause-kept : goal.returns-in-Some-clause-kept
+returns-in-Some-clause-kept g c = c.read_and_run.ensures.kept
+
+pub returns-in-Some-clause-back : goal.returns-in-Some-clause-back
+returns-in-Some-clause-back g c = c.read_and_run.ensures.back
+
 pub returns-in-Some-clause-untouched : goal.returns-in-Some-clause-untouched
 returns-in-Some-clause-untouched g c =
     untouched_named g.S.Store.Bucket.contents (g.S.Site.next_bucket c.args.site.now) (Some c.in-Some.named.bucket.now) (replay_word c.args.words.now) c.read_and_run.result.conclusion.journal c.read_and_run.result.conclusion.store
@@ -36,6 +45,9 @@ pub returns-in-Some-clause-shelf : goal.returns-in-Some-clause-shelf
 returns-in-Some-clause-shelf g c =
     shelf_named g.S.Site.shelves g.S.Site.next_shelf g.S.Files.Shelf.files (named_by c.in-Some.named.shelf.now) (replay_shelf c.args.words.now) c.args.site.now c.read_and_run.new.site c.read_and_run.result.shelf
     c.in-Some.ensures.shelf c.read_and_run.ensures.shelf
+
+pub returns-in-Some-clause-asked : goal.returns-in-Some-clause-asked
+returns-in-Some-clause-asked g c = c.read_and_run.ensures.asked
 
 -- ---- words that are no form of a call
 

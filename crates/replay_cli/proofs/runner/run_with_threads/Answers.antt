@@ -19,60 +19,48 @@ use Rattle.replay_cli.proofs.runner.run_with_threads.Goals as goal
 pub run_beside-requires-clause-untold : goal.run_beside-requires-clause-untold
 run_beside-requires-clause-untold g c = λ κs lives. no_lines c.new-report.result c.args.script.now c.new-report.ensures
 
-pub returns-in-Ok-clause-cause : goal.returns-in-Ok-clause-cause
-returns-in-Ok-clause-cause g c =
-    let bytes = subst IsOfBytes (ap (λ w. w.journal) (c.world-world.ensures ∙ sym c.of_closed.ensures.world)) c.journal-journal.ensures.holds.bytes in
-    beside_told (setting_by c.args.script.now c.args.shelf.now) c.requires.lawful c.of_closed.result.world.journal bytes c.in-Ok.end.outcomes c.run_beside.new.report (view_of c.in-Ok.closed.root.value).wanted c.in-Ok.end.came c.with_wanted-came.result c.verdict_of-verdict.result
-    (told_as c.wanted.result (view_of c.in-Ok.closed.root.value).wanted c.in-Ok.end.came c.with_wanted-came.result c.wanted.ensures c.with_wanted-came.ensures) c.in-Ok.ensures.reported
-    (subst (λ (es : List Entry). HasRunBeside (setting_by c.args.script.now c.args.shelf.now) es c.in-Ok.end.outcomes c.in-Ok.end.came) (sym (ap (λ w. w.journal) c.of_closed.ensures.world)) c.in-Ok.ensures.ran)
-    (ends_over c.args.script.now c.entries.result.now c.of_closed.result.world.journal c.run_beside.new.report c.verdict_of-verdict.result
-    (c.entries.ensures ∙ c.journal-journal.ensures.journal ∙ ap (λ w. w.journal) c.world-world.ensures ∙ sym (ap (λ w. w.journal) c.of_closed.ensures.world)) c.verdict_of-verdict.ensures.whole)
-    c.verdict_of-verdict.ensures.full c.verdict_of-verdict.ensures.none
-
-pub returns-in-Ok-clause-unfailed : goal.returns-in-Ok-clause-unfailed
-returns-in-Ok-clause-unfailed g c = λ none.
-    ap (λ w. g.B.Bucket.faults w.bucket) c.of_closed.ensures.world ∙ c.in-Ok.ensures.unfailed (sym (ap (λ w. failed_count w.journal) c.of_closed.ensures.world) ∙ none)
-
-pub returns-in-Ok-clause-all : goal.returns-in-Ok-clause-all
-returns-in-Ok-clause-all g c = λ never before was.
-    let is = told_as c.wanted.result (view_of c.in-Ok.closed.root.value).wanted c.in-Ok.end.came c.with_wanted-came.result c.wanted.ensures c.with_wanted-came.ensures in
-    let unwanted = unwanted_by (view_of c.in-Ok.closed.root.value).wanted c.verdict_of-verdict.result never
-    (short_told (view_of c.in-Ok.closed.root.value).wanted c.in-Ok.end.came c.with_wanted-came.result c.verdict_of-verdict.result is c.verdict_of-verdict.ensures.none) in
-    subst (IsAllAsked g.B.Bucket.asked before) (sym c.of_closed.ensures.world) (c.in-Ok.ensures.all unwanted before was)
-
-pub returns-in-Ok-clause-noted : goal.returns-in-Ok-clause-noted
-returns-in-Ok-clause-noted g c =
-    let is = told_as c.wanted.result (view_of c.in-Ok.closed.root.value).wanted c.in-Ok.end.came c.with_wanted-came.result c.wanted.ensures c.with_wanted-came.ensures in
-    noted_world met_alone g.B.Bucket.asked c.verdict_of-verdict.result c.of_closed.result.world (view_of c.in-Ok.closed.root.value).refused (view_of c.in-Ok.closed.root.value).wanted c.of_closed.result.note c.of_closed.ensures.note
-    (alone_told (view_of c.in-Ok.closed.root.value).refused (view_of c.in-Ok.closed.root.value).wanted c.in-Ok.end.came c.with_wanted-came.result c.verdict_of-verdict.result c.in-Ok.ensures.refused is
-    (full_told c.args.script.now c.entries.result.now c.run_beside.new.report c.with_wanted-came.result c.verdict_of-verdict.result c.verdict_of-verdict.ensures.whole c.verdict_of-verdict.ensures.full c.verdict_of-verdict.ensures.none))
-    (short_told (view_of c.in-Ok.closed.root.value).wanted c.in-Ok.end.came c.with_wanted-came.result c.verdict_of-verdict.result is c.verdict_of-verdict.ensures.none)
-    (λ never. run_asked g.B.Bucket.asked c.args.world c.of_closed.result.world c.requires.fresh c.requires.asked
-    (λ before was. subst (IsAllAsked g.B.Bucket.asked before) (sym c.of_closed.ensures.world) (c.in-Ok.ensures.all never before was)))
-
 pub verdict_of-verdict-requires-clause-bytes : goal.verdict_of-verdict-requires-clause-bytes
 verdict_of-verdict-requires-clause-bytes g c = subst IsOfBytes (sym (c.entries.ensures ∙ c.journal-journal.ensures.journal)) c.journal-journal.ensures.holds.bytes
 
 pub verdict_of-verdict-requires-clause-kept : goal.verdict_of-verdict-requires-clause-kept
 verdict_of-verdict-requires-clause-kept g c = subst (IsJournal c.args.script.now.rules.tick.ms) (sym (c.entries.ensures ∙ c.journal-journal.ensures.journal ∙ ap (λ w. w.journal) c.world-world.ensures)) ((c.in-Ok.ensures.ran).run).kept
 
+pub returns-in-Ok : goal.returns-in-Ok
+returns-in-Ok g c =
+    let known = view_of c.in-Ok.closed.root.value in
+    let v = c.verdict_of-verdict.result in
+    let came = c.with_wanted-came.result in
+    let world = c.of_closed.result.world in
+    let over = c.of_closed.ensures.world in
+    let is = told_as c.wanted.result known.wanted c.in-Ok.end.came came c.wanted.ensures c.with_wanted-came.ensures in
+    let short = short_told known.wanted c.in-Ok.end.came came v is c.verdict_of-verdict.ensures.none in
+    let bytes = subst IsOfBytes (ap (λ w. w.journal) (c.world-world.ensures ∙ sym over)) c.journal-journal.ensures.holds.bytes in
+    record {
+      cause = beside_told (setting_by c.args.script.now c.args.shelf.now) c.requires.lawful world.journal bytes c.in-Ok.end.outcomes c.run_beside.new.report known.wanted c.in-Ok.end.came came v is c.in-Ok.ensures.reported
+          (subst (λ (es : List Entry). HasRunBeside (setting_by c.args.script.now c.args.shelf.now) es c.in-Ok.end.outcomes c.in-Ok.end.came) (sym (ap (λ w. w.journal) over)) c.in-Ok.ensures.ran)
+          (ends_over c.args.script.now c.entries.result.now world.journal c.run_beside.new.report v (c.entries.ensures ∙ c.journal-journal.ensures.journal ∙ ap (λ w. w.journal) c.world-world.ensures ∙ sym (ap (λ w. w.journal) over)) c.verdict_of-verdict.ensures.whole)
+          c.verdict_of-verdict.ensures.full c.verdict_of-verdict.ensures.none;
+      unfailed = λ none. ap (λ w. g.B.Bucket.faults w.bucket) over ∙ c.in-Ok.ensures.unfailed (sym (ap (λ w. failed_count w.journal) over) ∙ none);
+      all = λ never before was. subst (IsAllAsked g.B.Bucket.asked before) (sym over) (c.in-Ok.ensures.all (unwanted_by known.wanted v never short) before was);
+      noted = noted_world met_alone g.B.Bucket.asked v world known.refused known.wanted c.of_closed.result.note c.of_closed.ensures.note
+          (alone_told known.refused known.wanted c.in-Ok.end.came came v c.in-Ok.ensures.refused is (full_told c.args.script.now c.entries.result.now c.run_beside.new.report came v c.verdict_of-verdict.ensures.whole c.verdict_of-verdict.ensures.full c.verdict_of-verdict.ensures.none))
+          short
+          (λ never. run_asked g.B.Bucket.asked c.args.world world c.requires.fresh c.requires.asked (λ before was. subst (IsAllAsked g.B.Bucket.asked before) (sym over) (c.in-Ok.ensures.all never before was)));
+    }
+
 -- ---- nothing was begun
 
 pub unbegun-requires : goal.unbegun-requires
 unbegun-requires g c = record { fresh = ap (λ w. w.journal) c.in-Err.ensures.unbegun ∙ c.requires.fresh }
 
-pub returns-in-Err-clause-cause : goal.returns-in-Err-clause-cause
-returns-in-Err-clause-cause g c =
-    none_beside (setting_by c.args.script.now c.args.shelf.now) c.unbegun.result.world.journal (ap (λ w. w.journal) c.unbegun.ensures.world ∙ ap (λ w. w.journal) c.in-Err.ensures.unbegun ∙ c.requires.fresh)
-
-pub returns-in-Err-clause-unfailed : goal.returns-in-Err-clause-unfailed
-returns-in-Err-clause-unfailed g c = λ none. ap (λ w. g.B.Bucket.faults w.bucket) c.unbegun.ensures.world ∙ ap (λ w. g.B.Bucket.faults w.bucket) c.in-Err.ensures.unbegun
-
-pub returns-in-Err-clause-all : goal.returns-in-Err-clause-all
-returns-in-Err-clause-all g c = λ never before was. absurd (never refl)
-
-pub returns-in-Err-clause-noted : goal.returns-in-Err-clause-noted
-returns-in-Err-clause-noted g c =
-    unnoted met_alone g.B.Bucket.asked verdict.NoMemory (Some c.unbegun.result.world.journal) (Some c.unbegun.result.world.bucket) c.unbegun.result.note c.unbegun.ensures.note
-    (ap (λ w. w.journal) c.unbegun.ensures.world ∙ ap (λ w. w.journal) c.in-Err.ensures.unbegun ∙ c.requires.fresh) refl
-    (inr (subst (WasAsked g.B.Bucket.asked for_opening) (sym (ap (λ w. w.bucket) c.unbegun.ensures.world ∙ ap (λ w. w.bucket) c.in-Err.ensures.unbegun)) c.requires.asked))
+pub returns-in-Err : goal.returns-in-Err
+returns-in-Err g c =
+    let same = c.unbegun.ensures.world ∙ c.in-Err.ensures.unbegun in
+    let none = ap (λ w. w.journal) same ∙ c.requires.fresh in
+    record {
+      cause = none_beside (setting_by c.args.script.now c.args.shelf.now) c.unbegun.result.world.journal none;
+      unfailed = λ _. ap (λ w. g.B.Bucket.faults w.bucket) same;
+      all = λ never before was. absurd (never refl);
+      noted = unnoted met_alone g.B.Bucket.asked verdict.NoMemory (Some c.unbegun.result.world.journal) (Some c.unbegun.result.world.bucket) c.unbegun.result.note c.unbegun.ensures.note none refl
+          (inr (subst (WasAsked g.B.Bucket.asked for_opening) (sym (ap (λ w. w.bucket) same)) c.requires.asked));
+    }

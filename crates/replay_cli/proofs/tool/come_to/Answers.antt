@@ -30,6 +30,15 @@ returns-in-Some-clause-cause g c = (
   c.read_and_run.ensures.short,
 )
 
+pub returns-in-Some-clause-handed : goal.returns-in-Some-clause-handed
+returns-in-Some-clause-handed g c = c.read_and_run.ensures.handed
+
+pub returns-in-Some-clause-kept : goal.returns-in-Some-clause-kept
+returns-in-Some-clause-kept g c = c.read_and_run.ensures.kept
+
+pub returns-in-Some-clause-back : goal.returns-in-Some-clause-back
+returns-in-Some-clause-back g c = c.read_and_run.ensures.back
+
 pub returns-in-Some-clause-untouched : goal.returns-in-Some-clause-untouched
 returns-in-Some-clause-untouched g c =
     untouched_named g.S.Store.Bucket.contents (g.S.Site.next_bucket c.args.site.now) (Some c.in-Some.named.bucket.now) (bucket_word c.args.words.now) c.read_and_run.result.conclusion.journal c.read_and_run.result.conclusion.store

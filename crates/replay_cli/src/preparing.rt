@@ -1,0 +1,77 @@
+//! A run is prepared, in whichever way its tasks are to be done, and ended.
+
+ghost use Rattle.call_verdicts.specs.Words.{named_by};
+ghost use Rattle.replay_cli.specs.Calls.{IsEndOfRun, Prepares, outside};
+
+use bucket_core::{Bucket, Site, Source};
+use call_verdicts::script_running::ShelfBlockList;
+use call_verdicts::{Conclusion, Ended, Ready, Verdict, read_and_open, read_blocks};
+use run_notes::Finished;
+use script_core::Script;
+use std::alloc::Global;
+use world_core::World;
+
+/// What a run works with: the script, the blocks that it takes from the shelf, and a world in which nothing was done yet. The shelf
+/// comes beside, where a word names one.
+#[derive(Drop)]
+pub(crate) struct Prepared<B: Bucket, F> {
+    pub(crate) script: Script,
+    pub(crate) blocks: ShelfBlockList,
+    pub(crate) world: World<B>,
+    pub(crate) shelf: Option<F>,
+}
+
+/// Reads the script and the blocks that it takes from the shelf, and opens the bucket; or ends the call.
+pub(crate) fn prepare<S: Site, R: Source>(
+    alloc: Global,
+    bucket: &str,
+    shelf: &str,
+    site: &mut S,
+    script: &mut R,
+) -> Result<Prepared<S::Store, S::Files>, Ended<S::Store, S::Files>>
+    ensures { Prepares (outside R.left R.faults script.old script.new
+        S.buckets S.next_bucket S.shelves S.next_shelf S.faults site.old site.new
+        S.Store.contents S.Store.faults S.Store.asked S.Files.files S.Files.faults S.Files.asked
+        bucket.now (named_by shelf.now)) result }
+{
+    match read_and_open(alloc, bucket, shelf, site, script) {
+        Ok(
+            Ready {
+                script,
+                world,
+                shelf,
+            },
+        ) => {
+            let (read, shelf) = read_blocks(alloc, &script, shelf);
+            match read {
+                Ok(blocks) => Ok(Prepared {
+                    script,
+                    blocks,
+                    world,
+                    shelf,
+                }),
+                Err(verdict) => {
+                    drop(script);
+                    Err(end_run(verdict, Finished::unbegun(world), shelf))
+                }
+            }
+        }
+        Err(ended) => Err(ended),
+    }
+}
+
+/// What a call comes to whose run is finished, with the shelf of its word.
+pub(crate) fn end_run<B: Bucket, F>(
+    verdict: Verdict,
+    run: Finished<B>,
+    shelf: Option<F>,
+) -> Ended<B, F>
+    ensures { IsEndOfRun B.contents B.faults verdict run.world run.note shelf result }
+{
+    let (conclusion, note) = Conclusion::of_run(verdict, run);
+    Ended {
+        conclusion,
+        shelf,
+        note,
+    }
+}
