@@ -8,7 +8,7 @@ use Rattle.reading_core.proofs.Binds.{ok_is}
 use Rattle.label_sets.specs.declared.sample.Sample.{Sample}
 use Rattle.xor_chunks.specs.declared.refusal.XorRefusal.{XorRefusal}
 use Rattle.xor_chunks.specs.declared.refusal.XorRefusal.TheVariants.{Trailing, NoMemory}
-use Rattle.xor_chunks.specs.Bits.{bits_in}
+use Rattle.wire_bits.specs.Bits.{bits_in}
 use Rattle.xor_chunks.specs.Samples.{begun}
 use Rattle.xor_chunks.specs.Data.{count_at, first_at, rest_at, samples_at, is_filling, data_at, with_front, with_samples}
 use Rattle.xor_chunks.specs.Grammar.{IsText}

@@ -8,13 +8,13 @@ use Rattle.std.proofs.lemmas.List.Concat.{flat_map-append}
 use Rattle.reading_core.specs.Reading.{◌>>=◌}
 use Rattle.xor_chunks.specs.State.{State, with_pattern}
 use Rattle.xor_chunks.specs.declared.refusal.XorRefusal.{XorRefusal}
-use Rattle.xor_chunks.specs.Bits.{bits_of, bits_in, number_of, EndWith}
-use Rattle.xor_chunks.specs.Buffer.{front, Shows}
+use Rattle.wire_bits.specs.Bits.{bits_of, bits_in, number_of, EndWith}
+use Rattle.wire_bits.specs.Buffer.{front, Shows}
 use Rattle.xor_chunks.specs.Window.{Window, told_by, IsInside, is_inside, changed}
 use Rattle.xor_chunks.specs.Steps.{take_at, behind, change_at, within_at, value_at, time_after, next_at}
 use Rattle.xor_chunks.specs.Spans.{end_at}
-use Rattle.xor_chunks.proofs.BitLists.{length-bits_of, bits_of-append, length-bits_in}
-use Rattle.xor_chunks.proofs.Buffers.{field_below, front-joined}
+use Rattle.wire_bits.proofs.BitLists.{length-bits_of, bits_of-append, length-bits_in}
+use Rattle.wire_bits.proofs.Buffers.{field_below, front-joined}
 use Rattle.xor_chunks.proofs.Takes.{no_change}
 use Rattle.xor_chunks.proofs.Peeks.{head_is, front-drop, same_behind, within_behind, opened_behind, follow_time, next_behind}
 use Rattle.xor_chunks.proofs.Followed.{passed_on}

@@ -8,7 +8,7 @@ use Rattle.label_sets.specs.declared.sample.Sample.{Sample}
 use Rattle.xor_chunks.specs.State.{State, with_pattern}
 use Rattle.xor_chunks.specs.declared.refusal.XorRefusal.{XorRefusal}
 use Rattle.xor_chunks.specs.declared.refusal.XorRefusal.TheVariants.{OutOfRange}
-use Rattle.xor_chunks.specs.Bits.{bits_of, EndWith}
+use Rattle.wire_bits.specs.Bits.{bits_of, EndWith}
 use Rattle.xor_chunks.specs.Samples.{sample_of}
 use Rattle.xor_chunks.specs.Window.{Window, width_of, is_inside, changed}
 use Rattle.xor_chunks.specs.Steps.{take_at, change_at, within_at, opened_at, value_at, time_after, follow_at, next_at}

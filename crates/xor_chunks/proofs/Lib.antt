@@ -1,7 +1,3 @@
-pub mod BitLists
-pub mod Buffers
-pub mod Crossings
-pub mod Writers
 pub mod Times
 pub mod Takes
 pub mod Values

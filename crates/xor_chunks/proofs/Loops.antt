@@ -3,8 +3,8 @@ use Rattle.std.proofs.Common.{◌≡◌, ℕ, zero, suc, ◌+◌, ◌-◌, ◌^�
 use Rattle.std.proofs.lemmas.List.{append-nil, nil_from_length, length-append}
 use Rattle.std.proofs.lemmas.Bool.{le-leb}
 use Rattle.std.proofs.Math.Nat.{mod-eq_of_lt}
-use Rattle.xor_chunks.specs.Bits.{bits_of, bits_in, number_of}
-use Rattle.xor_chunks.proofs.BitLists.{length-bits_of, number_of-bits_of}
+use Rattle.wire_bits.specs.Bits.{bits_of, bits_in, number_of}
+use Rattle.wire_bits.proofs.BitLists.{length-bits_of, number_of-bits_of}
 use Rattle.label_sets.specs.declared.sample.Sample.{Sample}
 use Rattle.reading_core.specs.Reading.{◌>>=◌}
 use Rattle.reading_core.specs.Members.{members_at}

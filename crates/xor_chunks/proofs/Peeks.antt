@@ -8,12 +8,12 @@ use Rattle.wire_bytes.specs.Fields.{field_value}
 use Rattle.xor_chunks.specs.State.{State}
 use Rattle.xor_chunks.specs.declared.refusal.XorRefusal.{XorRefusal}
 use Rattle.xor_chunks.specs.declared.refusal.XorRefusal.TheVariants.{Short, OutOfRange}
-use Rattle.xor_chunks.specs.Bits.{bits_of, number_of}
-use Rattle.xor_chunks.specs.Buffer.{front, Shows}
+use Rattle.wire_bits.specs.Bits.{bits_of, number_of}
+use Rattle.wire_bits.specs.Buffer.{front, Shows}
 use Rattle.xor_chunks.specs.Window.{Window, told_by, is_inside}
 use Rattle.xor_chunks.specs.Steps.{take_at, behind, field_behind, change_at, value_at, within_at, time_after, follow_at, next_at}
-use Rattle.xor_chunks.proofs.BitLists.{length-bits_of}
-use Rattle.xor_chunks.proofs.Buffers.{shl_cut, front-joined}
+use Rattle.wire_bits.proofs.BitLists.{length-bits_of}
+use Rattle.wire_bits.proofs.Buffers.{shl_cut, front-joined}
 use Rattle.xor_chunks.proofs.Takes.{take_again, take_found, take_cases, field_found, field_short, front-nil, front-cons, front-lt}
 use Rattle.xor_chunks.proofs.Values.{take_split, take_split_short, value_same, value_10, opened_found, opened_short}
 

@@ -15,11 +15,11 @@ use Rattle.reading_core.proofs.SignedRanges.{pos-unsigned_abs}
 use Rattle.label_sets.specs.declared.sample.Sample.{Sample}
 use Rattle.xor_chunks.specs.State.{State}
 use Rattle.xor_chunks.specs.declared.last_written.LastWritten.{LastWritten}
-use Rattle.xor_chunks.specs.Bits.{bits_of, bits_in, filled}
+use Rattle.wire_bits.specs.Bits.{bits_of, bits_in, filled}
 use Rattle.xor_chunks.specs.declared.window_setting.WindowSetting.TheVariants.{Unset}
 use Rattle.xor_chunks.specs.Written.{CanFollow, IsChunkTime, AreToCome, AreOfChunk, ArePatterns, put_after, put_first, change_bits, value_bits, window_after, next_bits, others_bits, rest_bits, written}
 use Rattle.xor_chunks.specs.Grammar.{Follows, IsNext, AreOthers, AreRest, AreFromFirst, IsText}
-use Rattle.xor_chunks.proofs.BitLists.{length-bits_of, same_from_bits_of, bits_in-bytes}
+use Rattle.wire_bits.proofs.BitLists.{length-bits_of, same_from_bits_of, bits_in-bytes}
 use Rattle.xor_chunks.proofs.PutTexts.{chunk_to_come}
 use Rattle.xor_chunks.proofs.Times.{fits_both}
 use Rattle.xor_chunks.proofs.ValuesWritten.{seen, IsSeen, value_written, kept_seen, step_written}

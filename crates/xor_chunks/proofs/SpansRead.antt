@@ -10,7 +10,7 @@ use Rattle.xor_chunks.specs.State.{State}
 use Rattle.xor_chunks.specs.declared.refusal.XorRefusal.{XorRefusal}
 use Rattle.xor_chunks.specs.declared.refusal.XorRefusal.TheVariants.{Trailing}
 use Rattle.xor_chunks.specs.declared.sample_span.SampleSpan.{SampleSpan}
-use Rattle.xor_chunks.specs.Bits.{bits_in}
+use Rattle.wire_bits.specs.Bits.{bits_in}
 use Rattle.xor_chunks.specs.Samples.{begun, sample_of}
 use Rattle.xor_chunks.specs.Steps.{next_at, follow_at}
 use Rattle.xor_chunks.specs.Data.{count_at, first_at, gap_at, others_at, rest_at, samples_at, data_at, is_filling, with_front}

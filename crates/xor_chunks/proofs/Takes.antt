@@ -12,11 +12,11 @@ use Rattle.reading_core.proofs.Binds.{err_is}
 use Rattle.wire_bytes.specs.Fields.{field_value}
 use Rattle.xor_chunks.specs.declared.refusal.XorRefusal.{XorRefusal}
 use Rattle.xor_chunks.specs.declared.refusal.XorRefusal.TheVariants.{Short}
-use Rattle.xor_chunks.specs.Bits.{bits_of, number_of}
-use Rattle.xor_chunks.specs.Buffer.{front}
+use Rattle.wire_bits.specs.Bits.{bits_of, number_of}
+use Rattle.wire_bits.specs.Buffer.{front}
 use Rattle.xor_chunks.specs.Steps.{Reads, take_at, field_at, field_behind, whole_field_at, change_at}
 use Rattle.reading_core.proofs.Bound.{OfValue, of_ok, of_err}
-use Rattle.xor_chunks.proofs.BitLists.{length-bits_of, number_of-bits_of, number_of-lt, bits_of-number_of, bits_of-append, bits_of-mod}
+use Rattle.wire_bits.proofs.BitLists.{length-bits_of, number_of-bits_of, number_of-lt, bits_of-number_of, bits_of-append, bits_of-mod}
 
 -- ---- taking
 

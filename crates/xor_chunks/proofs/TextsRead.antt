@@ -20,14 +20,14 @@ use Rattle.label_sets.specs.declared.sample.Sample.{Sample}
 use Rattle.xor_chunks.specs.State.{State}
 use Rattle.xor_chunks.specs.declared.refusal.XorRefusal.{XorRefusal}
 use Rattle.xor_chunks.specs.declared.refusal.XorRefusal.TheVariants.{NoMemory}
-use Rattle.xor_chunks.specs.Bits.{bits_of, bits_in, number_of}
+use Rattle.wire_bits.specs.Bits.{bits_of, bits_in, number_of}
 use Rattle.xor_chunks.specs.Samples.{begun}
 use Rattle.xor_chunks.specs.Data.{start, count_at, first_at, sample_at, others_at, rest_at, samples_at, is_filling, data_at}
 use Rattle.xor_chunks.specs.Grammar.{AreOthers, AreRest, AreSamples, IsText}
 use Rattle.xor_chunks.specs.Window.{whole, IsInside}
 use Rattle.reading_core.proofs.Bound.{OfValue, of_ok, of_bind, of_unless, of_bind_as, of_gives}
 use Rattle.xor_chunks.proofs.FieldsRead.{HasText, value_inside}
-use Rattle.xor_chunks.proofs.BitLists.{bits_of-number_of, bits_of-zero, length-bits_in}
+use Rattle.wire_bits.proofs.BitLists.{bits_of-number_of, bits_of-zero, length-bits_in}
 use Rattle.xor_chunks.proofs.Takes.{number_of-zeros}
 use Rattle.xor_chunks.proofs.SamplesRead.{follow_found, follow_again, others_found, others_again, value_some, others_few, gap_found, gap_again}
 

@@ -17,7 +17,7 @@ use Rattle.xor_chunks.specs.State.{State}
 use Rattle.xor_chunks.specs.declared.refusal.XorRefusal.{XorRefusal}
 use Rattle.xor_chunks.specs.declared.refusal.XorRefusal.TheVariants.{Trailing}
 use Rattle.xor_chunks.specs.Refusals.{xor_refusal}
-use Rattle.xor_chunks.specs.Bits.{bits_in, number_of}
+use Rattle.wire_bits.specs.Bits.{bits_in, number_of}
 use Rattle.xor_chunks.specs.Samples.{begun, sample_of}
 use Rattle.xor_chunks.specs.Steps.{follow_at, next_at}
 

@@ -5,7 +5,7 @@ use Rattle.reading_core.specs.Grammar.{HasFront}
 use Rattle.wire_bytes.specs.FieldTexts.{IsFixed, IsUvarint, IsVarint}
 use Rattle.label_sets.specs.declared.sample.Sample.{Sample}
 use Rattle.xor_chunks.specs.State.{State}
-use Rattle.xor_chunks.specs.Bits.{bits_of, bits_in}
+use Rattle.wire_bits.specs.Bits.{bits_of, bits_in}
 use Rattle.xor_chunks.specs.Samples.{sample_of}
 use Rattle.xor_chunks.specs.Window.{Window, whole, IsInside, changed}
 

@@ -1,6 +1,3 @@
-pub mod Bits
-pub mod Buffer
-pub mod Writing
 pub mod Window
 pub mod Refusals
 pub mod State

@@ -7,7 +7,7 @@ use Rattle.wire_bytes.specs.Fields.{field_value}
 use Rattle.xor_chunks.specs.State.{State}
 use Rattle.xor_chunks.specs.declared.refusal.XorRefusal.{XorRefusal}
 use Rattle.xor_chunks.specs.declared.refusal.XorRefusal.TheVariants.{Short, Falling, OutOfRange}
-use Rattle.xor_chunks.specs.Bits.{number_of}
+use Rattle.wire_bits.specs.Bits.{number_of}
 use Rattle.xor_chunks.specs.Window.{Window, width_of, is_inside, changed}
 
 -- A function that reads from a reader of bits gave what the reading function gives, and left the reader at the bits after it.

@@ -5,7 +5,7 @@ use Rattle.std.specs.Ordering.{int_eq, int_cmp}
 use Rattle.std.specs.List.Sorted.{IsStrictlySortedBy}
 use Rattle.wire_bytes.specs.Written.{uvarint_text, varint_text}
 use Rattle.label_sets.specs.declared.sample.Sample.{Sample}
-use Rattle.xor_chunks.specs.Bits.{bits_of, bits_in}
+use Rattle.wire_bits.specs.Bits.{bits_of, bits_in}
 use Rattle.xor_chunks.specs.Window.{Window}
 use Rattle.xor_chunks.specs.declared.last_written.LastWritten.{LastWritten}
 use Rattle.xor_chunks.specs.declared.window_setting.WindowSetting.{WindowSetting}

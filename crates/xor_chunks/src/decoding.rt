@@ -7,12 +7,13 @@ ghost use Rattle.reading_core.specs.Reading.{Answers, Gives};
 ghost use Rattle.reading_core.specs.Grammar.{IsBytes};
 ghost use Rattle.xor_chunks.specs.Data.{count_at, first_at, gap_at, others_at, rest_at, samples_at, data_at, is_filling, with_front, with_samples};
 
+use crate::XorRefusal;
 use crate::last::Last;
 use crate::step::{follow, next};
-use crate::{BitReader, XorRefusal};
 use label_sets::{Sample, SampleList};
 use list_core::List;
 use std::alloc::Global;
+use wire_bits::BitReader;
 use wire_bytes::Cursor;
 
 /// How many samples there are, and the bytes after that.

@@ -3,9 +3,8 @@ ghost use Rattle.xor_chunks.specs.Written.{fits_field, change_bits, reused, valu
 ghost use Rattle.wire_bytes.specs.Written.{varint_text};
 ghost use Rattle.xor_chunks.specs.Grammar.{IsText};
 ghost use Rattle.reading_core.specs.Grammar.{IsBytes};
-ghost use Rattle.xor_chunks.specs.Bits.{bits_of, bits_in, filled};
+ghost use Rattle.wire_bits.specs.Bits.{bits_of, bits_in, filled};
 
-use crate::BitWriter;
 use crate::last_written::LastWritten;
 use crate::pending_bits::PendingBits;
 use crate::window::Window;
@@ -13,6 +12,7 @@ use crate::window_setting::WindowSetting;
 use label_sets::Sample;
 use list_core::NoMemory;
 use std::alloc::Global;
+use wire_bits::BitWriter;
 use wire_bytes::{Blob, put_u16, put_u64, put_uvarint, put_varint};
 
 /// Whether a field of `width` bits can stand for the number.

@@ -1,18 +1,18 @@
 //! Passing over samples of which only the last time is wanted. Well before the end of the bytes each is passed from the place at
 //! which it begins, so that none waits for the bits of the one before it, and no pattern is put together.
 ghost use Rattle.std.specs.Prelude.{◌≡◌, ◌+◌, ◌-◌, ◌*◌, ◌/◌, ◌^◌, ◌<◌, ◌≤◌, ◌<ℤ◌, pos, ℕ, Bool, List, Ok, IfSome, IsTrue, length, take, drop};
-ghost use Rattle.xor_chunks.specs.Bits.{bits_of, bits_in, EndWith};
-ghost use Rattle.xor_chunks.specs.Buffer.{Shows};
+ghost use Rattle.wire_bits.specs.Bits.{bits_of, bits_in, EndWith};
+ghost use Rattle.wire_bits.specs.Buffer.{Shows};
 ghost use Rattle.xor_chunks.specs.State.{State, with_pattern};
 ghost use Rattle.xor_chunks.specs.Window.{Window as WindowParts, IsInside};
 ghost use Rattle.xor_chunks.specs.Known.{state_of};
 ghost use Rattle.xor_chunks.specs.Steps.{behind, change_at, value_at, next_at};
 ghost use Rattle.xor_chunks.specs.Spans.{end_at};
 
-use crate::BitReader;
 use crate::last::Last;
 use crate::step::{near_time, short_change};
 use crate::window::Window;
+use wire_bits::BitReader;
 
 /// A sample is passed from its place where so many bytes stand from the one on in which it begins. It takes 101 bits at most,
 /// or its step's change takes 64.

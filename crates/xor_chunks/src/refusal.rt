@@ -2,8 +2,8 @@ ghost use Rattle.std.specs.Prelude.{◌≡◌};
 ghost use Rattle.xor_chunks.specs.declared.refusal.XorRefusal.TheVariants.{Short as IsShort, OutOfRange as IsOutOfRange, NoMemory as IsNoMemory};
 ghost use Rattle.xor_chunks.specs.Refusals.{xor_refusal};
 
-use crate::ShortBits;
 use std::alloc::{AllocError, AllocFailed};
+use wire_bits::ShortBits;
 use wire_bytes::WireRefusal;
 
 /// Why bytes are no XOR data.

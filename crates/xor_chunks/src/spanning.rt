@@ -4,7 +4,7 @@ ghost use Rattle.label_sets.specs.declared.sample.Sample.{Sample};
 ghost use Rattle.reading_core.specs.Reading.{Answers};
 ghost use Rattle.reading_core.specs.Grammar.{IsBytes};
 ghost use Rattle.xor_chunks.specs.Grammar.{IsText};
-ghost use Rattle.xor_chunks.specs.Bits.{bits_in, EndWith};
+ghost use Rattle.wire_bits.specs.Bits.{bits_in, EndWith};
 ghost use Rattle.xor_chunks.specs.Known.{state_of};
 ghost use Rattle.xor_chunks.specs.Data.{rest_at, samples_at};
 ghost use Rattle.xor_chunks.specs.Spans.{span_of, with_end, end_at, with_span, span_at};
@@ -13,8 +13,9 @@ use crate::decoding::{count_of, first_of, gap_of, is_filling};
 use crate::last::Last;
 use crate::passing::pass_most;
 use crate::step::{follow, next};
-use crate::{BitReader, SampleSpan, XorRefusal};
+use crate::{SampleSpan, XorRefusal};
 use label_sets::Sample;
+use wire_bits::BitReader;
 
 /// Passes over `count` samples after the second one by one, and gives the last one.
 fn pass_each<'a>(

@@ -1,13 +1,14 @@
 ghost use Rattle.std.specs.Prelude.{◌≡◌, pos, negsuc, ◌+ℤ◌, ◌-ℤ◌, ◌≤ℤ◌, ◌<◌, ◌≤◌, ◌+◌, ◌-◌, ◌/◌, ◌%◌, ◌^◌, ℕ, ℤ, Bool, List, Ok, if◌then◌else◌, nat_lt, IsTrue, IfOk, IfSome, IfNone};
 ghost use Rattle.reading_core.specs.Reading.{Answers};
 ghost use Rattle.wire_bytes.specs.Fields.{field_value};
-ghost use Rattle.xor_chunks.specs.Buffer.{front, Shows};
+ghost use Rattle.wire_bits.specs.Buffer.{front, Shows};
 ghost use Rattle.xor_chunks.specs.Known.{state_of};
 ghost use Rattle.xor_chunks.specs.Steps.{Reads, take_at, behind, change_at, value_at, within_at, time_after, follow_at, next_at};
 
+use crate::XorRefusal;
 use crate::last::Last;
 use crate::window::Window;
-use crate::{BitReader, XorRefusal};
+use wire_bits::BitReader;
 use wire_bytes::field_value;
 
 /// The time after a step, and how long that is: `delta`, as the step before it, and `change` more.

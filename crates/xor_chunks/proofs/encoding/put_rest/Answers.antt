@@ -1,7 +1,7 @@
 use Rattle.std.proofs.Common.{◌++◌, List, ap, sym, subst, ◌∙◌}
 use Rattle.std.proofs.lemmas.Result.{IfOk-weaker}
 use Rattle.label_sets.specs.declared.sample.Sample.{Sample}
-use Rattle.xor_chunks.specs.Bits.{bits_in}
+use Rattle.wire_bits.specs.Bits.{bits_in}
 use Rattle.xor_chunks.specs.Written.{put_first, rest_bits, ArePatterns}
 use Rattle.xor_chunks.proofs.encoding.put_rest.Goals as goal
 

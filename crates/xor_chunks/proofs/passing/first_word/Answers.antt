@@ -1,6 +1,6 @@
 use Rattle.std.proofs.Common.{ap, ◌∙◌, arith}
-use Rattle.xor_chunks.specs.Bits.{bits_of}
-use Rattle.xor_chunks.proofs.Buffers.{word_bits}
+use Rattle.wire_bits.specs.Bits.{bits_of}
+use Rattle.wire_bits.proofs.Buffers.{word_bits}
 use Rattle.xor_chunks.proofs.passing.first_word.Goals as goal
 
 pub returns : goal.returns

@@ -1,5 +1,5 @@
 use Rattle.std.proofs.Common.{refl, ◌∙◌, arith}
-use Rattle.xor_chunks.specs.Bits.{bits_in}
+use Rattle.wire_bits.specs.Bits.{bits_in}
 use Rattle.xor_chunks.specs.Known.{state_of}
 use Rattle.xor_chunks.proofs.Peeks.{shows_less}
 use Rattle.xor_chunks.proofs.BitPlaces.{ends_on, bits_left}

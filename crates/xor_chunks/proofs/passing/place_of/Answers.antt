@@ -1,6 +1,6 @@
 use Rattle.std.proofs.Common.{refl, ◌∙◌, ap, length, length-append, arith}
-use Rattle.xor_chunks.specs.Bits.{bits_in}
-use Rattle.xor_chunks.proofs.BitLists.{length-bits_in}
+use Rattle.wire_bits.specs.Bits.{bits_in}
+use Rattle.wire_bits.proofs.BitLists.{length-bits_in}
 use Rattle.xor_chunks.proofs.BitPlaces.{stands_at}
 use Rattle.xor_chunks.proofs.passing.place_of.Goals as goal
 

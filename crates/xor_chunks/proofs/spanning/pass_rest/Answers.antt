@@ -3,7 +3,7 @@ use Rattle.std.proofs.lemmas.Int.{ints}
 use Rattle.reading_core.specs.Reading.{Answers}
 use Rattle.xor_chunks.specs.declared.refusal.XorRefusal.{XorRefusal}
 use Rattle.xor_chunks.specs.Known.{state_of}
-use Rattle.xor_chunks.specs.Bits.{bits_in}
+use Rattle.wire_bits.specs.Bits.{bits_in}
 use Rattle.xor_chunks.proofs.SpansRead.{rest_ends}
 use Rattle.xor_chunks.proofs.Followed.{followed_end}
 use Rattle.xor_chunks.proofs.spanning.pass_rest.Goals as goal

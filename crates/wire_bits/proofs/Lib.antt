@@ -1,0 +1,4 @@
+pub mod BitLists
+pub mod Buffers
+pub mod Crossings
+pub mod Writers

@@ -1,5 +1,0 @@
-use Rattle.xor_chunks.proofs.Writers.{nothing_written}
-use Rattle.xor_chunks.proofs.bit_writer.BitWriter.new.Goals as goal
-
-pub returns : goal.returns
-returns c = nothing_written c.new.result.items c.new.ensures.items
