@@ -11,3 +11,4 @@ pub mod ParsedSigned
 pub mod Printed
 pub mod DigitLoop
 pub mod Bound
+pub mod FirstLaws

@@ -1,5 +1,6 @@
 pub mod Reading
 pub mod Members
+pub mod Firsts
 pub mod Grammar
 pub mod Decimal
 pub mod FixedDigits
