@@ -17,3 +17,4 @@ pub mod StopPlaces
 pub mod RefusalLaws
 pub mod HexTexts
 pub mod SampleTexts
+pub mod Signs

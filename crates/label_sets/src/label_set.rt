@@ -151,7 +151,8 @@ impl Eq for LabelSet {
 impl PartialOrd for LabelSet {
     ghost partial_cmp = { as_partial_cmp compare_sets };
 
-    ghost laws = { partial_order_from_own_ties (Prim.search (comparing, rules)) (Prim.search (comparing, rules)) };
+    ghost laws = { partial_order_from_own_ties
+        (Prim.search (comparing, rules)) (Prim.search (comparing, rules)) };
 
     fn partial_cmp(&self, other: &LabelSet) -> Option<Ordering> {
         Some(self.cmp(other))
@@ -250,7 +251,8 @@ fn new_label(alloc: Global, name: &str, value: &str) -> Result<Label, NoMemory>
 fn place_of(labels: &[Label], name: &str) -> Result<usize, usize>
     requires { IsLabelSet labels.now }
     ensures found { IfOk result (λ i. (i < length labels.now)
-        × ((d : Label) → value_of labels.now name.now ≡ Some (slice_index_or labels.now i d).value)) }
+        × ((d : Label)
+        → value_of labels.now name.now ≡ Some (slice_index_or labels.now i d).value)) }
     ensures absent { IfErr result (λ i. (i ≤ length labels.now)
         × (value_of labels.now name.now ≡ None)
         × ((l : Label) → l.name ≡ name.now

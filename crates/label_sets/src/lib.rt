@@ -8,6 +8,7 @@ mod name;
 mod notation;
 mod sample;
 mod sample_refusal;
+mod sample_text;
 mod series;
 mod text;
 

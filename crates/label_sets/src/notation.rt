@@ -65,7 +65,8 @@ fn whole_set(
 fn first_refusal(labels: Vec<Label>, stop: Stop<'_>, total: usize) -> Result<LabelRefusal, NoMemory>
     ensures memory { stop.entry.refusal ≡ LabelRefusal.NoMemory → IsErr result }
     ensures first { IfOk result (λ refusal.
-        conclusion total labels.items (Err (stop.entry.refusal, stop.entry.pair.now)) ≡ Err refusal) }
+        conclusion total labels.items (Err (stop.entry.refusal, stop.entry.pair.now))
+        ≡ Err refusal) }
 {
     if stop.refusal == LabelRefusal::NoMemory {
         return Err(NoMemory);

@@ -1,12 +1,12 @@
-ghost use Rattle.std.specs.Prelude.{◌≡◌, ◌≢◌, ◌↔◌, ◌+◌, ◌*◌, ◌/◌, ◌%◌, ◌<◌, ◌≤◌, ◌^◌, ℕ, ℤ, ◌++◌, length, take, IsTrue, IfOk, OnOk, OnErr, Err, Ok};
+ghost use Rattle.std.specs.Prelude.{◌≡◌, ◌≢◌, ◌↔◌, ◌<◌, ◌^◌, ℕ, ℤ, IfOk, Err, Ok};
 ghost use Rattle.std.specs.Int.{w64};
 ghost use Rattle.std.specs.Int.RustNames.{FitsSigned};
 ghost use Rattle.std.specs.List.{list_all};
-ghost use Rattle.label_sets.specs.SampleText.{hex_sign, pattern_text, timed_text, sample_text, is_hex_sign, pattern_of, sample_of};
+ghost use Rattle.label_sets.specs.SampleText.{timed_text, sample_text, is_hex_sign, pattern_of, sample_of};
 
 use crate::SampleRefusal;
 use list_core::{List, NoMemory, TryCopy};
-use reading_core::{NumberRefusal, put_signed, read_signed};
+use reading_core::{NumberRefusal, read_signed};
 
 /// A time in milliseconds and a value, which is a pattern of 64 bits.
 #[derive(Clone, Copy, Debug, PartialEq, Eq)]
@@ -45,20 +45,6 @@ impl Sample {
     {
         read_sample(text)
     }
-
-    /// Appends `TIME:PATTERN`.
-    #[tactic(auto, unfolding(crate::specs::SampleText::sample_text))]
-    pub fn write(self, out: &mut Vec<u8>) -> Result<(), NoMemory>
-        ensures ok { OnOk result (out.new.items ≡ out.old.items ++ sample_text self) }
-        ensures err { OnErr result (out.new.items ≡ out.old.items) }
-    {
-        let start = out.len();
-        let put = put_sample(out, self.time, self.pattern);
-        if put.is_err() {
-            out.truncate(start);
-        }
-        put
-    }
 }
 
 #[tactic(auto, unfolding(crate::specs::SampleText::sample_of, crate::specs::SampleText::sample_with))]
@@ -76,18 +62,6 @@ fn read_sample(text: &str) -> Result<Sample, SampleRefusal>
         Err(NumberRefusal::NotANumber) => Err(SampleRefusal::NotASample),
         Err(NumberRefusal::TooLarge) => Err(SampleRefusal::OutOfRange),
     }
-}
-
-/// Appends a sample, or a part of it where memory runs out.
-#[tactic(auto, unfolding(crate::specs::SampleText::timed_text))]
-fn put_sample(out: &mut Vec<u8>, time: i64, pattern: u64) -> Result<(), NoMemory>
-    ensures ok { OnOk result (out.new.items ≡ out.old.items ++ timed_text time pattern) }
-    ensures kept { take (length out.old.items) out.new.items ≡ out.old.items }
-{
-    put_signed(out, time)?;
-    out.push(b':')?;
-    out.extend_from_slice(&pattern_digits(pattern))?;
-    Ok(())
 }
 
 /// Reads 16 digits.
@@ -113,28 +87,4 @@ fn is_hex_sign(byte: u8) -> bool
     ensures { result ≡ is_hex_sign byte }
 {
     byte.is_ascii_digit() || (b'a' <= byte && byte <= b'f')
-}
-
-fn pattern_digits(pattern: u64) -> [u8; 16]
-    ensures { result ≡ pattern_text pattern }
-{
-    let mut digits = [b'0'; 16];
-    let mut rest = pattern;
-    for place in (0..16).rev() {
-        digits[place] = hex_sign((rest % 16) as u8);
-        rest /= 16;
-    }
-    digits
-}
-
-#[tactic(auto, unfolding(crate::specs::SampleText::hex_sign))]
-fn hex_sign(digit: u8) -> u8
-    requires { digit < 16 }
-    ensures { result ≡ hex_sign digit }
-{
-    if digit < 10 {
-        b'0' + digit
-    } else {
-        b'W' + digit
-    }
 }

@@ -4,6 +4,7 @@ ghost use Rattle.label_sets.specs.Counts.{sample_count};
 ghost use Rattle.label_sets.specs.Notation.{set_text};
 ghost use Rattle.label_sets.specs.SampleText.{series_text, spaced_sample_text};
 
+use crate::sample_text::put_samples;
 use crate::{LabelSet, Sample, SampleList};
 use list_core::{List, NoMemory, TryCopy};
 
@@ -49,19 +50,7 @@ fn put_series(out: &mut Vec<u8>, labels: &LabelSet, samples: &[Sample]) -> Resul
     ensures kept { take (length out.old.items) out.new.items ≡ out.old.items }
 {
     labels.write(out)?;
-    for sample in samples {
-        put_spaced_sample(out, *sample)?;
-    }
-    Ok(())
-}
-
-#[tactic(auto, unfolding(crate::specs::SampleText::spaced_sample_text))]
-fn put_spaced_sample(out: &mut Vec<u8>, sample: Sample) -> Result<(), NoMemory>
-    ensures ok { OnOk result (out.new.items ≡ out.old.items ++ spaced_sample_text sample) }
-    ensures kept { take (length out.old.items) out.new.items ≡ out.old.items }
-{
-    out.push(b' ')?;
-    sample.write(out)
+    put_samples(out, samples)
 }
 
 /// How many samples the series have, or the greatest number of 64 bits where they have more.

@@ -3,4 +3,3 @@ pub mod ReportLists
 pub mod ToldLines
 pub mod Adding
 pub mod Once
-pub mod Signs

@@ -7,7 +7,6 @@ mod check_outcome;
 mod lines;
 mod phase_report;
 mod report;
-mod samples;
 mod summing;
 mod sums;
 mod tally;

@@ -7,7 +7,6 @@ ghost use Rattle.report_lines.specs.Reports.{activity_text, gateway_name, upload
 ghost use Rattle.report_lines.specs.BreachLines.{between, breach_line, breach_text, rule_word};
 
 use crate::check_outcome::CheckOutcome;
-use crate::samples::put_samples;
 use breach_finding::{Breach, BreachRule};
 use label_sets::{Series, SeriesList, sample_count};
 use list_core::NoMemory;
@@ -411,12 +410,11 @@ fn put_all_series(out: &mut Vec<u8>, series: &[Series]) -> Result<(), NoMemory>
     Ok(())
 }
 
-#[tactic(auto, unfolding(crate::specs::Reports::series_line, label_sets::specs::SampleText::series_text))]
+#[tactic(auto, unfolding(crate::specs::Reports::series_line))]
 fn put_series(out: &mut Vec<u8>, series: &Series) -> Result<(), NoMemory>
     ensures { OnOk result (out.new.items ≡ out.old.items ++ series_line series.now) }
 {
     put_text(out, "series ")?;
-    series.labels.write(out)?;
-    put_samples(out, series.samples.members())?;
+    series.write(out)?;
     put_text(out, "\n")
 }

@@ -1,5 +1,5 @@
-use Rattle.report_lines.proofs.Signs.{signs_at}
-use Rattle.report_lines.proofs.samples.sign_pair.Goals as goal
+use Rattle.label_sets.proofs.Signs.{signs_at}
+use Rattle.label_sets.proofs.sample_text.sign_pair.Goals as goal
 
 pub returns-clause-high : goal.returns-clause-high
 returns-clause-high c = (signs_at c.args.number c.requires).0

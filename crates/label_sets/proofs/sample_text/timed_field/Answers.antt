@@ -1,7 +1,7 @@
 use Rattle.std.proofs.Common.{◌++◌, ◌∙◌, ap, arith, drop, set, to_z-of_z}
 use Rattle.std.specs.Fmt.{signed_decimal}
-use Rattle.report_lines.proofs.Signs.{spaced}
-use Rattle.report_lines.proofs.samples.timed_field.Goals as goal
+use Rattle.label_sets.proofs.Signs.{spaced}
+use Rattle.label_sets.proofs.sample_text.timed_field.Goals as goal
 
 pub returns-clause-text : goal.returns-clause-text
 returns-clause-text c =

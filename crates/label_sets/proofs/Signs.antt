@@ -9,7 +9,7 @@ use Rattle.std.proofs.Math.ListN.{set}
 use lib.Ieee.Fits.{and_l, and_r}
 use Rattle.reading_core.specs.FixedDigits.{fixed_digits}
 use Rattle.label_sets.specs.SampleText.{hex_sign, hex_text, pattern_text, timed_text}
-use Rattle.report_lines.specs.declared.samples.TheConstants.{SIGNS}
+use Rattle.label_sets.specs.declared.sample_text.TheConstants.{SIGNS}
 
 -- ---- the table
 

@@ -1,12 +1,12 @@
 //! The samples of a series as text. Each is written to the end of a field, from its last sign to its first, and is then copied at once.
 
-ghost use Rattle.std.specs.Prelude.{◌≡◌, ◌+◌, ◌/◌, ◌%◌, ◌<◌, ◌≤◌, ◌∷◌, ◌++◌, drop, length, OnOk};
+ghost use Rattle.std.specs.Prelude.{◌≡◌, ◌+◌, ◌/◌, ◌%◌, ◌<◌, ◌≤◌, ◌∷◌, ◌++◌, drop, take, length, OnOk, OnErr};
 ghost use Rattle.std.specs.Fmt.{signed_decimal};
 ghost use Rattle.std.specs.List.{flat_map};
 ghost use Rattle.label_sets.specs.SampleText.{hex_sign, pattern_text, spaced_sample_text, timed_text};
 
+use crate::Sample;
 use itoa::write_digits;
-use label_sets::Sample;
 use list_core::NoMemory;
 
 /// The length of a field: a space, a sign, 19 digits, a colon and 16 signs of the pattern, and some room before them.
@@ -33,8 +33,9 @@ static SIGNS: [u8; 512] = *b"\
 
 /// Appends each sample after a space, or a part of them where memory runs out.
 pub(crate) fn put_samples(out: &mut Vec<u8>, samples: &[Sample]) -> Result<(), NoMemory>
-    ensures { OnOk result
+    ensures ok { OnOk result
         (out.new.items ≡ out.old.items ++ flat_map spaced_sample_text samples.now) }
+    ensures kept { take (length out.old.items) out.new.items ≡ out.old.items }
 {
     for sample in samples {
         put_sample(out, *sample)?;
@@ -43,9 +44,10 @@ pub(crate) fn put_samples(out: &mut Vec<u8>, samples: &[Sample]) -> Result<(), N
 }
 
 #[inline(always)]
-#[tactic(auto, unfolding(label_sets::specs::SampleText::spaced_sample_text, label_sets::specs::SampleText::sample_text))]
+#[tactic(auto, unfolding(crate::specs::SampleText::spaced_sample_text, crate::specs::SampleText::sample_text))]
 fn put_sample(out: &mut Vec<u8>, sample: Sample) -> Result<(), NoMemory>
-    ensures { OnOk result (out.new.items ≡ out.old.items ++ spaced_sample_text sample) }
+    ensures ok { OnOk result (out.new.items ≡ out.old.items ++ spaced_sample_text sample) }
+    ensures err { OnErr result (out.new.items ≡ out.old.items) }
 {
     put_timed(out, sample.time, sample.pattern)
 }
@@ -53,7 +55,8 @@ fn put_sample(out: &mut Vec<u8>, sample: Sample) -> Result<(), NoMemory>
 /// Appends a time and a pattern after a space.
 #[inline(always)]
 fn put_timed(out: &mut Vec<u8>, time: i64, pattern: u64) -> Result<(), NoMemory>
-    ensures { OnOk result (out.new.items ≡ out.old.items ++ (32 ∷ timed_text time pattern)) }
+    ensures ok { OnOk result (out.new.items ≡ out.old.items ++ (32 ∷ timed_text time pattern)) }
+    ensures err { OnErr result (out.new.items ≡ out.old.items) }
 {
     let (field, start) = timed_field(time, pattern);
     out.extend_from_slice(&field[start..])?;

@@ -1,8 +1,8 @@
 use Rattle.std.proofs.Common.{◌+◌, ◌*◌, ◌-◌, refl, arith, ◌∙◌, replicate}
 use Rattle.std.proofs.lemmas.List.{length-set}
 use Rattle.label_sets.specs.SampleText.{pattern_text}
-use Rattle.report_lines.proofs.Signs.{two_before, none_stand, all_stand}
-use Rattle.report_lines.proofs.samples.pattern_field.Goals as goal
+use Rattle.label_sets.proofs.Signs.{two_before, none_stand, all_stand}
+use Rattle.label_sets.proofs.sample_text.pattern_field.Goals as goal
 
 pub loop-pair-init : goal.loop-pair-init
 loop-pair-init c = record { size = refl; few = omega arith; whole = none_stand c.args.pattern (replicate 40 32) refl }

@@ -1,7 +1,7 @@
 use Rattle.std.proofs.Common.{◌≡◌, ◌≤◌, length}
 use Rattle.label_sets.specs.SampleText.{pattern_text}
-use Rattle.report_lines.proofs.Signs.{Stands}
-use Rattle.report_lines.proofs.samples.pattern_field.Given as goal
+use Rattle.label_sets.proofs.Signs.{Stands}
+use Rattle.label_sets.proofs.sample_text.pattern_field.Given as goal
 
 -- the signs that are still to come and those that stand are the pattern's
 abbrev pub invariant-loop-pair : goal.invariant-loop-pair
