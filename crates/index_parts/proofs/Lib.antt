@@ -15,9 +15,5 @@ pub mod TocLaws
 pub mod ChunkLaws
 pub mod SeriesLaws
 pub mod LabelPlaces
-pub mod Stands
-pub mod Writing
-pub mod Sizes
-pub mod PairLists
-pub mod Offsets
-pub mod ChunksWritten
+pub mod RowPlaces
+pub mod RowsBegin

@@ -2,7 +2,6 @@
 use Rattle.wire_bytes.proofs.ByteFields.{bytes_parts}
 use Rattle.std.proofs.Common.{◌≡◌, ℕ, ◌+◌, ◌<◌, ◌≤◌, ltb, List, [], length, take, Result, Ok, Err, refl, sym, ap, ◌∙◌, arith}
 use Rattle.std.specs.Int.{w32, byte_len, from_be_bytes}
-use Rattle.std.proofs.lemmas.Bool.{ltb-false}
 use Rattle.std.proofs.lemmas.List.{drop_all, length-drop, length-take}
 use Rattle.reading_core.specs.Reading.{Answers}
 use Rattle.reading_core.proofs.Binds.{bind_ok, cond_ok, refused_as_ok, ok_is}

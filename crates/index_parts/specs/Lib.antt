@@ -20,6 +20,7 @@ pub mod SymbolsReading
 pub mod Postings
 pub mod PostingsReading
 pub mod Rows
+pub mod RowOrder
 pub mod RowsReading
 pub mod Lent
 pub mod LabelIndices

@@ -20,7 +20,7 @@ impl TryCopy for PostingsRow {
 }
 
 /// What a row of the postings table begins with.
-pub(crate) const ROW_KIND: u8 = 2;
+pub const ROW_KIND: u8 = 2;
 
 /// A list of such rows.
 pub type PostingsRowList = List<PostingsRow>;

@@ -87,7 +87,7 @@ fn reference_after(cursor: &mut Cursor<'_>, reference: u64) -> Result<u64, PartR
 
 /// The reference of a chunk.
 #[inline(always)]
-pub(crate) fn reference_of(chunk: ChunkPlace) -> u64
+pub fn reference_of(chunk: ChunkPlace) -> u64
     ensures value { result ≡ reference_of chunk }
     ensures fits { (chunk.segment < 2 ^ 32) × (chunk.offset < 2 ^ 32) }
 {

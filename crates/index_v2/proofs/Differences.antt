@@ -15,12 +15,12 @@ use Rattle.label_sets.specs.declared.label.Label.{Label}
 use Rattle.index_parts.specs.declared.postings_row.PostingsRow.{PostingsRow}
 use Rattle.index_file.specs.declared.index_series.IndexSeries.{IndexSeries}
 use Rattle.index_parts.specs.Rows.{compare_rows}
-use Rattle.index_v2.specs.RowOrder.{compare_row, IsRowAt, StandsAt}
+use Rattle.index_parts.specs.RowOrder.{compare_row, IsRowAt, StandsAt}
 use Rattle.index_v2.specs.WholeReading.{belongs, is_of_row, stray_from, gap_from, gap_of, gap_among, earlier, by_order}
 use Rattle.std.proofs.lemmas.Cmp.{tied_itself}
 use Rattle.list_core.proofs.Order.{Less-at_places}
-use Rattle.index_v2.proofs.RowPlaces.{rows_total, stands_behind}
-use Rattle.index_v2.proofs.ValuesListed.{same_compare}
+use Rattle.index_parts.proofs.RowPlaces.{rows_total, stands_behind}
+use Rattle.index_parts.proofs.RowsBegin.{same_compare}
 use Rattle.index_v2.proofs.WholeLoops.{drop_at}
 
 -- ---- a number among others that ascend

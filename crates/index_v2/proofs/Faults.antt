@@ -19,11 +19,11 @@ use Rattle.index_parts.proofs.ListLaws.{list_again}
 use Rattle.index_parts.proofs.PostingsLaws.{posting_turn}
 use Rattle.index_file.specs.declared.index_series.IndexSeries.{IndexSeries}
 use Rattle.index_file.specs.IndexFile.{IsListOf}
-use Rattle.index_v2.specs.RowOrder.{compare_row, StandsAt}
+use Rattle.index_parts.specs.RowOrder.{compare_row, StandsAt}
 use Rattle.index_v2.specs.WholeReading.{is_of_row, stray_from, gap_from, gap_of, gap_among, difference}
 use Rattle.index_v2.specs.Differing.{DiffersAt}
-use Rattle.index_v2.proofs.RowPlaces.{rows_total, greater_above, no_row_stands, equal_texts, stands_behind}
-use Rattle.index_v2.proofs.ValuesListed.{same_compare}
+use Rattle.index_parts.proofs.RowPlaces.{rows_total, greater_above, no_row_stands, equal_texts, stands_behind}
+use Rattle.index_parts.proofs.RowsBegin.{same_compare}
 use Rattle.index_v2.proofs.WholeLaws.{AreTaken, taken_listed, of_row_again, belongs_again, number_has, ok_same}
 use Rattle.index_v2.proofs.LeastPlaces.{IsLeast, IsLeastFrom, HasSuch, least_as, earlier_least, least_from, from_here, from_next, by_test_from, by_order_from, such_least, such_none}
 

@@ -1,4 +1,4 @@
-pub mod RowPlaces
+pub mod RowsHeld
 pub mod LabelReading
 pub mod RowsFound
 pub mod ValuesListed

@@ -16,14 +16,14 @@ use Rattle.list_core.proofs.Bools.{bytes_eq-itself}
 use Rattle.label_sets.proofs.LabelValues.{by_bool}
 use Rattle.index_parts.specs.declared.postings_row.PostingsRow.{PostingsRow}
 use Rattle.index_parts.specs.Rows.{compare_rows}
-use Rattle.index_v2.specs.RowOrder.{compare_row, IsRowAt, StandsAt, IsAlone}
+use Rattle.index_parts.specs.RowOrder.{compare_row, IsRowAt, StandsAt, IsAlone}
 use Rattle.index_slices.specs.Parts.{Part, list_in}
 use Rattle.reading_core.specs.Reading.{Gives, refused_as}
 use Rattle.index_v2.specs.declared.refusal.IndexRefusal.{IndexRefusal}
 use Rattle.index_v2.specs.declared.refusal.IndexRefusal.TheVariants.{NoMemory}
 use Rattle.index_v2.specs.Opening.{refused_in}
 use Rattle.index_v2.specs.PostingsLists.{is_row_of, row_of, list_of}
-use Rattle.index_v2.proofs.RowPlaces.{rows_total}
+use Rattle.index_parts.proofs.RowPlaces.{rows_total}
 
 row_test : (name value : List ℕ) (row : PostingsRow) → row.name ≡ name → row.value ≡ value → is_row_of name value row ≡ true
 row_test name value row n v = rw (n, v, bytes_eq-itself name, bytes_eq-itself value) refl

@@ -20,8 +20,9 @@ use Rattle.index_file.specs.declared.index_series.IndexSeries.{IndexSeries}
 use Rattle.index_file.specs.IndexFile.{HasRow, IsIndex, AreValuesOf}
 use Rattle.index_v2.specs.PostingsLists.{values_of}
 use Rattle.index_v2.proofs.LabelsOwned.{some_bytes}
-use Rattle.index_v2.proofs.RowPlaces.{held_ascends}
-use Rattle.index_v2.proofs.ValuesListed.{is_named, value_in, name_le, equal_not_less, no_values}
+use Rattle.index_v2.proofs.RowsHeld.{held_ascends}
+use Rattle.index_parts.proofs.RowsBegin.{name_le, equal_not_less}
+use Rattle.index_v2.proofs.ValuesListed.{is_named, value_in, no_values}
 
 -- ---- rows of a name
 

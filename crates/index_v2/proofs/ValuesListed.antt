@@ -1,78 +1,23 @@
 -- The values of the rows of a name.
-use Rattle.std.proofs.Common.{◌≡◌, ◌≢◌, ℕ, zero, suc, ◌+◌, ◌<◌, ◌≤◌, Bool, true, false, List, [], ◌∷◌, ◌++◌, length, map, drop, Some, None, refl, sym, ap, ◌∙◌, append_assoc, add-one, drop-cons, arith, ◌⊎◌, inl, inr}
+use Rattle.std.proofs.Common.{◌≡◌, ◌≢◌, ℕ, zero, suc, ◌+◌, ◌<◌, ◌≤◌, Bool, true, false, List, [], ◌∷◌, ◌++◌, length, map, drop, Some, None, refl, sym, ap, ◌∙◌, append_assoc, add-one, drop-cons, arith, inl, inr}
 use Rattle.std.specs.Prelude.{slice_get, ◌==◌, not}
 use Rattle.std.specs.List.Sorted.{IsStrictlySortedBy}
 use Rattle.std.specs.Cmp.Lexicographic.{bytes_decides}
 use Rattle.std.specs.List.{filter}
 use Rattle.std.specs.Str.{bytes_eq}
-use Rattle.std.specs.declared.cmp.Ordering.{Ordering}
-use Rattle.std.specs.declared.cmp.Ordering.TheVariants.{Less, Equal, Greater}
-use Rattle.std.specs.Ordering.{ordering_then}
+use Rattle.std.specs.declared.cmp.Ordering.TheVariants.{Less}
 use Rattle.std.proofs.lemmas.Bool.{cases_lt}
 use Rattle.std.proofs.lemmas.List.{append-nil, drop_all}
-use Rattle.std.proofs.lemmas.Option.{same_Some, slice_get_within, get_or_from_slice_get, slice_get_cases}
+use Rattle.std.proofs.lemmas.Option.{slice_get_within, get_or_from_slice_get, slice_get_cases}
 use Rattle.list_core.proofs.Order.{Less-at_places}
 use Rattle.list_core.proofs.Bools.{bytes_eq-itself}
 use Rattle.label_sets.specs.Labels.{compare_texts}
-use Rattle.label_sets.proofs.LabelValues.{bytes_eq_differs, compare_self, before_trans, same_text}
+use Rattle.label_sets.proofs.LabelValues.{bytes_eq_differs, same_text}
 use Rattle.index_parts.specs.declared.postings_row.PostingsRow.{PostingsRow}
 use Rattle.index_parts.specs.Rows.{compare_rows}
-use Rattle.index_v2.specs.RowOrder.{compare_row, IsRowAt, StandsAt, BeginsAt}
+use Rattle.index_parts.specs.RowOrder.{BeginsAt}
+use Rattle.index_parts.proofs.RowsBegin.{name_le, equal_not_less, same_row}
 use Rattle.index_v2.specs.PostingsLists.{values_of}
-
--- a row before another of two has no greater name
-pub name_le : (a b : Ordering) → ordering_then a b ≡ Less → (a ≡ Less) ⊎ ((a ≡ Equal) × (b ≡ Less))
-name_le Less b e = inl refl
-name_le Equal b e = inr (refl, e)
-name_le Greater b e = absurd cc
-
-nothing_below : (value : List ℕ) → compare_texts value [] ≢ Less
-nothing_below [] e = cc
-nothing_below (v ∷ value) e = cc
-
-less_name : (row : PostingsRow) (name : List ℕ) → compare_row row name [] ≡ Less → compare_texts row.name name ≡ Less
-less_name row name e =
-    elim (name_le (compare_texts row.name name) (compare_texts row.value []) e) [
-      | inl less ↦ less
-      | inr p ↦ absurd (nothing_below row.value p.1)
-    ]
-
-greater_name : (row : PostingsRow) (name : List ℕ) → compare_row row name [] ≡ Greater → compare_texts row.name name ≢ Less
-greater_name row name e less = let no : ordering_then (compare_texts row.name name) (compare_texts row.value []) ≡ Less = rw less refl in cc
-
-pub begins_missing : (rows : List PostingsRow) (name : List ℕ) (place : ℕ) → StandsAt rows name [] place → BeginsAt rows name place
-begins_missing rows name place stands = record {
-  within = stands.within;
-  below = λ k row lt at. less_name row name (stands.below k row lt at);
-  above = λ k row le at. greater_name row name (stands.above k row le at);
-}
-
--- what stands behind a row of a name has no lesser name
-not_less : (one other : PostingsRow) (name : List ℕ) → compare_rows one other ≡ Less → compare_texts one.name name ≢ Less → compare_texts other.name name ≢ Less
-not_less one other name less not_here lesser =
-    elim (name_le (compare_texts one.name other.name) (compare_texts one.value other.value) less) [
-      | inl before ↦ not_here (before_trans one.name other.name name before lesser)
-      | inr p ↦ let same : one.name ≡ other.name = same_text one.name other.name p.0 in not_here (ap (λ (n : List ℕ). compare_texts n name) same ∙ lesser)
-    ]
-
-pub equal_not_less : (name : List ℕ) → compare_texts name name ≢ Less
-equal_not_less name e = let same = compare_self name in cc
-
-pub same_compare : (row other : PostingsRow) (name value : List ℕ) → other.name ≡ name → other.value ≡ value → compare_row row name value ≡ compare_rows row other
-same_compare row other name value n v = rw (← n, ← v) refl
-
-here : (rows : List PostingsRow) (place k : ℕ) (one other : PostingsRow) → k ≡ place → slice_get rows k ≡ Some one → slice_get rows place ≡ Some other → one ≡ other
-here rows place k one other e a b = same_Some one other (sym a ∙ ap (λ (i : ℕ). slice_get rows i) e ∙ b)
-
-pub begins_found : (rows : List PostingsRow) (name : List ℕ) (place : ℕ) → IsStrictlySortedBy compare_rows rows → IsRowAt rows name [] place → BeginsAt rows name place
-begins_found rows name place ascend is = record {
-  within = let lt = slice_get_within rows place is.row is.stands in omega arith;
-  below = λ k row lt at. less_name row name (same_compare row is.row name [] is.name_is is.value_is ∙ Less-at_places compare_rows rows k place row is.row ascend lt at is.stands);
-  above = λ k row le at. elim (cases_lt place k) [
-    | inl lt ↦ not_less is.row row name (Less-at_places compare_rows rows place k is.row row ascend lt is.stands at) (λ less. equal_not_less name (ap (λ (n : List ℕ). compare_texts n name) (sym is.name_is) ∙ less))
-    | inr ge ↦ λ less. equal_not_less name (ap (λ (n : List ℕ). compare_texts n name) (sym (ap (λ (r : PostingsRow). r.name) (here rows place k row is.row (omega arith) at is.stands) ∙ is.name_is)) ∙ less)
-  ];
-}
 
 not_both : (b : Bool) → not b ≡ true → b ≡ true → ⊥
 not_both true e f = cc
@@ -143,7 +88,7 @@ behind rows name place k first row ascend at not_below other le there same =
         | inl less ↦ not_below (ap (λ (n : List ℕ). compare_texts first.name n) (sym same) ∙ less)
         | inr p ↦ other (same_text first.name row.name p.0 ∙ same)
       ]
-      | inr ge ↦ other (ap (λ (r : PostingsRow). r.name) (sym (here rows place k row first (omega arith) there at)) ∙ same)
+      | inr ge ↦ other (ap (λ (r : PostingsRow). r.name) (sym (same_row rows place k row first (omega arith) there at)) ∙ same)
     ]
 
 pub listed_stop : (rows : List PostingsRow) (name : List ℕ) (first place : ℕ) (values : List (List ℕ)) (row : PostingsRow) → IsStrictlySortedBy compare_rows rows → BeginsAt rows name first → AreListed rows name first place values → slice_get rows place ≡ Some row → row.name ≢ name → values_of rows name ≡ values

@@ -40,8 +40,9 @@ use Rattle.index_slices.specs.Parts.{file}
 use Rattle.index_v2.specs.Held.{whole_file}
 use Rattle.index_v2.specs.PostingsLists.{row_of, list_of, postings_of}
 use Rattle.index_v2.specs.WholeReading.{present_at, all_at, lists_at, belongs, has_value, is_of_row}
-use Rattle.index_v2.proofs.RowPlaces.{rows_total, held_ascends}
-use Rattle.index_v2.proofs.ValuesListed.{same_compare}
+use Rattle.index_parts.proofs.RowPlaces.{rows_total}
+use Rattle.index_v2.proofs.RowsHeld.{held_ascends}
+use Rattle.index_parts.proofs.RowsBegin.{same_compare}
 use Rattle.index_v2.proofs.LabelLaws.{numbered_found, numbered_again}
 use Rattle.index_v2.proofs.WholeParts.{AreLists, all_found, all_again, lists_found, lists_again}
 

@@ -23,7 +23,7 @@ use Rattle.index_v2.specs.declared.refusal.IndexRefusal.{IndexRefusal}
 use Rattle.index_v2.specs.declared.refusal.IndexRefusal.TheVariants.{BadSeries}
 use Rattle.index_v2.specs.Opening.{refused_in}
 use Rattle.index_v2.specs.SeriesLabels.{numbered_at}
-use Rattle.index_v2.specs.RowOrder.{compare_row}
+use Rattle.index_parts.specs.RowOrder.{compare_row}
 use Rattle.index_v2.specs.WholeReading.{may_stand_behind, behind_at, all_at, lists_at, gap_from, gap_of, gap_among, earlier, by_order}
 
 -- ---- the series in order

@@ -25,14 +25,14 @@ use Rattle.index_v2.specs.declared.refusal.IndexRefusal.{IndexRefusal}
 use Rattle.index_v2.specs.declared.refusal.IndexRefusal.TheVariants.{BadSection, BadSeries, PostingsDiffer, NoMemory}
 use Rattle.index_v2.specs.Opening.{refused_in, refused_of, opened_at}
 use Rattle.index_v2.specs.SeriesLabels.{labelled_at, numbered_at}
-use Rattle.index_v2.specs.RowOrder.{compare_row, StandsAt}
+use Rattle.index_parts.specs.RowOrder.{compare_row, StandsAt}
 use Rattle.index_slices.specs.Parts.{Part, file, list_in}
 use Rattle.index_v2.specs.Held.{whole_file}
 use Rattle.index_v2.specs.PostingsLists.{row_of, list_of, postings_of}
 use Rattle.index_v2.specs.WholeReading.{present_at, may_stand_behind, behind_at, all_at, lists_at, stray_from, gap_among, difference, unless_differ, whole_at}
 use Rattle.index_v2.specs.Differing.{DiffersAt, DifferFirstAt}
-use Rattle.index_v2.proofs.RowPlaces.{rows_total, equal_texts}
-use Rattle.index_v2.proofs.ValuesListed.{same_compare}
+use Rattle.index_parts.proofs.RowPlaces.{rows_total, equal_texts}
+use Rattle.index_parts.proofs.RowsBegin.{same_compare}
 use Rattle.index_v2.proofs.OpeningLaws.{opened_again}
 use Rattle.index_v2.proofs.LeastPlaces.{IsLeast, least_is}
 use Rattle.index_v2.proofs.WholeParts.{both_none, gaps_found}

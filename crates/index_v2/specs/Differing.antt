@@ -6,7 +6,7 @@ use Rattle.index_parts.specs.declared.postings_row.PostingsRow.{PostingsRow}
 use Rattle.index_parts.specs.Postings.{IsPostings}
 use Rattle.index_file.specs.declared.index_series.IndexSeries.{IndexSeries}
 use Rattle.index_file.specs.Opened.{Opened}
-use Rattle.index_v2.specs.RowOrder.{StandsAt}
+use Rattle.index_parts.specs.RowOrder.{StandsAt}
 use Rattle.index_file.specs.IndexFile.{AreSeriesOf, IsListOf}
 
 -- the row at a place does not list exactly its series

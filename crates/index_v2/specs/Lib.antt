@@ -3,13 +3,10 @@ pub use Rattle.index_slices.specs.Parts
 pub use Rattle.index_file.specs.Opened
 pub use Rattle.index_file.specs.IndexFile
 pub use Rattle.index_file.specs.LabelTable
-pub use Rattle.index_writing.specs.WriteSteps
-pub use Rattle.index_writing.specs.Written
 pub mod Held
 pub mod Opening
 pub mod LentLabels
 pub mod SeriesLabels
-pub mod RowOrder
 pub mod PostingsLists
 pub mod WholeReading
 pub mod Differing

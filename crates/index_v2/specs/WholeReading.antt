@@ -18,7 +18,7 @@ use Rattle.index_v2.specs.declared.refusal.IndexRefusal.TheVariants.{BadSection,
 use Rattle.index_v2.specs.Held.{Held}
 use Rattle.index_v2.specs.Opening.{refused_in}
 use Rattle.index_v2.specs.SeriesLabels.{numbered_at}
-use Rattle.index_v2.specs.RowOrder.{compare_row}
+use Rattle.index_parts.specs.RowOrder.{compare_row}
 use Rattle.index_v2.specs.PostingsLists.{postings_of}
 
 -- An index that lists a series has symbols, series and postings lists.

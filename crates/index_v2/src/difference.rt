@@ -5,8 +5,8 @@ ghost use Rattle.index_v2.specs.WholeReading.{belongs, is_of_row, stray_from, ga
 ghost use Rattle.std.specs.List.Sorted.{IsStrictlyIncreasing};
 
 use crate::nearby::{Spot, Walk, place_near};
-use crate::rows::Rows;
 use crate::{LentLabel, LentSeries};
+use index_parts::Rows;
 use wire_bytes::NumberList;
 
 /// The lesser of two places, if there is one.

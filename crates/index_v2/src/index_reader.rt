@@ -16,18 +16,18 @@ ghost use Rattle.index_v2.specs.SeriesLabels.{numbered_at};
 ghost use Rattle.index_v2.specs.Budget.{text_bytes, list_bytes};
 ghost use Rattle.index_v2.specs.WholeGiven.{GivesWhole};
 ghost use Rattle.index_v2.specs.PostingsLists.{is_row_of, row_of, list_of, postings_of, values_of};
-ghost use Rattle.index_v2.specs.RowOrder.{BeginsAt, IsAlone};
+ghost use Rattle.index_parts.specs.RowOrder.{BeginsAt, IsAlone};
 ghost use Rattle.std.specs.List.Sorted.{IsStrictlyIncreasing, IsStrictlySortedBy};
 
 use crate::budget::{list_bytes, text_budget_in};
 use crate::numbered::{lent_series_of, series_of, series_of_file};
 use crate::opening::contents_of;
 use crate::postings::{list_at, list_of, values_of};
-use crate::rows::Rows;
+use crate::rows::rows_at;
 use crate::symbols::Symbols;
 use crate::whole::{whole, whole_lent};
 use crate::{IndexParts, IndexRefusal, IndexSeries, IndexSeriesList, LentSeries};
-use index_parts::Toc;
+use index_parts::{Rows, Toc};
 use index_slices::IndexPart;
 use label_sets::TextList;
 use list_core::List;
@@ -130,7 +130,7 @@ impl<'a> IndexReader<'a> {
         let size = bytes.len();
         let file = IndexPart { begin: 0, bytes };
         // The symbols are read last, though their refusal is the first: they are what is wanted next, and still in the caches.
-        let rows = Rows::read(alloc, file, toc.postings_table);
+        let rows = rows_at(alloc, file, toc.postings_table);
         let symbols = Symbols::read(alloc, file, toc.symbols)?;
         Ok(IndexReader {
             bytes,
@@ -151,7 +151,8 @@ impl<'a> IndexReader<'a> {
 
         // Of slices of an opened index it holds what that index has; and where the tables lie within theirs they are read.
         ensures found { (opened : Opened) → IsOpened opened → parts.entry.toc ≡ opened.toc
-            → AreSlicesOf parts.entry opened.bytes → IfOk result (λ reader. IsHeldOf reader opened) }
+            → AreSlicesOf parts.entry opened.bytes
+            → IfOk result (λ reader. IsHeldOf reader opened) }
         ensures only { (opened : Opened) → IsOpened opened → parts.entry.toc ≡ opened.toc
             → AreSlicesOf parts.entry opened.bytes → HoldTables parts.entry
             → IsOkAnd result (λ reader. IsHeldOf reader opened)
@@ -184,7 +185,8 @@ impl<'a> IndexReader<'a> {
         requires table { parts.toc.postings_table + length parts.table.now < 2 ^ 64 }
         requires postings { parts.toc.postings + length parts.postings.now < 2 ^ 64 }
         ensures found { (opened : Opened) → IsOpened opened → parts.entry.toc ≡ opened.toc
-            → AreSlicesOf parts.entry opened.bytes → IfOk result (λ reader. IsHeldOf reader opened) }
+            → AreSlicesOf parts.entry opened.bytes
+            → IfOk result (λ reader. IsHeldOf reader opened) }
         ensures stands { (index : List ℕ) → AreSlicesOf parts.entry index
             → IfOk result (λ reader. Holds IsSymbols index parts.entry.toc.symbols reader.symbols
             × Holds IsPostingsTable index parts.entry.toc.postings_table reader.rows
@@ -207,7 +209,7 @@ impl<'a> IndexReader<'a> {
             begin: parts.toc.postings,
             bytes: parts.postings,
         };
-        let rows = Rows::read(alloc, table, table.begin);
+        let rows = rows_at(alloc, table, table.begin);
         let symbols = Symbols::read(alloc, symbols, symbols.begin)?;
         Ok(IndexReader {
             bytes: &[],
@@ -304,7 +306,8 @@ impl<'a> IndexReader<'a> {
         // The first refusal, with its place in the index: nothing stands behind the part.
         ensures exact { Gives IndexRefusal.NoMemory
             (λ series. series) result
-            (numbered_at (known (record { begin = at; bytes = part.now })) self.now.symbols number) }
+            (numbered_at (known (record { begin = at; bytes = part.now }))
+            self.now.symbols number) }
         ensures texts { IfOk result (λ series. text_bytes series ≤ 64
             * (self.now.symbols_size + self.now.rows_size + length part.now)) }
         ensures few { IfOk result

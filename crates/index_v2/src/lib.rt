@@ -21,7 +21,6 @@ mod whole;
 
 pub use index_file::{IndexSeries, IndexSeriesList};
 pub use index_reader::IndexReader;
-pub use index_writing::{IndexWriteRefusal, IndexWriter, are_in_order};
 pub use lent_label::LentLabel;
 pub use lent_order::compare_lent;
 pub use lent_parts::IndexParts;

@@ -93,8 +93,8 @@ pub(crate) fn series_of(
         → Gives IndexRefusal.NoMemory
         (λ series. series) result (numbered_at index symbols.now number) }
     ensures outside { (HoldsSeries (part_of part.entry) (16 * number) → ⊥)
-        → (uvarint_at (at_place part.entry.bytes.now (16 * number - part.entry.begin)) ≡ Err Overlong
-        → ⊥)
+        → (uvarint_at (at_place part.entry.bytes.now (16 * number - part.entry.begin))
+        ≡ Err Overlong → ⊥)
         → (result ≡ Err (IndexRefusal.BadSeries number (Short (16 * number))))
         ⊎ (result ≡ Err IndexRefusal.NoMemory) }
     ensures exact { Gives IndexRefusal.NoMemory

@@ -49,5 +49,8 @@ pub(crate) fn contents_of(index: &[u8]) -> Result<Toc, IndexRefusal>
     if index[4] != VERSION {
         return Err(IndexRefusal::BadVersion);
     }
-    read_toc(index).map_err(refused_contents)
+    match read_toc(index) {
+        Ok(toc) => Ok(toc),
+        Err(refusal) => Err(refused_contents(refusal)),
+    }
 }

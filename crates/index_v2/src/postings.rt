@@ -11,7 +11,7 @@ ghost use Rattle.index_v2.specs.PostingsLists.{row_of, list_of, values_of};
 
 use crate::IndexRefusal;
 use crate::opening::refused_in;
-use crate::rows::Rows;
+use index_parts::Rows;
 use index_slices::{IndexPart, postings_in};
 use label_sets::{Text, TextList};
 use list_core::NoMemory;

@@ -111,12 +111,15 @@ fn after_fault<'a, 'b>(
 pub(crate) fn fault_at(index: &[u8], at: u64, fault: LabelFault) -> PartRefusal
     ensures { result ≡ fault_at index.now at fault }
 {
-    match fault {
-        LabelFault::Name(label) => {
-            PartRefusal::Unordered(label_place(index, at, label).map_or(at, |places| places.0))
-        }
-        LabelFault::Value(label) => {
-            PartRefusal::Unordered(label_place(index, at, label).map_or(at, |places| places.1))
-        }
-    }
+    let place = match fault {
+        LabelFault::Name(label) => match label_place(index, at, label) {
+            Some((name, _)) => name,
+            None => at,
+        },
+        LabelFault::Value(label) => match label_place(index, at, label) {
+            Some((_, value)) => value,
+            None => at,
+        },
+    };
+    PartRefusal::Unordered(place)
 }

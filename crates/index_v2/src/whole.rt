@@ -11,10 +11,9 @@ use crate::budget::{
 use crate::difference::difference;
 use crate::opening::refused_of;
 use crate::postings::{POSTINGS, list_at, list_of};
-use crate::rows::Rows;
 use crate::symbols::{SYMBOLS, Symbols};
 use crate::{IndexRefusal, IndexSeriesList, LentSeries};
-use index_parts::{PartRefusal, Toc};
+use index_parts::{PartRefusal, Rows, Toc};
 use index_slices::IndexPart;
 use list_core::{List, NoMemory};
 use std::alloc::Global;

@@ -10,8 +10,8 @@ use Rattle.index_parts.specs.Lists.{list_content}
 use Rattle.index_parts.specs.LabelIndices.{IsLabelIndex, label_index_content, label_index_text}
 use Rattle.index_parts.specs.Turns.{InOrderAfter, InOrder}
 use Rattle.index_parts.specs.Postings.{Rises, IsPostings, postings_text}
-use Rattle.index_parts.proofs.Stands.{section_stands}
-use Rattle.index_parts.proofs.Writing.{postings_stand, values_stand}
+use Rattle.section_writers.proofs.Stands.{section_stands}
+use Rattle.section_writers.proofs.Writing.{postings_stand, values_stand}
 use Rattle.index_writing.specs.Aligned.{padded, each_at, places_at}
 use Rattle.index_writing.specs.WriteSteps.{greatest}
 use Rattle.list_core.proofs.Membership.{no_member, member_cases}

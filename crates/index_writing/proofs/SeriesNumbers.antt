@@ -10,7 +10,7 @@ use Rattle.label_sets.specs.Labels.{compare_texts, IsLabelSet, StandsBefore}
 use Rattle.index_parts.specs.declared.raw_series.RawSeries.{RawSeries}
 use Rattle.index_parts.specs.Framed.{entry_text}
 use Rattle.index_parts.specs.SeriesEntry.{series_text, series_content}
-use Rattle.index_parts.proofs.Writing.{uvarint_text_size}
+use Rattle.section_writers.proofs.Writing.{uvarint_text_size}
 use Rattle.index_file.specs.declared.index_series.IndexSeries.{IndexSeries}
 use Rattle.index_writing.specs.declared.label_groups.Entry.{Entry}
 use Rattle.index_writing.specs.SymbolsInUse.{symbols_of, number_of, raw_of}

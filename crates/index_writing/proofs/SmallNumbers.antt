@@ -10,7 +10,7 @@ use Rattle.index_parts.specs.Lists.{list_content}
 use Rattle.index_parts.specs.Symbols.{symbols_text}
 use Rattle.index_parts.specs.SeriesEntry.{series_text}
 use Rattle.wire_bytes.specs.Crc.{crc}
-use Rattle.index_parts.proofs.Writing.{few_members, text_field_size}
+use Rattle.section_writers.proofs.Writing.{few_members, text_field_size}
 use Rattle.index_file.specs.declared.index_series.IndexSeries.{IndexSeries}
 use Rattle.index_writing.specs.declared.label_groups.Entry.{Entry}
 use Rattle.index_writing.specs.declared.label_groups.LabelRow.{LabelRow}

@@ -11,8 +11,9 @@ ghost use Rattle.index_writing.specs.Written.{up_to_series, numbers_behind, labe
 
 use crate::IndexWriteRefusal;
 use crate::label_groups::{LabelRow, NameValues};
-use index_parts::{RawSeries, write_label_index, write_postings, write_series};
+use index_parts::RawSeries;
 use list_core::NoMemory;
+use section_writers::{write_label_index, write_postings, write_series};
 use wire_bytes::{NumberList, put_bytes};
 
 /// The greatest length of an index.

@@ -15,12 +15,10 @@ use crate::IndexWriteRefusal;
 use crate::label_groups::{LabelRow, NameValues};
 use crate::section_places::{GREATEST, test_size};
 use crate::symbols_in_use::symbol_of;
-use index_parts::{
-    PostingsRow, PostingsRowList, Toc, write_label_offsets, write_postings_table, write_symbols,
-    write_toc,
-};
+use index_parts::{PostingsRow, PostingsRowList, Toc};
 use label_sets::{Text, TextList};
 use list_core::NoMemory;
+use section_writers::{write_label_offsets, write_postings_table, write_symbols, write_toc};
 use std::alloc::Global;
 use wire_bytes::NumberList;
 

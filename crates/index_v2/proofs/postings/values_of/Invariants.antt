@@ -1,4 +1,4 @@
-use Rattle.index_v2.specs.RowOrder.{BeginsAt}
+use Rattle.index_parts.specs.RowOrder.{BeginsAt}
 use Rattle.index_v2.proofs.ValuesListed.{AreListed}
 use Rattle.index_v2.proofs.postings.values_of.Given as goal
 

@@ -1,7 +1,7 @@
 use Rattle.std.proofs.Common.{ℕ, Option, sym, subst, ◌∙◌}
 use Rattle.std.specs.Prelude.{IfSome}
 use Rattle.index_v2.specs.PostingsLists.{is_row_of}
-use Rattle.index_v2.specs.RowOrder.{IsAlone}
+use Rattle.index_parts.specs.RowOrder.{IsAlone}
 use Rattle.index_v2.proofs.RowsFound.{found_alone, found_none}
 use Rattle.index_v2.proofs.index_reader.IndexReader.find_row.Goals as goal
 
