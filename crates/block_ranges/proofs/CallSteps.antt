@@ -1,5 +1,5 @@
 -- A call's steps are those of its plan.
-use Rattle.std.proofs.Common.{◌≡◌, ℕ, ◌*◌, Bool, true, false, List, [], ◌∷◌, ◌++◌, refl, sym, ap, subst, ◌∙◌, append-nil, ◌<◌, Option, Some, None, Result, Ok, Err, arith}
+use Rattle.std.proofs.Common.{◌≡◌, ℕ, ◌*◌, Bool, List, [], ◌∷◌, ◌++◌, refl, sym, ap, subst, ◌∙◌, append-nil, ◌<◌, Option, Some, None, Result, Ok, Err, arith}
 use Rattle.std.specs.Prelude.{IsSomeAnd}
 use Rattle.list_core.specs.declared.memory.NoMemory.{NoMemory}
 use Rattle.world_core.proofs.PlanLaws.{breaks_off, answered, comes_kept}
@@ -10,15 +10,12 @@ use Rattle.world_core.specs.Plans.{Plan, ends, never, asks, finds, Keeps, after_
 use Rattle.world_core.specs.Plans as plan
 use Rattle.world_core.specs.declared.op.Op.{Op}
 use Rattle.world_core.specs.declared.seen.Seen.{Seen}
-use Rattle.world_core.specs.declared.reply.Reply.{Reply}
 use Rattle.world_core.specs.declared.reply.Reply.TheVariants as reply
 use Rattle.world_core.specs.declared.entry.Entry.{Entry}
 use Rattle.world_core.specs.declared.act.Act.{Act}
-use Rattle.world_core.specs.declared.act.Act.TheVariants as act
 use Rattle.index_cache.specs.Caches.{held}
 use Rattle.read_ranges.specs.Reads.{Cache, missing, fault}
-use Rattle.block_ranges.specs.BlockReads.{BlockEnd, breaks_off as ends_off}
-use Rattle.read_ranges.specs.Asking.{query_asked, block_asked}
+use Rattle.chunk_ranges.specs.BlockReads.{BlockEnd, breaks_off as ends_off}
 use Rattle.block_ranges.specs.BlockRuns.{Onward, Leading, IsEnd, cache_of}
 use Rattle.block_ranges.specs.WorkStates.{Where, Holds, Leads, most, may_at, asked_at, count_at, left_at, goes_after, with_bytes}
 use Rattle.block_ranges.specs.CallStates.{ActsAs, may_call, asked_call, count_call}

@@ -15,27 +15,27 @@ use Rattle.world_core.proofs.PlanLaws.{comes_kept}
 use Rattle.index_parts.specs.declared.chunk_place.ChunkPlace.{ChunkPlace}
 use Rattle.index_parts.specs.SeriesEntry.{reference_of}
 use Rattle.index_file.specs.declared.index_series.IndexSeries.{IndexSeries}
-use Rattle.block_content.specs.Firsts.{each_at}
-use Rattle.block_content.proofs.FirstLaws.{each_many}
+use Rattle.reading_core.specs.Firsts.{each_at}
+use Rattle.reading_core.proofs.FirstLaws.{each_many}
 use Rattle.read_ranges.specs.Stretches.{Stretch, members}
 use Rattle.read_ranges.specs.OneCut.{one_cut}
 use Rattle.read_ranges.specs.OneSet.{one_set}
 use Rattle.read_ranges.specs.ChunkRanges.{Group, group_of, AreGroups, IsNear, IsSetOf, offset_of}
 use Rattle.read_ranges.specs.Reads.{Query, Block, Cache, damaged}
 use Rattle.read_ranges.specs.IndexReads.{reached}
-use Rattle.block_ranges.specs.ChunkReads.{Read, read, Tests, Glimpse, shows, sticks_out, glimpse_at, tests_at, reads_out, reads_groups, reads_references, have_keys}
-use Rattle.block_ranges.specs.BlockReads.{BlockEnd, gives, breaks_off, taken, shown}
+use Rattle.chunk_ranges.specs.ChunkReads.{Read, read, Tests, Glimpse, shows, sticks_out, glimpse_at, tests_at, reads_out, reads_groups, reads_references, have_keys}
+use Rattle.chunk_ranges.specs.BlockReads.{BlockEnd, gives, breaks_off, taken, shown}
 use Rattle.read_ranges.specs.Asking.{query_asked, block_asked}
 use Rattle.read_ranges.specs.ToRead.{group_read, AreGroupsToRead}
-use Rattle.block_ranges.specs.Glimpsed.{pending_chunk, shown_first}
-use Rattle.block_ranges.specs.ChunksRead.{reads_of, references_read, references_in}
+use Rattle.chunk_ranges.specs.Glimpsed.{pending_chunk, shown_first}
+use Rattle.chunk_ranges.specs.ChunksRead.{reads_of, references_read, references_in}
 use Rattle.block_ranges.specs.BlockRuns.{Leading, IsEnd}
 use Rattle.block_ranges.specs.WorkStates.{Where, Leads, most, AreInOrder, IsGroupWork, IsSingleWork, ArePending, references_left, references_pending, shows_all, shows_groups, shows_out, later_groups, with_group, with_single, chunks_left}
 use Rattle.read_ranges.specs.declared.asked.Asked.{Asked}
 use Rattle.block_ranges.specs.declared.block_outcome.BlockOutcome.TheVariants as outcome
 use Rattle.read_ranges.specs.declared.group_read.GroupRead.{GroupRead}
-use Rattle.block_ranges.specs.declared.glimpses.Pending.{Pending}
-use Rattle.block_ranges.specs.declared.chunk_row.ChunkRow.{ChunkRow}
+use Rattle.chunk_ranges.specs.declared.glimpse.Pending.{Pending}
+use Rattle.chunk_ranges.specs.declared.chunk_row.ChunkRow.{ChunkRow}
 use Rattle.block_ranges.specs.declared.work.ChunkWork.{ChunkWork}
 use Rattle.block_ranges.specs.declared.work.Work.TheVariants as work
 use Rattle.block_ranges.specs.ChunkFindings.{ShowsFirst}

@@ -1,6 +1,6 @@
 -- The series that a selector takes, by a reader of the whole index or of parts of it.
-use Rattle.std.proofs.Common.{◌≡◌, Vec, Global, ℕ, List, refl, sym, ap, subst, ◌∙◌, inl, inr, Option, Some, None, Result, Ok, Err}
-use Rattle.std.specs.Prelude.{IsErr, IsOk, IfOk, option_map, slice_get}
+use Rattle.std.proofs.Common.{◌≡◌, Vec, Global, ℕ, List, sym, ap, subst, inl, inr, Option, Some, None, Result, Ok, Err}
+use Rattle.std.specs.Prelude.{IsErr, IfOk, option_map}
 use Rattle.list_core.specs.declared.memory.NoMemory.{NoMemory}
 use Rattle.index_parts.specs.declared.toc.Toc.{Toc}
 use Rattle.index_parts.specs.RowsReading.{postings_table_at}
@@ -9,13 +9,13 @@ use Rattle.index_file.specs.declared.index_series.IndexSeries.{IndexSeries}
 use Rattle.index_v2.specs.Held.{Held, opened_of}
 use Rattle.index_v2.specs.Opening.{opened_at}
 use Rattle.index_v2.specs.SeriesLabels.{numbered_at}
-use Rattle.block_content.specs.Firsts.{each_at}
+use Rattle.reading_core.specs.Firsts.{each_at}
 use Rattle.read_ranges.specs.Reads.{Query, Block}
 use Rattle.read_ranges.specs.IndexReads.{Tables, tables_of, part_at}
 use Rattle.read_ranges.specs.Findings.{ReadsAs}
 use Rattle.read_ranges.specs.Selecting.{tables_held, Selects}
 use Rattle.read_ranges.specs.ToRead.{AreRunsToRead}
-use Rattle.block_ranges.specs.WorkStates.{tables_in, texts_of, rows_in, read_or_none, table_piece, lists_piece}
+use Rattle.block_ranges.specs.WorkStates.{tables_in, texts_of, read_or_none, table_piece, lists_piece}
 use Rattle.block_ranges.specs.RunFindings.{FindsSeries, SelectsRuns}
 use Rattle.read_ranges.specs.declared.selection.Selection.{Selection}
 use Rattle.read_ranges.specs.declared.run_read.RunRead.{RunRead}

@@ -1,5 +1,5 @@
 -- How the plan of the reads of an index goes on, by what was found.
-use Rattle.std.proofs.Common.{◌≡◌, ℕ, ◌<◌, ◌≤◌, ◌==◌, Bool, true, false, List, [], ◌∷◌, ◌++◌, length, map, refl, sym, ap, subst, ◌∙◌, inl, inr, Option, Some, None, Result, Ok, Err}
+use Rattle.std.proofs.Common.{◌≡◌, ℕ, ◌<◌, ◌≤◌, ◌==◌, Bool, true, false, List, [], length, map, refl, sym, subst, inl, inr, Option, Some, None, Result, Ok, Err}
 use Rattle.std.specs.Prelude.{◌⊎◌, nat_le, slice_get, IsErr, IsOk}
 use Rattle.std.specs.List.{list_all}
 use Rattle.std.proofs.lemmas.Bool.{le-leb, lt-leb}
@@ -16,13 +16,13 @@ use Rattle.index_v2.specs.PostingsLists.{list_of}
 use Rattle.index_v2.specs.WholeReading.{lists_at}
 use Rattle.index_v2.specs.SeriesLabels.{numbered_at}
 use Rattle.series_selection.specs.Selections.{rows_read}
-use Rattle.block_content.specs.Firsts.{each_at}
+use Rattle.reading_core.specs.Firsts.{each_at}
 use Rattle.read_ranges.specs.OneCut.{one_cut}
 use Rattle.read_ranges.specs.OneSet.{one_selection}
 use Rattle.read_ranges.specs.IndexRanges.{Run, least_size, has_bytes, has_sections, Follows, AreRuns, run_of}
 use Rattle.read_ranges.specs.Reads.{Query, Block, Cache, damaged, Reached, if_read}
 use Rattle.read_ranges.specs.IndexReads.{Tables, tables_of, IsTakenBy, Goes, reached, part_at, selects, falls_back, after_runs, after_sections, after_contents, after_whole, by_size}
-use Rattle.block_ranges.specs.BlockReads.{BlockEnd, breaks_off, block_call}
+use Rattle.chunk_ranges.specs.BlockReads.{BlockEnd, breaks_off, block_call}
 use Rattle.read_ranges.specs.Asking.{query_asked, block_asked}
 use Rattle.read_ranges.specs.ToRead.{run_read, AreRunsToRead}
 use Rattle.block_ranges.specs.WorkStates.{after_index, contents_left, whole_left, range_left, sized_left, runs_left, chunks_left, with_symbols, with_table, with_lists, with_run, symbols_piece, table_piece, lists_piece, rows_in, texts_of, tables_in, read_or_none}

@@ -1,5 +1,5 @@
 -- How a call goes on where its plan is known to go on in some way.
-use Rattle.std.proofs.Common.{◌≡◌, ℕ, ◌+◌, ◌<◌, ◌≤◌, ◌==◌, Bool, true, false, List, [], ◌∷◌, length, refl, sym, ap, subst, inl, inr, Option, Some, None, Result, Ok, Err, arith}
+use Rattle.std.proofs.Common.{◌≡◌, ℕ, ◌<◌, ◌≤◌, ◌==◌, Bool, true, false, List, [], length, refl, sym, subst, inr, Option, Some, None, Result, Ok, Err, arith}
 use Rattle.std.specs.Prelude.{IsErr}
 use Rattle.std.proofs.lemmas.Bool.Decides.{Decides-eqb}
 use Rattle.std.specs.Map.{lookup}
@@ -7,17 +7,16 @@ use Rattle.list_core.specs.declared.memory.NoMemory.{NoMemory}
 use Rattle.block_keys.specs.declared.key.Key.TheVariants.{Index}
 use Rattle.world_core.proofs.PlanLaws.{comes_kept}
 use Rattle.world_core.specs.Plans.{Plan, Keeps, ends, choose, finds, IsAtMostOne}
-use Rattle.world_core.specs.declared.op.Op.{Op}
 use Rattle.world_core.specs.declared.op.Op.TheVariants.{GetRange}
 use Rattle.world_core.specs.declared.entry.Entry.{Entry}
 use Rattle.index_cache.specs.Caches.{same_range}
 use Rattle.read_ranges.specs.IndexRanges.{Piece}
-use Rattle.read_ranges.specs.Reads.{Cache, Break, damaged, Reached, used, range_of, sized, by_cache, takes, if_read}
+use Rattle.read_ranges.specs.Reads.{Cache, Break, Reached, used, range_of, sized, by_cache, if_read}
 use Rattle.read_ranges.specs.IndexReads.{reached, falls_back}
-use Rattle.block_ranges.specs.BlockReads.{BlockEnd, breaks_off}
+use Rattle.chunk_ranges.specs.BlockReads.{BlockEnd, breaks_off}
 use Rattle.read_ranges.specs.Asking.{query_asked, block_asked}
 use Rattle.block_ranges.specs.BlockRuns.{Onward, Leading, IsEnd, outcome_of}
-use Rattle.block_ranges.specs.WorkStates.{Where, Holds, Leads, Waits, may_at, asked_at, count_at, waits, left_at, after_index, range_left, sized_left, whole_left}
+use Rattle.block_ranges.specs.WorkStates.{Where, Leads, may_at, asked_at, count_at, waits, after_index, range_left, sized_left, whole_left}
 use Rattle.read_ranges.specs.declared.asked.Asked.{Asked}
 use Rattle.block_ranges.specs.declared.block_outcome.BlockOutcome.{BlockOutcome}
 use Rattle.block_ranges.specs.declared.work.Work.{Work}

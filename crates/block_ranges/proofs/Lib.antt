@@ -1,13 +1,4 @@
-pub mod OneChunk
-pub mod Between
-pub mod Rows
-pub mod ChunkBehind
-pub mod GroupShows
 pub mod SameTests
-pub mod FoundChunks
-pub mod ShownSamples
-pub mod RowSamples
-pub mod RowsApart
 pub mod Least
 pub mod SmallReads
 pub mod SmallQueries
@@ -20,7 +11,5 @@ pub mod Waiting
 pub mod PartReaders
 pub mod Taking
 pub mod RunsOn
-pub mod KeyedReferences
 pub mod FoundSeries
-pub mod ChunksOn
 pub mod ShownLoop

@@ -1,5 +1,5 @@
 -- Runs of series that the cache has, one after another.
-use Rattle.std.proofs.Common.{◌≡◌, ℕ, ◌+◌, ◌<◌, ◌≤◌, List, [], ◌∷◌, length, map, refl, sym, ap, subst, Option, Some, None, arith}
+use Rattle.std.proofs.Common.{◌≡◌, ℕ, List, [], ◌∷◌, map, sym, subst, Some, None}
 use Rattle.std.specs.Map.{lookup}
 use Rattle.world_core.specs.Plans.{Plan, Keeps}
 use Rattle.block_keys.specs.declared.key.Key.TheVariants.{Index}
@@ -7,7 +7,7 @@ use Rattle.index_cache.specs.Caches.{same_range}
 use Rattle.index_file.specs.declared.index_series.IndexSeries.{IndexSeries}
 use Rattle.read_ranges.specs.Reads.{Cache, used, range_of}
 use Rattle.read_ranges.specs.IndexReads.{reached}
-use Rattle.block_ranges.specs.BlockReads.{BlockEnd}
+use Rattle.chunk_ranges.specs.BlockReads.{BlockEnd}
 use Rattle.read_ranges.specs.Asking.{piece_of}
 use Rattle.read_ranges.specs.ToRead.{run_read}
 use Rattle.block_ranges.specs.WorkStates.{runs_left, chunks_left, whole_left, with_run, sized_left, range_left}

@@ -1,31 +1,27 @@
 -- How a call goes on with runs of series.
-use Rattle.std.proofs.Common.{◌≡◌, ℕ, ◌+◌, ◌*◌, ◌<◌, ◌≤◌, List, [], ◌∷◌, length, map, refl, sym, ap, subst, ◌∙◌, Option, Some, None, Result, Ok, arith}
+use Rattle.std.proofs.Common.{◌≡◌, ℕ, ◌+◌, ◌*◌, ◌≤◌, List, [], ◌∷◌, length, map, refl, subst, Some, Result, Ok, arith}
 use Rattle.list_core.specs.declared.memory.NoMemory.{NoMemory}
 use Rattle.block_keys.specs.declared.key.Key.TheVariants.{Index}
 use Rattle.world_core.proofs.PlanLaws.{comes_kept}
-use Rattle.world_core.specs.Plans.{Plan}
 use Rattle.world_core.specs.declared.op.Op.TheVariants.{GetRange}
 use Rattle.index_file.specs.declared.index_series.IndexSeries.{IndexSeries}
 use Rattle.read_ranges.specs.Reads.{Cache}
 use Rattle.read_ranges.specs.IndexReads.{reached}
-use Rattle.block_ranges.specs.BlockReads.{BlockEnd}
-use Rattle.read_ranges.specs.Asking.{query_asked, block_asked, piece_of}
+use Rattle.read_ranges.specs.Asking.{piece_of}
 use Rattle.read_ranges.specs.ToRead.{run_read}
 use Rattle.block_ranges.specs.BlockRuns.{Leading, IsEnd}
-use Rattle.block_ranges.specs.WorkStates.{most, Leads, waits, left_at, runs_left, with_run, with_lists, sized_left, texts_of, lists_piece}
-use Rattle.block_ranges.specs.RunFindings.{GoesOnRuns, FindsRuns, TakesRun}
+use Rattle.block_ranges.specs.WorkStates.{most, Leads, left_at, runs_left, with_run, with_lists, sized_left, texts_of, lists_piece}
+use Rattle.block_ranges.specs.RunFindings.{GoesOnRuns, FindsRuns}
 use Rattle.read_ranges.specs.declared.asked.Asked.{Asked}
 use Rattle.read_ranges.specs.declared.run_read.RunRead.{RunRead}
-use Rattle.block_ranges.specs.declared.run_steps.Taken.{Taken}
 use Rattle.block_ranges.specs.declared.run_steps.Taken.TheVariants as taken
 use Rattle.block_ranges.specs.declared.work.RunWork.{RunWork}
 use Rattle.block_ranges.specs.declared.work.TablesRead.{TablesRead}
-use Rattle.block_ranges.specs.declared.work.Work.{Work}
 use Rattle.block_ranges.specs.declared.work.Work.TheVariants as work
 use Rattle.block_ranges.specs.declared.work.Step.{Step}
 use Rattle.block_ranges.specs.declared.work.Step.TheVariants.{Wait}
 use Rattle.block_ranges.proofs.Leading.{leads_kept, leads_wait, keeps_waits}
-use Rattle.block_ranges.proofs.IndexPlans.{lists_read, run_read_on}
+use Rattle.block_ranges.proofs.IndexPlans.{lists_read}
 
 -- it waits for a run that the cache has not got
 pub runs_wait : (asked : Asked) (old new : Cache) (last : ℕ) (runs : List RunRead) (series : List IndexSeries) (one : RunWork) (r : Step)

@@ -9,7 +9,7 @@ use Rattle.label_sets.specs.declared.sample.Sample.{Sample}
 use Rattle.index_parts.specs.declared.chunk_place.ChunkPlace.{ChunkPlace}
 use Rattle.index_parts.specs.SeriesEntry.{reference_of}
 use Rattle.read_ranges.specs.Reads.{Block}
-use Rattle.block_ranges.specs.ChunkReads.{is_chunk_of, stored_at, chunk_samples_at, places_at, tests_at}
+use Rattle.chunk_ranges.specs.ChunkReads.{is_chunk_of, stored_at, chunk_samples_at, places_at, tests_at}
 
 equal_tests : (a b : Bool) → (a ≡ true → b ≡ true) → (b ≡ true → a ≡ true) → a ≡ b
 equal_tests true true on back = refl

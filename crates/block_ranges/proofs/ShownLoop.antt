@@ -1,13 +1,13 @@
 -- Chunks of a group that were shown, one after another, up to one that sticks out.
 use Rattle.std.proofs.Common.{◌≡◌, ℕ, List, [], ◌∷◌, ◌++◌, map, sym, ap, subst, ◌∙◌}
 use Rattle.label_sets.specs.declared.sample.Sample.{Sample}
-use Rattle.block_ranges.specs.ChunkReads.{Read, read, Glimpse, sticks_out}
-use Rattle.block_ranges.specs.ChunksRead.{row_reads, reads_of}
-use Rattle.block_ranges.specs.Glimpsed.{glimpse_seen, pending_chunk, shown_first}
-use Rattle.block_ranges.specs.declared.glimpses.Glimpse.TheVariants.{Shows, SticksOut}
-use Rattle.block_ranges.specs.declared.glimpses.Pending.{Pending}
-use Rattle.block_ranges.specs.declared.chunk_row.ChunkRow.{ChunkRow}
-use Rattle.block_ranges.proofs.Rows.{reads_push}
+use Rattle.chunk_ranges.specs.ChunkReads.{Read, read, Glimpse, sticks_out}
+use Rattle.chunk_ranges.specs.ChunksRead.{row_reads, reads_of}
+use Rattle.chunk_ranges.specs.Glimpsed.{glimpse_seen, pending_chunk, shown_first}
+use Rattle.chunk_ranges.specs.declared.glimpse.Glimpse.TheVariants.{Shows, SticksOut}
+use Rattle.chunk_ranges.specs.declared.glimpse.Pending.{Pending}
+use Rattle.chunk_ranges.specs.declared.chunk_row.ChunkRow.{ChunkRow}
+use Rattle.chunk_ranges.proofs.Rows.{reads_push}
 
 module _ (rest more : List Pending) (one : Pending) (all : List ChunkRow) (end : List Read × List (ℕ × Glimpse)) where
   abbrev Stands : List Pending → Type 0

@@ -24,13 +24,13 @@ use Rattle.index_v2.specs.PostingsLists.{list_of}
 use Rattle.index_v2.specs.WholeReading.{lists_at}
 use Rattle.index_v2.specs.SeriesLabels.{numbered_at}
 use Rattle.series_selection.specs.Selections.{rows_read}
-use Rattle.block_content.specs.Firsts.{each_at}
+use Rattle.reading_core.specs.Firsts.{each_at}
 use Rattle.read_ranges.specs.IndexRanges.{end_of}
 use Rattle.read_ranges.specs.Reads.{Query, Block, Cache, kept, used, range_of}
 use Rattle.read_ranges.specs.IndexReads.{Tables, IsTakenBy, part_at}
 use Rattle.read_ranges.specs.ChunkRanges.{group_of}
-use Rattle.block_ranges.specs.ChunkReads.{shows, tests_at, glimpse_at, read}
-use Rattle.block_ranges.specs.BlockReads.{gives, block_call, shown}
+use Rattle.chunk_ranges.specs.ChunkReads.{shows, tests_at, glimpse_at, read}
+use Rattle.chunk_ranges.specs.BlockReads.{gives, block_call, shown}
 use Rattle.block_ranges.proofs.SmallReads.{piece, small, only, one_stretch, one_number}
 
 abbrev block : Block

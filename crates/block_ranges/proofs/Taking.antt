@@ -6,7 +6,7 @@ use Rattle.world_core.specs.Plans.{Plan, Keeps}
 use Rattle.read_ranges.specs.IndexRanges.{Piece}
 use Rattle.read_ranges.specs.Reads.{Cache, Reached, kept, range_of}
 use Rattle.read_ranges.specs.IndexReads.{reached}
-use Rattle.block_ranges.specs.BlockReads.{BlockEnd}
+use Rattle.chunk_ranges.specs.BlockReads.{BlockEnd}
 use Rattle.block_ranges.specs.BlockRuns.{Leading}
 use Rattle.block_ranges.specs.WorkStates.{Where, Leads, Holds, count_at, with_bytes, sized_left, kept_left}
 use Rattle.read_ranges.specs.declared.asked.Asked.{Asked}

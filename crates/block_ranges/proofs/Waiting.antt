@@ -9,8 +9,7 @@ use Rattle.read_ranges.specs.IndexRanges.{Piece}
 use Rattle.read_ranges.specs.Reads.{Cache, Reached, range_of}
 use Rattle.read_ranges.specs.Caching.{IsFromCache}
 use Rattle.read_ranges.specs.IndexReads.{reached}
-use Rattle.block_ranges.specs.BlockReads.{BlockEnd}
-use Rattle.read_ranges.specs.Asking.{query_asked, block_asked}
+use Rattle.chunk_ranges.specs.BlockReads.{BlockEnd}
 use Rattle.block_ranges.specs.BlockRuns.{Leading, IsEnd}
 use Rattle.block_ranges.specs.WorkStates.{Leads, Holds, asked_at, count_at, left_at, waits, range_left, sized_left}
 use Rattle.read_ranges.specs.declared.asked.Asked.{Asked}

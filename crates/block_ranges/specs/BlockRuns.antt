@@ -6,7 +6,7 @@ use Rattle.world_core.specs.Plans.{Plan, ComesTo}
 use Rattle.world_core.specs.declared.entry.Entry.{Entry}
 use Rattle.index_cache.specs.Caches.{held}
 use Rattle.read_ranges.specs.Reads.{Query, Block, Cache, Break, missing, damaged, fault}
-use Rattle.block_ranges.specs.BlockReads.{BlockEnd, gives, breaks_off, block_call}
+use Rattle.chunk_ranges.specs.BlockReads.{BlockEnd, gives, breaks_off, block_call}
 use Rattle.block_ranges.specs.declared.block_call.BlockCall.{BlockCall}
 use Rattle.block_ranges.specs.declared.block_outcome.BlockOutcome.{BlockOutcome}
 use Rattle.block_ranges.specs.declared.block_outcome.BlockOutcome.TheVariants as outcome

@@ -1,12 +1,12 @@
 -- What the steps of a call find of chunks, as the code has it.
 use Rattle.std.specs.Prelude.{◌≡◌, List, [], ◌∷◌, map}
-use Rattle.block_ranges.specs.ChunkReads.{sticks_out}
-use Rattle.block_ranges.specs.ChunksRead.{reads_of}
-use Rattle.block_ranges.specs.Glimpsed.{pending_chunk, shown_first}
+use Rattle.chunk_ranges.specs.ChunkReads.{sticks_out}
+use Rattle.chunk_ranges.specs.ChunksRead.{reads_of}
+use Rattle.chunk_ranges.specs.Glimpsed.{pending_chunk, shown_first}
 use Rattle.block_ranges.specs.declared.chunk_steps.Shown.{Shown}
 use Rattle.block_ranges.specs.declared.chunk_steps.Shown.TheVariants.{SticksOut, All}
-use Rattle.block_ranges.specs.declared.glimpses.Pending.{Pending}
-use Rattle.block_ranges.specs.declared.chunk_row.ChunkRow.{ChunkRow}
+use Rattle.chunk_ranges.specs.declared.glimpse.Pending.{Pending}
+use Rattle.chunk_ranges.specs.declared.chunk_row.ChunkRow.{ChunkRow}
 
 -- the chunks of a group that were shown, up to the first that sticks out, as the code has them
 abbrev pub ShowsFirst : List ChunkRow → List Pending → Shown → Type 0

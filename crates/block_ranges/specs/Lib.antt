@@ -1,11 +1,4 @@
-pub use Rattle.index_parts.specs.Contents
-pub mod ChunkReads
-pub mod BlockReads
 pub mod BlockRuns
-pub mod RowCounts
-pub mod ChunksRead
-pub mod Glimpsed
-pub mod RowsFit
 pub mod WorkStates
 pub mod RunFindings
 pub mod ChunkFindings

@@ -17,7 +17,7 @@ use Rattle.index_v2.specs.PostingsLists.{list_of}
 use Rattle.index_v2.specs.WholeReading.{lists_at}
 use Rattle.index_v2.specs.SeriesLabels.{numbered_at}
 use Rattle.series_selection.specs.Selections.{rows_read}
-use Rattle.block_content.specs.Firsts.{each_at}
+use Rattle.reading_core.specs.Firsts.{each_at}
 use Rattle.read_ranges.specs.IndexRanges.{Run, has_bytes, has_sections}
 use Rattle.read_ranges.specs.Reads.{Query, Block, Cache, range_of}
 use Rattle.read_ranges.specs.IndexReads.{Tables, reached, part_at, tables_of, IsTakenBy}

@@ -12,7 +12,7 @@ use Rattle.world_core.specs.declared.op.Op.TheVariants.{Get, GetRange}
 use Rattle.world_core.specs.declared.entry.Entry.{Entry}
 use Rattle.index_parts.specs.declared.postings_row.PostingsRow.{PostingsRow}
 use Rattle.index_parts.specs.declared.chunk_place.ChunkPlace.{ChunkPlace}
-use Rattle.block_content.specs.Firsts.{each_at}
+use Rattle.reading_core.specs.Firsts.{each_at}
 use Rattle.index_parts.specs.SeriesEntry.{reference_of}
 use Rattle.index_parts.specs.RowsReading.{postings_table_at}
 use Rattle.index_slices.specs.Parts.{known}
@@ -21,13 +21,13 @@ use Rattle.read_ranges.specs.IndexRanges.{Piece, Run, contents_piece, section_pi
 use Rattle.read_ranges.specs.ChunkRanges.{offset_of}
 use Rattle.read_ranges.specs.Reads.{Query, Block, Cache, damaged, Reached, kept, range_of, sized, by_cache, takes, if_read}
 use Rattle.read_ranges.specs.IndexReads.{Tables, Goes, reached, part_at, falls_back, after_symbols, after_table, after_lists, after_run, reads_runs, reads_whole, reads_contents, after_contents, after_whole}
-use Rattle.block_ranges.specs.ChunkReads.{Read, read, Glimpse, glimpse_at, tests_at, reads_one, reads_out, reads_group, reads_groups, reads_chunks}
-use Rattle.block_ranges.specs.BlockReads.{BlockEnd, gives, breaks_off, taken, shown, block_call}
+use Rattle.chunk_ranges.specs.ChunkReads.{Read, read, Glimpse, glimpse_at, tests_at, reads_one, reads_out, reads_group, reads_groups, reads_chunks}
+use Rattle.chunk_ranges.specs.BlockReads.{BlockEnd, gives, breaks_off, taken, shown, block_call}
 use Rattle.block_ranges.specs.BlockRuns.{Onward, Leading}
 use Rattle.read_ranges.specs.Asking.{query_asked, block_asked, piece_of}
 use Rattle.read_ranges.specs.ToRead.{group_read, run_read}
-use Rattle.block_ranges.specs.Glimpsed.{pending_chunk}
-use Rattle.block_ranges.specs.ChunksRead.{reads_of, references_in}
+use Rattle.chunk_ranges.specs.Glimpsed.{pending_chunk}
+use Rattle.chunk_ranges.specs.ChunksRead.{reads_of, references_in}
 use Rattle.read_ranges.specs.declared.asked.Asked.{Asked}
 use Rattle.read_ranges.specs.declared.sections.Sections.{Sections}
 use Rattle.block_ranges.specs.declared.block_outcome.BlockOutcome.{BlockOutcome}
@@ -37,8 +37,8 @@ use Rattle.block_ranges.specs.declared.work.TablesRead.{TablesRead}
 use Rattle.block_ranges.specs.declared.work.Work.{Work}
 use Rattle.block_ranges.specs.declared.work.Work.TheVariants.{Fresh, Contents, Symbols, Table, Lists, Run as AtRun, Whole, Group, Single, Over}
 use Rattle.read_ranges.specs.declared.group_read.GroupRead.{GroupRead}
-use Rattle.block_ranges.specs.declared.glimpses.Pending.{Pending}
-use Rattle.block_ranges.specs.declared.chunk_row.ChunkRow.{ChunkRow}
+use Rattle.chunk_ranges.specs.declared.glimpse.Pending.{Pending}
+use Rattle.chunk_ranges.specs.declared.chunk_row.ChunkRow.{ChunkRow}
 use Rattle.block_ranges.specs.declared.work.Step.{Step}
 use Rattle.block_ranges.specs.declared.work.Step.TheVariants.{Wait, Done}
 

@@ -2,20 +2,19 @@
 ghost use Rattle.std.specs.Prelude.{◌+◌, ◌*◌, length, map, IfOk};
 ghost use Rattle.read_ranges.specs.Reads.{Cache};
 ghost use Rattle.read_ranges.specs.IndexReads.{reached};
-ghost use Rattle.block_ranges.specs.ChunksRead.{reads_of};
-ghost use Rattle.block_ranges.specs.Glimpsed.{pending_chunk};
+ghost use Rattle.chunk_ranges.specs.ChunksRead.{reads_of};
+ghost use Rattle.chunk_ranges.specs.Glimpsed.{pending_chunk};
 ghost use Rattle.block_ranges.specs.BlockRuns.{Leading};
 ghost use Rattle.block_ranges.specs.WorkStates.{most, Leads, Where, AreInOrder, IsGroupWork, IsSingleWork, ArePending, references_left, chunks_left, shows_groups, shows_out, with_group, with_single};
 ghost use Rattle.block_ranges.specs.ChunkFindings.{ShowsFirst};
 
 use crate::BlockOutcome;
-use crate::chunk_row::ChunkRow;
-use crate::chunk_rows::{read_behind, row_of_one};
-use crate::glimpses::{Glimpse, GroupShown, Pending, glimpses, places_of};
-use crate::places::{have_keys, sorted_places, taken_places};
-use crate::row_shown::all_shown;
 use crate::work::{ChunkWork, Step, Work};
 use block_keys::Key;
+use chunk_ranges::{
+    ChunkRow, Glimpse, GroupShown, Pending, all_shown, glimpses, have_keys, places_of, read_behind,
+    row_of_one, sorted_places, taken_places,
+};
 use index_parts::ChunkPlace;
 use index_v2::IndexSeries;
 use list_core::NoMemory;

@@ -3,7 +3,7 @@ ghost use Rattle.std.specs.Prelude.{◌≡◌, ◌+◌, ◌*◌, ◌^◌, ◌<�
 ghost use Rattle.index_cache.specs.Caches.{held};
 ghost use Rattle.read_ranges.specs.Reads.{Cache};
 ghost use Rattle.read_ranges.specs.IndexReads.{reached, after_contents, after_whole, by_size};
-ghost use Rattle.block_ranges.specs.BlockReads.{block_call, breaks_off};
+ghost use Rattle.chunk_ranges.specs.BlockReads.{block_call, breaks_off};
 ghost use Rattle.read_ranges.specs.Asking.{query_asked, block_asked, piece_of};
 ghost use Rattle.read_ranges.specs.ToRead.{run_read};
 ghost use Rattle.block_ranges.specs.BlockRuns.{Leading};

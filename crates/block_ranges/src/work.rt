@@ -2,8 +2,7 @@
 ghost use Rattle.std.specs.Prelude.{◌+◌, ◌^◌, ◌<◌, ◌≤◌, length};
 
 use crate::BlockOutcome;
-use crate::chunk_row::ChunkRow;
-use crate::glimpses::Pending;
+use chunk_ranges::{ChunkRow, Pending};
 use index_parts::ChunkPlace;
 use index_v2::IndexSeries;
 use read_ranges::{GroupRead, RunRead, Sections, SymbolTexts};

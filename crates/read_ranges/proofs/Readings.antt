@@ -2,8 +2,8 @@
 use Rattle.std.proofs.Common.{◌≡◌, ℕ, ◌+◌, ◌<◌, List, [], ◌∷◌, ◌++◌, take, drop, length, get_or, Option, Some, None, Result, Ok, Err, refl, sym, ap, subst, ◌∙◌, append_assoc, append-nil, arith}
 use Rattle.std.specs.Prelude.{zip, IsErr}
 use Rattle.std.proofs.lemmas.List.{take_more, drop_more, take-append-drop}
-use Rattle.block_content.specs.Firsts.{each_at}
-use Rattle.block_content.proofs.FirstLaws.{each_push, each_stop}
+use Rattle.reading_core.specs.Firsts.{each_at}
+use Rattle.reading_core.proofs.FirstLaws.{each_push, each_stop}
 use Rattle.read_ranges.specs.Findings.{ReadsAs, ReadsBehind}
 
 pub err_of : {A E : Type 0} (r : Result A E) → IsErr r → (e : E) × (r ≡ Err e)

@@ -17,7 +17,7 @@ use Rattle.index_v2.specs.PostingsLists.{list_of}
 use Rattle.index_v2.specs.WholeReading.{lists_at}
 use Rattle.index_v2.specs.SeriesLabels.{numbered_at}
 use Rattle.series_selection.specs.Selections.{IsSelection, rows_read}
-use Rattle.block_content.specs.Firsts.{each_at}
+use Rattle.reading_core.specs.Firsts.{each_at}
 use Rattle.read_ranges.specs.OneCut.{one_cut}
 use Rattle.read_ranges.specs.OneSet.{one_selection}
 use Rattle.read_ranges.specs.IndexRanges.{Piece, has_bytes, least_size, contents_piece, section_piece, has_sections, Follows, AreRuns, Run, run_of}

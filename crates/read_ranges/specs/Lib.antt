@@ -1,4 +1,3 @@
-pub use Rattle.index_parts.specs.Contents
 pub mod Stretches
 pub mod OneCut
 pub mod IndexRanges

@@ -4,7 +4,7 @@ ghost use Rattle.index_parts.specs.SeriesReading.{series_at};
 ghost use Rattle.index_slices.specs.Parts.{known};
 ghost use Rattle.index_v2.specs.Budget.{text_bytes};
 ghost use Rattle.index_v2.specs.SeriesLabels.{numbered_at};
-ghost use Rattle.block_content.specs.Firsts.{each_at};
+ghost use Rattle.reading_core.specs.Firsts.{each_at};
 ghost use Rattle.read_ranges.specs.IndexReads.{part_at};
 ghost use Rattle.read_ranges.specs.Asking.{piece_of};
 ghost use Rattle.read_ranges.specs.Findings.{ReadsAs, ReadsBehind};

@@ -1,4 +1,3 @@
-use Rattle.std.proofs.Common.{refl, sym, ap, subst, Ok}
 use Rattle.index_cache.specs.Caches.{held}
 use Rattle.world_core.specs.Operations.{entry_of}
 use Rattle.block_ranges.specs.WorkStates.{count_at}

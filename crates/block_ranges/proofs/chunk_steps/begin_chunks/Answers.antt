@@ -6,12 +6,12 @@ use Rattle.index_parts.specs.declared.chunk_place.ChunkPlace.{ChunkPlace}
 use Rattle.index_parts.specs.SeriesEntry.{reference_of}
 use Rattle.index_file.specs.declared.index_series.IndexSeries.{IndexSeries}
 use Rattle.read_ranges.specs.Asking.{query_asked}
-use Rattle.block_ranges.specs.BlockReads.{taken}
+use Rattle.chunk_ranges.specs.BlockReads.{taken}
 use Rattle.read_ranges.specs.ChunkRanges.{IsSetOf}
-use Rattle.block_ranges.specs.ChunkReads.{have_keys}
+use Rattle.chunk_ranges.specs.ChunkReads.{have_keys}
 use Rattle.read_ranges.specs.ToRead.{AreGroupsToRead}
 use Rattle.read_ranges.specs.declared.group_read.GroupRead.{GroupRead}
-use Rattle.block_ranges.proofs.KeyedReferences.{small_references}
+use Rattle.chunk_ranges.proofs.KeyedReferences.{small_references}
 use Rattle.block_ranges.proofs.ChunkPlans.{no_keys, chunks_begun}
 use Rattle.block_ranges.proofs.chunk_steps.begin_chunks.Goals as goal
 

@@ -3,9 +3,9 @@ use Rattle.std.specs.List.{flat_map}
 use Rattle.std.specs.List.Sorted.{IsStrictlyIncreasing}
 use Rattle.std.proofs.lemmas.List.{nil_from_length}
 use Rattle.label_sets.specs.Triples.{triples_of}
-use Rattle.block_ranges.specs.BlockReads.{shown}
+use Rattle.chunk_ranges.specs.BlockReads.{shown}
 use Rattle.read_ranges.specs.Asking.{query_asked, block_asked}
-use Rattle.block_ranges.specs.ChunksRead.{reads_of, references_in}
+use Rattle.chunk_ranges.specs.ChunksRead.{reads_of, references_in}
 use Rattle.block_ranges.proofs.ChunkPlans.{all_read, group_asked}
 use Rattle.block_ranges.proofs.chunk_steps.go_on_groups.Goals as goal
 

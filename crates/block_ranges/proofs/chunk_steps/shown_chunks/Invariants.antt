@@ -1,6 +1,6 @@
 use Rattle.std.proofs.Common.{◌≡◌, length, map}
-use Rattle.block_ranges.specs.ChunksRead.{reads_of}
-use Rattle.block_ranges.specs.Glimpsed.{pending_chunk, shown_first}
+use Rattle.chunk_ranges.specs.ChunksRead.{reads_of}
+use Rattle.chunk_ranges.specs.Glimpsed.{pending_chunk, shown_first}
 use Rattle.block_ranges.proofs.chunk_steps.shown_chunks.Given as goal
 
 abbrev pub invariant-loop-one : goal.invariant-loop-one

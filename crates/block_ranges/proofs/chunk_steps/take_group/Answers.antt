@@ -1,15 +1,15 @@
 use Rattle.std.proofs.Common.{ℕ, List, Some, arith, subst}
 use Rattle.std.specs.Prelude.{IsErr}
 use Rattle.std.specs.List.Sorted.{IsNonDecreasingBy}
-use Rattle.block_content.specs.Firsts.{each_at}
+use Rattle.reading_core.specs.Firsts.{each_at}
 use Rattle.index_parts.specs.SeriesEntry.{reference_of}
-use Rattle.block_ranges.specs.ChunkReads.{glimpse_at, tests_at}
-use Rattle.block_ranges.specs.ChunksRead.{reads_of}
-use Rattle.block_ranges.specs.Glimpsed.{ShowsGroup}
+use Rattle.chunk_ranges.specs.ChunkReads.{glimpse_at, tests_at}
+use Rattle.chunk_ranges.specs.ChunksRead.{reads_of}
+use Rattle.chunk_ranges.specs.Glimpsed.{ShowsGroup}
 use Rattle.read_ranges.specs.Asking.{block_asked}
 use Rattle.read_ranges.specs.ToRead.{group_read}
 use Rattle.block_ranges.proofs.ChunkPlans.{group_shown, group_damaged}
-use Rattle.block_ranges.proofs.ChunksOn.{shown_as, refused_as_seen}
+use Rattle.chunk_ranges.proofs.ChunksOn.{shown_as, refused_as_seen}
 use Rattle.block_ranges.proofs.chunk_steps.take_group.Goals as goal
 
 pub returns-in-Some : goal.returns-in-Some

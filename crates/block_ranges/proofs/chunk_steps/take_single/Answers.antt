@@ -4,12 +4,12 @@ use Rattle.std.specs.List.Sorted.{IsNonDecreasingBy}
 use Rattle.index_parts.specs.declared.chunk_place.ChunkPlace.{ChunkPlace}
 use Rattle.index_parts.specs.SeriesEntry.{reference_of}
 use Rattle.read_ranges.specs.Asking.{block_asked}
-use Rattle.block_ranges.specs.ChunkReads.{tests_at}
-use Rattle.block_ranges.specs.ChunksRead.{reads_of}
-use Rattle.block_ranges.specs.Glimpsed.{ReadsOn}
-use Rattle.block_ranges.specs.declared.chunk_row.ChunkRow.{ChunkRow}
+use Rattle.chunk_ranges.specs.ChunkReads.{tests_at}
+use Rattle.chunk_ranges.specs.ChunksRead.{reads_of}
+use Rattle.chunk_ranges.specs.Glimpsed.{ReadsOn}
+use Rattle.chunk_ranges.specs.declared.chunk_row.ChunkRow.{ChunkRow}
 use Rattle.block_ranges.proofs.ChunkPlans.{single_read, single_damaged}
-use Rattle.block_ranges.proofs.ChunksOn.{read_as, refused_as}
+use Rattle.chunk_ranges.proofs.ChunksOn.{read_as, refused_as}
 use Rattle.block_ranges.proofs.chunk_steps.take_single.Goals as goal
 
 pub returns-in-None : goal.returns-in-None

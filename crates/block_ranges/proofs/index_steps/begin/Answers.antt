@@ -1,7 +1,7 @@
 use Rattle.std.proofs.Common.{◌*◌, Some, None, Ok, sym, ◌∙◌, arith}
 use Rattle.read_ranges.specs.Asking.{query_asked, block_asked}
 use Rattle.read_ranges.specs.IndexReads.{by_size}
-use Rattle.block_ranges.specs.BlockReads.{block_call, breaks_off}
+use Rattle.chunk_ranges.specs.BlockReads.{block_call, breaks_off}
 use Rattle.block_ranges.specs.WorkStates.{most, after_index, whole_left}
 use Rattle.block_ranges.proofs.Leading.{leads_kept}
 use Rattle.block_ranges.proofs.IndexPlans.{begins_by}

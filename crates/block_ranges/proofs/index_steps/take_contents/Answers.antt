@@ -1,8 +1,8 @@
-use Rattle.std.proofs.Common.{◌*◌, ◌+◌, ◌∙◌, List, ℕ, [], length, map, option_map, Option, Some, None, Ok, refl, sym, ap, subst, arith}
+use Rattle.std.proofs.Common.{◌*◌, Ok, subst, arith}
 use Rattle.index_cache.specs.Caches.{held}
 use Rattle.read_ranges.specs.Asking.{query_asked, block_asked}
 use Rattle.read_ranges.specs.IndexReads.{reached, after_contents}
-use Rattle.block_ranges.specs.BlockReads.{breaks_off}
+use Rattle.chunk_ranges.specs.BlockReads.{breaks_off}
 use Rattle.block_ranges.specs.RunFindings.{FindsSections}
 use Rattle.block_ranges.specs.WorkStates.{most, after_index, range_left, symbols_piece, with_symbols, whole_left}
 use Rattle.block_ranges.proofs.Leading.{leads_kept}

@@ -1,9 +1,8 @@
-use Rattle.std.proofs.Common.{◌*◌, ◌+◌, ◌∙◌, List, ℕ, [], length, map, option_map, Option, Some, None, Ok, refl, sym, ap, subst, arith}
+use Rattle.std.proofs.Common.{◌*◌, List, ℕ, option_map, Some, None, Ok, subst, arith}
 use Rattle.index_cache.specs.Caches.{held}
 use Rattle.read_ranges.specs.IndexReads.{reached}
 use Rattle.block_ranges.specs.RunFindings.{FindsRuns}
 use Rattle.block_ranges.specs.WorkStates.{most, sized_left, lists_piece, with_lists, whole_left}
-use Rattle.read_ranges.specs.declared.run_read.RunRead.{RunRead}
 use Rattle.block_ranges.proofs.Leading.{leads_kept}
 use Rattle.block_ranges.proofs.IndexPlans.{lists_refused}
 use Rattle.block_ranges.proofs.RunsOn.{lists_on}

@@ -1,4 +1,4 @@
-use Rattle.std.proofs.Common.{◌*◌, ◌+◌, ◌∙◌, List, ℕ, [], length, map, option_map, Option, Some, None, Ok, refl, sym, ap, subst, arith}
+use Rattle.std.proofs.Common.{◌*◌, ◌+◌, List, ℕ, length, map, option_map, Some, None, Ok, subst, arith}
 use Rattle.index_cache.specs.Caches.{held}
 use Rattle.read_ranges.specs.Asking.{piece_of}
 use Rattle.read_ranges.specs.ToRead.{run_read}

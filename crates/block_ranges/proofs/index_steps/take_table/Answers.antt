@@ -1,8 +1,8 @@
-use Rattle.std.proofs.Common.{◌*◌, ◌+◌, ◌∙◌, List, ℕ, [], length, map, option_map, Option, Some, None, Ok, refl, sym, ap, subst, arith}
+use Rattle.std.proofs.Common.{◌*◌, Ok, subst, arith}
 use Rattle.index_cache.specs.Caches.{held}
 use Rattle.read_ranges.specs.IndexReads.{reached}
 use Rattle.block_ranges.specs.RunFindings.{TestsTable}
-use Rattle.block_ranges.specs.WorkStates.{most, range_left, sized_left, symbols_piece, table_piece, lists_piece, with_symbols, with_table, with_lists, whole_left}
+use Rattle.block_ranges.specs.WorkStates.{most, range_left, sized_left, table_piece, lists_piece, with_table, with_lists, whole_left}
 use Rattle.block_ranges.proofs.Leading.{leads_kept}
 use Rattle.block_ranges.proofs.IndexPlans.{table_read, table_refused}
 use Rattle.block_ranges.proofs.index_steps.take_table.Goals as goal

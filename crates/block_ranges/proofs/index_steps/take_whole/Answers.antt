@@ -1,11 +1,10 @@
-use Rattle.std.proofs.Common.{◌*◌, ◌+◌, ◌∙◌, List, ℕ, [], length, map, option_map, Option, Some, None, Ok, refl, sym, ap, subst, arith}
-use Rattle.index_cache.specs.Caches.{held}
+use Rattle.std.proofs.Common.{◌*◌, [], option_map, Some, subst, arith}
 use Rattle.world_core.specs.Plans.{ends}
 use Rattle.world_core.proofs.PlanLaws.{comes_kept}
 use Rattle.read_ranges.specs.Asking.{query_asked, block_asked}
 use Rattle.read_ranges.specs.Reads.{damaged}
 use Rattle.read_ranges.specs.IndexReads.{reached, after_whole}
-use Rattle.block_ranges.specs.BlockReads.{breaks_off}
+use Rattle.chunk_ranges.specs.BlockReads.{breaks_off}
 use Rattle.block_ranges.specs.BlockRuns.{IsEnd}
 use Rattle.block_ranges.specs.WorkStates.{most, after_index, chunks_left}
 use Rattle.block_ranges.specs.RunFindings.{FindsSeries}

@@ -1,11 +1,10 @@
-use Rattle.std.proofs.Common.{◌*◌, ◌∙◌, Some, None, refl, ap, subst, arith}
+use Rattle.std.proofs.Common.{◌*◌, ◌∙◌, refl, ap, subst, arith}
 use Rattle.block_keys.specs.declared.key.Key.TheVariants.{Index}
 use Rattle.world_core.specs.declared.op.Op.TheVariants.{GetRange}
 use Rattle.index_cache.specs.Caches.{held}
 use Rattle.read_ranges.specs.IndexRanges.{Piece}
 use Rattle.read_ranges.specs.Reads.{range_of}
 use Rattle.read_ranges.specs.Caching.{IsFromCache}
-use Rattle.read_ranges.specs.Asking.{query_asked, block_asked}
 use Rattle.block_ranges.specs.WorkStates.{most, left_at, lists_piece, with_lists}
 use Rattle.block_ranges.specs.declared.work.Work.TheVariants.{Lists}
 use Rattle.block_ranges.specs.declared.work.Step.TheVariants.{Wait}

@@ -1,8 +1,5 @@
-use Rattle.std.proofs.Common.{List, ℕ, Some, None, Option, sym, subst}
-use Rattle.block_content.specs.Firsts.{each_at}
-use Rattle.index_v2.specs.SeriesLabels.{numbered_at}
+use Rattle.std.proofs.Common.{subst}
 use Rattle.read_ranges.specs.Asking.{query_asked, block_asked}
-use Rattle.read_ranges.specs.Findings.{ReadsAs}
 use Rattle.read_ranges.specs.Selecting.{Selects, tables_held}
 use Rattle.block_ranges.proofs.FoundSeries.{whole_found_in}
 use Rattle.block_ranges.proofs.run_steps.whole_series.Goals as goal

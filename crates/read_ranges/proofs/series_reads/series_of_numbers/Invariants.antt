@@ -1,7 +1,7 @@
 use Rattle.std.proofs.Common.{take, Some}
 use Rattle.index_slices.specs.Parts.{known}
 use Rattle.index_v2.specs.SeriesLabels.{numbered_at}
-use Rattle.block_content.specs.Firsts.{each_at}
+use Rattle.reading_core.specs.Firsts.{each_at}
 use Rattle.read_ranges.specs.IndexReads.{part_at}
 use Rattle.read_ranges.specs.Asking.{piece_of}
 use Rattle.read_ranges.specs.Findings.{ReadsBehind}

@@ -1,0 +1,11 @@
+pub mod OneChunk
+pub mod Between
+pub mod Rows
+pub mod ChunkBehind
+pub mod GroupShows
+pub mod FoundChunks
+pub mod ShownSamples
+pub mod RowSamples
+pub mod RowsApart
+pub mod KeyedReferences
+pub mod ChunksOn

@@ -1,0 +1,14 @@
+use Rattle.std.proofs.Common.{◌∙◌, ap, rules, sym}
+use Rattle.std.specs.List.{list_all}
+use Rattle.std.proofs.lemmas.Fn.{filter_same}
+use Rattle.label_sets.specs.declared.sample.Sample.{Sample}
+use Rattle.matchers.specs.Selected.{is_between}
+use Rattle.chunk_ranges.proofs.RowSamples.{all_kept}
+use Rattle.chunk_ranges.proofs.row_shown.within.Goals as goal
+
+pub returns-then-are_within : goal.returns-then-are_within
+returns-then-are_within c = all_kept (λ (s : Sample). is_between c.args.asked.now.low c.args.asked.now.high s.time) c.args.samples.items
+    (ap (list_all (λ (s : Sample). is_between c.args.asked.now.low c.args.asked.now.high s.time)) (sym c.as_slice.ensures.value) ∙ sym c.are_within.ensures ∙ c.if-are_within.true)
+
+pub returns : goal.returns
+returns c = filter_same _ (λ (s : Sample). is_between c.args.asked.now.low c.args.asked.now.high s.time) _ (λ x b f' k. search rules) _ _ c.retain.ensures.filtered

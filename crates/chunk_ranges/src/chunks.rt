@@ -1,0 +1,164 @@
+//! One chunk of a segment, by the bytes that were read of it.
+ghost use Rattle.std.specs.Prelude.{◌≡◌, ◌↔◌, ◌+◌, ◌≤◌, ◌<◌, ◌-◌, length, drop, option_copied, IsTrue, IfOk, IfSome, Ok, Err};
+ghost use Rattle.std.specs.List.{list_all};
+ghost use Rattle.std.specs.Result.{result_ok};
+ghost use Rattle.block_content.specs.ContentReading.{is_time, have_times_of};
+ghost use Rattle.read_ranges.specs.Asking.{block_asked};
+ghost use Rattle.chunk_ranges.specs.ChunkReads.{chunk_len_at, is_chunk_of, stored_at, chunk_samples_at};
+ghost use Rattle.read_ranges.specs.Findings.{ReadsAs, ReadsBehind};
+
+use chunk_files::take_chunk;
+use index_parts::ChunkPlace;
+use label_sets::{Sample, SampleList};
+use list_core::NoMemory;
+use read_ranges::Asked;
+use wire_bytes::Cursor;
+use xor_chunks::{XorRefusal, append_stored};
+
+/// How many bytes a chunk's data has at most.
+const MOST: u64 = 67_108_864;
+
+/// How many bytes the header of a segment takes.
+const HEADER: u32 = 8;
+
+/// How many bytes the chunk at a place takes: its length, its encoding, its data and their sum.
+/// None where its length cannot be read, or is more than a segment can have.
+#[tactic(auto, unfolding(crate::specs::ChunkReads::chunk_len_at))]
+pub fn chunk_len(bytes: &[u8], at: u64) -> Option<u64>
+    ensures value { result ≡ result_ok (chunk_len_at bytes.now at) }
+    ensures within { IfSome result
+        (λ len. (at ≤ length bytes.now) × (at + len ≤ length bytes.now + 67_108_869)) }
+{
+    if at > bytes.len() as u64 {
+        return None;
+    }
+    let whole = bytes.len();
+    prove!(whole <= 0x7fff_ffff_ffff_ffff);
+    let mut cursor = Cursor::at(bytes, at as usize);
+    match cursor.take_uvarint() {
+        Ok(size) if size <= MOST => Some(
+            cursor.place().saturating_sub(at as usize) as u64 + size + 5,
+        ),
+        _ => None,
+    }
+}
+
+/// Whether there is a sample, and it is at this time.
+fn is_at(sample: Option<&Sample>, time: i64) -> bool
+    ensures { result ≡ is_time (option_copied sample.entry) time }
+{
+    match sample {
+        Some(sample) => sample.time == time,
+        None => false,
+    }
+}
+
+/// Whether the first and the last sample are at the times that the place tells.
+fn have_times_of(place: &ChunkPlace, samples: &[Sample]) -> bool
+    ensures { result ≡ have_times_of place.now samples.now }
+{
+    is_at(samples.first(), place.min) && is_at(samples.last(), place.max)
+}
+
+/// Whether samples are those of a chunk at a place.
+fn is_chunk_of(asked: &Asked<'_>, samples: &[Sample], place: &ChunkPlace) -> bool
+    ensures { result ≡ is_chunk_of (block_asked asked.now) samples.now place.now }
+{
+    !samples.is_empty()
+        & have_times_of(place, samples)
+        & (asked.meta.min_time <= place.min)
+        & (place.max < asked.meta.max_time)
+        & (HEADER <= place.offset)
+}
+
+/// Whether samples are those of a chunk at each of these places.
+fn are_chunks_of(asked: &Asked<'_>, samples: &[Sample], places: &[ChunkPlace]) -> bool
+    ensures { result ≡ list_all (is_chunk_of (block_asked asked.now) samples.now) places.now }
+{
+    for place in places {
+        if !is_chunk_of(asked, samples, place) {
+            return false;
+        }
+    }
+    true
+}
+
+/// The samples behind so many.
+fn behind(samples: &[Sample], count: usize) -> &[Sample]
+    requires { count ≤ length samples.now }
+    ensures { result.now ≡ drop count samples.now }
+{
+    &samples[count..]
+}
+
+/// Whether memory ran out.
+fn wants_memory(refusal: XorRefusal) -> bool
+    ensures { IsTrue result ↔ (refusal ≡ XorRefusal.NoMemory) }
+{
+    match refusal {
+        XorRefusal::NoMemory => true,
+        XorRefusal::Short => false,
+        XorRefusal::Falling => false,
+        XorRefusal::OutOfRange => false,
+        XorRefusal::Trailing => false,
+    }
+}
+
+/// Reads the samples that the data of the chunk at the front of these bytes stands for, behind
+/// others.
+fn append_data(samples: Vec<Sample>, bytes: &[u8]) -> Result<Option<Vec<Sample>>, NoMemory>
+    ensures { IfOk result (ReadsBehind (λ all. all.items) samples.items (stored_at bytes.now)) }
+{
+    let content = match take_chunk(bytes) {
+        Ok(content) => content,
+        Err(_) => return Ok(None),
+    };
+    match append_stored(samples, content) {
+        Ok(all) => Ok(Some(all)),
+        Err(refusal) => if wants_memory(refusal) {
+            Err(NoMemory)
+        } else {
+            Ok(None)
+        },
+    }
+}
+
+/// Reads the samples of the chunk at the front of these bytes, behind others. None where it is not
+/// a chunk of each of these places.
+pub(crate) fn append_chunk(
+    asked: &Asked<'_>,
+    places: &[ChunkPlace],
+    samples: Vec<Sample>,
+    bytes: &[u8],
+) -> Result<Option<Vec<Sample>>, NoMemory>
+    ensures { IfOk result
+        (ReadsBehind (λ all. all.items) samples.items
+        (chunk_samples_at (block_asked asked.now) places.now bytes.now)) }
+{
+    let before = samples.len();
+    let all = match append_data(samples, bytes)? {
+        Some(all) => all,
+        None => return Ok(None),
+    };
+    if !are_chunks_of(asked, behind(all.as_slice(), before), places) {
+        return Ok(None);
+    }
+    Ok(Some(all))
+}
+
+/// The samples of the chunk at the front of these bytes. None where it is not a chunk of each of
+/// these places.
+pub(crate) fn chunk_samples(
+    asked: &Asked<'_>,
+    places: &[ChunkPlace],
+    bytes: &[u8],
+) -> Result<Option<SampleList>, NoMemory>
+    ensures { IfOk result
+        (ReadsAs (λ samples. samples)
+        (chunk_samples_at (block_asked asked.now) places.now bytes.now)) }
+{
+    match append_chunk(asked, places, Vec::new(asked.alloc), bytes)? {
+        Some(samples) => Ok(Some(SampleList::from_vec(samples))),
+        None => Ok(None),
+    }
+}
