@@ -20,21 +20,23 @@ pub(crate) fn first_part(key: &str) -> &str
     }
 }
 
-/// The order of keys.
-fn order(one: &str, other: &str) -> Ordering
+/// The order of keys, of which the second has this first part.
+fn order(one: &str, other: &str, first: &str) -> Ordering
+    requires { first.now ≡ first_part_of other.now }
     ensures { result ≡ key_cmp one.now other.now }
 {
-    match first_part(one).cmp(first_part(other)) {
+    match first_part(one).cmp(first) {
         Ordering::Equal => one.cmp(other),
-        other => other,
+        unequal => unequal,
     }
 }
 
-/// Whether an object's key comes before this one.
-fn comes_before(object: &Stored, key: &str) -> bool
+/// Whether an object's key comes before this one, which has this first part.
+fn comes_before(object: &Stored, key: &str, first: &str) -> bool
+    requires { first.now ≡ first_part_of key.now }
     ensures { result ≡ is_before key.now object.now }
 {
-    order(object.key.as_str(), key) == Ordering::Less
+    order(object.key.as_str(), key, first) == Ordering::Less
 }
 
 /// The place where a key stands or would stand.
@@ -42,7 +44,8 @@ pub(crate) fn place_of(objects: &[Stored], key: &str) -> usize
     requires { IsTrue (in_order objects.now) }
     ensures { IsPlace key.now objects.now result }
 {
-    objects.partition_point(|object| comes_before(object, key))
+    let first = first_part(key);
+    objects.partition_point(|object| comes_before(object, key, first))
 }
 
 /// Whether an object under the key stands at the place.
