@@ -1,2 +1,3 @@
+pub mod AllAlike
 pub mod AskLists
 pub mod ToldOnce

@@ -1,6 +1,7 @@
 //! A query over several gateways: which of them are asked for which times, and the one answer that theirs make.
 #![tactic(auto)]
 
+mod alike;
 mod answer;
 mod ask;
 mod asking;

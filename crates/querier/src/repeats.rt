@@ -1,16 +1,36 @@
 //! Answers that say what the one before them says, as those of gateways that see the same blocks do. To compare two answers takes
 //! far less than to merge them.
-ghost use Rattle.std.specs.Prelude.{◌≡◌, ◌++◌, ◌∷◌, [], List, Contains, true, IfOk, OnOk};
+ghost use Rattle.std.specs.Prelude.{◌≡◌, ◌++◌, ◌∷◌, [], List, Contains, true, IfOk, OnOk, take};
 ghost use Rattle.querier.specs.Gathered.{TellTheSame};
 ghost use Rattle.querier.specs.declared.answer.Answer.{Answer};
 
 use crate::Answer;
+use crate::alike::are_alike;
 use label_sets::{Sample, Series};
 use list_core::NoMemory;
 use std::alloc::Global;
 
 /// The answers, but for each whose series are those of the one before it.
 pub(crate) fn without_repeats(alloc: Global, answers: Vec<Answer>) -> Result<Vec<Answer>, NoMemory>
+    ensures { IfOk result (λ told. TellTheSame answers.items told.items) }
+{
+    if are_alike(answers.as_slice()) {
+        return Ok(first_alone(answers));
+    }
+    told_in_turn(alloc, answers)
+}
+
+/// The first answer, or none.
+fn first_alone(answers: Vec<Answer>) -> Vec<Answer>
+    ensures { result.items ≡ take 1 answers.items }
+{
+    let mut first = answers;
+    first.truncate(1);
+    first
+}
+
+/// The same by comparing each answer with the one before it.
+fn told_in_turn(alloc: Global, answers: Vec<Answer>) -> Result<Vec<Answer>, NoMemory>
     ensures { IfOk result (λ told. TellTheSame answers.items told.items) }
 {
     let mut told = Vec::new(alloc);

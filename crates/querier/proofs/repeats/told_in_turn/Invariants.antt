@@ -1,5 +1,5 @@
 use Rattle.querier.specs.Gathered.{TellTheSame}
-use Rattle.querier.proofs.repeats.without_repeats.Given as goal
+use Rattle.querier.proofs.repeats.told_in_turn.Given as goal
 
 abbrev pub invariant-loop-answer : goal.invariant-loop-answer
 invariant-loop-answer l = TellTheSame l.yielded l.told.items

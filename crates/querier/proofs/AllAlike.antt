@@ -1,0 +1,90 @@
+-- Answers that are all alike: the first one tells the same as all.
+use Rattle.std.proofs.Common.{◌≡◌, ◌⊎◌, inl, inr, ℕ, suc, ◌+◌, ◌<◌, ◌≤◌, List, [], ◌∷◌, ◌++◌, length, get_or, take, drop, refl, sym, ap, ◌∙◌, subst, arith}
+use Rattle.std.specs.Prelude.{All, Some, slice_get}
+use Rattle.std.specs.Option.{unwrap_or}
+use Rattle.std.proofs.lemmas.Bool.{cases_lt}
+use Rattle.std.proofs.lemmas.List.{same_lists, append-nil, append_assoc}
+use Rattle.std.proofs.lemmas.Option.{unwrap_or-slice_get, get_or_from_slice_get, slice_get_read}
+use Rattle.label_sets.specs.declared.series.Series.{Series}
+use Rattle.querier.specs.declared.answer.Answer.{Answer}
+use Rattle.querier.specs.Gathered.{TellTheSame}
+use Rattle.querier.proofs.ToldOnce.{told_more, told_again}
+
+told_none : TellTheSame [] []
+told_none = record {
+  nothing_more = λ k d below. absurd (omega (arith, below));
+  first = λ t. refl;
+}
+
+told_rest : (first : Answer) (done others : List Answer) → TellTheSame done (first ∷ []) → All (λ other. first.series ≡ other.series) others → TellTheSame (done ++ others) (first ∷ [])
+told_rest first done [] same alike = subst (λ (xs : List Answer). TellTheSame xs (first ∷ [])) (sym (append-nil done)) same
+told_rest first done (other ∷ others) same alike = subst (λ (xs : List Answer). TellTheSame xs (first ∷ [])) (append_assoc done (other ∷ []) others)
+    (told_rest first (done ++ other ∷ []) others
+    (told_again done (first ∷ []) first other same (0, omega arith, refl) (alike 0 first (omega arith)))
+    (λ k d below. alike (suc k) d (omega (arith, below))))
+
+pub first_tells : (answers : List Answer) → ((d : Answer) → All (λ other. (get_or answers 0 d).series ≡ other.series) (drop 1 answers)) → TellTheSame answers (take 1 answers)
+first_tells [] alike = told_none
+first_tells (first ∷ others) alike = told_rest first (first ∷ []) others (told_more [] [] first told_none) (alike first)
+
+-- as many series, and the same one at each place
+pub each_alike : (series : List Series) (answers : List Answer) → All (λ answer. length answer.series ≡ length series) answers
+    → ((k : ℕ) → k < length series → All (λ answer. slice_get answer.series k ≡ slice_get series k) answers)
+    → All (λ answer. series ≡ answer.series) answers
+each_alike series answers count at = λ j d below. same_lists series (get_or answers j d).series (sym (count j d below))
+    (λ k e within. sym (unwrap_or-slice_get series k e) ∙ (ap (λ f. unwrap_or f e) (sym (at k within j d below)) ∙ unwrap_or-slice_get (get_or answers j d).series k e))
+
+pub one_more : (series : List Series) (answers : List Answer) (place : ℕ) (one : Series) → slice_get series place ≡ Some one
+    → ((k : ℕ) → k < place → All (λ answer. slice_get answer.series k ≡ slice_get series k) answers)
+    → All (λ answer. slice_get answer.series place ≡ Some one) answers
+    → (k : ℕ) → k < place + 1 → All (λ answer. slice_get answer.series k ≡ slice_get series k) answers
+one_more series answers place one stands before at k under = elim (cases_lt k place) [
+  | inl less ↦ before k less
+  | inr most ↦ let same : k ≡ place = omega (arith, under, most) in
+      λ j d below. ap (slice_get (get_or answers j d).series) same ∙ (at j d below ∙ (sym stands ∙ sym (ap (slice_get series) same)))
+]
+
+pub four_more : (place : ℕ) (answers : List Answer) (one : Series) (start : ℕ)
+    → ((k : ℕ) (d : Answer) → k < start → k < length answers → slice_get (get_or answers k d).series place ≡ Some one)
+    → ((k : ℕ) (d : Answer) → start ≤ k → k < start + 4 → k < length answers → slice_get (get_or answers k d).series place ≡ Some one)
+    → (k : ℕ) (d : Answer) → k < start + 4 → k < length answers → slice_get (get_or answers k d).series place ≡ Some one
+four_more place answers one start before four k d under below = elim (cases_lt k start) [ inl less ↦ before k d less below | inr most ↦ four k d most under below ]
+
+-- a place of four
+pub one_of_four : (k start : ℕ) → start ≤ k → k < start + 4 → (k ≡ start) ⊎ ((k ≡ start + 1) ⊎ ((k ≡ start + 2) ⊎ (k ≡ start + 3)))
+one_of_four k start most under = elim (cases_lt start k) [
+  | inr a ↦ inl (omega (arith, a, most))
+  | inl a ↦ elim (cases_lt (start + 1) k) [
+    | inr b ↦ inr (inl (omega (arith, a, b)))
+    | inl b ↦ elim (cases_lt (start + 2) k) [
+      | inr c ↦ inr (inr (inl (omega (arith, b, c))))
+      | inl c ↦ inr (inr (inr (omega (arith, c, under))))
+    ]
+  ]
+]
+
+at_place : (place : ℕ) (answers : List Answer) (series one : Series) (it : Answer) (k at : ℕ) (d : Answer) → k ≡ at → it ≡ get_or answers at d
+    → Some one ≡ slice_get it.series place → series ≡ one → slice_get (get_or answers k d).series place ≡ Some series
+at_place place answers series one it k at d same is stands equal =
+    ap (λ (n : ℕ). slice_get (get_or answers n d).series place) same
+    ∙ (ap (λ (a : Answer). slice_get a.series place) (sym is) ∙ (sym stands ∙ ap Some (sym equal)))
+
+pub four_have : (place : ℕ) (answers : List Answer) (series one two three four : Series) (start : ℕ) (first second third fourth : Answer)
+    → start < length answers → first ≡ get_or answers start first
+    → ((d : Answer) → start + 1 < length answers → second ≡ get_or answers (start + 1) d)
+    → ((d : Answer) → start + 2 < length answers → third ≡ get_or answers (start + 2) d)
+    → ((d : Answer) → start + 3 < length answers → fourth ≡ get_or answers (start + 3) d)
+    → Some one ≡ slice_get first.series place → Some two ≡ slice_get second.series place → Some three ≡ slice_get third.series place → Some four ≡ slice_get fourth.series place
+    → (series ≡ one) × (series ≡ two) × (series ≡ three) × (series ≡ four)
+    → (k : ℕ) (d : Answer) → start ≤ k → k < start + 4 → k < length answers → slice_get (get_or answers k d).series place ≡ Some series
+four_have place answers series one two three four start first second third fourth within a1 a2 a3 a4 s1 s2 s3 s4 same k d most under below = elim (one_of_four k start most under) [
+  | inl e ↦ at_place place answers series one first k start d e (sym (get_or_from_slice_get answers start first d (slice_get_read answers (length answers) start first refl within a1))) s1 same.0
+  | inr (inl e) ↦ at_place place answers series two second k (start + 1) d e (a2 d (omega (arith, e, below))) s2 same.1
+  | inr (inr (inl e)) ↦ at_place place answers series three third k (start + 2) d e (a3 d (omega (arith, e, below))) s3 same.2
+  | inr (inr (inr e)) ↦ at_place place answers series four fourth k (start + 3) d e (a4 d (omega (arith, e, below))) s4 same.3
+]
+
+pub first_alike : (answers others : List Answer) (first : Answer) (series : List Series) → others ≡ drop 1 answers → series ≡ (get_or answers 0 first).series
+    → All (λ answer. series ≡ answer.series) others → (d : Answer) → All (λ other. (get_or answers 0 d).series ≡ other.series) (drop 1 answers)
+first_alike [] others first series same is alike d = λ k e below. absurd (omega (arith, below))
+first_alike (one ∷ behind) others first series same is alike d = λ k e below. sym is ∙ subst (λ (xs : List Answer). All (λ answer. series ≡ answer.series) xs) same alike k e below
