@@ -14,7 +14,7 @@ use Rattle.index_file.specs.declared.index_series.IndexSeries.{IndexSeries}
 use Rattle.index_file.specs.IndexFile.{IsIndex}
 use Rattle.block_meta.specs.declared.block_plan.BlockPlan.{BlockPlan}
 use Rattle.block_files.specs.declared.block_files.BlockFiles.{BlockFiles}
-use Rattle.block_content.proofs.FirstLaws.{some_is}
+use Rattle.reading_core.proofs.FirstLaws.{some_is}
 use Rattle.block_content.specs.Content.{IsContent}
 use Rattle.block_content.specs.ContentReading.{fitted}
 use Rattle.block_content.specs.ContentRefusals.{RefusesContent}

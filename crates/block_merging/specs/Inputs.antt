@@ -9,7 +9,7 @@ use Rattle.block_meta.specs.declared.block_plan.BlockPlan.{BlockPlan}
 use Rattle.block_files.specs.declared.block_files.BlockFiles.{BlockFiles}
 use Rattle.block_writing.specs.Put.{PutSeries}
 use Rattle.block_writing.specs.Writing.{chunk_in}
-use Rattle.block_content.specs.Firsts.{IsFirstAt}
+use Rattle.reading_core.specs.Firsts.{IsFirstAt}
 use Rattle.block_content.specs.Content.{IsContent}
 use Rattle.block_content.specs.ContentRefusals.{RefusesContent}
 use Rattle.block_content.specs.declared.check_refusal.CheckRefusal.{CheckRefusal}

@@ -18,11 +18,13 @@ ghost use Rattle.block_merging.specs.MergedBlock.{IsMergeOf, HaveNoMerge};
 ghost use Rattle.block_merging.specs.MergeSteps.{HasGroup, HasAll};
 ghost use Rattle.block_merging.specs.Queues.{IsQueue, have_lesser_labels, lefts_in, chunks_of};
 
+use crate::MergeRefusal;
 use crate::group_taking::{next_group, take_group};
+use crate::input_chunk::InputChunk;
 use crate::lent_labels::set_of;
 use crate::queues::all_queues;
+use crate::series_merge::merge_series;
 use crate::series_queue::SeriesQueue;
-use crate::{InputChunk, MergeRefusal, merge_series};
 use block_files::{BlockFiles, BuildRefusal};
 use block_meta::BlockPlan;
 use block_writing::BlockWriter;
@@ -152,7 +154,8 @@ fn put_group(
     requires nothing_left { writer.old.chunks ≡ [] }
     requires greater { IsAfterSeries writer.old.series (map as_label labels.now) }
     requires counted { writer.old.samples < 2 ^ 64 }
-    ensures { OnOk result (HasGroup writer.old (map as_label labels.now) (map chunk_of chunks.now) writer.new) }
+    ensures { OnOk result
+        (HasGroup writer.old (map as_label labels.now) (map chunk_of chunks.now) writer.new) }
 {
     if chunks.is_empty() {
         return Ok(());

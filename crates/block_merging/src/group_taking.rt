@@ -7,7 +7,7 @@ ghost use Rattle.block_merging.specs.Placed.{chunk_of};
 ghost use Rattle.block_merging.specs.Steps.{joined};
 ghost use Rattle.block_merging.specs.Queues.{IsQueue, have_lesser_labels, lesser, lefts_in, LeastIs, TakesGroup};
 
-use crate::InputChunk;
+use crate::input_chunk::InputChunk;
 use crate::series_queue::{SeriesQueue, next_labels, take_front};
 use index_v2::{LentLabel, compare_lent};
 use label_sets::{LabelSet, TextList};

@@ -5,7 +5,7 @@ ghost use Rattle.block_writing.specs.Writing.{chunk_in};
 ghost use Rattle.block_merging.specs.Placed.{chunk_of};
 ghost use Rattle.block_merging.specs.Queues.{IsStanding};
 
-use crate::InputChunk;
+use crate::input_chunk::InputChunk;
 use crate::standing_data::chunk_data;
 use index_parts::ChunkPlace;
 use list_core::NoMemory;

@@ -19,8 +19,6 @@ mod series_queue;
 mod standing_data;
 
 pub use block_merge::merge_blocks;
-pub use input_chunk::InputChunk;
 pub use laws::{compacted_blocks_fit, merge_has_content, merge_holds_first, merge_is_one};
 pub use merge_refusal::MergeRefusal;
 pub use mergeable::may_merge;
-pub use series_merge::merge_series;

@@ -3,7 +3,7 @@ ghost use Rattle.std.specs.Prelude.{◌≡◌, IfOk, OnOk};
 ghost use Rattle.list_core.specs.Ordered.{in_order};
 ghost use Rattle.block_merging.specs.Placed.{placed_from, begins_before, stands_before};
 
-use crate::InputChunk;
+use crate::input_chunk::InputChunk;
 use list_core::NoMemory;
 use std::alloc::Global;
 

@@ -15,7 +15,7 @@ ghost use Rattle.block_merging.specs.Placed.{chunk_of, placed_chunk, AreByBegin}
 ghost use Rattle.block_merging.specs.MergedSeries.{HasMerged};
 ghost use Rattle.block_merging.specs.Steps.{StandsFor, joined, run_in, HasParts, HasRun, HasRuns, HasSwept};
 
-use crate::InputChunk;
+use crate::input_chunk::InputChunk;
 use crate::placed_chunk::{PlacedChunk, placed, sort_by_begin, sort_by_place};
 use crate::runs::first_run;
 use block_writing::BlockWriter;
@@ -30,7 +30,7 @@ const PART: usize = 120;
 
 /// Puts the merge of the chunks of one series, and ends it. The chunks stand in the order of their blocks, of which an earlier
 /// one wins at a time that both have. The writer keeps the labels.
-pub fn merge_series(
+pub(crate) fn merge_series(
     alloc: Global,
     writer: &mut BlockWriter,
     labels: LabelSet,

@@ -9,7 +9,7 @@ ghost use Rattle.index_file.specs.declared.index_series.IndexSeries.{IndexSeries
 ghost use Rattle.block_merging.specs.Placed.{chunk_of};
 ghost use Rattle.block_merging.specs.Queues.{IsRead, IsNext, IsQueue, HasAdvanced, IsFrontOf, have_lesser_labels, left_in, LeastIs, head_is};
 
-use crate::InputChunk;
+use crate::input_chunk::InputChunk;
 use crate::lent_chunks::add_chunks;
 use crate::lent_labels::{are_same, kept_lent};
 use crate::listing::SeriesPlace;
@@ -107,7 +107,8 @@ pub(crate) fn next_labels<'q, 'a>(queue: &'q SeriesQueue<'a>) -> Option<&'q [Len
     ensures { (external : List Label) (replicas : List (List ℕ))
         → IsQueue external replicas queue.now
         → Rises have_lesser_labels (left_in external replicas queue.now)
-        → LeastIs (option_map (λ l. map as_label l.now) result) (left_in external replicas queue.now) }
+        → LeastIs (option_map (λ l. map as_label l.now) result)
+        (left_in external replicas queue.now) }
 {
     if queue.taken < queue.places.len() {
         Some(queue.labels.as_slice())

@@ -1,4 +1,4 @@
-use Rattle.std.proofs.Common.{◌-◌, refl, sym, get_or, arith, ◌∙◌}
+use Rattle.std.proofs.Common.{◌-◌, refl, get_or, arith}
 use Rattle.block_merging.proofs.SameLabels.{same_behind, differ_behind, not_as_many}
 use Rattle.block_merging.proofs.lent_labels.are_same.Goals as goal
 

@@ -1,4 +1,3 @@
-use Rattle.std.proofs.Common.{ℕ}
 use Rattle.block_merging.proofs.SameLabels.{SameBehind}
 use Rattle.block_merging.proofs.lent_labels.are_same.Given as goal
 
