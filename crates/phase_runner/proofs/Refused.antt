@@ -1,6 +1,6 @@
 -- A pass whose operation was answered that the journal is full has seen a full journal, and one for whose operation memory was
 -- wanted has not.
-use Rattle.std.proofs.Common.{◌≡◌, ◌⊎◌, ◌||◌, Bool, true, false, IsTrue, refl, ◌+◌, ◌≤◌, List, ◌++◌, length, sym, ap, ◌∙◌, subst, inl, inr, arith, length-append}
+use Rattle.std.proofs.Common.{◌≡◌, ◌⊎◌, ◌||◌, Bool, true, false, IsTrue, refl, ◌+◌, List, length, sym, ap, ◌∙◌, subst, inl, inr, arith, length-append}
 use Rattle.std.proofs.lemmas.List.Sums.{sum_by-append}
 use mathlib.Core.List.{IsPrefix}
 use Rattle.world_core.specs.Keeping.{IsFull, bytes_put, bytes_told, kept_bytes}

@@ -20,6 +20,10 @@ pub trait Job {
     /// Whether a job that came to this end says that it wanted memory.
     ghost wanted: { Self.End → Bool };
 
+    /// How heavy the job is: about as much as to put so many samples into a block, besides its operations. A phase whose jobs are light
+    /// has fewer threads.
+    fn weight(&self) -> u64;
+
     /// Does the job through a hand.
     fn run<H: Hand>(self, hand: &mut H) -> Self::End
         ensures run { (made : List Entry) × (H.entries hand.new ≡ H.entries hand.old ++ made)

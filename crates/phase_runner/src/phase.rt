@@ -24,7 +24,8 @@ pub struct PhaseEnd<E> {
     pub memory: bool,
 }
 
-/// Does jobs beside each other, each with a pass of its own, in as many threads as there are processors: two at least, 16 at most.
+/// Does jobs beside each other, each with a pass of its own, in at most as many threads as there are processors. On one processor these
+/// are two, and on many never more than 16. A phase of light jobs has at most three, however many processors there are.
 ///
 /// Of more jobs than threads, some are done one after another by one thread.
 ///

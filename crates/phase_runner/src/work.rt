@@ -45,21 +45,48 @@ const MOST_THREADS: usize = 16;
 /// And so many at least, where there are as many jobs, so that workers overlap on one processor too.
 const LEAST_THREADS: usize = 2;
 
-/// How many threads do so many jobs: one for each processor, within these bounds. More would gain nothing, and to start one takes
-/// longer than a small upload does.
-fn threads_for<R: Threads>(rt: &R, jobs: usize) -> usize
-    requires { 0 < jobs }
+/// So many do the jobs of a phase that is light.
+const LIGHT_THREADS: usize = 3;
+
+/// A phase is light where its jobs together are no heavier than this.
+const LIGHT: u64 = 100_000;
+
+/// How many threads do the jobs at most: one for each processor, within the bounds. More would gain nothing, and to start one takes
+/// longer than a small upload does. Of light jobs the operations, for which they wait on each other, are about half; and just to ask
+/// how many processors there are takes as long as one or two of them.
+fn threads_for<J: Job, R: Threads>(rt: &R, works: &[Work<J>]) -> usize
+    requires { 0 < length works.now }
     ensures { 0 < result }
 {
-    let processors = match thread::available_parallelism(rt) {
-        Ok(count) => count.get(),
-        Err(_) => LEAST_THREADS,
+    let most = if weight_of(works) <= LIGHT {
+        LIGHT_THREADS
+    } else {
+        processors(rt).max(LEAST_THREADS).min(MOST_THREADS)
     };
-    jobs.min(processors.max(LEAST_THREADS).min(MOST_THREADS))
+    works.len().min(most)
 }
 
-/// Does all jobs beside each other, in as many threads as `threads_for` says. Of more jobs than that, some are done one after another by
-/// one thread.
+/// How many processors there are, as far as the system tells.
+fn processors<R: Threads>(rt: &R) -> usize {
+    match thread::available_parallelism(rt) {
+        Ok(count) => count.get(),
+        Err(_) => LEAST_THREADS,
+    }
+}
+
+/// How heavy the jobs that wait are together.
+fn weight_of<J: Job>(works: &[Work<J>]) -> u64 {
+    let mut sum = 0u64;
+    for work in works {
+        if let Some(job) = &work.job {
+            sum = sum.saturating_add(job.weight());
+        }
+    }
+    sum
+}
+
+/// Does all jobs beside each other, in at most as many threads as `threads_for` says. Of more jobs than threads, some are done one after
+/// another by one thread.
 pub(crate) fn run_all<
     B: Bucket + Send,
     J: Job + Drop + Send,
@@ -77,7 +104,7 @@ where
     if works.is_empty() {
         return;
     }
-    let threads = threads_for(rt, works.len());
+    let threads = threads_for(rt, works);
     thread::for_each_mut(
         rt,
         works,

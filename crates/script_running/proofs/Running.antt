@@ -29,9 +29,6 @@ pub none_before : (script : Script) → seats_before script 0 ≡ 0
 unfolding seats_from
 none_before script = ap (seats_from (gateway_count script.gateways) 0) (take_none script.phases)
 
-pub fresh_joined : (opened : Opened) (known : Known) → known ≡ root opened → AllJoined known
-fresh_joined opened known is = subst AllJoined (sym is) (λ seat some less. absurd (omega (arith, some, less)))
-
 pub first_gone : (setting : Setting) (opened : Opened) (known : Known) (sights : List Sight) (outcomes : List Outcome) → known ≡ root opened → length sights ≡ length setting.script.gateways → All (λ (sight : Sight). sight ≡ no_sight) sights → outcomes ≡ [] → HasGone setting known [] sights outcomes
 first_gone setting opened known sights outcomes is each none empty =
     subst (HasGone setting known [] sights) (sym empty) (gone_none setting opened known sights is each (λ place sight at. at_place (λ (sight : Sight). sight ≡ no_sight) sights place sight none at))
@@ -42,7 +39,3 @@ run_came setting root tick journal sights outcomes (Ok done) lawful closes joine
     all_ran setting (script_is_cut_well setting) root tick journal closes joined (subst (λ (t : ℕ). IsJournal t journal) same kept) sights outcomes come
 run_came setting root tick journal sights outcomes (Err why) lawful closes joined kept same come =
     all_stopped setting (script_is_cut_well setting) root tick journal closes joined (subst (λ (t : ℕ). IsJournal t journal) same kept) lawful outcomes why come
-
--- what is known of a shared world that was closed is known of the world
-pub closes_as : (v : Known) (tick other : ℕ) (journal also : List Entry) → tick ≡ other → journal ≡ also → Closes v other also → Closes v tick journal
-closes_as v tick other journal also t j closes = subst (λ (n : ℕ). Closes v n journal) (sym t) (subst (λ (es : List Entry). Closes v other es) (sym j) closes)

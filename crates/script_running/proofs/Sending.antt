@@ -36,10 +36,6 @@ pub record AreSent (loan : Loan) (number : ℕ) (workers : List Worker) (before 
   pub sent : (held : Holdings) → AreSeen held before → AllZip (IsPostOf loan number held) workers posts
   pub left : (place : ℕ) (sight : Sight) → slice_get sights place ≡ Some sight → All (NotOf place) workers → slice_get before place ≡ Some sight
 
-pub none_sent : (loan : Loan) (number : ℕ) (workers : List Worker) (sights : List Sight) (posts : List Post) → posts ≡ [] → AreSent loan number (take 0 workers) sights sights posts
-none_sent loan number workers sights posts none = subst (λ (ps : List Post). AreSent loan number (take 0 workers) sights sights ps) (sym none)
-    (subst (λ (ws : List Worker). AreSent loan number ws sights sights []) (sym (take_none workers)) (record { sent = λ held seen. tt; left = λ place sight is none. is }))
-
 sees_own : (held : Holdings) (before : List Sight) (gateway : Option ℕ) (own : Sight) → AreSeen held before → (gateway ≡ None → own ≡ no_sight) → ((place : ℕ) → gateway ≡ Some place → slice_get before place ≡ Some own) → Sees (holding_of held gateway) own
 sees_own held before None own seen none named = subst (Sees nothing_held) (sym (none refl)) (record { view_is = refl; cache_is = refl })
 sees_own held before (Some place) own seen none named = seen place own (named place refl)

@@ -275,9 +275,6 @@ lay_step number places parts p x slots mid new at is within mid_is l =
     (subst (λ (os : List Part). AreLaid (p ∷ drop (number + 1) places) os slots new) (sym (drop_place parts number x is))
     (lays_one p (drop (number + 1) places) x (drop (number + 1) parts) slots new within (subst (λ (m : List (Option Part)). AreLaid (drop (number + 1) places) (drop (number + 1) parts) m new) mid_is l)))
 
-pub take_start : (workers : List Worker) (ends : List WorkerEnd) (sights seen : List Sight) (old new : Slots) → AreTakenIn (drop 0 workers) (drop 0 ends) sights seen old new → AreTakenIn workers ends sights seen old new
-take_start workers ends sights seen old new t = subst (λ (ws : List Worker). AreTakenIn ws ends sights seen old new) (drop_none workers) (subst (λ (es : List WorkerEnd). AreTakenIn (drop 0 workers) es sights seen old new) (drop_none ends) t)
-
 pub take_end : (number : ℕ) (workers : List Worker) (ends : List WorkerEnd) (sights : List Sight) (slots : Slots) → length workers ≤ number → length ends ≤ number → AreTakenIn (drop number workers) (drop number ends) sights sights slots slots
 take_end number workers ends sights slots past all =
     subst (λ (ws : List Worker). AreTakenIn ws (drop number ends) sights sights slots slots) (sym (drop_all number workers past))

@@ -28,14 +28,6 @@ none_taken place slots = record { wide = refl; others = λ gateway other apart. 
 pub then_taken : (place : ℕ) (old mid new : Slots) → IsTakenAt place old mid → IsTakenAt place mid new → IsTakenAt place old new
 then_taken place old mid new one two = record { wide = two.wide ∙ one.wide; others = λ gateway other apart. two.others gateway other apart ∙ one.others gateway other apart }
 
--- of those of no gateway
-pub upload_taken : (place : ℕ) (old new : Slots) → new.gateways ≡ old.gateways → ((other : ℕ) → other ≢ place → slice_get new.alone.slots.items other ≡ slice_get old.alone.slots.items other) → IsTakenAt place old new
-upload_taken place old new same others = record { wide = ap (λ v. length v.items) same; others = each }
-  where
-    each : (gateway : Option ℕ) (other : ℕ) → other ≢ place → slot_at new gateway other ≡ slot_at old gateway other
-    each None other apart = others other apart
-    each (Some gateway) other apart = ap (λ v. slot_in (slice_get v.items gateway) other) same
-
 -- of a gateway's
 pub gateway_taken : (place gateway : ℕ) (old new : Slots) (before after : Column) → new.alone ≡ old.alone → new.gateways.items ≡ set old.gateways.items gateway after → slice_get old.gateways.items gateway ≡ Some before → slice_get new.gateways.items gateway ≡ Some after
     → ((other : ℕ) → other ≢ place → slice_get after.slots.items other ≡ slice_get before.slots.items other) → IsTakenAt place old new

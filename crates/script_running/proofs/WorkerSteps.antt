@@ -297,13 +297,6 @@ at_place tasks place task within is = slice_get-get_or tasks place task within �
 front_more : (places : List ℕ) (number place : ℕ) → number < length places → place ≡ get_or places number place → take (number + 1) places ≡ take number places ++ place ∷ []
 front_more places number place below is = take_more places number place below ∙ ap (λ (p : ℕ). take number places ++ p ∷ []) (sym is)
 
--- what serves at all places serves at this one
-pub serves_at : (P : Task → Type 0) (tasks : List Task) (places : List ℕ) (number place : ℕ) (task : Task) → number < length places → place ≡ get_or places number place → place < length tasks → task ≡ get_or tasks place task
-    → All (λ p. IfSome (slice_get tasks p) P) places → P task
-serves_at P tasks places number place task below is within found serves =
-    subst (λ (o : Option Task). IfSome o P) (at_place tasks place task within found)
-    (member (λ p. IfSome (slice_get tasks p) P) places number place serves (slice_get-get_or places number place below ∙ ap Some (sym is)))
-
 parts_at : (places : List ℕ) (number place : ℕ) → number < length places → place ≡ get_or places number place → places ≡ take number places ++ place ∷ drop (number + 1) places
 parts_at [] number place below is = absurd (omega (arith, below))
 parts_at (p ∷ places) zero place below is = ap (λ (x : ℕ). x ∷ places) (sym is)

@@ -27,7 +27,8 @@ pub(crate) fn block_among<'a>(
     }
 }
 
-fn find_block(blocks: &[Block], ulid: Ulid) -> Option<&Block>
+/// The first of the blocks with a ULID.
+pub(crate) fn find_block(blocks: &[Block], ulid: Ulid) -> Option<&Block>
     ensures { option_map (λ block. block.now) result
         ≡ find (λ block. block.ulid == ulid) blocks.now }
 {

@@ -4,12 +4,12 @@ ghost use Rattle.matchers.specs.declared.matcher.Matcher.{Matcher};
 ghost use Rattle.script_running.specs.Lending.{AreTextsOf};
 
 use crate::ShelfBlock;
-use crate::declared::block_among;
-use label_sets::{Text, TextList};
+use crate::declared::{block_among, find_block};
+use label_sets::{Text, TextList, sample_count};
 use list_core::NoMemory;
 use matchers::{Selector, SelectorList};
 use moment_core::{PartitionList, Rules};
-use script_core::{Block, Script};
+use script_core::{Block, Body, Script, Work};
 use std::alloc::Global;
 use std::marker::Model;
 use std::snapshot::Snapshot;
@@ -113,6 +113,17 @@ impl<'a> Means<'a> {
         block_among(&self.script, self.blocks, ulid)
     }
 
+    /// How many samples an inline block has that a task ships. All else is as heavy as can be.
+    pub(crate) fn weight(&self, work: &Work) -> u64 {
+        let Work::Upload(ulid, _) = work else {
+            return u64::MAX;
+        };
+        match find_block(self.blocks, *ulid) {
+            Some(block) => samples_in(&block.body),
+            None => 0,
+        }
+    }
+
     /// The selector at a place, which is read from its text.
     pub(crate) fn selector(&self, alloc: Global, place: usize) -> Result<Selector, NoMemory>
         requires { place < length self.now.script.selectors }
@@ -120,6 +131,18 @@ impl<'a> Means<'a> {
             (λ selector. slice_get self.now.script.selectors place ≡ Some selector) }
     {
         read_at(alloc, self.texts, &self.rules.replicas, place)
+    }
+}
+
+/// How many samples an inline block has. That of the shelf may have any number.
+fn samples_in(body: &Body) -> u64 {
+    match body {
+        Body::Inline {
+            min_time: _,
+            max_time: _,
+            series,
+        } => sample_count(series.members()),
+        Body::OnShelf => u64::MAX,
     }
 }
 

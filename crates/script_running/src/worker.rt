@@ -92,6 +92,19 @@ impl<'a> Job for WorkerJob<'a> {
 
     ghost wanted = { λ end. is_short_end end.came };
 
+    /// Uploads of inline blocks are as heavy as their samples. All else is heavy.
+    fn weight(&self) -> u64 {
+        let mut sum = 0u64;
+        for place in self.worker.tasks.members() {
+            let own = match self.tasks.get(*place as usize) {
+                Some(task) => self.means.weight(&task.work),
+                None => 0,
+            };
+            sum = sum.saturating_add(own);
+        }
+        sum
+    }
+
     fn run<H: Hand>(self, hand: &mut H) -> WorkerEnd {
         let WorkerJob {
             alloc,
