@@ -6,6 +6,7 @@ pub mod LoadLaws
 pub mod Calls
 pub mod LoadSteps
 pub mod Stopped
+pub mod Ended
 pub mod Asked
 pub mod AskedBlock
 pub mod AskedSegments

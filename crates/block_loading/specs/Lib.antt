@@ -7,3 +7,4 @@ pub use Rattle.block_content.specs.Checking
 pub use Rattle.bucket_core.specs.Files
 pub mod Loading
 pub mod LoadReading
+pub mod LoadedChecks

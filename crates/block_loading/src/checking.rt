@@ -12,10 +12,8 @@ ghost use Rattle.bucket_core.specs.Contents.{Contents};
 ghost use Rattle.block_loading.specs.Loading.{IsLoaded, PassesOnShelf, RefusesOnShelf, AreWithinLimit, AreNamed, StopsOnShelf};
 ghost use Rattle.block_loading.specs.LoadReading.{KeepsShelf, AsksInOrder, WasBrokenOff, was_fault};
 
-use crate::LoadRefusal;
-use crate::loading::load_indexed;
-use crate::reading::refused_block;
-use block_content::{Checked, check_indexed};
+use crate::{LoadRefusal, LoadedBlock};
+use block_content::Checked;
 use bucket_core::Shelf;
 use std::alloc::Global;
 use ulid_core::Ulid;
@@ -58,9 +56,6 @@ pub fn check_on_shelf<F: Shelf>(
     // The files stay as they are, and the shelf's count rises just where a fault is answered.
     ensures kept { KeepsShelf F.files F.faults shelf.old shelf.new (was_fault result) }
 {
-    let (files, indexed) = load_indexed(alloc, shelf, ulid)?;
-    match check_indexed(alloc, ulid, files, &indexed) {
-        Ok(checked) => Ok(checked),
-        Err(refusal) => Err(refused_block(refusal)),
-    }
+    let block = LoadedBlock::load(alloc, shelf, ulid)?;
+    block.check(alloc)
 }

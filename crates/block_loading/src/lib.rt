@@ -3,9 +3,11 @@
 
 mod checking;
 mod load_refusal;
+mod loaded_block;
 mod loading;
 mod reading;
 
 pub use checking::check_on_shelf;
 pub use load_refusal::LoadRefusal;
-pub use loading::{load, load_indexed};
+pub use loaded_block::LoadedBlock;
+pub use loading::load;

@@ -45,7 +45,7 @@ fn read_block<F: Shelf>(
 }
 
 /// Loads a block's files from a shelf, as `load` does, with the series that were read of its index.
-pub fn load_indexed<F: Shelf>(
+pub(crate) fn load_indexed<F: Shelf>(
     alloc: Global,
     shelf: &mut F,
     ulid: Ulid,

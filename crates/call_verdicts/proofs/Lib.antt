@@ -8,6 +8,7 @@ pub mod Checks
 pub mod CheckedShelf
 pub mod ShelfAsked
 pub mod ShelfReads
+pub mod Stages
 pub mod BucketAsked
 pub mod Noted
 pub mod Saying

@@ -1,6 +1,6 @@
 -- What was read of the shelf for the blocks of a script, block after block, and what a run knows by it.
-use Rattle.std.proofs.Common.{◌≡◌, ◌≢◌, ◌⊎◌, ◌==◌, inl, inr, ℕ, ◌≤◌, Bool, true, false, List, [], ◌∷◌, ◌++◌, length, take, drop, map, cond, nat_eq, Contains, Option, None, Some, Result, Ok, Err, refl, sym, ◌∙◌, ap, subst, arith, append_assoc}
-use Rattle.std.specs.Prelude.{ℤ, IfErr, IfOk, IfSome, IsTrue, MatchResult, find, filter, is_some, option_map}
+use Rattle.std.proofs.Common.{◌≡◌, ◌≢◌, ◌==◌, inl, inr, ℕ, ◌≤◌, Bool, true, false, List, [], ◌∷◌, ◌++◌, length, take, drop, map, cond, nat_eq, Contains, Option, None, Some, Result, Ok, Err, refl, sym, ◌∙◌, ap, subst, arith, append_assoc}
+use Rattle.std.specs.Prelude.{ℤ, IfErr, IfOk, IfSome, MatchResult, find, filter, is_some, option_map}
 use Rattle.std.specs.List.{AllByRecursion, IsDistinct}
 use Rattle.std.proofs.lemmas.Bool.Decides.{nat_tests}
 use Rattle.std.proofs.lemmas.List.{append-nil, map-append, take-append-drop}
@@ -15,13 +15,11 @@ use Rattle.block_content.specs.Checked.{checked_files}
 use Rattle.block_content.specs.declared.check_refusal.CheckRefusal.{CheckRefusal}
 use Rattle.block_content.specs.declared.checked.Checked.{Checked as CheckedBlock}
 use Rattle.bucket_core.specs.Files.{file_limit}
-use Rattle.block_loading.specs.LoadReading.{was_fault}
 use Rattle.block_loading.specs.declared.load_refusal.LoadRefusal.{LoadRefusal}
 use Rattle.block_loading.specs.declared.load_refusal.LoadRefusal.TheVariants as load
 use Rattle.block_loading.specs.Loading.{AreWithinLimit, IsLoaded, PassesOnShelf, RefusesOnShelf, names_after, names_read}
 use Rattle.block_loading.proofs.Asked.{asks_then}
 use Rattle.bucket_core.specs.Asking.{Asks}
-use Rattle.bucket_core.specs.Causes.{Rose}
 use Rattle.bucket_core.specs.Contents.{Contents, nothing}
 use Rattle.script_core.specs.Lawful.{IsLawfulScript}
 use Rattle.script_core.specs.Reading.{script_of}
@@ -41,7 +39,6 @@ use Rattle.call_verdicts.specs.Kept.{IsShelfBack, told_of}
 use Rattle.call_verdicts.specs.ShelfReads.{AreRead, AsksFor, IsBrokenOff, IsFoundOf, IsOfShelf, IsReadBy, IsReadNext, IsReadOf, WhyUnread}
 use Rattle.call_verdicts.specs.Verdicts.{IfShort, IsScriptRead}
 use Rattle.call_verdicts.specs.declared.verdict.Verdict.{Verdict}
-use Rattle.call_verdicts.specs.declared.verdict.Verdict.TheVariants as verdict
 use Rattle.call_verdicts.proofs.Unfailed.{short_of}
 use Rattle.call_verdicts.proofs.Verdicts.{if_told}
 
@@ -108,6 +105,14 @@ module _ {F : Type 0} (asked : F → Option (List (List ℕ))) where
       let parts : shelf_ulids blocks ≡ shelf_ulids (take place blocks) ++ shelf_ulids (drop place blocks) =
       ap shelf_ulids (sym (take-append-drop place blocks)) ∙ all_ulids (take place blocks) (drop place blocks) in
       (names, subst (λ (us : List ℕ). AreNamesOf us names) (sym parts) (all_named (shelf_ulids (take place blocks)) (shelf_ulids (drop place blocks)) names are), was)
+
+  -- what was read of some first blocks of a part is of the whole part
+  pub read_begun : (front part : List Block) (place : ℕ) (shelf : F) → WasRead asked (shelf_ulids (front ++ take place part)) shelf → WasRead asked (shelf_ulids (front ++ part)) shelf
+  read_begun front part place shelf (names, are, was) =
+      let some = front ++ take place part in
+      let parts : shelf_ulids (front ++ part) ≡ shelf_ulids some ++ shelf_ulids (drop place part) =
+      ap (λ (bs : List Block). shelf_ulids (front ++ bs)) (sym (take-append-drop place part)) ∙ ap shelf_ulids (sym (append_assoc front (take place part) (drop place part))) ∙ all_ulids some (drop place part) in
+      (names, subst (λ (us : List ℕ). AreNamesOf us names) (sym parts) (all_named (shelf_ulids some) (shelf_ulids (drop place part)) names are), was)
 
   -- by a text that spells the script
   pub read_for : (text left : Option (List ℕ)) (script : Script) (shelf : F) → IsScriptRead text left script → WasRead asked (shelf_ulids script.blocks) shelf → WasReadFor asked text shelf
@@ -323,7 +328,7 @@ module _ (told : Contents) (block : Block) where
   of_found (Objects objects files) checked held by loaded refused = of_objects objects files.value checked held by loaded
   of_found (Refused number refusal) checked held by loaded refused = of_refusal refusal.value checked by refused
 
-if_any : {X : Type 0} (o : Option X) (P : X → Type 0) → ((x : X) → o ≡ Some x → P x) → IfSome o P
+pub if_any : {X : Type 0} (o : Option X) (P : X → Type 0) → ((x : X) → o ≡ Some x → P x) → IfSome o P
 if_any None P holds = tt
 if_any (Some x) P holds = holds x refl
 
@@ -337,22 +342,7 @@ found_of told block checked (Ok read) ulid held by loaded refused = record {
 }
 found_of told block checked (Err v) ulid held by loaded refused = tt
 
-pub why_of : (before after : ℕ) (checked : Result CheckedBlock LoadRefusal) (result : Result ShelfBlock Verdict) → (IsTrue (was_fault checked) → Rose before after) → (was_fault checked ≡ false → after ≡ before)
-    → (result ≡ Err verdict.SiteFault → checked ≡ Err load.ShelfFault) → (result ≡ Err verdict.NoMemory → was_fault checked ≡ false) → IfErr result (λ v. (v ≡ verdict.SiteFault) ⊎ (v ≡ verdict.NoMemory)) → IfErr result (WhyUnread before after)
-why_of before after checked (Ok read) rose calm fault memory only = tt
-why_of before after checked (Err v) rose calm fault memory (inl is) =
-    let failed : checked ≡ Err load.ShelfFault = fault (ap (λ (w : Verdict). Err w) is) in
-    inl (is, rose (subst IsTrue (sym (ap was_fault failed)) refl))
-why_of before after checked (Err v) rose calm fault memory (inr is) = inr (is, calm (memory (ap (λ (w : Verdict). Err w) is)))
-
-pub calm_of : (before after : ℕ) (checked : Result CheckedBlock LoadRefusal) (result : Result ShelfBlock Verdict) → (was_fault checked ≡ false → after ≡ before) → IfOk result (λ read. was_fault checked ≡ false) → IfOk result (λ read. after ≡ before)
-calm_of before after checked (Ok read) calm done = calm done
-calm_of before after checked (Err v) calm done = tt
-
 -- ---- the next block
-
-pub next_read : (told : Option Contents) (block : Block) (old new : List ShelfBlock) (came : Result ShelfBlock Verdict) (one : ShelfBlock) → block.body ≡ OnShelf → came ≡ Ok one → IfOk came (IsFoundOf told block) → new ≡ old ++ one ∷ [] → IsReadNext told block old new
-next_read told block old new came one on is found more = inr (on, one, more, subst (λ r. IfOk r (IsFoundOf told block)) is found)
 
 abbrev is_inline : Body → Type 0
 is_inline (Inline min_time max_time series) = Unit {0}

@@ -8,6 +8,7 @@ pub mod Statuses
 pub mod Undone
 pub mod Shippable
 pub mod ShelfReads
+pub mod Stages
 pub mod Verdicts
 pub mod Words
 pub use Rattle.world_core.specs.Worlds

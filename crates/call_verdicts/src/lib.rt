@@ -2,12 +2,14 @@
 #![tactic(auto)]
 
 mod check;
+mod check_way;
 mod conclusion;
 mod input;
 mod input_refusal;
 mod opening;
 mod output;
 mod run;
+mod shelf_loading;
 mod shelf_reading;
 mod status;
 mod status_number;
@@ -15,6 +17,7 @@ mod verdict;
 mod words;
 
 pub use check::check_block;
+pub use check_way::{CheckWay, InTurn, Stage};
 pub use conclusion::{Conclusion, Ended};
 pub use input::read_all;
 pub use input_refusal::InputRefusal;

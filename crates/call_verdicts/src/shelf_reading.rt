@@ -1,37 +1,44 @@
-//! The blocks that a script takes from the shelf, each of which is read once, before anything is done.
+//! The blocks that a script takes from the shelf, each of which is read once, before anything is done. Their files are loaded in the
+//! blocks' order, and then they are checked, in a way that the caller hands in.
 
-ghost use Rattle.std.specs.Prelude.{◌≡◌, ◌⊎◌, [], ℕ, false, Err, Some, IfErr, IfOk, IfSome, MatchResult, option_map};
-ghost use Rattle.bucket_core.specs.Asking.{Asks};
+ghost use Rattle.std.specs.Prelude.{◌≡◌, ◌⊎◌, ◌+◌, ◌≤◌, ◌++◌, [], List, Err, None, Option, Some, IfErr, IfOk, IfSome, MatchResult, length, option_map, take};
+ghost use Rattle.std.specs.List.{AllZip};
+ghost use Rattle.bucket_core.specs.Contents.{Contents};
 ghost use Rattle.block_content.specs.Checked.{checked_files, checked_samples, checked_series};
 ghost use Rattle.block_content.specs.Checking.{HasPassed};
-ghost use Rattle.block_loading.specs.Loading.{AreWithinLimit, names_read};
-ghost use Rattle.block_loading.specs.LoadReading.{was_fault};
+ghost use Rattle.block_loading.specs.Loading.{AreWithinLimit};
 ghost use Rattle.script_core.specs.Lawful.{IsLawfulScript};
+ghost use Rattle.script_core.specs.declared.block.Block.{Block};
 ghost use Rattle.report_lines.specs.script_running.specs.Shelves.{AreAllAtHand, IsHeld, read_as, setting_by};
 ghost use Rattle.call_verdicts.specs.Asked.{WasAsked, WasRead, shelf_ulids};
 ghost use Rattle.call_verdicts.specs.Checks.{HasFailed, files_in};
-ghost use Rattle.call_verdicts.specs.ShelfReads.{AreRead, AsksFor, IsBrokenOff, IsFoundOf, IsOfShelf, IsReadBy, IsReadNext, WhyUnread};
+ghost use Rattle.call_verdicts.specs.ShelfReads.{AreRead, IsBrokenOff, IsOfShelf, IsReadBy, IsReadNext, WhyUnread};
+ghost use Rattle.call_verdicts.specs.Stages.{IsEndedFor};
 ghost use Rattle.call_verdicts.specs.Verdicts.{IfShort};
 
-use crate::Verdict;
+use crate::shelf_loading::load_group;
+use crate::{CheckWay, Stage, Verdict};
 use block_content::Checked;
-use block_loading::{LoadRefusal, check_on_shelf};
+use block_loading::LoadRefusal;
 use bucket_core::Shelf;
 use list_core::NoMemory;
 use report_lines::script_running::{ShelfBlock, ShelfBlockList};
-use script_core::{Block, Body, Script};
+use script_core::{Block, Script};
 use std::alloc::Global;
+use std::mem;
 
 /// What was read of the blocks that a script takes from the shelf, or what broke that off.
 pub type ReadBlocks = Result<ShelfBlockList, Verdict>;
 
-/// Reads the blocks that the script takes from the shelf. Without a shelf there is none of them.
-pub fn read_blocks<F: Shelf>(
+/// Reads the blocks that the script takes from the shelf, and checks them in this way. Without a shelf there is none of them.
+pub fn read_blocks<F: Shelf, W: CheckWay>(
     alloc: Global,
     script: &Script,
     shelf: Option<F>,
+    way: &W,
 ) -> (ReadBlocks, Option<F>)
     requires lawful { IsLawfulScript script.now }
+    requires way { W.can_check way.now }
     ensures at_hand { IfOk result.0 (λ blocks. AreAllAtHand script.now blocks) }
 
     // Where the shelf tells its files, what was read is of them.
@@ -51,7 +58,7 @@ pub fn read_blocks<F: Shelf>(
 {
     match shelf {
         Some(shelf) => {
-            let (read, shelf) = read_each(alloc, script.blocks.members(), shelf);
+            let (read, shelf) = read_each(alloc, script.blocks.members(), shelf, way);
             (read, Some(shelf))
         }
         None => (Ok(ShelfBlockList::new(alloc)), None),
@@ -59,7 +66,13 @@ pub fn read_blocks<F: Shelf>(
 }
 
 /// Reads those of the blocks that are taken from the shelf, in their order.
-fn read_each<F: Shelf>(alloc: Global, blocks: &[Block], shelf: F) -> (ReadBlocks, F)
+fn read_each<F: Shelf, W: CheckWay>(
+    alloc: Global,
+    blocks: &[Block],
+    shelf: F,
+    way: &W,
+) -> (ReadBlocks, F)
+    requires { W.can_check way.now }
     ensures read { IfOk result.0
         (λ read. AreRead (F.files shelf) blocks.now read) }
     ensures broken { IfErr result.0 (WhyUnread (F.faults shelf) (F.faults result.1)) }
@@ -70,9 +83,13 @@ fn read_each<F: Shelf>(alloc: Global, blocks: &[Block], shelf: F) -> (ReadBlocks
 {
     let mut shelf = shelf;
     let mut read = ShelfBlockList::new(alloc);
-    for block in blocks {
-        let (came, next) = read_next(alloc, block, &mut read, shelf);
+    let mut start = 0;
+    while start < blocks.len() {
+        let count = way.at_once().min(blocks.len() - start);
+        let group = part_of(blocks, start, count);
+        let (came, next) = read_group(alloc, group, &mut read, shelf, way);
         shelf = next;
+        start += count;
         if let Err(verdict) = came {
             drop(read);
             return (Err(verdict), shelf);
@@ -81,47 +98,86 @@ fn read_each<F: Shelf>(alloc: Global, blocks: &[Block], shelf: F) -> (ReadBlocks
     (Ok(read), shelf)
 }
 
-/// Reads the block where the script takes it from the shelf.
-#[tactic(auto, using(crate::proofs::ShelfReads::next_read, crate::proofs::ShelfReads::inline_apart))]
-fn read_next<F: Shelf>(
+/// So many blocks from a place on.
+fn part_of(blocks: &[Block], start: usize, count: usize) -> &[Block]
+    requires { start + count ≤ length blocks.now }
+    ensures { take start blocks.now ++ result.now ≡ take (start + count) blocks.now }
+{
+    &blocks[start..start + count]
+}
+
+/// Loads those of a group that are taken from the shelf, and then checks them.
+fn read_group<F: Shelf, W: CheckWay>(
     alloc: Global,
-    block: &Block,
+    group: &[Block],
     read: &mut ShelfBlockList,
     shelf: F,
+    way: &W,
 ) -> (Result<(), Verdict>, F)
-    ensures read { IfOk result.0
-        (λ _. IsReadNext (F.files shelf) block.now read.old read.new) }
+    requires { W.can_check way.now }
+    ensures read { (before : List Block) → AreRead (F.files shelf) before read.old
+        → IfOk result.0 (λ _. AreRead (F.files shelf) (before ++ group.now) read.new) }
     ensures broken { IfErr result.0 (WhyUnread (F.faults shelf) (F.faults result.1)) }
     ensures calm { IfOk result.0 (λ _. F.faults result.1 ≡ F.faults shelf) }
-    ensures asks { AsksFor F.asked shelf result.1 block.now }
+    ensures asked { (front : List Block) → WasRead F.asked (shelf_ulids front) shelf
+        → WasRead F.asked (shelf_ulids (front ++ group.now)) result.1 }
     ensures same { F.files result.1 ≡ F.files shelf }
 {
-    match &block.body {
-        Body::OnShelf => {
-            let (came, shelf) = read_block(alloc, block, shelf);
-            match came {
-                Ok(one) => match read.push(one) {
-                    Ok(()) => (Ok(()), shelf),
-                    Err(_) => (Err(Verdict::NoMemory), shelf),
-                },
-                Err(verdict) => (Err(verdict), shelf),
-            }
+    let (loaded, shelf) = load_group(alloc, group, shelf);
+    match loaded {
+        Ok(mut stages) => {
+            let all = stages.as_mut_slice();
+            way.check_all(alloc, all);
+            (keep_group(alloc, group, all, read), shelf)
         }
-        Body::Inline { .. } => (Ok(()), shelf),
+        Err(verdict) => (Err(verdict), shelf),
     }
 }
 
-/// Reads a block of the shelf.
-fn read_block<F: Shelf>(alloc: Global, block: &Block, shelf: F) -> (Result<ShelfBlock, Verdict>, F)
-    ensures found { IfOk result.0 (IsFoundOf (F.files shelf) block.now) }
-    ensures broken { IfErr result.0 (WhyUnread (F.faults shelf) (F.faults result.1)) }
-    ensures calm { IfOk result.0 (λ _. F.faults result.1 ≡ F.faults shelf) }
-    ensures asks { (count : ℕ) × Asks F.asked shelf result.1 (names_read block.now.ulid count) }
-    ensures same { F.files result.1 ≡ F.files shelf }
+/// Keeps what was read of a group. The end of each check is known.
+fn keep_group(
+    alloc: Global,
+    group: &[Block],
+    stages: &mut [Stage],
+    read: &mut ShelfBlockList,
+) -> Result<(), Verdict>
+    requires many { length stages.old ≡ length group.now }
+    requires ended { AllZip (IsEndedFor None) group.now stages.old }
+    ensures read { (told : Option Contents) (before : List Block)
+        → AllZip (IsEndedFor told) group.now stages.old → AreRead told before read.old
+        → IfOk result (λ _. AreRead told (before ++ group.now) read.new) }
+    ensures only { IfErr result (λ verdict. verdict ≡ Verdict.NoMemory) }
 {
-    let mut shelf = shelf;
-    let checked = check_on_shelf(alloc, &mut shelf, block.ulid);
-    (read_of(alloc, block, checked), shelf)
+    for place in 0..group.len() {
+        let stage = mem::replace(&mut stages[place], Stage::Aside);
+        keep_next(alloc, &group[place], stage, read)?;
+    }
+    Ok(())
+}
+
+/// Keeps what was read of the block, where the script takes it from the shelf.
+fn keep_next(
+    alloc: Global,
+    block: &Block,
+    stage: Stage,
+    read: &mut ShelfBlockList,
+) -> Result<(), Verdict>
+    requires { IsEndedFor None block.now stage }
+    ensures read { (told : Option Contents) → IsEndedFor told block.now stage
+        → IfOk result (λ _. IsReadNext told block.now read.old read.new) }
+    ensures only { IfErr result (λ verdict. verdict ≡ Verdict.NoMemory) }
+{
+    match stage {
+        Stage::Ended(checked) => {
+            let one = read_of(alloc, block, checked)?;
+            match read.push(one) {
+                Ok(()) => Ok(()),
+                Err(_) => Err(Verdict::NoMemory),
+            }
+        }
+        Stage::Aside => Ok(()),
+        Stage::Loaded(_) => unreachable!(),
+    }
 }
 
 /// What was read of a block, by its check.
@@ -140,8 +196,6 @@ fn read_of(
     ensures fault { result ≡ Err Verdict.SiteFault → checked ≡ Err LoadRefusal.ShelfFault }
     ensures only { IfErr result
         (λ verdict. (verdict ≡ Verdict.SiteFault) ⊎ (verdict ≡ Verdict.NoMemory)) }
-    ensures memory { result ≡ Err Verdict.NoMemory → was_fault checked ≡ false }
-    ensures done { IfOk result (λ _. was_fault checked ≡ false) }
 {
     match checked {
         Ok(checked) => match ShelfBlock::of_checked(alloc, block, checked) {

@@ -1,6 +1,7 @@
 //! The program as a library: it reads words and a script, runs the script over a bucket, and writes the report.
 #![tactic(auto)]
 
+mod checking;
 mod day;
 mod laws;
 mod preparing;

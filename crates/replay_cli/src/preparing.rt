@@ -5,7 +5,7 @@ ghost use Rattle.replay_cli.specs.Calls.{IsEndOfRun, Prepares, outside};
 
 use bucket_core::{Bucket, Site, Source};
 use call_verdicts::script_running::ShelfBlockList;
-use call_verdicts::{Conclusion, Ended, Ready, Verdict, read_and_open, read_blocks};
+use call_verdicts::{CheckWay, Conclusion, Ended, Ready, Verdict, read_and_open, read_blocks};
 use run_notes::Finished;
 use script_core::Script;
 use std::alloc::Global;
@@ -21,14 +21,16 @@ pub(crate) struct Prepared<B: Bucket, F> {
     pub(crate) shelf: Option<F>,
 }
 
-/// Reads the script and the blocks that it takes from the shelf, and opens the bucket; or ends the call.
-pub(crate) fn prepare<S: Site, R: Source>(
+/// Reads the script and the blocks that it takes from the shelf, which are checked in this way, and opens the bucket; or ends the call.
+pub(crate) fn prepare<S: Site, R: Source, W: CheckWay>(
     alloc: Global,
     bucket: &str,
     shelf: &str,
     site: &mut S,
     script: &mut R,
+    way: &W,
 ) -> Result<Prepared<S::Store, S::Files>, Ended<S::Store, S::Files>>
+    requires { W.can_check way.now }
     ensures { Prepares (outside R.left R.faults script.old script.new
         S.buckets S.next_bucket S.shelves S.next_shelf S.faults site.old site.new
         S.Store.contents S.Store.faults S.Store.asked S.Files.files S.Files.faults S.Files.asked
@@ -42,7 +44,7 @@ pub(crate) fn prepare<S: Site, R: Source>(
                 shelf,
             },
         ) => {
-            let (read, shelf) = read_blocks(alloc, &script, shelf);
+            let (read, shelf) = read_blocks(alloc, &script, shelf, way);
             match read {
                 Ok(blocks) => Ok(Prepared {
                     script,

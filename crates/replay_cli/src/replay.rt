@@ -9,6 +9,7 @@ ghost use Rattle.call_verdicts.specs.Statuses.{number_of};
 ghost use Rattle.call_verdicts.specs.Verdicts.{EndsCalmly, IsCaused, IsSaid, around_call, saying_to};
 ghost use Rattle.call_verdicts.specs.Words.{named_by, replay_shelf, replay_word};
 
+use crate::checking::Beside;
 use crate::preparing::{Prepared, end_run, prepare};
 use crate::runner::run_with_threads;
 use bucket_core::{Sink, Site, Source};
@@ -145,7 +146,7 @@ where
         S.Store.contents S.Store.faults S.Store.asked S.Files.files S.Files.faults S.Files.asked
         bucket.now (named_by shelf.now)) result }
 {
-    match prepare(alloc, bucket, shelf, site, script) {
+    match prepare(alloc, bucket, shelf, site, script, &Beside { rt }) {
         Ok(
             Prepared {
                 script,

@@ -16,7 +16,8 @@ use crate::preparing::{Prepared, end_run, prepare};
 use crate::runner::run_in_line;
 use bucket_core::{Sink, Site, Source};
 use call_verdicts::{
-    Conclusion, Ended, Run, Status, Verdict, check_block, read_check, read_generate, read_serial,
+    Conclusion, Ended, InTurn, Run, Status, Verdict, check_block, read_check, read_generate,
+    read_serial,
 };
 use std::alloc::Global;
 
@@ -176,7 +177,7 @@ fn read_and_run<S: Site, R: Source>(
         S.Store.contents S.Store.faults S.Store.asked S.Files.files S.Files.faults S.Files.asked
         bucket.now (named_by shelf.now)) result }
 {
-    match prepare(alloc, bucket, shelf, site, script) {
+    match prepare(alloc, bucket, shelf, site, script, &InTurn) {
         Ok(
             Prepared {
                 script,

@@ -1,75 +1,73 @@
-use Rattle.std.proofs.Common.{List, inl, inr, subst, sym, refl, ap, ◌∙◌}
-use Rattle.index_file.specs.declared.index_series.IndexSeries.{IndexSeries}
-use Rattle.reading_core.proofs.Binds.{err_is}
+use Rattle.std.proofs.Common.{inl, inr, subst}
 use Rattle.block_files.specs.declared.block_files.BlockFiles.{BlockFiles}
-use Rattle.block_content.specs.Checking.{Passes, RefusesBlock}
-use Rattle.block_content.specs.declared.checked.Checked.{Checked}
-use Rattle.block_loading.specs.declared.load_refusal.LoadRefusal.TheVariants.{Refused}
-use Rattle.block_loading.specs.Loading.{AreWithinLimit, AreNamed, StopsAt, StopsOnShelf}
-use Rattle.block_loading.specs.LoadReading.{is_fault}
-use Rattle.block_loading.proofs.Stopped.{check_said, block_calm}
-use Rattle.block_loading.proofs.Calls.{answered, had_memory, passed_on, error_on, not_stopped, not_refused, check_refused, check_refuses, check_passes}
+use Rattle.block_loading.specs.Loading.{AreNamed, AreWithinLimit, IsLoaded, StopsAt, StopsOnShelf}
+use Rattle.block_loading.specs.LoadedChecks.{EndsCheck, loaded_files, loaded_ulid}
+use Rattle.block_loading.specs.declared.loaded_block.LoadedBlock.{LoadedBlock}
+use Rattle.block_loading.proofs.Calls.{answered, error_on, not_stopped, passed_on}
 use Rattle.block_loading.proofs.AskedBlock.{asked_on, asked_whole}
+use Rattle.block_loading.proofs.Ended.{checked_here, ended_as, ended_calm, ended_few, ended_moved, ended_passed, ended_passes, ended_refused, ended_refuses, ended_said, ended_segments}
 use Rattle.block_loading.proofs.checking.check_on_shelf.Goals as goal
 
-pub returns-in_err-files-clause-passes : goal.returns-in_err-files-clause-passes
-returns-in_err-files-clause-passes g c = λ told h files list is. inr (passed_on c.from_residual.result c.in_err-files.field-0.0 c.from_residual.ensures.1 (c.in_err-files.ensures.only told h files is.loaded))
+-- ---- it was not loaded
 
-pub returns-in_err-files-clause-refuses : goal.returns-in_err-files-clause-refuses
-returns-in_err-files-clause-refuses g c = λ told h refusal is.
+pub returns-in_err-block-clause-passes : goal.returns-in_err-block-clause-passes
+returns-in_err-block-clause-passes g c = λ told h files list is. inr (passed_on c.from_residual.result c.in_err-block.field-0.0 c.from_residual.ensures.1 (c.in_err-block.ensures.only told h files is.loaded))
+
+pub returns-in_err-block-clause-refuses : goal.returns-in_err-block-clause-refuses
+returns-in_err-block-clause-refuses g c = λ told h refusal is.
     elim is [
-      | inl load ↦ error_on c.from_residual.result c.in_err-files.field-0.0 refusal c.from_residual.ensures.1 (c.in_err-files.ensures.refuses told h refusal load)
-      | inr (files, loaded, refuses) ↦ inr (passed_on c.from_residual.result c.in_err-files.field-0.0 c.from_residual.ensures.1 (c.in_err-files.ensures.only told h files loaded))
+      | inl load ↦ error_on c.from_residual.result c.in_err-block.field-0.0 refusal c.from_residual.ensures.1 (c.in_err-block.ensures.refuses told h refusal load)
+      | inr (files, loaded, refuses) ↦ inr (passed_on c.from_residual.result c.in_err-block.field-0.0 c.from_residual.ensures.1 (c.in_err-block.ensures.only told h files loaded))
     ]
 
-pub returns-in-Ok-clause-passes : goal.returns-in-Ok-clause-passes
-returns-in-Ok-clause-passes g c = λ told h files list is.
-    let same = answered _ (c.in_ok-files.ensures.only told h files is.loaded) in
-    let told_is = had_memory _ (c.in-Ok.ensures.passes list (subst (λ (f : BlockFiles). Passes c.args.ulid f list) (sym same) is.passes)) in
-    inl (told_is.0 ∙ same, told_is.1, told_is.2)
+pub returns-in_err-block-clause-asks : goal.returns-in_err-block-clause-asks
+returns-in_err-block-clause-asks g c = asked_on g.F.Shelf.files g.F.Shelf.asked g.F.Shelf.faults _ _ _ _ c.args.ulid (StopsAt c.args.ulid) (StopsOnShelf c.args.ulid) c.from_residual.result c.in_err-block.field-0.0 c.from_residual.ensures.1 (λ count refusal stops. inl stops) c.in_err-block.ensures.asks
 
-pub returns-in-Ok-clause-refuses : goal.returns-in-Ok-clause-refuses
-returns-in-Ok-clause-refuses g c = λ told h refusal is.
-    elim is [
-      | inl load ↦ absurd (not_stopped _ refusal (c.in_ok-files.ensures.refuses told h refusal load))
-      | inr (files, loaded, refuses) ↦
-          let same = answered _ (c.in_ok-files.ensures.only told h files loaded) in
-          absurd (not_refused _ refusal (c.in-Ok.ensures.refuses refusal (subst (λ (f : BlockFiles). RefusesBlock c.args.ulid f refusal) (sym same) refuses)))
-    ]
+-- ---- it was loaded, and its check ended so
+
+pub returns-clause-passed : goal.returns-clause-passed
+returns-clause-passed g c = ended_passed c.args.ulid (loaded_files c.in_ok-block.block) c.check.result (ended_moved _ _ _ _ c.in_ok-block.ensures.ulid c.check.ensures)
+
+pub returns-clause-few : goal.returns-clause-few
+returns-clause-few g c = ended_few c.args.ulid (loaded_files c.in_ok-block.block) c.check.result (ended_moved _ _ _ _ c.in_ok-block.ensures.ulid c.check.ensures)
+
+pub returns-clause-within : goal.returns-clause-within
+returns-clause-within g c = ended_as c.args.ulid (loaded_files c.in_ok-block.block) AreWithinLimit c.in_ok-block.ensures.within c.check.result (ended_moved _ _ _ _ c.in_ok-block.ensures.ulid c.check.ensures)
+
+pub returns-clause-named : goal.returns-clause-named
+returns-clause-named g c = ended_as c.args.ulid (loaded_files c.in_ok-block.block) AreNamed c.in_ok-block.ensures.named c.check.result (ended_moved _ _ _ _ c.in_ok-block.ensures.ulid c.check.ensures)
+
+pub returns-clause-found : goal.returns-clause-found
+returns-clause-found g c = λ told h. ended_as c.args.ulid (loaded_files c.in_ok-block.block) (IsLoaded told c.args.ulid) (c.in_ok-block.ensures.found told h) c.check.result (ended_moved _ _ _ _ c.in_ok-block.ensures.ulid c.check.ensures)
 
 pub returns-clause-passes : goal.returns-clause-passes
 returns-clause-passes g c = λ told h files list is.
-    let same = answered _ (c.in_ok-files.ensures.only told h files is.loaded) in
-    inr (check_passes c.in-Err.refusal c.refused_block.result (c.in-Err.ensures.passes list (subst (λ (f : BlockFiles). Passes c.args.ulid f list) (sym same) is.passes)) c.refused_block.ensures)
+    let same = answered _ (c.in_ok-block.ensures.only told h files is.loaded) in
+    let ends = subst (λ (f : BlockFiles). EndsCheck c.args.ulid f c.check.result) same (ended_moved _ _ _ _ c.in_ok-block.ensures.ulid c.check.ensures) in
+    ended_passes c.args.ulid files list c.check.result ends is.passes
 
 pub returns-clause-refused : goal.returns-clause-refused
 returns-clause-refused g c = λ told h refusal same.
-    check_refused told c.args.ulid c.in_ok-files.files (c.in_ok-files.ensures.found told h) c.in-Err.refusal c.refused_block.result refusal c.in-Err.ensures.refused c.refused_block.ensures (err_is {A = Checked} c.refused_block.result (Refused refusal) same)
+    ended_refused told c.args.ulid (loaded_files c.in_ok-block.block) (c.in_ok-block.ensures.found told h) refusal c.check.result (ended_moved _ _ _ _ c.in_ok-block.ensures.ulid c.check.ensures) same
 
 pub returns-clause-refuses : goal.returns-clause-refuses
 returns-clause-refuses g c = λ told h refusal is.
     elim is [
-      | inl load ↦ absurd (not_stopped _ refusal (c.in_ok-files.ensures.refuses told h refusal load))
+      | inl load ↦ absurd (not_stopped _ refusal (c.in_ok-block.ensures.refuses told h refusal load))
       | inr (files, loaded, refuses) ↦
-          let same = answered _ (c.in_ok-files.ensures.only told h files loaded) in
-          let here = subst (λ (f : BlockFiles). RefusesBlock c.args.ulid f refusal) (sym same) refuses in
-          check_refuses c.args.ulid c.in_ok-files.files c.in-Err.refusal refusal c.refused_block.result here (c.in-Err.ensures.refuses refusal here) c.refused_block.ensures
+          let same = answered _ (c.in_ok-block.ensures.only told h files loaded) in
+          let ends = subst (λ (f : BlockFiles). EndsCheck c.args.ulid f c.check.result) same (ended_moved _ _ _ _ c.in_ok-block.ensures.ulid c.check.ensures) in
+          ended_refuses c.args.ulid files refusal c.check.result ends refuses
     ]
 
-pub returns-in_err-files-clause-asks : goal.returns-in_err-files-clause-asks
-returns-in_err-files-clause-asks g c = asked_on g.F.Shelf.files g.F.Shelf.asked g.F.Shelf.faults _ _ _ _ c.args.ulid (StopsAt c.args.ulid) (StopsOnShelf c.args.ulid) c.from_residual.result c.in_err-files.field-0.0 c.from_residual.ensures.1 (λ count refusal stops. inl stops) c.in_err-files.ensures.asks
-
-pub returns-in-Ok-clause-asks : goal.returns-in-Ok-clause-asks
-returns-in-Ok-clause-asks g c = asked_whole g.F.Shelf.files g.F.Shelf.asked g.F.Shelf.faults _ _ _ _ c.args.ulid (StopsAt c.args.ulid) (StopsOnShelf c.args.ulid) _ _ (ap (λ (f : BlockFiles). f.segments) c.in-Ok.ensures.found.0) (λ count whole. tt) refl c.in_ok-files.ensures.asks
-
 pub returns-clause-asks : goal.returns-clause-asks
-returns-clause-asks g c = asked_whole g.F.Shelf.files g.F.Shelf.asked g.F.Shelf.faults (λ (x : BlockFiles × List IndexSeries). x.0.segments) _ _ _ c.args.ulid (StopsAt c.args.ulid) (StopsOnShelf c.args.ulid) (c.in_ok-files.files, c.in_ok-files.indexed) _ tt
-    (λ count whole. check_said (StopsOnShelf c.args.ulid count) c.args.ulid c.in_ok-files.files c.in-Err.refusal c.refused_block.result c.in-Err.ensures.refused c.refused_block.ensures
-    (λ why. inr (record { files = c.in_ok-files.files; within = c.in_ok-files.ensures.within; named = (c.in_ok-files.indexed, c.in_ok-files.ensures.read.1, c.in_ok-files.ensures.named); count_is = whole; refused = why })))
-    (ap is_fault c.refused_block.ensures ∙ block_calm c.in-Err.refusal) c.in_ok-files.ensures.asks
+returns-clause-asks g c =
+    let files = loaded_files c.in_ok-block.block in
+    let ends = ended_moved _ _ _ _ c.in_ok-block.ensures.ulid c.check.ensures in
+    asked_whole g.F.Shelf.files g.F.Shelf.asked g.F.Shelf.faults (λ (block : LoadedBlock). (loaded_files block).segments) _ _ _ c.args.ulid (StopsAt c.args.ulid) (StopsOnShelf c.args.ulid) c.in_ok-block.block c.check.result (ended_segments c.args.ulid files c.check.result ends)
+    (λ count whole. ended_said c.args.ulid files (StopsOnShelf c.args.ulid count) c.check.result ends
+    (λ refusal why. inr (record { files = files; within = c.in_ok-block.ensures.within; named = c.in_ok-block.ensures.named; count_is = whole; refused = why })))
+    (ended_calm c.args.ulid files c.check.result ends) c.in_ok-block.ensures.asks
 
-pub returns-in-Ok-clause-within : goal.returns-in-Ok-clause-within
-returns-in-Ok-clause-within g c = subst AreWithinLimit (sym c.in-Ok.ensures.found.0) c.in_ok-files.ensures.within
-
-pub returns-in-Ok-clause-named : goal.returns-in-Ok-clause-named
-returns-in-Ok-clause-named g c = subst AreNamed (sym c.in-Ok.ensures.found.0) (c.in_ok-files.indexed, c.in_ok-files.ensures.read.1, c.in_ok-files.ensures.named)
+pub returns-clause-kept : goal.returns-clause-kept
+returns-clause-kept g c = checked_here g.F.Shelf.files g.F.Shelf.faults _ _ (loaded_ulid c.in_ok-block.block) (loaded_files c.in_ok-block.block) c.check.result c.check.ensures c.in_ok-block.ensures.kept
