@@ -1,9 +1,9 @@
 -- What a cleaning asks for.
-use Rattle.std.proofs.Common.{◌≡◌, ◌⊎◌, inl, inr, ℕ, ◌<◌, ◌^◌, Bool, true, false, List, [], ◌∷◌, ◌++◌, Option, Some, None, Contains, refl, sym, ◌∙◌, ap, subst, append_assoc, append-nil, codes, cond}
+use Rattle.std.proofs.Common.{◌≡◌, inl, inr, ℕ, ◌<◌, ◌^◌, Bool, true, false, List, [], ◌∷◌, ◌++◌, Option, Some, None, Contains, refl, sym, ◌∙◌, ap, subst, append_assoc, append-nil, codes, cond}
 use Rattle.std.specs.Prelude.{option_map}
-use Rattle.std.specs.List.{All, AllByRecursion, cons_option, filter_map}
+use Rattle.std.specs.List.{AllByRecursion, cons_option}
 use Rattle.std.specs.Str.{bytes_eq}
-use Rattle.std.proofs.lemmas.List.Elements.{All-append, Contains-append_left, Contains-push}
+use Rattle.std.proofs.lemmas.List.Elements.{Contains-append_left, Contains-push}
 use Rattle.block_keys.specs.Keys.{key_ulid}
 use Rattle.block_keys.specs.KeyText.{key_named, segment_of}
 use Rattle.block_keys.specs.declared.key.Key.{Key}
@@ -12,7 +12,7 @@ use Rattle.block_meta.specs.MetaFields.{MarkFields}
 use Rattle.block_meta.specs.OfBlocks.{block_mark}
 use Rattle.moment_core.specs.declared.rules.Rules.{Rules}
 use Rattle.world_core.specs.Limits.{most_listed}
-use Rattle.world_core.specs.Plans.{Plan, Runs, choose}
+use Rattle.world_core.specs.Plans.{Plan, choose}
 use Rattle.world_core.specs.Walks.{ulids_in}
 use Rattle.world_core.specs.declared.op.Op.{Op}
 use Rattle.world_core.specs.declared.op.Op.TheVariants as op
@@ -20,7 +20,7 @@ use Rattle.world_core.specs.declared.reply.Reply.TheVariants as reply
 use Rattle.world_core.specs.declared.entry.Entry.{Entry}
 use Rattle.world_core.proofs.PlanLaws.{AsksFor, EachAfter, asked_are}
 use Rattle.world_core.proofs.PlanWords.{chosen, gets_ask}
-use Rattle.cleaner.specs.Cleanings.{CleanRun, Counts, cleaning, deleting, deletion, if_mark, listing, looking, none_deleted, one_block_more, one_partial_more, reads_meta, rules_of, walk_ends, walking}
+use Rattle.cleaner.specs.Cleanings.{CleanRun, Counts, cleaning, deleting, deletion, if_mark, looking, none_deleted, one_block_more, one_partial_more, reads_meta, rules_of, walk_ends}
 use Rattle.cleaner.specs.Marks.{is_old_block, is_old_mark}
 use Rattle.cleaner.specs.Objects.{data_keys, data_named, objects_of, only_data}
 use Rattle.cleaner.specs.declared.clean_end.CleanEnd.{CleanEnd}

@@ -1,5 +1,5 @@
 -- What a compaction asks for.
-use Rattle.std.proofs.Common.{◌≡◌, ◌≢◌, ℕ, ◌+◌, List, [], ◌∷◌, ◌++◌, map, Contains, Option, Some, None, refl, sym, ◌∙◌, ap, subst, append_assoc, append-nil}
+use Rattle.std.proofs.Common.{◌≡◌, ℕ, ◌+◌, List, [], ◌∷◌, ◌++◌, Contains, Option, Some, None, refl, sym, ◌∙◌, ap, subst, append_assoc, append-nil}
 use Rattle.std.specs.List.{AllByRecursion, AllZip}
 use Rattle.list_core.proofs.Lists.{AllByRecursion-append}
 use Rattle.list_core.proofs.Membership.{all_members, contains_first, contains_later, member_passes, of_filter, of_map}
@@ -21,7 +21,6 @@ use Rattle.world_core.specs.Plans as plan
 use Rattle.world_core.specs.Walks.{ulids_in}
 use Rattle.world_core.specs.declared.op.Op.{Op}
 use Rattle.world_core.specs.declared.op.Op.TheVariants as op
-use Rattle.world_core.specs.declared.reply.Reply.TheVariants as reply
 use Rattle.world_core.specs.declared.entry.Entry.{Entry}
 use Rattle.world_core.proofs.PlanLaws.{AsksFor, asked_are}
 use Rattle.world_core.proofs.PlanParts.{noted_end}
@@ -53,10 +52,10 @@ use Rattle.compactor.specs.Compactions.{CompactRun, after_merge, after_sync, aft
 use Rattle.compactor.specs.NewBlocks.{block_objects, new_ulid}
 use Rattle.compactor.specs.declared.compact_end.CompactEnd.{CompactEnd}
 use Rattle.compactor.specs.declared.compact_end.CompactEnd.TheVariants.{Done, Fault}
-use Rattle.activity_laws.specs.CompactionOps.{HasMerged, HasSynced, IsCompactOp, IsKept, IsReason, Stores, WasCompacted, WasRead, compacted, covered, expired}
+use Rattle.activity_laws.specs.CompactionOps.{HasMerged, IsCompactOp, IsReason, Stores, WasCompacted, WasRead, compacted, covered, expired}
 use Rattle.activity_laws.proofs.CleaningAsks.{each_at}
 use Rattle.activity_laws.proofs.CompactionGroups.{AreApart, IsOfNone, IsOfPassed, covered_of_none, groups_apart, member_found, of_sync, plan_among}
-use Rattle.activity_laws.proofs.CompactionSoFar.{IsFree, IsNoMark, MarksOnly, Reasons, SoFar, may_read, puts_no_mark, reads_mark_none, so_far_more, so_far_weaker}
+use Rattle.activity_laws.proofs.CompactionSoFar.{IsFree, MarksOnly, Reasons, SoFar, may_read, puts_no_mark, reads_mark_none, so_far_more, so_far_weaker}
 use Rattle.activity_laws.proofs.CompactionWords.{AreNoMarks, IsLast, StaysRead, WasPut, block_asks, blocks_ask, marking_asks, noting_asks, objects_no_marks, then_asks, upload_asks, upload_done}
 
 -- ---- behind an upload that put all

@@ -1,31 +1,30 @@
 -- The groups of a view's blocks: a block is a member of one at most, what is planned is of members, and no member is covered.
-use Rattle.std.proofs.Common.{◌≡◌, ◌≢◌, ◌⊎◌, inl, inr, ℕ, ℤ, ◌-◌, ◌<◌, Bool, true, false, cond, not, eqb, List, [], ◌∷◌, ◌++◌, map, take, drop, length, Contains, Option, Some, None, Result, Ok, Err, refl, sym, ◌∙◌, ap, subst, arith, Less, nat_cmp, take-append-drop}
+use Rattle.std.proofs.Common.{◌≡◌, ◌≢◌, inl, inr, ℕ, ℤ, ◌-◌, ◌<◌, Bool, true, false, cond, not, eqb, List, [], ◌∷◌, ◌++◌, map, take, drop, length, Contains, Option, Some, None, Result, Ok, Err, refl, sym, ◌∙◌, ap, subst, arith, Less, nat_cmp, take-append-drop}
 use Rattle.std.specs.declared.cmp.Ordering.{Ordering}
 use Rattle.std.specs.declared.cmp.Ordering.TheVariants.{Equal, Greater}
 use Rattle.std.specs.Option.{option_map_or}
 use Rattle.std.specs.Ordering.{is_eq}
-use Rattle.std.specs.List.{All, AllByRecursion, filter, find}
+use Rattle.std.specs.List.{AllByRecursion, filter, find}
 use Rattle.std.specs.List.Sorted.{IsStrictlyIncreasing, IsStrictlySortedBy}
 use Rattle.std.proofs.lemmas.Bool.{true≢false, eqb-true}
-use Rattle.std.proofs.lemmas.List.Elements.{All-contains, All-from_recursion, Contains-append_left, Contains-append_right, Contains-append_cases, Contains-push}
+use Rattle.std.proofs.lemmas.List.Elements.{All-contains, All-from_recursion, Contains-append_left, Contains-append_right, Contains-push}
 use Rattle.std.proofs.lemmas.Map.Keys.{sorted_from_strictly_increasing, sorted_head, sorted_tail}
 use Rattle.list_core.proofs.Bools.{lt-from_Less}
 use Rattle.list_core.proofs.Lists.{AllByRecursion-append, AllByRecursion-map, find_holds}
-use Rattle.list_core.proofs.Membership.{contains_first, contains_later, each_member, all_members, into_map, member_cases, member_passes, no_member, of_filter, of_in_order, of_map}
+use Rattle.list_core.proofs.Membership.{each_member, all_members, into_map, member_cases, member_passes, no_member, of_filter, of_in_order, of_map}
 use Rattle.list_core.proofs.Options.{tested_some}
 use Rattle.block_meta.specs.MetaFields.{MetaFields, fields_of}
-use Rattle.block_meta.specs.OfBlocks.{block_meta, named_meta}
+use Rattle.block_meta.specs.OfBlocks.{named_meta}
 use Rattle.block_meta.specs.declared.meta.Meta.{Meta}
 use Rattle.block_meta.specs.declared.refusal.MetaRefusal.{MetaRefusal}
 use Rattle.block_marking.specs.FoundNames.{names_of}
 use Rattle.world_core.specs.declared.entry.Entry.{Entry}
 use Rattle.sync_filters.specs.Filters.{is_consistent, is_covered, is_in_partition, is_unmarked}
 use Rattle.sync_filters.specs.declared.found.Found.{Found}
-use Rattle.meta_fetcher.specs.Sightings.{IsView, Sighting, covered_by, kept_by, passed_by, sighting_of}
-use Rattle.meta_fetcher.specs.Syncs.{Ascend, Course, IsEnd, SyncRun, Synced, sync}
+use Rattle.meta_fetcher.specs.Sightings.{IsView, Sighting, kept_by, passed_by}
+use Rattle.meta_fetcher.specs.Syncs.{Ascend, Course, IsEnd, SyncRun, Synced}
 use Rattle.meta_fetcher.specs.Syncs as sync_told
 use Rattle.meta_fetcher.specs.declared.rules.SyncRules.{SyncRules}
-use Rattle.meta_fetcher.specs.declared.sync_end.SyncEnd.{SyncEnd}
 use Rattle.meta_fetcher.specs.declared.sync_end.SyncEnd.TheVariants as fetched
 use Rattle.meta_fetcher.specs.declared.view.View.{View}
 use Rattle.meta_fetcher.proofs.Ascending.{blocks_of, passed_ascend, sighted_ascend, sync_ascends}

@@ -1,5 +1,5 @@
 -- What the words of a compaction's plan ask for: marks, reads and uploads.
-use Rattle.std.proofs.Common.{◌≡◌, ◌≢◌, inl, inr, ℕ, zero, suc, ◌+◌, List, [], ◌∷◌, ◌++◌, length, Contains, Option, Some, None, refl, sym, ◌∙◌, ap, subst, append_assoc, append-nil, length-append, arith}
+use Rattle.std.proofs.Common.{◌≡◌, inr, ℕ, zero, suc, ◌+◌, List, [], ◌∷◌, ◌++◌, length, Option, Some, None, refl, sym, ◌∙◌, ap, subst, append_assoc, append-nil, length-append, arith}
 use Rattle.std.specs.List.{AllByRecursion, AllZip}
 use Rattle.block_keys.specs.declared.key.Key.{Key}
 use Rattle.block_keys.specs.declared.key.Key.TheVariants as key
@@ -32,7 +32,7 @@ use Rattle.compactor.specs.NewBlocks.{block_objects}
 use Rattle.compactor.specs.declared.compact_end.CompactEnd.{CompactEnd}
 use Rattle.compactor.specs.declared.compact_end.CompactEnd.TheVariants.{Fault, Missing}
 use Rattle.activity_laws.specs.CompactionOps.{HasMerged, IsCompactOp, IsInputRead, IsMarkMade, IsObjectMade, ReadsObject, Stores, WasRead}
-use Rattle.activity_laws.proofs.CompactionSoFar.{AreRead, IsNoMark, MarksOnly, Reasons, SoFar, inputs_more, object_more, object_now, puts_mark_of, reads_mark_none, reasons_more, segments_and, segments_more, so_far_more, zip_push}
+use Rattle.activity_laws.proofs.CompactionSoFar.{AreRead, IsNoMark, Reasons, SoFar, inputs_more, object_more, object_now, puts_mark_of, reads_mark_none, reasons_more, segments_and, so_far_more, zip_push}
 
 -- ---- plans of plans
 

@@ -1,5 +1,5 @@
 -- What walks of pages and deletes ask for, where something is known of the entries before and stays so.
-use Rattle.std.proofs.Common.{◌≡◌, ℕ, zero, suc, Bool, true, false, List, [], ◌∷◌, ◌++◌, length, refl}
+use Rattle.std.proofs.Common.{◌≡◌, ℕ, zero, suc, List, [], ◌∷◌, ◌++◌, length, refl}
 use Rattle.std.specs.Prelude.{nat_le, nat_lt, unwrap_or}
 use Rattle.block_keys.specs.declared.key.Key.{Key}
 use Rattle.world_core.specs.Limits.{most_listed}

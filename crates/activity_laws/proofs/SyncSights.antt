@@ -1,24 +1,24 @@
 -- What a sync saw that gave a view.
-use Rattle.std.proofs.Common.{◌≡◌, ◌≢◌, ◌⊎◌, inl, inr, ℕ, ◌<◌, ◌^◌, suc, zero, true, false, List, [], ◌∷◌, ◌++◌, map, length, Contains, Option, Some, None, refl, sym, ◌∙◌, ap, subst, append_assoc, arith}
-use Rattle.std.specs.Prelude.{fold, option_map, unwrap_or}
+use Rattle.std.proofs.Common.{◌≡◌, ◌⊎◌, inl, inr, ℕ, ◌<◌, ◌^◌, suc, zero, List, [], ◌∷◌, ◌++◌, map, length, Contains, Option, Some, None, refl, sym, ◌∙◌, ap, subst, append_assoc, arith}
+use Rattle.std.specs.Prelude.{fold, unwrap_or}
 use Rattle.std.specs.List.{All, AllByRecursion}
 use Rattle.std.proofs.lemmas.Bool.{ltb-true}
 use Rattle.std.proofs.lemmas.List.Elements.{All-from_recursion, Contains-append_left, Contains-push, recursion_from_All}
 use Rattle.list_core.proofs.Membership.{contains_first, contains_later}
 use Rattle.ulid_core.specs.UlidText.{text_of}
 use Rattle.block_keys.specs.declared.key.Key.TheVariants as key
-use Rattle.block_meta.specs.MetaFields.{MarkFields, MetaFields, fields_of, mark_fields_of}
+use Rattle.block_meta.specs.MetaFields.{MarkFields, MetaFields}
 use Rattle.block_meta.specs.OfBlocks.{block_meta}
 use Rattle.moment_core.specs.declared.moment.Moment.{Moment}
 use Rattle.bucket_core.specs.Pages.{Before}
-use Rattle.world_core.specs.Walks.{last_listed, ulids_in}
+use Rattle.world_core.specs.Walks.{last_listed}
 use Rattle.world_core.specs.declared.op.Op.TheVariants as op
 use Rattle.world_core.specs.declared.reply.Reply.{Reply}
 use Rattle.world_core.specs.declared.reply.Reply.TheVariants as reply
 use Rattle.world_core.specs.declared.entry.Entry.{Entry}
 use Rattle.world_core.proofs.PlanLaws.{nothing_given}
 use Rattle.sync_filters.specs.declared.found.Found.{Found}
-use Rattle.meta_fetcher.specs.Sightings.{IsView, Sighting, covered_by, kept_by, sighting_of}
+use Rattle.meta_fetcher.specs.Sightings.{IsView, Sighting, sighting_of}
 use Rattle.meta_fetcher.specs.Syncs.{Course, IsEnd, SyncRun, Synced}
 use Rattle.meta_fetcher.specs.Syncs as sync_told
 use Rattle.meta_fetcher.proofs.SyncLaws as laws

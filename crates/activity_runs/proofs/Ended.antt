@@ -40,17 +40,6 @@ module _ (does : List Entry → Option SeriesEnd → Type 0) (view : View) (aske
     waits = λ e. let w = d.waits is in record { op = w.op; lawful = w.lawful; more = λ seen answer. runs (d.made ++ entry_of seat w.op seen ∷ []) None (w.more seen answer) };
   }
 
-  pub short_call : end_of driven ≡ None → Drives (CallRun view asked cache) seat None NoMemory old new
-  short_call none = record {
-    made = d.made;
-    entries = d.entries;
-    run = subst (SeriesRun view asked cache d.made) (ap (λ (x : Option SeriesEnd). ended_with x last) none) (runs d.made (end_of driven) d.run);
-    seats = d.seats;
-    stopped = λ n. (λ e. absurd (cc (e)), λ s. let lacks = s.0 in absurd (cc (lacks)));
-    within = λ n is above. absurd (cc (is));
-    waits = λ e. absurd (cc (e));
-  }
-
 -- what holds of a machine that has come to its end
 pub over_by : (does : List Entry → Option SeriesEnd → Type 0) (P : Type 0) (seat : ℕ) (old new : List Entry) (driven : Driven SeriesEnd) (end : SeriesEnd) → driven ≡ Ended end → Drives does seat None driven old new
     → ((made : List Entry) → does made (Some end) → P) → P

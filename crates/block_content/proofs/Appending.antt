@@ -18,13 +18,13 @@ use Rattle.xor_chunks.specs.Spans.{end_of}
 use Rattle.xor_chunks.specs.Grammar.{AreOthers, IsText, Follows}
 use Rattle.chunk_files.specs.declared.refusal.ChunkRefusal.{ChunkRefusal}
 use Rattle.block_content.specs.Content.{HaveTimesOf, times_of}
-use Rattle.block_content.specs.Firsts.{first_at}
+use Rattle.reading_core.specs.Firsts.{first_at}
 use Rattle.block_content.specs.ContentReading.{data_of, part_at, samples_at, chunk_at, is_within, outside_of, first_time, lies_within, LieBetween}
 use Rattle.block_content.specs.declared.chunk_cause.ChunkCause.{ChunkCause}
 use Rattle.block_content.specs.declared.chunk_cause.ChunkCause.TheVariants.{File, Data, NoSamples, TimesDiffer}
-use Rattle.block_content.proofs.FirstLaws.{some_is}
+use Rattle.reading_core.proofs.FirstLaws.{some_is}
 use Rattle.std.proofs.Math.Seq.{drop-append_seam}
-use Rattle.block_content.specs.Firsts.{or_else}
+use Rattle.reading_core.specs.Firsts.{or_else}
 use Rattle.block_content.proofs.Counting.{time_cons}
 use Rattle.block_content.proofs.ChunksRead.{times_found}
 

@@ -14,7 +14,7 @@ use Rattle.index_file.specs.IndexFile.{IsIndex}
 use Rattle.index_v2.specs.declared.refusal.IndexRefusal.{IndexRefusal}
 use Rattle.index_v2.specs.declared.refusal.IndexRefusal.TheVariants as index
 use Rattle.block_meta.specs.declared.meta.Meta.{Meta}
-use Rattle.block_content.specs.Firsts.{IsFirstAt}
+use Rattle.reading_core.specs.Firsts.{IsFirstAt}
 use Rattle.block_content.specs.Content.{HoldsSeries, IsContent}
 use Rattle.block_content.specs.ContentReading.{index_at, refused_index, series_bytes, NamesFew, chunked_at, contents_at, content_at}
 use Rattle.block_content.specs.ContentRefusals.{RefusesContent}

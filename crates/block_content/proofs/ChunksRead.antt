@@ -24,7 +24,7 @@ use Rattle.block_content.specs.ContentReading.{data_in, data_of, is_time, have_t
 use Rattle.block_content.specs.ContentRefusals.{RefusesChunk}
 use Rattle.block_content.specs.declared.chunk_cause.ChunkCause.{ChunkCause}
 use Rattle.block_content.specs.declared.chunk_cause.ChunkCause.TheVariants.{File, Data, NoSamples, TimesDiffer}
-use Rattle.block_content.proofs.FirstLaws.{Tells, some_is}
+use Rattle.reading_core.proofs.FirstLaws.{Tells, some_is}
 
 -- ---- bytes
 

@@ -16,7 +16,7 @@ use Rattle.index_file.specs.declared.index_series.IndexSeries.{IndexSeries}
 use Rattle.index_file.specs.IndexFile.{IsIndex}
 use Rattle.index_v2.specs.declared.refusal.IndexRefusal.{IndexRefusal}
 use Rattle.index_v2.specs.declared.refusal.IndexRefusal.TheVariants as index
-use Rattle.block_content.specs.Firsts.{IsFirstAt, each_at, first_at}
+use Rattle.reading_core.specs.Firsts.{IsFirstAt, each_at, first_at}
 use Rattle.block_content.specs.Content.{IsChunkOf, HoldsSeries, AreWithin, IsContent}
 use Rattle.block_content.specs.ContentReading.{chunk_at, chunks_at, joined, series_of, list_of, first_outside, repeated_in, fitted, refused_index, refused_cause, refused_chunk, refused_time, refused_order, unless_found, index_at, tested_at, chunked_at, contents_at, content_at, AreFew, ListsFew}
 use Rattle.block_content.specs.ContentRefusals.{RefusesChunk, IsChunk, IsFirstBadChunk, HasBadChunk, HasOutside, HasRepeated, RefusesContent}
@@ -25,7 +25,7 @@ use Rattle.block_content.specs.declared.chunk_cause.ChunkCause.{ChunkCause}
 use Rattle.block_content.specs.declared.chunk_cause.ChunkCause.TheVariants.{File, Data, NoSamples, TimesDiffer}
 use Rattle.block_content.specs.declared.check_refusal.CheckRefusal.{CheckRefusal}
 use Rattle.block_content.specs.declared.check_refusal.CheckRefusal.TheVariants.{NoFile, BadMeta, UlidDiffers, NotLevelOne, SourcesNotSelf, Downsampled, TooLarge, BadIndex, EmptyBlock, BadChunk, OutsideRange, Repeated, NoMemory}
-use Rattle.block_content.proofs.FirstLaws.{Tells, each_tells, all_good, all_pass, first_found, first_again}
+use Rattle.reading_core.proofs.FirstLaws.{Tells, each_tells, all_good, all_pass, first_found, first_again}
 use Rattle.block_content.proofs.ChunksRead.{chunk_tells}
 use Rattle.block_content.proofs.TimesAndOrder.{index_found, index_again, times_find, order_finds}
 

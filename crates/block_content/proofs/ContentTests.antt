@@ -15,7 +15,7 @@ use Rattle.block_meta.specs.declared.meta.Meta.{Meta}
 use Rattle.block_files.specs.declared.block_files.BlockFiles.{BlockFiles}
 use Rattle.block_content.specs.Content.{IsContent}
 use Rattle.block_content.specs.ContentRefusals.{RefusesContent}
-use Rattle.block_content.specs.Firsts.{each_at, first_at}
+use Rattle.reading_core.specs.Firsts.{each_at, first_at}
 use Rattle.block_content.specs.ContentReading.{ListsFew, series_bytes, chunks_at, list_of, first_outside, repeated_in, fitted, refused_index, index_at, contents_at}
 use Rattle.block_content.specs.CheckReading.{found_at, IsFirstFound, IsTested}
 use Rattle.block_content.specs.declared.check_refusal.CheckRefusal.{CheckRefusal}

@@ -8,7 +8,7 @@ use Rattle.label_sets.specs.Counts.{sample_count}
 use Rattle.index_parts.specs.declared.chunk_place.ChunkPlace.{ChunkPlace}
 use Rattle.index_file.specs.declared.index_series.IndexSeries.{IndexSeries}
 use Rattle.block_meta.specs.declared.meta.Meta.{Meta}
-use Rattle.block_content.specs.Firsts.{each_at, first_at, or_else}
+use Rattle.reading_core.specs.Firsts.{each_at, first_at, or_else}
 use Rattle.block_content.specs.ContentReading.{chunk_at, chunk_bytes, chunks_at, series_bytes, joined, series_of, list_of, outside_of, first_time, first_outside, fitted, refused_cause, refused_chunk}
 use Rattle.block_content.specs.CheckReading.{IsFirstFound}
 use Rattle.xor_chunks.specs.declared.refusal.XorRefusal.TheVariants as xor
@@ -16,7 +16,7 @@ use Rattle.block_content.specs.declared.chunk_cause.ChunkCause.{ChunkCause}
 use Rattle.block_content.specs.declared.chunk_cause.ChunkCause.TheVariants.{Data}
 use Rattle.block_content.specs.declared.check_refusal.CheckRefusal.{CheckRefusal}
 use Rattle.block_content.specs.declared.check_refusal.CheckRefusal.TheVariants.{NoMemory}
-use Rattle.block_content.proofs.FirstLaws.{each_push, each_stop, each_many, joins, none_push, some_behind}
+use Rattle.reading_core.proofs.FirstLaws.{each_push, each_stop, each_many, joins, none_push, some_behind}
 use Rattle.block_content.proofs.ChunkWalks.{front, behind, taken, summed, fitted_more, joined_more, list_of_more}
 
 -- ---- times

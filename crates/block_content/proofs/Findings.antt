@@ -7,9 +7,9 @@ use Rattle.label_sets.specs.declared.series.Series.{Series}
 use Rattle.index_parts.specs.declared.chunk_place.ChunkPlace.{ChunkPlace}
 use Rattle.index_file.specs.declared.index_series.IndexSeries.{IndexSeries}
 use Rattle.block_meta.specs.declared.meta.Meta.{Meta}
-use Rattle.block_content.specs.Firsts.{first_at}
+use Rattle.reading_core.specs.Firsts.{first_at}
 use Rattle.block_content.specs.ContentReading.{is_within, outside_of, first_time, first_outside, begins_after, follow, repeated_in, fitted}
-use Rattle.block_content.proofs.FirstLaws.{none_step, some_stop, none_end}
+use Rattle.reading_core.proofs.FirstLaws.{none_step, some_stop, none_end}
 use Rattle.block_content.proofs.ChunkWalks.{fitted_more}
 
 -- ---- a sample outside the block's times

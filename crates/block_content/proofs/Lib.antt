@@ -1,4 +1,3 @@
-pub mod FirstLaws
 pub mod ChunksRead
 pub mod ChunkWalks
 pub mod TimesAndOrder

@@ -14,11 +14,11 @@ use Rattle.index_v2.specs.Opening.{opened_at}
 use Rattle.index_v2.proofs.OpeningLaws.{opened_found, opened_again}
 use Rattle.index_v2.proofs.WholeRead.{whole_found, whole_again}
 use Rattle.block_meta.specs.declared.meta.Meta.{Meta}
-use Rattle.block_content.specs.Firsts.{IsFirstAt}
+use Rattle.reading_core.specs.Firsts.{IsFirstAt}
 use Rattle.block_content.specs.Content.{BeginsAfter, IsApart, IsWithin, AreWithin}
 use Rattle.block_content.specs.ContentReading.{is_within, outside_of, first_outside, begins_after, follow, repeated_in, index_at}
 use Rattle.block_content.specs.ContentRefusals.{IsOutside}
-use Rattle.block_content.proofs.FirstLaws.{Finds, all_good, all_pass, first_found, first_again}
+use Rattle.reading_core.proofs.FirstLaws.{Finds, all_good, all_pass, first_found, first_again}
 use Rattle.block_content.proofs.ChunksRead.{otherwise}
 
 -- ---- the index

@@ -21,7 +21,7 @@ use Rattle.index_v2.specs.Held.{whole_file}
 use Rattle.index_v2.specs.Opening.{opened_at}
 use Rattle.index_v2.specs.WholeReading.{whole_at}
 use Rattle.block_meta.specs.declared.meta.Meta.{Meta}
-use Rattle.block_content.specs.Firsts.{each_at, first_at}
+use Rattle.reading_core.specs.Firsts.{each_at, first_at}
 use Rattle.block_files.specs.declared.block_files.BlockFiles.{BlockFiles}
 use Rattle.block_content.specs.declared.chunk_cause.ChunkCause.{ChunkCause}
 use Rattle.block_content.specs.declared.chunk_cause.ChunkCause.TheVariants.{File, Data, NoSamples, TimesDiffer}

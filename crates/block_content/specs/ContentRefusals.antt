@@ -11,7 +11,7 @@ use Rattle.index_file.specs.declared.index_series.IndexSeries.{IndexSeries}
 use Rattle.index_file.specs.IndexFile.{IsIndex}
 use Rattle.index_v2.specs.declared.refusal.IndexRefusal.TheVariants as index
 use Rattle.block_meta.specs.declared.meta.Meta.{Meta}
-use Rattle.block_content.specs.Firsts.{IsFirstAt}
+use Rattle.reading_core.specs.Firsts.{IsFirstAt}
 use Rattle.block_content.specs.Content.{StandsAt, HaveTimesOf, IsChunkOf, HoldsSeries, IsApart, IsWithin, AreWithin}
 use Rattle.block_content.specs.ContentReading.{index_at, data_of, fitted}
 use Rattle.block_files.specs.declared.block_files.BlockFiles.{BlockFiles}

@@ -13,7 +13,6 @@ pub use Rattle.chunk_files.specs.ChunkReading
 pub use Rattle.index_v2.specs.Opening
 pub use Rattle.index_v2.specs.WholeReading
 pub use Rattle.index_file.specs.IndexFile
-pub mod Firsts
 pub mod Content
 pub mod ContentReading
 pub mod ContentRefusals

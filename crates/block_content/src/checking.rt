@@ -7,7 +7,7 @@ ghost use Rattle.reading_core.specs.Reading.{Answers};
 ghost use Rattle.label_sets.specs.declared.series.Series.{Series};
 ghost use Rattle.label_sets.specs.Counts.{sample_count};
 ghost use Rattle.index_file.specs.declared.index_series.IndexSeries.{IndexSeries};
-ghost use Rattle.block_content.specs.Firsts.{or_else, first_at};
+ghost use Rattle.reading_core.specs.Firsts.{or_else, first_at};
 ghost use Rattle.block_content.specs.ContentReading.{index_at, chunk_bytes, series_bytes, joined, list_of, first_time, first_outside, lies_within, LieBetween, MadeOfChunk, WalksChunks, WalksSeries};
 ghost use Rattle.block_content.specs.Verdict.{IsVerdict};
 ghost use Rattle.block_content.specs.Checking.{HasPassed};

@@ -8,7 +8,7 @@ ghost use Rattle.reading_core.specs.Reading.{Gives, refused_as};
 ghost use Rattle.label_sets.specs.declared.series.Series.{Series};
 ghost use Rattle.index_file.specs.declared.index_series.IndexSeries.{IndexSeries};
 ghost use Rattle.index_file.specs.IndexFile.{IsIndex};
-ghost use Rattle.block_content.specs.Firsts.{first_at};
+ghost use Rattle.reading_core.specs.Firsts.{first_at};
 ghost use Rattle.block_content.specs.Content.{IsContent};
 ghost use Rattle.block_content.specs.ContentRefusals.{RefusesContent};
 ghost use Rattle.block_content.specs.ContentReading.{index_at, refused_index, joined, list_of, series_bytes, chunk_bytes, is_within, first_time, first_outside, begins_after, follow, repeated_in, fitted, contents_at, content_at, AreFew, ListsFew, WalksChunks, WalksSeries};

@@ -27,7 +27,8 @@ pub fn expired_ulids(
     retention: Option<Span>,
     begun: Moment,
 ) -> Result<VecDeque<Ulid>, NoMemory>
-    ensures { IfOk result (λ ulids. ulids.items ≡ names_of (expired_at retention begun blocks.now)) }
+    ensures { IfOk result
+        (λ ulids. ulids.items ≡ names_of (expired_at retention begun blocks.now)) }
 {
     let mut ulids = VecDeque::new(alloc);
     for block in blocks {

@@ -8,8 +8,8 @@ use Rattle.label_sets.specs.declared.label.Label.{Label}
 use Rattle.label_sets.specs.declared.sample.Sample.{Sample}
 use Rattle.label_sets.specs.declared.series.Series.{Series}
 use Rattle.block_meta.specs.declared.block_plan.BlockPlan.{BlockPlan}
-use Rattle.xor_chunks.specs.Bits.{bits_of, bits_in}
-use Rattle.xor_chunks.proofs.BitLists.{length-bits_of, same_from_bits_of}
+use Rattle.wire_bits.specs.Bits.{bits_of, bits_in}
+use Rattle.wire_bits.proofs.BitLists.{length-bits_of, same_from_bits_of}
 use Rattle.index_parts.specs.Turns.{InOrderAfter}
 use Rattle.block_files.specs.declared.block_files.BlockFiles.{BlockFiles}
 use Rattle.block_files.specs.declared.build_refusal.BuildRefusal.{BuildRefusal}

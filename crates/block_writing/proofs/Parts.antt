@@ -16,7 +16,7 @@ use Rattle.list_core.proofs.Order.{Less-at_places, sorted_left, sorted_right}
 use Rattle.reading_core.specs.Grammar.{IsBytes}
 use Rattle.index_parts.specs.Turns.{InOrder}
 use Rattle.label_sets.specs.declared.sample.Sample.{Sample}
-use Rattle.xor_chunks.specs.Bits.{bits_in, filled}
+use Rattle.wire_bits.specs.Bits.{bits_in, filled}
 use Rattle.xor_chunks.specs.Grammar.{IsText}
 use Rattle.block_meta.specs.Lawful.{AreLawfulTimes}
 use Rattle.xor_chunks.specs.Written.{written, IsChunkTime, AreOfChunk}

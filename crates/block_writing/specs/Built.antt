@@ -8,7 +8,7 @@ use Rattle.label_sets.specs.Counts.{sample_count}
 use Rattle.label_sets.specs.Labels.{compare_sets}
 use Rattle.label_sets.specs.declared.sample.Sample.{Sample}
 use Rattle.label_sets.specs.declared.series.Series.{Series}
-use Rattle.xor_chunks.specs.Bits.{bits_in, filled}
+use Rattle.wire_bits.specs.Bits.{bits_in, filled}
 use Rattle.xor_chunks.specs.Grammar.{IsText}
 use Rattle.xor_chunks.specs.Written.{written}
 use Rattle.block_meta.specs.declared.block_plan.BlockPlan.{BlockPlan}

@@ -63,11 +63,6 @@ one_second bytes mark other is also = let same : other ≡ mark = one_mark (mark
     one_mark : (r : Result MarkFields MetaRefusal) → r ≡ Ok mark → r ≡ Ok other → other ≡ mark
     one_mark r is also = cc (is, also)
 
-pub late_told : (bytes : List ℕ) (second moment limit : ℕ) (told : Option (ℕ × ℕ)) → (mark : MarkFields) × IsMarkText bytes mark × (mark.deletion_time ≡ second)
-    → IsTold (IsOver moment (1000 * second + limit)) told → IsTold (IsLateMark bytes moment limit) told
-late_told bytes second moment limit None (mark, text, own) none = λ x y late. none x y (subst (λ (s : ℕ). IsOver moment (1000 * s + limit) x y) (one_second bytes mark late.0 text late.1 ∙ own) late.2)
-late_told bytes second moment limit (Some (x, y)) (mark, text, own) late = (mark, text, subst (λ (s : ℕ). IsOver moment (1000 * s + limit) x y) (sym own) late)
-
 module _ (setting : Setting) (journal before : List Entry) (rules : Rules) (e : Entry) (ulid : ℕ) (bytes : List ℕ) (same : setting.script.rules ≡ rules) (is : e.op ≡ Put (Mark ulid) bytes) where
   of_mark : IsTrue (has_landed e.reply) → (x y : ℕ) → IsLateMark bytes e.moment.ms rules.ignore.ms x y → Refuses setting journal mark_time before e x y
   of_mark landed x y (mark, text, late) = (
@@ -88,10 +83,6 @@ module _ (setting : Setting) (journal before : List Entry) (rules : Rules) (e : 
   pub mark_told : IsTrue (has_landed e.reply) → (told : Option (ℕ × ℕ)) → IsTold (IsLateMark bytes e.moment.ms rules.ignore.ms) told → IsTold (Refuses setting journal mark_time before e) told
   mark_told landed None none = λ x y refuses. none x y (to_mark x y refuses)
   mark_told landed (Some (x, y)) late = of_mark landed x y late
-
--- what is no landed put of a mark
-pub no_mark_put : (setting : Setting) (journal before : List Entry) (e : Entry) → ((ulid : ℕ) (bytes : List ℕ) → e.op ≡ Put (Mark ulid) bytes → IsTrue (has_landed e.reply) → ⊥) → (x y : ℕ) → ¬ Refuses setting journal mark_time before e x y
-no_mark_put setting journal before e none x y (ulid, second, (bytes, mark, put, landed, reads, told), late) = none ulid bytes put landed
 
 -- a key that was found to be a mark's
 pub some_mark : (key : Key) (o : Option ℕ) (b : Bool) → is_some o ≡ not b → b ≡ false → IfSome o (λ ulid. key ≡ Mark ulid) → (ulid : ℕ) × (key ≡ Mark ulid)

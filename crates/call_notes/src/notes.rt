@@ -96,7 +96,8 @@ impl CallNotes {
 
     /// Notes the page of at most so many names within this name and behind that one.
     pub fn note_page(&mut self, within: &str, after: &str, limit: u32)
-        ensures { calls_told self.new ≡ calls_told self.old ++ lists within.now after.now limit ∷ [] }
+        ensures { calls_told self.new
+            ≡ calls_told self.old ++ lists within.now after.now limit ∷ [] }
     {
         let within = spelled(within.as_bytes());
         self.add(Asked::Page(within, spelled(after.as_bytes()), limit));

@@ -8,13 +8,13 @@ use Rattle.label_sets.specs.declared.series.Series.{Series}
 use Rattle.index_parts.specs.declared.chunk_place.ChunkPlace.{ChunkPlace}
 use Rattle.index_file.specs.declared.index_series.IndexSeries.{IndexSeries}
 use Rattle.block_files.specs.declared.block_files.BlockFiles.{BlockFiles}
-use Rattle.block_content.specs.Firsts.{IsFirstAt}
+use Rattle.reading_core.specs.Firsts.{IsFirstAt}
 use Rattle.block_content.specs.ContentReading.{content_at}
 use Rattle.block_content.specs.ContentRefusals.{RefusesContent, HasBadChunk, IsFirstBadChunk}
 use Rattle.block_content.specs.declared.chunk_cause.ChunkCause.{ChunkCause}
 use Rattle.block_content.specs.declared.check_refusal.CheckRefusal.{CheckRefusal}
 use Rattle.block_content.specs.declared.check_refusal.CheckRefusal.TheVariants.{BadChunk}
-use Rattle.block_content.proofs.FirstLaws.{some_is}
+use Rattle.reading_core.proofs.FirstLaws.{some_is}
 use Rattle.block_content.proofs.ContentLaws.{block_tells, content_again, content_refuses}
 use Rattle.block_laws.specs.PutContent.{AreBytes}
 use Rattle.block_merging.specs.Inputs.{HasContent, IsFirstRefused}

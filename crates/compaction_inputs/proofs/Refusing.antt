@@ -16,7 +16,7 @@ use Rattle.block_content.specs.ContentRefusals.{RefusesContent, HasBadChunk}
 use Rattle.block_content.specs.declared.check_refusal.CheckRefusal.{CheckRefusal}
 use Rattle.block_content.specs.declared.check_refusal.CheckRefusal.TheVariants.{BadChunk}
 use Rattle.block_content.specs.declared.chunk_cause.ChunkCause.{ChunkCause}
-use Rattle.block_content.proofs.FirstLaws.{some_is}
+use Rattle.reading_core.proofs.FirstLaws.{some_is}
 use Rattle.block_content.proofs.TimesAndOrder.{index_again}
 use Rattle.block_merging.specs.Inputs.{IsFirstRefused}
 use Rattle.compaction_inputs.specs.Inputs.{IsInput}

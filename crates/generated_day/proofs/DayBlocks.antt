@@ -23,7 +23,7 @@ use Rattle.moment_core.specs.declared.rules.Rules.{Rules}
 use Rattle.script_core.specs.Blocks.{declares}
 use Rattle.script_fields.specs.Fields.{is_silent, is_space, newline}
 use Rattle.script_core.specs.Lawful.{HasSeries}
-use Rattle.script_core.specs.Spelling.{BlockLine, GatewayLine, HasEnded, IsField, IsTimeText, IsUlidField, ReplicaLine, SoFar, at_all_times, inside, nothing, outside, spaced}
+use Rattle.script_core.specs.Spelling.{BlockLine, GatewayLine, HasEnded, IsField, IsTimeText, IsUlidField, ReplicaLine, SoFar, at_all_times, nothing, outside}
 use Rattle.script_core.specs.Spelling as spelling
 use Rattle.script_core.specs.declared.block.Block.{Block}
 use Rattle.script_core.specs.declared.body.Body.TheVariants.{Inline}

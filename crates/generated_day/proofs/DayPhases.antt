@@ -23,7 +23,7 @@ use Rattle.script_workers.specs.declared.work.Work.TheVariants as works
 use Rattle.script_workers.proofs.HandLaws.{few_spelled}
 use Rattle.script_fields.specs.Fields.{newline}
 use Rattle.script_fields.specs.Limits.{most_tasks}
-use Rattle.script_core.specs.Spelling.{AddsTask, AtLine, CleanLine, CompactLine, HasEnded, IsField, IsTimeText, QueryLine, SoFar, SyncLine, UploadLine, no_stop, outside}
+use Rattle.script_core.specs.Spelling.{AddsTask, AtLine, CleanLine, CompactLine, HasEnded, IsField, IsTimeText, QueryLine, SoFar, SyncLine, UploadLine, no_stop}
 use Rattle.script_core.specs.Spelling as spelling
 use Rattle.script_core.specs.declared.block.Block.{Block}
 use Rattle.script_core.specs.declared.script.Script.{Script}

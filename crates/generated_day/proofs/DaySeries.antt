@@ -20,7 +20,7 @@ use Rattle.label_sets.specs.declared.sample.Sample.{Sample}
 use Rattle.label_sets.specs.declared.series.Series.{Series}
 use Rattle.script_fields.specs.Fields.{is_silent, newline}
 use Rattle.script_core.specs.Parts.{AreSeriesParts, HasField, series_front}
-use Rattle.script_core.specs.Spelling.{SoFar, Says, inside, SeriesLine}
+use Rattle.script_core.specs.Spelling.{SoFar, inside, SeriesLine}
 use Rattle.script_core.specs.Spelling as spelling
 use Rattle.script_core.specs.declared.block.Block.{Block}
 use Rattle.script_core.specs.declared.body.Body.TheVariants.{Inline}

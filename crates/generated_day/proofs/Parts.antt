@@ -1,5 +1,5 @@
 -- Parts that are appended one after another, for the numbers of a range.
-use Rattle.std.proofs.Common.{◌≡◌, ℕ, suc, ◌+◌, ◌-◌, ◌<◌, ◌≤◌, List, [], ◌∷◌, ◌++◌, refl, sym, ap, ◌∙◌, arith, append-nil, append_assoc, subst}
+use Rattle.std.proofs.Common.{◌≡◌, ℕ, suc, ◌+◌, ◌-◌, ◌<◌, ◌≤◌, List, [], ◌++◌, refl, sym, ap, ◌∙◌, arith, append-nil, append_assoc, subst}
 use Rattle.std.specs.List.{flat_map, range_with_len}
 use Rattle.script_core.specs.declared.part_reader.PartReader.{PartReader}
 use Rattle.script_core.specs.Parts.{Reads}

@@ -1,5 +1,5 @@
 -- The lines of the generated day ask by no pattern.
-use Rattle.std.proofs.Common.{◌≡◌, ℕ, zero, suc, ◌+◌, ◌<◌, ◌≤◌, Bool, true, false, ◌&&◌, Some, List, [], ◌∷◌, ◌++◌, refl, sym, ap, ◌∙◌, subst, arith, codes, append-nil, append_assoc}
+use Rattle.std.proofs.Common.{◌≡◌, ℕ, zero, suc, ◌+◌, ◌<◌, ◌≤◌, true, false, ◌&&◌, Some, List, [], ◌∷◌, ◌++◌, refl, sym, ap, ◌∙◌, subst, arith, codes, append-nil, append_assoc}
 use Rattle.std.specs.List.{flat_map, list_all, range_with_len}
 use Rattle.std.specs.Str.{bytes_eq}
 use Rattle.reading_core.specs.Decimal.{decimal_text}
@@ -9,7 +9,7 @@ use Rattle.script_core.specs.Parts.{IsEnded, IsOneLine}
 use Rattle.script_fields.proofs.FieldLaws.{cut_again, no_space}
 use Rattle.script_core.proofs.PartLaws.{cut_one}
 use Rattle.script_core.proofs.SampleSigns.{all_joined}
-use Rattle.generated_day.specs.Day.{all_blocks_text, all_rounds_text, all_uploads_text, at_line, block_line, block_start, cleaning_text, day_start, hours, look_text, minutes, phases_text, round_text, setup_text, ulid_of, upload_line, uploads_at}
+use Rattle.generated_day.specs.Day.{all_rounds_text, all_uploads_text, at_line, block_line, block_start, cleaning_text, day_start, hours, look_text, minutes, phases_text, round_text, setup_text, ulid_of, upload_line, uploads_at}
 use Rattle.generated_day.proofs.DayBlocks.{digits_print, front_is, front_of, front_prints, ulid_prints}
 use Rattle.generated_day.proofs.Tells.{is_print, print_line}
 use Rattle.generated_day.proofs.Wanting.{ended_by, is_plain}

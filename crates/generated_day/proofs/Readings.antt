@@ -1,5 +1,5 @@
 -- What reads the parts of the generated day.
-use Rattle.std.proofs.Common.{◌≡◌, ℕ, ◌<◌, true, List, Result, Err, OnOk, IfErr, ◌⊎◌, sym, subst}
+use Rattle.std.proofs.Common.{◌≡◌, ℕ, ◌<◌, true, List, Result, OnOk, IfErr, ◌⊎◌, sym, subst}
 use Rattle.std.specs.List.{list_all}
 use Rattle.label_sets.specs.declared.label.Label.{Label}
 use Rattle.label_sets.specs.declared.sample.Sample.{Sample}

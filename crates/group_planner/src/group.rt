@@ -27,7 +27,8 @@ pub type GroupList = List<Group>;
 /// The groups of blocks, by ascending resolution and labels. The members of each ascend by their first time, and then by their
 /// ULID. No group is empty, and each block is in exactly one.
 pub fn groups(alloc: Global, metas: &FoundList, replicas: &TextList) -> Result<GroupList, NoMemory>
-    ensures found { (all : List Group) × AreGroups replicas.now (map (λ block. block.meta) metas.now) all
+    ensures found { (all : List Group)
+        × AreGroups replicas.now (map (λ block. block.meta) metas.now) all
         × IfOk result (λ made. made ≡ all) }
     ensures only { (one other : List Group)
         → AreGroups replicas.now (map (λ block. block.meta) metas.now) one

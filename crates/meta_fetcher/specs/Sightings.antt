@@ -1,5 +1,5 @@
 -- What a sync reads of a block, and the view that it comes to.
-use Rattle.std.specs.Prelude.{◌≡◌, ℕ, List, map, Option, Some, None, option_map, not}
+use Rattle.std.specs.Prelude.{◌≡◌, ℕ, List, map, Option, option_map, not}
 use Rattle.std.specs.List.{filter}
 use Rattle.std.specs.List.Sorted.{IsStrictlyIncreasing}
 use Rattle.moment_core.specs.declared.moment.Moment.{Moment}

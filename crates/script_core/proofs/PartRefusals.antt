@@ -1,5 +1,5 @@
 -- Why a script that comes part by part is refused.
-use Rattle.std.proofs.Common.{◌≡◌, ◌⊎◌, ℕ, ◌+◌, ◌*◌, ◌<◌, ◌≤◌, List, [], ◌∷◌, ◌++◌, length, Result, Err, inl, inr, refl, sym, ap, ◌∙◌, subst, arith, append_assoc}
+use Rattle.std.proofs.Common.{◌≡◌, ◌⊎◌, ℕ, ◌+◌, ◌*◌, ◌<◌, ◌≤◌, List, [], ◌∷◌, ◌++◌, length, Err, inl, inr, refl, sym, ap, ◌∙◌, subst, arith, append_assoc}
 use Rattle.std.specs.List.{before_first, after_first, position_or_len}
 use Rattle.std.proofs.lemmas.Bool.{and_parts}
 use Rattle.std.proofs.lemmas.List.{length-append, length-take, take_all}
@@ -15,10 +15,10 @@ use Rattle.script_fields.specs.declared.script_refusal.ScriptRefusal.TheVariants
 use Rattle.script_fields.specs.Fields.{is_newline, lines_of, newline}
 use Rattle.script_core.specs.GivenUp.{IsLineGivenUp}
 use Rattle.script_fields.specs.Limits.{longest_text}
-use Rattle.script_core.specs.Parts.{AreNextGivenUp, AreRefused, AreSeriesParts, HasRead, IsEnded, IsOneLine, IsPartRefused, Reads, is_long, no_script, series_front, series_text}
+use Rattle.script_core.specs.Parts.{AreNextGivenUp, AreRefused, AreSeriesParts, IsEnded, IsOneLine, IsPartRefused, Reads, is_long, no_script, series_front, series_text}
 use Rattle.script_fields.specs.LineRefusals.{of_line}
 use Rattle.script_core.specs.Reading.{line_at, lines_at}
-use Rattle.script_core.specs.State.{State, add_series, start}
+use Rattle.script_core.specs.State.{add_series, start}
 use Rattle.script_core.specs.View.{state_of}
 use Rattle.script_core.proofs.PartLaws.{ReadFront, before_one, cut_line_is, cut_one}
 use Rattle.script_core.proofs.SeriesParts.{series_least, series_one_line, series_refused}

@@ -24,7 +24,7 @@ use Rattle.script_fields.specs.declared.cause.LineCause.TheVariants as causes
 use Rattle.script_fields.specs.declared.line_refusal.LineRefusal.{LineRefusal}
 use Rattle.script_fields.specs.declared.line_refusal.LineRefusal.TheVariants as lines
 use Rattle.script_core.specs.Lines.{fields_line, first_labels, last_labels, series_line}
-use Rattle.script_core.specs.Parts.{AreSeriesParts, HasField, IsOneLine, has_field, test_samples, series_front}
+use Rattle.script_core.specs.Parts.{HasField, IsOneLine, has_field, test_samples, series_front}
 use Rattle.script_fields.specs.LineRefusals.{of_line}
 use Rattle.script_core.specs.Reading.{kind_line, line_at, spoken_line, text_line}
 use Rattle.script_fields.specs.Samples.{texts_of, are_whole, has_small_number, have_small_numbers, samples_from, are_rising}

@@ -16,10 +16,10 @@ use Rattle.index_v2.specs.Opening.{opened_at}
 use Rattle.index_v2.specs.SeriesLabels.{numbered_at}
 use Rattle.index_v2.specs.WholeReading.{lists_at}
 use Rattle.series_selection.specs.Selections.{rows_read}
-use Rattle.block_content.specs.Firsts.{each_at}
-use Rattle.block_ranges.specs.BlockReads.{taken}
+use Rattle.reading_core.specs.Firsts.{each_at}
+use Rattle.chunk_ranges.specs.BlockReads.{taken}
 use Rattle.read_ranges.specs.ChunkRanges.{group_of, group_piece, offset_of, segment_of}
-use Rattle.block_ranges.specs.ChunkReads.{Read, Tests, glimpse_at, have_keys, sticks_out, tests_at}
+use Rattle.chunk_ranges.specs.ChunkReads.{Read, Tests, glimpse_at, have_keys, sticks_out, tests_at}
 use Rattle.read_ranges.specs.Stretches.{Stretch, last_of, members}
 use Rattle.index_parts.specs.SeriesEntry.{reference_of}
 use Rattle.index_v2.specs.PostingsLists.{list_of}

@@ -7,7 +7,7 @@ use Rattle.world_core.proofs.PlanLaws.{AsksFor, EndsAre}
 use Rattle.index_cache.specs.declared.range.Range.{Range}
 use Rattle.index_cache.specs.Caches.{same_range}
 use Rattle.read_ranges.specs.Reads.{Block, Cache, Query, range_of}
-use Rattle.block_ranges.specs.BlockReads.{BlockEnd, gives, breaks_off, block_call}
+use Rattle.chunk_ranges.specs.BlockReads.{BlockEnd, gives, breaks_off, block_call}
 use Rattle.series_calls.specs.Asking.{IsReadOf}
 use Rattle.series_calls.specs.KeptRanges.{IsOfReads, IsReadIn}
 use Rattle.series_calls.proofs.BlockWalk.{block_holds}

@@ -32,15 +32,15 @@ use Rattle.index_v2.specs.PostingsLists.{list_of}
 use Rattle.index_v2.specs.SeriesLabels.{numbered_at}
 use Rattle.index_v2.specs.WholeReading.{lists_at}
 use Rattle.series_selection.specs.Selections.{rows_read}
-use Rattle.block_content.specs.Firsts.{each_at}
+use Rattle.reading_core.specs.Firsts.{each_at}
 use Rattle.read_ranges.specs.ChunkRanges.{AreGroups, IsNear, IsSetOf, group_of, group_piece, offset_of, segment_of}
-use Rattle.block_ranges.specs.ChunkReads.{Glimpse, Read, Tests, glimpse_at, have_keys, read, reads_chunks, reads_group, reads_groups, reads_out, reads_references, shows, sticks_out, tests_at}
+use Rattle.chunk_ranges.specs.ChunkReads.{Glimpse, Read, Tests, glimpse_at, have_keys, read, reads_chunks, reads_group, reads_groups, reads_out, reads_references, shows, sticks_out, tests_at}
 use Rattle.read_ranges.specs.IndexRanges.{AreRuns, Follows, Piece, Run, contents_piece, has_bytes, has_sections, least_size, run_of, section_piece}
 use Rattle.read_ranges.specs.IndexReads.{Goes, IsTakenBy, Tables, after_contents, after_lists, after_run, after_runs, after_symbols, after_table, after_whole, by_size, falls_back, have_bytes, part_at, reached, reads_contents, reads_runs, reads_sections, reads_whole, selects, tables_of}
 use Rattle.read_ranges.specs.OneCut.{one_cut}
 use Rattle.read_ranges.specs.OneSet.{one_selection, one_set}
 use Rattle.read_ranges.specs.Stretches.{Stretch, members}
-use Rattle.block_ranges.specs.BlockReads.{reads_block, shown, taken}
+use Rattle.chunk_ranges.specs.BlockReads.{reads_block, shown, taken}
 use Rattle.read_ranges.specs.Reads.{Block, Break, Cache, Query, Reached, by_cache, damaged, fault, if_read, kept, missing, range_of, reads, sized, takes, used}
 use Rattle.series_calls.proofs.BlockFindings.{AreChunksRead, AreSeries, AreTables, AreTaken, IsChunkRead, IsFull, IsReadFull, IsSeriesRead, IsSoughtOf, IsSpoilt, IsWithin, LackLists, LacksChunks, SticksOut, no_chunk, no_index, no_key, no_list, no_series}
 use Rattle.series_calls.proofs.ReadLists.{each_read, hold_runs, lists_some, near_groups, none_behind, numbers_of, ok_read, one_more, shown_is, sought_groups, symbols_some, table_some, zip_append, zip_with}

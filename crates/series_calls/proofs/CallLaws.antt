@@ -11,7 +11,7 @@ use Rattle.world_core.proofs.PlanLaws.{asked_are, each_op, end_is}
 use Rattle.world_core.proofs.PlanParts.{Parts, broken, both, parts}
 use Rattle.meta_fetcher.specs.declared.view.View.{View}
 use Rattle.read_ranges.specs.Reads.{Block, Cache, Query}
-use Rattle.block_ranges.specs.BlockReads.{BlockEnd, gives, breaks_off, block_call}
+use Rattle.chunk_ranges.specs.BlockReads.{BlockEnd, gives, breaks_off, block_call}
 use Rattle.series_calls.specs.Asking.{IsReadOf, IsReadOfOne}
 use Rattle.series_calls.specs.KeptRanges.{IsOfReads}
 use Rattle.series_calls.specs.SeriesCalls.{Called, took, broke, CallEnd, Gives, SeriesRun, after_block, reading, sources_of, to_read}

@@ -29,9 +29,9 @@ use Rattle.block_keys.specs.declared.key.Key.{Key}
 use Rattle.block_keys.specs.declared.key.Key.TheVariants.{Index, Segment}
 use Rattle.bucket_core.specs.Contents.{Contents}
 use Rattle.bucket_core.specs.Contents as stored
-use Rattle.block_ranges.specs.BlockReads.{samples_of, shown, taken}
+use Rattle.chunk_ranges.specs.BlockReads.{samples_of, shown, taken}
 use Rattle.read_ranges.specs.ChunkRanges.{IsSetOf, meets, offset_of, segment_of}
-use Rattle.block_ranges.specs.ChunkReads.{Read, places_at, tests_at}
+use Rattle.chunk_ranges.specs.ChunkReads.{Read, places_at, tests_at}
 use Rattle.read_ranges.specs.IndexRanges.{Piece}
 use Rattle.read_ranges.specs.Reads.{Block, Query, range_of}
 use Rattle.series_calls.specs.Exact.{HoldsBlock, StandsIn, asked_of, held_by}

@@ -26,7 +26,7 @@ use Rattle.index_cache.specs.Caches.{same_key, same_range}
 use Rattle.index_cache.specs.declared.range.Range.{Range}
 use Rattle.read_ranges.specs.IndexRanges.{Piece}
 use Rattle.read_ranges.specs.Reads.{Block, Cache, Query, missing, damaged, fault, range_of}
-use Rattle.block_ranges.specs.BlockReads.{BlockEnd, gives, breaks_off, block_call}
+use Rattle.chunk_ranges.specs.BlockReads.{BlockEnd, gives, breaks_off, block_call}
 use Rattle.series_calls.specs.Exact.{AreShown, HoldsBlock, IsCacheOf, StandsIn, asked_of, asked_of_all}
 use Rattle.series_calls.specs.SeriesCalls.{Called, took, broke, CallEnd, Gives, SeriesRun, after_block, reading, sources_of, to_read}
 use Rattle.series_calls.specs.declared.series_end.SeriesEnd.TheVariants as ended

@@ -17,7 +17,7 @@ use Rattle.xor_chunks.specs.Grammar.{IsText}
 use Rattle.xor_chunks.specs.Data.{data_at}
 use Rattle.xor_chunks.specs.declared.refusal.XorRefusal.{XorRefusal}
 use Rattle.xor_chunks.proofs.TextsRead.{data_again}
-use Rattle.block_ranges.specs.ChunkReads.{Read, chunk_samples_at, is_chunk_of, stored_at}
+use Rattle.chunk_ranges.specs.ChunkReads.{Read, chunk_samples_at, is_chunk_of, stored_at}
 use Rattle.read_ranges.specs.Reads.{Block}
 use Rattle.index_parts.specs.declared.chunk_place.ChunkPlace.{ChunkPlace}
 

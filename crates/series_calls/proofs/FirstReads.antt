@@ -6,8 +6,8 @@ use Rattle.world_core.specs.Plans.{Plan, Runs, ends, choose}
 use Rattle.read_ranges.specs.IndexRanges.{least_size}
 use Rattle.read_ranges.specs.Reads.{Query, Block, Cache}
 use Rattle.read_ranges.specs.IndexReads.{Goes, by_size, reads_contents, reads_whole}
-use Rattle.block_ranges.specs.ChunkReads.{reads_chunks}
-use Rattle.block_ranges.specs.BlockReads.{BlockEnd, gives, breaks_off, block_call, shown, taken}
+use Rattle.chunk_ranges.specs.ChunkReads.{reads_chunks}
+use Rattle.chunk_ranges.specs.BlockReads.{BlockEnd, gives, breaks_off, block_call, shown, taken}
 
 abbrev EndsAtOnce : Plan BlockEnd → BlockEnd → Type 0
 EndsAtOnce plan told = Runs plan [] (Some told)

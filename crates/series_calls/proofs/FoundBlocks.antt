@@ -1,8 +1,7 @@
 -- A call misses nothing and finds nothing damaged, where its reads and its cache show the blocks as they stand.
-use Rattle.std.proofs.Common.{◌≡◌, ◌≢◌, ℕ, ℤ, ◌+◌, ◌-◌, ◌/◌, ◌%◌, ◌^◌, ◌<◌, ◌≤◌, ◌≤ℤ◌, ◌<ℤ◌, Bool, true, false, List, [], ◌∷◌, ◌++◌, map, take, drop, length, Option, Some, None, Result, Ok, refl, sym, ap, subst, ◌∙◌, inl, inr, append-nil, arith}
+use Rattle.std.proofs.Common.{◌≡◌, ◌≢◌, ℕ, ℤ, ◌+◌, ◌-◌, ◌/◌, ◌%◌, ◌^◌, ◌<◌, ◌≤◌, ◌≤ℤ◌, ◌<ℤ◌, Bool, true, List, [], ◌∷◌, ◌++◌, take, drop, length, Option, Some, None, Ok, refl, sym, ap, subst, ◌∙◌, inl, inr, append-nil, arith}
 use Rattle.std.specs.Prelude.{Contains, IsErr, IfSome, int_le, int_lt, nat_le, nat_lt, option_map, slice_get, ◌&&◌, ◌==◌}
-use Rattle.std.specs.List.{AllByRecursion, AllZip, filter, flat_map, list_all}
-use Rattle.std.specs.Map.{lookup}
+use Rattle.std.specs.List.{AllByRecursion, AllZip, flat_map}
 use Rattle.std.proofs.lemmas.Bool.{and_from, eqb-true, true≢false}
 use Rattle.std.proofs.lemmas.Bool.Decides.{Decides-int_eq}
 use Rattle.std.proofs.lemmas.Int.{ints}
@@ -37,8 +36,8 @@ use Rattle.index_cache.specs.Caches.{same_range}
 use Rattle.index_cache.specs.declared.range.Range.{Range}
 use Rattle.block_content.specs.Content.{HaveTimesOf, HoldsSeries, IsChunkOf, times_of}
 use Rattle.block_content.specs.ContentReading.{are_some, have_times_of, is_time}
-use Rattle.block_content.proofs.FirstLaws.{some_is}
-use Rattle.block_content.specs.Firsts.{each_at}
+use Rattle.reading_core.proofs.FirstLaws.{some_is}
+use Rattle.reading_core.specs.Firsts.{each_at}
 use Rattle.world_core.specs.Plans.{Runs, ends}
 use Rattle.world_core.specs.Standing.{Tells}
 use Rattle.world_core.specs.declared.op.Op.{Op}
@@ -49,13 +48,12 @@ use Rattle.world_core.specs.declared.entry.Entry.{Entry}
 use Rattle.world_core.proofs.PlanLaws.{EndsAre, end_is}
 use Rattle.world_core.proofs.PlanParts.{Parts, broken, both, parts}
 use Rattle.meta_fetcher.specs.declared.view.View.{View}
-use Rattle.block_ranges.specs.BlockReads.{BlockEnd, gives, breaks_off, block_call, taken}
+use Rattle.chunk_ranges.specs.BlockReads.{BlockEnd, gives, breaks_off, block_call, taken}
 use Rattle.read_ranges.specs.ChunkRanges.{group_of, group_piece, meets, offset_of, segment_of}
-use Rattle.block_ranges.specs.ChunkReads.{Glimpse, chunk_len_at, chunk_samples_at, glimpse_at, have_keys, is_chunk_of, places_at, sticks_out, tests_at}
-use Rattle.read_ranges.specs.IndexRanges.{Piece}
+use Rattle.chunk_ranges.specs.ChunkReads.{Glimpse, chunk_len_at, chunk_samples_at, glimpse_at, have_keys, is_chunk_of, places_at, sticks_out, tests_at}
 use Rattle.read_ranges.specs.IndexReads.{tables_of}
 use Rattle.read_ranges.specs.Reads.{Block, Cache, Query, missing, damaged, fault, range_of}
-use Rattle.read_ranges.specs.Stretches.{Stretch, last_of, members}
+use Rattle.read_ranges.specs.Stretches.{Stretch, members}
 use Rattle.series_calls.specs.Exact.{AreShown, HoldsBlock, HoldsWhole, IsCacheOf, IsInBounds, StandsIn}
 use Rattle.series_calls.specs.SeriesCalls.{Called, took, broke, CallEnd, Gives, SeriesRun, after_block, reading, sources_of, to_read}
 use Rattle.series_calls.specs.declared.series_end.SeriesEnd.TheVariants as ended
@@ -66,7 +64,7 @@ use Rattle.series_calls.proofs.CallLaws.{each_front}
 use Rattle.series_calls.proofs.ExactBlock.{KnownIn, WholeIn, chunk_fits, index_bytes, range_in}
 use Rattle.series_calls.proofs.ExactCalls.{kept_under, range_shown, whole_shown}
 use Rattle.series_calls.proofs.ExactChunks.{offset_of_place, same_offset, segment_of_place}
-use Rattle.series_calls.proofs.ExactIndex.{IsTakenFrom, taken_from}
+use Rattle.series_calls.proofs.ExactIndex.{taken_from}
 use Rattle.series_calls.proofs.StandingChunks.{chunk_size, glimpse_there, out_there, size_there, stored_front, whole_front}
 use Rattle.series_calls.proofs.StandingIndex.{each_read_so, lacks_none, not_refused, opened_so, opens, selects_so, series_read, taken_among}
 

@@ -13,7 +13,7 @@ use Rattle.world_core.proofs.PlanLaws.{AsksFor, EachAfter, EndsAre, asked_are, e
 use Rattle.world_core.proofs.PlanParts.{Parts, broken, both, parts}
 use Rattle.meta_fetcher.specs.declared.view.View.{View}
 use Rattle.read_ranges.specs.Reads.{Block, Break, Cache, Query, damaged, fault, missing, reads}
-use Rattle.block_ranges.specs.BlockReads.{BlockEnd, gives, breaks_off, block_call}
+use Rattle.chunk_ranges.specs.BlockReads.{BlockEnd, gives, breaks_off, block_call}
 use Rattle.series_calls.specs.SeriesCalls.{Called, took, broke, CallEnd, Gives, SeriesRun, after_block, reading, sources_of, to_read}
 use Rattle.series_calls.specs.declared.series_end.SeriesEnd.TheVariants as ended
 use Rattle.series_calls.proofs.BlockWalk.{walk_holds}

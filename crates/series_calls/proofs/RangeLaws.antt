@@ -14,9 +14,9 @@ use Rattle.world_core.proofs.PlanLaws.{EndsAre, end_is, nothing_given}
 use Rattle.world_core.proofs.PlanParts.{Parts, broken, both, parts}
 use Rattle.index_file.specs.declared.index_series.IndexSeries.{IndexSeries}
 use Rattle.meta_fetcher.specs.declared.view.View.{View}
-use Rattle.block_ranges.specs.ChunkReads.{Read}
+use Rattle.chunk_ranges.specs.ChunkReads.{Read}
 use Rattle.read_ranges.specs.Reads.{Block, Cache, Query, missing, damaged, fault}
-use Rattle.block_ranges.specs.BlockReads.{BlockEnd, gives, breaks_off, block_call, samples_of, shown, taken}
+use Rattle.chunk_ranges.specs.BlockReads.{BlockEnd, gives, breaks_off, block_call, samples_of, shown, taken}
 use Rattle.series_calls.specs.SeriesCalls.{Called, took, broke, CallEnd, Gives, SeriesRun, after_block, reading, sources_of, to_read}
 use Rattle.series_calls.specs.declared.series_end.SeriesEnd.TheVariants as ended
 use Rattle.series_calls.proofs.BlockWalk.{block_holds}

@@ -8,10 +8,10 @@ use Rattle.reading_core.proofs.Binds.{bind_ok}
 use Rattle.label_sets.specs.declared.sample.Sample.{Sample}
 use Rattle.index_parts.specs.declared.toc.Toc.{Toc}
 use Rattle.series_selection.proofs.Matching.{rest_rises}
-use Rattle.block_content.specs.Firsts.{each_at}
-use Rattle.block_content.proofs.FirstLaws.{each_found}
-use Rattle.read_ranges.specs.ChunkRanges.{AreGroups, Group, IsNear, segment_of}
-use Rattle.block_ranges.specs.ChunkReads.{Tests, chunk_len_at, glimpse, glimpse_at, shows}
+use Rattle.reading_core.specs.Firsts.{each_at}
+use Rattle.reading_core.proofs.FirstLaws.{each_found}
+use Rattle.read_ranges.specs.ChunkRanges.{AreGroups, Group, IsNear}
+use Rattle.chunk_ranges.specs.ChunkReads.{Tests, chunk_len_at, glimpse, glimpse_at, shows}
 use Rattle.read_ranges.specs.IndexRanges.{AreRuns, Run, has_bytes, has_sections, run_of, section_piece}
 use Rattle.read_ranges.specs.Stretches.{AreJoined, IsJoined, Stretch, last_behind, last_of, members}
 use Rattle.series_calls.proofs.BlockFindings.{IsWithin}

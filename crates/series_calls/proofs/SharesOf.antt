@@ -9,7 +9,7 @@ use Rattle.world_core.proofs.PlanParts.{Parts, broken, both, parts}
 use Rattle.meta_fetcher.specs.declared.view.View.{View}
 use Rattle.vertical_merge.specs.Merged.{IsMerge}
 use Rattle.read_ranges.specs.Reads.{Query, Block, Cache, missing, damaged, fault}
-use Rattle.block_ranges.specs.BlockReads.{BlockEnd, gives, breaks_off, block_call}
+use Rattle.chunk_ranges.specs.BlockReads.{BlockEnd, gives, breaks_off, block_call}
 use Rattle.series_calls.specs.SeriesCalls.{Called, took, broke, CallEnd, Gives, SeriesRun, after_block, reading, series_call, sources_of, to_read}
 use Rattle.series_calls.specs.Shares.{AreShares, all_shares}
 use Rattle.series_calls.specs.declared.series_end.SeriesEnd.TheVariants as ended

@@ -1,5 +1,5 @@
 -- Where a call says that an object was missing, or that an operation failed, its last entry shows that.
-use Rattle.std.proofs.Common.{◌≡◌, ℕ, Bool, IsTrue, List, [], ◌∷◌, ◌++◌, Some, refl, sym, ap, subst, ◌∙◌, inl, inr, append_assoc, append-nil}
+use Rattle.std.proofs.Common.{◌≡◌, ℕ, IsTrue, List, [], ◌∷◌, ◌++◌, Some, refl, sym, ap, subst, ◌∙◌, inl, inr, append_assoc, append-nil}
 use Rattle.label_sets.specs.Triples.{Triple}
 use Rattle.world_core.specs.Operations.{has_failed}
 use Rattle.world_core.specs.Plans.{Runs, ends}
@@ -10,10 +10,9 @@ use Rattle.world_core.proofs.PlanLaws.{EndsAre, end_is, nothing_given}
 use Rattle.world_core.proofs.PlanParts.{Parts, broken, both, parts}
 use Rattle.meta_fetcher.specs.declared.view.View.{View}
 use Rattle.read_ranges.specs.Reads.{Block, Break, Cache, Query, missing, damaged, fault}
-use Rattle.block_ranges.specs.BlockReads.{BlockEnd, gives, breaks_off, block_call}
+use Rattle.chunk_ranges.specs.BlockReads.{BlockEnd, gives, breaks_off, block_call}
 use Rattle.series_calls.specs.LastEntries.{EndsWith}
-use Rattle.series_calls.specs.SeriesCalls.{Called, took, broke, CallEnd, Gives, SeriesRun, after_block, end_of_break, reading, sources_of, to_read}
-use Rattle.series_calls.specs.declared.series_end.SeriesEnd.{SeriesEnd}
+use Rattle.series_calls.specs.SeriesCalls.{Called, took, broke, CallEnd, Gives, SeriesRun, after_block, reading, sources_of, to_read}
 use Rattle.series_calls.specs.declared.series_end.SeriesEnd.TheVariants as ended
 use Rattle.series_calls.proofs.BlockWalk.{block_holds}
 

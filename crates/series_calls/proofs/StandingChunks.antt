@@ -1,26 +1,21 @@
 -- A chunk that stands in a segment is read from each range that holds it, and its read shows how far it goes.
-use Rattle.std.proofs.Common.{◌≡◌, ℕ, ◌+◌, ◌-◌, ◌*◌, ◌^◌, ◌<◌, ◌≤◌, Bool, true, false, List, [], ◌∷◌, ◌++◌, take, drop, length, Some, Result, Ok, Err, refl, sym, ap, subst, ◌∙◌, append_assoc, arith}
-use Rattle.std.specs.Prelude.{Contains, nat_le}
-use Rattle.std.proofs.lemmas.Bool.{ltb-true}
-use Rattle.std.proofs.lemmas.List.{drop-drop, length-append, length-drop}
-use Rattle.std.proofs.Math.Seq.{take-append-add, take-append_seam}
-use Rattle.reading_core.specs.Reading.{◌>>=◌, ◌>>◌, unless, refused_as}
+use Rattle.std.proofs.Common.{◌≡◌, ℕ, ◌+◌, ◌-◌, ◌≤◌, Bool, true, false, List, ◌∷◌, ◌++◌, take, drop, length, Result, Ok, Err, refl, ap, ◌∙◌, append_assoc, arith}
+use Rattle.std.specs.Prelude.{nat_le}
+use Rattle.std.proofs.lemmas.List.{length-append}
+use Rattle.std.proofs.Math.Seq.{take-append-add}
+use Rattle.reading_core.specs.Reading.{◌>>=◌, ◌>>◌}
 use Rattle.label_sets.specs.declared.sample.Sample.{Sample}
 use Rattle.wire_bytes.specs.Fields.{uvarint_at}
-use Rattle.wire_bytes.specs.FieldTexts.{IsUvarint}
 use Rattle.wire_bytes.specs.Position.{further}
 use Rattle.wire_bytes.proofs.FieldLaws.{uvarint_again}
-use Rattle.wire_bytes.specs.Crc.{crc}
 use Rattle.chunk_files.specs.Chunk.{IsChunk, IsFront}
 use Rattle.chunk_files.specs.Layout.{greatest, xor}
-use Rattle.chunk_files.specs.ChunkReading.{chunk_at}
 use Rattle.chunk_files.proofs.ChunkLaws.{chunk_again}
-use Rattle.xor_chunks.specs.Data.{data_at}
 use Rattle.xor_chunks.specs.Grammar.{IsText}
 use Rattle.xor_chunks.proofs.TextsRead.{data_again}
 use Rattle.index_parts.specs.Placed.{at_place}
-use Rattle.block_ranges.specs.ChunkReads.{Glimpse, chunk_len_at, glimpse, glimpse_at, shows, sticks_out, stored_at}
-use Rattle.block_ranges.specs.ChunkReads as reads
+use Rattle.chunk_ranges.specs.ChunkReads.{Glimpse, chunk_len_at, glimpse, glimpse_at, shows, sticks_out, stored_at}
+use Rattle.chunk_ranges.specs.ChunkReads as reads
 use Rattle.read_ranges.specs.ChunkRanges.{Group}
 
 -- ---- fronts

@@ -1,5 +1,5 @@
 -- The whole index of a block that stands is read: it opens, and the lists and the series that a selector needs are in it.
-use Rattle.std.proofs.Common.{◌≡◌, ℕ, Bool, true, false, List, [], ◌∷◌, map, take, Option, Some, None, Result, Ok, Err, refl, sym, ap, subst, ◌∙◌, inl, inr}
+use Rattle.std.proofs.Common.{◌≡◌, ℕ, Bool, true, false, List, [], ◌∷◌, take, Some, Result, Ok, Err, refl, sym, ap, subst, ◌∙◌, inl, inr}
 use Rattle.std.specs.Prelude.{Contains, IsErr, IsOk, is_some, slice_get, if◌then◌else◌}
 use Rattle.std.specs.List.{AllZip, filter, flat_map}
 use Rattle.list_core.proofs.Membership.{contains_first, contains_later, into_map, member_cases, no_member, of_filter, of_flat_map}
@@ -30,8 +30,8 @@ use Rattle.index_v2.proofs.OpeningLaws.{opened_again}
 use Rattle.index_v2.proofs.WholeParts.{lists_again}
 use Rattle.series_selection.specs.Selections.{IsListed, IsSelection, deciding, decides, rows_read}
 use Rattle.series_selection.proofs.Matching.{one_list}
-use Rattle.block_content.specs.Firsts.{each_at}
-use Rattle.block_content.proofs.FirstLaws.{each_again}
+use Rattle.reading_core.specs.Firsts.{each_at}
+use Rattle.reading_core.proofs.FirstLaws.{each_again}
 use Rattle.read_ranges.specs.IndexReads.{tables_of}
 use Rattle.read_ranges.specs.Reads.{Block, Query}
 use Rattle.series_calls.proofs.BlockFindings.{LackLists}

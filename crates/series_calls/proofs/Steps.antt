@@ -17,7 +17,7 @@ use Rattle.index_cache.specs.Caches.{held}
 use Rattle.index_cache.specs.declared.cache.IndexCache.{IndexCache}
 use Rattle.read_ranges.specs.ChunkRanges.{IsSetOf}
 use Rattle.read_ranges.specs.Reads.{Query, Block, Cache, missing, damaged, fault}
-use Rattle.block_ranges.specs.BlockReads.{BlockEnd, gives, breaks_off as broken, block_call}
+use Rattle.chunk_ranges.specs.BlockReads.{BlockEnd, gives, breaks_off as broken, block_call}
 use Rattle.series_calls.specs.SeriesCalls.{CallEnd, Gives, StartsMeeting, took, broke, after_block, asking, reading, sources_of, to_read}
 use Rattle.block_ranges.specs.BlockRuns.{BlockRun, IsEnd, cache_of}
 use Rattle.block_ranges.specs.contracts.block_call.BlockCallMachine.TheImpl.{ghosts as reads}

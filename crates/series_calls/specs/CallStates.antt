@@ -13,7 +13,7 @@ use Rattle.world_core.specs.declared.seen.Seen.{Seen}
 use Rattle.index_cache.specs.Caches.{held}
 use Rattle.index_cache.specs.declared.cache.IndexCache.{IndexCache}
 use Rattle.read_ranges.specs.Reads.{Query, Block, Cache, missing, damaged, fault}
-use Rattle.block_ranges.specs.BlockReads.{BlockEnd, gives, breaks_off}
+use Rattle.chunk_ranges.specs.BlockReads.{BlockEnd, gives, breaks_off}
 use Rattle.series_calls.specs.SeriesCalls.{CallEnd, Gives, after_block, asking, reading, sources_of, to_read}
 use Rattle.block_ranges.specs.BlockRuns.{cache_of, most_reads}
 use Rattle.block_ranges.specs.contracts.block_call.BlockCallMachine.TheImpl.{ghosts as reads}

@@ -1,6 +1,6 @@
 pub use Rattle.vertical_merge.specs.Merged
 pub use Rattle.read_ranges.specs.Reads
-pub use Rattle.block_ranges.specs.BlockReads
+pub use Rattle.chunk_ranges.specs.BlockReads
 pub mod SeriesCalls
 pub mod Shares
 pub mod Asking

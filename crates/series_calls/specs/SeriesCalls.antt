@@ -13,7 +13,7 @@ use Rattle.matchers.specs.declared.matcher.Matcher.{Matcher}
 use Rattle.vertical_merge.specs.Merged.{IsMerge}
 use Rattle.read_ranges.specs.ChunkRanges.{IsSetOf}
 use Rattle.read_ranges.specs.Reads.{Query, Block, Cache, Break, missing, damaged, fault, block_of}
-use Rattle.block_ranges.specs.BlockReads.{BlockEnd, gives, breaks_off, block_call}
+use Rattle.chunk_ranges.specs.BlockReads.{BlockEnd, gives, breaks_off, block_call}
 use Rattle.series_calls.specs.declared.series_end.SeriesEnd.{SeriesEnd}
 use Rattle.series_calls.specs.declared.series_end.SeriesEnd.TheVariants as ended
 

@@ -5,7 +5,7 @@ use Rattle.label_sets.specs.Triples.{Triple}
 use Rattle.world_core.specs.Plans.{Runs}
 use Rattle.world_core.specs.declared.entry.Entry.{Entry}
 use Rattle.read_ranges.specs.Reads.{Query, Block, Cache}
-use Rattle.block_ranges.specs.BlockReads.{gives, block_call}
+use Rattle.chunk_ranges.specs.BlockReads.{gives, block_call}
 
 -- The entries are runs of the reads of these blocks, one after another, each by the cache that the one before it left. Each block
 -- gave such samples, and last comes this cache.

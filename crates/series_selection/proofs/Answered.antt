@@ -17,7 +17,7 @@ use Rattle.index_parts.specs.Postings.{IsNextPosting}
 use Rattle.index_parts.specs.PostingsReading.{posting_at}
 use Rattle.index_parts.proofs.ListLaws.{list_again}
 use Rattle.index_parts.proofs.PostingsLaws.{posting_turn}
-use Rattle.index_slices.specs.Parts.{Part, file, IsPartOf, HoldsSection}
+use Rattle.index_slices.specs.Parts.{Part, file, HoldsSection}
 use Rattle.index_file.specs.declared.index_series.IndexSeries.{IndexSeries}
 use Rattle.index_file.specs.Opened.{Opened}
 use Rattle.index_file.specs.IndexFile.{IsIndex}

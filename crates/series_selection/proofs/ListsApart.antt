@@ -1,6 +1,6 @@
 -- In an index of a list of series, the lists of the rows of one name share no number.
-use Rattle.std.proofs.Common.{◌≡◌, ℕ, zero, suc, ◌+◌, ◌<◌, ◌≤◌, Bool, true, false, List, [], ◌∷◌, ◌++◌, length, map, Option, Some, Result, Ok, Err, refl, sym, ap, subst, ◌∙◌, arith, inl, inr}
-use Rattle.std.specs.Prelude.{is_some, unwrap_or, if◌then◌else◌}
+use Rattle.std.proofs.Common.{◌≡◌, ℕ, suc, ◌≤◌, Bool, true, false, List, [], ◌∷◌, ◌++◌, length, map, Some, Ok, refl, sym, ap, subst, ◌∙◌, arith, inl, inr}
+use Rattle.std.specs.Prelude.{is_some, if◌then◌else◌}
 use Rattle.std.specs.List.{Contains, filter}
 use Rattle.std.specs.List.Sorted.{IsStrictlyIncreasing, IsStrictlySortedBy}
 use Rattle.std.specs.declared.cmp.Ordering.TheVariants.{Less, Equal}
@@ -14,12 +14,10 @@ use Rattle.std.proofs.lemmas.List.Kept.{IsStrictlySortedBy-filter}
 use Rattle.std.proofs.lemmas.List.Elements.{Contains-append_left, Contains-append_right, Contains-append_cases}
 use Rattle.list_core.proofs.Order.{Less-at_places}
 use Rattle.list_core.proofs.Membership.{contains_first, contains_later, member_cases, no_member, into_map, place_of_member, of_filter, member_passes}
-use Rattle.list_core.proofs.Bools.{bytes_eq-itself}
 use Rattle.reading_core.specs.Reading.{refused_as}
 use Rattle.reading_core.proofs.Binds.{ok_is}
 use Rattle.label_sets.specs.declared.label.Label.{Label}
 use Rattle.label_sets.specs.Labels.{value_of}
-use Rattle.label_sets.proofs.LabelValues.{by_bool, bytes_eq_differs}
 use Rattle.matchers.specs.declared.matcher.Matcher.{Matcher}
 use Rattle.index_parts.specs.declared.postings_row.PostingsRow.{PostingsRow}
 use Rattle.index_parts.specs.Postings.{IsNextPosting}
@@ -33,12 +31,13 @@ use Rattle.index_file.specs.IndexFile.{IsIndex}
 use Rattle.index_v2.specs.declared.refusal.IndexRefusal.{IndexRefusal}
 use Rattle.index_v2.specs.Opening.{refused_in}
 use Rattle.index_v2.specs.PostingsLists.{list_of}
-use Rattle.index_v2.proofs.RowPlaces.{rows_total, held_ascends}
+use Rattle.index_parts.proofs.RowPlaces.{rows_total}
+use Rattle.index_v2.proofs.RowsHeld.{held_ascends}
 use Rattle.index_v2.proofs.ListNumbers.{numbers_rise}
 use Rattle.series_selection.specs.Selections.{HasNumber, decides, deciding}
 use Rattle.series_selection.specs.SelectionSteps.{numbers_at}
-use Rattle.series_selection.proofs.NumbersRead.{FirstRead, first_read, numbers_none, of_numbers}
-use Rattle.series_selection.proofs.Walk.{ok_same, other_name}
+use Rattle.series_selection.proofs.NumbersRead.{first_read, numbers_none, of_numbers}
+use Rattle.series_selection.proofs.Walk.{ok_same}
 use Rattle.series_selection.proofs.Matching.{Stands, first_of, rest_rises, above_first, row_has, row_value}
 
 -- ---- numbers of which none stands twice

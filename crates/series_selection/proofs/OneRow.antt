@@ -1,5 +1,5 @@
 -- The one row that decides for a matcher with one text.
-use Rattle.std.proofs.Common.{◌≡◌, ℕ, ◌+◌, ◌*◌, ◌≤◌, Bool, true, false, not, ◌&&◌, List, [], ◌∷◌, ◌++◌, length, sum_by, Option, Some, None, Result, Ok, Err, refl, sym, ap, subst, ◌∙◌, arith, inl, inr, ◌⊎◌}
+use Rattle.std.proofs.Common.{◌≡◌, ℕ, ◌*◌, ◌≤◌, Bool, true, false, not, ◌&&◌, List, [], ◌∷◌, ◌++◌, length, sum_by, Option, Some, None, Result, Ok, Err, refl, sym, ap, subst, ◌∙◌, arith, inl, inr, ◌⊎◌}
 use Rattle.std.specs.Prelude.{slice_get, is_some, if◌then◌else◌, IfOk, IfErr, IfSome, OnOk}
 use Rattle.label_sets.specs.declared.label.Label.{Label}
 use Rattle.label_sets.specs.Labels.{value_of}
@@ -21,7 +21,7 @@ use Rattle.index_v2.specs.declared.refusal.IndexRefusal.{IndexRefusal}
 use Rattle.index_v2.specs.declared.refusal.IndexRefusal.TheVariants.{NoMemory}
 use Rattle.index_v2.specs.Budget.{list_bytes}
 use Rattle.index_v2.specs.Held.{Held}
-use Rattle.index_v2.specs.RowOrder.{IsAlone}
+use Rattle.index_parts.specs.RowOrder.{IsAlone}
 use Rattle.index_v2.specs.PostingsLists.{is_row_of, list_of}
 use Rattle.series_selection.specs.Selections.{decides, deciding}
 use Rattle.series_selection.specs.SelectionSteps.{numbers_at, ListsStand, IsWithinBudget, IsReadOn, IsDecidedBy}

@@ -27,10 +27,10 @@ use Rattle.index_v2.specs.declared.refusal.IndexRefusal.{IndexRefusal}
 use Rattle.index_v2.specs.declared.refusal.IndexRefusal.TheVariants.{NoMemory}
 use Rattle.index_v2.specs.Held.{Held, IsHeldOf}
 use Rattle.index_v2.specs.PostingsLists.{list_of}
-use Rattle.index_v2.specs.RowOrder.{BeginsAt}
+use Rattle.index_parts.specs.RowOrder.{BeginsAt}
 use Rattle.index_v2.specs.Budget.{list_bytes}
 use Rattle.index_v2.proofs.ListNumbers.{none_rise}
-use Rattle.index_v2.proofs.ValuesListed.{name_le, equal_not_less}
+use Rattle.index_parts.proofs.RowsBegin.{name_le, equal_not_less}
 use Rattle.index_v2.proofs.WholeLoops.{drop_at, front_more}
 use Rattle.series_selection.specs.Selections.{decides}
 use Rattle.series_selection.specs.SelectionSteps.{numbers_at, ListsStand, IsWithinBudget, IsReadOn}

@@ -79,7 +79,9 @@ fn part_kept(wanted: bool, numbers: &[u64], here: usize, end: usize, behind: usi
     requires begins { here ≤ end }
     requires goes { end ≤ behind }
     requires ends { behind ≤ length numbers.now }
-    ensures { result.now ≡ (if wanted then take (behind - end) (drop end numbers.now) else take (end - here) (drop here numbers.now)) }
+    ensures { result.now
+        ≡ (if wanted then take (behind - end) (drop end numbers.now)
+        else take (end - here) (drop here numbers.now)) }
 {
     if wanted {
         return &numbers[end..behind];

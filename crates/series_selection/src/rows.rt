@@ -59,7 +59,8 @@ fn none_listed(alloc: Global, index: &IndexReader<'_>) -> Listed
 
 /// What is left behind so many bytes and numbers.
 fn spend(left: usize, bytes: usize, numbers: usize) -> Result<usize, NoMemory>
-    ensures { MatchResult result (λ rest. rest + (numbers + bytes) ≡ left) (λ _. left < numbers + bytes) }
+    ensures { MatchResult result
+        (λ rest. rest + (numbers + bytes) ≡ left) (λ _. left < numbers + bytes) }
 {
     match left.checked_sub(bytes) {
         Some(rest) => rest.checked_sub(numbers).ok_or(NoMemory),

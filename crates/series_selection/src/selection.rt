@@ -75,7 +75,8 @@ pub fn select_postings(
         → Contains (rows_read external.now index.now.rows selector.now) row
         → HoldsSection index.now.lists row.offset)
         → IfErr result (λ e. (e ≡ NoMemory)
-        ⊎ (lists_at (file opened.bytes) (rows_read external.now opened.rows selector.now) ≡ Err e)) }
+        ⊎ (lists_at (file opened.bytes) (rows_read external.now opened.rows selector.now)
+        ≡ Err e)) }
 
     // In an index of a list of series these are exactly the numbers of the series whose final labels match, whatever replica
     // labels are left out that the selector does not name. Where the lists lie in what is held, as they do in a whole file,

@@ -55,7 +55,8 @@ impl Upload {
         requires { (ulid : ℕ) × IsBlock ulid objects }
         ensures begun { IfOk result ⟦<Upload as Machine>⟧.fresh }
         ensures run { (ulid : ℕ) → IsBlock ulid objects
-            → IfOk result (λ started. (entries : List Entry) (end : Option UploadEnd) (last : Upload)
+            → IfOk result (λ started.
+            (entries : List Entry) (end : Option UploadEnd) (last : Upload)
             → ⟦<Upload as Machine>⟧.may started entries end last
             → Runs (upload ulid objects) entries end) }
     {

@@ -63,7 +63,8 @@ fn object_comes_after(alloc: Global, ulid: Ulid, cursor: &str, key: &Key) -> Res
 
 /// The same by the key's text.
 fn is_due(ulid: Ulid, cursor: &str, key: &Key, text: &str) -> bool
-    ensures { result ≡ ((key_ulid key.now == ulid) && is_lt (slice_cmp nat_cmp cursor.now text.now)) }
+    ensures { result
+        ≡ ((key_ulid key.now == ulid) && is_lt (slice_cmp nat_cmp cursor.now text.now)) }
 {
     key.ulid() == ulid && comes_after(cursor.as_bytes(), text.as_bytes())
 }

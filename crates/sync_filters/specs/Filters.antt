@@ -20,7 +20,7 @@ is_late_source source = bytes_eq source (codes "compactor") || (bytes_eq source 
 abbrev pub is_consistent : Found → Span → Bool
 is_consistent found delay = nat_le (time_of found.ulid + delay.ms) found.meta_read.ms || is_late_source found.meta.source
 
--- some of the block's times lie in the partition, whose ends count; the block's last time is below its end
+-- the partition, whose ends count, has a time from the block's first one to its end; that end counts too, though no sample has it
 abbrev pub is_in_partition : Meta → Partition → Bool
 is_in_partition meta partition = int_le partition.low meta.max_time && int_le meta.min_time partition.high
 

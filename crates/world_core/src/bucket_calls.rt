@@ -17,7 +17,8 @@ use wire_bytes::Blob;
 /// Does an operation on a bucket. Setting the clock leaves the bucket alone.
 pub(crate) fn perform<B: Bucket>(alloc: Global, bucket: &mut B, op: &Op) -> Result<Reply, NoMemory>
     requires { IsLawful op.now }
-    ensures performed { IsPerformed B.contents B.faults B.quiet bucket.old op.now result bucket.new }
+    ensures performed { IsPerformed B.contents B.faults B.quiet
+        bucket.old op.now result bucket.new }
     ensures asks { AsksIn B.asked bucket.old bucket.new op.now result }
 {
     match op {
@@ -43,7 +44,8 @@ fn put<B: Bucket>(alloc: Global, bucket: &mut B, key: Key, bytes: &Blob) -> Resu
 
 fn get<B: Bucket>(alloc: Global, bucket: &mut B, key: Key) -> Result<Reply, NoMemory>
     requires { IsLawfulKey key }
-    ensures performed { IsPerformed B.contents B.faults B.quiet bucket.old (Op.Get key) result bucket.new }
+    ensures performed { IsPerformed B.contents B.faults B.quiet
+        bucket.old (Op.Get key) result bucket.new }
     ensures asks { AsksIn B.asked bucket.old bucket.new (Op.Get key) result }
 {
     let name = key.text(alloc)?;
@@ -68,7 +70,8 @@ fn get_range<B: Bucket>(
 
 fn delete<B: Bucket>(alloc: Global, bucket: &mut B, key: Key) -> Result<Reply, NoMemory>
     requires { IsLawfulKey key }
-    ensures performed { IsPerformed B.contents B.faults B.quiet bucket.old (Op.Delete key) result bucket.new }
+    ensures performed { IsPerformed B.contents B.faults B.quiet
+        bucket.old (Op.Delete key) result bucket.new }
     ensures asks { AsksIn B.asked bucket.old bucket.new (Op.Delete key) result }
 {
     let name = key.text(alloc)?;

@@ -39,8 +39,8 @@ impl<B: Bucket> Model for World<B> {
 
     ghost view = { λ w. record { bucket = w.bucket; journal = w.journal; tick = w.tick.ms } };
 
-    ghost invariant = { λ w. IsCountedWorld B.contents B.faults w.bucket w.journal w.tick.ms w.last.ms
-        w.kept };
+    ghost invariant = { λ w.
+        IsCountedWorld B.contents B.faults w.bucket w.journal w.tick.ms w.last.ms w.kept };
 }
 
 impl<B: Bucket> World<B> {

@@ -1,5 +1,5 @@
 -- Worlds that come from one that was opened.
-use Rattle.std.proofs.Common.{◌≡◌, ℕ, ◌+◌, ◌≤◌, ◌++◌, false, List, [], ◌∷◌, Option, Some, refl, sym, ap, ◌∙◌, arith}
+use Rattle.std.proofs.Common.{◌≡◌, ℕ, ◌≤◌, ◌++◌, false, List, [], ◌∷◌, Option, Some, sym, ap, ◌∙◌, arith}
 use Rattle.bucket_core.specs.Asking.{Call}
 use Rattle.world_core.specs.Asking.{IsAllAsked, calls_of, opening}
 use Rattle.world_core.specs.declared.entry.Entry.{Entry}

@@ -12,6 +12,8 @@
 --   7. It has no entries of any other seat.
 --   8. Unless a live view says that memory was wanted, all that the bucket of the world at home was asked is its calls, if
 --      that held as the world was opened.
+--   9. Each live view knows how the world was opened. The first port is the root's: its view counts the seats that were made, and
+--      keeps those that were joined.
 use Rattle.std.specs.Prelude.{◌≡◌, ◌≢◌, ◌⊎◌, ℕ, ◌<◌, ◌≤◌, ◌++◌, Bool, List, [], ◌∷◌, length, map, Contains, true, false, Option, Some, None}
 use Rattle.std.specs.List.{AllByRecursion}
 use mathlib.Core.List.{IsPrefix}

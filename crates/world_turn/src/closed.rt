@@ -13,7 +13,8 @@ pub struct Closed<B: Bucket> {
     pub(crate) root: Snapshot<Pass>,
     pub(crate) refused: bool,
     pub(crate) wanted: bool,
-    ghost told: { (refused ≡ (view_of root.value).refused) × (wanted ≡ (view_of root.value).wanted) },
+    ghost told: { (refused ≡ (view_of root.value).refused)
+        × (wanted ≡ (view_of root.value).wanted) },
 }
 
 impl<B: Bucket> Closed<B> {

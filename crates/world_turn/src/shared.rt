@@ -44,7 +44,8 @@ impl<B: Bucket> Shared<B> {
     pub fn open(alloc: Global, world: World<B>) -> Result<(Shared<B>, Pass), (NoMemory, World<B>)>
         requires { world.journal ≡ [] }
         ensures pass { IfOk result (λ r. (table_of r.1 ≡ r.0.table.shared.table_id)
-            × (r.1.seat ≡ 0) × (r.1.splits ≡ 0) × (view_of r.1 ≡ root (opening_of B.faults B.asked world))) }
+            × (r.1.seat ≡ 0) × (r.1.splits ≡ 0)
+            × (view_of r.1 ≡ root (opening_of B.faults B.asked world))) }
         ensures opened { IfOk result (λ r. r.0.table.shared.key.value ≡ world) }
         ensures err { IfErr result (λ e. e.1 ≡ world) }
     {

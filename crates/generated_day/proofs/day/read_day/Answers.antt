@@ -1,6 +1,5 @@
-use Rattle.std.proofs.Common.{◌++◌, refl, subst, ◌∙◌}
+use Rattle.std.proofs.Common.{◌++◌, refl, ◌∙◌}
 use Rattle.std.proofs.lemmas.Result.{err_from_is_err_and}
-use Rattle.script_core.specs.Parts.{Reads}
 use Rattle.script_core.proofs.PartLaws.{reads_both}
 use Rattle.generated_day.specs.Day.{setup_text, all_blocks_text, phases_text, day_text}
 use Rattle.generated_day.proofs.Parts.{from_none}

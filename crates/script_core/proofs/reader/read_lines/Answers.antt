@@ -1,4 +1,4 @@
-use Rattle.std.proofs.Common.{◌≡◌, ◌+◌, sym, refl, arith}
+use Rattle.std.proofs.Common.{◌+◌, sym, refl, arith}
 use Rattle.std.proofs.lemmas.Result.{err_from_is_err_and}
 use Rattle.script_core.specs.View.{state_of}
 use Rattle.script_core.proofs.LineLists.{lines_go_on, lines_end}

@@ -1,5 +1,4 @@
-use Rattle.std.proofs.Common.{List, sym, ap, subst, ◌∙◌}
-use Rattle.index_parts.specs.declared.postings_row.PostingsRow.{PostingsRow}
+use Rattle.std.proofs.Common.{sym, ap, subst, ◌∙◌}
 use Rattle.index_v2.proofs.WholeLoops.{gives_stop}
 use Rattle.series_selection.specs.SelectionSteps.{numbers_at, ListsStand, IsWithinBudget}
 use Rattle.series_selection.proofs.OneRow.{named_rows}

@@ -1,7 +1,7 @@
 use Rattle.std.proofs.Common.{◌≡◌, ◌+◌, ℕ, List, true, false, sym, ap, subst, ◌∙◌, arith}
 use Rattle.std.specs.List.Sorted.{IsStrictlyIncreasing}
 use Rattle.index_parts.specs.declared.postings_row.PostingsRow.{PostingsRow}
-use Rattle.index_v2.specs.RowOrder.{BeginsAt}
+use Rattle.index_parts.specs.RowOrder.{BeginsAt}
 use Rattle.index_v2.proofs.ValuesListed.{same_name, other_name, listed_none}
 use Rattle.index_v2.proofs.WholeLoops.{gives_stop}
 use Rattle.series_selection.specs.declared.rows.Listed.{Listed}

@@ -1,7 +1,7 @@
 use Rattle.std.proofs.Common.{◌≡◌, true}
 use Rattle.std.specs.List.Sorted.{IsStrictlyIncreasing}
 use Rattle.matchers.specs.ConditionSearches.{condition_asked}
-use Rattle.index_v2.specs.RowOrder.{BeginsAt}
+use Rattle.index_parts.specs.RowOrder.{BeginsAt}
 use Rattle.series_selection.proofs.Walk.{ReadSoFar}
 use Rattle.series_selection.proofs.rows.listed_under.Given as goal
 

@@ -1,4 +1,4 @@
-use Rattle.std.proofs.Common.{◌+◌, length, inr, sym, ◌∙◌, arith}
+use Rattle.std.proofs.Common.{inr, sym, ◌∙◌, arith}
 use Rattle.script_core.specs.Reading.{line_at}
 use Rattle.script_core.specs.View.{state_of}
 use Rattle.std.proofs.lemmas.Result.{err_from_is_err_and}

@@ -1,4 +1,4 @@
-use Rattle.std.proofs.Common.{◌≡◌, ◌∷◌, drop, sym, ◌∙◌}
+use Rattle.std.proofs.Common.{◌≡◌, drop, sym, ◌∙◌}
 use Rattle.shipper.proofs.Steps.{waits_first, some_wait, waits_behind, asks_put}
 use Rattle.shipper.proofs.upload.Upload.put_at.Goals as goal
 
