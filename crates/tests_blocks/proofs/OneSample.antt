@@ -1,5 +1,5 @@
 -- The data of one sample may be put as a chunk.
-use Rattle.std.proofs.Common.{◌≡◌, ℕ, ◌≤◌, ◌<◌, ◌+◌, ◌-◌, List, [], ◌∷◌, length, Some, None, refl, sym, ap, ◌∙◌, slice_index_or, ℤ, arith}
+use Rattle.std.proofs.Common.{◌≡◌, ℕ, List, [], ◌∷◌, length, Some, sym, ap, slice_index_or, ℤ, arith}
 use Rattle.label_sets.specs.declared.sample.Sample.{Sample}
 use Rattle.xor_chunks.specs.Grammar.{IsText}
 use Rattle.block_writing.specs.Put.{PlanFields, IsStored, IsWithin}

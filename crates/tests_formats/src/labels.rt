@@ -7,8 +7,9 @@ mod series;
 mod sets;
 
 use crate::labels::merges::print_merged;
-pub(crate) use crate::labels::series::samples_of;
+pub(crate) use crate::labels::series::{put_samples, samples_of};
 use crate::labels::series::{print_sample, print_series};
+pub(crate) use crate::labels::sets::set_of;
 use crate::labels::sets::{print_added, print_final, print_set};
 use crate::says::say;
 

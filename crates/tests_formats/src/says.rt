@@ -1,5 +1,6 @@
 //! What the rows print. Want of memory, and a line that cannot be written, show as what is lacking in the output, by which the
 //! row fails; so no call here hands them on.
+use label_sets::LabelSet;
 use list_core::TryCopy;
 use std::{fmt, str};
 
@@ -24,6 +25,18 @@ pub(crate) fn show<T: fmt::Debug>(rt: &HostRuntime, value: &T) {
     say(rt, "");
 }
 
+/// Prints a value, and how many there are.
+pub(crate) fn show_of<T: fmt::Debug>(rt: &HostRuntime, value: &T, count: usize) {
+    let _ = println!(rt; "{value:?} of {count}");
+}
+
+/// Prints a label set with no line's end behind it.
+pub(crate) fn put_labels(rt: &HostRuntime, labels: &LabelSet) {
+    let mut text = Vec::new(rt.alloc());
+    let _ = labels.write(&mut text);
+    put(rt, str::from_utf8(text.as_slice()).unwrap_or("no text"));
+}
+
 /// Prints bytes that are a text.
 pub(crate) fn say_text(rt: &HostRuntime, text: &[u8]) {
     say(rt, str::from_utf8(text).unwrap_or("no text"));
@@ -40,6 +53,11 @@ pub(crate) fn say_hex(rt: &HostRuntime, bytes: &[u8]) {
 /// The first word of a text, and what stands behind the blank after it.
 pub(crate) fn cut(text: &str) -> (&str, &str) {
     text.split_once(' ').unwrap_or((text, ""))
+}
+
+/// What stands before the first of these marks in a text, and what stands behind it.
+pub(crate) fn cut_at(text: &str, mark: char) -> (&str, &str) {
+    text.split_once(mark).unwrap_or((text, ""))
 }
 
 /// The copy of a value that is gone.

@@ -1,10 +1,12 @@
-//! Whole runs of the program over a bucket in memory, of which calls may fail and which may lie, and passes and workers that act on
-//! one world from threads of their own. A line of standard input is one such run, in the notation that its head explains, or a case
-//! of threads; one that begins with `= ` is a heading. What is to be printed was worked out apart from this program, by the
+//! Calls on buckets and shelves in real folders and whole runs over them, whole runs of the program over a bucket in memory, of which
+//! calls may fail and which may lie, and passes and workers that act on one world from threads of their own. A line of standard
+//! input is one such call behind the word `folders`, one such run, in the notation that is explained above the first of them, or a
+//! case of threads; one that begins with `= ` is a heading. What is to be printed was worked out apart from this program, by the
 //! description of the formats and of the activities.
 #![tactic(auto)]
 
 mod entries;
+mod folders;
 mod lines;
 mod runs;
 mod says;
@@ -12,34 +14,76 @@ mod setting;
 mod strange_bucket;
 mod threads;
 mod told_runs;
+mod tool;
 
+use crate::folders::{Folder, open_both, print_call, print_openings};
 use crate::lines::{Named, add_lines, repeated, script_of, wide};
 use crate::runs::{Shown, print_run};
 use crate::says::{cut, say};
 use crate::setting::{calm, setting_of};
 use crate::threads::print_threads;
+use bucket_core::{Bucket, Shelf, Site};
+use dir_bucket::HostSite;
 use std::io;
 use std::sync::Wait;
 use std::thread::Threads;
 
 fn main(rt: HostRuntime) -> io::Result<()> {
+    let mut site = HostSite::new(rt.clone()?);
+    let printed = print_all(&rt, &rt, &mut site);
+    drop(site);
+    printed
+}
+
+/// Prints which buckets and shelves a site opens, and then what comes of each row.
+fn print_all<R: Threads + Wait + Sync, S: Site>(
+    threads: &R,
+    rt: &HostRuntime,
+    site: &mut S,
+) -> io::Result<()>
+where
+    S::Store: Drop,
+    S::Files: Drop,
+{
+    print_openings(rt, site);
+    match open_both(site) {
+        Some(opened) => {
+            let mut folder = opened;
+            let printed = print_rows(threads, rt, &mut folder);
+            drop(folder);
+            printed
+        }
+        None => {
+            say(rt, "not opened");
+            Ok(())
+        }
+    }
+}
+
+fn print_rows<R: Threads + Wait + Sync, B: Bucket, F: Shelf>(
+    threads: &R,
+    rt: &HostRuntime,
+    folder: &mut Folder<B, F>,
+) -> io::Result<()> {
     let mut named = Vec::new(rt.alloc());
     for row in rt.lines(rt.alloc()) {
-        do_row(&rt, &rt, &mut named, row?.as_str());
+        do_row(threads, rt, folder, &mut named, row?.as_str());
     }
     Ok(())
 }
 
 /// Does what a row says. Rows that name lines print nothing.
-fn do_row<R: Threads + Wait + Sync>(
+fn do_row<R: Threads + Wait + Sync, B: Bucket, F: Shelf>(
     threads: &R,
     rt: &HostRuntime,
+    folder: &mut Folder<B, F>,
     named: &mut Vec<Named>,
     row: &str,
 ) {
     let (word, text) = cut(row);
     match word {
         "=" => say(rt, row),
+        "folders" => print_call(threads, rt, folder, text),
         "lines" => add_lines(named, text),
         "words" | "repeat" | "wide" | "run" | "journal" | "calls" => {
             say(rt, row);

@@ -3,14 +3,14 @@ use crate::says::{put_number, say, say_lines};
 use crate::setting::Setting;
 use crate::strange_bucket::{StrangeBucket, StrangeSite};
 use crate::told_runs::run_told;
+use crate::tool::words_of;
 use bucket_core::{MemoryShelf, MemorySink, MemorySource};
 use replay_cli::Run;
-use std::alloc::{AllocError, Global};
 use std::str;
 use wire_bytes::Blob;
 
 /// What is printed of a run: its status and its report; and behind these its journal, or the calls that its bucket noted.
-#[derive(Clone, Copy, Debug, PartialEq, Eq)]
+#[derive(Clone, Copy)]
 pub(crate) enum Shown {
     Report,
     Entries,
@@ -25,14 +25,12 @@ pub(crate) fn print_run(
     setting: &Setting,
     shown: Shown,
 ) {
-    let alloc = rt.alloc();
-    let Ok(words) = words_of(alloc, words) else {
+    let Ok(script) = Blob::from_bytes(rt.alloc(), script) else {
         return say(rt, "  no memory");
     };
-    match Blob::from_bytes(alloc, script) {
-        Ok(script) => print_done(rt, words.as_slice(), script, setting, shown),
-        Err(_) => say(rt, "  no memory"),
-    }
+    let words = words_of(rt.alloc(), words);
+    print_done(rt, words.as_slice(), script, setting, shown);
+    drop(words);
 }
 
 fn print_done(rt: &HostRuntime, words: &[String], script: Blob, setting: &Setting, shown: Shown) {
@@ -43,12 +41,17 @@ fn print_done(rt: &HostRuntime, words: &[String], script: Blob, setting: &Settin
     let run = run_told(alloc, words, &mut site, &mut source, &mut sink);
     drop(source);
     drop(site);
-    put_number(rt, "  status ", u64::from(run.status));
-    say(rt, "");
-    say_lines(rt, text_of(sink.bytes()));
+    print_written(rt, run.status, sink.bytes());
     drop(sink);
     print_shown(rt, &run, shown);
     drop(run);
+}
+
+/// Prints a status, and each line of what was written.
+pub(crate) fn print_written(rt: &HostRuntime, status: u8, text: &[u8]) {
+    put_number(rt, "  status ", u64::from(status));
+    say(rt, "");
+    say_lines(rt, text_of(text));
 }
 
 fn print_shown(rt: &HostRuntime, run: &Run<StrangeBucket, MemoryShelf>, shown: Shown) {
@@ -61,12 +64,4 @@ fn print_shown(rt: &HostRuntime, run: &Run<StrangeBucket, MemoryShelf>, shown: S
 
 fn text_of(bytes: &[u8]) -> &str {
     str::from_utf8(bytes).unwrap_or("no text")
-}
-
-fn words_of(alloc: Global, text: &str) -> Result<Vec<String>, AllocError> {
-    let mut words = Vec::new(alloc);
-    for word in text.split_whitespace() {
-        words.push(String::from_str(alloc, word)?)?;
-    }
-    Ok(words)
 }

@@ -1,5 +1,6 @@
 //! What the rows print. A line that cannot be written shows as what is lacking in the output, by which the row fails; so no call
 //! here hands it on.
+use std::fmt;
 
 /// Prints a line.
 pub(crate) fn say(rt: &HostRuntime, line: &str) {
@@ -9,6 +10,11 @@ pub(crate) fn say(rt: &HostRuntime, line: &str) {
 /// Prints a text with no line's end behind it.
 pub(crate) fn put(rt: &HostRuntime, text: &str) {
     let _ = rt.print(text);
+}
+
+/// Prints a value as it is told for debugging.
+pub(crate) fn show<T: fmt::Debug>(rt: &HostRuntime, value: &T) {
+    let _ = println!(rt; "{value:?}");
 }
 
 /// Prints a word and a number with no line's end behind them.

@@ -15,7 +15,7 @@ use std::alloc::{AllocError, Global};
 use wire_bytes::Blob;
 
 /// How a strange bucket lies.
-#[derive(Clone, Copy, Debug, PartialEq, Eq)]
+#[derive(Clone, Copy)]
 pub enum Lie {
     Never,
     /// Each meta that stands is shown as the one byte `x`.
@@ -29,7 +29,7 @@ pub enum Lie {
 }
 
 /// What a bucket shows of an object that it found.
-#[derive(Clone, Copy, Debug, PartialEq, Eq)]
+#[derive(Clone, Copy)]
 enum Sight {
     True,
     /// The one byte `x`.
@@ -158,7 +158,7 @@ impl Bucket for StrangeBucket {
         if note(&mut self.notes, "page ", after).is_err() {
             return PageAnswer::NoMemory;
         }
-        if self.lie != Lie::Pages {
+        if !matches!(self.lie, Lie::Pages) {
             return self.inner.page(within, after, limit);
         }
         match self.name_page() {

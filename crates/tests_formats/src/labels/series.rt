@@ -30,6 +30,13 @@ pub(crate) fn series_of(alloc: Global, text: &str) -> Series {
     }
 }
 
+/// Prints samples, each as in a script behind a blank, with no line's end behind them.
+pub(crate) fn put_samples(rt: &HostRuntime, samples: &[Sample]) {
+    for sample in samples {
+        let _ = print!(rt; " {}:{:016x}", sample.time, sample.pattern);
+    }
+}
+
 /// The samples of a text, each as in a script.
 pub(crate) fn samples_of(alloc: Global, text: &str) -> SampleList {
     let mut samples = SampleList::new(alloc);

@@ -1,8 +1,7 @@
-use crate::says::{cut, put, say, show, tell};
+use crate::says::{cut, put, put_labels, say, show, tell};
 use label_sets::{LabelSet, Text, TextList, final_labels, reduced};
 use list_core::{NoMemory, TryCopy};
 use std::alloc::Global;
-use std::str;
 
 /// Prints a label set as its copy is written and how many bytes it took, or why the text is none.
 pub(crate) fn print_set(rt: &HostRuntime, text: &str) {
@@ -10,7 +9,7 @@ pub(crate) fn print_set(rt: &HostRuntime, text: &str) {
         Ok((labels, taken)) => {
             tell(rt, "", &taken);
             put(rt, " bytes: ");
-            put_labels(rt, labels.copy());
+            put_made(rt, labels.copy());
             say(rt, "");
         }
         Err(refusal) => show(rt, &refusal),
@@ -24,7 +23,7 @@ pub(crate) fn print_added(rt: &HostRuntime, text: &str) {
     let mut labels = set_of(rt.alloc(), set);
     match labels.add(name, value) {
         Ok(()) => {
-            put_labels(rt, labels.copy());
+            put_made(rt, labels.copy());
             say(rt, "");
         }
         Err(refusal) => show(rt, &refusal),
@@ -38,8 +37,8 @@ pub(crate) fn print_final(rt: &HostRuntime, text: &str) {
     let own = set_of(rt.alloc(), own);
     let external = set_of(rt.alloc(), external);
     let replicas = one_replica(rt.alloc(), replica);
-    put_labels(rt, final_labels(rt.alloc(), &own, &external, &replicas));
-    put_labels(rt, reduced(rt.alloc(), &own, &external, &replicas));
+    put_made(rt, final_labels(rt.alloc(), &own, &external, &replicas));
+    put_made(rt, reduced(rt.alloc(), &own, &external, &replicas));
     say(rt, "");
 }
 
@@ -51,14 +50,12 @@ fn one_replica(alloc: Global, replica: &str) -> TextList {
     replicas
 }
 
-/// Prints a label set with no line's end behind it.
-fn put_labels(rt: &HostRuntime, labels: Result<LabelSet, NoMemory>) {
-    let mut out = Vec::new(rt.alloc());
-    if let Ok(labels) = &labels {
-        let _ = labels.write(&mut out);
+/// Prints a label set that was made, with no line's end behind it.
+fn put_made(rt: &HostRuntime, made: Result<LabelSet, NoMemory>) {
+    if let Ok(labels) = &made {
+        put_labels(rt, labels);
     }
-    drop(labels);
-    put(rt, str::from_utf8(&out).unwrap_or("no text"));
+    drop(made);
 }
 
 /// The set that a text begins with, or the set without labels.

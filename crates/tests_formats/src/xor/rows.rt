@@ -1,5 +1,5 @@
-use crate::labels::samples_of;
-use crate::says::{cut, say, say_hex, say_text, show};
+use crate::labels::{put_samples, samples_of};
+use crate::says::{cut, say, say_hex, show};
 use crate::xor::segments::{print_lent, print_segment};
 use chunk_files::{read_chunk, take_chunk};
 use label_sets::{Sample, SampleList};
@@ -55,13 +55,12 @@ fn print_decoded(rt: &HostRuntime, read: Result<SampleList, XorRefusal>) {
 
 /// Prints samples, each as in a script.
 fn print_samples(rt: &HostRuntime, samples: &[Sample]) {
-    let mut out = Vec::new(rt.alloc());
-    for sample in samples {
-        let _ = out.push(b' ');
-        let _ = sample.write(&mut out);
-    }
-    match out.split_first() {
-        Some((_, text)) => say_text(rt, text),
-        None => say(rt, "no samples"),
+    match samples {
+        [first, others @ ..] => {
+            let _ = print!(rt; "{}:{:016x}", first.time, first.pattern);
+            put_samples(rt, others);
+            say(rt, "");
+        }
+        [] => say(rt, "no samples"),
     }
 }

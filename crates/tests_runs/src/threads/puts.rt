@@ -43,6 +43,10 @@ impl Job for Puts {
 
     ghost wanted = { λ end. end.met.wanted };
 
+    fn weight(&self) -> u64 {
+        u64::MAX
+    }
+
     fn run<H: Hand>(self, hand: &mut H) -> PutsEnd {
         let mut stored = 0u32;
         let mut met = Met {

@@ -32,6 +32,10 @@ impl Job for Ranges {
 
     ghost wanted = { λ end. end.wanted };
 
+    fn weight(&self) -> u64 {
+        u64::MAX
+    }
+
     fn run<H: Hand>(self, hand: &mut H) -> Met {
         let count = self.count;
         let mut met = Met {

@@ -1,12 +1,13 @@
 //! Whole scripts, the workers of each phase of which run beside each other.
 
 use crate::threads::gates::Meeting;
+use crate::tool::{in_line, in_threads, words_of};
 use bucket_core::{
     Fail, FailList, FileList, MemoryBucket, MemoryShelf, MemorySink, MemorySite, MemorySource,
 };
 use phase_runner::{Gate, Open};
-use replay_cli::{run_replay, run_tool};
 use std::alloc::Global;
+use std::str;
 use std::sync::Wait;
 use std::thread::Threads;
 use wire_bytes::Blob;
@@ -75,13 +76,29 @@ const NOTHING: Failing = Failing {
 #[derive(Drop)]
 pub(crate) struct Ended {
     pub(crate) status: u8,
-    pub(crate) text: Vec<u8>,
+    pub(crate) out: MemorySink,
+}
+
+/// What came of a run of the script of one block.
+#[derive(Clone, Copy)]
+enum Outcome {
+    Unread,
+    Unwritten,
+    Whole,
+    Other,
 }
 
 /// Two uploads wait for each other before their operation number 2, so neither comes past it unless both run.
 pub fn uploads_meet<R: Threads + Wait + Sync>(rt: &R, alloc: Global) -> bool {
     let gate = Meeting::new();
-    is_told(rt, alloc, &gate, TWO_BLOCKS, TWO_BLOCKS_REPORT) && gate.took_place()
+    match replayed(rt, alloc, &gate, TWO_BLOCKS.as_bytes(), NOTHING) {
+        Some(ended) => {
+            let good = has_told(&ended, TWO_BLOCKS_REPORT) && gate.took_place();
+            drop(ended);
+            good
+        }
+        None => false,
+    }
 }
 
 /// Of two uploads one meets the call that fails, and the other is done.
@@ -90,12 +107,18 @@ pub fn a_fault_stops_one_upload<R: Threads + Wait + Sync>(rt: &R, alloc: Global)
         bucket: Some(FAILING),
         ..NOTHING
     };
-    let Some(ended) = replayed(rt, alloc, &Open, TWO_BLOCKS, failing) else {
-        return false;
-    };
-    let Ok(text) = std::str::from_utf8(&ended.text) else {
-        return false;
-    };
+    match replayed(rt, alloc, &Open, TWO_BLOCKS.as_bytes(), failing) {
+        Some(ended) => {
+            let good = has_stopped_one(&ended);
+            drop(ended);
+            good
+        }
+        None => false,
+    }
+}
+
+fn has_stopped_one(ended: &Ended) -> bool {
+    let text = str::from_utf8(ended.out.bytes()).unwrap_or("no text");
     ended.status == 5
         && lines_with(text, "upload", ": fault ") == 1
         && lines_with(text, "upload", ": ok 3 objects") == 1
@@ -115,12 +138,10 @@ pub fn the_source_fails<R: Threads + Wait + Sync>(rt: &R, alloc: Global) -> bool
             source: Some(call),
             ..NOTHING
         };
-        match replayed(rt, alloc, &Open, ONE_BLOCK, failing) {
-            Some(ended)
-                if ended.status == 3
-                    && ended.text.as_slice() == b"script read fault\n".as_slice() => {}
-            Some(ended) => return call > 1 && has_told(&ended, ONE_BLOCK_REPORT),
-            None => return false,
+        match outcome_of(rt, alloc, failing) {
+            Outcome::Unread => {}
+            Outcome::Whole => return call > 1,
+            _ => return false,
         }
     }
     false
@@ -133,44 +154,53 @@ pub fn the_sink_fails<R: Threads + Wait + Sync>(rt: &R, alloc: Global) -> bool {
             sink: Some(call),
             ..NOTHING
         };
-        match replayed(rt, alloc, &Open, ONE_BLOCK, failing) {
-            Some(ended) if ended.status == 4 => {}
-            Some(ended) => return call > 1 && has_told(&ended, ONE_BLOCK_REPORT),
-            None => return false,
+        match outcome_of(rt, alloc, failing) {
+            Outcome::Unwritten => {}
+            Outcome::Whole => return call > 1,
+            _ => return false,
         }
     }
     false
 }
 
-/// Whether a run in which nothing fails prints this report.
-fn is_told<R: Threads + Wait + Sync, G: Gate + Sync>(
-    rt: &R,
-    alloc: Global,
-    gate: &G,
-    script: &str,
-    report: &str,
-) -> bool {
-    match replayed(rt, alloc, gate, script, NOTHING) {
-        Some(ended) => has_told(&ended, report),
-        None => false,
+fn outcome_of<R: Threads + Wait + Sync>(rt: &R, alloc: Global, failing: Failing) -> Outcome {
+    match replayed(rt, alloc, &Open, ONE_BLOCK.as_bytes(), failing) {
+        Some(ended) => {
+            let outcome = told_by(&ended);
+            drop(ended);
+            outcome
+        }
+        None => Outcome::Other,
+    }
+}
+
+fn told_by(ended: &Ended) -> Outcome {
+    match ended.status {
+        3 if ended.out.bytes() == b"script read fault\n".as_slice() => Outcome::Unread,
+        4 => Outcome::Unwritten,
+        0 if has_told(ended, ONE_BLOCK_REPORT) => Outcome::Whole,
+        _ => Outcome::Other,
     }
 }
 
 /// Whether a run ended as asked, with this report.
 fn has_told(ended: &Ended, report: &str) -> bool {
-    ended.status == 0 && ended.text.as_slice() == report.as_bytes()
+    ended.status == 0 && ended.out.bytes() == report.as_bytes()
 }
 
 /// Whether a run with threads, in which nothing fails, ends as another one did, with the same report.
 pub(crate) fn ends_so<R: Threads + Wait + Sync>(
     rt: &R,
     alloc: Global,
-    script: &str,
+    script: &[u8],
     other: &Ended,
 ) -> bool {
     match replayed(rt, alloc, &Open, script, NOTHING) {
-        Some(ended) => ended.status == other.status
-            && ended.text.as_slice() == other.text.as_slice(),
+        Some(ended) => {
+            let same = ended.status == other.status && ended.out.bytes() == other.out.bytes();
+            drop(ended);
+            same
+        }
         None => false,
     }
 }
@@ -180,73 +210,45 @@ fn replayed<R: Threads + Wait + Sync, G: Gate + Sync>(
     rt: &R,
     alloc: Global,
     gate: &G,
-    script: &str,
+    script: &[u8],
     failing: Failing,
 ) -> Option<Ended> {
-    let words = words_of(alloc, "replay")?;
-    let script = Blob::from_bytes(alloc, script.as_bytes()).ok()?;
-    let mut site = memory_site(alloc, failing.bucket)?;
+    let script = Blob::from_bytes(alloc, script).ok()?;
     let mut source = MemorySource::new(script, failing.source);
-    let mut sink = MemorySink::new(alloc, failing.sink);
-    let run = run_replay(rt, alloc, &words, &mut site, &mut source, &mut sink, gate);
-    let status = run.status;
-    drop(run);
+    let mut out = MemorySink::new(alloc, failing.sink);
+    let words = words_of(alloc, "replay memory none");
+    let mut site = memory_site(alloc, failing.bucket);
+    let status = in_threads(rt, alloc, &words, &mut site, &mut source, &mut out, gate);
     drop(site);
     drop(source);
     drop(words);
-    told_by(alloc, status, sink)
+    Some(Ended { status, out })
 }
 
 /// A run over memory by one thread, in which nothing fails.
-pub(crate) fn by_one(alloc: Global, script: &str) -> Option<Ended> {
-    let words = words_of(alloc, "serial")?;
-    let script = Blob::from_bytes(alloc, script.as_bytes()).ok()?;
-    let mut site = memory_site(alloc, None)?;
+pub(crate) fn by_one(alloc: Global, script: &[u8]) -> Option<Ended> {
+    let script = Blob::from_bytes(alloc, script).ok()?;
     let mut source = MemorySource::new(script, None);
-    let mut sink = MemorySink::new(alloc, None);
-    let run = run_tool(alloc, &words, &mut site, &mut source, &mut sink);
-    let status = run.status;
-    drop(run);
+    let mut out = MemorySink::new(alloc, None);
+    let words = words_of(alloc, "serial memory none");
+    let mut site = memory_site(alloc, None);
+    let status = in_line(alloc, &words, &mut site, &mut source, &mut out);
     drop(site);
     drop(source);
     drop(words);
-    told_by(alloc, status, sink)
-}
-
-/// How a run ended that wrote to this sink.
-fn told_by(alloc: Global, status: u8, sink: MemorySink) -> Option<Ended> {
-    let text = Vec::from_slice(alloc, sink.bytes());
-    drop(sink);
-    Some(Ended {
-        status,
-        text: text.ok()?,
-    })
-}
-
-fn words_of(alloc: Global, call: &str) -> Option<Vec<String>> {
-    let mut words = Vec::new(alloc);
-    for word in [call, "memory", "none"] {
-        words.push(String::from_str(alloc, word).ok()?).ok()?;
-    }
-    Some(words)
+    Some(Ended { status, out })
 }
 
 /// An empty bucket of which one call fails, beside an empty shelf.
-fn memory_site(alloc: Global, failing: Option<u64>) -> Option<MemorySite> {
-    let fails = failing_call(alloc, failing)?;
-    let bucket = MemoryBucket::new(alloc, fails);
-    let shelf = MemoryShelf::new(alloc, FileList::new(alloc));
-    Some(MemorySite::new(bucket, shelf, false))
-}
-
-fn failing_call(alloc: Global, failing: Option<u64>) -> Option<FailList> {
+fn memory_site(alloc: Global, failing: Option<u64>) -> MemorySite {
     let mut fails = FailList::new(alloc);
     if let Some(call) = failing {
-        let fail = Fail {
+        let _ = fails.push(Fail {
             call,
             landed: false,
-        };
-        fails.push(fail).ok()?;
+        });
     }
-    Some(fails)
+    let bucket = MemoryBucket::new(alloc, fails);
+    let shelf = MemoryShelf::new(alloc, FileList::new(alloc));
+    MemorySite::new(bucket, shelf, false)
 }

@@ -1,37 +1,36 @@
 //! Scripts of which every run says the same, however the workers of a phase interleave.
+use crate::lines::script_of;
+use crate::runs::print_written;
 use crate::says::say;
 use crate::threads::replays::{Ended, by_one, ends_so};
-use std::alloc::{AllocError, Global};
-use std::str;
+use std::alloc::Global;
 use std::sync::Wait;
 use std::thread::Threads;
 
 /// Runs the script of a row by one thread, and prints its status, its report, and how many of so many runs with threads end so.
 pub(crate) fn print_script<R: Threads + Wait + Sync>(threads: &R, rt: &HostRuntime, row: &str) {
     let (times, lines) = row.split_once(" / ").unwrap_or((row, ""));
-    let Ok(script) = script_of(rt.alloc(), lines) else {
-        return say(rt, "no memory");
-    };
-    match by_one(rt.alloc(), script.as_str()) {
-        Some(ended) => {
-            let same = count_same(
-                threads,
-                rt.alloc(),
-                script.as_str(),
-                times.parse().unwrap_or(0),
-                &ended,
-            );
-            print_ended(rt, &ended);
-            let _ = println!(rt; "  so with threads: {same} of {times}");
-        },
-        None => say(rt, "no memory"),
+    match script_of(rt.alloc(), &[], lines) {
+        Ok(script) => print_times(threads, rt, script.as_slice(), times),
+        Err(_) => say(rt, "no memory"),
     }
 }
 
-fn print_ended(rt: &HostRuntime, ended: &Ended) {
-    let _ = println!(rt; "  status {}", ended.status);
-    for line in str::from_utf8(&ended.text).unwrap_or("no text").lines() {
-        let _ = println!(rt; "  {line}");
+fn print_times<R: Threads + Wait + Sync>(
+    threads: &R,
+    rt: &HostRuntime,
+    script: &[u8],
+    times: &str,
+) {
+    let alloc = rt.alloc();
+    match by_one(alloc, script) {
+        Some(ended) => {
+            let same = count_same(threads, alloc, script, times.parse().unwrap_or(0), &ended);
+            print_written(rt, ended.status, ended.out.bytes());
+            drop(ended);
+            let _ = println!(rt; "  so with threads: {same} of {times}");
+        }
+        None => say(rt, "no memory"),
     }
 }
 
@@ -39,7 +38,7 @@ fn print_ended(rt: &HostRuntime, ended: &Ended) {
 fn count_same<R: Threads + Wait + Sync>(
     rt: &R,
     alloc: Global,
-    script: &str,
+    script: &[u8],
     times: u32,
     ended: &Ended,
 ) -> u32 {
@@ -50,14 +49,4 @@ fn count_same<R: Threads + Wait + Sync>(
         }
     }
     same
-}
-
-/// Lines with ` / ` between.
-fn script_of(alloc: Global, lines: &str) -> Result<String, AllocError> {
-    let mut script = String::new(alloc);
-    for line in lines.split(" / ") {
-        script.push_str(line)?;
-        script.push('\n')?;
-    }
-    Ok(script)
 }

@@ -26,10 +26,10 @@ use Rattle.index_v2.specs.SeriesLabels.{numbered_at}
 use Rattle.index_v2.specs.WholeReading.{lists_at}
 use Rattle.series_selection.specs.Selections.{IsListed, IsSelection, IsTaken, TakesBy, rows_read}
 use Rattle.meta_fetcher.specs.declared.view.View.{View}
-use Rattle.block_content.specs.Firsts.{each_at}
-use Rattle.block_ranges.specs.BlockReads.{gives, block_call, shown}
+use Rattle.reading_core.specs.Firsts.{each_at}
+use Rattle.chunk_ranges.specs.BlockReads.{gives, block_call, shown}
 use Rattle.read_ranges.specs.ChunkRanges.{IsSetOf, group_of}
-use Rattle.block_ranges.specs.ChunkReads.{chunk_len_at, chunk_samples_at, glimpse_at, read, shows, stored_at, tests_at}
+use Rattle.chunk_ranges.specs.ChunkReads.{chunk_len_at, chunk_samples_at, glimpse_at, read, shows, stored_at, tests_at}
 use Rattle.read_ranges.specs.IndexRanges.{end_of}
 use Rattle.read_ranges.specs.Reads.{Block, Cache, Query, kept, range_of, used as used_range}
 use Rattle.block_ranges.proofs.SmallReads.{one_number, one_stretch, only, piece}

@@ -1,9 +1,7 @@
-use Rattle.std.proofs.Common.{◌≡◌, ◌∙◌, sym, subst, length, List, ℕ, ℤ, to_z, of_z, arith}
+use Rattle.std.proofs.Common.{◌∙◌, sym, subst, arith}
 use Rattle.std.specs.Int.{w64}
 use Rattle.std.proofs.lemmas.Int.{to_z-of_z}
-use Rattle.label_sets.specs.declared.sample.Sample.{Sample}
 use Rattle.xor_chunks.specs.Grammar.{IsText}
-use Rattle.block_writing.specs.Put.{IsStored, IsWithin}
 use Rattle.block_writing.specs.Writing.{plan_fields}
 use Rattle.tests_blocks.proofs.OneSample.{one_stored}
 use Rattle.tests_blocks.proofs.carried.carry.Goals as goal

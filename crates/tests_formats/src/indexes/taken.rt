@@ -1,34 +1,25 @@
+use crate::labels::set_of;
 use crate::says::{cut, put, put_labels, say, show};
 use index_v2::IndexReader;
 use label_sets::{LabelSet, TextList, final_labels};
 use matchers::Selector;
 use series_selection::select_postings;
-use std::alloc::Global;
 
 /// Prints how many series a selector takes from an index of a block with these external labels, and the final labels of those
 /// that stand in the bytes: `EXTERNAL SELECTOR`.
 pub(crate) fn print_taken(rt: &HostRuntime, index: &[u8], reader: &IndexReader<'_>, asked: &str) {
     let alloc = rt.alloc();
-    let (external, selector) = cut(asked, ' ');
-    let external = labels_of(alloc, external);
+    let (external, selector) = cut(asked);
+    let external = set_of(alloc, external);
     match Selector::read(alloc, selector, &TextList::new(alloc)) {
         Ok(selector) => {
-            print_selection(rt, index, reader, &selector, &external);
+            let taken = select_postings(alloc, reader, &selector, &external);
             drop(selector);
+            match taken {
+                Ok(numbers) => print_found(rt, index, reader, numbers.members(), &external),
+                Err(refusal) => show(rt, &refusal),
+            }
         }
-        Err(refusal) => show(rt, &refusal),
-    }
-}
-
-fn print_selection(
-    rt: &HostRuntime,
-    index: &[u8],
-    reader: &IndexReader<'_>,
-    selector: &Selector,
-    external: &LabelSet,
-) {
-    match select_postings(rt.alloc(), reader, selector, external) {
-        Ok(numbers) => print_found(rt, index, reader, numbers.members(), external),
         Err(refusal) => show(rt, &refusal),
     }
 }
@@ -58,13 +49,5 @@ pub(crate) fn put_final(rt: &HostRuntime, own: &LabelSet, external: &LabelSet) {
     match final_labels(alloc, own, external, &TextList::new(alloc)) {
         Ok(labels) => put_labels(rt, &labels),
         Err(_) => put(rt, "no memory"),
-    }
-}
-
-/// The label set at the front of a text, or else the empty one.
-pub(crate) fn labels_of(alloc: Global, text: &str) -> LabelSet {
-    match LabelSet::read(alloc, text) {
-        Ok((labels, _)) => labels,
-        Err(_) => LabelSet::empty(alloc),
     }
 }

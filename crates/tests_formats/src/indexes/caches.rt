@@ -1,4 +1,4 @@
-use crate::says::{cut, put, say};
+use crate::says::{cut_at, put, say};
 use block_keys::Key;
 use index_cache::IndexCache;
 use std::str;
@@ -20,7 +20,7 @@ pub(crate) fn print_cache(rt: &HostRuntime, capacity: &str, calls: &str) {
 }
 
 fn do_call(rt: &HostRuntime, cache: &mut IndexCache, call: &str) {
-    let (range, bytes) = cut(call, '=');
+    let (range, bytes) = cut_at(call, '=');
     let [letter, from, len] = range.as_bytes() else {
         return put(rt, " no range");
     };

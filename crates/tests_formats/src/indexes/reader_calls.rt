@@ -1,7 +1,7 @@
-use crate::blocks::print_block;
-use crate::chunk_notation::print_chunks;
-use crate::says::{cut, put_labels, say, show, show_of};
-use crate::taken::print_taken;
+use crate::indexes::blocks::print_block;
+use crate::indexes::chunk_notation::print_chunks;
+use crate::indexes::taken::print_taken;
+use crate::says::{cut, cut_at, put_labels, say, show, show_of};
 use index_v2::{IndexReader, IndexRefusal, IndexSeries, IndexSeriesList, LentSeries};
 use std::fmt;
 use wire_bytes::NumberList;
@@ -28,19 +28,25 @@ pub(crate) fn print_reader(
 
 fn print_opened(rt: &HostRuntime, index: &[u8], reader: &IndexReader<'_>, call: &str) {
     let alloc = rt.alloc();
-    let (word, argument) = cut(call, ' ');
-    let (name, value) = cut(argument, '=');
+    let (word, argument) = cut(call);
+    let (name, value) = cut_at(argument, '=');
     let number = argument.parse().unwrap_or(0);
     match word {
         "whole" | "count" | "block" => print_whole(rt, reader.whole(alloc), word, argument),
         "symbol" => show(rt, &reader.symbol(number)),
         "postings" => print_numbers(rt, reader.postings(alloc, name, value)),
         "take" => print_taken(rt, index, reader, argument),
-        "values" => print_values(rt, reader, name),
+        "values" => match reader.label_values(alloc, name) {
+            Ok(values) => show(rt, &values.members()),
+            Err(refusal) => show(rt, &refusal),
+        },
         "first" => show_of(rt, &reader.first_row(name), reader.row_count()),
         "row" => print_row(rt, reader, number as usize),
         "series" => print_series(rt, reader.series(alloc, number)),
-        "lent" => print_lent(rt, reader.lent_series(number, LentSeries::new(alloc))),
+        "lent" => match reader.lent_series(number, LentSeries::new(alloc)) {
+            Ok(series) => print_series(rt, series.to_series(alloc)),
+            Err(refusal) => show(rt, &refusal),
+        },
         "in" => print_in(rt, index, reader, argument),
         _ => say(rt, "opened"),
     }
@@ -54,23 +60,19 @@ fn print_whole(
 ) {
     match read {
         Ok(list) => {
-            print_list(rt, list.members(), word, path);
+            let _ = println!(rt; "{} series", list.len());
+            match word {
+                "block" => print_block(rt, list.members(), path),
+                "whole" => {
+                    for series in list.members() {
+                        print_one(rt, series);
+                    }
+                }
+                _ => (),
+            }
             drop(list);
         }
         Err(refusal) => show(rt, &refusal),
-    }
-}
-
-fn print_list(rt: &HostRuntime, list: &[IndexSeries], word: &str, path: &str) {
-    let _ = println!(rt; "{} series", list.len());
-    match word {
-        "block" => print_block(rt, list, path),
-        "whole" => {
-            for series in list {
-                print_one(rt, series);
-            }
-        }
-        _ => (),
     }
 }
 
@@ -84,13 +86,6 @@ fn print_one(rt: &HostRuntime, series: &IndexSeries) {
 pub(crate) fn print_numbers<E: fmt::Debug + Drop>(rt: &HostRuntime, read: Result<NumberList, E>) {
     match read {
         Ok(numbers) => show(rt, &numbers.members()),
-        Err(refusal) => show(rt, &refusal),
-    }
-}
-
-fn print_values(rt: &HostRuntime, reader: &IndexReader<'_>, name: &str) {
-    match reader.label_values(rt.alloc(), name) {
-        Ok(values) => show(rt, &values.members()),
         Err(refusal) => show(rt, &refusal),
     }
 }
@@ -110,16 +105,9 @@ fn print_series<E: fmt::Debug + Drop>(rt: &HostRuntime, read: Result<IndexSeries
     }
 }
 
-fn print_lent(rt: &HostRuntime, read: Result<LentSeries<'_>, IndexRefusal>) {
-    match read {
-        Ok(series) => print_series(rt, series.to_series(rt.alloc())),
-        Err(refusal) => show(rt, &refusal),
-    }
-}
-
 fn print_in(rt: &HostRuntime, index: &[u8], reader: &IndexReader<'_>, argument: &str) {
-    let (from, rest) = cut(argument, ' ');
-    let (end, number) = cut(rest, ' ');
+    let (from, rest) = cut(argument);
+    let (end, number) = cut(rest);
     let from: usize = from.parse().unwrap_or(0);
     let number: u32 = number.parse().unwrap_or(0);
     let at = from as u64;

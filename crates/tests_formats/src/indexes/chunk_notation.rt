@@ -1,6 +1,6 @@
 //! The notation of a chunk: `FROM..TO@SEGMENT:OFFSET`, the times of its first and of its last sample, and where it stands.
 
-use crate::says::{cut, say};
+use crate::says::{cut_at, say};
 use index_parts::{ChunkList, ChunkPlace};
 use std::alloc::Global;
 
@@ -16,9 +16,9 @@ pub(crate) fn chunks_of(alloc: Global, text: &str) -> ChunkList {
 }
 
 fn chunk_of(word: &str) -> ChunkPlace {
-    let (times, place) = cut(word, '@');
+    let (times, place) = cut_at(word, '@');
     let (min, max) = times.split_once("..").unwrap_or((times, ""));
-    let (segment, offset) = cut(place, ':');
+    let (segment, offset) = cut_at(place, ':');
     ChunkPlace {
         min: min.parse().unwrap_or(0),
         max: max.parse().unwrap_or(0),

@@ -1,10 +1,8 @@
 use crate::says::{put, say};
+use crate::tool::{in_line, in_threads, words_of};
 use bucket_core::{MemorySink, MemorySource};
 use dir_bucket::HostSite;
-use list_core::NoMemory;
 use phase_runner::Open;
-use replay_cli::{run_replay, run_tool};
-use std::alloc::Global;
 use std::sync::Wait;
 use std::thread::Threads;
 use std::{fs, str};
@@ -79,36 +77,45 @@ fn file_of(rt: &HostRuntime, folder: &str, name: &str, ending: &str) -> Vec<u8> 
     }
 }
 
-pub(crate) fn print_written(rt: &HostRuntime, status: u8, text: &[u8]) {
-    let _ = println!(rt; "status {status}");
-    put(rt, str::from_utf8(text).unwrap_or("no text"));
-}
-
 /// Calls what the program calls for these words, over real folders, and prints its status and what it wrote, unless that is what
 /// stands beside the script.
 fn print_called<R: Threads + Wait + Sync>(
     threads: &R,
     rt: &HostRuntime,
-    words: &str,
+    text: &str,
     script: &[u8],
     beside: Option<&[u8]>,
 ) {
     let alloc = rt.alloc();
-    let with_threads = words.starts_with("replay ");
+    let Ok(script) = Blob::from_bytes(alloc, script) else {
+        return say(rt, "no memory");
+    };
     let Ok(host) = rt.clone() else {
+        drop(script);
         return say(rt, "no memory");
     };
     let mut site = HostSite::new(host);
-    match (words_of(alloc, words), Blob::from_bytes(alloc, script)) {
-        (Ok(words), Ok(script)) => {
-            let source = MemorySource::new(script, None);
-            let (status, out) = called(threads, alloc, with_threads, &words, &mut site, source);
-            print_out(rt, status, out.bytes(), beside);
-            drop(out);
-        }
-        _ => say(rt, "no memory"),
-    }
+    let mut source = MemorySource::new(script, None);
+    let mut out = MemorySink::new(alloc, None);
+    let words = words_of(alloc, text);
+    let status = if text.starts_with("replay ") {
+        in_threads(
+            threads,
+            alloc,
+            &words,
+            &mut site,
+            &mut source,
+            &mut out,
+            &Open,
+        )
+    } else {
+        in_line(alloc, &words, &mut site, &mut source, &mut out)
+    };
+    drop(words);
+    drop(source);
     drop(site);
+    print_out(rt, status, out.bytes(), beside);
+    drop(out);
 }
 
 fn print_out(rt: &HostRuntime, status: u8, text: &[u8], beside: Option<&[u8]>) {
@@ -120,32 +127,7 @@ fn print_out(rt: &HostRuntime, status: u8, text: &[u8], beside: Option<&[u8]>) {
     }
 }
 
-/// Does the call, and gives its status and what it wrote.
-fn called<R: Threads + Wait + Sync>(
-    threads: &R,
-    alloc: Global,
-    with_threads: bool,
-    words: &[String],
-    site: &mut HostSite<HostRuntime>,
-    script: MemorySource,
-) -> (u8, MemorySink) {
-    let mut source = script;
-    let mut out = MemorySink::new(alloc, None);
-    let run = if with_threads {
-        run_replay(threads, alloc, words, site, &mut source, &mut out, &Open)
-    } else {
-        run_tool(alloc, words, site, &mut source, &mut out)
-    };
-    let status = run.status;
-    drop(run);
-    drop(source);
-    (status, out)
-}
-
-pub(crate) fn words_of(alloc: Global, text: &str) -> Result<Vec<String>, NoMemory> {
-    let mut words = Vec::new(alloc);
-    for word in text.split_whitespace() {
-        words.push(String::from_str(alloc, word)?)?;
-    }
-    Ok(words)
+pub(crate) fn print_written(rt: &HostRuntime, status: u8, text: &[u8]) {
+    let _ = println!(rt; "status {status}");
+    put(rt, str::from_utf8(text).unwrap_or("no text"));
 }

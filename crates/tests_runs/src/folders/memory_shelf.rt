@@ -2,13 +2,14 @@
 ghost use Rattle.std.specs.Prelude.{◌≡◌};
 ghost use Rattle.bucket_core.specs.MemoryShelf.{faults_counted};
 
-use crate::runs::{print_written, words_of};
+use crate::folders::runs::print_written;
 use crate::says::{cut, say};
+use crate::tool::{in_line, words_of};
 use bucket_core::{
-    Fail, FailList, File, FileList, MemoryBucket, MemoryShelf, MemorySink, MemorySite, MemorySource,
+    Fail, FailList, File, FileList, MemoryBucket, MemoryShelf, MemorySink, MemorySite,
+    MemorySource, Site,
 };
 use label_sets::Text;
-use replay_cli::run_tool;
 use std::fs;
 use wire_bytes::Blob;
 
@@ -95,30 +96,25 @@ fn print_called(rt: &HostRuntime, words: &str, script: &str, shelf: MemoryShelf)
     let alloc = rt.alloc();
     let bucket = MemoryBucket::new(alloc, FailList::new(alloc));
     let mut site = MemorySite::new(bucket, shelf, false);
-    match (
-        words_of(alloc, words),
-        Blob::from_bytes(alloc, script.as_bytes()),
-    ) {
-        (Ok(words), Ok(script)) => {
-            print_made(
-                rt,
-                words.as_slice(),
-                &mut site,
-                MemorySource::new(script, None),
-            );
-        }
-        _ => say(rt, "no memory"),
-    }
+    print_over(rt, &mut site, words, script);
     drop(site);
 }
 
-/// Calls the tool over this site, and prints its status and its text.
-fn print_made(rt: &HostRuntime, words: &[String], site: &mut MemorySite, script: MemorySource) {
-    let mut source = script;
-    let mut out = MemorySink::new(rt.alloc(), None);
-    let run = run_tool(rt.alloc(), words, site, &mut source, &mut out);
-    let status = run.status;
-    drop(run);
+/// The same over this site.
+fn print_over<S: Site>(rt: &HostRuntime, site: &mut S, words: &str, script: &str)
+where
+    S::Store: Drop,
+    S::Files: Drop,
+{
+    let alloc = rt.alloc();
+    let Ok(script) = Blob::from_bytes(alloc, script.as_bytes()) else {
+        return say(rt, "no memory");
+    };
+    let mut source = MemorySource::new(script, None);
+    let mut out = MemorySink::new(alloc, None);
+    let words = words_of(alloc, words);
+    let status = in_line(alloc, &words, site, &mut source, &mut out);
+    drop(words);
     drop(source);
     print_written(rt, status, out.bytes());
     drop(out);

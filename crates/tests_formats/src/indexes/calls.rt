@@ -1,11 +1,11 @@
-use crate::caches::print_cache;
-use crate::made_sections::print_made;
-use crate::parts::print_over;
-use crate::pieces::put_pieces;
-use crate::reader_calls::print_reader;
-use crate::says::{cut, put, say, show};
-use crate::section_calls::print_section;
-use crate::selectors::print_read;
+use crate::indexes::caches::print_cache;
+use crate::indexes::made_sections::print_made;
+use crate::indexes::parts::print_over;
+use crate::indexes::pieces::put_pieces;
+use crate::indexes::reader_calls::print_reader;
+use crate::indexes::section_calls::print_section;
+use crate::indexes::selectors::print_read;
+use crate::says::{cut, put, say, say_hex, show};
 use index_parts::read_toc;
 use index_v2::IndexReader;
 
@@ -27,8 +27,8 @@ pub(crate) fn print_call(rt: &HostRuntime, index: &[u8], row: &str) {
 }
 
 fn print_answer(rt: &HostRuntime, index: &[u8], call: &str) {
-    let (word, argument) = cut(call, ' ');
-    let (first, rest) = cut(argument, ' ');
+    let (word, argument) = cut(call);
+    let (first, rest) = cut(argument);
     match word {
         "made" => print_made(rt, index, argument),
         "bytes" => print_bytes(rt, index, first, rest),
@@ -47,15 +47,7 @@ fn print_answer(rt: &HostRuntime, index: &[u8], call: &str) {
 fn print_bytes(rt: &HostRuntime, index: &[u8], from: &str, end: &str) {
     let end = end.parse().unwrap_or(index.len());
     match index.get(from.parse().unwrap_or(0)..end) {
-        Some(bytes) => print_hex(rt, bytes),
+        Some(bytes) => say_hex(rt, bytes),
         None => say(rt, "no bytes"),
-    }
-}
-
-/// Prints bytes in hexadecimal digits.
-pub(crate) fn print_hex(rt: &HostRuntime, bytes: &[u8]) {
-    match hex::encode(rt.alloc(), bytes) {
-        Ok(digits) => say(rt, digits.as_str()),
-        Err(_) => say(rt, "no memory"),
     }
 }

@@ -12,21 +12,16 @@ pub(crate) fn print_read(rt: &HostRuntime, replica: &str, text: &str, set: &str)
     }
     match Selector::read(alloc, text, &replicas) {
         Ok(selector) => {
-            print_match(rt, &selector, set);
+            match LabelSet::read(alloc, set) {
+                Ok((labels, _)) => match selector.matches(&labels) {
+                    Ok(is_match) => {
+                        let _ = println!(rt; "taken: {is_match}, plain: {}", selector.plain());
+                    }
+                    Err(refusal) => show(rt, &refusal),
+                },
+                Err(_) => say(rt, "read"),
+            }
             drop(selector);
-        }
-        Err(refusal) => show(rt, &refusal),
-    }
-}
-
-fn print_match(rt: &HostRuntime, selector: &Selector, set: &str) {
-    let Ok((labels, _)) = LabelSet::read(rt.alloc(), set) else {
-        return say(rt, "read");
-    };
-    let is_plain = selector.plain();
-    match selector.matches(&labels) {
-        Ok(is_match) => {
-            let _ = println!(rt; "taken: {is_match}, plain: {is_plain}");
         }
         Err(refusal) => show(rt, &refusal),
     }

@@ -1,11 +1,10 @@
 ghost use Rattle.std.specs.Prelude.{◌≤◌, IsTrue};
 ghost use Rattle.bucket_core.specs.Contents.{IsKey};
 
-use crate::memory_shelf::{print_check, print_served};
-use crate::runs::{print_example, print_run, print_script};
+use crate::folders::memory_shelf::{print_check, print_served};
+use crate::folders::runs::{print_example, print_run, print_script};
 use crate::says::{cut, put, say, show};
 use bucket_core::{Bucket, GetAnswer, PageAnswer, Shelf, ShelfAnswer};
-use dir_bucket::{DirShelf, HostBucket};
 use label_sets::Text;
 use std::fs::{File, Permissions};
 use std::os::unix::fs::PermissionsExt;
@@ -16,23 +15,20 @@ use wire_bytes::Blob;
 
 /// A bucket and a shelf over one folder, and a bucket in memory.
 #[derive(Drop)]
-pub(crate) struct Folder {
-    pub(crate) bucket: HostBucket<HostRuntime>,
-    pub(crate) shelf: DirShelf<HostRuntime>,
-    pub(crate) memory: HostBucket<HostRuntime>,
+pub(crate) struct Folder<B: Bucket, F: Shelf> {
+    pub(crate) bucket: B,
+    pub(crate) shelf: F,
+    pub(crate) memory: B,
 }
 
 /// Prints a call and its answer, or does something to the folder itself. `.` stands for an empty text.
-pub(crate) fn print_call<R: Threads + Wait + Sync>(
+pub(crate) fn print_call<R: Threads + Wait + Sync, B: Bucket, F: Shelf>(
     threads: &R,
     rt: &HostRuntime,
-    folder: &mut Folder,
+    folder: &mut Folder<B, F>,
     row: &str,
 ) {
     let (kind, text) = cut(row);
-    if kind == "=" {
-        return say(rt, row);
-    }
     put(rt, row);
     put(rt, " -> ");
     match kind {
@@ -55,7 +51,7 @@ pub(crate) fn print_call<R: Threads + Wait + Sync>(
 }
 
 /// Prints what a bucket answers.
-fn print_answer(rt: &HostRuntime, bucket: &mut HostBucket<HostRuntime>, kind: &str, text: &str) {
+fn print_answer<B: Bucket>(rt: &HostRuntime, bucket: &mut B, kind: &str, text: &str) {
     match kind {
         "put" => print_put(rt, bucket, text),
         "get" => print_get(rt, bucket.get(text)),
@@ -75,7 +71,7 @@ fn is_key(key: &str) -> bool
     }
 }
 
-fn print_put(rt: &HostRuntime, bucket: &mut HostBucket<HostRuntime>, text: &str) {
+fn print_put<B: Bucket>(rt: &HostRuntime, bucket: &mut B, text: &str) {
     let (key, bytes) = cut(text);
     if !is_key(key) {
         return say(rt, "no key");
@@ -86,7 +82,7 @@ fn print_put(rt: &HostRuntime, bucket: &mut HostBucket<HostRuntime>, text: &str)
     }
 }
 
-fn print_range(rt: &HostRuntime, bucket: &mut HostBucket<HostRuntime>, text: &str) {
+fn print_range<B: Bucket>(rt: &HostRuntime, bucket: &mut B, text: &str) {
     let (key, range) = cut(text);
     let (from, len) = cut(range);
     print_get(rt, bucket.get_range(key, number_of(from), number_of(len)))
@@ -96,7 +92,7 @@ fn number_of(text: &str) -> u64 {
     text.parse().unwrap_or(0)
 }
 
-fn print_page(rt: &HostRuntime, bucket: &mut HostBucket<HostRuntime>, text: &str) {
+fn print_page<B: Bucket>(rt: &HostRuntime, bucket: &mut B, text: &str) {
     let (within, rest) = cut(text);
     let (after, limit) = cut(rest);
     match bucket.page(unless_dot(within), unless_dot(after), limit_of(limit)) {

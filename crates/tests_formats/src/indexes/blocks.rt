@@ -2,12 +2,12 @@
 //! final labels, with all their samples, and how many chunks it has, each byte of which is guarded by its sum. What is to be
 //! printed comes from Prometheus' own reader.
 
+use crate::indexes::taken::put_final;
+use crate::labels::{put_samples, set_of};
 use crate::says::{put, say, show};
-use crate::taken::{labels_of, put_final};
 use chunk_files::{ChunkRefusal, read_chunk, take_chunk};
 use index_parts::ChunkPlace;
 use index_v2::IndexSeries;
-use label_sets::Sample;
 use std::alloc::Global;
 use std::fs;
 use xor_chunks::decode_stored;
@@ -29,7 +29,7 @@ pub(crate) fn file_of(rt: &HostRuntime, path: &str) -> Vec<u8> {
 /// Prints series with all their samples, out of a segment, and the count of their chunks.
 pub(crate) fn print_block(rt: &HostRuntime, list: &[IndexSeries], path: &str) {
     let segment = file_of(rt, path);
-    let external = labels_of(rt.alloc(), EXTERNAL);
+    let external = set_of(rt.alloc(), EXTERNAL);
     let mut count = 0usize;
     for series in list {
         put(rt, "series ");
@@ -53,17 +53,11 @@ fn print_chunk(rt: &HostRuntime, place: ChunkPlace, segment: &[u8]) {
                 put(rt, " not guarded");
             }
             match decode_stored(alloc, data) {
-                Ok(samples) => print_samples(rt, samples.members()),
+                Ok(samples) => put_samples(rt, samples.members()),
                 Err(refusal) => show(rt, &refusal),
             }
         }
         _ => put(rt, " no chunk"),
-    }
-}
-
-fn print_samples(rt: &HostRuntime, samples: &[Sample]) {
-    for sample in samples {
-        let _ = print!(rt; " {}:{:016x}", sample.time, sample.pattern);
     }
 }
 

@@ -1,8 +1,8 @@
 //! The notation of series to be written: `LABELS CHUNK CHUNK; LABELS CHUNK`, with chunks in the notation of `chunk_notation`.
 //! `+COUNT` right behind labels is one more, `a`, whose value is so many letters.
-use crate::chunk_notation::chunks_of;
+use crate::indexes::chunk_notation::chunks_of;
 use crate::says::{cut, show};
-use index_v2::{IndexWriter, are_in_order};
+use index_writing::{IndexWriter, are_in_order};
 use label_sets::LabelSet;
 use std::alloc::Global;
 use std::str;
@@ -27,7 +27,7 @@ fn add(alloc: Global, writer: &mut IndexWriter, text: &str) {
     let Ok((mut labels, end)) = LabelSet::read(alloc, text) else {
         return;
     };
-    let (long, chunks) = cut(&text[end..], ' ');
+    let (long, chunks) = cut(&text[end..]);
     if let Some(count) = long.strip_prefix('+') {
         add_long(alloc, &mut labels, count.parse().unwrap_or(0));
     }

@@ -1,6 +1,6 @@
 ghost use Rattle.std.specs.Prelude.{◌+◌, ◌^◌, ◌<◌, length};
 
-use crate::reader_calls::print_reader;
+use crate::indexes::reader_calls::print_reader;
 use crate::says::show;
 use index_parts::{Toc, read_toc};
 use index_v2::{IndexParts, IndexReader};
@@ -10,24 +10,16 @@ use index_v2::{IndexParts, IndexReader};
 pub(crate) fn print_over(rt: &HostRuntime, index: &[u8], call: &str) {
     match read_toc(index) {
         Ok(toc) => {
-            let opened = IndexReader::over(rt.alloc(), parts_of(index, toc));
-            print_reader(rt, index, opened, call);
+            let parts = IndexParts {
+                toc,
+                size: index.len() as u64,
+                symbols: part_from(index, &toc, toc.symbols),
+                table: part_from(index, &toc, toc.postings_table),
+                postings: part_from(index, &toc, toc.postings),
+            };
+            print_reader(rt, index, IndexReader::over(rt.alloc(), parts), call);
         }
         Err(refusal) => show(rt, &refusal),
-    }
-}
-
-fn parts_of(index: &[u8], toc: Toc) -> IndexParts<'_>
-    ensures symbols { result.toc.symbols + length result.symbols.now < 2 ^ 64 }
-    ensures table { result.toc.postings_table + length result.table.now < 2 ^ 64 }
-    ensures postings { result.toc.postings + length result.postings.now < 2 ^ 64 }
-{
-    IndexParts {
-        toc,
-        size: index.len() as u64,
-        symbols: part_from(index, &toc, toc.symbols),
-        table: part_from(index, &toc, toc.postings_table),
-        postings: part_from(index, &toc, toc.postings),
     }
 }
 

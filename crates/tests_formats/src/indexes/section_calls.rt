@@ -1,17 +1,14 @@
-use crate::chunk_notation::print_chunks;
-use crate::reader_calls::print_numbers;
-use crate::says::{cut, show, show_of};
-use index_parts::{
-    PartRefusal, RawSeries, label_place, read_postings, read_postings_table, read_series,
-    read_symbols,
-};
+use crate::indexes::chunk_notation::print_chunks;
+use crate::indexes::reader_calls::print_numbers;
+use crate::says::{cut_at, show, show_of};
+use index_parts::{label_place, read_postings, read_postings_table, read_series, read_symbols};
 
 /// Prints what is read of the section at a place, by `WORD PLACE,NUMBER`: of `symbols` and `table` how many there are, and the
 /// one of the number, the numbers of `list`, the names, the values and the chunks of the series of `raw`, and of `place` where
 /// the symbol numbers of this label of the series stand.
 pub(crate) fn print_section(rt: &HostRuntime, index: &[u8], word: &str, argument: &str) {
     let alloc = rt.alloc();
-    let (place, number) = cut(argument, ',');
+    let (place, number) = cut_at(argument, ',');
     let place = place.parse().unwrap_or(0);
     let number = number.parse().unwrap_or(0);
     match word {
@@ -24,18 +21,14 @@ pub(crate) fn print_section(rt: &HostRuntime, index: &[u8], word: &str, argument
             Err(refusal) => show(rt, &refusal),
         },
         "list" => print_numbers(rt, read_postings(alloc, index, place)),
-        "raw" => print_raw(rt, read_series(alloc, index, place)),
+        "raw" => match read_series(alloc, index, place) {
+            Ok(series) => {
+                let names = series.names.members();
+                let _ = print!(rt; "{names:?} {:?}", series.values.members());
+                print_chunks(rt, series.chunks.members());
+            }
+            Err(refusal) => show(rt, &refusal),
+        },
         _ => show(rt, &label_place(index, place, number)),
-    }
-}
-
-fn print_raw(rt: &HostRuntime, read: Result<RawSeries, PartRefusal>) {
-    match read {
-        Ok(series) => {
-            let names = series.names.members();
-            let _ = print!(rt; "{names:?} {:?}", series.values.members());
-            print_chunks(rt, series.chunks.members());
-        }
-        Err(refusal) => show(rt, &refusal),
     }
 }
