@@ -5,8 +5,9 @@ use std::io::Read;
 use std::process::{Command, Stdio};
 use std::time::Instant;
 
-/// How long one run took, in milliseconds, and what it wrote.
-fn run(program: &str, word: &str, shelf: &str, script: &str) -> (f64, Vec<u8>) {
+/// How long one run took, in milliseconds. What it wrote takes the place of what is in `written`, whose memory is used again: a run
+/// is not to wait for pages of this process.
+fn run(program: &str, word: &str, shelf: &str, script: &str, written: &mut Vec<u8>) -> f64 {
     let input = File::open(script).expect("the script");
     let start = Instant::now();
     let mut child = Command::new(program)
@@ -15,12 +16,12 @@ fn run(program: &str, word: &str, shelf: &str, script: &str) -> (f64, Vec<u8>) {
         .stdout(Stdio::piped())
         .spawn()
         .expect("the program");
-    let mut written = Vec::new();
-    child.stdout.take().expect("its output").read_to_end(&mut written).expect("its output");
+    written.clear();
+    child.stdout.take().expect("its output").read_to_end(written).expect("its output");
     let status = child.wait().expect("its end");
     let time = start.elapsed().as_secs_f64() * 1e3;
     assert!(status.success(), "{word} ended with {status}");
-    (time, written)
+    time
 }
 
 fn main() {
@@ -29,9 +30,10 @@ fn main() {
         panic!("PROGRAM SHELF SCRIPT ROUNDS NAME");
     };
     let mut times = [Vec::new(), Vec::new()];
+    let (mut one, mut all) = (Vec::new(), Vec::new());
     for _ in 0..rounds.parse().expect("a number of rounds") {
-        let (serial, one) = run(program, "serial", shelf, script);
-        let (replay, all) = run(program, "replay", shelf, script);
+        let serial = run(program, "serial", shelf, script, &mut one);
+        let replay = run(program, "replay", shelf, script, &mut all);
         assert!(one == all, "the reports differ");
         times[0].push(serial);
         times[1].push(replay);
