@@ -1,10 +1,10 @@
 -- Answers that are all alike: the first one tells the same as all.
-use Rattle.std.proofs.Common.{◌≡◌, ◌⊎◌, inl, inr, ℕ, suc, ◌+◌, ◌<◌, ◌≤◌, List, [], ◌∷◌, ◌++◌, length, get_or, take, drop, refl, sym, ap, ◌∙◌, subst, arith}
+use Rattle.std.proofs.Common.{◌≡◌, ◌⊎◌, inl, inr, ℕ, suc, ◌+◌, ◌-◌, ◌<◌, ◌≤◌, List, [], ◌∷◌, ◌++◌, length, get_or, take, drop, refl, sym, ap, ◌∙◌, subst, arith}
 use Rattle.std.specs.Prelude.{All, Some, slice_get}
 use Rattle.std.specs.Option.{unwrap_or}
 use Rattle.std.proofs.lemmas.Bool.{cases_lt}
-use Rattle.std.proofs.lemmas.List.{same_lists, append-nil, append_assoc}
-use Rattle.std.proofs.lemmas.Option.{unwrap_or-slice_get, get_or_from_slice_get, slice_get_read}
+use Rattle.std.proofs.lemmas.List.{same_lists, append-nil, append_assoc, get_or_default, take_all}
+use Rattle.std.proofs.lemmas.Option.{unwrap_or-slice_get}
 use Rattle.label_sets.specs.declared.series.Series.{Series}
 use Rattle.querier.specs.declared.answer.Answer.{Answer}
 use Rattle.querier.specs.Gathered.{TellTheSame}
@@ -63,28 +63,28 @@ one_of_four k start most under = elim (cases_lt start k) [
   ]
 ]
 
-at_place : (place : ℕ) (answers : List Answer) (series one : Series) (it : Answer) (k at : ℕ) (d : Answer) → k ≡ at → it ≡ get_or answers at d
-    → Some one ≡ slice_get it.series place → series ≡ one → slice_get (get_or answers k d).series place ≡ Some series
-at_place place answers series one it k at d same is stands equal =
+at_place : (place : ℕ) (answers : List Answer) (series one : Series) (k at : ℕ) (e d : Answer) → at < length answers → k ≡ at
+    → Some one ≡ slice_get (get_or answers at e).series place → series ≡ one → slice_get (get_or answers k d).series place ≡ Some series
+at_place place answers series one k at e d within same stands equal =
     ap (λ (n : ℕ). slice_get (get_or answers n d).series place) same
-    ∙ (ap (λ (a : Answer). slice_get a.series place) (sym is) ∙ (sym stands ∙ ap Some (sym equal)))
+    ∙ (ap (λ (a : Answer). slice_get a.series place) (get_or_default answers at d e within) ∙ (sym stands ∙ ap Some (sym equal)))
 
-pub four_have : (place : ℕ) (answers : List Answer) (series one two three four : Series) (start : ℕ) (first second third fourth : Answer)
-    → start < length answers → first ≡ get_or answers start first
-    → ((d : Answer) → start + 1 < length answers → second ≡ get_or answers (start + 1) d)
-    → ((d : Answer) → start + 2 < length answers → third ≡ get_or answers (start + 2) d)
-    → ((d : Answer) → start + 3 < length answers → fourth ≡ get_or answers (start + 3) d)
-    → Some one ≡ slice_get first.series place → Some two ≡ slice_get second.series place → Some three ≡ slice_get third.series place → Some four ≡ slice_get fourth.series place
+pub four_have : (place : ℕ) (answers : List Answer) (series one two three four : Series) (start : ℕ) (first second third fourth : Answer) → start + 3 < length answers
+    → Some one ≡ slice_get (get_or answers start first).series place → Some two ≡ slice_get (get_or answers (start + 1) second).series place
+    → Some three ≡ slice_get (get_or answers (start + 2) third).series place → Some four ≡ slice_get (get_or answers (start + 3) fourth).series place
     → (series ≡ one) × (series ≡ two) × (series ≡ three) × (series ≡ four)
     → (k : ℕ) (d : Answer) → start ≤ k → k < start + 4 → k < length answers → slice_get (get_or answers k d).series place ≡ Some series
-four_have place answers series one two three four start first second third fourth within a1 a2 a3 a4 s1 s2 s3 s4 same k d most under below = elim (one_of_four k start most under) [
-  | inl e ↦ at_place place answers series one first k start d e (sym (get_or_from_slice_get answers start first d (slice_get_read answers (length answers) start first refl within a1))) s1 same.0
-  | inr (inl e) ↦ at_place place answers series two second k (start + 1) d e (a2 d (omega (arith, e, below))) s2 same.1
-  | inr (inr (inl e)) ↦ at_place place answers series three third k (start + 2) d e (a3 d (omega (arith, e, below))) s3 same.2
-  | inr (inr (inr e)) ↦ at_place place answers series four fourth k (start + 3) d e (a4 d (omega (arith, e, below))) s4 same.3
+four_have place answers series one two three four start first second third fourth within s1 s2 s3 s4 same k d most under below = elim (one_of_four k start most under) [
+  | inl e ↦ at_place place answers series one k start first d (omega (arith, within)) e s1 same.0
+  | inr (inl e) ↦ at_place place answers series two k (start + 1) second d (omega (arith, within)) e s2 same.1
+  | inr (inr (inl e)) ↦ at_place place answers series three k (start + 2) third d (omega (arith, within)) e s3 same.2
+  | inr (inr (inr e)) ↦ at_place place answers series four k (start + 3) fourth d within e s4 same.3
 ]
 
-pub first_alike : (answers others : List Answer) (first : Answer) (series : List Series) → others ≡ drop 1 answers → series ≡ (get_or answers 0 first).series
-    → All (λ answer. series ≡ answer.series) others → (d : Answer) → All (λ other. (get_or answers 0 d).series ≡ other.series) (drop 1 answers)
-first_alike [] others first series same is alike d = λ k e below. absurd (omega (arith, below))
-first_alike (one ∷ behind) others first series same is alike d = λ k e below. sym is ∙ subst (λ (xs : List Answer). All (λ answer. series ≡ answer.series) xs) same alike k e below
+pub first_alike : (answers others : List Answer) (first : Answer) (series : List Series) → 1 ≤ length answers → first ≡ get_or answers 0 first → others ≡ take (length answers - 1) (drop 1 answers)
+    → series ≡ first.series → All (λ answer. series ≡ answer.series) others → (d : Answer) → All (λ other. (get_or answers 0 d).series ≡ other.series) (drop 1 answers)
+first_alike [] others first series some here same is alike d = absurd (omega (arith, some))
+first_alike (one ∷ behind) others first series some here same is alike d =
+    let all : others ≡ behind = same ∙ take_all (length (one ∷ behind) - 1) behind (omega arith) in
+    let own : series ≡ one.series = is ∙ ap (λ (a : Answer). a.series) here in
+    λ k e below. sym own ∙ subst (λ (xs : List Answer). All (λ answer. series ≡ answer.series) xs) all alike k e below

@@ -1,10 +1,11 @@
 //! Whether answers are all alike, as those of gateways that see the same blocks are. They are compared series by series, so that what
-//! the first one has stays in the processor's cache, and four others at a time: lists that are read side by side come from memory
-//! faster than one after another.
+//! the first one has stays in the processor's cache, and four others at a time while there are four: lists that are read side by side
+//! come from memory faster than one after another.
 ghost use Rattle.std.specs.Prelude.{◌≡◌, ◌+◌, ◌<◌, ◌≤◌, ℕ, length, drop, slice_get, slice_index_or, true, All, Some};
 ghost use Rattle.querier.specs.declared.answer.Answer.{Answer};
 
 use crate::Answer;
+use crate::repeats::is_same;
 use label_sets::{Sample, Series};
 
 /// Whether the series of all answers are those of the first.
@@ -13,11 +14,10 @@ pub(crate) fn are_alike(answers: &[Answer]) -> bool
         → All (λ other. (slice_index_or answers.now 0 d).series ≡ other.series)
         (drop 1 answers.now) }
 {
-    if answers.is_empty() {
+    let [first, others @ ..] = answers else {
         return true;
-    }
-    let (_, others) = answers.split_at(1);
-    all_have(answers[0].series.members(), others)
+    };
+    all_have(first.series.members(), others)
 }
 
 /// Whether these are the series of each answer.
@@ -39,8 +39,8 @@ fn all_have(series: &[Series], answers: &[Answer]) -> bool
 fn all_have_as_many(count: usize, answers: &[Answer]) -> bool
     ensures { result ≡ true → All (λ answer. length answer.series ≡ count) answers.now }
 {
-    for number in 0..answers.len() {
-        if answers[number].series.len() != count {
+    for answer in answers {
+        if answer.series.len() != count {
             return false;
         }
     }
@@ -70,31 +70,44 @@ fn four_have_at(place: usize, series: &Series, answers: &[Answer], start: usize)
         → k < length answers.now
         → slice_get (slice_index_or answers.now k d).series place ≡ Some series.now }
 {
-    prove!(answers.len() <= 0x7fff_ffff_ffff_ffff);
-    let first = &answers[start];
-    let Some(one) = first.series.get(place) else {
+    if answers.len() - start < 4 {
+        return rest_have_at(place, series, answers, start);
+    }
+    let Some(one) = answers[start].series.get(place) else {
         return false;
     };
-    let Some(two) = answer_or(answers, start + 1, first).series.get(place) else {
+    let Some(two) = answers[start + 1].series.get(place) else {
         return false;
     };
-    let Some(three) = answer_or(answers, start + 2, first).series.get(place) else {
+    let Some(three) = answers[start + 2].series.get(place) else {
         return false;
     };
-    let Some(four) = answer_or(answers, start + 3, first).series.get(place) else {
+    let Some(four) = answers[start + 3].series.get(place) else {
         return false;
     };
     are_four(series, one, two, three, four)
 }
 
-/// The answer at a place, or another one behind the last.
-fn answer_or<'a>(answers: &'a [Answer], place: usize, other: &'a Answer) -> &'a Answer
-    ensures { (d : Answer) → place < length answers.now
-        → result.now ≡ slice_index_or answers.now place d }
+/// The same of all answers from one on, one after another.
+fn rest_have_at(place: usize, series: &Series, answers: &[Answer], start: usize) -> bool
+    ensures { result ≡ true → (k : ℕ) (d : Answer) → start ≤ k → k < length answers.now
+        → slice_get (slice_index_or answers.now k d).series place ≡ Some series.now }
 {
-    match answers.get(place) {
-        Some(answer) => answer,
-        None => other,
+    for number in start..answers.len() {
+        if !has_at(place, series, &answers[number]) {
+            return false;
+        }
+    }
+    true
+}
+
+/// Whether an answer has this series at a place.
+fn has_at(place: usize, series: &Series, answer: &Answer) -> bool
+    ensures { result ≡ true → slice_get answer.now.series place ≡ Some series.now }
+{
+    match answer.series.get(place) {
+        Some(other) => is_same(series, other),
+        None => false,
     }
 }
 

@@ -77,7 +77,7 @@ fn are_same(series: &[Series], others: &[Series]) -> bool
     true
 }
 
-fn is_same(series: &Series, other: &Series) -> bool
+pub(crate) fn is_same(series: &Series, other: &Series) -> bool
     ensures { result ≡ true → series.now ≡ other.now }
 {
     series.labels == other.labels && have_same(series.samples.members(), other.samples.members())
