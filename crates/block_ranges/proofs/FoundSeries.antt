@@ -1,5 +1,5 @@
 -- The series that a selector takes, by a reader of the whole index or of parts of it.
-use Rattle.std.proofs.Common.{◌≡◌, Vec, Global, ℕ, List, sym, ap, subst, inl, inr, Option, Some, None, Result, Ok, Err}
+use Rattle.std.proofs.Common.{◌≡◌, Vec, Global, ℕ, List, sym, ap, subst, inr, Option, Some, None, Result, Ok, Err}
 use Rattle.std.specs.Prelude.{IsErr, IfOk, option_map}
 use Rattle.list_core.specs.declared.memory.NoMemory.{NoMemory}
 use Rattle.index_parts.specs.declared.toc.Toc.{Toc}
@@ -62,9 +62,6 @@ module _ (query : Query) (block : Block) (bytes : List ℕ) (reader : Held) (is 
       whole_found selection found selects (subst (λ (l : List ℕ). ReadsAs (λ (all : Vec IndexSeries Global). all.items) (each_at (numbered_at reader.bytes reader.symbols) l) found) same read)
   whole_found_in selection numbers (Err none) selects same read = tt
 
-  pub whole_none : Selects query block (tables_held reader) None → FindsSeries query block bytes None
-  whole_none selects = inr (inl (opened_of reader, is, subst (λ (t : Tables). Selects query block t None) same_whole selects))
-
 -- ---- parts of it
 
 module _ (read : TablesRead) (lists : List ℕ) (reader : Held)
@@ -82,6 +79,3 @@ module _ (read : TablesRead) (lists : List ℕ) (reader : Held)
   parts_found query block toc size selection runs selects are =
       let here = subst (λ (t : Tables). Selects query block t (Some selection)) same_parts selects in
       record { all = selection.all; all_are = here.0; lists = here.1; numbers = selection.numbers; taken = here.2; runs_are = are }
-
-  pub parts_none : (query : Query) (block : Block) (toc : Toc) (size : ℕ) → Selects query block (tables_held reader) None → SelectsRuns query block toc size (tables_in read lists) None
-  parts_none query block toc size selects = subst (λ (t : Tables). Selects query block t None) same_parts selects

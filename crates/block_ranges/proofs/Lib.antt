@@ -1,5 +1,4 @@
 pub mod SameTests
-pub mod Least
 pub mod SmallReads
 pub mod SmallQueries
 pub mod Leading

@@ -1,5 +1,5 @@
 -- Runs of series that the cache has, one after another.
-use Rattle.std.proofs.Common.{◌≡◌, ℕ, List, [], ◌∷◌, map, sym, subst, Some, None}
+use Rattle.std.proofs.Common.{◌≡◌, ℕ, List, [], ◌∷◌, map, subst, Some, None}
 use Rattle.std.specs.Map.{lookup}
 use Rattle.world_core.specs.Plans.{Plan, Keeps}
 use Rattle.block_keys.specs.declared.key.Key.TheVariants.{Index}
@@ -47,10 +47,6 @@ module _ (asked : Asked) (symbols : List (List ℕ)) (last : ℕ) (all : Plan Bl
       (keeps_on (whole_left asked new) (sized_left asked (piece_of run.range) (reached last new) (with_run asked symbols (run_read run) (map run_read rest) series) bytes) behind_run (run_refused asked symbols (run_read run) (map run_read rest) bytes series (reached last new) takes)
       (keeps_cached asked old new last (piece_of run.range) (with_run asked symbols (run_read run) (map run_read rest) series) bytes has same))
       (next_run is stands)
-
-  -- the cache has not got it
-  pub run_waits : later ≡ run ∷ rest → Stands later old series → new ≡ old → Stands (run ∷ rest) new series
-  run_waits is stands same = subst (λ (c : Cache). Stands (run ∷ rest) c series) (sym same) (next_run is stands)
 
   -- there is none left
   pub none_left : later ≡ [] → Stands later old series → Keeps (chunks_left asked (reached last old) series) all

@@ -1,5 +1,5 @@
 -- The samples of a series in the range, under its final labels.
-use Rattle.std.proofs.Common.{◌≡◌, ℕ, ℤ, ◌+◌, ◌<◌, Bool, true, false, List, [], ◌∷◌, ◌++◌, take, length, get_or, filter, refl, sym, ap, ap₂, ◌∙◌, append-nil}
+use Rattle.std.proofs.Common.{◌≡◌, ℕ, ℤ, ◌+◌, ◌<◌, Bool, true, List, [], ◌∷◌, ◌++◌, take, length, get_or, filter, refl, sym, ap, ap₂, ◌∙◌, append-nil}
 use Rattle.std.specs.List.{flat_map}
 use Rattle.std.proofs.lemmas.List.{take_more}
 use Rattle.std.proofs.lemmas.List.Elements.{filter-append}
@@ -23,10 +23,6 @@ use Rattle.chunk_ranges.specs.BlockReads.{samples_of, taken, shown}
 pub met : (f : ChunkPlace → List Sample) (p : ChunkPlace → Bool) (place : ChunkPlace) (before after : List Sample) → p place ≡ true → after ≡ before ++ f place → after ≡ before ++ flat_map f (filter p (place ∷ []))
 met f p place before after is so =
     so ∙ ap (λ (l : List Sample). before ++ l) (sym (append-nil (f place)) ∙ sym (ap (flat_map f) (filter_hit p place [] is)))
-
-pub not_met : (f : ChunkPlace → List Sample) (p : ChunkPlace → Bool) (place : ChunkPlace) (before after : List Sample) → p place ≡ false → after ≡ before → after ≡ before ++ flat_map f (filter p (place ∷ []))
-not_met f p place before after is so =
-    so ∙ sym (append-nil before) ∙ ap (λ (l : List Sample). before ++ l) (sym (ap (flat_map f) (filter_miss p place [] is)))
 
 pub met_more : (f : ChunkPlace → List Sample) (p : ChunkPlace → Bool) (xs : List ChunkPlace) (i : ℕ) (d : ChunkPlace) (before after : List Sample) → i < length xs
     → before ≡ flat_map f (filter p (take i xs)) → after ≡ before ++ flat_map f (filter p (get_or xs i d ∷ [])) → after ≡ flat_map f (filter p (take (i + 1) xs))

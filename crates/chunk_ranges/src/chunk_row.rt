@@ -8,9 +8,9 @@ use label_sets::Sample;
 /// in one list.
 #[derive(Drop)]
 pub struct ChunkRow {
-    pub chunks: Vec<RowChunk>,
-    pub samples: Vec<Sample>,
+    pub(crate) chunks: Vec<RowChunk>,
+    pub(crate) samples: Vec<Sample>,
     /// From which reference on chunks stand in another row.
-    pub until: u64,
+    pub(crate) until: u64,
     ghost whole: { counted chunks.items ≡ length samples.items },
 }

@@ -10,10 +10,10 @@ use crate::chunks::append_chunk;
 use crate::places::meets;
 use crate::row_chunk::RowChunk;
 use index_file::IndexSeries;
-use index_parts::ChunkPlace;
+use index_parts::{ChunkPlace, reference_of};
 use label_sets::SampleList;
 use list_core::NoMemory;
-use read_ranges::{Asked, reference_of};
+use read_ranges::Asked;
 
 /// How many samples most chunks have.
 const SAMPLES: usize = 120;
@@ -102,7 +102,7 @@ fn count_met(asked: &Asked<'_>, chunks: &[ChunkPlace]) -> usize {
 /// The reference of the first chunk of a series.
 fn first_reference(series: &IndexSeries) -> u64 {
     match series.chunks.members().first() {
-        Some(place) => reference_of(place),
+        Some(place) => reference_of(*place),
         None => 0,
     }
 }

@@ -13,10 +13,10 @@ use crate::chunk_row::ChunkRow;
 use crate::chunk_rows::read_behind;
 use crate::chunks::{chunk_len, chunk_samples};
 use index_file::IndexSeries;
-use index_parts::ChunkPlace;
+use index_parts::{ChunkPlace, reference_of};
 use label_sets::SampleList;
 use list_core::NoMemory;
-use read_ranges::{Asked, GroupRead, reference_of};
+use read_ranges::{Asked, GroupRead};
 use std::collections::VecDeque;
 
 /// What the read of a group shows of a chunk.
@@ -48,9 +48,9 @@ pub fn places_of(places: &[ChunkPlace], reference: u64) -> &[ChunkPlace]
     ensures { IsNonDecreasingBy reference_of places.now
         → result.now ≡ places_at places.now reference }
 {
-    let start = places.partition_point(|place| reference_of(place) < reference);
+    let start = places.partition_point(|place| reference_of(*place) < reference);
     let rest = &places[start..];
-    let end = rest.partition_point(|place| reference_of(place) <= reference);
+    let end = rest.partition_point(|place| reference_of(*place) <= reference);
     &rest[..end]
 }
 

@@ -9,9 +9,9 @@ ghost use Rattle.chunk_ranges.specs.BlockReads.{taken};
 ghost use Rattle.read_ranges.specs.Asking.{query_asked};
 
 use index_file::IndexSeries;
-use index_parts::ChunkPlace;
+use index_parts::{ChunkPlace, reference_of};
 use list_core::NoMemory;
-use read_ranges::{Asked, reference_of};
+use read_ranges::Asked;
 
 /// How many segments a block may have.
 const MOST_SEGMENTS: u32 = 999_999;
@@ -81,6 +81,6 @@ pub fn sorted_places(places: Vec<ChunkPlace>) -> Result<Vec<ChunkPlace>, NoMemor
     ensures ascend { IfOk result (λ sorted. IsNonDecreasingBy reference_of sorted.items) }
 {
     let mut sorted = places;
-    sorted.sort_by_key(|place| reference_of(place))?;
+    sorted.sort_by_key(|place| reference_of(*place))?;
     Ok(sorted)
 }

@@ -1,6 +1,6 @@
 /// A chunk of a row: its reference, and how many samples it has.
 #[derive(Clone, Copy)]
-pub struct RowChunk {
-    pub reference: u64,
-    pub count: usize,
+pub(crate) struct RowChunk {
+    pub(crate) reference: u64,
+    pub(crate) count: usize,
 }

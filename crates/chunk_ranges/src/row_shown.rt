@@ -20,10 +20,10 @@ use crate::places::meets;
 use crate::row_chunk::RowChunk;
 use crate::shown::{ChunkRead, shown_apart};
 use index_file::IndexSeries;
-use index_parts::ChunkPlace;
+use index_parts::{ChunkPlace, reference_of};
 use label_sets::{Sample, SampleList, Series, SeriesList, final_labels};
 use list_core::NoMemory;
-use read_ranges::{Asked, reference_of};
+use read_ranges::Asked;
 use std::alloc::Global;
 use std::collections::VecDeque;
 
@@ -116,7 +116,7 @@ fn behind_place<'a>(
     let [one, others @ ..] = row else {
         return None;
     };
-    if one.reference == reference_of(place) {
+    if one.reference == reference_of(*place) {
         Some(others)
     } else {
         None

@@ -12,10 +12,10 @@ ghost use Rattle.chunk_ranges.specs.ChunksRead.{reads_apart, references_apart};
 
 use crate::places::meets;
 use index_file::IndexSeries;
-use index_parts::ChunkPlace;
+use index_parts::{ChunkPlace, reference_of};
 use label_sets::{Sample, SampleList, Series, SeriesList, final_labels};
 use list_core::NoMemory;
-use read_ranges::{Asked, reference_of};
+use read_ranges::Asked;
 
 /// The samples of a chunk that was read, by its reference.
 #[derive(Drop)]
@@ -36,7 +36,7 @@ fn samples_of<'a>(found: &'a [ChunkRead], place: &ChunkPlace) -> &'a [Sample]
     ensures { IsStrictlyIncreasing (references_apart found.now)
         → result.now ≡ samples_of (reads_apart found.now) place.now }
 {
-    let reference = reference_of(place);
+    let reference = reference_of(*place);
     let there = found.partition_point(|one| one.reference < reference);
     match chunk_at(found, there) {
         Some(one) => if one.reference == reference {

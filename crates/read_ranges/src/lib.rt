@@ -28,7 +28,7 @@ pub use ends::{end_of_place, has_sections, section_range};
 pub use group_read::GroupRead;
 pub use group_reads::groups_to_read;
 pub use groups::groups_of_references;
-pub use references::{reference_of, references_of};
+pub use references::references_of;
 pub use run_read::RunRead;
 pub use run_reads::runs_to_read;
 pub use runs::{number_behind, runs_of_series};

@@ -3,7 +3,7 @@ ghost use Rattle.std.specs.Prelude.{◌≡◌, map, IfOk};
 ghost use Rattle.index_parts.specs.SeriesEntry.{reference_of};
 ghost use Rattle.read_ranges.specs.ChunkRanges.{IsSetOf};
 
-use index_parts::ChunkPlace;
+use index_parts::{ChunkPlace, reference_of};
 use list_core::NoMemory;
 use std::alloc::Global;
 use wire_bytes::NumberList;
@@ -14,16 +14,9 @@ pub fn references_of(alloc: Global, places: &[ChunkPlace]) -> Result<NumberList,
 {
     let mut references: Vec<u64> = Vec::new(alloc);
     for place in places {
-        references.push(reference_of(place))?;
+        references.push(reference_of(*place))?;
     }
     references.sort()?;
     references.dedup();
     Ok(NumberList::from_vec(references))
-}
-
-/// A chunk's reference: the number of its segment file, and below it its offset there.
-pub fn reference_of(place: &ChunkPlace) -> u64
-    ensures { result ≡ reference_of place.now }
-{
-    u64::from(place.segment) * 0x1_0000_0000 + u64::from(place.offset)
 }

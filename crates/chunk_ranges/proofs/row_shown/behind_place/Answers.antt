@@ -11,4 +11,4 @@ pub returns-then-one-reference_of : goal.returns-then-one-reference_of
 returns-then-one-reference_of c =
     let some : 0 < length c.args.row.now = omega (arith, c.in-len1-up.len_at_least) in
     place_met (meets c.args.asked.now.low c.args.asked.now.high) c.args.row.now _ _ c.args.place.now (sym c.meets.ensures ∙ c.if-not-meets.false) (first_chunk_and c.args.row.now _ some)
-    (c.if-one-reference_of.true ∙ c.reference_of.ensures)
+    (c.if-one-reference_of.true ∙ c.reference_of.ensures.value)
