@@ -1,7 +1,8 @@
 -- What the calls say: of loading, and of loading with a check behind it.
-use Rattle.std.proofs.Common.{◌≡◌, ℕ, Result, Ok, Err, refl, sym, ap, subst, ◌∙◌, ◌⊎◌, inl, inr}
-use Rattle.std.specs.Prelude.{IfOk, IsOkAnd, IsErrAnd}
+use Rattle.std.proofs.Common.{◌≡◌, ℕ, List, Result, Ok, Err, refl, sym, ap, subst, ◌∙◌, ◌⊎◌, inl, inr}
+use Rattle.std.specs.Prelude.{IsOkAnd, IsErrAnd}
 use Rattle.reading_core.proofs.Binds.{ok_is, err_is}
+use Rattle.index_file.specs.declared.index_series.IndexSeries.{IndexSeries}
 use Rattle.block_files.specs.declared.block_files.BlockFiles.{BlockFiles}
 use Rattle.block_content.specs.Checking.{RefusesBlock}
 use Rattle.block_content.specs.declared.checked.Checked.{Checked}
@@ -12,7 +13,7 @@ use Rattle.block_loading.specs.Loading.{IsLoaded, RefusesLoad, RefusesOnShelf}
 use Rattle.block_loading.specs.LoadReading.{IsBrokenOff, WasBrokenOff, Loads, refused_block, BlockParts, parts_of, load_at}
 use Rattle.block_loading.specs.declared.load_refusal.LoadRefusal.{LoadRefusal}
 use Rattle.block_loading.specs.declared.load_refusal.LoadRefusal.TheVariants.{Refused, ShelfFault, NoMemory as WithoutMemory}
-use Rattle.block_loading.proofs.LoadLaws.{load_found, load_again, load_refused, load_refuses}
+use Rattle.block_loading.proofs.LoadLaws.{load_again, load_refused, load_refuses}
 use Rattle.block_content.proofs.SameFiles.{same_files}
 
 broken : {X : Type 0} (e : LoadRefusal) → IsBrokenOff e → WasBrokenOff {X = X} (Err e)
@@ -26,10 +27,6 @@ not_broken e refusal (inr fault) same = absurd cc
 -- ---- loading
 
 module _ {X : Type 0} (view : X → BlockFiles) (told : Contents) (ulid : ℕ) where
-  pub says_found : (r : Result X LoadRefusal) → Loads (λ x. parts_of (view x)) r (load_at told ulid) → IfOk r (λ x. IsLoaded told ulid (view x))
-  says_found (Ok x) read = load_found told ulid (view x) read
-  says_found (Err e) read = tt
-
   pub says_only : (r : Result X LoadRefusal) (files : BlockFiles) → Loads (λ x. parts_of (view x)) r (load_at told ulid) → IsLoaded told ulid files → IsOkAnd r (λ x. view x ≡ files) ⊎ WasBrokenOff r
   says_only (Ok x) files read is =
       let same : parts_of (view x) ≡ parts_of files = ok_is {E = LoadRefusal} _ _ (sym read ∙ load_again told ulid files is) in
@@ -46,6 +43,15 @@ module _ {X : Type 0} (view : X → BlockFiles) (told : Contents) (ulid : ℕ) w
   says_refuses (Ok x) refusal read is = let both = sym read ∙ load_refuses told ulid refusal is in absurd cc
   says_refuses (Err e) refusal (inl off) is = inr (broken e off)
   says_refuses (Err e) refusal (inr refused) is = inl (ap (λ (x : LoadRefusal). Err x) (err_is {A = BlockParts} e (Refused refusal) (sym refused ∙ load_refuses told ulid refusal is)))
+
+-- what was read, but for the series of the index
+abbrev pub files_read : BlockFiles × List IndexSeries → BlockFiles
+files_read x = x.0
+
+pub refused_on : {Y : Type 0} (told : Contents) (ulid : ℕ) (r : Result Y LoadRefusal) (e : LoadRefusal) (refusal : CheckRefusal) → IsErrAnd r (λ d. d ≡ e)
+    → Loads (λ x. parts_of (files_read x)) (Err e) (load_at told ulid) → r ≡ Err (Refused refusal) → RefusesLoad told ulid refusal
+refused_on told ulid (Ok y) e refusal is read same = absurd is
+refused_on {Y} told ulid (Err d) e refusal is read same = says_refused files_read told ulid (Err e) refusal read (ap (λ (x : LoadRefusal). Err x) (sym is ∙ err_is {A = Y} d (Refused refusal) same))
 
 -- ---- with a check behind it
 

@@ -76,12 +76,6 @@ module _ (told : Contents) (key : Key) where
 pub shown_found : (key : Key) (file : Option (List ℕ)) (bytes : List ℕ) → file ≡ Some bytes → length bytes ≤ file_limit → file_in key file ≡ Ok bytes
 shown_found key file bytes is le = ap (file_in key) is ∙ ap (λ (b : Bool). cond b (Err (Refused (TooLarge key))) (Ok bytes)) (not_large bytes le)
 
-pub shown_absent : (key : Key) (file : Option (List ℕ)) → file ≡ None → file_in key file ≡ Err (Refused (NoFile key))
-shown_absent key file none = ap (file_in key) none
-
-pub shown_large : (key : Key) (file : Option (List ℕ)) → IsSomeAnd file (λ bytes. file_limit < length bytes) → file_in key file ≡ Err (Refused (TooLarge key))
-shown_large key file is = in_large key file is
-
 pub read_is : (r : Result (List ℕ) LoadRefusal) (files : Option Contents) (told : Contents) (key : Key) (name : List ℕ) (answer : ShelfAnswer) → IfSome files (λ t. ShowsFile (t name) answer) → files ≡ Some told → name ≡ key_text key
     → ((file : Option (List ℕ)) → ShowsFile file answer → Loads (λ b. b) r (file_in key file)) → Loads (λ b. b) r (file_at told key)
 unfolding file_at

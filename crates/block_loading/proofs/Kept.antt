@@ -1,10 +1,9 @@
 -- What one call after another leaves of a shelf.
-use Rattle.std.proofs.Common.{◌≡◌, ℕ, ◌≤◌, Bool, true, false, Option, Result, Ok, Err, refl, sym, subst, ◌∙◌, arith}
-use Rattle.std.specs.Prelude.{IsTrue, IsErrAnd}
+use Rattle.std.proofs.Common.{◌≡◌, ℕ, ◌≤◌, Bool, true, false, Option, refl, sym, subst, ◌∙◌, arith}
+use Rattle.std.specs.Prelude.{IsTrue}
 use Rattle.bucket_core.specs.Causes.{Rose}
 use Rattle.bucket_core.specs.Contents.{Contents}
-use Rattle.block_loading.specs.LoadReading.{KeepsShelf, is_fault, was_fault}
-use Rattle.block_loading.specs.declared.load_refusal.LoadRefusal.{LoadRefusal}
+use Rattle.block_loading.specs.LoadReading.{KeepsShelf}
 
 module _ {S : Type 0} (files : S → Option Contents) (faults : S → ℕ) where
   -- without a call all is kept
@@ -24,8 +23,3 @@ module _ {S : Type 0} (files : S → Option Contents) (faults : S → ℕ) where
 
   pub kept_as : (old new : S) (fault other : Bool) → fault ≡ other → KeepsShelf files faults old new fault → KeepsShelf files faults old new other
   kept_as old new fault other e kept = subst (KeepsShelf files faults old new) e kept
-
-  -- a call that ended with an error of another
-  pub kept_error : {X : Type 0} (old new : S) (r : Result X LoadRefusal) (e : LoadRefusal) → IsErrAnd r (λ d. d ≡ e) → KeepsShelf files faults old new (is_fault e) → KeepsShelf files faults old new (was_fault r)
-  kept_error old new (Ok x) e is kept = absurd is
-  kept_error old new (Err d) e is kept = subst (λ (f : LoadRefusal). KeepsShelf files faults old new (is_fault f)) (sym is) kept

@@ -1,5 +1,5 @@
 -- The steps of loading, each as it goes on or stops.
-use Rattle.std.proofs.Common.{◌≡◌, ℕ, List, false, Result, Ok, Err, refl, sym, ap, subst, ◌∙◌, ◌⊎◌, inl, inr}
+use Rattle.std.proofs.Common.{◌≡◌, ℕ, List, Result, Ok, Err, refl, sym, ap, subst, ◌∙◌, ◌⊎◌, inl, inr}
 use Rattle.std.specs.Prelude.{IsErrAnd}
 use Rattle.reading_core.specs.Reading.{refused_as}
 use Rattle.block_keys.specs.declared.key.Key.TheVariants.{Meta, Index}
@@ -14,7 +14,7 @@ use Rattle.block_content.specs.declared.check_refusal.CheckRefusal.{CheckRefusal
 use Rattle.block_content.specs.declared.check_refusal.CheckRefusal.TheVariants as check
 use Rattle.bucket_core.specs.Contents.{Contents}
 use Rattle.block_loading.specs.Loading.{last_segment}
-use Rattle.block_loading.specs.LoadReading.{IsBrokenOff, Loads, is_fault, refused_block, refused_meta, file_at, meta_at, index_in, segments_at, load_at}
+use Rattle.block_loading.specs.LoadReading.{IsBrokenOff, Loads, refused_block, refused_meta, file_at, meta_at, index_in, segments_at, load_at}
 use Rattle.block_loading.specs.declared.load_refusal.LoadRefusal.{LoadRefusal}
 
 -- a call that stopped with a refusal of another
@@ -26,31 +26,6 @@ stops view read (Err d) e is why = subst (λ (c : LoadRefusal). IsBrokenOff c �
 pub stops_first : {A B : Type 0} (first : Result A LoadRefusal) (whole : Result B LoadRefusal) (e : LoadRefusal) → (first ≡ Err e → whole ≡ Err e) → IsBrokenOff e ⊎ (first ≡ Err e) → IsBrokenOff e ⊎ (whole ≡ Err e)
 stops_first first whole e goes (inl off) = inl off
 stops_first first whole e goes (inr h) = inr (goes h)
-
-pub meta_no_fault : (e : MetaRefusal) → is_fault (refused_meta e) ≡ false
-meta_no_fault meta.NotJson = refl
-meta_no_fault (meta.MissingField name) = refl
-meta_no_fault (meta.WrongKind name) = refl
-meta_no_fault meta.BadVersion = refl
-meta_no_fault meta.BadTimes = refl
-meta_no_fault (meta.BadUlid name) = refl
-meta_no_fault meta.BadLabels = refl
-meta_no_fault meta.NoMemory = refl
-
-pub block_no_fault : (e : CheckRefusal) → is_fault (refused_block e) ≡ false
-block_no_fault (check.NoFile key) = refl
-block_no_fault (check.BadMeta cause) = refl
-block_no_fault check.UlidDiffers = refl
-block_no_fault check.NotLevelOne = refl
-block_no_fault check.SourcesNotSelf = refl
-block_no_fault check.Downsampled = refl
-block_no_fault (check.TooLarge key) = refl
-block_no_fault (check.BadIndex cause) = refl
-block_no_fault check.EmptyBlock = refl
-block_no_fault (check.BadChunk series chunk cause) = refl
-block_no_fault (check.OutsideRange series time) = refl
-block_no_fault (check.Repeated series) = refl
-block_no_fault check.NoMemory = refl
 
 -- a refusal twice said
 twice : {A D E F : Type 0} (f : D → E) (g : E → F) (r : Result A D) → refused_as (λ d. g (f d)) r ≡ refused_as g (refused_as f r)

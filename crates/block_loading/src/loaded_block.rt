@@ -4,7 +4,7 @@ ghost use Rattle.reading_core.specs.Grammar.{IsBytes};
 ghost use Rattle.block_content.specs.ContentReading.{index_at};
 
 use crate::LoadRefusal;
-use crate::loading::load_indexed;
+use crate::loading::read_block;
 use crate::reading::refused_block;
 use block_content::{Checked, check_indexed};
 use block_files::BlockFiles;
@@ -17,7 +17,7 @@ use ulid_core::Ulid;
 #[derive(Drop)]
 pub struct LoadedBlock {
     ulid: Ulid,
-    files: BlockFiles,
+    pub(crate) files: BlockFiles,
     indexed: IndexSeriesList,
     ghost read: { index_at files.index ≡ Ok indexed },
 }
@@ -67,7 +67,7 @@ impl LoadedBlock {
         // The files stay as they are, and the shelf's count rises just where a fault is answered.
         ensures kept { KeepsShelf F.files F.faults shelf.old shelf.new (was_fault result) }
     {
-        let (files, indexed) = load_indexed(alloc, shelf, ulid)?;
+        let (files, indexed) = read_block(alloc, shelf, ulid)?;
         Ok(LoadedBlock {
             ulid,
             files,

@@ -1,5 +1,5 @@
 //! Loading a block's files from a shelf.
-ghost use Rattle.std.specs.Prelude.{◌≡◌, ◌⊎◌, ◌≤◌, List, Some, Ok, Err, IfOk, IfSome, length, false};
+ghost use Rattle.std.specs.Prelude.{◌≡◌, ◌⊎◌, Some, Ok, Err, IfOk, length};
 ghost use Rattle.std.specs.Result.{IsOkAnd};
 ghost use Rattle.reading_core.specs.Grammar.{IsBytes};
 ghost use Rattle.block_files.specs.declared.block_files.BlockFiles.{BlockFiles};
@@ -9,8 +9,8 @@ ghost use Rattle.bucket_core.specs.Contents.{Contents};
 ghost use Rattle.block_loading.specs.Loading.{last_segment, IsLoaded, RefusesLoad, AreWithinLimit, AreNamed, StopsAt};
 ghost use Rattle.block_loading.specs.LoadReading.{Loads, KeepsShelf, AsksInOrder, WasBrokenOff, was_fault, parts_of, load_at};
 
-use crate::LoadRefusal;
 use crate::reading::{last_segment, read_meta, read_segments, read_series};
+use crate::{LoadRefusal, LoadedBlock};
 use block_files::BlockFiles;
 use bucket_core::Shelf;
 use index_v2::IndexSeriesList;
@@ -18,7 +18,7 @@ use std::alloc::Global;
 use ulid_core::Ulid;
 
 /// Reads the meta of a block, its index, and the segments from the first to the greatest that the index names.
-fn read_block<F: Shelf>(
+pub(crate) fn read_block<F: Shelf>(
     alloc: Global,
     shelf: &mut F,
     ulid: Ulid,
@@ -42,45 +42,6 @@ fn read_block<F: Shelf>(
         segments,
     };
     Ok((files, indexed))
-}
-
-/// Loads a block's files from a shelf, as `load` does, with the series that were read of its index.
-pub(crate) fn load_indexed<F: Shelf>(
-    alloc: Global,
-    shelf: &mut F,
-    ulid: Ulid,
-) -> Result<(BlockFiles, IndexSeriesList), LoadRefusal>
-    // Where the shelf tells its files, they are the block's, and a block that the shelf has is loaded.
-    ensures found { (told : Contents) → F.files shelf.old ≡ Some told
-        → IfOk result (λ x. IsLoaded told ulid x.0) }
-    ensures only { (told : Contents) → F.files shelf.old ≡ Some told
-        → (files : BlockFiles) → IsLoaded told ulid files
-        → IsOkAnd result (λ x. x.0 ≡ files) ⊎ WasBrokenOff result }
-
-    // A refusal is the first in the order of reading.
-    ensures refused { (told : Contents) → F.files shelf.old ≡ Some told
-        → (refusal : CheckRefusal) → result ≡ Err (LoadRefusal.Refused refusal)
-        → RefusesLoad told ulid refusal }
-    ensures refuses { (told : Contents) → F.files shelf.old ≡ Some told
-        → (refusal : CheckRefusal) → RefusesLoad told ulid refusal
-        → (result ≡ Err (LoadRefusal.Refused refusal)) ⊎ WasBrokenOff result }
-
-    // Whatever the shelf tells, the series are those of the index, and exactly the segments up to the last that they name are
-    // loaded.
-    ensures read { IfOk result (λ x. IsBytes x.0.index × (index_at x.0.index ≡ Ok x.1)) }
-    ensures few { IfOk result (λ x. ListsFew x.0.index x.1) }
-    ensures named { IfOk result (λ x. length x.0.segments ≡ last_segment x.1) }
-    ensures within { IfOk result (λ x. AreWithinLimit x.0) }
-
-    // Files of the block are asked for, and no others, each once and in the order of reading. A refusal or a
-    // fault is that of the last one.
-    ensures asks { AsksInOrder F.files F.asked F.faults shelf.old shelf.new
-        ulid (StopsAt ulid) (λ x. x.0.segments) result }
-
-    // The files stay as they are, and the shelf's count rises just where a fault is answered.
-    ensures kept { KeepsShelf F.files F.faults shelf.old shelf.new (was_fault result) }
-{
-    read_block(alloc, shelf, ulid)
 }
 
 /// Loads a block's files from a shelf.
@@ -115,6 +76,6 @@ pub fn load<F: Shelf>(alloc: Global, shelf: &mut F, ulid: Ulid) -> Result<BlockF
     // The files stay as they are, and the shelf's count rises just where a fault is answered.
     ensures kept { KeepsShelf F.files F.faults shelf.old shelf.new (was_fault result) }
 {
-    let (files, _) = load_indexed(alloc, shelf, ulid)?;
-    Ok(files)
+    let block = LoadedBlock::load(alloc, shelf, ulid)?;
+    Ok(block.files)
 }
