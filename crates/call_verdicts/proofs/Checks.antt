@@ -1,6 +1,6 @@
 -- What a call comes to by what its words ask for.
 use Rattle.std.proofs.Common.{◌≡◌, ◌⊎◌, inl, inr, ℕ, ◌+◌, List, ◌++◌, subst, sym, ◌∙◌, refl, ap}
-use Rattle.std.specs.Prelude.{IsTrue, true, is_some, if◌then◌else◌, Option, Some, None, IfSome, IsSome, IsSomeAnd, Result, Ok, Err, IfOk, option_map}
+use Rattle.std.specs.Prelude.{IsTrue, is_some, if◌then◌else◌, Option, Some, None, IfSome, IsSome, IsSomeAnd, Result, Ok, Err, IfOk, option_map}
 use Rattle.bucket_core.specs.Contents.{Contents, nothing}
 use Rattle.bucket_core.specs.declared.site_refusal.SiteRefusal.{SiteRefusal}
 use Rattle.bucket_core.specs.declared.site_refusal.SiteRefusal.TheVariants as site
@@ -15,7 +15,7 @@ use Rattle.block_loading.specs.Loading.{IsLoaded, RefusesOnShelf}
 use Rattle.block_loading.specs.LoadReading.{was_fault}
 use Rattle.block_loading.specs.declared.load_refusal.LoadRefusal.{LoadRefusal}
 use Rattle.block_loading.specs.declared.load_refusal.LoadRefusal.TheVariants as end
-use Rattle.call_verdicts.specs.Checks.{cause_number, files_of, IsCheckOf}
+use Rattle.call_verdicts.specs.Checks.{cause_number, IsCheckOf}
 use Rattle.report_lines.specs.CheckLines.{check_line}
 use Rattle.call_verdicts.specs.CheckVerdicts.{refused_for, verdict_on}
 use Rattle.call_verdicts.specs.Kept.{IsHandedBack, IsHandedOut, IsUntouched, told_of}
@@ -176,8 +176,3 @@ check_said around saying verdict result block named (inl (run, none, worked), sh
 check_said around saying verdict result block named (inr (inl (no_run, checked, opened)), short) said =
     said_check around.files around.shelf_failed saying verdict result block (subst (λ (o : Option ℕ). IsSomeAnd o (λ ulid. IsChecked around.files ulid around.shelf_failed verdict)) named checked) said
 check_said around saying verdict result block named (inr (inr (no_run, none, refused, unasked)), short) said = absurd (cc (none, named))
-
--- the files of a shelf that a word names are those that the site tells under the word
-pub files_named : (told : List ℕ → Option Contents) (word : Option (List ℕ)) (P : Contents → Type 0) → true ≡ is_some word → IfSome (told_of told word) P → IfSome (files_of told word) P
-files_named told None P named holds = absurd (cc named)
-files_named told (Some name) P named holds = holds

@@ -1,17 +1,9 @@
 -- What is left of a site's shelf behind the opening of its bucket.
-use Rattle.std.proofs.Common.{◌≡◌, ℕ, ◌+◌, List, subst, ◌∙◌}
-use Rattle.std.specs.Prelude.{Option, IfSome, is_some, if◌then◌else◌}
+use Rattle.std.proofs.Common.{◌≡◌, ℕ, List, subst}
+use Rattle.std.specs.Prelude.{Option, IfSome}
 use Rattle.bucket_core.specs.Contents.{Contents}
 use Rattle.world_core.specs.declared.entry.Entry.{Entry}
-use Rattle.call_verdicts.specs.Kept.{IsShelfBack, IsShelfOf, IsUntouched, told_of}
-
-pub shelf_behind : {S F : Type 0} (shelves : S → ℕ) (told : S → List ℕ → Option Contents) (files : F → Option Contents) (word : Option (List ℕ)) (old between new : S) (shelf : Option F)
-    → shelves between ≡ shelves old → told between ≡ told old → IsShelfOf shelves told files word between new shelf → IsShelfOf shelves told files word old new shelf
-shelf_behind shelves told files word old between new shelf counted same is = record {
-  handed = subst (λ (n : ℕ). shelves new ≡ (if is_some shelf then n + 1 else n)) counted is.handed;
-  back = subst (λ (t : List ℕ → Option Contents). IsShelfBack (told_of t word) files shelf) same is.back;
-  closed = λ none. record { handed = (is.closed none).handed ∙ counted; next = (is.closed none).next ∙ same };
-}
+use Rattle.call_verdicts.specs.Kept.{IsShelfOf, IsUntouched, told_of}
 
 -- the shelf of a word that is another's
 pub shelf_named : {S F : Type 0} (shelves : S → ℕ) (told : S → List ℕ → Option Contents) (files : F → Option Contents) (word other : Option (List ℕ)) (old new : S) (shelf : Option F)

@@ -1,5 +1,5 @@
 -- From the loading of a script's blocks to the end of their checks, and to what is kept of them.
-use Rattle.std.proofs.Common.{◌≡◌, ◌≢◌, ◌⊎◌, inl, inr, ℕ, zero, suc, ◌+◌, ◌<◌, ◌≤◌, true, false, List, [], ◌∷◌, ◌++◌, length, Option, None, Some, Result, Ok, Err, slice_index_or, take, drop, refl, sym, ap, ◌∙◌, subst, arith}
+use Rattle.std.proofs.Common.{◌≡◌, ◌≢◌, inl, inr, ℕ, zero, suc, ◌+◌, ◌<◌, ◌≤◌, true, false, List, [], ◌∷◌, ◌++◌, length, Option, None, Some, Result, Ok, Err, slice_index_or, take, drop, refl, sym, ap, ◌∙◌, subst, arith}
 use Rattle.std.specs.Prelude.{IfErr, IfOk, IfSome, IsTrue}
 use Rattle.std.specs.List.{AllZip}
 use Rattle.block_content.specs.Checked.{checked_files, checked_samples, checked_series}
@@ -21,11 +21,10 @@ use Rattle.script_core.specs.declared.body.Body.TheVariants.{OnShelf}
 use Rattle.report_lines.specs.script_running.specs.Shelves.{IsHeld, read_as}
 use Rattle.report_lines.specs.script_running.specs.declared.shelf.ShelfBlock.{ShelfBlock}
 use Rattle.call_verdicts.specs.ShelfReads.{IsReadBy, IsReadNext, WhyUnread}
-use Rattle.call_verdicts.specs.Stages.{IsChecked, IsEndOf, IsEndedFor, IsLoadOf, IsLoadedFor, IsLoadedNext, IsStageOf, stage_of}
+use Rattle.call_verdicts.specs.Stages.{IsCheckedAs, IsEndOf, IsEndedFor, IsLoadOf, IsLoadedFor, IsLoadedNext, IsStageOf, stage_of}
 use Rattle.call_verdicts.specs.declared.check_way.Stage.{Stage}
 use Rattle.call_verdicts.specs.declared.check_way.Stage.TheVariants as stage
 use Rattle.call_verdicts.specs.declared.verdict.Verdict.{Verdict}
-use Rattle.call_verdicts.specs.declared.verdict.Verdict.TheVariants as verdict
 use Rattle.call_verdicts.proofs.ShelfReads.{found_of, if_any, ok_is}
 
 if_more : {X : Type 0} (o : Option X) (P Q : X → Type 0) → ((x : X) → P x → Q x) → IfSome o P → IfSome o Q
@@ -128,7 +127,7 @@ module _ (told : Option Contents) (ulid : ℕ) where
   end_untold (Err load.ShelfFault) is = absurd is
   end_untold (Err load.NoMemory) is = tt
 
-ended_one : (told : Option Contents) (block : Block) (old new : Stage) → IsLoadedFor told block old → IsChecked old new → IsEndedFor told block new
+ended_one : (told : Option Contents) (block : Block) (old new : Stage) → IsLoadedFor told block old → IsCheckedAs old new → IsEndedFor told block new
 ended_one told block stage.Aside new (inl (other, is)) checked = inl (other, checked)
 ended_one told block stage.Aside new (inr (on, of)) checked = absurd of
 ended_one told block (stage.Loaded loaded) (stage.Ended end) (inl (other, is)) checked = absurd (cc (is))
@@ -140,7 +139,7 @@ ended_one told block (stage.Ended end) new (inr (on, of)) checked = inr (on, end
 
 -- all that were loaded are checked
 pub all_ended : (told : Option Contents) (blocks : List Block) (old new : List Stage) → AllZip (IsLoadedFor told) blocks old → length new ≡ length old
-    → ((i : ℕ) (d : Stage) → i < length old → IsChecked (slice_index_or old i d) (slice_index_or new i d)) → AllZip (IsEndedFor told) blocks new
+    → ((i : ℕ) (d : Stage) → i < length old → IsCheckedAs (slice_index_or old i d) (slice_index_or new i d)) → AllZip (IsEndedFor told) blocks new
 all_ended told [] [] [] are many each = tt
 all_ended told [] [] (y ∷ ys) are many each = absurd (omega (arith, many))
 all_ended told [] (x ∷ xs) new are many each = absurd are
@@ -179,18 +178,11 @@ within_by : (ulid : ℕ) (checked : Result Checked LoadRefusal) → IsEndOf None
 within_by ulid (Ok own) of = of.within
 within_by ulid (Err e) of = tt
 
-pub end_passed : (block : Block) (now : Stage) (checked : Result Checked LoadRefusal) → now ≡ stage.Ended checked → IsEndedFor None block now → IfOk checked (λ own. HasPassed block.ulid (checked_files own) (checked_series own) (checked_samples own))
-end_passed block now checked is ended = passed_by block.ulid checked (end_known None block now checked is ended).1
-
 pub end_within : (block : Block) (now : Stage) (checked : Result Checked LoadRefusal) → now ≡ stage.Ended checked → IsEndedFor None block now → IfOk checked (λ own. AreWithinLimit (checked_files own))
 end_within block now checked is ended = within_by block.ulid checked (end_known None block now checked is ended).1
 
 no_fault : (ulid : ℕ) (checked : Result Checked LoadRefusal) → IsEndOf None ulid checked → checked ≡ Err load.ShelfFault → ⊥
 no_fault ulid checked of is = subst (IsEndOf None ulid) is of
-
-pub end_short : (block : Block) (now : Stage) (checked : Result Checked LoadRefusal) (v : Verdict) → now ≡ stage.Ended checked → IsEndedFor None block now → (v ≡ verdict.SiteFault → checked ≡ Err load.ShelfFault) → (v ≡ verdict.SiteFault) ⊎ (v ≡ verdict.NoMemory) → v ≡ verdict.NoMemory
-end_short block now checked v is ended fault (inl site) = absurd (no_fault block.ulid checked (end_known None block now checked is ended).1 (fault site))
-end_short block now checked v is ended fault (inr memory) = memory
 
 module _ (told : Option Contents) (ulid : ℕ) where
   loaded_by : (checked : Result Checked LoadRefusal) → IsEndOf told ulid checked → (files : Contents) → told ≡ Some files → IfOk checked (λ own. IsLoaded files ulid (checked_files own))
@@ -205,11 +197,3 @@ pub kept_read : (told : Option Contents) (block : Block) (now : Stage) (checked 
 kept_read told block now checked r one old new is ended ulid held by came more =
     let known = end_known told block now checked is ended in
     inr (known.0, one, more, ok_is r one _ came (found_of told block checked r ulid held by (loaded_by told block.ulid checked known.1) (refused_by told block.ulid checked known.1)))
-
-pub kept_aside : (told : Option Contents) (block : Block) (now : Stage) (old : List ShelfBlock) → now ≡ stage.Aside → IsEndedFor told block now → IsReadNext told block old old
-kept_aside told block now old is (inl (other, aside)) = inl (other, refl)
-kept_aside told block now old is (inr (on, end, ended, of)) = absurd (cc (is, ended))
-
-pub never_loaded : (told : Option Contents) (block : Block) (now : Stage) (loaded : LoadedBlock) → now ≡ stage.Loaded loaded → IsEndedFor told block now → ⊥
-never_loaded told block now loaded is (inl (other, aside)) = absurd (cc (is, aside))
-never_loaded told block now loaded is (inr (on, end, ended, of)) = absurd (cc (is, ended))

@@ -17,12 +17,12 @@ use Rattle.call_verdicts.specs.declared.verdict.Verdict.{Verdict}
 use Rattle.call_verdicts.specs.declared.verdict.Verdict.TheVariants as verdict
 
 -- A block that was loaded is checked, and the end of that takes its place. Any other stays what it is.
-abbrev pub IsChecked : Stage → Stage → Type 0
-IsChecked stage.Aside new = new ≡ stage.Aside
-IsChecked (stage.Loaded block) (stage.Ended end) = EndsCheck (loaded_ulid block) (loaded_files block) end
-IsChecked (stage.Loaded block) (stage.Loaded other) = ⊥
-IsChecked (stage.Loaded block) stage.Aside = ⊥
-IsChecked (stage.Ended end) new = new ≡ stage.Ended end
+abbrev pub IsCheckedAs : Stage → Stage → Type 0
+IsCheckedAs stage.Aside new = new ≡ stage.Aside
+IsCheckedAs (stage.Loaded block) (stage.Ended end) = EndsCheck (loaded_ulid block) (loaded_files block) end
+IsCheckedAs (stage.Loaded block) (stage.Loaded other) = ⊥
+IsCheckedAs (stage.Loaded block) stage.Aside = ⊥
+IsCheckedAs (stage.Ended end) new = new ≡ stage.Ended end
 
 -- These files were loaded for the block. They are the shelf's, where these are told.
 pub record IsLoadOf (told : Option Contents) (ulid : ℕ) (block : LoadedBlock) : Type 0 where

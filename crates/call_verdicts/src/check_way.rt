@@ -1,7 +1,7 @@
 //! How far the checks of a script's blocks are, and ways to check those that were loaded: one after another, or as a caller does it.
 
 ghost use Rattle.std.specs.Prelude.{ℕ, ◌<◌, length, slice_index_or};
-ghost use Rattle.call_verdicts.specs.Stages.{IsChecked};
+ghost use Rattle.call_verdicts.specs.Stages.{IsCheckedAs};
 
 use block_content::Checked;
 use block_loading::{LoadRefusal, LoadedBlock};
@@ -21,7 +21,7 @@ pub enum Stage {
 impl Stage {
     /// Checks the block, if it is loaded.
     pub fn check(&mut self, alloc: Global)
-        ensures { IsChecked self.old self.new }
+        ensures { IsCheckedAs self.old self.new }
     {
         *self = match mem::replace(self, Stage::Aside) {
             Stage::Loaded(block) => Stage::Ended(block.check(alloc)),
@@ -32,7 +32,7 @@ impl Stage {
 
 /// A way to check blocks that were loaded.
 pub trait CheckWay {
-    /// Holds of a way by which blocks can be checked.
+    /// What has to hold for blocks to be checked so, as that what threads are lent may be shared.
     ghost can_check: { Self → Type 0 };
 
     /// How many of a script's blocks are loaded, at most, before those that are loaded are checked.
@@ -43,7 +43,7 @@ pub trait CheckWay {
     fn check_all(&self, alloc: Global, stages: &mut [Stage])
         requires { can_check self.now }
         ensures { (i : ℕ) (d : _) → i < length stages.old
-            → IsChecked (slice_index_or stages.old i d) (slice_index_or stages.new i d) };
+            → IsCheckedAs (slice_index_or stages.old i d) (slice_index_or stages.new i d) };
 }
 
 /// One after another: each block is checked before the next one is loaded.
@@ -65,7 +65,7 @@ impl CheckWay for InTurn {
 /// Checks one block after another.
 fn check_in_turn(alloc: Global, stages: &mut [Stage])
     ensures { (i : ℕ) (d : _) → i < length stages.old
-        → IsChecked (slice_index_or stages.old i d) (slice_index_or stages.new i d) }
+        → IsCheckedAs (slice_index_or stages.old i d) (slice_index_or stages.new i d) }
 {
     for place in 0..stages.len() {
         stages[place].check(alloc);

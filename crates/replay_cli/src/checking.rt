@@ -2,7 +2,7 @@
 
 ghost use Rattle.std.specs.Prelude.{ℕ, ◌<◌, length, slice_index_or};
 ghost use Rattle.std.specs.Thread.{IsSync};
-ghost use Rattle.call_verdicts.specs.Stages.{IsChecked};
+ghost use Rattle.call_verdicts.specs.Stages.{IsCheckedAs};
 
 use call_verdicts::{CheckWay, InTurn, Stage};
 use std::alloc::Global;
@@ -35,7 +35,7 @@ impl<'a, T: Threads + Sync> CheckWay for Beside<'a, T> {
 /// one after another by one thread. Where just one is loaded, or none, no thread is started.
 fn check_beside<T: Threads + Sync>(rt: &T, alloc: Global, stages: &mut [Stage])
     ensures { (i : ℕ) (d : _) → i < length stages.old
-        → IsChecked (slice_index_or stages.old i d) (slice_index_or stages.new i d) }
+        → IsCheckedAs (slice_index_or stages.old i d) (slice_index_or stages.new i d) }
 {
     if loaded_count(stages) < 2 {
         InTurn.check_all(alloc, stages);
