@@ -30,6 +30,3 @@ wanted_by true acted is = inl refl
 wanted_by false NoMemory is = inr refl
 wanted_by false (Done seen) is = absurd cc
 wanted_by false Full is = absurd cc
-
-pub wanted_so : (v : View) (op : Op) (acted : Acted) (w : View) → Acts v op acted w → IsTrue w.wanted → IsTrue v.wanted ⊎ (acted ≡ NoMemory)
-wanted_so v op acted w a so = wanted_by v.wanted acted (subst IsTrue a.wanted so)

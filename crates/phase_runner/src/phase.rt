@@ -25,7 +25,7 @@ pub struct PhaseEnd<E> {
 }
 
 /// Does jobs beside each other, each with a pass of its own, in at most as many threads as there are processors. On one processor these
-/// are two, and on many never more than 16. A phase of light jobs has at most three, however many processors there are.
+/// are two, and on many never more than 16. A phase of light jobs has at most three, on one processor too.
 ///
 /// Of more jobs than threads, some are done one after another by one thread.
 ///

@@ -49,7 +49,7 @@ const LEAST_THREADS: usize = 2;
 const LIGHT_THREADS: usize = 3;
 
 /// A phase is light where its jobs together are no heavier than this.
-const LIGHT: u64 = 100_000;
+const LIGHT_WEIGHT: u64 = 100_000;
 
 /// How many threads do the jobs at most: one for each processor, within the bounds. More would gain nothing, and to start one takes
 /// longer than a small upload does. Of light jobs the operations, for which they wait on each other, are about half; and just to ask
@@ -58,10 +58,10 @@ fn threads_for<J: Job, R: Threads>(rt: &R, works: &[Work<J>]) -> usize
     requires { 0 < length works.now }
     ensures { 0 < result }
 {
-    let most = if weight_of(works) <= LIGHT {
+    let most = if are_light(works) {
         LIGHT_THREADS
     } else {
-        processors(rt).max(LEAST_THREADS).min(MOST_THREADS)
+        processors(rt).clamp(LEAST_THREADS, MOST_THREADS)
     };
     works.len().min(most)
 }
@@ -74,15 +74,18 @@ fn processors<R: Threads>(rt: &R) -> usize {
     }
 }
 
-/// How heavy the jobs that wait are together.
-fn weight_of<J: Job>(works: &[Work<J>]) -> u64 {
+/// Whether the jobs that wait are light together. How heavy those are that follow is not asked once they are not.
+fn are_light<J: Job>(works: &[Work<J>]) -> bool {
     let mut sum = 0u64;
     for work in works {
         if let Some(job) = &work.job {
             sum = sum.saturating_add(job.weight());
         }
+        if sum > LIGHT_WEIGHT {
+            return false;
+        }
     }
-    sum
+    true
 }
 
 /// Does all jobs beside each other, in at most as many threads as `threads_for` says. Of more jobs than threads, some are done one after

@@ -233,14 +233,6 @@ clean_whole own end rest parts are (work.Compact stop) (one, only) = let same = 
 clean_whole own end rest parts are (work.Clean stop) (one, only) = let same = only_one own (part.Clean end) (part.Clean one) rest parts are only (λ q is. absurd (cc (is))) in let inner : end ≡ one = cc (same) in (one, only, ap outcome.Clean inner)
 clean_whole own end rest parts are (work.Query low high selector) (others, all) = absurd (not_all own others (part.Clean end) rest (λ q is. absurd (cc (is))) (sym are ∙ all))
 
--- the parts of a query so far, and one more
-pub query_more : (own : List QueryPart) (one : QueryPart) (yielded : List Part) → yielded ≡ map part.Query own → yielded ++ part.Query one ∷ [] ≡ map part.Query (own ++ one ∷ [])
-query_more own one yielded are = ap (λ (l : List Part). l ++ part.Query one ∷ []) are ∙ more own one
-  where
-    more : (own : List QueryPart) (one : QueryPart) → map part.Query own ++ part.Query one ∷ [] ≡ map part.Query (own ++ one ∷ [])
-    more [] one = refl
-    more (p ∷ own) one = ap (λ (l : List Part). part.Query p ∷ l) (more own one)
-
 -- the part that comes next is the first of those that are left
 parts_here : (parts yielded : List Part) (x : Part) → map (λ (y : Part). y) yielded ≡ take (length yielded) parts → (length yielded < length parts) × (x ≡ get_or parts (length yielded) x) → parts ≡ yielded ++ x ∷ drop (length yielded + 1) parts
 parts_here parts yielded x so_far turn =

@@ -1,9 +1,8 @@
 -- What a report tells of the first phases.
-use Rattle.std.proofs.Common.{◌≡◌, ◌≢◌, ℕ, ◌+◌, List, [], ◌∷◌, ◌++◌, take, drop, refl, sym, ◌∙◌, ap, subst, append-nil, take-append-drop}
-use Rattle.std.specs.Prelude.{Some, Ok, Err, OnOk, Result, slice_get}
+use Rattle.std.proofs.Common.{◌≡◌, ◌≢◌, ℕ, List, [], take, drop, refl, sym, ap, subst, take-append-drop}
+use Rattle.std.specs.Prelude.{Ok, Err, Result}
 use Rattle.std.specs.List.{flat_map}
-use Rattle.std.proofs.lemmas.List.Concat.{flat_map-append}
-use Rattle.list_core.proofs.Lists.{take_none, take_place}
+use Rattle.list_core.proofs.Lists.{take_none}
 use Rattle.script_core.specs.declared.script.Script.{Script}
 use Rattle.script_workers.specs.declared.phase.Phase.{Phase}
 use Rattle.script_workers.specs.declared.task.Task.{Task}
@@ -15,20 +14,10 @@ use Rattle.script_running.specs.declared.outcome.Outcome.{Outcome}
 abbrev pub tasks_in : List Phase → List Task
 tasks_in phases = flat_map (λ (phase : Phase). phase.tasks) phases
 
-tasks_more : (phases : List Phase) (place : ℕ) (phase : Phase) → slice_get phases place ≡ Some phase → tasks_in (take (place + 1) phases) ≡ tasks_in (take place phases) ++ phase.tasks
-tasks_more phases place phase at =
-    ap tasks_in (take_place phases place phase at) ∙ flat_map-append (λ (p : Phase). p.tasks) (take place phases) (phase ∷ []) ∙ ap (λ (ts : List Task). tasks_in (take place phases) ++ ts) (append-nil phase.tasks)
-
 module _ {P : Type 0} (tells : P → Script → List Task → List Outcome → Type 0) (script : Script) where
   -- before the first phase
   pub tells_none : (report : P) (outcomes : List Outcome) → tells report script [] outcomes → tells report script (tasks_in (take 0 script.phases)) outcomes
   tells_none report outcomes told = subst (λ (ts : List Task). tells report script ts outcomes) (sym (ap tasks_in (take_none script.phases))) told
-
-  -- one phase more
-  pub tells_more : (report : P) (place : ℕ) (phase : Phase) (outcomes : List Outcome) (came : Result (Unit {0}) Broken) → slice_get script.phases place ≡ Some phase → came ≡ Ok tt
-      → OnOk came (tells report script (tasks_in (take place script.phases) ++ phase.tasks) outcomes) → tells report script (tasks_in (take (place + 1) script.phases)) outcomes
-  tells_more report place phase outcomes (Ok done) at is told = subst (λ (ts : List Task). tells report script ts outcomes) (sym (tasks_more script.phases place phase at)) told
-  tells_more report place phase outcomes (Err why) at is told = absurd (cc (is))
 
   pub tells_first : (report : P) (place : ℕ) (outcomes : List Outcome) → tells report script (tasks_in (take place script.phases)) outcomes → TellsFirst tells script report outcomes
   tells_first report place outcomes told = (take place script.phases, drop place script.phases, sym (take-append-drop place script.phases), told)

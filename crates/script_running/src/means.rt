@@ -137,11 +137,7 @@ impl<'a> Means<'a> {
 /// How many samples an inline block has. That of the shelf may have any number.
 fn samples_in(body: &Body) -> u64 {
     match body {
-        Body::Inline {
-            min_time: _,
-            max_time: _,
-            series,
-        } => sample_count(series.members()),
+        Body::Inline { series, .. } => sample_count(series.members()),
         Body::OnShelf => u64::MAX,
     }
 }
