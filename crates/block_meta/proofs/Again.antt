@@ -1,6 +1,5 @@
 -- What is written of a part reads as that part again.
 use Rattle.std.proofs.Common.{◌≡◌, ℕ, ℤ, pos, negsuc, ◌<◌, ◌^◌, List, [], ◌∷◌, true, false, ltb, Some, is_some, ◌⊎◌, inl, inr, Ok, Err, FitsSigned, w64, refl, arith, codes}
-use Rattle.std.proofs.lemmas.Int.{ints}
 use Rattle.std.proofs.lemmas.Bool.Decides.{nat_tests}
 use Rattle.ulid_core.specs.UlidText as ulid
 use Rattle.ulid_core.proofs.UlidLaws.{ulid_of-only}
@@ -20,42 +19,42 @@ use Rattle.block_meta.specs.MetaValue.{ulid_value, signed_value, parent_value, f
 
 pub ulid_again : (name : List ℕ) (u : ℕ) → ulid.IsUlidText (ulid.text_of u) u → ulid_of name (ulid_value u) ≡ Ok u
 unfolding ulid_of text_of of_kind ulid_value
-ulid_again name u written = rw (ulid_of-only (ulid.text_of u) u written) refl
+ulid_again _ u written = rw (ulid_of-only (ulid.text_of u) u written) refl
 
 as_i64-of_integer : (z : ℤ) → FitsSigned w64 z → as_i64 (of_integer z) ≡ Some z
-as_i64-of_integer (pos n) fits = let lt : n < 2 ^ 63 = omega (arith, ints) in grind (arith, nat_tests)
+as_i64-of_integer (pos n) fits = let lt : n < 2 ^ 63 = omega arith in grind (arith, nat_tests)
 as_i64-of_integer (negsuc n) fits = refl
 
 pub signed_again : (name : List ℕ) (z : ℤ) → FitsSigned w64 z → signed_of name (signed_value z) ≡ Ok z
 unfolding signed_of of_kind
-signed_again name z fits = rw (as_i64-of_integer z fits) refl
+signed_again _ z fits = rw (as_i64-of_integer z fits) refl
 
 pub parent_again : (list : List ℕ) (p : Parent) → ulid.IsUlidText (ulid.text_of p.ulid) p.ulid → FitsSigned w64 p.min_time → FitsSigned w64 p.max_time → parent_of list (parent_value p) ≡ Ok p
 unfolding parent_of parent_value needed_of member_of of_kind ulid_value
-parent_again list p written min max = rw (ulid_again (codes "ulid") p.ulid written, signed_again (codes "minTime") p.min_time min, signed_again (codes "maxTime") p.max_time max) refl
+parent_again _ p written min max = rw (ulid_again, signed_again, signed_again) refl
 
 pub file_again : (list : List ℕ) (f : FileSize) → file_of list (file_value f) ≡ Ok f
 unfolding file_of file_value needed_of member_of of_kind text_of count_of unsigned_of
-file_again list f = refl
+file_again _ f = refl
 
 -- ---- sections
 
 pub compaction_again : (level : ℕ) (sources : List ℕ) (parents : List Parent) → level < 2 ^ 32 → each (ulid_of (codes "sources")) (items_value ulid_value sources) ≡ Ok sources → each (parent_of (codes "parents")) (items_value parent_value parents) ≡ Ok parents → compaction_members_of (compaction_value level sources parents) ≡ Ok (record { level = level; sources = ascending sources; parents = parents })
 unfolding compaction_members_of compaction_value level_of sources_of list_of needed_of member_of of_kind unsigned_of
-compaction_again level sources [] fits listed before =
+compaction_again level _ [] fits listed before =
     let small : ltb level 4294967296 ≡ true = grind (arith, nat_tests) in
     rw (small, listed) refl
-compaction_again level sources (p ∷ ps) fits listed before =
+compaction_again level _ (p ∷ ps) fits listed before =
     let small : ltb level 4294967296 ≡ true = grind (arith, nat_tests) in
     rw (small, listed, before) refl
 
 pub compaction_again_alone : (level : ℕ) (sources : List ℕ) (parents : List Parent) → level < 2 ^ 32 → each (ulid_of (codes "sources")) (items_value ulid_value sources) ≡ Ok sources → parents ≡ [] → compaction_members_of (compaction_value level sources parents) ≡ Ok (record { level = level; sources = ascending sources; parents = parents })
 unfolding each items_value
-compaction_again_alone level sources parents fits listed none = rw none (compaction_again level sources [] fits listed refl)
+compaction_again_alone _ _ _ fits listed none = rw none (compaction_again _ _ _ fits listed refl)
 
 pub stats_again : (series samples chunks : ℕ) → stats_members_of (stats_value series samples chunks) ≡ Ok (record { series = series; samples = samples; chunks = chunks })
 unfolding stats_members_of stats_value count_of member_of of_kind unsigned_of
-stats_again series samples chunks = refl
+stats_again _ _ _ = refl
 
 thanos_again : (m : MetaFields) → FitsSigned w64 m.resolution → labels_from [] (label_members m.labels) ≡ Ok m.labels → each (text_of (codes "segment_files")) (items_value string m.segment_files) ≡ Ok m.segment_files → each (file_of (codes "files")) (items_value file_value m.files) ≡ Ok m.files → thanos_members_of (thanos_value m) ≡ Ok (thanos_part m)
 unfolding thanos_members_of thanos_value labels_of resolution_of text_or_empty list_of section_of member_of of_kind version_of text_of
@@ -69,13 +68,13 @@ module _ {A : Type 0} (read : Data → Read A) (one : A → Data) (again : (x : 
 
 text_again : (list text : List ℕ) → text_of list (string text) ≡ Ok text
 unfolding text_of of_kind
-text_again list text = refl
+text_again _ _ = refl
 
 pub thanos_written : (m : MetaFields) → FitsSigned w64 m.resolution → labels_from [] (label_members m.labels) ≡ Ok m.labels → thanos_members_of (thanos_value m) ≡ Ok (thanos_part m)
 thanos_written m fits labels =
     thanos_again m fits labels
-    (all_again (text_of (codes "segment_files")) string (text_again (codes "segment_files")) m.segment_files)
-    (all_again (file_of (codes "files")) file_value (file_again (codes "files")) m.files)
+    (all_again (text_of (codes "segment_files")) string (text_again _) _)
+    (all_again (file_of (codes "files")) file_value (file_again _) _)
 
 as_integer-of_integer : (z : ℤ) → as_integer (of_integer z) ≡ Some z
 as_integer-of_integer (pos n) = refl
@@ -83,29 +82,29 @@ as_integer-of_integer (negsuc n) = refl
 
 whole_again : (name : List ℕ) (z : ℤ) → whole_of name (signed_value z) ≡ Ok z
 unfolding whole_of of_kind
-whole_again name z = rw (as_integer-of_integer z) refl
+whole_again _ z = rw (as_integer-of_integer) refl
 
 times_again : (m : MetaFields) → are_lawful_times m.min_time m.max_time ≡ true → times_of (meta_value m) ≡ Ok (record { min = m.min_time; max = m.max_time })
 unfolding times_of meta_value needed_of member_of
-times_again m lawful = rw (whole_again (codes "minTime") m.min_time, whole_again (codes "maxTime") m.max_time, lawful) refl
+times_again m lawful = rw (whole_again, whole_again, lawful) refl
 
 stats_there : (m : MetaFields) → stats_of (meta_value m) ≡ Ok (record { series = m.series; samples = m.samples; chunks = m.chunks })
 unfolding stats_of meta_value section_of member_of stats_value
-stats_there m = rw (stats_again m.series m.samples m.chunks) refl
+stats_there m = rw (stats_again) refl
 
 compaction_not_null : (level : ℕ) (sources : List ℕ) (parents : List Parent) → is_some (as_null (compaction_value level sources parents)) ≡ false
 unfolding compaction_value
-compaction_not_null level sources [] = refl
-compaction_not_null level sources (p ∷ ps) = refl
+compaction_not_null _ _ [] = refl
+compaction_not_null _ _ (p ∷ ps) = refl
 
 compaction_is_object : (level : ℕ) (sources : List ℕ) (parents : List Parent) → is_some (as_object (compaction_value level sources parents)) ≡ true
 unfolding compaction_value
-compaction_is_object level sources [] = refl
-compaction_is_object level sources (p ∷ ps) = refl
+compaction_is_object _ _ [] = refl
+compaction_is_object _ _ (p ∷ ps) = refl
 
 compaction_there : (m : MetaFields) → compaction_of (meta_value m) ≡ compaction_members_of (compaction_value m.level m.sources m.parents)
 unfolding compaction_of meta_value section_of member_of
-compaction_there m = rw (compaction_not_null m.level m.sources m.parents, compaction_is_object m.level m.sources m.parents) refl
+compaction_there m = rw (compaction_not_null, compaction_is_object) refl
 
 thanos_there : (m : MetaFields) → thanos_of (meta_value m) ≡ thanos_members_of (thanos_value m)
 unfolding thanos_of meta_value section_of member_of thanos_value
@@ -117,21 +116,21 @@ pub meta_again : (m : MetaFields) → ulid.IsUlidText (ulid.text_of m.ulid) m.ul
     → meta_of (meta_value m) ≡ Ok m
 unfolding meta_of meta_value needed_of member_of version_of ulid_value
 meta_again m written lawful rising compaction thanos =
-    rw (ulid_again (codes "ulid") m.ulid written, times_again m lawful, stats_there m, compaction_there m, compaction, thanos_there m, thanos, rising) refl
+    rw (ulid_again, times_again, stats_there, compaction_there, compaction, thanos_there, thanos, rising) refl
 
 pub mark_again : (m : MarkFields) → ulid.IsUlidText (ulid.text_of m.id) m.id → m.deletion_time < 2 ^ 46 → mark_of (mark_value m) ≡ Ok m
 unfolding mark_of mark_value needed_of member_of version_of ulid_value deletion_time_of unsigned_of of_kind text_or_empty text_of
 mark_again m written early =
     let small : ltb m.deletion_time 70368744177664 ≡ true = grind (arith, nat_tests) in
-    rw (ulid_again (codes "id") m.id written, small) refl
+    rw (ulid_again, small) refl
 
 -- ---- reading the members of `thanos`
 
 pub thanos_read : (t : Data) (made : Thanos) → or_absent tt version_of (member_of (codes "version") t) ≡ Ok tt → labels_of t ≡ Ok made.labels → resolution_of t ≡ Ok made.resolution → text_or_empty (codes "source") t ≡ Ok made.source → list_of text_of (codes "segment_files") t ≡ Ok made.segment_files → list_of file_of (codes "files") t ≡ Ok made.files → thanos_members_of t ≡ Ok made
 unfolding thanos_members_of
-thanos_read t made version labels resolution source segments files = rw (version, labels, resolution, source, segments, files) refl
+thanos_read t _ version labels resolution source segments files = rw (version, labels, resolution, source, segments, files) refl
 
 pub thanos_files_refused : (t : Data) (labels : List Label) (resolution : ℤ) (source : List ℕ) (segments : List (List ℕ)) (e : MetaRefusal) → or_absent tt version_of (member_of (codes "version") t) ≡ Ok tt → labels_of t ≡ Ok labels → resolution_of t ≡ Ok resolution → text_or_empty (codes "source") t ≡ Ok source → list_of text_of (codes "segment_files") t ≡ Ok segments → (e ≡ NoMemory) ⊎ (list_of file_of (codes "files") t ≡ Err e) → (e ≡ NoMemory) ⊎ (thanos_members_of t ≡ Err e)
 unfolding thanos_members_of
-thanos_files_refused t labels resolution source segments e v l r s g (inl memory) = inl memory
-thanos_files_refused t labels resolution source segments e v l r s g (inr files) = inr (rw (v, l, r, s, g, files) refl)
+thanos_files_refused t _ _ _ _ e v l r s g (inl memory) = inl memory
+thanos_files_refused t _ _ _ _ e v l r s g (inr files) = inr (rw (v, l, r, s, g, files) refl)

@@ -14,18 +14,18 @@ use Rattle.list_core.proofs.Membership.{contains_first, contains_later, no_membe
 use Rattle.block_meta.specs.Lawful.{ascending}
 
 first_in : (x u : ℕ) (xs : List ℕ) → x ≡ u → Contains (x ∷ xs) u
-first_in x u xs e = subst (Contains (x ∷ xs)) e (contains_first x xs)
+first_in x u xs e = subst (Contains (x ∷ xs)) e (contains_first x _)
 
 pub above_all : (x u : ℕ) (xs : List ℕ) → AllByRecursion (λ y. nat_cmp x y ≡ Less) xs → Contains xs u → x < u
-above_all x u xs h c = lt-from_Less x u (each_member (λ y. nat_cmp x y ≡ Less) xs u h c)
+above_all x u _ h c = lt-from_Less x u (each_member _ _ u h c)
 
 -- ---- one number more
 
 insert_rises_at : (k x : ℕ) (xs : List ℕ) (o : Ordering) → nat_cmp k x ≡ o → IsStrictlySortedBy nat_cmp (x ∷ xs) → IsStrictlySortedBy nat_cmp (insert_key nat_cmp xs k) → IsStrictlySortedBy nat_cmp (match_ordering o (k ∷ x ∷ xs) (x ∷ xs) (x ∷ insert_key nat_cmp xs k))
 unfolding IsStrictlySortedBy
-insert_rises_at k x xs Less e h later = ((e, AllByRecursion-weaker _ _ (λ y less. nat_cmp_total.trans k x y e less) xs h.0), h)
-insert_rises_at k x xs Equal e h later = h
-insert_rises_at k x xs Greater e h later = (recursion_from_All _ (insert_key nat_cmp xs k) (All-insert_key nat_cmp k (λ y. nat_cmp x y ≡ Less) xs (All-from_recursion _ xs h.0) (nat_cmp-Less x k (gt-from_Greater k x e))), later)
+insert_rises_at k x _ Less e h later = ((e, AllByRecursion-weaker _ _ (λ y less. nat_cmp_total.trans k x y e less) _ h.0), h)
+insert_rises_at k x _ Equal e h later = h
+insert_rises_at k x _ Greater e h later = (recursion_from_All _ _ (All-insert_key _ k (λ y. nat_cmp x y ≡ Less) _ (All-from_recursion _ _ h.0) (nat_cmp-Less x k (gt-from_Greater k x e))), later)
 
 insert_rises : (k : ℕ) (xs : List ℕ) → IsStrictlySortedBy nat_cmp xs → IsStrictlySortedBy nat_cmp (insert_key nat_cmp xs k)
 unfolding IsStrictlySortedBy
@@ -34,77 +34,77 @@ insert_rises k (x ∷ xs) h = insert_rises_at k x xs (nat_cmp k x) refl h (inser
 
 insert_from_at : (k x u : ℕ) (xs : List ℕ) (o : Ordering) → (Contains (insert_key nat_cmp xs k) u → Contains xs u ⊎ (k ≡ u)) → Contains (match_ordering o (k ∷ x ∷ xs) (x ∷ xs) (x ∷ insert_key nat_cmp xs k)) u → Contains (x ∷ xs) u ⊎ (k ≡ u)
 insert_from_at k x u xs Less later c = elim (member_cases k u (x ∷ xs) c) [ inl e ↦ inr e | inr d ↦ inl d ]
-insert_from_at k x u xs Equal later c = inl c
-insert_from_at k x u xs Greater later c = elim (member_cases x u (insert_key nat_cmp xs k) c) [ inl e ↦ inl (first_in x u xs e) | inr d ↦ elim (later d) [ inl f ↦ inl (contains_later x u xs f) | inr f ↦ inr f ] ]
+insert_from_at k x u _ Equal later c = inl c
+insert_from_at k x u _ Greater later c = elim (member_cases x u _ c) [ inl e ↦ inl (first_in x u _ e) | inr d ↦ elim (later d) [ inl f ↦ inl (contains_later x u _ f) | inr f ↦ inr f ] ]
 
 insert_from : (k u : ℕ) (xs : List ℕ) → Contains (insert_key nat_cmp xs k) u → Contains xs u ⊎ (k ≡ u)
 insert_from k u [] c = elim (member_cases k u [] c) [ inl e ↦ inr e | inr d ↦ inl d ]
-insert_from k u (x ∷ xs) c = insert_from_at k x u xs (nat_cmp k x) (insert_from k u xs) c
+insert_from k u (x ∷ xs) c = insert_from_at k x u _ (nat_cmp k x) (insert_from k u xs) c
 
 insert_to_at : (k x u : ℕ) (xs : List ℕ) (o : Ordering) → nat_cmp k x ≡ o → (Contains xs u ⊎ (k ≡ u) → Contains (insert_key nat_cmp xs k) u) → Contains (x ∷ xs) u ⊎ (k ≡ u) → Contains (match_ordering o (k ∷ x ∷ xs) (x ∷ xs) (x ∷ insert_key nat_cmp xs k)) u
 insert_to_at k x u xs Less e later (inl c) = contains_later k u (x ∷ xs) c
 insert_to_at k x u xs Less e later (inr f) = first_in k u (x ∷ xs) f
-insert_to_at k x u xs Equal e later (inl c) = c
-insert_to_at k x u xs Equal e later (inr f) = first_in x u xs (sym (same-from_Equal k x e) ∙ f)
-insert_to_at k x u xs Greater e later (inl c) = elim (member_cases x u xs c) [ inl f ↦ first_in x u (insert_key nat_cmp xs k) f | inr d ↦ contains_later x u (insert_key nat_cmp xs k) (later (inl d)) ]
-insert_to_at k x u xs Greater e later (inr f) = contains_later x u (insert_key nat_cmp xs k) (later (inr f))
+insert_to_at k x u _ Equal e later (inl c) = c
+insert_to_at k x u _ Equal e later (inr f) = first_in x u _ (sym (same-from_Equal k x e) ∙ f)
+insert_to_at k x u _ Greater e later (inl c) = elim (member_cases x u _ c) [ inl f ↦ first_in x u _ f | inr d ↦ contains_later x u _ (later (inl d)) ]
+insert_to_at k x u _ Greater e later (inr f) = contains_later x u _ (later (inr f))
 
 insert_to : (k u : ℕ) (xs : List ℕ) → Contains xs u ⊎ (k ≡ u) → Contains (insert_key nat_cmp xs k) u
 insert_to k u [] (inl c) = absurd (no_member u c)
 insert_to k u [] (inr e) = first_in k u [] e
-insert_to k u (x ∷ xs) c = insert_to_at k x u xs (nat_cmp k x) refl (insert_to k u xs) c
+insert_to k u (x ∷ xs) c = insert_to_at k x u _ (nat_cmp k x) refl (insert_to k u xs) c
 
 -- ---- all of them
 
 fold_rises : (made xs : List ℕ) → IsStrictlySortedBy nat_cmp made → IsStrictlySortedBy nat_cmp (fold (insert_key nat_cmp) made xs)
-fold_rises made [] h = h
-fold_rises made (x ∷ xs) h = fold_rises (insert_key nat_cmp made x) xs (insert_rises x made h)
+fold_rises _ [] h = h
+fold_rises made (x ∷ xs) h = fold_rises (insert_key nat_cmp made x) xs (insert_rises x _ h)
 
 fold_from : (u : ℕ) (made xs : List ℕ) → Contains (fold (insert_key nat_cmp) made xs) u → Contains made u ⊎ Contains xs u
-fold_from u made [] c = inl c
-fold_from u made (x ∷ xs) c = elim (fold_from u (insert_key nat_cmp made x) xs c) [ inl d ↦ elim (insert_from x u made d) [ inl f ↦ inl f | inr f ↦ inr (first_in x u xs f) ] | inr d ↦ inr (contains_later x u xs d) ]
+fold_from u _ [] c = inl c
+fold_from u made (x ∷ xs) c = elim (fold_from u (insert_key nat_cmp made x) xs c) [ inl d ↦ elim (insert_from x u _ d) [ inl f ↦ inl f | inr f ↦ inr (first_in x u _ f) ] | inr d ↦ inr (contains_later x u _ d) ]
 
 fold_to : (u : ℕ) (made xs : List ℕ) → Contains made u ⊎ Contains xs u → Contains (fold (insert_key nat_cmp) made xs) u
-fold_to u made [] (inl c) = c
-fold_to u made [] (inr c) = absurd (no_member u c)
+fold_to u _ [] (inl c) = c
+fold_to u _ [] (inr c) = absurd (no_member u c)
 fold_to u made (x ∷ xs) (inl c) = fold_to u (insert_key nat_cmp made x) xs (inl (insert_to x u made (inl c)))
-fold_to u made (x ∷ xs) (inr c) = elim (member_cases x u xs c) [ inl e ↦ fold_to u (insert_key nat_cmp made x) xs (inl (insert_to x u made (inr e))) | inr d ↦ fold_to u (insert_key nat_cmp made x) xs (inr d) ]
+fold_to u made (x ∷ xs) (inr c) = elim (member_cases x u _ c) [ inl e ↦ fold_to u (insert_key nat_cmp made x) xs (inl (insert_to x u made (inr e))) | inr d ↦ fold_to u (insert_key nat_cmp made x) xs (inr d) ]
 
 pub ascending_rises : (xs : List ℕ) → IsStrictlyIncreasing (ascending xs)
 unfolding IsStrictlySortedBy
-ascending_rises xs = IsStrictlyIncreasing-from_sorted (ascending xs) (fold_rises [] xs tt)
+ascending_rises xs = IsStrictlyIncreasing-from_sorted _ (fold_rises [] xs tt)
 
 pub ascending_same : (xs : List ℕ) (u : ℕ) → Contains xs u ↔ Contains (ascending xs) u
-ascending_same xs u = (λ c. fold_to u [] xs (inr c), λ c. elim (fold_from u [] xs c) [ inl d ↦ absurd (no_member u d) | inr d ↦ d ])
+ascending_same xs u = (λ c. fold_to u [] xs (inr c), λ c. elim (fold_from u _ _ c) [ inl d ↦ absurd (no_member u d) | inr d ↦ d ])
 
 -- ---- there is one such list
 
 both_first : (a b : ℕ) (xs ys : List ℕ) → IsStrictlySortedBy nat_cmp (a ∷ xs) → IsStrictlySortedBy nat_cmp (b ∷ ys) → Contains (b ∷ ys) a → Contains (a ∷ xs) b → a ≡ b
 unfolding IsStrictlySortedBy
-both_first a b xs ys ha hb c d =
-    elim (member_cases b a ys c) [
+both_first a b _ _ ha hb c d =
+    elim (member_cases b a _ c) [
       | inl e ↦ sym e
-      | inr f ↦ elim (member_cases a b xs d) [ inl e ↦ e | inr g ↦ let p = above_all b a ys hb.0 f in let q = above_all a b xs ha.0 g in absurd (omega arith) ]
+      | inr f ↦ elim (member_cases a b _ d) [ inl e ↦ e | inr g ↦ let p = above_all b a _ hb.0 f in let q = above_all a b _ ha.0 g in absurd (omega arith) ]
     ]
 
 without_first : (a u : ℕ) (xs ys : List ℕ) → AllByRecursion (λ y. nat_cmp a y ≡ Less) xs → Contains xs u → Contains (a ∷ ys) u → Contains ys u
-without_first a u xs ys h c d = elim (member_cases a u ys d) [ inl e ↦ let p = above_all a u xs h c in absurd (omega arith) | inr f ↦ f ]
+without_first a u _ _ h c d = elim (member_cases a u _ d) [ inl e ↦ let p = above_all a u _ h c in absurd (omega arith) | inr f ↦ f ]
 
 unique_sorted : (xs ys : List ℕ) → IsStrictlySortedBy nat_cmp xs → IsStrictlySortedBy nat_cmp ys → ((u : ℕ) → Contains xs u → Contains ys u) → ((u : ℕ) → Contains ys u → Contains xs u) → xs ≡ ys
 unfolding IsStrictlySortedBy
 unique_sorted [] [] hx hy to from = refl
-unique_sorted [] (y ∷ ys) hx hy to from = absurd (no_member y (from y (first_in y y ys refl)))
-unique_sorted (x ∷ xs) [] hx hy to from = absurd (no_member x (to x (first_in x x xs refl)))
+unique_sorted [] (y ∷ ys) hx hy to from = absurd (no_member y (from y (first_in y y _ refl)))
+unique_sorted (x ∷ xs) [] hx hy to from = absurd (no_member x (to x (first_in x x _ refl)))
 unique_sorted (x ∷ xs) (y ∷ ys) hx hy to from =
-    let e = both_first x y xs ys hx hy (to x (first_in x x xs refl)) (from y (first_in y y ys refl)) in
-    let hy' = subst (λ (n : ℕ). AllByRecursion (λ z. nat_cmp n z ≡ Less) ys) (sym e) hy.0 in
-    ap₂ (λ (n : ℕ) (ns : List ℕ). n ∷ ns) e (unique_sorted xs ys hx.1 hy.1
-    (λ u c. without_first x u xs ys hx.0 c (subst (λ (n : ℕ). Contains (n ∷ ys) u) (sym e) (to u (contains_later x u xs c))))
-    (λ u c. without_first x u ys xs hy' c (from u (contains_later y u ys c))))
+    let e = both_first x y _ _ hx hy (to x (first_in x x _ refl)) (from y (first_in y y _ refl)) in
+    let hy' = subst (λ n. AllByRecursion (λ z. nat_cmp n z ≡ Less) ys) (sym e) hy.0 in
+    ap₂ (λ n ns. n ∷ ns) e (unique_sorted _ _ hx.1 hy.1
+    (λ u c. without_first x u xs ys hx.0 c (subst (λ n. Contains (n ∷ ys) u) (sym e) (to u (contains_later x u _ c))))
+    (λ u c. without_first x u ys xs hy' c (from u (contains_later y u _ c))))
 
 -- a list that rises and has the members of the listed ones is those ascending
 pub ascending_only : (listed xs : List ℕ) → IsStrictlyIncreasing xs → ((u : ℕ) → Contains listed u ↔ Contains xs u) → ascending listed ≡ xs
 ascending_only listed xs rising same =
-    unique_sorted (ascending listed) xs (sorted_from_strictly_increasing _ (ascending_rises listed)) (sorted_from_strictly_increasing xs rising)
-    (λ u c. (same u).0 ((ascending_same listed u).1 c))
-    (λ u c. (ascending_same listed u).0 ((same u).1 c))
+    unique_sorted (ascending listed) _ (sorted_from_strictly_increasing _ (ascending_rises listed)) (sorted_from_strictly_increasing _ rising)
+    (λ u c. (same u).0 ((ascending_same _ u).1 c))
+    (λ u c. (ascending_same _ u).0 ((same u).1 c))

@@ -23,14 +23,14 @@ module _ {A : Type 0} {read : Data → Read A} {Is : Data → A → Type 0} (r :
 
   list_value_only : (name : List ℕ) (value : Data) (xs : List A) → IsList Is value xs → (of_kind name (as_array value) >>= each read) ≡ Ok xs
   unfolding of_kind
-  list_value_only name value xs is = rw is.1 (each_only is.0 xs is.2)
+  list_value_only _ _ _ is = rw is.1 (each_only _ _ is.2)
 
   list_value : (name : List ℕ) → IsReadAs (λ value. of_kind name (as_array value) >>= each read) (IsList Is)
-  list_value name = record {
-    found = λ value. of_bind _ (items_found name value) (λ items is. of_weaker (λ xs are. (items, is, are)) (each_found items));
-    only = list_value_only name;
+  list_value _ = record {
+    found = λ value. of_bind _ (items_found _ _) (λ items is. of_weaker (λ xs are. (items, is, are)) (each_found _));
+    only = list_value_only _;
   }
 
 pub listed : {A : Type 0} (read : List ℕ → Data → Read A) {Is : Data → A → Type 0} (name : List ℕ) → IsReadAs (read name) Is → IsReadAs (list_of read name) (HasOr [] (IsList Is) name)
 unfolding list_of
-listed read name r = optional name (list_value r name) []
+listed _ _ r = optional _ (list_value r _) _

@@ -28,25 +28,25 @@ record IsObjectText (text : List ℕ) (value : Data) : Type 0 where
   is_object : IsObject value
 
 read_found : (text : List ℕ) (e : MetaRefusal) (o : Option Data) → read text ≡ o → OfValue (ok_or o e) (λ value. read text ≡ Some value)
-read_found text e None is = of_err
-read_found text e (Some d) is = of_ok is
+read_found _ e None is = of_err
+read_found _ e (Some d) is = of_ok is
 
 json_found : (text : List ℕ) (b : Bool) → is_utf8 text ≡ b → OfValue (cond b (ok_or (read text) NotJson) (Err NotJson)) (λ value. IsUtf8 text × (read text ≡ Some value))
-json_found text true e = of_weaker (λ value reads. (IsUtf8-from_is_utf8 text e, reads)) (read_found text NotJson (read text) refl)
-json_found text false e = of_err
+json_found _ true e = of_weaker (λ value reads. (IsUtf8-from_is_utf8 _ e, reads)) (read_found _ _ _ refl)
+json_found _ false e = of_err
 
 object_text_found : (text : List ℕ) → OfValue (object_of text) (λ value. IsObjectText text value)
 unfolding object_of json_of
-object_text_found text = of_bind _ (json_found text _ refl) (λ value j. of_unless (is_some (as_object value)) _ _ (λ o. of_ok (record { utf8 = j.0; reads = j.1; is_object = is_object_found value o })))
+object_text_found _ = of_bind _ (json_found _ _ refl) (λ value j. of_unless (is_some (as_object value)) _ _ (λ o. of_ok (record { utf8 = j.0; reads = j.1; is_object = is_object_found _ o })))
 
 object_text_only : (text : List ℕ) (value : Data) → IsUtf8 text → read text ≡ Some value → IsObject value → object_of text ≡ Ok value
 unfolding object_of
-object_text_only text value utf8 reads is = rw (json_read text value utf8 reads, is_object_only value is) refl
+object_text_only text value utf8 reads is = rw (json_read text value utf8 reads, is_object_only) refl
 
 -- ---- metas
 
 version_member : IsReadAs (λ value. needed_of (codes "version") value >>= version_of) (Has IsVersion (codes "version"))
-version_member = needed (codes "version") version
+version_member = needed _ version
 
 meta_found : (value : Data) → IsObject value → OfValue (meta_of value) (IsMeta value)
 unfolding meta_of
@@ -61,7 +61,7 @@ meta_only value meta is =
     let times : HasTimes value (record { min = meta.min_time; max = meta.max_time }) = record { min_time = is.min_time; max_time = is.max_time; lawful = is.times } in
     rw (
       version_member.only value tt is.version,
-      (named (codes "ulid")).only value meta.ulid is.ulid,
+      (named _).only value meta.ulid is.ulid,
       times_read.only value (record { min = meta.min_time; max = meta.max_time }) times,
       stats_read.only value (stats_part meta) is.stats,
       compaction_read.only value (compaction_part meta) is.compaction,
@@ -70,16 +70,16 @@ meta_only value meta is =
 
 pub meta_text_found : (text : List ℕ) → OfValue (meta_of_text text) (IsMetaText text)
 unfolding meta_of_text
-meta_text_found text = of_bind _ (object_text_found text) (λ value o. of_weaker (λ meta is. record { utf8 = o.utf8; value = value; reads = o.reads; is = is }) (meta_found value o.is_object))
+meta_text_found _ = of_bind _ (object_text_found _) (λ value o. of_weaker (λ meta is. record { utf8 = o.utf8; value = value; reads = o.reads; is = is }) (meta_found _ o.is_object))
 
 pub meta_text_only : (text : List ℕ) (meta : MetaFields) → IsMetaText text meta → meta_of_text text ≡ Ok meta
 unfolding meta_of_text
-meta_text_only text meta is = rw (object_text_only text is.value is.utf8 is.reads is.is.is_object) (meta_only is.value meta is.is)
+meta_text_only text _ is = rw (object_text_only text is.value is.utf8 is.reads is.is.is_object) (meta_only _ _ is.is)
 
 -- ---- deletion marks
 
 seconds : IsReadAs (λ value. needed_of (codes "deletion_time") value >>= unsigned_of (codes "deletion_time")) (Has IsUnsigned (codes "deletion_time"))
-seconds = needed (codes "deletion_time") (unsigned_number (codes "deletion_time"))
+seconds = needed _ (unsigned_number _)
 
 deletion_time_found : (value : Data) → OfValue (deletion_time_of value) (λ time. Has IsUnsigned (codes "deletion_time") value time × (time < 2 ^ 46))
 unfolding deletion_time_of
@@ -94,7 +94,7 @@ deletion_time_only value time has early =
 mark_found : (value : Data) → IsObject value → OfValue (mark_of value) (IsMark value)
 unfolding mark_of
 mark_found value is =
-    of_then _ (version_member.found value) (λ _ v. of_bind _ ((named (codes "id")).found value) (λ id u. of_bind _ (deletion_time_found value) (λ time t. of_bind _ ((optional_text (codes "details")).found value) (λ details d.
+    of_then _ (version_member.found value) (λ _ v. of_bind _ ((named _).found value) (λ id u. of_bind _ (deletion_time_found _) (λ time t. of_bind _ ((optional_text _).found value) (λ details d.
     of_ok (record { is_object = is; version = v; id = u; deletion_time = t.0; early = t.1; details = d })))))
 
 mark_only : (value : Data) (mark : MarkFields) → IsMark value mark → mark_of value ≡ Ok mark
@@ -102,15 +102,15 @@ unfolding mark_of
 mark_only value mark is =
     rw (
       version_member.only value tt is.version,
-      (named (codes "id")).only value mark.id is.id,
+      (named _).only value mark.id is.id,
       deletion_time_only value mark.deletion_time is.deletion_time is.early,
-      (optional_text (codes "details")).only value mark.details is.details,
+      (optional_text _).only value mark.details is.details,
     ) refl
 
 pub mark_text_found : (text : List ℕ) → OfValue (mark_of_text text) (IsMarkText text)
 unfolding mark_of_text
-mark_text_found text = of_bind _ (object_text_found text) (λ value o. of_weaker (λ mark is. record { utf8 = o.utf8; value = value; reads = o.reads; is = is }) (mark_found value o.is_object))
+mark_text_found _ = of_bind _ (object_text_found _) (λ value o. of_weaker (λ mark is. record { utf8 = o.utf8; value = value; reads = o.reads; is = is }) (mark_found _ o.is_object))
 
 pub mark_text_only : (text : List ℕ) (mark : MarkFields) → IsMarkText text mark → mark_of_text text ≡ Ok mark
 unfolding mark_of_text
-mark_text_only text mark is = rw (object_text_only text is.value is.utf8 is.reads is.is.is_object) (mark_only is.value mark is.is)
+mark_text_only text _ is = rw (object_text_only text is.value is.utf8 is.reads is.is.is_object) (mark_only _ _ is.is)

@@ -25,16 +25,16 @@ Entry = String Global × Value
 
 pub labels_done : (labels : List Label) (es : List Entry) → es ≡ [] → labels_from labels (members_view es) ≡ Ok labels
 unfolding labels_from
-labels_done labels es e = rw e refl
+labels_done _ _ e = rw e refl
 
 pub labels_step : (labels more : List Label) (es rest : List Entry) (key : String Global) (value : Value) (name : List ℕ) → es ≡ (key, value) ∷ rest → name ≡ string_bytes key → label_added labels name (view value) ≡ Ok more → labels_from labels (members_view es) ≡ labels_from more (members_view rest)
 unfolding labels_from
-labels_step labels more es rest key value name e named here = let h = rw named at here in rw (e, h) refl
+labels_step _ _ _ _ _ _ _ e named here = let h = rw named at here in rw (e, h) refl
 
 pub labels_stop : (labels : List Label) (x : MetaRefusal) (es rest : List Entry) (key : String Global) (value : Value) (name : List ℕ) → es ≡ (key, value) ∷ rest → name ≡ string_bytes key → (x ≡ NoMemory) ⊎ (label_added labels name (view value) ≡ Err x) → (x ≡ NoMemory) ⊎ (labels_from labels (members_view es) ≡ Err x)
 unfolding labels_from
-labels_stop labels x es rest key value name e named (inl memory) = inl memory
-labels_stop labels x es rest key value name e named (inr here) = let h = rw named at here in inr (rw (e, h) refl)
+labels_stop _ x _ _ _ _ _ e named (inl memory) = inl memory
+labels_stop _ x _ _ _ _ _ e named (inr here) = let h = rw named at here in inr (rw (e, h) refl)
 
 -- ---- writing
 
@@ -52,17 +52,17 @@ put_last [] l h = refl
 put_last (x ∷ xs) l h = rw (after x.name l.name h.0) (ap (member x.name (string x.value)) (put_last xs l h.1))
 
 middle : (name : List ℕ) (front : List Label) (l : Label) (rest : List Label) → StandsBefore name (front ++ l ∷ rest) → ComesBefore name l.name
-middle name [] l rest h = h.0
-middle name (x ∷ xs) l rest h = middle name xs l rest h.1
+middle _ [] l _ h = h.0
+middle name (x ∷ xs) l rest h = middle name xs l _ h.1
 
 all_before : (front : List Label) (l : Label) (rest : List Label) → IsLabelSet (front ++ l ∷ rest) → AllBefore front l.name
-all_before [] l rest h = tt
-all_before (x ∷ xs) l rest h = (middle x.name xs l rest h.2, all_before xs l rest h.3)
+all_before [] l _ h = tt
+all_before (x ∷ xs) l rest h = (middle _ _ l rest h.2, all_before xs l _ h.3)
 
 front_and_rest : (labels : List Label) (i : ℕ) (d : Label) → i < length labels → (rest : List Label) × (labels ≡ take i labels ++ get_or labels i d ∷ rest)
 front_and_rest [] i d lt = absurd (omega arith)
 front_and_rest (x ∷ xs) zero d lt = (xs, refl)
-front_and_rest (x ∷ xs) (suc i) d lt = let p = front_and_rest xs i d (omega arith) in (p.0, ap (λ ys. x ∷ ys) p.1)
+front_and_rest (x ∷ xs) (suc i) d lt = let p = front_and_rest _ i d (omega arith) in (p.0, ap (λ ys. x ∷ ys) p.1)
 
 pub members_none : members_view [] ≡ label_members []
 unfolding label_members
@@ -70,12 +70,12 @@ members_none = refl
 
 -- one label more goes last
 pub members_more : (labels : List Label) (i : ℕ) (l : Label) (old new : List Entry) (value : Value) → IsLabelSet labels → i < length labels → l ≡ get_or labels i l → members_view old ≡ label_members (take i labels) → view value ≡ string l.value → members_view new ≡ put l.name (view value) (members_view old) → members_view new ≡ label_members (take (i + 1) labels)
-members_more labels i l old new value lawful lt at so_far seen stored =
-    let parts = front_and_rest labels i l lt in
-    let split : labels ≡ take i labels ++ l ∷ parts.0 = parts.1 ∙ ap (λ x. take i labels ++ x ∷ parts.0) (sym at) in
-    let before = all_before (take i labels) l parts.0 (subst IsLabelSet split lawful) in
-    let more : take (i + 1) labels ≡ take i labels ++ l ∷ [] = take_more labels i l lt ∙ ap (λ x. take i labels ++ x ∷ []) (sym at) in
-    stored ∙ ap₂ (put l.name) seen so_far ∙ put_last (take i labels) l before ∙ ap label_members (sym more)
+members_more labels i l _ _ _ lawful lt at so_far seen stored =
+    let parts = front_and_rest _ i l lt in
+    let split = parts.1 ∙ ap (λ x. take i labels ++ x ∷ parts.0) (sym at) in
+    let before = all_before _ l _ (subst IsLabelSet split lawful) in
+    let more = take_more _ i l lt ∙ ap (λ x. take i labels ++ x ∷ []) (sym at) in
+    stored ∙ ap₂ (put l.name) seen so_far ∙ put_last _ l before ∙ ap label_members (sym more)
 
 -- ---- reading what was written
 
@@ -85,8 +85,8 @@ placed_last [] l h = refl
 placed_last (x ∷ xs) l h = rw h.0 (ap (λ ys. x ∷ ys) (placed_last xs l h.1))
 
 absent : (labels : List Label) (name : List ℕ) → AllBefore labels name → value_of labels name ≡ None
-absent [] name h = value_nil name
-absent (x ∷ xs) name h = value_miss x xs name (before_differs x.name name h.0) ∙ absent xs name h.1
+absent [] _ h = value_nil _
+absent (x ∷ xs) _ h = value_miss x _ _ (before_differs _ _ h.0) ∙ absent _ _ h.1
 
 filled : (text : List ℕ) → text ≢ [] → (length text == 0) ≡ false
 filled [] h = absurd (h refl)
@@ -94,23 +94,23 @@ filled (x ∷ xs) h = grind (arith, nat_tests)
 
 added_last : (labels : List Label) (l : Label) → l.name ≢ [] → l.value ≢ [] → AllBefore labels l.name → added labels l.name l.value ≡ Ok (labels ++ l ∷ [])
 unfolding added
-added_last labels l named valued h = rw (filled l.name named, filled l.value valued, absent labels l.name h) (ap (λ (ls : List Label). Ok ls) (placed_last labels l h))
+added_last _ l named valued h = rw (filled, filled, absent) (ap (λ ls. Ok ls) (placed_last _ l h))
 
 label_added_last : (labels : List Label) (l : Label) → l.name ≢ [] → l.value ≢ [] → AllBefore labels l.name → label_added labels l.name (string l.value) ≡ Ok (labels ++ l ∷ [])
 unfolding label_added text_of of_kind
-label_added_last labels l named valued h = rw (added_last labels l named valued h) refl
+label_added_last _ l named valued h = rw (added_last) refl
 
 last_of : (front : List Label) (l : Label) (rest : List Label) → IsLabelSet (front ++ l ∷ rest) → (l.name ≢ []) × (l.value ≢ [])
-last_of [] l rest h = (h.0, h.1)
-last_of (x ∷ xs) l rest h = last_of xs l rest h.3
+last_of [] l _ h = (h.0, h.1)
+last_of (x ∷ xs) l rest h = last_of xs l _ h.3
 
 read_on : (front rest : List Label) → IsLabelSet (front ++ rest) → labels_from front (label_members rest) ≡ Ok (front ++ rest)
 unfolding labels_from label_members
-read_on front [] h = ap (λ (ls : List Label). Ok ls) (sym (append-nil front))
+read_on front [] h = ap (λ ls. Ok ls) (sym (append-nil front))
 read_on front (l ∷ rest) h =
-    let filled = last_of front l rest h in
-    let next = read_on (front ++ l ∷ []) rest (subst IsLabelSet (sym (append_assoc front (l ∷ []) rest)) h) in
-    rw (label_added_last front l filled.0 filled.1 (all_before front l rest h)) (next ∙ ap (λ (ls : List Label). Ok ls) (append_assoc front (l ∷ []) rest))
+    let filled = last_of _ l _ h in
+    let next = read_on (front ++ l ∷ []) _ (subst IsLabelSet (sym (append_assoc front (l ∷ []) rest)) h) in
+    rw (label_added_last front l filled.0 filled.1 (all_before front l _ h)) (next ∙ ap (λ (ls : List Label). Ok ls) (append_assoc front (l ∷ []) rest))
 
 pub labels_again : (labels : List Label) → IsLabelSet labels → labels_from [] (label_members labels) ≡ Ok labels
-labels_again labels h = read_on [] labels h
+labels_again _ h = read_on _ _ h

@@ -15,12 +15,12 @@ no_float (negsuc n) = refl
 
 items_plain : {A : Type 0} (one : A → Data) → ((x : A) → has_float (one x) ≡ false) → (xs : List A) → items_have_float (items_value one xs) ≡ false
 unfolding items_value
-items_plain one plain [] = refl
+items_plain _ plain [] = refl
 items_plain one plain (x ∷ xs) = rw (plain x, items_plain one plain xs) refl
 
 parent_plain : (p : Parent) → has_float (parent_value p) ≡ false
 unfolding parent_value ulid_value
-parent_plain p = rw (no_float p.max_time, no_float p.min_time) refl
+parent_plain p = rw (no_float, no_float) refl
 
 file_plain : (f : FileSize) → has_float (file_value f) ≡ false
 unfolding file_value
@@ -37,20 +37,20 @@ labels_plain (l ∷ ls) = labels_plain ls
 
 compaction_plain : (level : ℕ) (sources : List ℕ) (parents : List Parent) → has_float (compaction_value level sources parents) ≡ false
 unfolding compaction_value
-compaction_plain level sources [] = rw (items_plain ulid_value ulid_plain sources) refl
-compaction_plain level sources (p ∷ ps) = rw (items_plain ulid_value ulid_plain sources, items_plain parent_value parent_plain (p ∷ ps)) refl
+compaction_plain _ sources [] = rw (items_plain ulid_value ulid_plain sources) refl
+compaction_plain _ sources (p ∷ ps) = rw (items_plain ulid_value ulid_plain sources, items_plain parent_value parent_plain (p ∷ ps)) refl
 
 thanos_plain : (m : MetaFields) → has_float (thanos_value m) ≡ false
 unfolding thanos_value
-thanos_plain m = rw (no_float m.resolution, items_plain file_value file_plain m.files, labels_plain m.labels, items_plain string (λ t. refl) m.segment_files) refl
+thanos_plain m = rw (no_float m.resolution, items_plain file_value file_plain m.files, labels_plain, items_plain) refl
 
 stats_plain : (series samples chunks : ℕ) → has_float (stats_value series samples chunks) ≡ false
 unfolding stats_value
-stats_plain series samples chunks = refl
+stats_plain _ _ _ = refl
 
 pub meta_plain : (m : MetaFields) → has_float (meta_value m) ≡ false
 unfolding meta_value
-meta_plain m = rw (compaction_plain m.level m.sources m.parents, no_float m.max_time, no_float m.min_time, stats_plain m.series m.samples m.chunks, thanos_plain m, ulid_plain m.ulid) refl
+meta_plain m = rw (compaction_plain, no_float, no_float, stats_plain, thanos_plain, ulid_plain) refl
 
 pub mark_plain : (m : MarkFields) → has_float (mark_value m) ≡ false
 unfolding mark_value ulid_value
@@ -60,8 +60,8 @@ mark_plain m = refl
 
 items_flat : {A : Type 0} (one : A → Data) (n : ℕ) → ((x : A) → depth (one x) ≤ n) → (xs : List A) → items_depth (items_value one xs) ≤ n
 unfolding items_value
-items_flat one n flat [] = omega arith
-items_flat one n flat (x ∷ xs) = omega (arith, flat x, items_flat one n flat xs)
+items_flat _ n flat [] = omega arith
+items_flat one n flat (x ∷ xs) = omega (arith, items_flat one n flat xs)
 
 ulid_flat : (u : ℕ) → depth (ulid_value u) ≤ 0
 unfolding ulid_value
@@ -82,8 +82,8 @@ labels_flat (l ∷ ls) = omega (arith, labels_flat ls)
 
 compaction_flat : (level : ℕ) (sources : List ℕ) (parents : List Parent) → depth (compaction_value level sources parents) ≤ 4
 unfolding compaction_value
-compaction_flat level sources [] = omega (arith, items_flat ulid_value 0 ulid_flat sources)
-compaction_flat level sources (p ∷ ps) = omega (arith, items_flat ulid_value 0 ulid_flat sources, items_flat parent_value 1 parent_flat (p ∷ ps))
+compaction_flat _ sources [] = omega (arith, items_flat ulid_value 0 ulid_flat sources)
+compaction_flat _ sources (p ∷ ps) = omega (arith, items_flat ulid_value 0 ulid_flat sources, items_flat parent_value 1 parent_flat (p ∷ ps))
 
 thanos_flat : (m : MetaFields) → depth (thanos_value m) ≤ 4
 unfolding thanos_value
@@ -91,7 +91,7 @@ thanos_flat m = omega (arith, items_flat file_value 1 file_flat m.files, labels_
 
 stats_flat : (series samples chunks : ℕ) → depth (stats_value series samples chunks) ≤ 4
 unfolding stats_value
-stats_flat series samples chunks = omega arith
+stats_flat _ _ _ = omega arith
 
 pub meta_flat : (m : MetaFields) → depth (meta_value m) ≤ 127
 unfolding meta_value ulid_value

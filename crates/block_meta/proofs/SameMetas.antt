@@ -7,10 +7,10 @@ use Rattle.block_meta.specs.MetaFields.{MetaFields, fields_of}
 use Rattle.block_meta.specs.declared.meta.Meta.{Meta}
 
 times_prop : (min max : ℤ) → IsProp (AreLawfulTimes min max)
-times_prop min max = hlevel props
+times_prop _ _ = hlevel props
 
 distinct_prop : (sources : List ℕ) → IsProp (IsStrictlyIncreasing sources)
-distinct_prop sources = hlevel props
+distinct_prop _ = hlevel props
 
 abbrev meta_made : (f : MetaFields) → AreLawfulTimes f.min_time f.max_time → IsStrictlyIncreasing f.sources → Meta
 meta_made f times distinct = record {
@@ -34,9 +34,9 @@ meta_made f times distinct = record {
 
 same_made : (f g : MetaFields) → f ≡ g → (t : AreLawfulTimes f.min_time f.max_time) (d : IsStrictlyIncreasing f.sources) (t' : AreLawfulTimes g.min_time g.max_time) (d' : IsStrictlyIncreasing g.sources) → meta_made f t d ≡ meta_made g t' d'
 same_made f g e t d =
-    subst (λ (h : MetaFields). (t' : AreLawfulTimes h.min_time h.max_time) (d' : IsStrictlyIncreasing h.sources) → meta_made f t d ≡ meta_made h t' d') e
-    (λ t' d'. ap (λ (x : AreLawfulTimes f.min_time f.max_time). meta_made f x d) (times_prop f.min_time f.max_time t t') ∙ ap (λ (x : IsStrictlyIncreasing f.sources). meta_made f t' x) (distinct_prop f.sources d d'))
+    subst (λ h. (t' : AreLawfulTimes h.min_time h.max_time) (d' : IsStrictlyIncreasing h.sources) → meta_made f t d ≡ meta_made h t' d') e
+    (λ t' d'. ap (λ x. meta_made f x d) (times_prop _ _ t t') ∙ ap (λ x. meta_made f t' x) (distinct_prop _ d d'))
 
 -- metas with the same fields are one
 pub same_meta : (m n : Meta) → fields_of m ≡ fields_of n → m ≡ n
-same_meta m n e = same_made (fields_of m) (fields_of n) e m.times m.distinct n.times n.distinct
+same_meta m n e = same_made _ _ e _ _ _ _

@@ -1,9 +1,8 @@
 -- A JSON text has no more values than bytes.
 use Rattle.std.proofs.Common.{◌≡◌, ℕ, zero, suc, ◌+◌, ◌≤◌, Bool, true, false, List, [], ◌∷◌, length, Option, Some, None, option_map, option_and_then, refl, subst, arith}
-use Rattle.std.specs.Ordering.{nat_cmp, match_ordering}
+use Rattle.std.specs.Ordering.{match_ordering}
 use Rattle.std.specs.declared.cmp.Ordering.{Ordering}
 use Rattle.std.specs.declared.cmp.Ordering.TheVariants.{Less, Equal, Greater}
-use Rattle.std.specs.Cmp.Lexicographic.{slice_cmp}
 use Rattle.json.specs.Json.{Json, Items, Members, Parse, parse_map, after_end_array, read_key, items_step, members_step, items, members, value_with, value, if_last}
 use Rattle.json.specs.Token as token
 use Rattle.json.specs.Token.{Token}
@@ -12,7 +11,7 @@ use Rattle.json.specs.Json as json
 use Rattle.json.specs.Lex as lexing
 use Rattle.serde_json.specs.Data as values
 use Rattle.serde_json.specs.Data.{Data, put}
-use Rattle.serde_json.specs.Read.{of_json, of_items, of_members, number_of, read, max_depth}
+use Rattle.serde_json.specs.Read.{of_json, of_items, of_members, read}
 
 -- ---- how many values a value is
 
@@ -62,12 +61,12 @@ Leaves n (Some rest) = length rest ≤ n
 
 mapped_fits : {A B : Type 0} (small : A → ℕ) (large : B → ℕ) (f : A → B) (extra m n : ℕ) (o : Option (A × List Token))
     → ((a : A) → large (f a) ≡ extra + small a) → Fits small m o → extra + m ≤ n → Fits large n (parse_map f o)
-mapped_fits small large f extra m n None same fits le = tt
-mapped_fits small large f extra m n (Some p) same fits le = omega (arith, same p.0, fits, le)
+mapped_fits _ _ f _ m n None same fits le = tt
+mapped_fits _ _ f _ m n (Some p) same fits le = omega arith
 
 weaker_fits : {A : Type 0} (size : A → ℕ) (m n : ℕ) (o : Option (A × List Token)) → Fits size m o → m ≤ n → Fits size n o
-weaker_fits size m n None fits le = tt
-weaker_fits size m n (Some p) fits le = omega (arith, fits, le)
+weaker_fits _ m n None fits le = tt
+weaker_fits _ m n (Some p) fits le = omega arith
 
 array_ends : (ts : List Token) → Leaves (length ts) (after_end_array ts)
 array_ends [] = tt
@@ -103,44 +102,44 @@ AllFit size parse = (ts : List Token) → Fits size (length ts) (parse ts)
 
 item_fits : (more : Parse Items) → AllFit items_size more → (n : ℕ) (o : Option (Json × List Token)) → Fits json_size n o
     → Fits items_size n (option_and_then (λ p. parse_map (json.item p.0) (more p.1)) o)
-item_fits more h n None fits = tt
-item_fits more h n (Some p) fits = mapped_fits items_size items_size (json.item p.0) (json_size p.0) (length p.1) n (more p.1) (λ a. refl) (h p.1) fits
+item_fits _ h n None fits = tt
+item_fits _ h n (Some p) fits = mapped_fits _ _ _ _ _ n _ (λ a. refl) (h p.1) fits
 
 step_fits : (one : Parse Json) (more : Parse Items) → AllFit json_size one → AllFit items_size more → (ts : List Token) (o : Option (List Token)) → Leaves (length ts) o
     → Fits items_size (length ts) (items_step one more ts o)
-step_fits one more h k ts None ends = item_fits more k (length ts) (one ts) (h ts)
-step_fits one more h k ts (Some rest) ends = omega (arith, ends)
+step_fits _ _ h k ts None ends = item_fits _ k _ _ (h ts)
+step_fits _ _ h k _ (Some rest) ends = omega arith
 
 items_fit : (one : Parse Json) → AllFit json_size one → (n : ℕ) → AllFit items_size (items one n)
 unfolding items
-items_fit one h zero ts = tt
-items_fit one h (suc n) ts = step_fits one (items one n) h (items_fit one h n) ts (after_end_array ts) (array_ends ts)
+items_fit _ h zero ts = tt
+items_fit _ h (suc n) ts = step_fits _ _ h (items_fit _ h n) _ _ (array_ends _)
 
 member_fits : (key : List ℕ) (more : Parse Members) → AllFit members_size more → (n : ℕ) (o : Option (Json × List Token)) → Fits json_size n o
     → Fits members_size n (option_and_then (λ p. parse_map (json.member key p.0) (more p.1)) o)
-member_fits key more h n None fits = tt
-member_fits key more h n (Some p) fits = mapped_fits members_size members_size (json.member key p.0) (json_size p.0) (length p.1) n (more p.1) (λ a. refl) (h p.1) fits
+member_fits _ _ h n None fits = tt
+member_fits _ _ h n (Some p) fits = mapped_fits _ _ _ _ _ n _ (λ a. refl) (h p.1) fits
 
 keyed_fits : (one : Parse Json) (more : Parse Members) → AllFit json_size one → AllFit members_size more → (key : Option (List ℕ)) (ts : List Token)
     → Fits members_size (length ts) (members_step one more key ts)
-keyed_fits one more h k None ts = omega arith
-keyed_fits one more h k (Some key) ts = member_fits key more k (length ts) (one ts) (h ts)
+keyed_fits _ _ h k None _ = omega arith
+keyed_fits _ _ h k (Some key) ts = member_fits _ _ k _ _ (h ts)
 
 after_key_fits : (one : Parse Json) (more : Parse Members) → AllFit json_size one → AllFit members_size more → (n : ℕ) (o : Option (Option (List ℕ) × List Token))
     → Fits no_size n o → Fits members_size n (option_and_then (λ p. members_step one more p.0 p.1) o)
-after_key_fits one more h k n None fits = tt
-after_key_fits one more h k n (Some p) fits = weaker_fits members_size (length p.1) n (members_step one more p.0 p.1) (keyed_fits one more h k p.0 p.1) (omega (arith, fits))
+after_key_fits _ _ h k n None fits = tt
+after_key_fits _ _ h k n (Some p) fits = weaker_fits _ _ n _ (keyed_fits _ _ h k _ _) (omega arith)
 
 members_fit : (one : Parse Json) → AllFit json_size one → (n : ℕ) → AllFit members_size (members one n)
 unfolding members
-members_fit one h zero ts = tt
-members_fit one h (suc n) ts = after_key_fits one (members one n) h (members_fit one h n) (length ts) (read_key ts) (key_fits ts)
+members_fit _ h zero ts = tt
+members_fit _ h (suc n) ts = after_key_fits _ _ h (members_fit _ h n) _ _ (key_fits _)
 
 with_fits : (a : Parse Items) (o : Parse Members) → AllFit items_size a → AllFit members_size o → AllFit json_size (value_with a o)
 with_fits a o h k [] = tt
-with_fits a o h k (token.begin_object ∷ ts) = mapped_fits members_size json_size json.object 1 (length ts) (suc (length ts)) (o ts) (λ x. omega arith) (k ts) (omega arith)
+with_fits a o h k (token.begin_object ∷ ts) = mapped_fits _ _ _ 1 _ _ _ (λ x. omega arith) (k ts) (omega arith)
 with_fits a o h k (token.end_object ∷ ts) = tt
-with_fits a o h k (token.begin_array ∷ ts) = mapped_fits items_size json_size json.array 1 (length ts) (suc (length ts)) (a ts) (λ x. omega arith) (h ts) (omega arith)
+with_fits a o h k (token.begin_array ∷ ts) = mapped_fits _ _ _ 1 _ _ _ (λ x. omega arith) (h ts) (omega arith)
 with_fits a o h k (token.end_array ∷ ts) = tt
 with_fits a o h k (token.key s ∷ ts) = tt
 with_fits a o h k (token.string s ∷ ts) = omega arith
@@ -153,49 +152,49 @@ value_fits : (depth : ℕ) → AllFit json_size (value depth)
 unfolding value
 value_fits zero ts = with_fits (λ l. None) (λ l. None) (λ l. tt) (λ l. tt) ts
 value_fits (suc depth) ts =
-    with_fits (λ l. items (value depth) (length l) l) (λ l. members (value depth) (length l) l)
+    with_fits _ _
     (λ l. items_fit (value depth) (value_fits depth) (length l) l) (λ l. members_fit (value depth) (value_fits depth) (length l) l) ts
 
 -- ---- bytes: each begins one lexeme at most
 
 byte_fits : (m : Mode) (c : Class) (x : ℕ) (xs : List ℕ) (k : Mode → List Lexeme) (n : ℕ) → ((next : Mode) → length (k next) ≤ n) → length (lex_byte m c x xs k) ≤ suc n
-byte_fits lexing.between lexing.quote x xs k n h = omega (arith, h lexing.in_string)
-byte_fits lexing.between lexing.backslash x xs k n h = omega (arith, h lexing.in_word)
-byte_fits lexing.between lexing.operator x xs k n h = omega (arith, h lexing.between)
-byte_fits lexing.between lexing.space x xs k n h = omega (arith, h lexing.between)
-byte_fits lexing.between lexing.other x xs k n h = omega (arith, h lexing.in_word)
-byte_fits lexing.in_word lexing.quote x xs k n h = omega (arith, h lexing.in_word)
-byte_fits lexing.in_word lexing.backslash x xs k n h = omega (arith, h lexing.in_word)
-byte_fits lexing.in_word lexing.operator x xs k n h = omega (arith, h lexing.between)
-byte_fits lexing.in_word lexing.space x xs k n h = omega (arith, h lexing.between)
-byte_fits lexing.in_word lexing.other x xs k n h = omega (arith, h lexing.in_word)
-byte_fits lexing.in_string lexing.quote x xs k n h = omega (arith, h lexing.between)
-byte_fits lexing.in_string lexing.backslash x xs k n h = omega (arith, h lexing.in_escape)
-byte_fits lexing.in_string lexing.operator x xs k n h = omega (arith, h lexing.in_string)
-byte_fits lexing.in_string lexing.space x xs k n h = omega (arith, h lexing.in_string)
-byte_fits lexing.in_string lexing.other x xs k n h = omega (arith, h lexing.in_string)
-byte_fits lexing.in_escape c x xs k n h = omega (arith, h lexing.in_string)
+byte_fits lexing.between lexing.quote x _ k n h = omega arith
+byte_fits lexing.between lexing.backslash x _ k n h = omega arith
+byte_fits lexing.between lexing.operator x _ k n h = omega arith
+byte_fits lexing.between lexing.space x _ k n h = omega arith
+byte_fits lexing.between lexing.other x _ k n h = omega arith
+byte_fits lexing.in_word lexing.quote x _ k n h = omega arith
+byte_fits lexing.in_word lexing.backslash x _ k n h = omega arith
+byte_fits lexing.in_word lexing.operator x _ k n h = omega arith
+byte_fits lexing.in_word lexing.space x _ k n h = omega arith
+byte_fits lexing.in_word lexing.other x _ k n h = omega arith
+byte_fits lexing.in_string lexing.quote x _ k n h = omega arith
+byte_fits lexing.in_string lexing.backslash x _ k n h = omega arith
+byte_fits lexing.in_string lexing.operator x _ k n h = omega arith
+byte_fits lexing.in_string lexing.space x _ k n h = omega arith
+byte_fits lexing.in_string lexing.other x _ k n h = omega arith
+byte_fits lexing.in_escape c x _ k n h = omega arith
 
 lex_fits : (m : Mode) (xs : List ℕ) → length (lex m xs) ≤ length xs
 unfolding lex
 lex_fits m [] = omega arith
-lex_fits m (x ∷ xs) = byte_fits m (class x) x xs (λ next. lex next xs) (length xs) (λ next. lex_fits next xs)
+lex_fits m (x ∷ xs) = byte_fits m _ x _ _ _ (λ next. lex_fits next xs)
 
 allowed_fits : (b : Bool) (t : Token) (k : Place → List Token) (next : Place) (n : ℕ) → ((p : Place) → length (k p) ≤ n) → length (if_allowed b t k next) ≤ suc n
-allowed_fits true t k next n h = omega (arith, h next)
-allowed_fits false t k next n h = omega arith
+allowed_fits true t k _ n h = omega arith
+allowed_fits false t k _ n h = omega arith
 
 placed_fits : (p : Place) (t : Token) (b : Bool) (k : Place → List Token) (n : ℕ) → ((next : Place) → length (k next) ≤ n) → length (place_token p t b k) ≤ suc n
-placed_fits p token.begin_object b k n h = allowed_fits (may_begin p) token.begin_object k lexing.fresh n h
-placed_fits p token.end_object b k n h = allowed_fits (may_close p) token.end_object k lexing.after_value n h
-placed_fits p token.begin_array b k n h = allowed_fits (may_begin p) token.begin_array k lexing.fresh n h
-placed_fits p token.end_array b k n h = allowed_fits (may_close p) token.end_array k lexing.after_value n h
+placed_fits p token.begin_object b k n h = allowed_fits _ _ k _ n h
+placed_fits p token.end_object b k n h = allowed_fits _ _ k _ n h
+placed_fits p token.begin_array b k n h = allowed_fits _ _ k _ n h
+placed_fits p token.end_array b k n h = allowed_fits _ _ k _ n h
 placed_fits p (token.key s) b k n h = omega arith
-placed_fits p (token.string s) true k n h = allowed_fits (may_begin p) (token.key s) k lexing.after_key n h
-placed_fits p (token.string s) false k n h = allowed_fits (may_begin p) (token.string s) k lexing.after_value n h
-placed_fits p (token.number s) b k n h = allowed_fits (may_begin p) (token.number s) k lexing.after_value n h
-placed_fits p (token.boolean c) b k n h = allowed_fits (may_begin p) (token.boolean c) k lexing.after_value n h
-placed_fits p token.null b k n h = allowed_fits (may_begin p) token.null k lexing.after_value n h
+placed_fits p (token.string s) true k n h = allowed_fits _ _ k _ n h
+placed_fits p (token.string s) false k n h = allowed_fits _ _ k _ n h
+placed_fits p (token.number s) b k n h = allowed_fits _ _ k _ n h
+placed_fits p (token.boolean c) b k n h = allowed_fits _ _ k _ n h
+placed_fits p token.null b k n h = allowed_fits _ _ k _ n h
 placed_fits p token.bad b k n h = omega arith
 
 -- a text that breaks off has a token more
@@ -205,10 +204,10 @@ punctuated_fits lexing.fresh [] = omega arith
 punctuated_fits lexing.after_value [] = omega arith
 punctuated_fits lexing.after_comma [] = omega arith
 punctuated_fits lexing.after_key [] = omega arith
-punctuated_fits lexing.fresh (lexing.token t ∷ ls) = placed_fits lexing.fresh t (begins_colon ls) (λ next. punctuate next ls) (suc (length ls)) (λ next. punctuated_fits next ls)
-punctuated_fits lexing.after_value (lexing.token t ∷ ls) = placed_fits lexing.after_value t (begins_colon ls) (λ next. punctuate next ls) (suc (length ls)) (λ next. punctuated_fits next ls)
-punctuated_fits lexing.after_comma (lexing.token t ∷ ls) = placed_fits lexing.after_comma t (begins_colon ls) (λ next. punctuate next ls) (suc (length ls)) (λ next. punctuated_fits next ls)
-punctuated_fits lexing.after_key (lexing.token t ∷ ls) = placed_fits lexing.after_key t (begins_colon ls) (λ next. punctuate next ls) (suc (length ls)) (λ next. punctuated_fits next ls)
+punctuated_fits lexing.fresh (lexing.token t ∷ ls) = placed_fits lexing.fresh t (begins_colon ls) _ _ (λ next. punctuated_fits next ls)
+punctuated_fits lexing.after_value (lexing.token t ∷ ls) = placed_fits lexing.after_value t (begins_colon ls) _ _ (λ next. punctuated_fits next ls)
+punctuated_fits lexing.after_comma (lexing.token t ∷ ls) = placed_fits lexing.after_comma t (begins_colon ls) _ _ (λ next. punctuated_fits next ls)
+punctuated_fits lexing.after_key (lexing.token t ∷ ls) = placed_fits lexing.after_key t (begins_colon ls) _ _ (λ next. punctuated_fits next ls)
 punctuated_fits lexing.fresh (lexing.comma ∷ ls) = omega arith
 punctuated_fits lexing.after_value (lexing.comma ∷ ls) = omega (arith, punctuated_fits lexing.after_comma ls)
 punctuated_fits lexing.after_comma (lexing.comma ∷ ls) = omega arith
@@ -228,13 +227,13 @@ IsWithin size n None = Unit {0}
 IsWithin size n (Some a) = size a ≤ n
 
 weaker_within : {A : Type 0} (size : A → ℕ) (m n : ℕ) (o : Option A) → IsWithin size m o → m ≤ n → IsWithin size n o
-weaker_within size m n None fits le = tt
-weaker_within size m n (Some a) fits le = omega (arith, fits, le)
+weaker_within _ m n None fits le = tt
+weaker_within _ m n (Some a) fits le = omega arith
 
 mapped_within : {A B : Type 0} (small : A → ℕ) (large : B → ℕ) (f : A → B) (extra m n : ℕ) (o : Option A) → ((a : A) → large (f a) ≡ extra + small a)
     → IsWithin small m o → extra + m ≤ n → IsWithin large n (option_map f o)
-mapped_within small large f extra m n None same fits le = tt
-mapped_within small large f extra m n (Some a) same fits le = omega (arith, same a, fits, le)
+mapped_within _ _ f _ m n None same fits le = tt
+mapped_within _ _ f _ m n (Some a) same fits le = omega arith
 
 number_within : (o : Option values.Num) → IsWithin size_of 1 (option_map values.number o)
 number_within None = tt
@@ -249,40 +248,40 @@ order_within Greater n a b c x y z = z
 put_within : (k : List ℕ) (d : Data) (ms : values.Members) → size_of_members (put k d ms) ≤ size_of d + size_of_members ms
 put_within k d values.no_members = omega arith
 put_within k d (values.member l e ms) =
-    order_within (slice_cmp nat_cmp k l) (size_of d + (size_of e + size_of_members ms)) (values.member k d (values.member l e ms)) (values.member l d ms) (values.member l e (put k d ms))
+    order_within _ _ (values.member k d (values.member l e ms)) (values.member l d ms) (values.member l e (put k d ms))
     (omega arith) (omega arith) (omega (arith, put_within k d ms))
 
 item_within : (n m : ℕ) (js : Items) (o : Option Data) → IsWithin size_of n o → IsWithin size_of_items m (of_items js)
     → IsWithin size_of_items (n + m) (option_and_then (λ d. option_map (values.item d) (of_items js)) o)
-item_within n m js None within others = tt
-item_within n m js (Some d) within others = mapped_within size_of_items size_of_items (values.item d) (size_of d) m (n + m) (of_items js) (λ a. refl) others (omega (arith, within))
+item_within n m _ None within others = tt
+item_within n m _ (Some d) within others = mapped_within _ _ _ _ m _ _ (λ a. refl) others (omega arith)
 
 member_within : (n m : ℕ) (k : List ℕ) (ms : Members) (found : values.Members) (o : Option Data) → IsWithin size_of n o
     → ((more : values.Members) → IsWithin size_of_members (m + size_of_members more) (of_members ms more))
     → IsWithin size_of_members (n + m + size_of_members found) (option_and_then (λ d. of_members ms (put k d found)) o)
-member_within n m k ms found None within others = tt
+member_within n m k _ _ None within others = tt
 member_within n m k ms found (Some d) within others =
-    weaker_within size_of_members (m + size_of_members (put k d found)) (n + m + size_of_members found) (of_members ms (put k d found)) (others (put k d found))
-    (omega (arith, within, put_within k d found))
+    weaker_within _ _ _ _ (others (put k d found))
+    (omega (arith, put_within k d found))
 
 mutual
   told_within : (j : Json) → IsWithin size_of (json_size j) (of_json j)
   told_within json.null = omega arith
   told_within (json.boolean b) = omega arith
-  told_within (json.number s) = number_within (number_of s)
+  told_within (json.number s) = number_within _
   told_within (json.string s) = omega arith
-  told_within (json.array js) = mapped_within size_of_items size_of values.array 1 (items_size js) (suc (items_size js)) (of_items js) (λ a. omega arith) (items_within js) (omega arith)
-  told_within (json.object ms) = mapped_within size_of_members size_of values.object 1 (members_size ms) (suc (members_size ms)) (of_members ms values.no_members) (λ a. omega arith)
+  told_within (json.array js) = mapped_within _ _ _ 1 _ _ _ (λ a. omega arith) (items_within js) (omega arith)
+  told_within (json.object ms) = mapped_within _ _ _ 1 (members_size ms) (suc (members_size ms)) (of_members ms values.no_members) (λ a. omega arith)
       (weaker_within size_of_members (members_size ms + 0) (members_size ms) (of_members ms values.no_members) (members_within ms values.no_members) (omega arith)) (omega arith)
 
   items_within : (js : Items) → IsWithin size_of_items (items_size js) (of_items js)
   items_within json.no_items = omega arith
-  items_within (json.item j js) = item_within (json_size j) (items_size js) js (of_json j) (told_within j) (items_within js)
+  items_within (json.item j js) = item_within _ (items_size js) js _ (told_within j) (items_within js)
 
   members_within : (ms : Members) (found : values.Members) → IsWithin size_of_members (members_size ms + size_of_members found) (of_members ms found)
   members_within json.no_members found = omega arith
   members_within (json.member k j ms) found =
-      member_within (json_size j) (members_size ms) k ms found (of_json j) (told_within j) (λ more. members_within ms more)
+      member_within _ (members_size ms) k ms found _ (told_within j) (λ more. members_within ms more)
 
 -- ---- a whole text
 
@@ -292,17 +291,17 @@ last_within n j (t ∷ ts) fits = tt
 
 document_within : (n : ℕ) (o : Option (Json × List Token)) → Fits json_size n o → IsWithin json_size n (option_and_then (λ p. if_last p.0 p.1) o)
 document_within n None fits = tt
-document_within n (Some p) fits = last_within n p.0 p.1 (omega (arith, fits))
+document_within n (Some p) fits = last_within n _ _ (omega arith)
 
 read_within : (n : ℕ) (o : Option Json) → IsWithin json_size n o → IsWithin size_of n (option_and_then of_json o)
 read_within n None fits = tt
-read_within n (Some j) fits = weaker_within size_of (json_size j) n (of_json j) (told_within j) fits
+read_within n (Some j) fits = weaker_within size_of (json_size j) n _ (told_within j) fits
 
 text_within : (text : List ℕ) → IsWithin size_of (suc (length text)) (read text)
 text_within text =
-    read_within (suc (length text)) (option_and_then (λ p. if_last p.0 p.1) (value max_depth (tokens text)))
-    (document_within (suc (length text)) (value max_depth (tokens text)) (weaker_fits json_size (length (tokens text)) (suc (length text)) (value max_depth (tokens text)) (value_fits max_depth (tokens text)) (tokens_fit text)))
+    read_within _ _
+    (document_within _ _ (weaker_fits _ _ _ _ (value_fits _ (tokens text)) (tokens_fit _)))
 
 -- The value of a text has one value more than the text has bytes, at most.
 pub reads_few : (text : List ℕ) (v : Data) → read text ≡ Some v → size_of v ≤ suc (length text)
-reads_few text v is = subst (IsWithin size_of (suc (length text))) is (text_within text)
+reads_few text v is = subst (IsWithin size_of (suc (length text))) is (text_within _)

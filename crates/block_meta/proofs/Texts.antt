@@ -1,6 +1,6 @@
 -- The value of a text, by what the readers of text and of JSON say of it.
 use Rattle.std.proofs.Common.{◌≡◌, ℕ, List, Bool, true, false, Some, None, Ok, Err, cond, ◌≤◌, arith, refl, sym, ap, ◌∙◌}
-use Rattle.std.specs.Str.{IsUtf8, is_utf8}
+use Rattle.std.specs.Str.{IsUtf8}
 use Rattle.std.proofs.lemmas.Str.{IsUtf8-from_is_utf8, is_utf8-from_IsUtf8}
 use Rattle.serde_json.specs.Data.{Data, depth}
 use Rattle.serde_json.specs.Read.{read}
@@ -14,11 +14,11 @@ use Rattle.block_meta.proofs.Plain.{meta_plain, meta_flat, meta_is_object, mark_
 
 pub json_read : (text : List ℕ) (value : Data) → IsUtf8 text → read text ≡ Some value → json_of text ≡ Ok value
 unfolding json_of
-json_read text value utf8 e = rw (is_utf8-from_IsUtf8 text utf8, e) refl
+json_read _ _ utf8 e = rw (is_utf8-from_IsUtf8, e) refl
 
 pub json_refused : (text : List ℕ) → IsUtf8 text → read text ≡ None → json_of text ≡ Err NotJson
 unfolding json_of
-json_refused text utf8 e = rw (is_utf8-from_IsUtf8 text utf8, e) refl
+json_refused _ utf8 e = rw (is_utf8-from_IsUtf8, e) refl
 
 no_text : (b : Bool) (r : Read Data) → ¬ (b ≡ true) → cond b r (Err NotJson) ≡ Err NotJson
 no_text true r h = absurd (h refl)
@@ -26,28 +26,28 @@ no_text false r h = refl
 
 pub json_not_text : (text : List ℕ) → ¬ (IsUtf8 text) → json_of text ≡ Err NotJson
 unfolding json_of
-json_not_text text h = no_text (is_utf8 text) _ (λ e. h (IsUtf8-from_is_utf8 text e))
+json_not_text _ h = no_text _ _ (λ e. h (IsUtf8-from_is_utf8 _ e))
 
 -- ---- what was written
 
 pub meta_written : (bytes : List ℕ) (value : Data) (m : MetaFields) → value ≡ meta_value m → (has_float value ≡ false → bytes ≡ compact_text value) → bytes ≡ meta_text m
 unfolding meta_text
-meta_written bytes value m is text = text (ap has_float is ∙ meta_plain m) ∙ ap compact_text is
+meta_written _ _ m is text = text (ap has_float is ∙ meta_plain m) ∙ ap compact_text is
 
 pub meta_reads : (bytes : List ℕ) (value : Data) (m : MetaFields) → value ≡ meta_value m → bytes ≡ meta_text m → IsUtf8 bytes → (depth value ≤ 127 → read bytes ≡ Some value) → meta_of (meta_value m) ≡ Ok m → meta_of_text (meta_text m) ≡ Ok m
 unfolding meta_of_text object_of
-meta_reads bytes value m is text utf8 reads again =
+meta_reads _ value m is text utf8 reads again =
     let shallow : depth value ≤ 127 = omega (arith, ap depth is, meta_flat m) in
-    let json : json_of (meta_text m) ≡ Ok (meta_value m) = ap json_of (sym text) ∙ json_read bytes value utf8 (reads shallow) ∙ ap (λ (d : Data). Ok d) is in
-    rw (json, meta_is_object m) again
+    let json : json_of (meta_text m) ≡ Ok (meta_value m) = ap json_of (sym text) ∙ json_read _ _ utf8 (reads shallow) ∙ ap (λ d. Ok d) is in
+    rw (json, meta_is_object) again
 
 pub mark_written : (bytes : List ℕ) (value : Data) (m : MarkFields) → value ≡ mark_value m → (has_float value ≡ false → bytes ≡ compact_text value) → bytes ≡ mark_text m
 unfolding mark_text
-mark_written bytes value m is text = text (ap has_float is ∙ mark_plain m) ∙ ap compact_text is
+mark_written _ _ m is text = text (ap has_float is ∙ mark_plain m) ∙ ap compact_text is
 
 pub mark_reads : (bytes : List ℕ) (value : Data) (m : MarkFields) → value ≡ mark_value m → bytes ≡ mark_text m → IsUtf8 bytes → (depth value ≤ 127 → read bytes ≡ Some value) → mark_of (mark_value m) ≡ Ok m → mark_of_text (mark_text m) ≡ Ok m
 unfolding mark_of_text object_of
-mark_reads bytes value m is text utf8 reads again =
+mark_reads _ value m is text utf8 reads again =
     let shallow : depth value ≤ 127 = omega (arith, ap depth is, mark_flat m) in
-    let json : json_of (mark_text m) ≡ Ok (mark_value m) = ap json_of (sym text) ∙ json_read bytes value utf8 (reads shallow) ∙ ap (λ (d : Data). Ok d) is in
-    rw (json, mark_is_object m) again
+    let json : json_of (mark_text m) ≡ Ok (mark_value m) = ap json_of (sym text) ∙ json_read _ _ utf8 (reads shallow) ∙ ap (λ d. Ok d) is in
+    rw (json, mark_is_object) again

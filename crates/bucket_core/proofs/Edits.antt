@@ -21,8 +21,8 @@ not_before_itself key = ap is_lt (tied_itself key_total key)
 -- what comes before a key is not under it
 pub before_differs : (o : Stored) (key : List ℕ) → is_before key o ≡ true → bytes_eq o.key key ≡ false
 before_differs o key before =
-    false_from_ne_true (bytes_eq o.key key) (λ same.
-    let e : is_lt (key_cmp o.key key) ≡ false = ap (λ k. is_lt (key_cmp o.key k)) (sym (bytes_eq-same o.key key same)) ∙ not_before_itself o.key in
+    false_from_ne_true _ (λ same.
+    let e = ap (λ k. is_lt (key_cmp o.key k)) (sym (bytes_eq-same _ key same)) ∙ not_before_itself o.key in
     cc)
 
 greater_from : (o : Ordering) → is_lt o ≡ false → (o ≡ Equal → ⊥) → is_lt (ordering_reverse o) ≡ true
@@ -34,7 +34,7 @@ greater_from Greater lt ne = refl
 pub comes_after : (o : Stored) (key : List ℕ) → is_before key o ≡ false → bytes_eq o.key key ≡ false → is_lt (key_cmp key o.key) ≡ true
 comes_after o key before differs =
     ap is_lt (key_total.antisymm key o.key)
-    ∙ greater_from (key_cmp o.key key) before (λ equal. let e : bytes_eq o.key key ≡ true = (bytes_eq-Decides o.key key).1 (keys_equal o.key key equal) in cc)
+    ∙ greater_from _ before (λ equal. let e : bytes_eq o.key key ≡ true = (bytes_eq-Decides o.key key).1 (keys_equal _ _ equal) in cc)
 
 swap_tests : {A : Type 0} (a b : Bool) (x y z : A) → (a ≡ true → b ≡ true → ⊥) → cond a x (cond b y z) ≡ cond b y (cond a x z)
 swap_tests true true x y z apart = absurd (apart refl refl)
@@ -48,34 +48,34 @@ pub updated_behind : (key : List ℕ) (w : Option (List ℕ)) (front back back' 
     → object_in (front ++ back') q ≡ updated key w (object_in (front ++ back)) q
 updated_behind key w [] back back' q all same = same
 updated_behind key w (o ∷ front) back back' q all same =
-    ap (λ r. cond (bytes_eq o.key q) (Some o.bytes) r) (updated_behind key w front back back' q all.1 same)
-    ∙ swap_tests (bytes_eq o.key q) (bytes_eq key q) (Some o.bytes) w (object_in (front ++ back) q)
+    ap (λ r. cond (bytes_eq o.key q) (Some o.bytes) r) (updated_behind key w front back _ q all.1 same)
+    ∙ swap_tests _ _ _ w _
     (λ oq kq.
-    let e : bytes_eq o.key key ≡ true = (bytes_eq-Decides o.key key).1 (bytes_eq-same o.key q oq ∙ sym (bytes_eq-same key q kq)) in
-    let d : bytes_eq o.key key ≡ false = before_differs o key all.0 in
+    let e : bytes_eq o.key key ≡ true = (bytes_eq-Decides _ _).1 (bytes_eq-same o.key q oq ∙ sym (bytes_eq-same _ q kq)) in
+    let d : bytes_eq o.key key ≡ false = before_differs o _ all.0 in
     cc)
 
 -- a front of other keys is passed over
 pub found_behind : (key : List ℕ) (front back : List Stored) → AllByRecursion (λ o. is_before key o ≡ true) front
     → object_in (front ++ back) key ≡ object_in back key
-found_behind key [] back all = refl
+found_behind _ [] _ all = refl
 found_behind key (o ∷ front) back all =
-    let differs : bytes_eq o.key key ≡ false = before_differs o key all.0 in
-    ap (λ b. cond b (Some o.bytes) (object_in (front ++ back) key)) differs ∙ found_behind key front back all.1
+    let differs = before_differs o _ all.0 in
+    ap (λ b. cond b (Some o.bytes) (object_in (front ++ back) key)) differs ∙ found_behind key front _ all.1
 
 all_since : {X : Type 0} (p q : X → Bool) (xs : List X) → ((x : X) → p x ≡ true → q x ≡ true) → list_all p xs ≡ true → list_all q xs ≡ true
 all_since p q [] since all = refl
 all_since p q (x ∷ xs) since all =
-    let parts : _ = and_parts (p x) (list_all p xs) all in
-    and_from (q x) (list_all q xs) (since x parts.0) (all_since p q xs since parts.1)
+    let parts = and_parts (p x) (list_all p xs) all in
+    and_from _ _ (since x parts.0) (all_since p q xs since parts.1)
 
 -- nothing stands under a key that comes before all
 none_before : (key : List ℕ) (os : List Stored) → list_all (λ o. is_lt (key_cmp key o.key)) os ≡ true → object_in os key ≡ None
-none_before key [] all = refl
+none_before _ [] all = refl
 none_before key (o ∷ os) all =
-    let parts : _ = and_parts (is_lt (key_cmp key o.key)) (list_all (λ o'. is_lt (key_cmp key o'.key)) os) all in
-    let differs : bytes_eq o.key key ≡ false = false_from_ne_true (bytes_eq o.key key) (λ same.
-    let e : is_lt (key_cmp key o.key) ≡ false = ap (λ k. is_lt (key_cmp key k)) (bytes_eq-same o.key key same) ∙ not_before_itself key in
+    let parts = and_parts (is_lt (key_cmp key o.key)) (list_all (λ o'. is_lt (key_cmp key o'.key)) os) all in
+    let differs = false_from_ne_true _ (λ same.
+    let e = ap (λ k. is_lt (key_cmp key k)) (bytes_eq-same o.key key same) ∙ not_before_itself key in
     let t : is_lt (key_cmp key o.key) ≡ true = parts.0 in
     cc) in
     ap (λ b. cond b (Some o.bytes) (object_in os key)) differs ∙ none_before key os parts.1
@@ -84,7 +84,7 @@ none_before key (o ∷ os) all =
 pub after_all : (key : List ℕ) (o : Stored) (os : List Stored) → in_order (o ∷ os) ≡ true → is_lt (key_cmp key o.key) ≡ true
     → list_all (λ l. is_lt (key_cmp key l.key)) os ≡ true
 after_all key o os ordered lt =
-    all_since (λ l. is_before l.key o) (λ l. is_lt (key_cmp key l.key)) os
+    all_since _ _ os
     (λ l before. ap is_lt (key_total.trans key o.key l.key (Less-from_is_lt _ lt) (Less-from_is_lt _ before)))
     (and_parts (list_all (λ later. is_before later.key o) os) (in_order os) ordered).0
 
@@ -100,35 +100,35 @@ pub nothing_here : (key : List ℕ) (o : Stored) (os : List Stored) → in_order
     → bytes_eq o.key key ≡ false → object_in (o ∷ os) key ≡ None
 nothing_here key o os ordered before differs =
     ap (λ b. cond b (Some o.bytes) (object_in os key)) differs
-    ∙ none_before key os (after_all key o os ordered (comes_after o key before differs))
+    ∙ none_before key _ (after_all key o _ ordered (comes_after o _ before differs))
 
 pub in_order-drop : (n : ℕ) (os : List Stored) → in_order os ≡ true → in_order (drop n os) ≡ true
 in_order-drop zero [] ordered = refl
 in_order-drop zero (o ∷ os) ordered = ordered
 in_order-drop (suc n) [] ordered = refl
 in_order-drop (suc n) (o ∷ os) ordered =
-    in_order-drop n os (and_parts (list_all (λ later. is_before later.key o) os) (in_order os) ordered).1
+    in_order-drop n _ (and_parts (list_all (λ later. is_before later.key o) os) (in_order os) ordered).1
 
 -- a back that fits behind every object before the key keeps the order
 pub order_behind : (key : List ℕ) (front back back' : List Stored) → in_order (front ++ back) ≡ true → in_order back' ≡ true
     → ((f : Stored) → is_before key f ≡ true → list_all (λ l. is_before l.key f) back ≡ true → list_all (λ l. is_before l.key f) back' ≡ true)
     → AllByRecursion (λ o. is_before key o ≡ true) front → in_order (front ++ back') ≡ true
-order_behind key [] back back' ordered there fits all = there
+order_behind _ [] _ _ ordered there fits all = there
 order_behind key (f ∷ front) back back' ordered there fits all =
-    let parts : _ = and_parts (list_all (λ later. is_before later.key f) (front ++ back)) (in_order (front ++ back)) ordered in
-    let split : _ = and_parts (list_all (λ later. is_before later.key f) front) (list_all (λ later. is_before later.key f) back) (sym (list_all-append (λ later. is_before later.key f) front back) ∙ parts.0) in
+    let parts = and_parts (list_all (λ later. is_before later.key f) (front ++ back)) (in_order (front ++ back)) ordered in
+    let split = and_parts (list_all (λ later. is_before later.key f) front) (list_all (λ later. is_before later.key f) back) (sym (list_all-append (λ later. is_before later.key f) front back) ∙ parts.0) in
     let joined : list_all (λ later. is_before later.key f) (front ++ back') ≡ true =
-    list_all-append (λ later. is_before later.key f) front back'
-    ∙ and_from (list_all (λ later. is_before later.key f) front) (list_all (λ later. is_before later.key f) back') split.0 (fits f all.0 split.1) in
-    and_from (list_all (λ later. is_before later.key f) (front ++ back')) (in_order (front ++ back')) joined
-    (order_behind key front back back' parts.1 there fits all.1)
+    list_all-append (λ later. is_before later.key f) front _
+    ∙ and_from _ _ split.0 (fits f all.0 split.1) in
+    and_from _ (in_order (front ++ back')) joined
+    (order_behind key front _ _ parts.1 there fits all.1)
 
 -- a back with keys behind a front with keys
 pub keys_behind : (front back back' : List Stored) → have_keys (front ++ back) ≡ true → (have_keys back ≡ true → have_keys back' ≡ true)
     → have_keys (front ++ back') ≡ true
-keys_behind front back back' keys there =
-    let split : _ = and_parts (have_keys front) (have_keys back) (sym (list_all-append (λ o. is_key o.key) front back) ∙ keys) in
-    list_all-append (λ o. is_key o.key) front back' ∙ and_from (have_keys front) (have_keys back') split.0 (there split.1)
+keys_behind front back _ keys there =
+    let split = and_parts (have_keys front) (have_keys back) (sym (list_all-append (λ o. is_key o.key) front _) ∙ keys) in
+    list_all-append (λ o. is_key o.key) front _ ∙ and_from _ _ split.0 (there split.1)
 
 cond_within : {A : Type 0} (b : Bool) (x y z : A) → cond b x z ≡ cond b x (cond b y z)
 cond_within true x y z = refl
@@ -140,8 +140,8 @@ pub replaced_behind : (key : List ℕ) (front : List Stored) (o v : Stored) (os 
     → AllByRecursion (λ f. is_before key f ≡ true) front → o.key ≡ key → v.key ≡ key
     → IsUpdated key (Some v.bytes) (front ++ o ∷ os) (front ++ v ∷ os)
 replaced_behind key front o v os ordered keys there all ok vk =
-    let parts : _ = and_parts (list_all (λ l. is_before l.key o) os) (in_order os) there in
-    let same : o.key ≡ v.key = ok ∙ sym vk in
+    let parts = and_parts (list_all (λ l. is_before l.key o) os) (in_order os) there in
+    let same = ok ∙ sym vk in
     record {
       ordered = order_behind key front (o ∷ os) (v ∷ os) ordered
           (and_from (list_all (λ l. is_before l.key v) os) (in_order os)
@@ -160,7 +160,7 @@ pub inserted_behind : (v : Stored) (front back : List Stored)
     → AllByRecursion (λ f. is_before v.key f ≡ true) front → list_all (λ l. is_before l.key v) back ≡ true
     → IsUpdated v.key (Some v.bytes) (front ++ back) (front ++ v ∷ back)
 inserted_behind v front back ordered keys there key all after = record {
-  ordered = order_behind v.key front back (v ∷ back) ordered (and_from (list_all (λ l. is_before l.key v) back) (in_order back) after there)
+  ordered = order_behind v.key _ _ _ ordered (and_from _ _ after there)
       (λ f before fits. and_from (is_before v.key f) (list_all (λ l. is_before l.key f) back) before fits) all;
   keys = keys_behind front back (v ∷ back) keys (λ k. and_from (is_key v.key) (have_keys back) key k);
   stands = λ i q. updated_behind v.key (Some v.bytes) front back (v ∷ back) q all refl i;
@@ -170,9 +170,9 @@ removed_head : (key : List ℕ) (o : Stored) (os : List Stored) (q : List ℕ) �
     → object_in os q ≡ updated key None (object_in (o ∷ os)) q
 removed_head key o os q there ok =
     elim (cases_Bool (bytes_eq key q)) [
-      | inl same ↦ (let none : object_in os q ≡ None = alone q o os there (ok ∙ bytes_eq-same key q same) in
+      | inl same ↦ (let none = alone q o _ there (ok ∙ bytes_eq-same _ q same) in
           none ∙ ap (λ b. cond b None (object_in (o ∷ os) q)) (sym same))
-      | inr differs ↦ (let d : bytes_eq o.key q ≡ false = ap (λ k. bytes_eq k q) ok ∙ differs in
+      | inr differs ↦ (let d = ap (λ k. bytes_eq k q) ok ∙ differs in
           ap (λ b. cond b (Some o.bytes) (object_in os q)) (sym d) ∙ ap (λ b. cond b None (object_in (o ∷ os) q)) (sym differs))
     ]
 
@@ -182,7 +182,7 @@ pub removed_behind : (key : List ℕ) (front : List Stored) (o : Stored) (os : L
     → AllByRecursion (λ f. is_before key f ≡ true) front → o.key ≡ key
     → IsUpdated key None (front ++ o ∷ os) (front ++ os)
 removed_behind key front o os ordered keys there all ok =
-    let parts : _ = and_parts (list_all (λ l. is_before l.key o) os) (in_order os) there in
+    let parts = and_parts (list_all (λ l. is_before l.key o) os) (in_order os) there in
     record {
       ordered = order_behind key front (o ∷ os) os ordered parts.1
           (λ f before fits. (and_parts (is_before o.key f) (list_all (λ l. is_before l.key f) os) fits).1) all;

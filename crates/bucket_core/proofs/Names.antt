@@ -12,20 +12,20 @@ eq_self n = eq-eqb n n refl
 
 -- what follows a text is found
 pub text_after-append : (p rest : List ℕ) → text_after p (p ++ rest) ≡ Some rest
-text_after-append [] rest = refl
-text_after-append (b ∷ p) rest = ap (λ t. cond t (text_after p (p ++ rest)) None) (eq_self b) ∙ text_after-append p rest
+text_after-append [] _ = refl
+text_after-append (b ∷ p) rest = ap (λ t. cond t (text_after p (p ++ rest)) None) (eq_self b) ∙ text_after-append p _
 
 -- and what is found follows it
 pub append-text_after : (p text rest : List ℕ) → text_after p text ≡ Some rest → text ≡ p ++ rest
-append-text_after [] text rest e = cc
-append-text_after (b ∷ p) [] rest e = cc
+append-text_after [] _ _ e = cc
+append-text_after (b ∷ p) [] _ e = cc
 append-text_after (b ∷ p) (f ∷ text) rest e =
-    elim (cases_Bool (b == f)) [
-      | inl same ↦ (let e' : text_after p text ≡ Some rest = sym (ap (λ t. cond t (text_after p text) None) same) ∙ e in
-          let h = append-text_after p text rest e' in
-          let bf : b ≡ f = eqb-true b f same in
+    elim (cases_Bool _) [
+      | inl same ↦ (let e' = sym (ap (λ t. cond t (text_after p text) None) same) ∙ e in
+          let h = append-text_after p _ _ e' in
+          let bf = eqb-true b f same in
           ap (λ r. f ∷ r) h ∙ ap (λ x. x ∷ (p ++ rest)) (sym bf))
-      | inr differs ↦ (let e' : None ≡ Some rest = sym (ap (λ t. cond t (text_after p text) None) differs) ∙ e in cc)
+      | inr differs ↦ (let e' = sym (ap (λ t. cond t (text_after p text) None) differs) ∙ e in cc)
     ]
 
 none_if : {A : Type 0} (o : Option A) → ((x : A) → o ≡ Some x → ⊥) → None ≡ o
@@ -35,16 +35,16 @@ none_if (Some x) never = absurd (never x refl)
 -- an answer that tells what follows the text, or that nothing does
 pub text_after_is : (p text : List ℕ) (r : Option (Bor (List ℕ))) → MatchOption r ((rest : List ℕ) → text ≡ p ++ rest → ⊥) (λ x. text ≡ p ++ x.now)
     → option_map (λ x. x.now) r ≡ text_after p text
-text_after_is p text None none = none_if (text_after p text) (λ rest e. none rest (append-text_after p text rest e))
-text_after_is p text (Some x) is = sym (ap (text_after p) is ∙ text_after-append p x.now)
+text_after_is p _ None none = none_if _ (λ rest e. none rest (append-text_after p _ _ e))
+text_after_is p _ (Some x) is = sym (ap (text_after p) is ∙ text_after-append p _)
 
 -- a text in two parts
 pub text_after-both : (p q text : List ℕ) → text_after (p ++ q) text ≡ option_and_then (text_after q) (text_after p text)
-text_after-both [] q text = refl
+text_after-both [] q _ = refl
 text_after-both (b ∷ p) q [] = refl
 text_after-both (b ∷ p) q (f ∷ text) =
-    elim (cases_Bool (b == f)) [
-      | inl same ↦ ap (λ t. cond t (text_after (p ++ q) text) None) same ∙ text_after-both p q text
+    elim (cases_Bool _) [
+      | inl same ↦ ap (λ t. cond t (text_after (p ++ q) text) None) same ∙ text_after-both p q _
           ∙ ap (λ t. option_and_then (text_after q) (cond t (text_after p text) None)) (sym same)
       | inr differs ↦ ap (λ t. cond t (text_after (p ++ q) text) None) differs
           ∙ ap (λ t. option_and_then (text_after q) (cond t (text_after p text) None)) (sym differs)
@@ -58,8 +58,8 @@ drop_none (b ∷ text) = refl
 pub stripped : (p text : List ℕ) (r : Option (Bor (List ℕ)))
     → MatchOption r (LacksTextAt p text 0) (λ x. (n : ℕ) × FindsTextPrefix p text (Some n) × (x.now ≡ drop n text) × (length x.now + n ≡ length text))
     → option_map (λ x. x.now) r ≡ text_after p text
-stripped p text None lacks = text_after_is p text None (λ rest e. lacks rest (drop_none text ∙ e))
-stripped p text (Some x) found = text_after_is p text (Some x) (found.1.1 ∙ ap (λ r. p ++ r) (sym found.2))
+stripped p _ None lacks = text_after_is p _ None (λ rest e. lacks rest (drop_none _ ∙ e))
+stripped p _ (Some x) found = text_after_is p _ (Some x) (found.1.1 ∙ ap (λ r. p ++ r) (sym found.2))
 
 -- the clause of `strip_prefix` at a slash
 pub stripped_slash : (text : List ℕ) (r : Option (Bor (List ℕ))) → MatchOption r ((rest : List ℕ) → text ≢ 47 ∷ rest) (λ x. text ≡ 47 ∷ x.now)

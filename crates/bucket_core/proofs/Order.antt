@@ -1,7 +1,7 @@
 -- The order of keys and that of their names.
 use Rattle.std.proofs.Common.{◌≡◌, ◌⊎◌, ℕ, ◌<◌, ◌+◌, suc, Bool, true, false, not, cond, List, [], ◌∷◌, ◌++◌, take, refl, sym, ◌∙◌, ap, inl, inr, arith, Some, append_assoc}
 use Rattle.std.specs.Prelude.{◌==◌}
-use Rattle.std.specs.List.{before_first, prefix_len}
+use Rattle.std.specs.List.{before_first}
 use Rattle.std.specs.Ordering.{nat_cmp, is_lt, ordering_reverse, ordering_then, MatchOrdering}
 use Rattle.std.specs.Cmp.Lexicographic.{slice_cmp}
 use Rattle.std.specs.declared.cmp.Ordering.{Ordering}
@@ -20,11 +20,11 @@ front_same (x ∷ p) a b =
     ap (λ o. ordering_then o (slice_cmp nat_cmp (p ++ a) (p ++ b))) (tied_itself nat_cmp_total x) ∙ front_same p a b
 
 take_cons : {X : Type 0} (b : Bool) (n : ℕ) (x : X) (xs : List X) → take (cond (not b) (1 + n) 0) (x ∷ xs) ≡ cond b [] (x ∷ take n xs)
-take_cons true n x xs = refl
+take_cons true n x _ = refl
 take_cons false n x xs = let one : 1 + n ≡ suc n = omega arith in ap (λ k. take k (x ∷ xs)) one
 
 before_first-cons : {X : Type 0} (q : X → Bool) (x : X) (xs : List X) → before_first q (x ∷ xs) ≡ cond (q x) [] (x ∷ before_first q xs)
-before_first-cons q x xs = take_cons (q x) (prefix_len (λ y. not (q y)) xs) x xs
+before_first-cons q x _ = take_cons _ _ x _
 
 -- what follows a folder's slash does not count for the first part
 pub first_part-folder : (w a b : List ℕ) → first_part (w ++ 47 ∷ a) ≡ first_part (w ++ 47 ∷ b)
@@ -80,14 +80,14 @@ pub folder_cmp : (w a b : List ℕ) → key_cmp (w ++ 47 ∷ a) (w ++ 47 ∷ b) 
 folder_cmp w a b =
     ap (λ f. ordering_then (slice_cmp nat_cmp f (first_part (w ++ 47 ∷ b))) (slice_cmp nat_cmp (w ++ 47 ∷ a) (w ++ 47 ∷ b))) (first_part-folder w a b)
     ∙ ap (λ o. ordering_then o (slice_cmp nat_cmp (w ++ 47 ∷ a) (w ++ 47 ∷ b))) (tied_itself nat_list_cmp_total (first_part (w ++ 47 ∷ b)))
-    ∙ front_same w (47 ∷ a) (47 ∷ b)
+    ∙ front_same w (47 ∷ a) _
 
 -- the key of a name in a folder
 pub folder_key : (w key name : List ℕ) → text_after (w ++ 47 ∷ []) key ≡ Some name → key ≡ w ++ 47 ∷ name
-folder_key w key name e = append-text_after (w ++ 47 ∷ []) key name e ∙ append_assoc w (47 ∷ []) name
+folder_key w _ name e = append-text_after _ _ _ e ∙ append_assoc w (47 ∷ []) name
 
 pub folder_name : (w name : List ℕ) → text_after (w ++ 47 ∷ []) (w ++ 47 ∷ name) ≡ Some name
-folder_name w name = ap (text_after (w ++ 47 ∷ [])) (sym (append_assoc w (47 ∷ []) name)) ∙ text_after-append (w ++ 47 ∷ []) name
+folder_name w name = ap (text_after (w ++ 47 ∷ [])) (sym (append_assoc w (47 ∷ []) name)) ∙ text_after-append (w ++ 47 ∷ []) _
 
 -- the names of keys in order do not fall
 pub names_rise : (within a b n m : List ℕ) → key_cmp a b ≡ Less → name_of within a ≡ Some n → name_of within b ≡ Some m → is_below m n ≡ false
@@ -96,8 +96,8 @@ names_rise [] a b n m e an bm =
     let mb : first_part b ≡ m = cc in
     ap (λ k. is_below k n) (sym mb) ∙ ap (is_below (first_part b)) (sym na) ∙ first_rises a b e
 names_rise (x ∷ w) a b n m e an bm =
-    let ka : a ≡ (x ∷ w) ++ 47 ∷ n = folder_key (x ∷ w) a n an in
-    let kb : b ≡ (x ∷ w) ++ 47 ∷ m = folder_key (x ∷ w) b m bm in
+    let ka = folder_key (x ∷ w) a n an in
+    let kb = folder_key (x ∷ w) b m bm in
     not_below n m (inr (sym (folder_cmp (x ∷ w) n m) ∙ ap (λ k. key_cmp k ((x ∷ w) ++ 47 ∷ m)) (sym ka) ∙ ap (key_cmp a) (sym kb) ∙ e))
 
 equal_numbers : (o : Ordering) (x y : ℕ) → MatchOrdering o (x < y) (x ≡ y) (y < x) → o ≡ Equal → x ≡ y
@@ -116,20 +116,20 @@ text_between : (p a b c : List ℕ) → is_lt (slice_cmp nat_cmp b (p ++ a)) ≡
 text_between [] a b c low high = (b, refl)
 text_between (x ∷ p) a [] c low high = cc
 text_between (x ∷ p) a (k ∷ b) c low high =
-    let parts : _ = decided (nat_cmp k x) (slice_cmp nat_cmp b (p ++ a)) (slice_cmp nat_cmp b (p ++ c)) low high in
-    let same : k ≡ x = equal_numbers (nat_cmp k x) k x (ranked k x (nat_cmp k x) refl) parts.0 in
-    let rest : (y : List ℕ) × (b ≡ p ++ y) = text_between p a b c parts.1 parts.2 in
+    let parts = decided _ _ _ low high in
+    let same = equal_numbers _ k x (ranked k x (nat_cmp k x) refl) parts.0 in
+    let rest = text_between p a b c parts.1 parts.2 in
     (rest.0, ap (λ h. h ∷ b) same ∙ ap (λ t. x ∷ t) rest.1)
 
 -- a key between two of one folder is of this folder
 pub key_between : (w a key z : List ℕ) → is_lt (key_cmp key (w ++ 47 ∷ a)) ≡ false → key_cmp key (w ++ 47 ∷ z) ≡ Less
     → (name : List ℕ) × (text_after (w ++ 47 ∷ []) key ≡ Some name)
 key_between w a key z low high =
-    let high' : ordering_then (slice_cmp nat_cmp (first_part key) (first_part (w ++ 47 ∷ a))) (slice_cmp nat_cmp key (w ++ 47 ∷ z)) ≡ Less =
+    let high' =
     ap (λ f. ordering_then (slice_cmp nat_cmp (first_part key) f) (slice_cmp nat_cmp key (w ++ 47 ∷ z))) (first_part-folder w a z) ∙ high in
-    let parts : _ = decided (slice_cmp nat_cmp (first_part key) (first_part (w ++ 47 ∷ a))) (slice_cmp nat_cmp key (w ++ 47 ∷ a)) (slice_cmp nat_cmp key (w ++ 47 ∷ z)) low high' in
-    let found : (y : List ℕ) × (key ≡ (w ++ 47 ∷ []) ++ y) =
-    text_between (w ++ 47 ∷ []) a key z
+    let parts = decided _ _ _ low high' in
+    let found =
+    text_between _ a _ z
     (ap (λ t. is_lt (slice_cmp nat_cmp key t)) (append_assoc w (47 ∷ []) a) ∙ parts.1)
     (ap (slice_cmp nat_cmp key) (append_assoc w (47 ∷ []) z) ∙ parts.2) in
-    (found.0, ap (text_after (w ++ 47 ∷ [])) found.1 ∙ text_after-append (w ++ 47 ∷ []) found.0)
+    (found.0, ap (text_after (w ++ 47 ∷ [])) found.1 ∙ text_after-append (w ++ 47 ∷ []) _)

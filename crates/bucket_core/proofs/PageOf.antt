@@ -4,8 +4,7 @@ use Rattle.std.proofs.lemmas.List.Elements.{All-from_recursion}
 use Rattle.std.specs.Prelude.{◌==◌, IsSome, is_some}
 use Rattle.std.specs.List.{list_all, AllByRecursion}
 use Rattle.std.specs.Option.{option_map_or}
-use Rattle.std.specs.Ordering.{nat_cmp, is_lt}
-use Rattle.std.specs.Cmp.Lexicographic.{slice_cmp}
+use Rattle.std.specs.Ordering.{is_lt}
 use Rattle.std.specs.Str.{bytes_eq}
 use Rattle.std.specs.declared.cmp.Ordering.TheVariants.{Less}
 use Rattle.std.proofs.lemmas.Bool.{cases_Bool, and_parts, eqb-true}
@@ -21,11 +20,11 @@ use Rattle.bucket_core.proofs.Picks.{Among, contains_among, at_among, Rises, pic
 
 -- what stands, stands for a member
 pub stands_for : (os : List Stored) (key : List ℕ) → IsSome (object_in os key) → (p : Stored) × Among p os × (p.key ≡ key)
-stands_for [] key some = cc
+stands_for [] _ some = cc
 stands_for (o ∷ os) key some =
-    elim (cases_Bool (bytes_eq o.key key)) [
-      | inl same ↦ (o, inl refl, bytes_eq-same o.key key same)
-      | inr differs ↦ (let below : _ = stands_for os key (sym (ap (λ b. is_some (cond b (Some o.bytes) (object_in os key))) differs) ∙ some) in
+    elim (cases_Bool _) [
+      | inl same ↦ (o, inl refl, bytes_eq-same _ _ same)
+      | inr differs ↦ (let below : _ = stands_for os _ (sym (ap (λ b. is_some (cond b (Some o.bytes) (object_in os key))) differs) ∙ some) in
           (below.0, inr below.1, below.2))
     ]
 
@@ -35,16 +34,16 @@ member_stands [] p among = absurd among
 member_stands (o ∷ os) p (inl same) =
     ap (λ b. is_some (cond b (Some o.bytes) (object_in os p.key))) (ap (λ k. bytes_eq o.key k.key) (sym same) ∙ bytes_eq-itself o.key)
 member_stands (o ∷ os) p (inr among) =
-    elim (cases_Bool (bytes_eq o.key p.key)) [
+    elim (cases_Bool _) [
       | inl same ↦ ap (λ b. is_some (cond b (Some o.bytes) (object_in os p.key))) same
       | inr differs ↦ ap (λ b. is_some (cond b (Some o.bytes) (object_in os p.key))) differs ∙ member_stands os p among
     ]
 
 pub among_front : {X : Type 0} (x : X) (xs ys : List X) → Among x (xs ++ ys) → Among x xs ⊎ Among x ys
-among_front x [] ys among = inr among
-among_front x (y ∷ xs) ys (inl same) = inl (inl same)
-among_front x (y ∷ xs) ys (inr among) =
-    elim (among_front x xs ys among) [
+among_front x [] _ among = inr among
+among_front x (y ∷ xs) _ (inl same) = inl (inl same)
+among_front x (y ∷ xs) _ (inr among) =
+    elim (among_front x xs _ among) [
       | inl front ↦ inl (inr front)
       | inr back ↦ inr back
     ]
@@ -53,16 +52,16 @@ among_drop : {X : Type 0} (x : X) (n : ℕ) (xs : List X) → Among x (drop n xs
 among_drop x zero [] among = among
 among_drop x zero (y ∷ xs) among = among
 among_drop x (suc n) [] among = among
-among_drop x (suc n) (y ∷ xs) among = inr (among_drop x n xs among)
+among_drop x (suc n) (y ∷ xs) among = inr (among_drop x n _ among)
 
 -- a name as the definition of listings has it
 lists_of : (within key name : List ℕ) → name_of within key ≡ Some name → Lists within key name
-lists_of [] key name e = cc
-lists_of (b ∷ w) key name e = folder_key (b ∷ w) key name e
+lists_of [] _ _ e = cc
+lists_of (b ∷ w) _ _ e = folder_key (b ∷ w) _ _ e
 
 name_from : (within key name : List ℕ) → Lists within key name → name_of within key ≡ Some name
-name_from [] key name lists = ap (λ n. Some n) (sym lists)
-name_from (b ∷ w) key name lists = ap (text_after ((b ∷ w) ++ 47 ∷ [])) lists ∙ folder_name (b ∷ w) name
+name_from [] key _ lists = ap (λ n. Some n) (sym lists)
+name_from (b ∷ w) _ _ lists = ap (text_after ((b ∷ w) ++ 47 ∷ [])) lists ∙ folder_name (b ∷ w) _
 
 -- the names of a run of objects, by whether the first has one
 by_names : (P : List (List ℕ) → Type 0) (within : List ℕ) (o : Stored) (os : List Stored) → (name_of within o.key ≡ None → P [])
@@ -74,24 +73,24 @@ by_names P within o os none some =
 
 names_stand : (within : List ℕ) (contents : Contents) (os : List Stored) → ((o : Stored) → Among o os → IsSome (contents o.key))
     → AllByRecursion (IsName contents within) (names_of within os)
-names_stand within contents [] stand = tt
+names_stand _ _ [] stand = tt
 names_stand within contents (o ∷ os) stand =
     by_names (AllByRecursion (IsName contents within)) within o os (λ none. tt)
     (λ n some. ((o.key, stand o (inl refl), lists_of within o.key n some), names_stand within contents os (λ p among. stand p (inr among))))
 
 later_names : (within : List ℕ) (o : Stored) (n : List ℕ) (os : List Stored) → name_of within o.key ≡ Some n
     → list_all (λ l. is_before l.key o) os ≡ true → AllByRecursion (λ m. is_below m n ≡ false) (names_of within os)
-later_names within o n [] named all = tt
+later_names _ o n [] named all = tt
 later_names within o n (l ∷ os) named all =
-    let parts : _ = and_parts (is_before l.key o) (list_all (λ l'. is_before l'.key o) os) all in
+    let parts = and_parts (is_before l.key o) (list_all (λ l'. is_before l'.key o) os) all in
     by_names (AllByRecursion (λ m. is_below m n ≡ false)) within l os (λ none. tt)
     (λ m some. (names_rise within o.key l.key n m (Less-from_is_lt _ parts.0) named some, later_names within o n os named parts.1))
 
 -- the names of objects in order do not fall
 pub names_in_order : (within : List ℕ) (os : List Stored) → in_order os ≡ true → Rises (names_of within os)
-names_in_order within [] ordered = tt
+names_in_order _ [] ordered = tt
 names_in_order within (o ∷ os) ordered =
-    let parts : _ = and_parts (list_all (λ later. is_before later.key o) os) (in_order os) ordered in
+    let parts = and_parts (list_all (λ later. is_before later.key o) os) (in_order os) ordered in
     by_names Rises within o os (λ none. tt)
     (λ n some. (later_names within o n os some parts.0, names_in_order within os parts.1))
 
@@ -102,8 +101,8 @@ pub page_is : (objects : List Stored) (within after : List ℕ) (limit place : �
     → IsPage (object_in objects) within after limit (picked after limit (names_of within (drop place objects)))
 page_is objects within after limit place ordered skipped behind =
     let back : List Stored = drop place objects in
-    let names : List (List ℕ) = names_of within back in
-    let page : List (List ℕ) = picked after limit names in
+    let names = names_of within back in
+    let page = picked after limit names in
     record {
       ascend = picked_ascends after limit names;
       few = picked_few after limit names;
@@ -125,21 +124,21 @@ page_is objects within after limit place ordered skipped behind =
 
 -- each object has a name in the listing of the whole bucket
 root_names : (p : Stored) (name : List ℕ) (os : List Stored) → Among p os → name_of [] p.key ≡ Some name → Among name (names_of [] os)
-root_names p name [] among named = among
+root_names p _ [] among named = among
 root_names p name (o ∷ os) (inl same) named = let e : first_part p.key ≡ name = cc in inl (ap (λ q. first_part q.key) same ∙ e)
 root_names p name (o ∷ os) (inr among) named = inr (root_names p name os among named)
 
 pub root_page : (objects : List Stored) (after : List ℕ) (limit place : ℕ) → in_order objects ≡ true → IsPlace after objects place
     → IsPage (object_in objects) [] after limit (picked after limit (names_of [] (drop place objects)))
 root_page objects after limit place ordered at =
-    page_is objects [] after limit place ordered
+    page_is objects _ _ _ _ ordered
     (λ p name among named. (let e : first_part p.key ≡ name = cc in
-    ap (is_below after) (sym e) ∙ root_skipped p.key after (Less-from_is_lt _ (at_among (λ o. is_before after o ≡ true) p (take place objects) at.front among))))
+    ap (is_below after) (sym e) ∙ root_skipped p.key after (Less-from_is_lt _ (at_among _ p _ at.front among))))
     (λ p name among named. root_names p name (drop place objects) among named)
 
 each_of : {X : Type 0} (q : X → Bool) (xs : List X) → list_all q xs ≡ true → AllByRecursion (λ x. q x ≡ true) xs
 each_of q [] all = tt
-each_of q (x ∷ xs) all = let parts : _ = and_parts (q x) (list_all q xs) all in (parts.0, each_of q xs parts.1)
+each_of q (x ∷ xs) all = let parts = and_parts (q x) (list_all q xs) all in (parts.0, each_of q xs parts.1)
 
 -- from the cursor on, the objects of a folder stand together
 folder_names : (b : ℕ) (w after : List ℕ) (p : Stored) (name : List ℕ) (os : List Stored) → in_order os ≡ true
@@ -163,12 +162,12 @@ folder_names b w after p name (o ∷ os) ordered all (inr among) named =
 pub folder_page : (objects : List Stored) (within after : List ℕ) (limit place : ℕ) → (within ≡ [] → ⊥) → in_order objects ≡ true
     → IsPlace (within ++ 47 ∷ after) objects place
     → IsPage (object_in objects) within after limit (picked after limit (names_of within (drop place objects)))
-folder_page objects [] after limit place given ordered at = absurd (given refl)
-folder_page objects (b ∷ w) after limit place given ordered at =
-    page_is objects (b ∷ w) after limit place ordered
-    (λ p name among named. (let before = Less-from_is_lt _ (at_among (λ o. is_before ((b ∷ w) ++ 47 ∷ after) o ≡ true) p (take place objects) at.front among) in
-    let e : slice_cmp nat_cmp name after ≡ Less =
-    sym (folder_cmp (b ∷ w) name after) ∙ ap (λ k. key_cmp k ((b ∷ w) ++ 47 ∷ after)) (sym (folder_key (b ∷ w) p.key name named)) ∙ before in
+folder_page _ [] _ _ _ given ordered at = absurd (given refl)
+folder_page objects (b ∷ w) after _ place given ordered at =
+    page_is _ _ _ _ _ ordered
+    (λ p name among named. (let before = Less-from_is_lt _ (at_among _ p _ at.front among) in
+    let e =
+    sym (folder_cmp (b ∷ w) name after) ∙ ap (λ k. key_cmp k ((b ∷ w) ++ 47 ∷ after)) (sym (folder_key (b ∷ w) _ _ named)) ∙ before in
     not_below name after (inr e)))
     (λ p name among named. folder_names b w after p name (drop place objects) (in_order-drop place objects ordered) at.back among named)
 
@@ -179,12 +178,12 @@ root_start [] after objects place empty ordered at = record {
   start_within = at.within;
   page = λ limit. root_page objects after limit place ordered at;
 }
-root_start (b ∷ w) after objects place empty ordered at = absurd (let e : suc (length w) ≡ 0 = eqb-true (suc (length w)) 0 (sym empty) in omega arith)
+root_start (b ∷ w) after _ _ empty ordered at = absurd (let e : suc (length w) ≡ 0 = eqb-true (suc (length w)) 0 (sym empty) in omega arith)
 
 pub folder_start : (within after key : List ℕ) (objects : List Stored) (place : ℕ) → false ≡ (length within == 0) → key ≡ within ++ 47 ∷ after
     → in_order objects ≡ true → IsPlace key objects place → IsStart within after objects place
-folder_start [] after key objects place given is ordered at = cc
-folder_start (b ∷ w) after key objects place given is ordered at = record {
+folder_start [] after _ _ _ given is ordered at = cc
+folder_start (b ∷ w) after _ objects place given is ordered at = record {
   start_within = at.within;
   page = λ limit. folder_page objects (b ∷ w) after limit place (λ e. cc) ordered (subst (λ k. IsPlace k objects place) is at);
 }

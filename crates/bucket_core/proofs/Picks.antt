@@ -2,8 +2,7 @@
 use Rattle.std.proofs.Common.{◌≡◌, ◌⊎◌, ℕ, ◌≤◌, ◌-◌, zero, suc, true, false, cond, List, [], ◌∷◌, length, refl, sym, ◌∙◌, ap, subst, inl, inr, arith}
 use Rattle.std.specs.Prelude.{◌==◌, Contains}
 use Rattle.std.specs.List.{AllByRecursion}
-use Rattle.std.specs.Ordering.{nat_cmp, is_lt, ordering_reverse}
-use Rattle.std.specs.Cmp.Lexicographic.{slice_cmp}
+use Rattle.std.specs.Ordering.{is_lt, ordering_reverse}
 use Rattle.std.specs.declared.cmp.Ordering.{Ordering}
 use Rattle.std.specs.declared.cmp.Ordering.TheVariants.{Less, Equal, Greater}
 use Rattle.std.proofs.lemmas.Bool.{cases_Bool, ne_eqb}
@@ -21,7 +20,7 @@ Among x (y ∷ ys) = (y ≡ x) ⊎ Among x ys
 pub contains_among : {X : Type 0} (x : X) (xs : List X) → Among x xs → Contains xs x
 contains_among x [] among = absurd among
 contains_among x (y ∷ xs) (inl same) = (0, omega arith, same)
-contains_among x (y ∷ xs) (inr among) = let found : Contains xs x = contains_among x xs among in (suc found.0, omega arith, found.2)
+contains_among x (y ∷ xs) (inr among) = let found = contains_among x xs among in (suc found.0, omega arith, found.2)
 
 pub at_among : {X : Type 0} (P : X → Type 0) (x : X) (xs : List X) → AllByRecursion P xs → Among x xs → P x
 at_among P x [] all among = absurd among
@@ -52,31 +51,31 @@ by_picked : (P : List (List ℕ) → Type 0) (last : List ℕ) (limit : ℕ) (n 
     → (is_below last n ≡ true → limit ≡ 0 → P [])
     → ((k : ℕ) → is_below last n ≡ true → limit ≡ suc k → P (n ∷ picked n k ns))
     → P (picked last limit (n ∷ ns))
-by_picked P last zero n ns pass full take =
-    elim (cases_Bool (is_below last n)) [
-      | inl below ↦ subst P (sym (picked_full last n ns below)) (full below refl)
-      | inr not_below ↦ subst P (sym (picked_pass last zero n ns not_below)) (pass not_below)
+by_picked P _ zero n _ pass full take =
+    elim (cases_Bool _) [
+      | inl below ↦ subst P (sym (picked_full _ n _ below)) (full below refl)
+      | inr not_below ↦ subst P (sym (picked_pass _ _ n _ not_below)) (pass not_below)
     ]
-by_picked P last (suc k) n ns pass full take =
-    elim (cases_Bool (is_below last n)) [
-      | inl below ↦ subst P (sym (picked_take last k n ns below)) (take k below refl)
-      | inr not_below ↦ subst P (sym (picked_pass last (suc k) n ns not_below)) (pass not_below)
+by_picked P _ (suc k) n _ pass full take =
+    elim (cases_Bool _) [
+      | inl below ↦ subst P (sym (picked_take _ k n _ below)) (take k below refl)
+      | inr not_below ↦ subst P (sym (picked_pass _ _ n _ not_below)) (pass not_below)
     ]
 
 pub picked_ascends : (last : List ℕ) (limit : ℕ) (ns : List (List ℕ)) → Ascends last (picked last limit ns)
-picked_ascends last limit [] = tt
+picked_ascends _ _ [] = tt
 picked_ascends last limit (n ∷ ns) =
     by_picked (Ascends last) last limit n ns (λ pass. picked_ascends last limit ns) (λ below e. tt)
     (λ k below e. (Less-from_is_lt _ below, picked_ascends n k ns))
 
 pub picked_few : (last : List ℕ) (limit : ℕ) (ns : List (List ℕ)) → length (picked last limit ns) ≤ limit
-picked_few last limit [] = omega arith
+picked_few _ _ [] = omega arith
 picked_few last limit (n ∷ ns) =
     by_picked (λ l. length l ≤ limit) last limit n ns (λ pass. picked_few last limit ns) (λ below e. omega arith)
     (λ k below e. omega (arith, picked_few n k ns))
 
 pub picked_within : (P : List ℕ → Type 0) (last : List ℕ) (limit : ℕ) (ns : List (List ℕ)) → AllByRecursion P ns → AllByRecursion P (picked last limit ns)
-picked_within P last limit [] all = tt
+picked_within P _ _ [] all = tt
 picked_within P last limit (n ∷ ns) all =
     by_picked (AllByRecursion P) last limit n ns (λ pass. picked_within P last limit ns all.1) (λ below e. tt)
     (λ k below e. (all.0, picked_within P n k ns all.1))
@@ -92,27 +91,27 @@ equal_or_less Greater p e lt = inr e
 
 pub below_cases : (n m : List ℕ) → is_below m n ≡ false → (n ≡ m) ⊎ Before n m
 below_cases n m e =
-    elim (equal_or_less (slice_cmp nat_cmp m n) (slice_cmp nat_cmp n m) (nat_list_cmp_total.antisymm n m) e) [
+    elim (equal_or_less _ _ (nat_list_cmp_total.antisymm n m) e) [
       | inl equal ↦ inl (sym (texts_equal m n equal))
       | inr less ↦ inr less
     ]
 
 pub picked_whole : (last : List ℕ) (limit : ℕ) (ns : List (List ℕ)) (m : List ℕ) → Rises ns → Among m ns → is_below last m ≡ true
     → IsCovered limit m (picked last limit ns)
-picked_whole last limit [] m rises among below = absurd among
+picked_whole _ _ [] m rises among below = absurd among
 picked_whole last limit (n ∷ ns) m rises (inl same) below =
     by_picked (IsCovered limit m) last limit n ns
     (λ pass. absurd (let e : is_below last n ≡ true = ap (is_below last) same ∙ below in cc))
     (λ b e. inr (sym e, tt))
     (λ k b e. inl (inl same))
 picked_whole last limit (n ∷ ns) m rises (inr among) below =
-    by_picked (IsCovered limit m) last limit n ns
+    by_picked (IsCovered limit m) last limit n _
     (λ pass. picked_whole last limit ns m rises.1 among below)
     (λ b e. inr (sym e, tt))
-    (λ k b e. elim (below_cases n m (at_among (λ later. is_below later n ≡ false) m ns rises.0 among)) [
+    (λ k b e. elim (below_cases n m (at_among _ m _ rises.0 among)) [
       | inl same ↦ inl (inl same)
       | inr before ↦ elim (picked_whole n k ns m rises.1 among (ap is_lt before)) [
         | inl found ↦ inl (inr found)
-        | inr full ↦ inr (omega (arith, full.0), (before, full.1))
+        | inr full ↦ inr (omega arith, (before, full.1))
       ]
     ])

@@ -43,12 +43,12 @@ at_place p (x ∷ xs) (suc i) d all lt = at_place p xs i d (and_parts (p x) (lis
 
 -- objects in order have those before a key in front
 pub partitioned : (key : List ℕ) (objects : List Stored) → in_order objects ≡ true → IsPartitionedBy (is_before key) objects
-partitioned key [] ordered i j d le lt at = absurd (omega arith)
-partitioned key (o ∷ os) ordered zero zero d le lt at = at
+partitioned _ [] ordered i j d le lt at = absurd (omega arith)
+partitioned _ (o ∷ os) ordered zero zero d le lt at = at
 partitioned key (o ∷ os) ordered zero (suc j) d le lt at =
-    let parts : _ = and_parts (list_all (λ later. is_before later.key o) os) (in_order os) ordered in
+    let parts = and_parts (list_all (λ later. is_before later.key o) os) (in_order os) ordered in
     before_trans o (get_or os j d).key key (at_place (λ later. is_before later.key o) os j d parts.0 (omega arith)) at
-partitioned key (o ∷ os) ordered (suc i) zero d le lt at = absurd (omega arith)
+partitioned _ (o ∷ os) ordered (suc i) zero d le lt at = absurd (omega arith)
 partitioned key (o ∷ os) ordered (suc i) (suc j) d le lt at =
     partitioned key os (and_parts (list_all (λ later. is_before later.key o) os) (in_order os) ordered).1 i j d (omega arith) (omega arith) at
 
@@ -57,20 +57,20 @@ front_of : {X : Type 0} (P : X → Type 0) (xs : List X) (n : ℕ) → AllWithin
 front_of P [] zero all le = tt
 front_of P [] (suc n) all le = absurd (omega arith)
 front_of P (x ∷ xs) zero all le = tt
-front_of P (x ∷ xs) (suc n) all le = (all 0 x (omega arith) (omega arith), front_of P xs n (λ k d low lt. all (suc k) d (omega arith) (omega arith)) (omega arith))
+front_of P (x ∷ xs) (suc n) all le = (all 0 x (omega arith) (omega arith), front_of P _ n (λ k d low lt. all (suc k) d (omega arith) (omega arith)) (omega arith))
 
 -- what holds of each element from a place on holds of the back
 back_of : {X : Type 0} (P : X → Type 0) (xs : List X) (n : ℕ) → AllWithin P xs n (length xs) → AllByRecursion P (drop n xs)
 back_of P [] zero all = tt
 back_of P [] (suc n) all = tt
 back_of P (x ∷ xs) zero all = (all 0 x (omega arith) (omega arith), back_of P xs zero (λ k d low lt. all (suc k) d (omega arith) (omega arith)))
-back_of P (x ∷ xs) (suc n) all = back_of P xs n (λ k d low lt. all (suc k) d (omega arith) (omega arith))
+back_of P (x ∷ xs) (suc n) all = back_of P _ n (λ k d low lt. all (suc k) d (omega arith) (omega arith))
 
 -- a partition point is the place
 pub place_is : (key : List ℕ) (objects : List Stored) (n : ℕ) → n ≤ length objects
     → IsPartitionPoint (λ o. is_before key o ≡ true) (λ o. is_before key o ≡ false) objects n → IsPlace key objects n
-place_is key objects n le point = record {
+place_is _ _ n le point = record {
   within = le;
-  front = front_of (λ o. is_before key o ≡ true) objects n point.0 le;
-  back = back_of (λ o. is_before key o ≡ false) objects n point.1;
+  front = front_of _ _ n point.0 le;
+  back = back_of _ _ n point.1;
 }

@@ -40,13 +40,13 @@ later_found time p q t are e =
     let by = bind_ok _ _ _ e in
     let tested = unless_ok (fits_signed (time +ℤ pos by.0.0)) (Overlong p.place) _ _ by.2 in
     let front = uvarint_field.found p by.0.1 by.0.0 are by.1 in
-    field_found (IsLater time) p by.0.1 q front.0 (time +ℤ pos by.0.0) t (record { by = by.0.0; text_is = front.1; value = refl; fits = fits_from_test (time +ℤ pos by.0.0) tested.0 }) front.2 tested.1
+    field_found (IsLater time) p by.0.1 q front.0 (time +ℤ pos by.0.0) t (record { by = by.0.0; text_is = front.1; value = refl; fits = fits_from_test _ tested.0 }) front.2 tested.1
 
 later_again : (time : ℤ) (p : Position) (text : List ℕ) (t : ℤ) (after : List ℕ) → IsLater time text t → left p ≡ text ++ after → (q : Position) × (later_at time p ≡ Ok (t, q)) × (left q ≡ after)
 unfolding later_at
-later_again time p text t after is e =
+later_again _ p text t after is e =
     let by = uvarint_field.again p text is.by after is.text_is e in
-    let tested : fits_signed (time +ℤ pos is.by) ≡ true = subst (λ (z : ℤ). fits_signed z ≡ true) is.value (test_from_fits t is.fits) in
+    let tested = subst (λ z. fits_signed z ≡ true) is.value (test_from_fits t is.fits) in
     (by.0, rw (by.1, tested, is.value) refl, by.2)
 
 -- the begin of the next chunk, within 64 bits
@@ -58,7 +58,7 @@ begin_found (Some b) p q t are e = let front = later_found b.max p q t are e in 
 begin_again : (before : Option ChunkPlace) (p : Position) (text : List ℕ) (t : ℤ) (after : List ℕ) → Begins before text t → FitsSigned w64 t → left p ≡ text ++ after → (q : Position) × (begin_at before p ≡ Ok (t, q)) × (left q ≡ after)
 unfolding begin_at
 begin_again None p text t after is fits e = varint_field.again p text t after is e
-begin_again (Some b) p text t after is fits e = later_again b.max p text t after (record { by = is.0; text_is = is.1; value = is.2; fits = fits }) e
+begin_again (Some b) p _ t _ is fits e = later_again _ p _ t _ (record { by = is.0; text_is = is.1; value = is.2; fits = fits }) e
 
 -- ---- references
 
@@ -73,28 +73,28 @@ moved_found : (reference : ℕ) (p q : Position) (r : ℕ) → IsBytes (left p) 
 unfolding moved_at
 moved_found reference p q r are e =
     let by = bind_ok _ _ _ e in
-    let tested = unless_ok (fits_unsigned (pos reference +ℤ by.0.0)) (Overlong p.place) _ _ by.2 in
+    let tested = unless_ok _ _ _ _ by.2 in
     let front = varint_field.found p by.0.1 by.0.0 are by.1 in
-    let back = abs_back (pos reference +ℤ by.0.0) tested.0 in
+    let back = abs_back _ tested.0 in
     field_found (λ text n. Moved reference text n × (n < 2 ^ 64)) p by.0.1 q front.0 (unsigned_abs (pos reference +ℤ by.0.0)) r ((by.0.0, front.1, back.0), back.1) front.2 tested.1
 
 moved_again : (reference : ℕ) (p : Position) (text : List ℕ) (r : ℕ) (after : List ℕ) → Moved reference text r → r < 2 ^ 64 → left p ≡ text ++ after → (q : Position) × (moved_at reference p ≡ Ok (r, q)) × (left q ≡ after)
 unfolding moved_at
-moved_again reference p text r after is fits e =
+moved_again _ p text r after is fits e =
     let by = varint_field.again p text is.0 after is.1 e in
-    let tested : fits_unsigned (pos reference +ℤ is.0) ≡ true = subst (λ (z : ℤ). fits_unsigned z ≡ true) is.2 (lt-ltb r (2 ^ 64) fits) in
-    let value : unsigned_abs (pos reference +ℤ is.0) ≡ r = ap unsigned_abs (sym is.2) in
+    let tested = subst (λ z. fits_unsigned z ≡ true) is.2 (lt-ltb r (2 ^ 64) fits) in
+    let value = ap unsigned_abs (sym is.2) in
     (by.0, rw (by.1, tested, value) refl, by.2)
 
 reference_found : (before : Option ChunkPlace) (p q : Position) (r : ℕ) → IsBytes (left p) → reference_at before p ≡ Ok (r, q) → HasFront (λ text n. Refers before text n × (n < 2 ^ 64)) (left p) r (left q)
 unfolding reference_at
 reference_found None p q r are e = let front = uvarint_field.found p q r are e in (front.0, (front.1, front.1.fits), front.2)
-reference_found (Some b) p q r are e = moved_found (reference_of b) p q r are e
+reference_found (Some b) p q r are e = moved_found _ p q r are e
 
 reference_again : (before : Option ChunkPlace) (p : Position) (text : List ℕ) (r : ℕ) (after : List ℕ) → Refers before text r → r < 2 ^ 64 → left p ≡ text ++ after → (q : Position) × (reference_at before p ≡ Ok (r, q)) × (left q ≡ after)
 unfolding reference_at
 reference_again None p text r after is fits e = uvarint_field.again p text r after is e
-reference_again (Some b) p text r after is fits e = moved_again (reference_of b) p text r after is fits e
+reference_again (Some b) p _ r _ is fits e = moved_again _ p _ r _ is fits e
 
 split : (r : ℕ) → r / 2 ^ 32 * 2 ^ 32 + r % 2 ^ 32 ≡ r
 split r = omega arith
@@ -111,11 +111,11 @@ found before p x t are e =
     let max = bind_ok _ _ _ min.2 in
     let reference = bind_ok _ _ _ max.2 in
     let chunk = chunk_of min.0.0 max.0.0 reference.0.0 in
-    let f0 = begin_found before p min.0.1 min.0.0 are min.1 in
-    let are1 = IsBytes-after f0.0 (left min.0.1) (left p) f0.2 are in
-    let f1 = later_found min.0.0 min.0.1 max.0.1 max.0.0 are1 max.1 in
-    let are2 = IsBytes-after f1.0 (left max.0.1) (left min.0.1) f1.2 are1 in
-    let f2 = reference_found before max.0.1 reference.0.1 reference.0.0 are2 reference.1 in
+    let f0 = begin_found _ p _ _ are min.1 in
+    let are1 = IsBytes-after _ _ _ f0.2 are in
+    let f1 = later_found _ _ _ _ are1 max.1 in
+    let are2 = IsBytes-after _ _ _ f1.2 are1 in
+    let f2 = reference_found _ _ _ _ are2 reference.1 in
     let is : IsNextChunk before (f0.0 ++ f1.0 ++ f2.0) chunk = record {
       begin = f0.0;
       span = f1.0;
@@ -126,16 +126,16 @@ found before p x t are e =
       max_is = f1.1.value;
       min_fits = f0.1.1;
       max_fits = f1.1.fits;
-      refers = subst (λ (r : ℕ). Refers before f2.0 r) (sym (split reference.0.0)) f2.1.0;
-      segment_fits = omega (arith, f2.1.1);
+      refers = subst (λ r. Refers before f2.0 r) (sym (split _)) f2.1.0;
+      segment_fits = omega arith;
       offset_fits = omega arith;
       text_is = refl;
     } in
-    let whole : left p ≡ (f0.0 ++ f1.0 ++ f2.0) ++ left reference.0.1 = f0.2 ∙ ap (λ (a : List ℕ). f0.0 ++ a) (f1.2 ∙ ap (λ (a : List ℕ). f1.0 ++ a) f2.2) ∙ sym (regroup f0.0 f1.0 f2.0 (left reference.0.1)) in
-    turn_found IsNextChunk before p reference.0.1 (f0.0 ++ f1.0 ++ f2.0) chunk x t is whole reference.2
+    let whole = f0.2 ∙ ap (λ a. f0.0 ++ a) (f1.2 ∙ ap (λ a. f1.0 ++ a) f2.2) ∙ sym (regroup f0.0 f1.0 f2.0 (left reference.0.1)) in
+    turn_found IsNextChunk before p _ (f0.0 ++ f1.0 ++ f2.0) _ x t is whole reference.2
 
 joined : (min max : ℤ) (segment offset : ℕ) → offset < 2 ^ 32 → chunk_of min max (segment * 2 ^ 32 + offset) ≡ record { min = min; max = max; segment = segment; offset = offset }
-joined min max segment offset small =
+joined _ _ segment offset small =
     let high : (segment * 2 ^ 32 + offset) / 2 ^ 32 ≡ segment = omega arith in
     let low : (segment * 2 ^ 32 + offset) % 2 ^ 32 ≡ offset = omega arith in
     rw (high, low) refl
@@ -143,7 +143,7 @@ joined min max segment offset small =
 again : (before : Option ChunkPlace) (p : Position) (text : List ℕ) (x : ChunkPlace) (after : List ℕ) → IsNextChunk before text x → left p ≡ text ++ after → (q : Position) × (chunk_at (before, p) ≡ Ok (x, (Some x, q))) × (left q ≡ after)
 unfolding chunk_at
 again before p text x after is e =
-    let whole : left p ≡ is.begin ++ (is.span ++ (is.reference ++ after)) = e ∙ ap (λ (a : List ℕ). a ++ after) is.text_is ∙ regroup is.begin is.span is.reference after in
+    let whole = e ∙ ap (λ a. a ++ after) is.text_is ∙ regroup _ _ is.reference after in
     let min = begin_again before p is.begin x.min (is.span ++ (is.reference ++ after)) is.begins is.min_fits whole in
     let max = later_again x.min min.0 is.span x.max (is.reference ++ after) (record { by = is.lasts; text_is = is.span_is; value = is.max_is; fits = is.max_fits }) min.2 in
     let reference = reference_again before max.0 is.reference (reference_of x) after is.refers (omega (arith, is.segment_fits, is.offset_fits)) max.2 in
@@ -154,16 +154,16 @@ pub chunk_turn : IsTurnOf IsNextChunk chunk_at
 chunk_turn = record { found = found; again = again }
 
 begin_size : (before : Option ChunkPlace) (text : List ℕ) (t : ℤ) → Begins before text t → 1 ≤ length text
-begin_size None text t is = uvarint_size text (zigzag t) is
-begin_size (Some b) text t is = uvarint_size text is.0 is.1
+begin_size None _ t is = uvarint_size _ _ is
+begin_size (Some b) _ t is = uvarint_size _ _ is.1
 
 reference_size : (before : Option ChunkPlace) (text : List ℕ) (r : ℕ) → Refers before text r → 1 ≤ length text
-reference_size None text r is = uvarint_size text r is
-reference_size (Some b) text r is = uvarint_size text (zigzag is.0) is.1
+reference_size None _ r is = uvarint_size _ r is
+reference_size (Some b) _ r is = uvarint_size _ _ is.1
 
 pub chunk_size : (before : Option ChunkPlace) (text : List ℕ) (x : ChunkPlace) → IsNextChunk before text x → 3 ≤ length text
-chunk_size before text x is =
-    let a = begin_size before is.begin x.min is.begins in
-    let b = uvarint_size is.span is.lasts is.span_is in
-    let c = reference_size before is.reference (reference_of x) is.refers in
+chunk_size before _ x is =
+    let a = begin_size _ _ _ is.begins in
+    let b = uvarint_size _ _ is.span_is in
+    let c = reference_size _ _ _ is.refers in
     omega (arith, ap length is.text_is, length-append (is.begin ++ is.span) is.reference, length-append is.begin is.span)

@@ -8,7 +8,6 @@ use Rattle.reading_core.specs.Grammar.{IsBytes}
 use Rattle.reading_core.proofs.Fronts.{IsBytes-after, IsBytes-drop}
 use Rattle.reading_core.proofs.Binds.{bind_ok, unless_ok, refused_as_ok, ok_is}
 use Rattle.wire_bytes.specs.Position.{Position, left, further}
-use Rattle.wire_bytes.specs.Fields.{bytes_at, number_at}
 use Rattle.wire_bytes.specs.declared.refusal.WireRefusal.{WireRefusal}
 use Rattle.wire_bytes.specs.FieldTexts.{IsFixed}
 use Rattle.wire_bytes.specs.Crc.{crc}
@@ -38,13 +37,13 @@ summed_found at size p q are e =
     let x = bind_ok _ _ _ e in
     let y = bind_ok _ _ _ x.2 in
     let tested = unless_ok (y.0.0 == crc x.0.0) (BadSum y.0.0 (crc x.0.0)) _ _ y.2 in
-    let content_read = refused_as_ok (λ _. Short at) (bytes_at size p) x.0 x.1 in
-    let parts = bytes_parts size p x.0.1 x.0.0 content_read in
-    let content = bytes_split size p x.0.1 x.0.0 content_read in
-    let kept = number_found w32 wide32 x.0.1 y.0.1 y.0.0 (IsBytes-after x.0.0 (left x.0.1) (left p) content.1 are) (refused_as_ok (λ _. Short at) (number_at w32 x.0.1) y.0 y.1) in
-    let end : p.place + size ≡ x.0.1.place = ap (λ (r : Position). r.place) parts.2 in
-    let here : left q ≡ x.0.0 = ap left (sym (ok_is {E = PartRefusal} _ _ tested.1)) ∙ ap (λ (n : ℕ). left (at_place (take n p.bytes) p.place)) (sym end) ∙ content_left p size ∙ parts.1 in
-    let sum : IsFixed w32 kept.0 (crc (left q)) = subst (IsFixed w32 kept.0) (eqb-true y.0.0 (crc x.0.0) tested.0 ∙ ap crc (sym here)) kept.1 in (
+    let content_read = refused_as_ok (λ _. Short at) _ _ x.1 in
+    let parts = bytes_parts _ p _ _ content_read in
+    let content = bytes_split _ p _ _ content_read in
+    let kept = number_found _ wide32 _ _ _ (IsBytes-after _ _ _ content.1 are) (refused_as_ok _ _ _ y.1) in
+    let end = ap (λ r. r.place) parts.2 in
+    let here = ap left (sym (ok_is {E = PartRefusal} _ _ tested.1)) ∙ ap (λ n. left (at_place (take n p.bytes) p.place)) (sym end) ∙ content_left p _ ∙ parts.1 in
+    let sum = subst (IsFixed w32 kept.0) (eqb-true y.0.0 (crc x.0.0) tested.0 ∙ ap crc (sym here)) kept.1 in (
       left y.0.1,
       record {
         sum = kept.0;
@@ -57,17 +56,17 @@ summed_found at size p q are e =
 
 pub summed_again : (at : ℕ) (p : Position) (content after : List ℕ) → IsSummed (left p) content after → (q : Position) × (summed_at at (length content) p ≡ Ok q) × (left q ≡ content)
 unfolding summed_at
-summed_again at p content after is =
-    let whole : left p ≡ content ++ (is.sum ++ after) = is.bytes_are ∙ append_assoc content is.sum after in
-    let front = bytes_again (length content) p content (is.sum ++ after) refl whole in
+summed_again _ p content after is =
+    let whole = is.bytes_are ∙ append_assoc content is.sum after in
+    let front = bytes_again _ p _ _ refl whole in
     let r = further (length content) p in
-    let rest : left r ≡ is.sum ++ after = left-further (length content) p ∙ ap (drop (length content)) whole ∙ drop_at content (is.sum ++ after) (length content) refl in
-    let kept = number_again w32 wide32 r is.sum (crc content) after is.sum_is rest in
-    let parts = bytes_parts (length content) p r content front in
-    (at_place (take (p.place + length content) p.bytes) p.place, rw (front, kept, eq-eqb (crc content) (crc content) refl) refl, content_left p (length content) ∙ parts.1)
+    let rest = left-further _ p ∙ ap (drop (length content)) whole ∙ drop_at content (is.sum ++ after) (length content) refl in
+    let kept = number_again _ wide32 r _ _ _ is.sum_is rest in
+    let parts = bytes_parts _ p r _ front in
+    (at_place (take (p.place + length content) p.bytes) p.place, rw (front, kept, eq-eqb (crc content) (crc content) refl) refl, content_left p _ ∙ parts.1)
 
 regroup : (size content sum after : List ℕ) → size ++ (content ++ sum ++ after) ≡ size ++ content ++ sum ++ after
-regroup size content sum after = sym (append_assoc size (content ++ sum) after) ∙ ap (λ (a : List ℕ). a ++ after) (sym (append_assoc size content sum))
+regroup size content sum after = sym (append_assoc size (content ++ sum) after) ∙ ap (λ a. a ++ after) (sym (append_assoc size content sum))
 
 -- a frame, by the texts of its length and how that is read
 module _ (IsSize : List ℕ → ℕ → Type 0) (size_at : Position → Result (ℕ × Position) WireRefusal) (size_field : IsFieldOf IsSize (field size_at)) where
@@ -76,7 +75,7 @@ module _ (IsSize : List ℕ → ℕ → Type 0) (size_at : Position → Result (
   framed_found index at q are e =
       let x = bind_ok _ _ _ e in
       let size = size_field.found _ _ _ (IsBytes-drop at index are) x.1 in
-      let summed = summed_found at x.0.0 x.0.1 q (IsBytes-after size.0 (left x.0.1) (drop at index) size.2 (IsBytes-drop at index are)) x.2 in (
+      let summed = summed_found at x.0.0 x.0.1 q (IsBytes-after size.0 _ _ size.2 (IsBytes-drop at index are)) x.2 in (
         record {
           size = size.0;
           sum = summed.1.sum;
@@ -91,7 +90,7 @@ module _ (IsSize : List ℕ → ℕ → Type 0) (size_at : Position → Result (
   pub framed_again : (index : List ℕ) (at : ℕ) (content : List ℕ) → IsFramed IsSize index at content → (q : Position) × (framed_at size_at index at ≡ Ok q) × (left q ≡ content)
   unfolding framed_at
   framed_again index at content is =
-      let size = size_field.again (at_place index at) is.size (length content) (content ++ is.sum ++ is.after) is.size_is (is.stands ∙ sym (regroup is.size content is.sum is.after)) in
+      let size = size_field.again (at_place index at) is.size (length content) (content ++ is.sum ++ is.after) is.size_is (is.stands ∙ sym (regroup is.size _ _ _)) in
       let summed = summed_again at size.0 content is.after (record { sum = is.sum; sum_is = is.sum_is; bytes_are = size.2 }) in
       (summed.0, rw size.1 summed.1, summed.2)
 
@@ -99,4 +98,4 @@ module _ (IsSize : List ℕ → ℕ → Type 0) (size_at : Position → Result (
 pub framed_small : (IsSize : List ℕ → ℕ → Type 0) (index : List ℕ) (at : ℕ) (content : List ℕ) → IsFramed IsSize index at content → length content ≤ length index
 framed_small IsSize index at content is =
     let e = ap length is.stands in
-    omega (arith, e, length-drop at index, length-append (is.size ++ content ++ is.sum) is.after, length-append (is.size ++ content) is.sum, length-append is.size content)
+    omega (arith, length-drop at index, length-append (is.size ++ content ++ is.sum) is.after, length-append (is.size ++ content) is.sum, length-append is.size content)

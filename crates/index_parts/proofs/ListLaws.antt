@@ -76,36 +76,36 @@ module _ {A : Type 0} (IsNext : Option A → List ℕ → A → Type 0) (read : 
 
 -- members that each take some bytes are no more than the index allows
 pub list_few : {A : Type 0} (IsNext : Option A → List ℕ → A → Type 0) (least : ℕ) → ((before : Option A) (text : List ℕ) (x : A) → IsNext before text x → least ≤ length text) → (index : List ℕ) (at : ℕ) (members : List A) → IsList IsNext index at members → least * length members ≤ length index
-list_few IsNext least one index at members is =
-    let small = framed_small (IsFixed w32) index at is.content is.section in
-    let texts = turns_few IsNext least one None is.texts members is.texts_are in
-    let whole : length is.content ≡ length is.count + length is.texts + length is.left_over = ap length is.content_is ∙ length-append (is.count ++ is.texts) is.left_over ∙ ap (λ (n : ℕ). n + length is.left_over) (length-append is.count is.texts) in
+list_few IsNext _ one _ at _ is =
+    let small = framed_small _ _ at is.content is.section in
+    let texts = turns_few _ _ one _ _ _ is.texts_are in
+    let whole = ap length is.content_is ∙ length-append _ _ ∙ ap (λ (n : ℕ). n + length is.left_over) (length-append is.count is.texts) in
     omega arith
 
 -- ---- from a reading function to the call
 
 pub found_from : {X Y E : Type 0} (Is : Y → Type 0) (no_memory : E) (view : X → Y) (r : Result X E) (read : Result Y E) → ((y : Y) → read ≡ Ok y → Is y) → Gives no_memory view r read → IfOk r (λ x. Is (view x))
-found_from Is no_memory view (Ok x) read one h = one (view x) h
-found_from Is no_memory view (Err d) read one h = tt
+found_from Is _ view (Ok x) _ one h = one (view x) h
+found_from Is _ _ (Err d) _ one h = tt
 
 pub only_from : {X Y E : Type 0} (no_memory : E) (view : X → Y) (r : Result X E) (read : Result Y E) (y : Y) → read ≡ Ok y → Gives no_memory view r read → IsOkAnd r (λ x. view x ≡ y) ⊎ (r ≡ Err no_memory)
-only_from {X} {Y} {E} no_memory view (Ok x) read y one h = inl (ok_is {E = E} _ _ (sym h ∙ one))
-only_from no_memory view (Err d) read y one (inl out) = inr (ap Err out)
-only_from no_memory view (Err d) read y one (inr refused) = let no = sym refused ∙ one in absurd cc
+only_from {X} {Y} {E} _ _ (Ok x) _ y one h = inl (ok_is {E = E} _ _ (sym h ∙ one))
+only_from _ _ (Err d) _ y one (inl out) = inr (ap Err out)
+only_from _ _ (Err d) _ y one (inr refused) = let no = sym refused ∙ one in absurd cc
 
 pub same_from : {Y E : Type 0} (no_memory : E) (r : Result Y E) (y : Y) → IsOkAnd r (λ x. x ≡ y) ⊎ (r ≡ Err no_memory) → (r ≡ Ok y) ⊎ (r ≡ Err no_memory)
-same_from no_memory (Ok x) y (inl same) = inl (ap Ok same)
-same_from no_memory (Ok x) y (inr e) = inr e
-same_from no_memory (Err d) y (inl none) = absurd none
-same_from no_memory (Err d) y (inr e) = inr e
+same_from _ (Ok x) y (inl same) = inl (ap Ok same)
+same_from _ (Ok x) y (inr e) = inr e
+same_from _ (Err d) y (inl none) = absurd none
+same_from _ (Err d) y (inr e) = inr e
 
 -- what a call that reads a list gives
 module _ {A X : Type 0} (IsNext : Option A → List ℕ → A → Type 0) (read : Option A × Position → Result (A × (Option A × Position)) PartRefusal) (turn : IsTurnOf IsNext read) (view : X → List A) (index : List ℕ) (at : ℕ) (r : Result X PartRefusal) (given : Gives NoMemory view r (list_at read index at)) where
   pub read_found : IsBytes index → IfOk r (λ x. IsList IsNext index at (view x))
-  read_found are = found_from (IsList IsNext index at) NoMemory view r (list_at read index at) (λ members e. list_found IsNext read turn index at members are e) given
+  read_found are = found_from _ _ _ r _ (λ members e. list_found IsNext read turn index at members are e) given
 
   pub read_only : (members : List A) → IsList IsNext index at members → IsOkAnd r (λ x. view x ≡ members) ⊎ (r ≡ Err NoMemory)
-  read_only members is = only_from NoMemory view r (list_at read index at) members (list_again IsNext read turn index at members is) given
+  read_only members is = only_from _ _ r _ _ (list_again IsNext read turn _ at members is) given
 
   pub read_few : (least : ℕ) → ((before : Option A) (text : List ℕ) (x : A) → IsNext before text x → least ≤ length text) → IsBytes index → IfOk r (λ x. least * length (view x) ≤ length index)
-  read_few least one are = found_from (λ (members : List A). least * length members ≤ length index) NoMemory view r (list_at read index at) (λ members e. list_few IsNext least one index at members (list_found IsNext read turn index at members are e)) given
+  read_few least one are = found_from _ _ _ r _ (λ members e. list_few IsNext least one index at members (list_found IsNext read turn index at members are e)) given

@@ -1,6 +1,5 @@
 -- Postings lists against their grammar.
 use Rattle.std.proofs.Common.{◌≡◌, ℕ, ◌≤◌, true, List, ◌++◌, length, Option, Some, None, Ok, refl, ap, arith}
-use Rattle.std.specs.Int.{w32}
 use Rattle.std.proofs.lemmas.Bool.{ltb-true, lt-ltb}
 use Rattle.reading_core.specs.Grammar.{IsBytes, HasFront}
 use Rattle.reading_core.proofs.Binds.{bind_ok, unless_ok}
@@ -26,14 +25,14 @@ unfolding posting_at
 found before p x t are e =
     let number = bind_ok _ _ _ e in
     let tested = unless_ok (rises before number.0.0) (Unordered p.place) _ _ number.2 in
-    let fixed = fixed_field w32 wide32 in
+    let fixed = fixed_field _ wide32 in
     let front = fixed.found _ _ _ are number.1 in
-    turn_found IsNextPosting before p number.0.1 front.0 number.0.0 x t (record { text_is = front.1; rises = rises_found before number.0.0 tested.0 }) front.2 tested.1
+    turn_found IsNextPosting before p number.0.1 front.0 number.0.0 x t (record { text_is = front.1; rises = rises_found _ _ tested.0 }) front.2 tested.1
 
 again : (before : Option ℕ) (p : Position) (text : List ℕ) (x : ℕ) (after : List ℕ) → IsNextPosting before text x → left p ≡ text ++ after → (q : Position) × (posting_at (before, p) ≡ Ok (x, (Some x, q))) × (left q ≡ after)
 unfolding posting_at
 again before p text x after is e =
-    let fixed = fixed_field w32 wide32 in
+    let fixed = fixed_field _ wide32 in
     let number = fixed.again p text x after is.text_is e in
     (number.0, rw (number.1, rises_again before x is.rises) refl, number.2)
 
@@ -41,4 +40,4 @@ pub posting_turn : IsTurnOf IsNextPosting posting_at
 posting_turn = record { found = found; again = again }
 
 pub posting_size : (before : Option ℕ) (text : List ℕ) (x : ℕ) → IsNextPosting before text x → 4 ≤ length text
-posting_size before text x is = let e = ap length is.text_is.digits in let four = wide32.len x in omega arith
+posting_size _ _ x is = let e = ap length is.text_is.digits in let four = wide32.len x in omega arith

@@ -1,6 +1,6 @@
 -- Postings tables against their grammar.
 use Rattle.list_core.proofs.Bools.{Less-from_is_lt, is_lt-from_Less}
-use Rattle.std.proofs.Common.{◌≡◌, ℕ, ◌-◌, ◌≤◌, true, List, [], ◌∷◌, ◌++◌, length, Option, Some, None, Ok, refl, sym, ap, ◌∙◌, append_assoc, length-append, arith}
+use Rattle.std.proofs.Common.{◌≡◌, ℕ, ◌≤◌, true, List, [], ◌∷◌, ◌++◌, length, Option, Some, None, Ok, refl, sym, ap, ◌∙◌, append_assoc, length-append, arith}
 use Rattle.std.specs.Prelude.{◌==◌}
 use Rattle.std.specs.Int.{w8, to_be_bytes}
 use Rattle.std.specs.Str.{is_utf8}
@@ -14,9 +14,9 @@ use Rattle.wire_bytes.specs.Position.{Position, left}
 use Rattle.wire_bytes.specs.FieldTexts.{IsFixed}
 use Rattle.wire_bytes.proofs.FixedLaws.{wide8}
 use Rattle.index_parts.specs.declared.refusal.PartRefusal.{PartRefusal}
-use Rattle.index_parts.specs.declared.refusal.PartRefusal.TheVariants.{Unordered, NotText}
+use Rattle.index_parts.specs.declared.refusal.PartRefusal.TheVariants.{Unordered}
 use Rattle.index_parts.specs.declared.postings_row.PostingsRow.{PostingsRow}
-use Rattle.index_parts.specs.Rows.{compare_rows, MayComeAfter, IsNextRow}
+use Rattle.index_parts.specs.Rows.{MayComeAfter, IsNextRow}
 use Rattle.index_parts.specs.RowsReading.{may_come_after, row_told, row_at}
 use Rattle.index_parts.proofs.FieldLaws.{fixed_field, uvarint_field, long_field}
 use Rattle.index_parts.proofs.TurnLaws.{turn_found}
@@ -26,12 +26,12 @@ use Rattle.index_parts.proofs.SymbolLaws.{text_is, long_is, text_size, uvarint_s
 after_found : (before : Option PostingsRow) (row : PostingsRow) → may_come_after before row ≡ true → MayComeAfter before row
 after_found None row e =
     let p = and_parts (length row.name == 0) (length row.value == 0) e in
-    (nil_from_length row.name (eqb-true (length row.name) 0 p.0), nil_from_length row.value (eqb-true (length row.value) 0 p.1))
-after_found (Some b) row e = Less-from_is_lt (compare_rows b row) e
+    (nil_from_length _ (eqb-true (length row.name) 0 p.0), nil_from_length _ (eqb-true (length row.value) 0 p.1))
+after_found (Some b) _ e = Less-from_is_lt _ e
 
 after_again : (before : Option PostingsRow) (row : PostingsRow) → MayComeAfter before row → may_come_after before row ≡ true
-after_again None row h = rw (h.0, h.1) refl
-after_again (Some b) row h = is_lt-from_Less (compare_rows b row) h
+after_again None _ h = rw (h.0, h.1) refl
+after_again (Some b) _ h = is_lt-from_Less _ h
 
 abbrev row_with : List ℕ × Position → List ℕ × Position → ℕ × Position → PostingsRow
 row_with name value offset = record { name = name.0; value = value.0; offset = offset.0 }
@@ -44,10 +44,10 @@ record HasPassed (before : Option PostingsRow) (row told : PostingsRow) : Type 0
   same : row ≡ told
 
 told_parts : (before : Option PostingsRow) (place name_end value_end : ℕ) (row told : PostingsRow) → row_told before place name_end value_end row ≡ Ok told → HasPassed before row told
-told_parts before place name_end value_end row told e =
-    let order = unless_ok (may_come_after before row) (Unordered place) _ _ e in
-    let name = unless_ok (is_utf8 row.name) (NotText (name_end - length row.name)) _ _ order.1 in
-    let value = unless_ok (is_utf8 row.value) (NotText (value_end - length row.value)) _ _ name.1 in
+told_parts _ _ _ _ _ _ e =
+    let order = unless_ok _ _ _ _ e in
+    let name = unless_ok _ _ _ _ order.1 in
+    let value = unless_ok _ _ _ _ name.1 in
     record { ordered = order.0; name_utf8 = name.0; value_utf8 = value.0; same = ok_is {E = PartRefusal} _ _ value.1 }
 
 regroup : (name value offset after : List ℕ) → (name ++ value ++ offset) ++ after ≡ name ++ (value ++ (offset ++ after))
@@ -70,27 +70,27 @@ found before p x t are e =
     let f1 = long_field.found kind.0.1 name.0.1 name.0.0 are1 name.1 in
     let are2 = IsBytes-after f1.0 (left name.0.1) (left kind.0.1) f1.2 are1 in
     let f2 = long_field.found name.0.1 value.0.1 value.0.0 are2 value.1 in
-    let are3 = IsBytes-after f2.0 (left value.0.1) (left name.0.1) f2.2 are2 in
+    let are3 = IsBytes-after _ _ _ f2.2 are2 in
     let f3 = uvarint_field.found value.0.1 offset.0.1 offset.0.0 are3 offset.1 in
     let two : f0.0 ≡ 2 ∷ [] = f0.1.digits ∙ ap (to_be_bytes w8) (eqb-true kind.0.0 2 is_two.0) in
     let is : IsNextRow before (2 ∷ (f1.0 ++ f2.0 ++ f3.0)) row = record {
       name = f1.0;
       value = f2.0;
       offset = f3.0;
-      name_is = text_is f1.0 name.0.0 f1.1 tests.name_utf8;
-      value_is = text_is f2.0 value.0.0 f2.1 tests.value_utf8;
+      name_is = text_is _ _ f1.1 tests.name_utf8;
+      value_is = text_is _ _ f2.1 tests.value_utf8;
       offset_is = f3.1;
       text_is = refl;
-      ascends = after_found before row tests.ordered;
+      ascends = after_found _ _ tests.ordered;
     } in
-    let behind : left kind.0.1 ≡ (f1.0 ++ f2.0 ++ f3.0) ++ left offset.0.1 = f1.2 ∙ ap (λ (a : List ℕ). f1.0 ++ a) (f2.2 ∙ ap (λ (a : List ℕ). f2.0 ++ a) f3.2) ∙ sym (regroup f1.0 f2.0 f3.0 (left offset.0.1)) in
-    let whole : left p ≡ (2 ∷ (f1.0 ++ f2.0 ++ f3.0)) ++ left offset.0.1 = f0.2 ∙ ap (λ (a : List ℕ). a ++ left kind.0.1) two ∙ ap (λ (a : List ℕ). 2 ∷ a) behind in
-    turn_found IsNextRow before p offset.0.1 (2 ∷ (f1.0 ++ f2.0 ++ f3.0)) row x t is whole (ap (λ (r : PostingsRow). Ok (r, (Some r, offset.0.1))) tests.same ∙ told.2)
+    let behind = f1.2 ∙ ap (λ a. f1.0 ++ a) (f2.2 ∙ ap (λ a. f2.0 ++ a) f3.2) ∙ sym (regroup f1.0 f2.0 f3.0 (left offset.0.1)) in
+    let whole = f0.2 ∙ ap (λ a. a ++ left kind.0.1) two ∙ ap (λ a. 2 ∷ a) behind in
+    turn_found IsNextRow before p _ (2 ∷ (f1.0 ++ f2.0 ++ f3.0)) _ x t is whole (ap (λ r. Ok (r, (Some r, offset.0.1))) tests.same ∙ told.2)
 
 again : (before : Option PostingsRow) (p : Position) (text : List ℕ) (x : PostingsRow) (after : List ℕ) → IsNextRow before text x → left p ≡ text ++ after → (q : Position) × (row_at (before, p) ≡ Ok (x, (Some x, q))) × (left q ≡ after)
 unfolding row_at
-again before p text x after is e =
-    let whole : left p ≡ (2 ∷ []) ++ (is.name ++ (is.value ++ (is.offset ++ after))) = e ∙ ap (λ (a : List ℕ). a ++ after) is.text_is ∙ ap (λ (a : List ℕ). 2 ∷ a) (regroup is.name is.value is.offset after) in
+again before p _ x after is e =
+    let whole = e ∙ ap (λ a. a ++ after) is.text_is ∙ ap (λ a. 2 ∷ a) (regroup _ _ is.offset after) in
     let fixed = fixed_field w8 wide8 in
     let two : IsFixed w8 (2 ∷ []) 2 = record { digits = refl; fits = omega arith } in
     let kind = fixed.again p (2 ∷ []) 2 (is.name ++ (is.value ++ (is.offset ++ after))) two whole in
@@ -103,8 +103,8 @@ pub row_turn : IsTurnOf IsNextRow row_at
 row_turn = record { found = found; again = again }
 
 pub row_size : (before : Option PostingsRow) (text : List ℕ) (x : PostingsRow) → IsNextRow before text x → 4 ≤ length text
-row_size before text x is =
-    let a = text_size is.name x.name is.name_is in
-    let b = text_size is.value x.value is.value_is in
-    let c = uvarint_size is.offset x.offset is.offset_is in
+row_size _ _ x is =
+    let a = text_size _ _ is.name_is in
+    let b = text_size _ _ is.value_is in
+    let c = uvarint_size _ _ is.offset_is in
     omega (arith, ap length is.text_is, length-append (is.name ++ is.value) is.offset, length-append is.name is.value)

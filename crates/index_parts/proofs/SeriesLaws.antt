@@ -1,5 +1,5 @@
 -- Series against their grammar.
-use Rattle.std.proofs.Common.{◌≡◌, ℕ, ◌+◌, ◌*◌, ◌≤◌, List, [], ◌∷◌, ◌++◌, length, map, zip, None, Ok, refl, sym, ap, subst, ◌∙◌, append_assoc, length-append, arith}
+use Rattle.std.proofs.Common.{◌≡◌, ℕ, ◌+◌, ◌*◌, ◌≤◌, List, [], ◌∷◌, ◌++◌, length, map, zip, Ok, refl, sym, ap, subst, ◌∙◌, append_assoc, length-append, arith}
 use Rattle.reading_core.specs.Members.{members_at}
 use Rattle.reading_core.specs.Grammar.{IsBytes, HasFront, AreTexts}
 use Rattle.reading_core.proofs.Fronts.{IsBytes-after, members_found, members_again}
@@ -30,22 +30,22 @@ label_found p x q are e =
     let name = bind_ok _ _ _ e in
     let value = bind_ok _ _ _ name.2 in
     let f0 = uvarint_field.found p name.0.1 name.0.0 are name.1 in
-    let f1 = uvarint_field.found name.0.1 value.0.1 value.0.0 (IsBytes-after f0.0 (left name.0.1) (left p) f0.2 are) value.1 in
-    field_found IsLabel p value.0.1 q (f0.0 ++ f1.0) (name.0.0, value.0.0) x (record { name = f0.0; value = f1.0; name_is = f0.1; value_is = f1.1; text_is = refl }) (f0.2 ∙ ap (λ (a : List ℕ). f0.0 ++ a) f1.2 ∙ sym (append_assoc f0.0 f1.0 (left value.0.1))) value.2
+    let f1 = uvarint_field.found name.0.1 value.0.1 value.0.0 (IsBytes-after f0.0 (left name.0.1) _ f0.2 are) value.1 in
+    field_found IsLabel p value.0.1 q (f0.0 ++ f1.0) (name.0.0, value.0.0) x (record { name = f0.0; value = f1.0; name_is = f0.1; value_is = f1.1; text_is = refl }) (f0.2 ∙ ap (λ a. f0.0 ++ a) f1.2 ∙ sym (append_assoc f0.0 f1.0 (left value.0.1))) value.2
 
 label_again : (p : Position) (text : List ℕ) (x : ℕ × ℕ) (after : List ℕ) → IsLabel text x → left p ≡ text ++ after → (q : Position) × (label_at p ≡ Ok (x, q)) × (left q ≡ after)
 unfolding label_at
-label_again p text x after is e =
-    let name = uvarint_field.again p is.name x.0 (is.value ++ after) is.name_is (e ∙ ap (λ (a : List ℕ). a ++ after) is.text_is ∙ append_assoc is.name is.value after) in
+label_again p _ x after is e =
+    let name = uvarint_field.again p is.name x.0 (is.value ++ after) is.name_is (e ∙ ap (λ a. a ++ after) is.text_is ∙ append_assoc is.name is.value after) in
     let value = uvarint_field.again name.0 is.value x.1 after is.value_is name.2 in
     (value.0, rw (name.1, value.1) refl, value.2)
 
 labels_few : (text : List ℕ) (labels : List (ℕ × ℕ)) → AreTexts IsLabel text labels → 2 * length labels ≤ length text
-labels_few text [] are = omega arith
-labels_few text (label ∷ labels) are =
-    let a = uvarint_size are.2.name label.0 are.2.name_is in
-    let b = uvarint_size are.2.value label.1 are.2.value_is in
-    let others = labels_few are.1 labels are.3 in
+labels_few _ [] are = omega arith
+labels_few _ (label ∷ labels) are =
+    let a = uvarint_size _ _ are.2.name_is in
+    let b = uvarint_size _ _ are.2.value_is in
+    let others = labels_few _ labels are.3 in
     omega (arith, ap length are.4, length-append are.0 are.1, ap length are.2.text_is, length-append are.2.name are.2.value)
 
 -- ---- the series
@@ -66,19 +66,19 @@ record HasLabels (bytes : List ℕ) (count : ℕ) (names values after : List ℕ
 
 labels_found : (count : ℕ) (p q : Position) (names values : List ℕ) → IsBytes (left p) → labels_at count p ≡ Ok ((names, values), q) → HasLabels (left p) count names values (left q)
 unfolding labels_at
-labels_found count p q names values are e =
+labels_found count p q _ _ are e =
     let x = bind_ok _ _ _ e in
-    let same : ◌≡◌ {A = (List ℕ × List ℕ) × Position} ((map (λ label. label.0) x.0.0, map (λ label. label.1) x.0.0), x.0.1) ((names, values), q) = ok_is {E = PartRefusal} _ _ x.2 in
-    let texts = members_found left label_at IsLabel label_found count p x.0.0 x.0.1 are x.1 in
-    let many : length x.0.0 ≡ count = length-members label_at count p x.0.1 x.0.0 x.1 in
+    let same = ok_is {E = PartRefusal} _ _ x.2 in
+    let texts = members_found left label_at IsLabel label_found _ p _ _ are x.1 in
+    let many = length-members label_at _ p _ _ x.1 in
     let has : HasLabels (left p) count (map (λ label. label.0) x.0.0) (map (λ label. label.1) x.0.0) (left x.0.1) = record {
       text = texts.0;
-      are = subst (λ (l : List (ℕ × ℕ)). AreTexts IsLabel texts.0 l) (sym (zip_parts x.0.0)) texts.1;
+      are = subst (λ l. AreTexts IsLabel texts.0 l) (sym (zip_parts _)) texts.1;
       front = texts.2;
-      names_many = length-map x.0.0 (λ (p : ℕ × ℕ). p.0) ∙ many;
-      values_many = length-map x.0.0 (λ (p : ℕ × ℕ). p.1) ∙ many;
+      names_many = length-map _ _ ∙ many;
+      values_many = length-map _ _ ∙ many;
     } in
-    subst (λ (r : (List ℕ × List ℕ) × Position). HasLabels (left p) count r.0.0 r.0.1 (left r.1)) same has
+    subst (λ r. HasLabels (left p) count r.0.0 r.0.1 (left r.1)) same has
 
 labels_again : (p : Position) (text names values after : List ℕ) → length names ≡ length values → AreTexts IsLabel text (zip names values) → left p ≡ text ++ after → (q : Position) × (labels_at (length names) p ≡ Ok ((names, values), q)) × (left q ≡ after)
 unfolding labels_at
@@ -101,9 +101,9 @@ series_found index at series are e =
     let f0 = uvarint_field.found content.0 label_count.0.1 label_count.0.0 entry.1 content.2 in
     let are1 = IsBytes-after f0.0 (left label_count.0.1) (left content.0) f0.2 entry.1 in
     let f1 = labels_found label_count.0.0 label_count.0.1 labels.0.1 labels.0.0.0 labels.0.0.1 are1 labels.1 in
-    let are2 = IsBytes-after f1.text (left labels.0.1) (left label_count.0.1) f1.front are1 in
+    let are2 = IsBytes-after _ _ _ f1.front are1 in
     let f2 = uvarint_field.found labels.0.1 chunk_count.0.1 chunk_count.0.0 are2 chunk_count.1 in
-    let are3 = IsBytes-after f2.0 (left chunk_count.0.1) (left labels.0.1) f2.2 are2 in
+    let are3 = IsBytes-after _ _ _ f2.2 are2 in
     let f3 = counted_found IsNextChunk chunk_at chunk_turn chunk_count.0.0 chunk_count.0.1 chunks.0 are3 chunk_count.2 in
     let is : IsSeries index at (series_with labels.0 chunks.0) = record {
       content = left content.0;
@@ -113,14 +113,14 @@ series_found index at series are e =
       chunks = f3.text;
       left_over = f3.after;
       entry = entry.0;
-      content_is = f0.2 ∙ ap (λ (a : List ℕ). f0.0 ++ a) (f1.front ∙ ap (λ (a : List ℕ). f1.text ++ a) (f2.2 ∙ ap (λ (a : List ℕ). f2.0 ++ a) f3.front)) ∙ sym (regroup f0.0 f1.text f2.0 f3.text f3.after);
+      content_is = f0.2 ∙ ap (λ a. f0.0 ++ a) (f1.front ∙ ap (λ a. f1.text ++ a) (f2.2 ∙ ap (λ a. f2.0 ++ a) f3.front)) ∙ sym (regroup f0.0 f1.text f2.0 f3.text f3.after);
       as_many = f1.names_many ∙ sym f1.values_many;
       label_count_is = subst (IsUvarint f0.0) (sym f1.names_many) f0.1;
       labels_are = f1.are;
       chunk_count_is = subst (IsUvarint f2.0) (sym f3.many) f2.1;
       chunks_are = f3.are;
     } in
-    subst (λ (s : RawSeries). IsSeries index at s) same is
+    subst (λ s. IsSeries index at s) same is
 
 pub series_again : (index : List ℕ) (at : ℕ) (series : RawSeries) → IsSeries index at series → series_at index at ≡ Ok series
 unfolding series_at labels_begin_at chunks_at
@@ -134,10 +134,10 @@ series_again index at series is =
     rw (entry.1, label_count.1, labels.1, chunk_count.1, chunks) refl
 
 pub series_few : (index : List ℕ) (at : ℕ) (series : RawSeries) → IsSeries index at series → length series.names + length series.values + 3 * length series.chunks ≤ length index
-series_few index at series is =
-    let small = framed_small IsUvarint index at is.content is.entry in
-    let labels = labels_few is.labels (zip series.names series.values) is.labels_are in
-    let chunks = turns_few IsNextChunk 3 chunk_size None is.chunks series.chunks is.chunks_are in
-    let many = length-zip series.names series.values is.as_many in
-    let whole = ap length (is.content_is ∙ regroup is.label_count is.labels is.chunk_count is.chunks is.left_over) in
-    omega (arith, whole, is.as_many, length-append is.label_count (is.labels ++ (is.chunk_count ++ (is.chunks ++ is.left_over))), length-append is.labels (is.chunk_count ++ (is.chunks ++ is.left_over)), length-append is.chunk_count (is.chunks ++ is.left_over), length-append is.chunks is.left_over)
+series_few _ at series is =
+    let small = framed_small _ _ at is.content is.entry in
+    let labels = labels_few _ _ is.labels_are in
+    let chunks = turns_few _ 3 chunk_size _ _ _ is.chunks_are in
+    let many = length-zip _ _ is.as_many in
+    let whole = ap length (is.content_is ∙ regroup _ is.labels is.chunk_count is.chunks is.left_over) in
+    omega (arith, length-append is.label_count (is.labels ++ (is.chunk_count ++ (is.chunks ++ is.left_over))), length-append is.labels (is.chunk_count ++ (is.chunks ++ is.left_over)), length-append is.chunk_count (is.chunks ++ is.left_over), length-append is.chunks is.left_over)

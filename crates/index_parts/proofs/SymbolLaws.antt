@@ -8,7 +8,6 @@ use Rattle.reading_core.specs.Grammar.{IsBytes, HasFront}
 use Rattle.reading_core.proofs.Binds.{bind_ok, unless_ok}
 use Rattle.wire_bytes.specs.Position.{Position, left}
 use Rattle.wire_bytes.specs.FieldTexts.{IsUvarint, IsGroups}
-use Rattle.label_sets.specs.Labels.{compare_texts}
 use Rattle.index_parts.specs.declared.refusal.PartRefusal.TheVariants.{Unordered, NotText}
 use Rattle.index_parts.specs.Placed.{text_at}
 use Rattle.index_parts.specs.Framed.{IsText}
@@ -20,10 +19,10 @@ use Rattle.index_parts.proofs.ListLaws.{IsTurnOf}
 
 -- a text that is UTF-8 behind its length
 pub text_is : (bytes text : List ℕ) → IsLong bytes text → is_utf8 text ≡ true → IsText bytes text
-text_is bytes text is e = record { size = is.size; size_is = is.size_is; utf8 = IsUtf8-from_is_utf8 text e; bytes_are = is.text_is }
+text_is _ _ is e = record { size = is.size; size_is = is.size_is; utf8 = IsUtf8-from_is_utf8 _ e; bytes_are = is.text_is }
 
 pub long_is : (bytes text : List ℕ) → IsText bytes text → IsLong bytes text
-long_is bytes text is = record { size = is.size; size_is = is.size_is; text_is = is.bytes_are }
+long_is _ _ is = record { size = is.size; size_is = is.size_is; text_is = is.bytes_are }
 
 -- a length takes a byte at least
 some_groups : (text : List ℕ) (n : ℕ) → IsGroups text n → 1 ≤ length text
@@ -31,18 +30,18 @@ some_groups [] n is = absurd is
 some_groups (x ∷ xs) n is = omega arith
 
 pub uvarint_size : (text : List ℕ) (n : ℕ) → IsUvarint text n → 1 ≤ length text
-uvarint_size text n is = some_groups text n is.groups
+uvarint_size _ n is = some_groups _ n is.groups
 
 pub text_size : (bytes text : List ℕ) → IsText bytes text → 1 ≤ length bytes
-text_size bytes text is = let one = uvarint_size is.size (length text) is.size_is in omega (arith, ap length is.bytes_are, length-append is.size text)
+text_size _ text is = let one = uvarint_size _ _ is.size_is in omega (arith, ap length is.bytes_are, length-append is.size text)
 
 follows_found : (before : Option (List ℕ)) (s : List ℕ) → may_follow before s ≡ true → MayFollow before s
 follows_found None s e = tt
-follows_found (Some b) s e = Less-from_is_lt (compare_texts b s) e
+follows_found (Some b) s e = Less-from_is_lt _ e
 
 follows_again : (before : Option (List ℕ)) (s : List ℕ) → MayFollow before s → may_follow before s ≡ true
 follows_again None s h = refl
-follows_again (Some b) s h = is_lt-from_Less (compare_texts b s) h
+follows_again (Some b) s h = is_lt-from_Less _ h
 
 found : (before : Option (List ℕ)) (p : Position) (x : List ℕ) (t : Option (List ℕ) × Position) → IsBytes (left p) → symbol_at (before, p) ≡ Ok (x, t) → HasFront (IsNextSymbol before) (left p) x (left t.1) × (t.0 ≡ Some x)
 unfolding symbol_at
@@ -65,4 +64,4 @@ pub symbol_turn : IsTurnOf IsNextSymbol symbol_at
 symbol_turn = record { found = found; again = again }
 
 pub symbol_size : (before : Option (List ℕ)) (text x : List ℕ) → IsNextSymbol before text x → 1 ≤ length text
-symbol_size before text x is = text_size text x is.text_is
+symbol_size _ _ x is = text_size _ x is.text_is

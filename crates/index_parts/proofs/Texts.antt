@@ -21,12 +21,12 @@ text_within p q bytes e =
     omega (arith, ap length parts.1, length-take x.0.0 (left x.0.1))
 
 pub is_text : (bytes : List ℕ) → IsUtf8 bytes → is_utf8 bytes ≡ true
-is_text bytes is = is_utf8-from_IsUtf8 bytes is
+is_text _ is = is_utf8-from_IsUtf8 _ is
 
 pub is_ascii_text : (bytes : List ℕ) → IsAscii bytes → is_utf8 bytes ≡ true
-is_ascii_text bytes is = is_text bytes (IsUtf8-from_ascii bytes is)
+is_ascii_text _ is = is_text _ (IsUtf8-from_ascii _ is)
 
 pub is_no_text : (bytes : List ℕ) → (IsUtf8 bytes → ⊥) → is_utf8 bytes ≡ false
-is_no_text bytes not = false_from_ne_true (is_utf8 bytes) (λ e. not (IsUtf8-from_is_utf8 bytes e))
+is_no_text _ not = false_from_ne_true _ (λ e. not (IsUtf8-from_is_utf8 _ e))
 
 pub ruleset utf8_tests = (is_text, is_ascii_text, is_no_text, IsUtf8-from_ascii)

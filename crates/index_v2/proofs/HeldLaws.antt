@@ -15,10 +15,10 @@ use Rattle.index_parts.specs.declared.refusal.PartRefusal.TheVariants as part
 use Rattle.index_parts.specs.declared.toc.Toc.{Toc}
 use Rattle.index_parts.specs.declared.postings_row.PostingsRow.{PostingsRow}
 use Rattle.index_parts.specs.Lists.{IsList}
-use Rattle.index_parts.specs.SymbolsReading.{symbol_at, symbols_at}
-use Rattle.index_parts.specs.RowsReading.{row_at, postings_table_at}
-use Rattle.index_parts.specs.Symbols.{IsNextSymbol, IsSymbols}
-use Rattle.index_parts.specs.Rows.{IsNextRow, IsPostingsTable}
+use Rattle.index_parts.specs.SymbolsReading.{symbols_at}
+use Rattle.index_parts.specs.RowsReading.{postings_table_at}
+use Rattle.index_parts.specs.Symbols.{IsSymbols}
+use Rattle.index_parts.specs.Rows.{IsPostingsTable}
 use Rattle.index_parts.proofs.ListLaws.{IsTurnOf, list_again}
 use Rattle.index_parts.specs.Postings.{IsNextPosting, IsPostings}
 use Rattle.index_parts.specs.PostingsReading.{posting_at}
@@ -47,23 +47,23 @@ pub whole_is : (held : Held) → IsWhole held → held ≡ whole_file (opened_of
 whole_is held is = λ i. record { bytes = held.bytes; toc = held.toc; symbols = held.symbols; rows = held.rows; lists = is.lists_are i; symbols_size = is.symbols_size_is i; rows_size = is.rows_size_is i }
 
 pub opened_whole : (held : Held) → IsWhole held → opened_at held.bytes ≡ Ok (opened_of held)
-opened_whole held is = opened_again held.bytes (opened_of held) refl is.is_opened
+opened_whole held is = opened_again held.bytes _ refl is.is_opened
 
 -- what holds an index in its bytes is of a whole file
 pub whole_or_none : (held : Held) → IsWhole held ⊎ (held.bytes ≡ []) → (list : List IndexSeries) → IsIndex held.bytes list → IsWhole held
-whole_or_none held (inl is) list index = is
-whole_or_none held (inr none) list index =
+whole_or_none _ (inl is) _ index = is
+whole_or_none _ (inr none) _ index =
     let long = index.is_opened.long in
     let same = ap length index.bytes_are in
     let empty = ap length none in
-    absurd (omega (arith, long, same, empty))
+    absurd (omega arith)
 
 pub opened_from : (held : Held) → IsWhole held ⊎ (held.bytes ≡ []) → (list : List IndexSeries) → IsIndex held.bytes list → opened_at held.bytes ≡ Ok (opened_of held)
-opened_from held one list index = opened_whole held (whole_or_none held one list index)
+opened_from _ one _ index = opened_whole _ (whole_or_none _ one _ index)
 
 opened_parts : (index : List ℕ) (toc : Toc) (symbols : List (List ℕ)) (rows : List PostingsRow) → contents_at index ≡ Ok toc → held_at 1 symbols_at index toc.symbols ≡ Ok symbols → held_at 6 postings_table_at index toc.postings_table ≡ Ok rows → opened_at index ≡ Ok (record { bytes = index; toc = toc; symbols = symbols; rows = rows })
 unfolding opened_at
-opened_parts index toc symbols rows a b c = rw (a, b, c) refl
+opened_parts _ _ _ _ a b c = rw (a, b, c) refl
 
 pub read_whole : (index : List ℕ) (toc : Toc) (symbols : List (List ℕ)) (rows : List PostingsRow) (size : ℕ) → size ≡ length index → IsBytes index → contents_at index ≡ Ok toc → held_at 1 symbols_at index toc.symbols ≡ Ok symbols → held_at 6 postings_table_at index toc.postings_table ≡ Ok rows → IsWhole (record { bytes = index; toc = toc; symbols = symbols; rows = rows; lists = file index; symbols_size = size; rows_size = size })
 read_whole index toc symbols rows size long are a b c =
@@ -72,20 +72,20 @@ read_whole index toc symbols rows size long are a b c =
 
 -- a part stands in the index as far as it is known
 pub known_is : (here : Part) → IsPartOf here (known here)
-known_is here = record { before = replicate here.begin 0; after = []; begins = length-replicate here.begin 0; stands = sym (append-nil (known here)) }
+known_is here = record { before = replicate here.begin 0; after = []; begins = length-replicate _ 0; stands = sym (append-nil (known here)) }
 
 pub file_is : (index : List ℕ) → IsPartOf (file index) index
-file_is index = known_is (file index)
+file_is _ = known_is _
 
 pub both_ok : {X E : Type 0} (P Q : X → Type 0) (r : Result X E) → IfOk r P → IfOk r Q → IfOk r (λ x. P x × Q x)
 both_ok P Q (Ok x) p q = (p, q)
 both_ok P Q (Err e) p q = tt
 
 pub whole_only : (r : Result Held IndexRefusal) (opened : Opened) → IfOk r IsWhole → IsOkAnd r (λ held. opened_of held ≡ opened) ⊎ (r ≡ Err NoMemory) → IsOkAnd r (λ held. held ≡ whole_file opened) ⊎ (r ≡ Err NoMemory)
-whole_only (Ok held) opened is (inl same) = inl (whole_is held is ∙ ap whole_file same)
-whole_only (Ok held) opened is (inr e) = inr e
-whole_only (Err d) opened is (inl none) = absurd none
-whole_only (Err d) opened is (inr e) = inr e
+whole_only (Ok held) _ is (inl same) = inl (whole_is _ is ∙ ap whole_file same)
+whole_only (Ok held) _ is (inr e) = inr e
+whole_only (Err d) _ is (inl none) = absurd none
+whole_only (Err d) _ is (inr e) = inr e
 
 -- ---- of parts
 
@@ -94,13 +94,13 @@ one_list : {A : Type 0} (IsNext : Option A → List ℕ → A → Type 0) (read 
 one_list {A} IsNext read turn index reference xs ys is other = by_bool {P = xs ≡ ys} (reference == 0)
     (λ zero_is. let x : xs ≡ [] = rw zero_is at is in let y : ys ≡ [] = rw zero_is at other in x ∙ sym y)
     (λ some. let x : IsList IsNext index reference xs = rw some at is in let y : IsList IsNext index reference ys = rw some at other in
-    ok_is {E = PartRefusal} xs ys (sym (list_again IsNext read turn index reference xs x) ∙ list_again IsNext read turn index reference ys y))
+    ok_is {E = PartRefusal} _ _ (sym (list_again IsNext read turn _ _ _ x) ∙ list_again IsNext read turn _ _ _ y))
 
 pub held_of_slices : (parts : IndexParts) (opened : Opened) (symbols : List (List ℕ)) (rows : List PostingsRow) → IsOpened opened → parts.toc ≡ opened.toc → AreSlicesOf parts opened.bytes → Holds IsSymbols opened.bytes parts.toc.symbols symbols → Holds IsPostingsTable opened.bytes parts.toc.postings_table rows → IsHeldOf (held_of parts symbols rows) opened
 held_of_slices parts opened symbols rows is toc slices s r = record {
   toc_is = toc;
-  symbols_are = one_list IsNextSymbol symbol_at symbol_turn opened.bytes opened.toc.symbols symbols opened.symbols (subst (λ (t : Toc). Holds IsSymbols opened.bytes t.symbols symbols) toc s) is.symbols_are;
-  rows_are = one_list IsNextRow row_at row_turn opened.bytes opened.toc.postings_table rows opened.rows (subst (λ (t : Toc). Holds IsPostingsTable opened.bytes t.postings_table rows) toc r) is.rows_are;
+  symbols_are = one_list _ _ symbol_turn _ _ _ _ (subst (λ t. Holds IsSymbols opened.bytes t.symbols symbols) toc s) is.symbols_are;
+  rows_are = one_list _ _ row_turn _ _ _ _ (subst (λ t. Holds IsPostingsTable opened.bytes t.postings_table rows) toc r) is.rows_are;
   lists_are = slices.lists_are;
   series_are = inl refl;
 }
@@ -115,42 +115,42 @@ held_of_bytes parts index symbols rows slices s r =
 -- ---- what is read of parts is what is read of the index
 
 pub list_same : (here : Part) (index : List ℕ) → IsPartOf here index → (row : Option PostingsRow) → ((r : PostingsRow) → row ≡ Some r → HoldsSection here r.offset) → list_of here row ≡ list_of (file index) row
-list_same here index is None lies = refl
-list_same here index is (Some row) lies = ap (refused_as (refused_in 5)) (list_of_index here index row.offset is (lies row refl))
+list_same _ _ is None lies = refl
+list_same _ _ is (Some row) lies = ap (refused_as (refused_in 5)) (list_of_index _ _ _ is (lies row refl))
 
 lists_same : (here : Part) (index : List ℕ) → IsPartOf here index → (rows : List PostingsRow) → ((row : PostingsRow) → Contains rows row → HoldsSection here row.offset) → lists_at here rows ≡ lists_at (file index) rows
 unfolding lists_at
-lists_same here index is [] lie = refl
+lists_same _ _ is [] lie = refl
 lists_same here index is (row ∷ rows) lie =
-    rw (list_of_index here index row.offset is (lie row (contains_first row rows)), lists_same here index is rows (λ one has. lie one (contains_later row one rows has))) refl
+    rw (list_of_index here index row.offset is (lie row (contains_first _ _)), lists_same here index is rows (λ one has. lie one (contains_later _ _ _ has))) refl
 
 nothing_read : (index : List ℕ) (symbols : List (List ℕ)) (before : Option IndexSeries) → all_at index symbols before [] ≡ Ok []
 unfolding all_at
-nothing_read index symbols before = refl
+nothing_read _ _ _ = refl
 
 -- where no series is to be read
 none_listed : (held : Held) → postings_of held [] [] ≡ Ok [] → whole_at held ≡ (lists_at held.lists held.rows >>= λ lists. unless_differ (difference held.rows lists []) >> Ok [])
 unfolding whole_at present_at
-none_listed held none = rw (none, nothing_read held.bytes held.symbols None) refl
+none_listed _ none = rw (none, nothing_read) refl
 
 none_same : (held : Held) (opened : Opened) → IsHeldOf held opened → ((row : PostingsRow) → Contains held.rows row → HoldsSection held.lists row.offset) → postings_of held [] [] ≡ Ok [] → whole_at held ≡ whole_at (whole_file opened)
 none_same held opened is lie none =
-    let first : postings_of held [] [] ≡ list_of (file opened.bytes) (row_of held.rows [] []) = list_same held.lists opened.bytes is.lists_are (row_of held.rows [] []) (λ row some. lie row (row_found held.rows [] [] row some).0) in
-    let there : postings_of (whole_file opened) [] [] ≡ Ok [] = ap (λ (rows : List PostingsRow). list_of (file opened.bytes) (row_of rows [] [])) (sym is.rows_are) ∙ sym first ∙ none in
-    let lists : lists_at held.lists held.rows ≡ lists_at (file opened.bytes) opened.rows = lists_same held.lists opened.bytes is.lists_are held.rows lie ∙ ap (lists_at (file opened.bytes)) is.rows_are in
-    none_listed held none
-    ∙ ap (λ (r : Result (List (List ℕ)) IndexRefusal). r >>= λ lists. unless_differ (difference held.rows lists []) >> Ok []) lists
-    ∙ ap (λ (rows : List PostingsRow). lists_at (file opened.bytes) opened.rows >>= λ lists. unless_differ (difference rows lists []) >> Ok []) is.rows_are
-    ∙ sym (none_listed (whole_file opened) there)
+    let first : postings_of held [] [] ≡ list_of (file opened.bytes) (row_of held.rows [] []) = list_same held.lists _ is.lists_are _ (λ row some. lie row (row_found _ _ _ _ some).0) in
+    let there = ap (λ rows. list_of (file opened.bytes) (row_of rows [] [])) (sym is.rows_are) ∙ sym first ∙ none in
+    let lists = lists_same _ _ is.lists_are _ lie ∙ ap (lists_at (file opened.bytes)) is.rows_are in
+    none_listed _ none
+    ∙ ap (λ r. r >>= λ lists. unless_differ (difference held.rows lists []) >> Ok []) lists
+    ∙ ap (λ rows. lists_at (file opened.bytes) opened.rows >>= λ lists. unless_differ (difference rows lists []) >> Ok []) is.rows_are
+    ∙ sym (none_listed _ there)
 
 -- where the first list is refused, or a section that its series need is absent
 listed_refused : (held : Held) (d : IndexRefusal) → postings_of held [] [] ≡ Err d → whole_at held ≡ Err d
 unfolding whole_at
-listed_refused held d e = rw e refl
+listed_refused _ d e = rw e refl
 
 section_absent : (held : Held) (numbers : List ℕ) (d : IndexRefusal) → postings_of held [] [] ≡ Ok numbers → present_at held.toc numbers ≡ Err d → whole_at held ≡ Err d
 unfolding whole_at
-section_absent held numbers d a b = rw (a, b) refl
+section_absent _ _ d a b = rw (a, b) refl
 
 by_list : {E P : Type 0} (r : Result (List ℕ) E) → (r ≡ Ok [] → P) → ((n : ℕ) (ns : List ℕ) → r ≡ Ok (n ∷ ns) → P) → ((d : E) → r ≡ Err d → P) → P
 by_list (Ok []) f g h = f refl
@@ -163,43 +163,43 @@ by_unit (Err d) f g = g d refl
 
 pub whole_same : (held : Held) (opened : Opened) → IsHeldOf held opened → ((row : PostingsRow) → Contains held.rows row → HoldsSection held.lists row.offset) → ((number : ℕ) (numbers : List ℕ) → postings_of held [] [] ≡ Ok (number ∷ numbers) → present_at held.toc (number ∷ numbers) ≡ Ok tt → ⊥) → whole_at held ≡ whole_at (whole_file opened)
 whole_same held opened is lie unread =
-    let first : postings_of held [] [] ≡ postings_of (whole_file opened) [] [] =
-    list_same held.lists opened.bytes is.lists_are (row_of held.rows [] []) (λ row some. lie row (row_found held.rows [] [] row some).0) ∙ ap (λ (rows : List PostingsRow). list_of (file opened.bytes) (row_of rows [] [])) is.rows_are in
-    by_list (postings_of held [] []) (none_same held opened is lie)
+    let first =
+    list_same _ _ is.lists_are _ (λ row some. lie row (row_found _ _ _ _ some).0) ∙ ap (λ rows. list_of (file opened.bytes) (row_of rows [] [])) is.rows_are in
+    by_list _ (none_same _ _ is lie)
     (λ n ns e. by_unit (present_at held.toc (n ∷ ns)) (λ present. absurd (unread n ns e present))
-    (λ d absent. section_absent held (n ∷ ns) d e absent ∙ sym (section_absent (whole_file opened) (n ∷ ns) d (sym first ∙ e) (ap (λ (toc : Toc). present_at toc (n ∷ ns)) (sym is.toc_is) ∙ absent))))
-    (λ d e. listed_refused held d e ∙ sym (listed_refused (whole_file opened) d (sym first ∙ e)))
+    (λ d absent. section_absent held (n ∷ ns) d e absent ∙ sym (section_absent _ _ d (sym first ∙ e) (ap (λ toc. present_at toc (n ∷ ns)) (sym is.toc_is) ∙ absent))))
+    (λ d e. listed_refused held d e ∙ sym (listed_refused _ d (sym first ∙ e)))
 
 all_absent : (symbols : List (List ℕ)) (number : ℕ) (numbers : List ℕ) → all_at [] symbols None (number ∷ numbers) ≡ Err (BadSeries number (part.Short (16 * number)))
 unfolding all_at behind_at
-all_absent symbols number numbers = rw (number_absent symbols number) refl
+all_absent _ _ _ = rw (number_absent) refl
 
 first_absent : (held : Held) (number : ℕ) (numbers : List ℕ) → postings_of held [] [] ≡ Ok (number ∷ numbers) → present_at held.toc (number ∷ numbers) ≡ Ok tt → all_at held.bytes held.symbols None (number ∷ numbers) ≡ Err (BadSeries number (part.Short (16 * number))) → whole_at held ≡ Err (BadSeries number (part.Short (16 * number)))
 unfolding whole_at
-first_absent held number numbers listed present e = rw (listed, present, e) refl
+first_absent _ _ _ listed present e = rw (listed, present, e) refl
 
 -- where one is to be read, and none is there
 pub whole_absent : (held : Held) (number : ℕ) (numbers : List ℕ) → held.bytes ≡ [] → postings_of held [] [] ≡ Ok (number ∷ numbers) → present_at held.toc (number ∷ numbers) ≡ Ok tt → whole_at held ≡ Err (BadSeries number (part.Short (16 * number)))
-whole_absent held number numbers none listed present = first_absent held number numbers listed present (ap (λ (bytes : List ℕ). all_at bytes held.symbols None (number ∷ numbers)) none ∙ all_absent held.symbols number numbers)
+whole_absent held number numbers none listed present = first_absent _ _ _ listed present (ap (λ bytes. all_at bytes held.symbols None (number ∷ numbers)) none ∙ all_absent _ _ _)
 
 -- what is read for a row is what the index has for it
 pub found_of_row : (r : Result (List ℕ) IndexRefusal) (index : List ℕ) (rows : List PostingsRow) (name value : List ℕ) (row : PostingsRow) → row_of rows name value ≡ Some row → IfOk r (λ numbers. IsPostings index row.offset numbers) → IfOk r (λ numbers. list_of (file index) (row_of rows name value) ≡ Ok numbers)
-found_of_row (Ok numbers) index rows name value row is stands = ap (list_of (file index)) is ∙ ap (refused_as (refused_in 5)) (list_again IsNextPosting posting_at posting_turn index row.offset numbers stands)
-found_of_row (Err e) index rows name value row is stands = tt
+found_of_row (Ok numbers) index _ _ _ _ is stands = ap (list_of (file index)) is ∙ ap (refused_as (refused_in 5)) (list_again IsNextPosting posting_at posting_turn _ _ _ stands)
+found_of_row (Err e) _ _ _ _ _ is stands = tt
 
 -- ---- refusals of sections
 
 pub section_refused : {X : Type 0} (section : ℕ) (read : Result X PartRefusal) (e : PartRefusal) (f : IndexRefusal) → f ≡ refused_in section e → (e ≡ part.NoMemory) ⊎ (read ≡ Err e) → (f ≡ NoMemory) ⊎ (refused_as (refused_in section) read ≡ Err f)
-section_refused section read e f is (inl none) = inl (is ∙ ap (refused_in section) none)
-section_refused section read e f is (inr refused) = inr (ap (refused_as (refused_in section)) refused ∙ ap Err (sym is))
+section_refused section _ e f is (inl none) = inl (is ∙ ap (refused_in section) none)
+section_refused section _ e f is (inr refused) = inr (ap (refused_as (refused_in section)) refused ∙ ap Err (sym is))
 
 pub not_refused : {X E P : Type 0} (x : X) (d e : E) → (◌≡◌ {A = Result X E} (Ok x) (Err d)) ⊎ (◌≡◌ {A = Result X E} (Ok x) (Err e)) → P
 not_refused x d e (inl h) = absurd cc
 not_refused x d e (inr h) = absurd cc
 
 pub section_outside : {X : Type 0} (section at : ℕ) (e : PartRefusal) (f : IndexRefusal) → f ≡ refused_in section e → (◌≡◌ {A = Result X PartRefusal} (Err e) (Err (part.Short at))) ⊎ (◌≡◌ {A = Result X PartRefusal} (Err e) (Err part.NoMemory)) → (◌≡◌ {A = Result X IndexRefusal} (Err f) (Err (BadSection section (part.Short at)))) ⊎ (◌≡◌ {A = Result X IndexRefusal} (Err f) (Err NoMemory))
-section_outside {X} section at e f is (inl h) = inl (ap Err (is ∙ ap (refused_in section) (err_is {A = X} e (part.Short at) h)))
-section_outside {X} section at e f is (inr h) = inr (ap Err (is ∙ ap (refused_in section) (err_is {A = X} e part.NoMemory h)))
+section_outside {X} section _ e f is (inl h) = inl (ap Err (is ∙ ap (refused_in section) (err_is {A = X} e _ h)))
+section_outside {X} section _ e f is (inr h) = inr (ap Err (is ∙ ap (refused_in section) (err_is {A = X} e _ h)))
 
 pub no_row : {P : Type 0} (row : Option PostingsRow) (one : PostingsRow) → row ≡ None → row ≡ Some one → P
-no_row row one none some = let no = sym none ∙ some in absurd cc
+no_row _ _ none some = let no = sym none ∙ some in absurd cc

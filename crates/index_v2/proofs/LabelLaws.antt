@@ -3,11 +3,10 @@ use Rattle.std.proofs.Common.{◌≡◌, ◌≢◌, ℕ, ◌+◌, ◌*◌, ◌<�
 use Rattle.std.specs.Prelude.{slice_get}
 use Rattle.std.proofs.lemmas.Bool.{lt-ltb}
 use Rattle.list_core.proofs.Bools.{is_lt-from_Less}
-use Rattle.reading_core.specs.Reading.{◌>>=◌}
 use Rattle.reading_core.specs.Grammar.{IsBytes}
 use Rattle.reading_core.proofs.Binds.{bind_ok, refused_as_ok, ok_is}
 use Rattle.label_sets.specs.declared.label.Label.{Label}
-use Rattle.label_sets.specs.Labels.{compare_texts, ComesBefore, StandsBefore, IsLabelSet}
+use Rattle.label_sets.specs.Labels.{ComesBefore, StandsBefore, IsLabelSet}
 use Rattle.label_sets.proofs.LabelValues.{StandsBefore-trans}
 use Rattle.index_parts.specs.declared.refusal.PartRefusal.{PartRefusal}
 use Rattle.index_parts.specs.declared.raw_series.RawSeries.{RawSeries}
@@ -15,8 +14,7 @@ use Rattle.index_parts.specs.SeriesReading.{series_at}
 use Rattle.index_parts.proofs.SeriesLaws.{series_found, series_again}
 use Rattle.index_file.specs.declared.index_series.IndexSeries.{IndexSeries}
 use Rattle.index_v2.specs.declared.label_fault.LabelFault.{LabelFault}
-use Rattle.index_v2.specs.Opening.{refused_of}
-use Rattle.index_v2.specs.SeriesLabels.{label_of, labels_of, texts_at, fault_at, labelled_at, numbered_at}
+use Rattle.index_v2.specs.SeriesLabels.{label_of, labels_of, texts_at, labelled_at, numbered_at}
 use Rattle.index_file.specs.IndexFile.{StandFor, IsSeriesOf}
 use Rattle.wire_bytes.specs.Position.{Position}
 use Rattle.index_v2.proofs.LabelReading.{label_parts}
@@ -33,25 +31,25 @@ AreChained before (l ∷ ls) = ComesBefore before l.name × (0 < length l.value)
 above_nothing : (before name : List ℕ) → ComesBefore before name → name ≢ []
 above_nothing [] [] h e = cc
 above_nothing (b ∷ before) [] h e = cc
-above_nothing before (n ∷ name) h e = cc
+above_nothing _ (n ∷ name) h e = cc
 
 long_value : (value : List ℕ) → 0 < length value → value ≢ []
 long_value [] h e = absurd (omega arith)
 long_value (v ∷ value) h e = cc
 
 pub set_from_chain : (before : List ℕ) (ls : List Label) → AreChained before ls → IsLabelSet ls × StandsBefore before ls
-set_from_chain before [] chain = (tt, tt)
-set_from_chain before (l ∷ ls) chain =
+set_from_chain _ [] chain = (tt, tt)
+set_from_chain _ (l ∷ ls) chain =
     let others = set_from_chain l.name ls chain.2 in
-    ((above_nothing before l.name chain.0, long_value l.value chain.1, others.1, others.0), (chain.0, StandsBefore-trans before l.name ls chain.0 others.1))
+    ((above_nothing _ _ chain.0, long_value _ chain.1, others.1, others.0), (chain.0, StandsBefore-trans _ _ _ chain.0 others.1))
 
 some_length : (value : List ℕ) → value ≢ [] → 0 < length value
 some_length [] h = absurd (h refl)
 some_length (v ∷ value) h = omega arith
 
 chain_from_set : (before : List ℕ) (ls : List Label) → IsLabelSet ls → StandsBefore before ls → AreChained before ls
-chain_from_set before [] is stands = tt
-chain_from_set before (l ∷ ls) is stands = (stands.0, some_length l.value is.1, chain_from_set l.name ls is.3 is.2)
+chain_from_set _ [] is stands = tt
+chain_from_set _ (l ∷ ls) is stands = (stands.0, some_length l.value is.1, chain_from_set l.name ls is.3 is.2)
 
 nothing_before : (name : List ℕ) → name ≢ [] → ComesBefore [] name
 nothing_before [] h = absurd (h refl)
@@ -66,92 +64,92 @@ all_above_nothing (l ∷ ls) is = (nothing_before l.name is.0, all_above_nothing
 labels_parts : (symbols : List (List ℕ)) (before : List ℕ) (place name value : ℕ) (names values : List ℕ) (labels : List Label) → labels_of symbols before place (name ∷ names) (value ∷ values) ≡ Ok labels
     → (label : Label) × (others : List Label) × (label_of symbols before place name value ≡ Ok label) × (labels_of symbols label.name (place + 1) names values ≡ Ok others) × (label ∷ others ≡ labels)
 unfolding labels_of
-labels_parts symbols before place name value names values labels e =
-    let first = bind_ok (label_of symbols before place name value) (λ label. labels_of symbols label.name (place + 1) names values >>= λ others. Ok (label ∷ others)) labels e in
-    let others = bind_ok (labels_of symbols first.0.name (place + 1) names values) (λ others. Ok (first.0 ∷ others)) labels first.2 in
+labels_parts _ _ _ _ _ _ _ _ e =
+    let first = bind_ok _ _ _ e in
+    let others = bind_ok _ _ _ first.2 in
     (first.0, others.0, first.1, others.1, ok_is {A = List Label} {E = LabelFault} _ _ others.2)
 
 no_labels : (symbols : List (List ℕ)) (before : List ℕ) (place : ℕ) (values : List ℕ) (labels : List Label) → labels_of symbols before place [] values ≡ Ok labels → [] ≡ labels
 unfolding labels_of
-no_labels symbols before place values labels e = ok_is {A = List Label} {E = LabelFault} [] labels e
+no_labels _ _ _ _ _ e = ok_is {A = List Label} {E = LabelFault} _ _ e
 
 cons_same : {A : Type 0} (x y : A) (xs ys : List A) → x ≡ y → xs ≡ ys → x ∷ xs ≡ y ∷ ys
-cons_same x y xs ys e f = cc
+cons_same x y _ _ e f = cc
 
 pub labels_found : (symbols : List (List ℕ)) (before : List ℕ) (place : ℕ) (names values : List ℕ) (labels : List Label) → length names ≡ length values → labels_of symbols before place names values ≡ Ok labels
     → StandFor symbols names (map (λ (l : Label). l.name) labels) × StandFor symbols values (map (λ (l : Label). l.value) labels) × AreChained before labels
-labels_found symbols before place [] [] labels many e = subst (λ (ls : List Label). StandFor symbols [] (map (λ (l : Label). l.name) ls) × StandFor symbols [] (map (λ (l : Label). l.value) ls) × AreChained before ls) (no_labels symbols before place [] labels e) (refl, refl, tt)
-labels_found symbols before place [] (value ∷ values) labels many e = absurd (omega arith)
-labels_found symbols before place (name ∷ names) [] labels many e = absurd (omega arith)
-labels_found symbols before place (name ∷ names) (value ∷ values) labels many e =
-    let p = labels_parts symbols before place name value names values labels e in
-    let is = label_parts symbols before place name value p.0 p.2 in
+labels_found symbols before _ [] [] _ many e = subst (λ ls. StandFor symbols [] (map (λ l. l.name) ls) × StandFor symbols [] (map (λ l. l.value) ls) × AreChained before ls) (no_labels _ _ _ _ _ e) (refl, refl, tt)
+labels_found _ _ _ [] (value ∷ values) _ many e = absurd (omega arith)
+labels_found _ _ _ (name ∷ names) [] _ many e = absurd (omega arith)
+labels_found symbols before place (name ∷ names) (value ∷ values) _ many e =
+    let p = labels_parts _ _ _ _ _ _ _ _ e in
+    let is = label_parts _ _ _ _ _ p.0 p.2 in
     let others = labels_found symbols p.0.name (place + 1) names values p.1 (omega arith) p.3 in
-    subst (λ (ls : List Label). StandFor symbols (name ∷ names) (map (λ (l : Label). l.name) ls) × StandFor symbols (value ∷ values) (map (λ (l : Label). l.value) ls) × AreChained before ls) p.4
+    subst (λ ls. StandFor symbols (name ∷ names) (map (λ l. l.name) ls) × StandFor symbols (value ∷ values) (map (λ l. l.value) ls) × AreChained before ls) p.4
     (cons_same _ _ _ _ is.name_is others.0, cons_same _ _ _ _ is.value_is others.1, (is.ascends, is.some, others.2))
 
 -- labels that were read are a set
 pub labels_lawful : (symbols : List (List ℕ)) (names values : List ℕ) (labels : List Label) → length names ≡ length values → labels_of symbols [] 0 names values ≡ Ok labels → IsLabelSet labels
-labels_lawful symbols names values labels many e = (set_from_chain [] labels (labels_found symbols [] 0 names values labels many e).2).0
+labels_lawful _ _ _ _ many e = (set_from_chain _ _ (labels_found _ _ 0 _ _ _ many e).2).0
 
 one_label : (symbols : List (List ℕ)) (before : List ℕ) (place name value : ℕ) (label : Label) → slice_get symbols name ≡ Some label.name → slice_get symbols value ≡ Some label.value → ComesBefore before label.name → 0 < length label.value → label_of symbols before place name value ≡ Ok label
 unfolding label_of
-one_label symbols before place name value label n v ascends some = rw (n, is_lt-from_Less (compare_texts before label.name) ascends, v, lt-ltb 0 (length label.value) some) refl
+one_label _ _ _ _ value label n v ascends some = rw (n, is_lt-from_Less, v, lt-ltb 0 (length label.value) some) refl
 
 pub labels_lawful_read : (symbols : List (List ℕ)) (count : ℕ) (p : Position) (labels : List Label) (q : Position) → texts_at symbols [] 0 count p ≡ Ok (Ok labels, q) → IsLabelSet labels
-labels_lawful_read symbols count p labels q e =
-    let read = texts_read symbols count p (Ok labels) q e in
-    labels_lawful symbols read.names read.values labels read.as_many read.texts_are
+labels_lawful_read _ _ p _ q e =
+    let read = texts_read _ _ p _ q e in
+    labels_lawful _ _ _ _ read.as_many read.texts_are
 
 labels_joined : (symbols : List (List ℕ)) (before : List ℕ) (place name value : ℕ) (names values : List ℕ) (label : Label) (labels : List Label) → label_of symbols before place name value ≡ Ok label → labels_of symbols label.name (place + 1) names values ≡ Ok labels → labels_of symbols before place (name ∷ names) (value ∷ values) ≡ Ok (label ∷ labels)
 unfolding labels_of
-labels_joined symbols before place name value names values label labels e f = rw (e, f) refl
+labels_joined _ _ _ _ _ _ _ _ _ e f = rw (e, f) refl
 
 labels_none : (symbols : List (List ℕ)) (before : List ℕ) (place : ℕ) (values : List ℕ) → labels_of symbols before place [] values ≡ Ok []
 unfolding labels_of
-labels_none symbols before place values = refl
+labels_none _ _ _ _ = refl
 
 labels_again : (symbols : List (List ℕ)) (before : List ℕ) (place : ℕ) (names values : List ℕ) (labels : List Label) → StandFor symbols names (map (λ (l : Label). l.name) labels) → StandFor symbols values (map (λ (l : Label). l.value) labels) → AreChained before labels → labels_of symbols before place names values ≡ Ok labels
-labels_again symbols before place [] values [] n v chain = labels_none symbols before place values
-labels_again symbols before place [] values (label ∷ labels) n v chain = absurd cc
-labels_again symbols before place (name ∷ names) values [] n v chain = absurd cc
-labels_again symbols before place (name ∷ names) [] (label ∷ labels) n v chain = absurd cc
-labels_again symbols before place (name ∷ names) (value ∷ values) (label ∷ labels) n v chain =
+labels_again _ _ _ [] _ [] n v chain = labels_none _ _ _ _
+labels_again _ _ _ [] _ (label ∷ labels) n v chain = absurd cc
+labels_again _ _ _ (name ∷ names) _ [] n v chain = absurd cc
+labels_again _ _ _ (name ∷ names) [] (label ∷ labels) n v chain = absurd cc
+labels_again symbols _ place (name ∷ names) (value ∷ values) (label ∷ labels) n v chain =
     let name_is : slice_get symbols name ≡ Some label.name = cc in
     let value_is : slice_get symbols value ≡ Some label.value = cc in
     let names_are : StandFor symbols names (map (λ (l : Label). l.name) labels) = cc in
     let values_are : StandFor symbols values (map (λ (l : Label). l.value) labels) = cc in
-    labels_joined symbols before place name value names values label labels (one_label symbols before place name value label name_is value_is chain.0 chain.1) (labels_again symbols label.name (place + 1) names values labels names_are values_are chain.2)
+    labels_joined _ _ _ _ _ _ _ _ _ (one_label _ _ _ _ value label name_is value_is chain.0 chain.1) (labels_again symbols label.name (place + 1) names values labels names_are values_are chain.2)
 
 -- ---- the series
 
 pub series_parts : (index : List ℕ) (symbols : List (List ℕ)) (at : ℕ) (series : IndexSeries) → labelled_at index symbols at ≡ Ok series → (raw : RawSeries) × (labels : List Label) × (series_at index at ≡ Ok raw) × (labels_of symbols [] 0 raw.names raw.values ≡ Ok labels) × (record { labels = labels; chunks = raw.chunks } ≡ series)
 unfolding labelled_at
-series_parts index symbols at series e =
+series_parts _ _ _ _ e =
     let raw = bind_ok _ _ _ e in
     let labels = bind_ok _ _ _ raw.2 in
-    (raw.0, labels.0, raw.1, refused_as_ok (fault_at index at) (labels_of symbols [] 0 raw.0.names raw.0.values) labels.0 labels.1, ok_is {A = IndexSeries} {E = PartRefusal} _ _ labels.2)
+    (raw.0, labels.0, raw.1, refused_as_ok _ _ _ labels.1, ok_is {A = IndexSeries} {E = PartRefusal} _ _ labels.2)
 
 labelled_is : (index : List ℕ) (symbols : List (List ℕ)) (number : ℕ) (series : IndexSeries) → IsBytes index → labelled_at index symbols (16 * number) ≡ Ok series → IsSeriesOf index symbols number series
-labelled_is index symbols number series are e =
-    let p = series_parts index symbols (16 * number) series e in
-    let stands = series_found index (16 * number) p.0 are p.2 in
-    let labels = labels_found symbols [] 0 p.0.names p.0.values p.1 stands.as_many p.3 in
+labelled_is index symbols number _ are e =
+    let p = series_parts _ _ _ _ e in
+    let stands = series_found _ _ _ are p.2 in
+    let labels = labels_found _ _ 0 _ _ _ stands.as_many p.3 in
     let is : IsSeriesOf index symbols number (record { labels = p.1; chunks = p.0.chunks }) = record {
       names = p.0.names;
       values = p.0.values;
       stands = stands;
       names_are = labels.0;
       values_are = labels.1;
-      lawful = (set_from_chain [] p.1 labels.2).0;
+      lawful = (set_from_chain _ _ labels.2).0;
     } in
     subst (IsSeriesOf index symbols number) p.4 is
 
 pub numbered_found : (index : List ℕ) (symbols : List (List ℕ)) (number : ℕ) (series : IndexSeries) → IsBytes index → numbered_at index symbols number ≡ Ok series → IsSeriesOf index symbols number series
-numbered_found index symbols number series are e = labelled_is index symbols number series are (refused_as_ok (refused_of number) (labelled_at index symbols (16 * number)) series e)
+numbered_found _ _ _ _ are e = labelled_is _ _ _ _ are (refused_as_ok _ _ _ e)
 
 pub numbered_again : (index : List ℕ) (symbols : List (List ℕ)) (number : ℕ) (series : IndexSeries) → IsSeriesOf index symbols number series → numbered_at index symbols number ≡ Ok series
 numbered_again index symbols number series is =
-    let raw = series_again index (16 * number) (record { names = is.names; values = is.values; chunks = series.chunks }) is.stands in
-    let labels = labels_again symbols [] 0 is.names is.values series.labels is.names_are is.values_are (chain_from_set [] series.labels is.lawful (all_above_nothing series.labels is.lawful)) in
+    let raw = series_again _ _ _ is.stands in
+    let labels = labels_again _ _ 0 _ _ _ is.names_are is.values_are (chain_from_set _ _ is.lawful (all_above_nothing _ is.lawful)) in
     rw (with_labels index symbols (16 * number) (record { names = is.names; values = is.values; chunks = series.chunks }) series.labels raw labels) refl

@@ -1,12 +1,11 @@
 -- A series' labels, read one after another.
 use Rattle.std.proofs.Common.{◌≡◌, ℕ, ◌+◌, ◌<◌, List, [], ◌∷◌, ◌++◌, length, Option, Some, None, Result, Ok, Err, refl, sym, ap, ◌∙◌, append_assoc, ◌⊎◌, inl, inr}
-use Rattle.std.specs.Prelude.{slice_get, nat_lt}
+use Rattle.std.specs.Prelude.{slice_get}
 use Rattle.std.specs.Option.{ok_or}
-use Rattle.std.specs.Ordering.{is_lt}
 use Rattle.std.proofs.lemmas.Bool.{ltb-true}
 use Rattle.std.specs.Prelude.{IsErrAnd}
 use Rattle.list_core.proofs.Bools.{Less-from_is_lt}
-use Rattle.reading_core.specs.Reading.{◌>>=◌, ◌>>◌, unless, Answers, Gives}
+use Rattle.reading_core.specs.Reading.{◌>>=◌, Answers, Gives}
 use Rattle.reading_core.proofs.Binds.{bind_ok, unless_ok, ok_is}
 use Rattle.label_sets.specs.declared.label.Label.{Label}
 use Rattle.label_sets.specs.Labels.{compare_texts, ComesBefore}
@@ -28,11 +27,11 @@ ok_or_ok (Some y) e x h = cc
 pub label_parts : (symbols : List (List ℕ)) (before : List ℕ) (place name value : ℕ) (label : Label) → label_of symbols before place name value ≡ Ok label → IsLabelOf symbols before name value label
 unfolding label_of
 label_parts symbols before place name value label e =
-    let n = bind_ok (ok_or (slice_get symbols name) (Name place)) (λ name. unless (is_lt (compare_texts before name)) (Name place) >> (ok_or (slice_get symbols value) (Value place) >>= λ value. unless (nat_lt 0 (length value)) (Value place) >> Ok (record { name = name; value = value }))) label e in
-    let ordered = unless_ok (is_lt (compare_texts before n.0)) (Name place) (ok_or (slice_get symbols value) (Value place) >>= λ value. unless (nat_lt 0 (length value)) (Value place) >> Ok (record { name = n.0; value = value })) label n.2 in
-    let v = bind_ok (ok_or (slice_get symbols value) (Value place)) (λ value. unless (nat_lt 0 (length value)) (Value place) >> Ok (record { name = n.0; value = value })) label ordered.1 in
-    let long = unless_ok (nat_lt 0 (length v.0)) (Value place) (Ok (record { name = n.0; value = v.0 })) label v.2 in
-    let same : ◌≡◌ {A = Label} (record { name = n.0; value = v.0 }) label = ok_is {E = LabelFault} _ _ long.1 in
+    let n = bind_ok _ _ _ e in
+    let ordered = unless_ok _ _ _ _ n.2 in
+    let v = bind_ok _ _ _ ordered.1 in
+    let long = unless_ok _ _ _ _ v.2 in
+    let same = ok_is {E = LabelFault} _ _ long.1 in
     record {
       name_is = ok_or_ok (slice_get symbols name) (Name place) n.0 n.1 ∙ ap (λ (l : Label). Some l.name) same;
       value_is = ok_or_ok (slice_get symbols value) (Value place) v.0 v.1 ∙ ap (λ (l : Label). Some l.value) same;
@@ -46,32 +45,32 @@ again (Err e) = refl
 
 pub moved : {A E : Type 0} (r : Result (List A) E) (x : A) (front : List A) → ((r >>= λ others. Ok (x ∷ others)) >>= λ others. Ok (front ++ others)) ≡ (r >>= λ others. Ok ((front ++ x ∷ []) ++ others))
 moved (Ok xs) x front = ap Ok (sym (append_assoc front (x ∷ []) xs))
-moved (Err e) x front = refl
+moved (Err e) x _ = refl
 
 pub one_more : (symbols : List (List ℕ)) (before : List ℕ) (place name value : ℕ) (names values : List ℕ) (label : Label) → label_of symbols before place name value ≡ Ok label → labels_of symbols before place (name ∷ names) (value ∷ values) ≡ (labels_of symbols label.name (place + 1) names values >>= λ others. Ok (label ∷ others))
 unfolding labels_of
-one_more symbols before place name value names values label e = rw e refl
+one_more _ _ _ _ _ _ _ _ e = rw e refl
 
 pub none_more : (symbols : List (List ℕ)) (before : List ℕ) (place name value : ℕ) (names values : List ℕ) (fault : LabelFault) → label_of symbols before place name value ≡ Err fault → labels_of symbols before place (name ∷ names) (value ∷ values) ≡ Err fault
 unfolding labels_of
-none_more symbols before place name value names values fault e = rw e refl
+none_more _ _ _ _ _ _ _ _ e = rw e refl
 
 -- ---- from a call's clauses
 
 pub gives_err : {X Y E : Type 0} (no_memory : E) (view : X → Y) (r : Result X E) (e : E) (read : Result Y E) → IsErrAnd r (λ d. d ≡ e) → read ≡ Err e → Gives no_memory view r read
-gives_err no_memory view (Ok x) e read is h = absurd is
-gives_err no_memory view (Err d) e read is h = inr (h ∙ ap Err (sym is))
+gives_err _ _ (Ok x) e _ is h = absurd is
+gives_err _ _ (Err d) e _ is h = inr (h ∙ ap Err (sym is))
 
 pub gives_refused : {X Y E : Type 0} (no_memory : E) (view : X → Y) (r : Result X E) (e : E) (read : Result Y E) → IsErrAnd r (λ d. d ≡ e) → (e ≡ no_memory) ⊎ (read ≡ Err e) → Gives no_memory view r read
-gives_refused no_memory view (Ok x) e read is h = absurd is
-gives_refused no_memory view (Err d) e read is (inl out) = inl (is ∙ out)
-gives_refused no_memory view (Err d) e read is (inr h) = inr (h ∙ ap Err (sym is))
+gives_refused _ _ (Ok x) e _ is h = absurd is
+gives_refused _ _ (Err d) e _ is (inl out) = inl (is ∙ out)
+gives_refused _ _ (Err d) e _ is (inr h) = inr (h ∙ ap Err (sym is))
 
 pub answers_err : {X Y E : Type 0} (view : X → Y) (r : Result X E) (e : E) (read : Result Y E) → IsErrAnd r (λ d. d ≡ e) → read ≡ Err e → Answers view r read
-answers_err view (Ok x) e read is h = absurd is
-answers_err view (Err d) e read is h = h ∙ ap Err (sym is)
+answers_err _ (Ok x) e _ is h = absurd is
+answers_err _ (Err d) e _ is h = h ∙ ap Err (sym is)
 
 -- what is answered is given, also of what is read alike
 pub gives_answered : {X Y E : Type 0} (no_memory : E) (view : X → Y) (r : Result X E) (whole part : Result Y E) → whole ≡ part → Answers view r part → Gives no_memory view r whole
-gives_answered no_memory view (Ok x) whole part same h = same ∙ h
-gives_answered no_memory view (Err d) whole part same h = inr (same ∙ h)
+gives_answered _ _ (Ok x) _ _ same h = same ∙ h
+gives_answered _ _ (Err d) _ _ same h = inr (same ∙ h)

@@ -21,8 +21,8 @@ AllBefore name [] = Unit {0}
 AllBefore name (l ∷ ls) = ComesBefore l.name name × AllBefore name ls
 
 no_value : (ls : List Label) (name : List ℕ) → AllBefore name ls → value_of ls name ≡ None
-no_value [] name all = value_nil name
-no_value (l ∷ ls) name all = value_miss l ls name (before_differs l.name name all.0) ∙ no_value ls name all.1
+no_value [] _ all = value_nil _
+no_value (l ∷ ls) _ all = value_miss l _ _ (before_differs _ _ all.0) ∙ no_value _ _ all.1
 
 placed_last : (ls : List Label) (l : Label) → AllBefore l.name ls → placed has_lesser_name l ls ≡ ls ++ l ∷ []
 unfolding placed
@@ -34,8 +34,8 @@ some_bytes [] h = absurd (h refl)
 some_bytes (b ∷ text) h = ne_eqb (suc (length text)) 0 (omega arith)
 
 stands_before_member : (name : List ℕ) (front : List Label) (l : Label) (after : List Label) → StandsBefore name (front ++ l ∷ after) → ComesBefore name l.name
-stands_before_member name [] l after stands = stands.0
-stands_before_member name (m ∷ front) l after stands = stands_before_member name front l after stands.1
+stands_before_member _ [] l _ stands = stands.0
+stands_before_member name (m ∷ front) l after stands = stands_before_member name front l _ stands.1
 
 -- a label of a set: all before it have lesser names, and neither of its texts is empty
 record IsInside (front : List Label) (l : Label) : Type 0 where
@@ -44,37 +44,33 @@ record IsInside (front : List Label) (l : Label) : Type 0 where
   valued : l.value ≢ []
 
 inside : (front : List Label) (l : Label) (after : List Label) → IsLabelSet (front ++ l ∷ after) → IsInside front l
-inside [] l after is = record { behind = tt; named = is.0; valued = is.1 }
+inside [] l _ is = record { behind = tt; named = is.0; valued = is.1 }
 inside (m ∷ front) l after is =
-    let others = inside front l after is.3 in
+    let others = inside front l _ is.3 in
     record { behind = (stands_before_member m.name front l after is.2, others.behind); named = others.named; valued = others.valued }
 
 -- the next label of a set is added behind those before it
 added_next : (front : List Label) (l : Label) (after new : List Label) → IsLabelSet (front ++ l ∷ after) → added front l.name l.value ≡ Ok new → new ≡ front ++ l ∷ []
 unfolding added
-added_next front l after new is e =
-    let i = inside front l after is in
+added_next front l _ _ is e =
+    let i = inside _ l _ is in
     let whole : added front l.name l.value ≡ Ok (front ++ l ∷ []) = rw (some_bytes l.name i.named, some_bytes l.value i.valued, no_value front l.name i.behind, placed_last front l i.behind) refl in
     ok_is {E = LabelRefusal} _ _ (sym e ∙ whole)
 
 gives_ok : {X Y E : Type 0} (no_memory : E) (new : Y) (r : Result X E) (read : Result Y E) → is_err r ≡ false → Gives no_memory (λ _. new) r read → read ≡ Ok new
-gives_ok no_memory new (Ok x) read e g = g
-gives_ok no_memory new (Err d) read e g = absurd cc
-
--- the labels that were copied so far are the front of the set
-pub copied_start : (labels : List LentLabel) (set : List Label) → set ≡ [] → set ≡ map as_label (take 0 labels)
-copied_start labels set e = e
+gives_ok _ _ (Ok x) _ e g = g
+gives_ok _ _ (Err d) _ e g = absurd cc
 
 split_at : (labels : List LentLabel) (i : ℕ) (d : LentLabel) → i < length labels → map as_label labels ≡ map as_label (take i labels) ++ as_label (get_or labels i d) ∷ map as_label (drop (i + 1) labels)
 split_at labels i d lt = ap (map as_label) (sym (take-append-drop i labels) ∙ ap (λ (xs : List LentLabel). take i labels ++ xs) (rw add-one (drop-cons labels i d lt))) ∙ map-append as_label (take i labels) (get_or labels i d ∷ drop (i + 1) labels)
 
 pub copied_step : (labels : List LentLabel) (place next : ℕ) (d label : LentLabel) (old new : List Label) (r : Result (Unit {0}) LabelRefusal) → IsLabelSet (map as_label labels) → old ≡ map as_label (take place labels) → place < length labels → next ≡ place + 1 → label ≡ get_or labels place d
     → is_err r ≡ false → Gives NoMemory (λ _. new) r (added old label.name.now label.value.now) → new ≡ map as_label (take next labels)
-copied_step labels place next d label old new r is far lt n at ok gives =
-    let read : added (map as_label (take place labels)) label.name.now label.value.now ≡ Ok new = ap (λ (o : List Label). added o label.name.now label.value.now) (sym far) ∙ gives_ok NoMemory new r (added old label.name.now label.value.now) ok gives in
-    let lawful : IsLabelSet (map as_label (take place labels) ++ as_label label ∷ map as_label (drop (place + 1) labels)) = subst IsLabelSet (split_at labels place d lt ∙ ap (λ (l : LentLabel). map as_label (take place labels) ++ as_label l ∷ map as_label (drop (place + 1) labels)) (sym at)) is in
-    added_next (map as_label (take place labels)) (as_label label) (map as_label (drop (place + 1) labels)) new lawful read
-    ∙ ap (λ (l : LentLabel). map as_label (take place labels) ++ as_label l ∷ []) at ∙ sym (map_more as_label labels place d lt) ∙ ap (λ (m : ℕ). map as_label (take m labels)) (sym n)
+copied_step labels place _ d label _ _ r is far lt n at ok gives =
+    let read = ap (λ o. added o label.name.now label.value.now) (sym far) ∙ gives_ok _ _ r _ ok gives in
+    let lawful = subst IsLabelSet (split_at _ _ d lt ∙ ap (λ l. map as_label (take place labels) ++ as_label l ∷ map as_label (drop (place + 1) labels)) (sym at)) is in
+    added_next _ _ _ _ lawful read
+    ∙ ap (λ l. map as_label (take place labels) ++ as_label l ∷ []) at ∙ sym (map_more as_label _ _ d lt) ∙ ap (λ m. map as_label (take m labels)) (sym n)
 
 pub copied_end : (labels : List LentLabel) (place : ℕ) (set : List Label) → set ≡ map as_label (take place labels) → length labels ≤ place → set ≡ map as_label labels
-copied_end labels place set far le = far ∙ ap (map as_label) (take_all place labels le)
+copied_end labels place _ far le = far ∙ ap (map as_label) (take_all place labels le)

@@ -40,17 +40,17 @@ least_of_two P Q one other p q =
     elim (cases_lt one other) [
       | inl lt ↦
           let same : one ≡ min one other = omega arith in
-          subst (λ (m : ℕ). IsLeast (λ k. P k ⊎ Q k) (Some m)) same (inl p.0, λ k less. neither P Q k (p.1 k less) (q.1 k (omega arith)))
+          subst (λ m. IsLeast (λ k. P k ⊎ Q k) (Some m)) same (inl p.0, λ k less. neither P Q k (p.1 k less) (q.1 k (omega arith)))
       | inr ge ↦
           let same : other ≡ min one other = omega arith in
-          subst (λ (m : ℕ). IsLeast (λ k. P k ⊎ Q k) (Some m)) same (inr q.0, λ k less. neither P Q k (p.1 k (omega arith)) (q.1 k less))
+          subst (λ m. IsLeast (λ k. P k ⊎ Q k) (Some m)) same (inr q.0, λ k less. neither P Q k (p.1 k (omega arith)) (q.1 k less))
     ]
 
 pub earlier_least : (P Q : ℕ → Type 0) (a b : Option ℕ) → IsLeast P a → IsLeast Q b → IsLeast (λ k. P k ⊎ Q k) (earlier a b)
 earlier_least P Q None None p q = λ k. neither P Q k (p k) (q k)
 earlier_least P Q None (Some other) p q = (inr q.0, λ k lt. neither P Q k (p k) (q.1 k lt))
 earlier_least P Q (Some one) None p q = (inl p.0, λ k lt. neither P Q k (p.1 k lt) (q k))
-earlier_least P Q (Some one) (Some other) p q = least_of_two P Q one other p q
+earlier_least P Q (Some one) (Some other) p q = least_of_two P Q _ _ p q
 
 -- ---- a search that began at a place counts from there
 
@@ -66,7 +66,7 @@ least_from P (Some place) least =
     (subst P same least.2, λ k lt. least.3 k (omega arith))
 
 pub from_here : (from : ℕ) (P : ℕ → Type 0) → P 0 → IsLeastFrom from P (Some from)
-from_here from P here = (0, omega arith, here, λ k lt. absurd (omega arith))
+from_here _ P here = (0, omega arith, here, λ k lt. absurd (omega arith))
 
 none_next : (P Q : ℕ → Type 0) → (P 0 → ⊥) → ((k : ℕ) → P (suc k) → Q k) → ((k : ℕ) → Q k → ⊥) → (k : ℕ) → P k → ⊥
 none_next P Q first down none zero h = first h
@@ -77,19 +77,19 @@ none_before P Q first down j none zero lt h = first h
 none_before P Q first down j none (suc k) lt h = none k (omega arith) (down k h)
 
 pub from_next : (from : ℕ) (P Q : ℕ → Type 0) (o : Option ℕ) → (P 0 → ⊥) → ((k : ℕ) → Q k → P (suc k)) → ((k : ℕ) → P (suc k) → Q k) → IsLeastFrom (from + 1) Q o → IsLeastFrom from P o
-from_next from P Q None first up down least = none_next P Q first down least
-from_next from P Q (Some place) first up down least =
+from_next _ P Q None first up down least = none_next P Q first down least
+from_next _ P Q (Some place) first up down least =
     let is = least.1 in
-    (suc least.0, omega arith, up least.0 least.2, none_before P Q first down least.0 least.3)
+    (suc least.0, omega arith, up least.0 least.2, none_before P Q first down _ least.3)
 
 pub by_test_from : (from : ℕ) (P : ℕ → Type 0) (b : Bool) (next : Option ℕ) → (b ≡ true → IsLeastFrom from P next) → (b ≡ false → P 0) → IsLeastFrom from P (cond b next (Some from))
-by_test_from from P true next f g = f refl
-by_test_from from P false next f g = from_here from P (g refl)
+by_test_from _ P true _ f g = f refl
+by_test_from _ P false _ f g = from_here _ P (g refl)
 
 pub by_order_from : (from : ℕ) (P : ℕ → Type 0) (o : Ordering) (next here : Option ℕ) → (o ≡ Less → IsLeastFrom from P next) → (o ≡ Equal → IsLeastFrom from P here) → (o ≡ Greater → P 0) → IsLeastFrom from P (by_order o next here (Some from))
-by_order_from from P Less next here f g h = f refl
-by_order_from from P Equal next here f g h = g refl
-by_order_from from P Greater next here f g h = from_here from P (h refl)
+by_order_from _ P Less _ _ f g h = f refl
+by_order_from _ P Equal _ _ f g h = g refl
+by_order_from _ P Greater _ _ f g h = from_here _ P (h refl)
 
 -- ---- a member of a list of which something holds
 
@@ -97,23 +97,23 @@ abbrev pub HasSuch : {A : Type 0} → (A → Type 0) → List A → Type 0
 HasSuch {A} P xs = (x : A) × Contains xs x × P x
 
 first_or_other : {A : Type 0} (P : A → Type 0) (x : A) (xs : List A) (place : ℕ) (y : A) → slice_get (x ∷ xs) place ≡ Some y → P y → P x ⊎ HasSuch P xs
-first_or_other P x xs zero y at p = inl (subst P (sym (same_Some x y at)) p)
-first_or_other P x xs (suc place) y at p = inr (y, contains_place xs place y at, p)
+first_or_other P x _ zero y at p = inl (subst P (sym (same_Some x y at)) p)
+first_or_other P x _ (suc place) y at p = inr (y, contains_place _ _ y at, p)
 
 such_split : {A : Type 0} (P : A → Type 0) (x : A) (xs : List A) → HasSuch P (x ∷ xs) → P x ⊎ HasSuch P xs
-such_split P x xs h = let at = place_of_member (x ∷ xs) h.0 h.1 in first_or_other P x xs at.0 h.0 at.1 h.2
+such_split P x xs h = let at = place_of_member (x ∷ xs) _ h.1 in first_or_other P x _ at.0 _ at.1 h.2
 
 such_joined : {A : Type 0} (P : A → Type 0) (x : A) (xs : List A) → P x ⊎ HasSuch P xs → HasSuch P (x ∷ xs)
-such_joined P x xs (inl p) = (x, contains_first x xs, p)
-such_joined P x xs (inr h) = (h.0, contains_later x h.0 xs h.1, h.2)
+such_joined P x _ (inl p) = (x, contains_first x _, p)
+such_joined P x _ (inr h) = (h.0, contains_later x _ _ h.1, h.2)
 
 -- the least place for a list's members is the earlier of that for the first and that for the others
 pub such_least : {A : Type 0} (P : A → ℕ → Type 0) (x : A) (xs : List A) (a b : Option ℕ) → IsLeast (P x) a → IsLeast (λ k. HasSuch (λ y. P y k) xs) b → IsLeast (λ k. HasSuch (λ y. P y k) (x ∷ xs)) (earlier a b)
 such_least P x xs a b p q =
-    least_as (λ k. P x k ⊎ HasSuch (λ y. P y k) xs) (λ k. HasSuch (λ y. P y k) (x ∷ xs)) (earlier a b)
+    least_as (λ k. P x k ⊎ HasSuch (λ y. P y k) xs) _ _
     (λ k. such_joined (λ y. P y k) x xs)
-    (λ k none h. none (such_split (λ y. P y k) x xs h))
-    (earlier_least (P x) (λ k. HasSuch (λ y. P y k) xs) a b p q)
+    (λ k none h. none (such_split _ x _ h))
+    (earlier_least _ _ a b p q)
 
 pub such_none : {A : Type 0} (P : A → ℕ → Type 0) → IsLeast (λ k. HasSuch (λ y. P y k) []) None
-such_none P = λ k h. absurd (omega (arith, h.1.1))
+such_none P = λ k h. absurd (omega arith)

@@ -28,11 +28,11 @@ pub record SameSoFar (one other : List LentLabel) (place : ℕ) : Type 0 where
   pub rest : compared one other ≡ compared (drop place one) (drop place other)
 
 pub same_none : (one other : List LentLabel) → SameSoFar one other 0
-same_none one other = record { short = omega arith; within = omega arith; rest = sym (ap (λ (l : List LentLabel). compared l (drop 0 other)) (drop_none one) ∙ ap (compared one) (drop_none other)) }
+same_none one other = record { short = omega arith; within = omega arith; rest = sym (ap (λ l. compared l (drop 0 other)) (drop_none _) ∙ ap (compared one) (drop_none _)) }
 
 next_pair : (one other : List LentLabel) (place : ℕ) (d e : LentLabel) → place < length one → place < length other → SameSoFar one other place
     → compared one other ≡ ordering_then (compare_labels (as_label (get_or one place d)) (as_label (get_or other place e))) (compared (drop (place + 1) one) (drop (place + 1) other))
-next_pair one other place d e lt less h = h.rest ∙ ap (λ (l : List LentLabel). compared l (drop place other)) (drop_more one place d lt) ∙ ap (compared (get_or one place d ∷ drop (place + 1) one)) (drop_more other place e less)
+next_pair one other place d e lt less h = h.rest ∙ ap (λ l. compared l (drop place other)) (drop_more one place d lt) ∙ ap (compared (get_or one place d ∷ drop (place + 1) one)) (drop_more other place e less)
 
 is_equal : (o : Ordering) → is_eq o ≡ true → o ≡ Equal
 is_equal Equal t = refl
@@ -41,11 +41,11 @@ is_equal Greater t = absurd (true≢false (sym t))
 
 pub same_more : (one other : List LentLabel) (place : ℕ) (x y d e : LentLabel) (o : Ordering) → place < length one → place < length other → x ≡ get_or one place d → y ≡ get_or other place e → SameSoFar one other place → o ≡ compare_labels (as_label x) (as_label y) → is_eq o ≡ true → SameSoFar one other (place + 1)
 same_more one other place x y d e o lt less at there h is equal = record {
-  short = omega (arith, lt);
-  within = omega (arith, less);
-  rest = next_pair one other place d e lt less h
-      ∙ ap (λ (r : Ordering). ordering_then r (compared (drop (place + 1) one) (drop (place + 1) other)))
-      (ap (λ (l : LentLabel). compare_labels (as_label l) (as_label (get_or other place e))) (sym at) ∙ ap (λ (l : LentLabel). compare_labels (as_label x) (as_label l)) (sym there) ∙ sym is ∙ is_equal o equal);
+  short = omega arith;
+  within = omega arith;
+  rest = next_pair _ _ _ d e lt less h
+      ∙ ap (λ r. ordering_then r (compared (drop (place + 1) one) (drop (place + 1) other)))
+      (ap (λ l. compare_labels (as_label l) (as_label (get_or other place e))) (sym at) ∙ ap (λ l. compare_labels (as_label x) (as_label l)) (sym there) ∙ sym is ∙ is_equal o equal);
 }
 
 told_by_first : (o r : Ordering) → is_eq o ≡ false → ordering_then o r ≡ o
@@ -55,28 +55,28 @@ told_by_first Greater r apart = refl
 
 pub differ_here : (one other : List LentLabel) (place : ℕ) (x y d e : LentLabel) (o : Ordering) → place < length one → place < length other → x ≡ get_or one place d → y ≡ get_or other place e → SameSoFar one other place → o ≡ compare_labels (as_label x) (as_label y) → is_eq o ≡ false → o ≡ compared one other
 differ_here one other place x y d e o lt less at there h is apart =
-    sym (next_pair one other place d e lt less h
-    ∙ ap (λ (r : Ordering). ordering_then r (compared (drop (place + 1) one) (drop (place + 1) other)))
-    (ap (λ (l : LentLabel). compare_labels (as_label l) (as_label (get_or other place e))) (sym at) ∙ ap (λ (l : LentLabel). compare_labels (as_label x) (as_label l)) (sym there) ∙ sym is)
-    ∙ told_by_first o (compared (drop (place + 1) one) (drop (place + 1) other)) apart)
+    sym (next_pair _ _ _ d e lt less h
+    ∙ ap (λ r. ordering_then r (compared (drop (place + 1) one) (drop (place + 1) other)))
+    (ap (λ l. compare_labels (as_label l) (as_label (get_or other place e))) (sym at) ∙ ap (λ l. compare_labels (as_label x) (as_label l)) (sym there) ∙ sym is)
+    ∙ told_by_first o _ apart)
 
 some_and_none : (one : List LentLabel) (place : ℕ) (d : LentLabel) → place < length one → compared (drop place one) [] ≡ Greater
-some_and_none one place d lt = ap (λ (l : List LentLabel). compared l []) (drop_more one place d lt)
+some_and_none one place d lt = ap (λ l. compared l []) (drop_more one place d lt)
 
 some_label : (labels : List LentLabel) → 0 < length labels → LentLabel
-some_label [] lt = absurd (omega (arith, lt))
+some_label [] lt = absurd (omega arith)
 some_label (l ∷ ls) lt = l
 
 pub ends_first : (one other : List LentLabel) (place : ℕ) → place < length one → length other ≤ place → SameSoFar one other place → Greater ≡ compared one other
-ends_first one other place lt all h = sym (h.rest ∙ ap (compared (drop place one)) (drop_all place other all) ∙ some_and_none one place (some_label one (omega (arith, lt))) lt)
+ends_first one _ place lt all h = sym (h.rest ∙ ap (compared (drop place one)) (drop_all _ _ all) ∙ some_and_none _ _ (some_label one (omega (arith, lt))) lt)
 
 -- so many of the first labels are all of the one
 pub is_front : (one other : List LentLabel) (place : ℕ) → length one ≤ place → length one < length other → SameSoFar one other place → Less ≡ compared one other
-is_front one other place all longer h =
-    sym (h.rest ∙ ap (λ (l : List LentLabel). compared l (drop place other)) (drop_all place one all) ∙ ap (compared []) (drop_more other place (some_label other (omega (arith, longer))) (omega (arith, h.short, longer))))
+is_front _ other place all longer h =
+    sym (h.rest ∙ ap (λ l. compared l (drop place other)) (drop_all _ _ all) ∙ ap (compared []) (drop_more other place (some_label other (omega (arith, longer))) (omega arith)))
 
 pub are_equal : (one other : List LentLabel) (place : ℕ) → length one ≤ place → length other ≤ length one → SameSoFar one other place → Equal ≡ compared one other
-are_equal one other place all shorter h = sym (h.rest ∙ ap (λ (l : List LentLabel). compared l (drop place other)) (drop_all place one all) ∙ ap (compared []) (drop_all place other (omega (arith, all, shorter))))
+are_equal _ other place all shorter h = sym (h.rest ∙ ap (λ l. compared l (drop place other)) (drop_all _ _ all) ∙ ap (compared []) (drop_all _ other (omega arith)))
 
 -- ---- the value under a name
 
@@ -85,51 +85,51 @@ pub record NoneNamed (labels : List LentLabel) (name : List ℕ) (place : ℕ) :
   pub rest : value_of (map as_label labels) name ≡ value_of (map as_label (drop place labels)) name
 
 pub none_named : (labels : List LentLabel) (name : List ℕ) → NoneNamed labels name 0
-none_named labels name = record { rest = sym (ap (λ (l : List LentLabel). value_of (map as_label l) name) (drop_none labels)) }
+none_named _ name = record { rest = sym (ap (λ l. value_of (map as_label l) name) (drop_none _)) }
 
 named_here : (label : Label) (labels : List Label) (name : List ℕ) → bytes_eq label.name name ≡ true → value_of (label ∷ labels) name ≡ Some label.value
 unfolding value_of
-named_here label labels name is = rw is refl
+named_here _ _ _ is = rw is refl
 
 named_otherwise : (label : Label) (labels : List Label) (name : List ℕ) → bytes_eq label.name name ≡ false → value_of (label ∷ labels) name ≡ value_of labels name
 unfolding value_of
-named_otherwise label labels name is = rw is refl
+named_otherwise _ _ _ is = rw is refl
 
 no_value : (name : List ℕ) → value_of [] name ≡ None
 unfolding value_of
-no_value name = refl
+no_value _ = refl
 
 next_label : (labels : List LentLabel) (name : List ℕ) (place : ℕ) (d : LentLabel) → place < length labels → NoneNamed labels name place → value_of (map as_label labels) name ≡ value_of (as_label (get_or labels place d) ∷ map as_label (drop (place + 1) labels)) name
-next_label labels name place d lt h = h.rest ∙ ap (λ (l : List LentLabel). value_of (map as_label l) name) (drop_more labels place d lt)
+next_label labels name place d lt h = h.rest ∙ ap (λ l. value_of (map as_label l) name) (drop_more labels place d lt)
 
 pub value_here : (labels : List LentLabel) (name : List ℕ) (place : ℕ) (x d : LentLabel) (b : Bool) → place < length labels → x ≡ get_or labels place d → NoneNamed labels name place → b ≡ bytes_eq x.name.now name → b ≡ true → Some x.value.now ≡ value_of (map as_label labels) name
 value_here labels name place x d b lt at h told is =
-    sym (next_label labels name place d lt h ∙ ap (λ (l : LentLabel). value_of (as_label l ∷ map as_label (drop (place + 1) labels)) name) (sym at)
-    ∙ named_here (as_label x) (map as_label (drop (place + 1) labels)) name (sym told ∙ is))
+    sym (next_label _ _ _ d lt h ∙ ap (λ l. value_of (as_label l ∷ map as_label (drop (place + 1) labels)) name) (sym at)
+    ∙ named_here _ _ _ (sym told ∙ is))
 
 pub value_further : (labels : List LentLabel) (name : List ℕ) (place : ℕ) (x d : LentLabel) (b : Bool) → place < length labels → x ≡ get_or labels place d → NoneNamed labels name place → b ≡ bytes_eq x.name.now name → b ≡ false → NoneNamed labels name (place + 1)
 value_further labels name place x d b lt at h told is = record {
-  rest = next_label labels name place d lt h ∙ ap (λ (l : LentLabel). value_of (as_label l ∷ map as_label (drop (place + 1) labels)) name) (sym at)
-      ∙ named_otherwise (as_label x) (map as_label (drop (place + 1) labels)) name (sym told ∙ is);
+  rest = next_label _ _ _ d lt h ∙ ap (λ l. value_of (as_label l ∷ map as_label (drop (place + 1) labels)) name) (sym at)
+      ∙ named_otherwise _ _ _ (sym told ∙ is);
 }
 
 pub value_nowhere : (labels : List LentLabel) (name : List ℕ) (place : ℕ) → length labels ≤ place → NoneNamed labels name place → None ≡ value_of (map as_label labels) name
-value_nowhere labels name place all h = sym (h.rest ∙ ap (λ (l : List LentLabel). value_of (map as_label l) name) (drop_all place labels all) ∙ no_value name)
+value_nowhere _ name _ all h = sym (h.rest ∙ ap (λ l. value_of (map as_label l) name) (drop_all _ _ all) ∙ no_value _)
 
 -- ---- the walk over the labels of a series
 
 pub at_mapped : (labels : List LentLabel) (k : ℕ) (x d : LentLabel) (e : Label) → k < length labels → x ≡ get_or labels k d → as_label x ≡ get_or (map as_label labels) k e
-at_mapped [] k x d e lt at = absurd (omega (arith, lt))
+at_mapped [] k x d e lt at = absurd (omega arith)
 at_mapped (l ∷ ls) zero x d e lt at = ap as_label at
-at_mapped (l ∷ ls) (suc k) x d e lt at = at_mapped ls k x d e (omega (arith, lt)) at
+at_mapped (l ∷ ls) (suc k) x d e lt at = at_mapped ls k x d e (omega arith) at
 
 pub lent_step : (rows : List PostingsRow) (lists : List (List ℕ)) (number : ℕ) (labels : List LentLabel) (place : ℕ) (x d : LentLabel) (least here new : Option ℕ) → GapsSoFar rows lists number (map as_label labels) place least → place < length labels → x ≡ get_or labels place d
     → here ≡ gap_from 0 rows lists number (as_label x) → new ≡ earlier least here → GapsSoFar rows lists number (map as_label labels) (place + 1) new
 lent_step rows lists number labels place x d least here new far lt at is added =
-    gaps_step rows lists number (map as_label labels) place (as_label x) least here new far (omega (arith, lt, length-map labels as_label)) (at_mapped labels place x d (as_label x) lt at) is added
+    gaps_step rows lists _ _ _ _ _ _ _ far (omega (arith, length-map labels as_label)) (at_mapped _ _ x d _ lt at) is added
 
 -- ---- series that are copied
 
 pub one_copied : (series made new : List IndexSeries) (k : ℕ) (x copy d : IndexSeries) → made ≡ take k series → k < length series → x ≡ get_or series k d → copy ≡ x → new ≡ made ++ copy ∷ [] → new ≡ take (k + 1) series
-one_copied series made new k x copy d far lt at same pushed =
-    pushed ∙ ap (λ (l : List IndexSeries). l ++ copy ∷ []) far ∙ ap (λ (y : IndexSeries). take k series ++ y ∷ []) (same ∙ at) ∙ sym (take_more series k d lt)
+one_copied series _ _ k x copy d far lt at same pushed =
+    pushed ∙ ap (λ l. l ++ copy ∷ []) far ∙ ap (λ y. take k series ++ y ∷ []) (same ∙ at) ∙ sym (take_more _ k d lt)

@@ -5,14 +5,13 @@ use Rattle.std.specs.List.{starts_with}
 use Rattle.std.proofs.lemmas.Bool.{eqb-true, eq-eqb, leb-true, le-leb}
 use Rattle.std.specs.Cmp.Lexicographic.{bytes_decides}
 use Rattle.list_core.proofs.Bools.{by_bool}
-use Rattle.reading_core.specs.Reading.{◌>>=◌, ◌>>◌, unless, refused_as}
+use Rattle.reading_core.specs.Reading.{◌>>=◌, refused_as}
 use Rattle.reading_core.specs.Grammar.{IsBytes}
 use Rattle.reading_core.proofs.Binds.{bind_ok, unless_ok, refused_as_ok, ok_is}
 use Rattle.index_parts.specs.declared.toc.Toc.{Toc}
 use Rattle.index_parts.specs.declared.refusal.PartRefusal.{PartRefusal}
 use Rattle.index_parts.specs.declared.refusal.PartRefusal.TheVariants as part
 use Rattle.index_parts.specs.Contents.{IsToc}
-use Rattle.index_parts.specs.ContentsReading.{toc_at}
 use Rattle.index_parts.specs.Symbols.{IsSymbols, IsNextSymbol}
 use Rattle.index_parts.specs.SymbolsReading.{symbol_at, symbols_at}
 use Rattle.index_parts.specs.Rows.{IsPostingsTable, IsNextRow}
@@ -22,9 +21,9 @@ use Rattle.index_parts.proofs.ListLaws.{list_found, list_again}
 use Rattle.index_parts.proofs.SymbolLaws.{symbol_turn}
 use Rattle.index_parts.proofs.RowLaws.{row_turn}
 use Rattle.index_v2.specs.declared.refusal.IndexRefusal.{IndexRefusal}
-use Rattle.index_v2.specs.declared.refusal.IndexRefusal.TheVariants.{BadMagic, BadVersion, BadSection}
+use Rattle.index_v2.specs.declared.refusal.IndexRefusal.TheVariants.{BadSection}
 use Rattle.index_file.specs.Opened.{Opened}
-use Rattle.index_v2.specs.Opening.{refused_in, refused_contents, contents_at, held_at, opened_at}
+use Rattle.index_v2.specs.Opening.{refused_in, contents_at, held_at, opened_at}
 use Rattle.index_file.specs.IndexFile.{magic, version, header, least_size, Holds, IsOpened}
 
 -- ---- the header
@@ -38,7 +37,7 @@ five (a ∷ b ∷ c ∷ d ∷ []) le = absurd (omega arith)
 five (a ∷ b ∷ c ∷ d ∷ e ∷ others) le = (a, b, c, d, e, others, refl)
 
 header_five : (a b c d e : ℕ) (others : List ℕ) → starts_with nat_eq (a ∷ b ∷ c ∷ d ∷ e ∷ others) magic ≡ true → e ≡ version → take 5 (a ∷ b ∷ c ∷ d ∷ e ∷ others) ≡ header
-header_five a b c d e others m v =
+header_five a b c d e _ m v =
     let front : magic ≡ a ∷ b ∷ c ∷ d ∷ [] = (bytes_decides magic (a ∷ b ∷ c ∷ d ∷ [])).0 m in
     let pa : a ≡ 186 = cc in
     let pb : b ≡ 170 = cc in
@@ -47,16 +46,16 @@ header_five a b c d e others m v =
     rw (pa, pb, pc, pd, v) refl
 
 header_found : (index : List ℕ) → least_size ≤ length index → starts_with nat_eq index magic ≡ true → slice_index index 4 ≡ version → take 5 index ≡ header
-header_found index long m v =
-    let f = five index long in
+header_found _ long m v =
+    let f = five _ long in
     let is = f.6 in
-    let m' : starts_with nat_eq (f.0 ∷ f.1 ∷ f.2 ∷ f.3 ∷ f.4 ∷ f.5) magic ≡ true = ap (λ (xs : List ℕ). starts_with nat_eq xs magic) (sym is) ∙ m in
-    let v' : f.4 ≡ version = ap (λ (xs : List ℕ). slice_index xs 4) (sym is) ∙ v in
-    ap (λ (xs : List ℕ). take 5 xs) is ∙ header_five f.0 f.1 f.2 f.3 f.4 f.5 m' v'
+    let m' = ap (λ xs. starts_with nat_eq xs magic) (sym is) ∙ m in
+    let v' = ap (λ xs. slice_index xs 4) (sym is) ∙ v in
+    ap (λ xs. take 5 xs) is ∙ header_five _ _ _ _ _ f.5 m' v'
 
 five_header : (a b c d e : ℕ) (others : List ℕ) → take 5 (a ∷ b ∷ c ∷ d ∷ e ∷ others) ≡ header → (starts_with nat_eq (a ∷ b ∷ c ∷ d ∷ e ∷ others) magic ≡ true) × (e ≡ version)
-five_header a b c d e others h =
-    let front : a ∷ b ∷ c ∷ d ∷ e ∷ [] ≡ header = h in
+five_header a b c d e _ h =
+    let front = h in
     let pa : a ≡ 186 = cc in
     let pb : b ≡ 170 = cc in
     let pc : c ≡ 215 = cc in
@@ -65,22 +64,22 @@ five_header a b c d e others h =
     (rw (pa, pb, pc, pd) refl, pe)
 
 header_again : (index : List ℕ) → least_size ≤ length index → take 5 index ≡ header → (starts_with nat_eq index magic ≡ true) × (slice_index index 4 ≡ version)
-header_again index long h =
-    let f = five index long in
+header_again _ long h =
+    let f = five _ long in
     let is = f.6 in
-    let front = five_header f.0 f.1 f.2 f.3 f.4 f.5 (ap (λ (xs : List ℕ). take 5 xs) (sym is) ∙ h) in
-    (ap (λ (xs : List ℕ). starts_with nat_eq xs magic) is ∙ front.0, ap (λ (xs : List ℕ). slice_index xs 4) is ∙ front.1)
+    let front = five_header _ _ _ _ _ f.5 (ap (λ xs. take 5 xs) (sym is) ∙ h) in
+    (ap (λ xs. starts_with nat_eq xs magic) is ∙ front.0, ap (λ xs. slice_index xs 4) is ∙ front.1)
 
 -- ---- the table of contents
 
 contents_found : (index : List ℕ) (toc : Toc) → IsBytes index → contents_at index ≡ Ok toc → (least_size ≤ length index) × (take 5 index ≡ header) × IsToc index toc
 unfolding contents_at
 contents_found index toc are e =
-    let long = unless_ok (nat_le least_size (length index)) (BadSection 0 (part.Short 0)) (unless (starts_with nat_eq index magic) BadMagic >> (unless (slice_index index 4 == version) BadVersion >> refused_as refused_contents (toc_at index))) toc e in
-    let begun = unless_ok (starts_with nat_eq index magic) BadMagic (unless (slice_index index 4 == version) BadVersion >> refused_as refused_contents (toc_at index)) toc long.1 in
-    let right = unless_ok (slice_index index 4 == version) BadVersion (refused_as refused_contents (toc_at index)) toc begun.1 in
-    let enough : least_size ≤ length index = leb-true least_size (length index) long.0 in
-    (enough, header_found index enough begun.0 (eqb-true (slice_index index 4) version right.0), toc_found index toc are (refused_as_ok refused_contents (toc_at index) toc right.1))
+    let long = unless_ok (nat_le least_size (length index)) (BadSection 0 (part.Short 0)) _ _ e in
+    let begun = unless_ok _ _ _ _ long.1 in
+    let right = unless_ok _ _ _ _ begun.1 in
+    let enough = leb-true least_size (length index) long.0 in
+    (enough, header_found _ enough begun.0 (eqb-true (slice_index index 4) version right.0), toc_found _ _ are (refused_as_ok _ _ _ right.1))
 
 pub contents_again : (index : List ℕ) (toc : Toc) → least_size ≤ length index → take 5 index ≡ header → IsToc index toc → contents_at index ≡ Ok toc
 unfolding contents_at
@@ -93,7 +92,7 @@ contents_again index toc long h is =
 held_found : {A : Type 0} (section : ℕ) (read : List ℕ → ℕ → Result (List A) PartRefusal) (Is : List ℕ → ℕ → List A → Type 0) (index : List ℕ) (reference : ℕ) (members : List A) → ((xs : List A) → read index reference ≡ Ok xs → Is index reference xs) → held_at section read index reference ≡ Ok members → Holds Is index reference members
 held_found {A} section read Is index reference members one e = by_bool {P = Holds Is index reference members} (reference == 0)
     (λ zero_is. let e' : ◌≡◌ {A = Result (List A) IndexRefusal} (Ok []) (Ok members) = rw zero_is at e in rw zero_is (sym (ok_is {E = IndexRefusal} [] members e')))
-    (λ some. let e' : refused_as (refused_in section) (read index reference) ≡ Ok members = rw some at e in rw some (one members (refused_as_ok (refused_in section) (read index reference) members e')))
+    (λ some. let e' : refused_as (refused_in section) (read index reference) ≡ Ok members = rw some at e in rw some (one members (refused_as_ok _ _ _ e')))
 
 held_again : {A : Type 0} (section : ℕ) (read : List ℕ → ℕ → Result (List A) PartRefusal) (Is : List ℕ → ℕ → List A → Type 0) (index : List ℕ) (reference : ℕ) (members : List A) → (Is index reference members → read index reference ≡ Ok members) → Holds Is index reference members → held_at section read index reference ≡ Ok members
 held_again {A} section read Is index reference members one holds = by_bool {P = held_at section read index reference ≡ Ok members} (reference == 0)
@@ -104,20 +103,20 @@ held_again {A} section read Is index reference members one holds = by_bool {P = 
 
 pub opened_found : (index : List ℕ) (opened : Opened) → IsBytes index → opened_at index ≡ Ok opened → (opened.bytes ≡ index) × IsOpened opened
 unfolding opened_at
-opened_found index opened are e =
-    let toc = bind_ok (contents_at index) (λ toc. held_at 1 symbols_at index toc.symbols >>= λ symbols. held_at 6 postings_table_at index toc.postings_table >>= λ rows. Ok (record { bytes = index; toc = toc; symbols = symbols; rows = rows })) opened e in
-    let symbols = bind_ok (held_at 1 symbols_at index toc.0.symbols) (λ symbols. held_at 6 postings_table_at index toc.0.postings_table >>= λ rows. Ok (record { bytes = index; toc = toc.0; symbols = symbols; rows = rows })) opened toc.2 in
-    let rows = bind_ok (held_at 6 postings_table_at index toc.0.postings_table) (λ rows. Ok (record { bytes = index; toc = toc.0; symbols = symbols.0; rows = rows })) opened symbols.2 in
-    let same : ◌≡◌ {A = Opened} (record { bytes = index; toc = toc.0; symbols = symbols.0; rows = rows.0 }) opened = ok_is {E = IndexRefusal} _ _ rows.2 in
-    let contents = contents_found index toc.0 are toc.1 in
+opened_found index _ are e =
+    let toc = bind_ok _ _ _ e in
+    let symbols = bind_ok _ (λ symbols. held_at 6 postings_table_at index toc.0.postings_table >>= λ rows. Ok (record { bytes = index; toc = toc.0; symbols = symbols; rows = rows })) _ toc.2 in
+    let rows = bind_ok _ (λ rows. Ok (record { bytes = index; toc = toc.0; symbols = symbols.0; rows = rows })) _ symbols.2 in
+    let same = ok_is {E = IndexRefusal} _ _ rows.2 in
+    let contents = contents_found _ _ are toc.1 in
     let is : IsOpened (record { bytes = index; toc = toc.0; symbols = symbols.0; rows = rows.0 }) = record {
       begins = contents.1;
       long = contents.0;
       toc_is = contents.2;
-      symbols_are = held_found 1 symbols_at IsSymbols index toc.0.symbols symbols.0 (λ xs r. list_found IsNextSymbol symbol_at symbol_turn index toc.0.symbols xs are r) symbols.1;
-      rows_are = held_found 6 postings_table_at IsPostingsTable index toc.0.postings_table rows.0 (λ xs r. list_found IsNextRow row_at row_turn index toc.0.postings_table xs are r) rows.1;
+      symbols_are = held_found 1 symbols_at IsSymbols index toc.0.symbols _ (λ xs r. list_found IsNextSymbol symbol_at symbol_turn index toc.0.symbols xs are r) symbols.1;
+      rows_are = held_found 6 postings_table_at IsPostingsTable index toc.0.postings_table _ (λ xs r. list_found IsNextRow row_at row_turn index toc.0.postings_table xs are r) rows.1;
     } in
-    (ap (λ (o : Opened). o.bytes) (sym same), subst IsOpened same is)
+    (ap (λ o. o.bytes) (sym same), subst IsOpened same is)
 
 pub opened_again : (index : List ℕ) (opened : Opened) → opened.bytes ≡ index → IsOpened opened → opened_at index ≡ Ok opened
 unfolding opened_at

@@ -7,21 +7,21 @@ use Rattle.reading_core.specs.Reading.{refused_as, Gives}
 use Rattle.reading_core.proofs.Binds.{ok_is}
 use Rattle.index_parts.specs.declared.postings_row.PostingsRow.{PostingsRow}
 use Rattle.index_parts.specs.Postings.{IsNextPosting, IsPostings}
-use Rattle.index_parts.specs.PostingsReading.{posting_at, postings_at}
+use Rattle.index_parts.specs.PostingsReading.{posting_at}
 use Rattle.index_parts.proofs.ListLaws.{list_again}
 use Rattle.index_parts.proofs.PostingsLaws.{posting_turn}
 use Rattle.index_file.specs.declared.index_series.IndexSeries.{IndexSeries}
 use Rattle.index_file.specs.Opened.{Opened}
 use Rattle.index_file.specs.IndexFile.{IsOpened, IsIndex, AreNumbersOf}
-use Rattle.index_slices.specs.Parts.{Part, file, IsPartOf, HoldsSection}
+use Rattle.index_slices.specs.Parts.{file, IsPartOf, HoldsSection}
 use Rattle.index_v2.specs.declared.refusal.IndexRefusal.{IndexRefusal}
 use Rattle.index_v2.specs.declared.refusal.IndexRefusal.TheVariants.{NoMemory}
-use Rattle.index_v2.specs.Held.{Held, opened_of, whole_file, IsWhole, IsHeldOf, IsReaderOf, HasList}
+use Rattle.index_v2.specs.Held.{Held, opened_of, IsWhole, IsHeldOf, IsReaderOf, HasList}
 use Rattle.index_v2.specs.Opening.{refused_in, opened_at}
 use Rattle.index_v2.specs.PostingsLists.{list_of}
 use Rattle.index_v2.proofs.OpeningLaws.{opened_again}
 use Rattle.index_v2.proofs.WholeLaws.{ok_same}
-use Rattle.index_v2.proofs.HeldLaws.{whole_is, opened_whole, file_is, list_same}
+use Rattle.index_v2.proofs.HeldLaws.{opened_whole, file_is, list_same}
 
 -- ---- what it holds
 
@@ -31,7 +31,7 @@ whole_holds held whole = record {
   toc_is = refl;
   symbols_are = refl;
   rows_are = refl;
-  lists_are = subst (λ (p : Part). IsPartOf p held.bytes) (sym whole.lists_are) (file_is held.bytes);
+  lists_are = subst (λ p. IsPartOf p held.bytes) (sym whole.lists_are) (file_is _);
   series_are = inr refl;
 }
 
@@ -39,54 +39,51 @@ module _ (held : Held) (opened : Opened) (is : IsOpened opened) (same : held.byt
   -- a reader of an index's bytes is one of a whole file
   pub whole_from : IsWhole held ⊎ (held.bytes ≡ []) → IsWhole held
   whole_from (inl whole) = whole
-  whole_from (inr none) = let long = is.long in let empty = ap length (sym same ∙ none) in absurd (omega (arith, long, empty))
+  whole_from (inr none) = let long = is.long in let empty = ap length (sym same ∙ none) in absurd (omega arith)
 
   same_opened : IsWhole held → opened ≡ opened_of held
-  same_opened whole = ok_same (opened_at held.bytes) opened (opened_of held) (opened_again held.bytes opened (sym same) is) (opened_whole held whole)
-
-  pub whole_same_file : IsWhole held → held ≡ whole_file opened
-  whole_same_file whole = whole_is held whole ∙ ap whole_file (sym (same_opened whole))
+  same_opened whole = ok_same (opened_at held.bytes) _ _ (opened_again _ _ (sym same) is) (opened_whole _ whole)
 
   whole_held : IsWhole held → IsHeldOf held opened
-  whole_held whole = subst (IsHeldOf held) (sym (same_opened whole)) (whole_holds held whole)
+  whole_held whole = subst (IsHeldOf held) (sym (same_opened whole)) (whole_holds _ whole)
 
 pub reader_holds : (held : Held) (opened : Opened) → IsWhole held ⊎ (held.bytes ≡ []) → IsOpened opened → IsReaderOf held opened → IsHeldOf held opened
-reader_holds held opened one is (inl same) = whole_held held opened is same (whole_from held opened is same one)
-reader_holds held opened one is (inr holds) = holds
+reader_holds _ opened one is (inl same) = whole_held _ _ is same (whole_from _ opened is same one)
+reader_holds _ _ one is (inr holds) = holds
 
 -- ---- lists
 
 -- what is read is what stands there, and only memory is wanting
 pub read_is : {Y E : Type 0} (Is : Y → Type 0) (r read : Result Y E) (y : Y) → read ≡ Ok y → Is y → IfOk r (λ x. read ≡ Ok x) → IfOk r Is
-read_is {Y} {E} Is (Ok x) read y one is h = subst Is (ok_is {E = E} y x (sym one ∙ h)) is
-read_is Is (Err d) read y one is h = tt
+read_is {Y} {E} Is (Ok x) _ y one is h = subst Is (ok_is {E = E} y x (sym one ∙ h)) is
+read_is Is (Err d) _ y one is h = tt
 
 pub only_memory : {Y E : Type 0} (no_memory : E) (r read : Result Y E) (y : Y) → read ≡ Ok y → Gives no_memory (λ x. x) r read → IfErr r (λ e. e ≡ no_memory)
-only_memory no_memory (Ok x) read y one h = tt
-only_memory no_memory (Err d) read y one (inl out) = out
-only_memory no_memory (Err d) read y one (inr refused) = let no = sym refused ∙ one in absurd cc
+only_memory _ (Ok x) _ y one h = tt
+only_memory _ (Err d) _ y one (inl out) = out
+only_memory _ (Err d) _ y one (inr refused) = let no = sym refused ∙ one in absurd cc
 
 -- a list that is asked for, in what is held and in the index
 lies_at : (held : Held) (row : Option PostingsRow) → IfSome row (λ r. HoldsSection held.lists r.offset) → (r : PostingsRow) → row ≡ Some r → HoldsSection held.lists r.offset
-lies_at held None lies r is = absurd cc
-lies_at held (Some one) lies r is = subst (λ (x : PostingsRow). HoldsSection held.lists x.offset) (same_Some one r is) lies
+lies_at _ None lies r is = absurd cc
+lies_at held (Some one) lies r is = subst (λ x. HoldsSection held.lists x.offset) (same_Some _ r is) lies
 
 pub list_there : (held : Held) (opened : Opened) (row : Option PostingsRow) → IsWhole held ⊎ (held.bytes ≡ []) → IsOpened opened → HasList held opened row → list_of held.lists row ≡ list_of (file opened.bytes) row
-list_there held opened row one is (inl same) =
-    let whole = whole_from held opened is same one in
-    ap (λ (p : Part). list_of p row) (whole.lists_are ∙ ap file same)
-list_there held opened row one is (inr has) = list_same held.lists opened.bytes has.0.lists_are row (lies_at held row has.1)
+list_there _ opened row one is (inl same) =
+    let whole = whole_from _ opened is same one in
+    ap (λ p. list_of p row) (whole.lists_are ∙ ap file same)
+list_there held _ _ one is (inr has) = list_same _ _ has.0.lists_are _ (lies_at held _ has.1)
 
 pub has_reader : (held : Held) (opened : Opened) (row : Option PostingsRow) → HasList held opened row → IsReaderOf held opened
-has_reader held opened row (inl same) = inl same
-has_reader held opened row (inr has) = inr has.0
+has_reader _ _ _ (inl same) = inl same
+has_reader _ _ _ (inr has) = inr has.0
 
 module _ (index : List ℕ) (list : List IndexSeries) (is : IsIndex index list) (place : ℕ) (row : PostingsRow) (at : slice_get is.opened.rows place ≡ Some row) where
   -- each row has a list, of exactly the numbers of the series that belong to it
   pub row_read : (numbers : List ℕ) × (list_of (file is.opened.bytes) (Some row) ≡ Ok numbers) × AreNumbersOf is.listed row.name row.value numbers
   row_read =
-      let exact = is.rows_are row (contains_place is.opened.rows place row at) in
-      let read : postings_at is.opened.bytes row.offset ≡ Ok exact.numbers = list_again IsNextPosting posting_at posting_turn is.opened.bytes row.offset exact.numbers exact.stands in
+      let exact = is.rows_are row (contains_place _ _ _ at) in
+      let read = list_again IsNextPosting posting_at posting_turn _ _ _ exact.stands in
       (exact.numbers, ap (refused_as (refused_in 5)) read, record { only = exact.only; all = exact.all })
 
 -- ---- the list of a row
@@ -95,21 +92,21 @@ pub row_is : {X Y : Type 0} (f : X → Y) (o : Option X) (x : X) (s : Option Y) 
 row_is f o x s is e = sym e ∙ ap (option_map f) is
 
 list_stands : (index : List ℕ) (row : PostingsRow) (r : Result (List ℕ) IndexRefusal) → IfOk r (λ numbers. IsPostings index row.offset numbers) → IfOk r (λ numbers. list_of (file index) (Some row) ≡ Ok numbers)
-list_stands index row (Ok numbers) stands = ap (refused_as (refused_in 5)) (list_again IsNextPosting posting_at posting_turn index row.offset numbers stands)
-list_stands index row (Err d) stands = tt
+list_stands _ _ (Ok numbers) stands = ap (refused_as (refused_in 5)) (list_again IsNextPosting posting_at posting_turn _ _ _ stands)
+list_stands _ _ (Err d) stands = tt
 
 module _ (held : Held) (index : List ℕ) (list : List IndexSeries) (is : IsIndex index list) (place : ℕ) (one : PostingsRow) (at : slice_get held.rows place ≡ Some one) (holds : IsHeldOf held is.opened) (r : Result (List ℕ) IndexRefusal) where
   there : slice_get is.opened.rows place ≡ Some one
-  there = ap (λ (rows : List PostingsRow). slice_get rows place) (sym holds.rows_are) ∙ at
+  there = ap (λ rows. slice_get rows place) (sym holds.rows_are) ∙ at
 
   pub row_agrees : IfOk r (λ numbers. IsPostings is.opened.bytes one.offset numbers) → (row : PostingsRow) → slice_get held.rows place ≡ Some row → IfOk r (λ numbers. AreNumbersOf is.listed row.name row.value numbers)
   row_agrees stands row same =
-      let read = row_read index list is place one there in
-      let agrees = read_is (AreNumbersOf is.listed one.name one.value) r (list_of (file is.opened.bytes) (Some one)) read.0 read.1 read.2 (list_stands is.opened.bytes one r stands) in
-      subst (λ (x : PostingsRow). IfOk r (λ numbers. AreNumbersOf is.listed x.name x.value numbers)) (same_Some one row (sym at ∙ same)) agrees
+      let read = row_read index list is place _ there in
+      let agrees = read_is _ r _ _ read.1 read.2 (list_stands _ one r stands) in
+      subst (λ x. IfOk r (λ numbers. AreNumbersOf is.listed x.name x.value numbers)) (same_Some _ _ (sym at ∙ same)) agrees
 
   pub row_wanting : IsWhole held ⊎ (held.bytes ≡ []) → HasList held is.opened (slice_get held.rows place) → Gives NoMemory (λ xs. xs) r (list_of held.lists (Some one)) → IfErr r (λ e. e ≡ NoMemory)
   row_wanting kind has given =
-      let read = row_read index list is place one there in
-      let has' : HasList held is.opened (Some one) = subst (HasList held is.opened) at has in
-      only_memory NoMemory r (list_of held.lists (Some one)) read.0 (list_there held is.opened (Some one) kind is.is_opened has' ∙ read.1) given
+      let read = row_read index list is place _ there in
+      let has' = subst (HasList held is.opened) at has in
+      only_memory _ r _ _ (list_there _ _ (Some one) kind is.is_opened has' ∙ read.1) given

@@ -26,7 +26,7 @@ use Rattle.index_v2.specs.PostingsLists.{is_row_of, row_of, list_of}
 use Rattle.index_parts.proofs.RowPlaces.{rows_total}
 
 row_test : (name value : List ℕ) (row : PostingsRow) → row.name ≡ name → row.value ≡ value → is_row_of name value row ≡ true
-row_test name value row n v = rw (n, v, bytes_eq-itself name, bytes_eq-itself value) refl
+row_test _ _ _ n v = rw (n, v, bytes_eq-itself, bytes_eq-itself) refl
 
 equal_key : (name value : List ℕ) (row : PostingsRow) → is_row_of name value row ≡ true → compare_row row name value ≡ Equal
 equal_key name value row e =
@@ -39,12 +39,12 @@ not_row : (name value : List ℕ) (row : PostingsRow) → compare_row row name v
 not_row name value row other = by_bool (is_row_of name value row) (λ yes. absurd (other (equal_key name value row yes))) (λ no. no)
 
 find_none : (name value : List ℕ) (rows : List PostingsRow) → ((k : ℕ) (row : PostingsRow) → slice_get rows k ≡ Some row → compare_row row name value ≢ Equal) → find (is_row_of name value) rows ≡ None
-find_none name value [] none = refl
+find_none name _ [] none = refl
 find_none name value (row ∷ rows) none = rw (not_row name value row (none 0 row refl)) (find_none name value rows (λ k other at. none (suc k) other at))
 
 pub row_absent : (rows : List PostingsRow) (name value : List ℕ) (place : ℕ) → StandsAt rows name value place → row_of rows name value ≡ None
 unfolding row_of
-row_absent rows name value place stands = find_none name value rows (λ k row at e.
+row_absent rows _ _ place stands = find_none _ _ rows (λ k row at e.
     elim (cases_lt k place) [
       | inl below ↦ let less = stands.below k row below at in absurd cc
       | inr above ↦ let greater = stands.above k row above at in absurd cc
@@ -60,38 +60,35 @@ before_key name value first row less is e =
     cc
 
 find_some : (name value : List ℕ) (rows : List PostingsRow) (place : ℕ) (row : PostingsRow) → IsStrictlySortedBy compare_rows rows → slice_get rows place ≡ Some row → is_row_of name value row ≡ true → find (is_row_of name value) rows ≡ Some row
-find_some name value [] place row ascend at is = absurd cc
+find_some _ _ [] _ _ ascend at is = absurd cc
 find_some name value (first ∷ rows) zero row ascend at is = let same : first ≡ row = cc in rw (ap (is_row_of name value) same, is, same) refl
 find_some name value (first ∷ rows) (suc place) row ascend at is =
-    let less : compare_rows first row ≡ Less = Less-at_places compare_rows (first ∷ rows) 0 (suc place) first row ascend (omega arith) refl at in
-    rw (not_row name value first (before_key name value first row less is)) (find_some name value rows place row (sorted_tail compare_rows first rows ascend) at is)
+    let less = Less-at_places compare_rows (first ∷ rows) 0 (suc place) first row ascend (omega arith) refl at in
+    rw (not_row name value first (before_key name value first row less is)) (find_some _ _ _ _ _ (sorted_tail compare_rows _ _ ascend) at is)
 
 pub row_found : (rows : List PostingsRow) (name value : List ℕ) (place : ℕ) (row : PostingsRow) → IsStrictlySortedBy compare_rows rows → IsRowAt rows name value place → slice_get rows place ≡ Some row → row_of rows name value ≡ Some row
 unfolding row_of
-row_found rows name value place row ascend is at =
-    let same : is.row ≡ row = same_Some is.row row (sym is.stands ∙ at) in
-    find_some name value rows place row ascend at (row_test name value row (ap (λ (r : PostingsRow). r.name) (sym same) ∙ is.name_is) (ap (λ (r : PostingsRow). r.value) (sym same) ∙ is.value_is))
-
-pub row_not_none : (rows : List PostingsRow) (name value : List ℕ) (place : ℕ) {P : Type 0} → IsRowAt rows name value place → slice_get rows place ≡ None → P
-row_not_none rows name value place is none = let some = is.stands in absurd cc
+row_found _ name value _ row ascend is at =
+    let same : is.row ≡ row = same_Some _ _ (sym is.stands ∙ at) in
+    find_some _ _ _ _ _ ascend at (row_test _ _ row (ap (λ r. r.name) (sym same) ∙ is.name_is) (ap (λ r. r.value) (sym same) ∙ is.value_is))
 
 -- ---- the list of the row that was found
 
 pub list_found : {X : Type 0} (view : X → List ℕ) (r : Result X IndexRefusal) (part : Part) (rows : List PostingsRow) (name value : List ℕ) (place : ℕ) (row : PostingsRow) → IsStrictlySortedBy compare_rows rows → IsRowAt rows name value place → slice_get rows place ≡ Some row
     → Gives NoMemory view r (refused_as (refused_in 5) (list_in part row.offset)) → Gives NoMemory view r (list_of part (row_of rows name value))
-list_found view r part rows name value place row ascend is at given = rw (row_found rows name value place row ascend is at) given
+list_found view r _ rows name value place row ascend is at given = rw (row_found rows name value place row ascend is at) given
 
 pub list_absent : (part : Part) (rows : List PostingsRow) (name value : List ℕ) (place : ℕ) → StandsAt rows name value place → list_of part (row_of rows name value) ≡ Ok []
-list_absent part rows name value place stands = rw (row_absent rows name value place stands) refl
+list_absent _ rows name value place stands = rw (row_absent rows name value place stands) refl
 
 -- ---- there is one such row at most
 
 filter_none : (name value : List ℕ) (rows : List PostingsRow) → ((k : ℕ) (row : PostingsRow) → slice_get rows k ≡ Some row → is_row_of name value row ≡ false) → filter (is_row_of name value) rows ≡ []
-filter_none name value [] none = refl
+filter_none _ _ [] none = refl
 filter_none name value (row ∷ rows) none = rw (none 0 row refl) (filter_none name value rows (λ k other at. none (suc k) other at))
 
 pub rows_absent : (rows : List PostingsRow) (name value : List ℕ) (place : ℕ) → StandsAt rows name value place → filter (is_row_of name value) rows ≡ []
-rows_absent rows name value place stands = filter_none name value rows (λ k row at. not_row name value row (λ e.
+rows_absent _ name value place stands = filter_none _ _ _ (λ k row at. not_row name value row (λ e.
     elim (cases_lt k place) [
       | inl below ↦ let less = stands.below k row below at in absurd cc
       | inr above ↦ let greater = stands.above k row above at in absurd cc
@@ -100,7 +97,7 @@ rows_absent rows name value place stands = filter_none name value rows (λ k row
 -- behind the row of a name and a value there is no other
 none_behind : (name value : List ℕ) (first : PostingsRow) (rows : List PostingsRow) → IsStrictlySortedBy compare_rows (first ∷ rows) → is_row_of name value first ≡ true → (k : ℕ) (row : PostingsRow) → slice_get rows k ≡ Some row → is_row_of name value row ≡ false
 none_behind name value first rows ascend is k row at =
-    let less : compare_rows first row ≡ Less = Less-at_places compare_rows (first ∷ rows) 0 (suc k) first row ascend (omega arith) refl at in
+    let less = Less-at_places compare_rows _ 0 (suc k) first row ascend (omega arith) refl at in
     by_bool (is_row_of name value row) (λ yes. absurd (before_key name value first row less yes (equal_key name value first is))) (λ no. no)
 
 filter_one : (name value : List ℕ) (rows : List PostingsRow) (place : ℕ) (row : PostingsRow) → IsStrictlySortedBy compare_rows rows → slice_get rows place ≡ Some row → is_row_of name value row ≡ true → filter (is_row_of name value) rows ≡ row ∷ []
@@ -108,22 +105,22 @@ filter_one name value [] place row ascend at is = absurd cc
 filter_one name value (first ∷ rows) zero row ascend at is =
     let same : first ≡ row = cc in
     let here : is_row_of name value first ≡ true = ap (is_row_of name value) same ∙ is in
-    rw here (ap (λ (xs : List PostingsRow). first ∷ xs) (filter_none name value rows (none_behind name value first rows ascend here)) ∙ ap (λ (r : PostingsRow). r ∷ []) same)
+    rw here (ap (λ (xs : List PostingsRow). first ∷ xs) (filter_none name value rows (none_behind _ _ _ _ ascend here)) ∙ ap (λ r. r ∷ []) same)
 filter_one name value (first ∷ rows) (suc place) row ascend at is =
-    let less : compare_rows first row ≡ Less = Less-at_places compare_rows (first ∷ rows) 0 (suc place) first row ascend (omega arith) refl at in
-    rw (not_row name value first (before_key name value first row less is)) (filter_one name value rows place row (sorted_tail compare_rows first rows ascend) at is)
+    let less = Less-at_places compare_rows (first ∷ rows) 0 (suc place) first row ascend (omega arith) refl at in
+    rw (not_row name value first (before_key name value first row less is)) (filter_one _ _ _ _ _ (sorted_tail compare_rows _ _ ascend) at is)
 
 pub row_alone : (rows : List PostingsRow) (name value : List ℕ) (place : ℕ) → IsStrictlySortedBy compare_rows rows → IsRowAt rows name value place → IsAlone (is_row_of name value) rows place
-row_alone rows name value place ascend is = record {
+row_alone rows _ _ _ ascend is = record {
   row = is.row;
   stands = is.stands;
-  only = filter_one name value rows place is.row ascend is.stands (row_test name value is.row is.name_is is.value_is);
+  only = filter_one _ _ _ _ _ ascend is.stands (row_test _ _ is.row is.name_is is.value_is);
 }
 
 pub found_alone : (r : Result ℕ ℕ) (rows : List PostingsRow) (name value : List ℕ) → IsStrictlySortedBy compare_rows rows → IfOk r (λ place. IsRowAt rows name value place) → IfSome (result_ok r) (λ place. IsAlone (is_row_of name value) rows place)
-found_alone (Ok place) rows name value ascend is = row_alone rows name value place ascend is
-found_alone (Err place) rows name value ascend is = tt
+found_alone (Ok place) rows name value ascend is = row_alone _ _ _ _ ascend is
+found_alone (Err place) _ _ _ ascend is = tt
 
 pub found_none : (r : Result ℕ ℕ) (rows : List PostingsRow) (name value : List ℕ) → IfErr r (λ place. StandsAt rows name value place) → result_ok r ≡ None → filter (is_row_of name value) rows ≡ []
-found_none (Ok place) rows name value stands none = absurd cc
-found_none (Err place) rows name value stands none = rows_absent rows name value place stands
+found_none (Ok place) _ _ _ stands none = absurd cc
+found_none (Err place) _ _ _ stands none = rows_absent _ _ _ _ stands

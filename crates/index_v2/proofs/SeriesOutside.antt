@@ -30,29 +30,29 @@ only_short wire.Short other = refl
 only_short wire.Overlong other = absurd (other refl)
 
 summed_short : (place : ℕ) (bytes : List ℕ) (at count : ℕ) → length bytes < at + count + 4 → summed_at place count (at_place bytes at) ≡ Err (part.Short place)
-summed_short place bytes at count past =
+summed_short _ bytes at count past =
     elim (cases_lt (length (drop at bytes)) count) [
-      | inl few ↦ no_content place bytes at count few
-      | inr enough ↦ no_sum place bytes at count enough (omega (arith, past, length-drop (at + count) bytes))
+      | inl few ↦ no_content _ _ at count few
+      | inr enough ↦ no_sum _ _ at count enough (omega (arith, length-drop (at + count) bytes))
     ]
 
 entry_short : (bytes : List ℕ) (at : ℕ) → (IsOkAnd (uvarint_at (at_place bytes at)) (λ (size : ℕ × Position). size.1.place + size.0 + 4 ≤ length bytes) → ⊥) → (uvarint_at (at_place bytes at) ≡ Err wire.Overlong → ⊥) → framed_at uvarint_at bytes at ≡ Err (part.Short at)
-entry_short bytes at outside told = by_result (uvarint_at (at_place bytes at))
+entry_short bytes at outside told = by_result _
     (λ size e.
-    let here : at_place bytes size.1.place ≡ size.1 = ap (λ (xs : List ℕ). at_place xs size.1.place) (sym (entry_longer.again bytes [] at size e).0) in
+    let here = ap (λ xs. at_place xs size.1.place) (sym (entry_longer.again bytes [] at size e).0) in
     elim (cases_lt (length bytes) (size.1.place + size.0 + 4)) [
-      | inl past ↦ framed_is uvarint_at bytes at size e ∙ ap (summed_at at size.0) (sym here) ∙ summed_short at bytes size.1.place size.0 past
-      | inr within ↦ absurd (outside (subst (λ (r : Result (ℕ × Position) WireRefusal). IsOkAnd r (λ (size : ℕ × Position). size.1.place + size.0 + 4 ≤ length bytes)) (sym e) within))
+      | inl past ↦ framed_is _ _ at size e ∙ ap (summed_at at size.0) (sym here) ∙ summed_short at bytes size.1.place size.0 past
+      | inr within ↦ absurd (outside (subst (λ r. IsOkAnd r (λ size. size.1.place + size.0 + 4 ≤ length bytes)) (sym e) within))
     ])
-    (λ d e. framed_refused uvarint_at bytes at d e ∙ ap (λ (x : WireRefusal). Err (refused_at at x)) (only_short d (λ over. told (e ∙ ap Err over))))
+    (λ d e. framed_refused uvarint_at bytes at d e ∙ ap (λ x. Err (refused_at at x)) (only_short d (λ over. told (e ∙ ap Err over))))
 
 not_begun : (bytes : List ℕ) (at : ℕ) (d : PartRefusal) → framed_at uvarint_at bytes at ≡ Err d → labels_begin_at bytes at ≡ Err d
 unfolding labels_begin_at
-not_begun bytes at d e = rw e refl
+not_begun _ _ d e = rw e refl
 
 pub series_outside : (here : Part) (symbols : List (List ℕ)) (number : ℕ) → here.begin ≤ 16 * number → 16 * number < 2 ^ 64 → here.begin + length here.bytes < 2 ^ 64 → (HoldsSeries here (16 * number) → ⊥) → (uvarint_at (at_place here.bytes (16 * number - here.begin)) ≡ Err wire.Overlong → ⊥) → numbered_at (known here) symbols number ≡ Err (BadSeries number (part.Short (16 * number)))
-series_outside here symbols number begins small fits outside told =
+series_outside here _ number begins small fits outside told =
     let k = 16 * number - here.begin in
-    let place : here.begin + k ≡ 16 * number = omega (arith, begins) in
-    let short = labelled_not_begun here.bytes symbols k (part.Short k) (not_begun here.bytes k (part.Short k) (entry_short here.bytes k (λ lies. outside (begins, lies)) told)) in
-    ap (refused_as (refused_of number)) ((series_known_told here symbols (16 * number) begins small fits).refused (part.Short k) short) ∙ ap (λ (n : ℕ). Err (BadSeries number (part.Short n))) place
+    let place : here.begin + k ≡ 16 * number = omega arith in
+    let short = labelled_not_begun _ _ k _ (not_begun _ k _ (entry_short _ k (λ lies. outside (begins, lies)) told)) in
+    ap (refused_as (refused_of number)) ((series_known_told _ _ _ begins small fits).refused (part.Short k) short) ∙ ap (λ n. Err (BadSeries number (part.Short n))) place

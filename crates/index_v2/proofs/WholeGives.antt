@@ -19,21 +19,21 @@ use Rattle.index_v2.proofs.FewLaws.{if_ok, whole_few}
 use Rattle.index_v2.proofs.WholeRead.{whole_found, whole_again, differ_found, differ_again, differ_from, differing_from}
 
 abbrev Reads : Result (List IndexSeries) IndexRefusal → Held → Type 0
-Reads r held = Gives NoMemory (λ (xs : List IndexSeries). xs) r (whole_at held)
+Reads r held = Gives NoMemory (λ xs. xs) r (whole_at held)
 
 index_found : (h : Held) (r : Result (List IndexSeries) IndexRefusal) → IsBytes h.bytes → Reads r h → IsWhole h → IfOk r (λ list. IsIndex h.bytes list)
 index_found h r bytes exact is =
-    found_from (IsIndex h.bytes) NoMemory (λ (xs : List IndexSeries). xs) r (whole_at h) (λ list e. whole_found (opened_of h) bytes is.is_opened list (ap whole_at (sym (whole_is h is)) ∙ e)) exact
+    found_from (IsIndex h.bytes) NoMemory (λ xs. xs) r _ (λ list e. whole_found (opened_of h) bytes is.is_opened list (ap whole_at (sym (whole_is h is)) ∙ e)) exact
 
 pub gives_whole : (h : Held) (r : Result (List IndexSeries) IndexRefusal) → IsWhole h ⊎ (h.bytes ≡ []) → IsBytes h.bytes → Reads r h → IfOk r (λ list. sum_by members_of list ≤ 8 * length h.bytes) → IfOk r (λ list. sum_by text_bytes list ≤ 64 * length h.bytes) → GivesWhole h r
 gives_whole h r kind bytes exact bounded texts = record {
   found = index_found h r bytes exact;
-  only = λ list index. let is = whole_or_none h kind list index in only_from NoMemory (λ (xs : List IndexSeries). xs) r (whole_at h) list (ap whole_at (whole_is h is) ∙ whole_again (opened_of h) list bytes (opened_whole h is) index) exact;
-  differs = λ is place told. differ_found (opened_of h) bytes is.is_opened place (ap whole_at (sym (whole_is h is)) ∙ differ_from (λ (xs : List IndexSeries). xs) r (whole_at h) place exact told);
-  differing = λ is place differs. differing_from (λ (xs : List IndexSeries). xs) r (whole_at h) place exact (ap whole_at (whole_is h is) ∙ differ_again (opened_of h) bytes is.is_opened place differs);
+  only = λ list index. let is = whole_or_none h kind list index in only_from NoMemory (λ (xs : List IndexSeries). xs) r (whole_at h) list (ap whole_at (whole_is h is) ∙ whole_again (opened_of h) _ bytes (opened_whole h is) index) exact;
+  differs = λ is place told. differ_found (opened_of h) bytes is.is_opened place (ap whole_at (sym (whole_is h is)) ∙ differ_from _ r _ _ exact told);
+  differing = λ is place differs. differing_from (λ (xs : List IndexSeries). xs) r (whole_at h) place exact (ap whole_at (whole_is h is) ∙ differ_again _ bytes is.is_opened _ differs);
   exact = exact;
-  absent = λ number numbers none listed present. refused_or_none (λ (xs : List IndexSeries). xs) r (whole_at h) (BadSeries number (Short (16 * number))) (whole_absent h number numbers none listed present) exact;
-  same = λ opened held lie none. subst (λ (read : Result (List IndexSeries) IndexRefusal). Gives NoMemory (λ (xs : List IndexSeries). xs) r read) (whole_same h opened held lie none) exact;
+  absent = λ number numbers none listed present. refused_or_none (λ xs. xs) r (whole_at h) (BadSeries number (Short (16 * number))) (whole_absent h _ _ none listed present) exact;
+  same = λ opened held lie none. subst (λ read. Gives NoMemory (λ xs. xs) r read) (whole_same h _ held lie none) exact;
   bounded = bounded;
   texts = texts;
   few = λ is. if_ok _ _ r (λ list index. whole_few _ list index) (index_found h r bytes exact is);

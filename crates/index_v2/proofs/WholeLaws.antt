@@ -14,14 +14,13 @@ use Rattle.list_core.proofs.Lists.{zip_firsts, zip_seconds, zip_parts}
 use Rattle.list_core.proofs.Membership.{all_at_member, any_of_member, contains_place, member_of_any, place_of_member}
 use Rattle.list_core.proofs.Order.{Less-at_places}
 use Rattle.list_core.proofs.Bools.{bytes_eq-itself}
-use Rattle.reading_core.specs.Reading.{◌>>◌, unless, refused_as}
+use Rattle.reading_core.specs.Reading.{refused_as}
 use Rattle.reading_core.specs.Grammar.{IsBytes}
 use Rattle.reading_core.proofs.Binds.{unless_ok, refused_as_ok, ok_is}
 use Rattle.label_sets.specs.declared.label.Label.{Label}
 use Rattle.label_sets.specs.Labels.{value_of, IsLabelSet, StandsBefore, ComesBefore, compare_texts}
 use Rattle.label_sets.proofs.LabelValues.{by_bool, value_hit, value_miss, before_differs}
 use Rattle.label_sets.proofs.SetLaws.{value_in}
-use Rattle.index_parts.specs.declared.refusal.PartRefusal.TheVariants as part
 use Rattle.index_parts.specs.declared.toc.Toc.{Toc}
 use Rattle.index_parts.specs.declared.postings_row.PostingsRow.{PostingsRow}
 use Rattle.index_parts.specs.Turns.{AreInTurn}
@@ -34,7 +33,6 @@ use Rattle.index_file.specs.declared.index_series.IndexSeries.{IndexSeries}
 use Rattle.index_file.specs.Opened.{Opened}
 use Rattle.index_file.specs.IndexFile.{compare_series, BelongsTo, IsListOf, AreListed, Holds, IsOpened, AreSeriesOf}
 use Rattle.index_v2.specs.declared.refusal.IndexRefusal.{IndexRefusal}
-use Rattle.index_v2.specs.declared.refusal.IndexRefusal.TheVariants.{BadSection}
 use Rattle.index_v2.specs.Opening.{refused_in}
 use Rattle.index_slices.specs.Parts.{file}
 use Rattle.index_v2.specs.Held.{whole_file}
@@ -49,35 +47,35 @@ use Rattle.index_v2.proofs.WholeParts.{AreLists, all_found, all_again, lists_fou
 -- ---- which row a series belongs to
 
 has_value_is : (value : List ℕ) (o : Option (List ℕ)) → has_value value o ≡ true → o ≡ Some value
-has_value_is value None e = absurd cc
+has_value_is _ None e = absurd cc
 has_value_is value (Some found) e = ap Some ((bytes_decides found value).0 e)
 
 empty_text : (text : List ℕ) → (length text == 0) ≡ true → text ≡ []
-empty_text text e = nil_from_length text (eqb-true (length text) 0 e)
+empty_text text e = nil_from_length _ (eqb-true (length text) 0 e)
 
 belongs_found : (row : PostingsRow) (one : IndexSeries) → belongs row.name row.value one ≡ true → BelongsTo row one
 unfolding belongs
 belongs_found row one e = by_bool ((length row.name == 0) && (length row.value == 0))
-    (λ empty. let b = and_parts (length row.name == 0) (length row.value == 0) empty in inl (empty_text row.name b.0, empty_text row.value b.1))
+    (λ empty. let b = and_parts (length row.name == 0) (length row.value == 0) empty in inl (empty_text _ b.0, empty_text _ b.1))
     (λ some.
     let e' : has_value row.value (value_of one.labels row.name) ≡ true = rw some at e in
-    inr (value_in one.labels row.name row.value (has_value_is row.value (value_of one.labels row.name) e')))
+    inr (value_in _ _ _ (has_value_is _ _ e')))
 
 stands_at : (name : List ℕ) (ls : List Label) (place : ℕ) (l : Label) → StandsBefore name ls → slice_get ls place ≡ Some l → ComesBefore name l.name
-stands_at name [] place l stands at = absurd cc
-stands_at name (m ∷ ls) zero l stands at = ap (λ (x : Label). compare_texts name x.name) (sym (same_Some m l at)) ∙ stands.0
-stands_at name (m ∷ ls) (suc place) l stands at = stands_at name ls place l stands.1 at
+stands_at _ [] _ l stands at = absurd cc
+stands_at name (m ∷ ls) zero l stands at = ap (λ x. compare_texts name x.name) (sym (same_Some m l at)) ∙ stands.0
+stands_at name (m ∷ ls) (suc place) l stands at = stands_at name ls _ l stands.1 at
 
 value_again : (ls : List Label) (place : ℕ) (l : Label) → IsLabelSet ls → slice_get ls place ≡ Some l → value_of ls l.name ≡ Some l.value
-value_again [] place l is at = absurd cc
+value_again [] _ l is at = absurd cc
 value_again (m ∷ ls) zero l is at =
-    let same : m ≡ l = same_Some m l at in
-    value_hit m ls l.name (ap (λ (x : Label). x.name) same) ∙ ap (λ (x : Label). Some x.value) same
-value_again (m ∷ ls) (suc place) l is at = value_miss m ls l.name (before_differs m.name l.name (stands_at m.name ls place l is.2 at)) ∙ value_again ls place l is.3 at
+    let same = same_Some m l at in
+    value_hit m _ _ (ap (λ x. x.name) same) ∙ ap (λ x. Some x.value) same
+value_again (m ∷ ls) (suc place) l is at = value_miss m _ _ (before_differs _ _ (stands_at _ _ _ l is.2 at)) ∙ value_again _ _ l is.3 at
 
 belongs_empty : (row : PostingsRow) (one : IndexSeries) → row.name ≡ [] → row.value ≡ [] → belongs row.name row.value one ≡ true
 unfolding belongs
-belongs_empty row one n v = rw (n, v) refl
+belongs_empty _ _ n v = rw (n, v) refl
 
 belongs_label : (row : PostingsRow) (one : IndexSeries) → value_of one.labels row.name ≡ Some row.value → belongs row.name row.value one ≡ true
 unfolding belongs
@@ -86,37 +84,37 @@ belongs_label row one e = by_bool {P = cond ((length row.name == 0) && (length r
     (λ some. rw (some, e) (bytes_eq-itself row.value))
 
 pub belongs_again : (row : PostingsRow) (one : IndexSeries) → IsLabelSet one.labels → BelongsTo row one → belongs row.name row.value one ≡ true
-belongs_again row one is (inl empty) = belongs_empty row one empty.0 empty.1
+belongs_again row one is (inl empty) = belongs_empty row _ empty.0 empty.1
 belongs_again row one is (inr has) =
-    let at = place_of_member one.labels (record { name = row.name; value = row.value }) has in
-    belongs_label row one (value_again one.labels at.0 (record { name = row.name; value = row.value }) is at.1)
+    let at = place_of_member _ _ has in
+    belongs_label row _ (value_again _ _ _ is at.1)
 
 of_row_found : (listed : List (ℕ × IndexSeries)) (row : PostingsRow) (number : ℕ) → is_of_row listed row number ≡ true → (series : IndexSeries) × Contains listed (number, series) × BelongsTo row series
 of_row_found listed row number e =
-    let m = member_of_any (λ (one : ℕ × IndexSeries). (one.0 == number) && belongs row.name row.value one.1) listed e in
+    let m = member_of_any _ _ e in
     let b = and_parts (m.0.0 == number) (belongs row.name row.value m.0.1) m.2 in
-    let same : m.0.0 ≡ number = eqb-true m.0.0 number b.0 in
-    (m.0.1, subst (λ (n : ℕ). Contains listed (n, m.0.1)) same m.1, belongs_found row m.0.1 b.1)
+    let same = eqb-true m.0.0 number b.0 in
+    (m.0.1, subst (λ n. Contains listed (n, m.0.1)) same m.1, belongs_found row _ b.1)
 
 pub of_row_again : (listed : List (ℕ × IndexSeries)) (row : PostingsRow) (number : ℕ) (series : IndexSeries) → Contains listed (number, series) → belongs row.name row.value series ≡ true → is_of_row listed row number ≡ true
-of_row_again listed row number series has e = any_of_member (λ (one : ℕ × IndexSeries). (one.0 == number) && belongs row.name row.value one.1) listed (number, series) has (rw (eq-eqb number number refl) e)
+of_row_again _ _ number _ has e = any_of_member _ _ _ has (rw (eq-eqb number number refl) e)
 
 -- ---- the table
 
 first_in_turn : (text : List ℕ) (row : PostingsRow) (rows : List PostingsRow) → AreInTurn IsNextRow None text (row ∷ rows) → (row.name ≡ []) × (row.value ≡ [])
-first_in_turn text row rows are = are.2.ascends
+first_in_turn _ _ _ are = are.2.ascends
 
 pub first_is_empty : (index : List ℕ) (reference : ℕ) (row : PostingsRow) (rows : List PostingsRow) → Holds IsPostingsTable index reference (row ∷ rows) → (row.name ≡ []) × (row.value ≡ [])
 first_is_empty index reference row rows holds = by_bool {P = (row.name ≡ []) × (row.value ≡ [])} (reference == 0)
     (λ zero_is. let none : row ∷ rows ≡ [] = rw zero_is at holds in absurd cc)
-    (λ some. let table : IsPostingsTable index reference (row ∷ rows) = rw some at holds in first_in_turn table.texts row rows table.texts_are)
+    (λ some. let table : IsPostingsTable index reference (row ∷ rows) = rw some at holds in first_in_turn _ _ _ table.texts_are)
 
 same_place : (rows : List PostingsRow) (i j : ℕ) (one other : PostingsRow) → IsStrictlySortedBy compare_rows rows → slice_get rows i ≡ Some one → slice_get rows j ≡ Some other → compare_rows one other ≡ Equal → i ≡ j
-same_place rows i j one other ascend a b equal = elim (cases_order i j) [
+same_place _ i j one other ascend a b equal = elim (cases_order i j) [
   | inl same ↦ same
   | inr apart ↦ elim apart [
-    | inl less ↦ let no = Less-at_places compare_rows rows i j one other ascend less a b in absurd cc
-    | inr more ↦ let no = Less-at_places compare_rows rows j i other one ascend more b a in let back = tied_back rows_total one other equal in absurd cc
+    | inl less ↦ let no = Less-at_places compare_rows _ i j _ _ ascend less a b in absurd cc
+    | inr more ↦ let no = Less-at_places compare_rows _ j i _ _ ascend more b a in let back = tied_back rows_total one other equal in absurd cc
   ]
 ]
 
@@ -124,26 +122,26 @@ same_place rows i j one other ascend a b equal = elim (cases_order i j) [
 
 first_row : (row : PostingsRow) (rows : List PostingsRow) → row.name ≡ [] → row.value ≡ [] → row_of (row ∷ rows) [] [] ≡ Some row
 unfolding row_of
-first_row row rows n v = rw (n, v) refl
+first_row _ _ n v = rw (n, v) refl
 
 no_row : row_of [] [] [] ≡ None
 unfolding row_of
 no_row = refl
 
 numbers_found : (index : List ℕ) (reference : ℕ) (rows : List PostingsRow) (numbers : List ℕ) → IsBytes index → Holds IsPostingsTable index reference rows → list_of (file index) (row_of rows [] []) ≡ Ok numbers → AreListed index rows numbers
-numbers_found index reference [] numbers are holds e =
-    let e' : ◌≡◌ {A = Result (List ℕ) IndexRefusal} (Ok []) (Ok numbers) = ap (list_of (file index)) (sym no_row) ∙ e in
-    sym (ok_is {E = IndexRefusal} [] numbers e')
-numbers_found index reference (row ∷ rows) numbers are holds e =
-    let empty = first_is_empty index reference row rows holds in
-    let e' : refused_as (refused_in 5) (postings_at index row.offset) ≡ Ok numbers = ap (list_of (file index)) (sym (first_row row rows empty.0 empty.1)) ∙ e in
-    list_found IsNextPosting posting_at posting_turn index row.offset numbers are (refused_as_ok (refused_in 5) (postings_at index row.offset) numbers e')
+numbers_found index _ [] _ are holds e =
+    let e' = ap (list_of (file index)) (sym no_row) ∙ e in
+    sym (ok_is {E = IndexRefusal} _ _ e')
+numbers_found index _ (row ∷ rows) numbers are holds e =
+    let empty = first_is_empty _ _ _ _ holds in
+    let e' = ap (list_of (file index)) (sym (first_row _ _ empty.0 empty.1)) ∙ e in
+    list_found IsNextPosting posting_at posting_turn index row.offset numbers are (refused_as_ok _ _ _ e')
 
 numbers_again : (index : List ℕ) (reference : ℕ) (rows : List PostingsRow) (numbers : List ℕ) → Holds IsPostingsTable index reference rows → AreListed index rows numbers → list_of (file index) (row_of rows [] []) ≡ Ok numbers
-numbers_again index reference [] numbers holds are = ap (list_of (file index)) no_row ∙ ap (λ (xs : List ℕ). Ok xs) (sym are)
-numbers_again index reference (row ∷ rows) numbers holds are =
-    let empty = first_is_empty index reference row rows holds in
-    ap (list_of (file index)) (first_row row rows empty.0 empty.1) ∙ ap (refused_as (refused_in 5)) (list_again IsNextPosting posting_at posting_turn index row.offset numbers are)
+numbers_again index _ [] _ holds are = ap (list_of (file index)) no_row ∙ ap (λ xs. Ok xs) (sym are)
+numbers_again index _ (row ∷ rows) _ holds are =
+    let empty = first_is_empty _ _ _ _ holds in
+    ap (list_of (file index)) (first_row _ _ empty.0 empty.1) ∙ ap (refused_as (refused_in 5)) (list_again IsNextPosting posting_at posting_turn _ _ _ are)
 
 -- ---- absent sections
 
@@ -158,42 +156,42 @@ some_number n other = lt-ltb 0 n (omega arith)
 
 present_found : (toc : Toc) (numbers : List ℕ) (x : Unit {0}) → present_at toc numbers ≡ Ok x → (numbers ≡ []) ⊎ ArePresent toc
 unfolding present_at
-present_found toc [] x e = inl refl
-present_found toc (number ∷ numbers) x e =
-    let symbols = unless_ok (nat_lt 0 toc.symbols) (BadSection 1 (part.Short 0)) (unless (nat_lt 0 toc.series) (BadSection 2 (part.Short 0)) >> (unless (nat_lt 0 toc.postings) (BadSection 5 (part.Short 0)) >> Ok tt)) x e in
-    let series = unless_ok (nat_lt 0 toc.series) (BadSection 2 (part.Short 0)) (unless (nat_lt 0 toc.postings) (BadSection 5 (part.Short 0)) >> Ok tt) x symbols.1 in
-    let postings = unless_ok (nat_lt 0 toc.postings) (BadSection 5 (part.Short 0)) (Ok tt) x series.1 in
-    inr (not_zero toc.symbols symbols.0, not_zero toc.series series.0, not_zero toc.postings postings.0)
+present_found _ [] x e = inl refl
+present_found _ (number ∷ numbers) x e =
+    let symbols = unless_ok _ _ _ x e in
+    let series = unless_ok _ _ _ x symbols.1 in
+    let postings = unless_ok _ _ _ x series.1 in
+    inr (not_zero _ symbols.0, not_zero _ series.0, not_zero _ postings.0)
 
 present_none : (toc : Toc) → present_at toc [] ≡ Ok tt
 unfolding present_at
-present_none toc = refl
+present_none _ = refl
 
 present_some : (toc : Toc) (number : ℕ) (numbers : List ℕ) → ArePresent toc → present_at toc (number ∷ numbers) ≡ Ok tt
 unfolding present_at
-present_some toc number numbers are = rw (some_number toc.symbols are.0, some_number toc.series are.1, some_number toc.postings are.2) refl
+present_some toc _ _ are = rw (some_number toc.symbols are.0, some_number toc.series are.1, some_number toc.postings are.2) refl
 
 present_again : (toc : Toc) (numbers : List ℕ) → (numbers ≡ []) ⊎ ArePresent toc → present_at toc numbers ≡ Ok tt
-present_again toc [] why = present_none toc
-present_again toc (number ∷ numbers) (inl none) = absurd cc
-present_again toc (number ∷ numbers) (inr are) = present_some toc number numbers are
+present_again _ [] why = present_none _
+present_again _ (number ∷ numbers) (inl none) = absurd cc
+present_again _ (number ∷ numbers) (inr are) = present_some _ _ _ are
 
 -- ---- from reading to the grammar
 
 module _ {A B : Type 0} where
   zip_first : (xs : List A) (ys : List B) (place : ℕ) (x : A) (y : B) → slice_get (zip xs ys) place ≡ Some (x, y) → slice_get xs place ≡ Some x
-  zip_first [] ys place x y at = absurd cc
-  zip_first (a ∷ xs) [] place x y at = absurd cc
-  zip_first (a ∷ xs) (b ∷ ys) zero x y at = ap (λ (p : A × B). Some p.0) (same_Some (a, b) (x, y) at)
-  zip_first (a ∷ xs) (b ∷ ys) (suc place) x y at = zip_first xs ys place x y at
+  zip_first [] _ _ x y at = absurd cc
+  zip_first (a ∷ xs) [] _ x y at = absurd cc
+  zip_first (a ∷ xs) (b ∷ ys) zero x y at = ap (λ p. Some p.0) (same_Some _ _ at)
+  zip_first (a ∷ xs) (b ∷ ys) (suc place) x y at = zip_first xs _ _ x y at
 
 has_number : (number : ℕ) (list : List ℕ) → list_any (λ n. eqb n number) list ≡ true → Contains list number
 has_number number list e =
-    let m = member_of_any (λ n. eqb n number) list e in
+    let m = member_of_any _ _ e in
     subst (Contains list) (eqb-true m.0 number m.2) m.1
 
 pub number_has : (number : ℕ) (list : List ℕ) → Contains list number → list_any (λ n. eqb n number) list ≡ true
-number_has number list has = any_of_member (λ n. eqb n number) list number has (eq-eqb number number refl)
+number_has number _ has = any_of_member _ _ _ has (eq-eqb number number refl)
 
 pub ok_same : {A E : Type 0} (r : Result A E) (x y : A) → r ≡ Ok x → r ≡ Ok y → x ≡ y
 ok_same {A} {E} r x y e f = ok_is {E = E} x y (sym e ∙ f)
@@ -235,27 +233,27 @@ module _ (index : List ℕ) (numbers : List ℕ) where
   }
 
 listed_first : (index : List ℕ) (reference : ℕ) (rows : List PostingsRow) (numbers : List ℕ) → Holds IsPostingsTable index reference rows → list_of (file index) (row_of rows [] []) ≡ Ok numbers → (row : PostingsRow) (others : List PostingsRow) → rows ≡ row ∷ others → (row.name ≡ []) × (row.value ≡ []) × (postings_at index row.offset ≡ Ok numbers)
-listed_first index reference rows numbers holds e row others is =
-    let holds' : Holds IsPostingsTable index reference (row ∷ others) = subst (Holds IsPostingsTable index reference) is holds in
-    let empty = first_is_empty index reference row others holds' in
-    let e' : refused_as (refused_in 5) (postings_at index row.offset) ≡ Ok numbers = ap (list_of (file index)) (sym (first_row row others empty.0 empty.1)) ∙ ap (λ (rs : List PostingsRow). list_of (file index) (row_of rs [] [])) (sym is) ∙ e in
-    (empty.0, empty.1, refused_as_ok (refused_in 5) (postings_at index row.offset) numbers e')
+listed_first index reference _ _ holds e _ _ is =
+    let holds' = subst (Holds IsPostingsTable index reference) is holds in
+    let empty = first_is_empty _ _ _ _ holds' in
+    let e' = ap (list_of (file index)) (sym (first_row _ _ empty.0 empty.1)) ∙ ap (λ rs. list_of (file index) (row_of rs [] [])) (sym is) ∙ e in
+    (empty.0, empty.1, refused_as_ok _ _ _ e')
 
 no_pairs : (numbers : List ℕ) (list : List IndexSeries) → numbers ≡ [] → zip numbers list ≡ []
-no_pairs [] list e = refl
-no_pairs (n ∷ numbers) list e = absurd cc
+no_pairs [] _ e = refl
+no_pairs (n ∷ numbers) _ e = absurd cc
 
 nothing_or : (toc : Toc) (numbers : List ℕ) (list : List IndexSeries) → (numbers ≡ []) ⊎ ArePresent toc → (zip numbers list ≡ []) ⊎ ArePresent toc
-nothing_or toc numbers list (inl none) = inl (no_pairs numbers list none)
-nothing_or toc numbers list (inr are) = inr are
+nothing_or _ _ _ (inl none) = inl (no_pairs _ _ none)
+nothing_or _ _ _ (inr are) = inr are
 
 no_first : {A B : Type 0} (ps : List (A × B)) → ps ≡ [] → map (λ (p : A × B). p.0) ps ≡ []
 no_first [] e = refl
 no_first (p ∷ ps) e = absurd cc
 
 present_then : (toc : Toc) (listed : List (ℕ × IndexSeries)) → (listed ≡ []) ⊎ ArePresent toc → (map (λ (one : ℕ × IndexSeries). one.0) listed ≡ []) ⊎ ArePresent toc
-present_then toc listed (inl none) = inl (no_first listed none)
-present_then toc listed (inr are) = inr are
+present_then _ _ (inl none) = inl (no_first _ none)
+present_then _ _ (inr are) = inr are
 
 -- ---- what was read before the lists are held against the series
 
@@ -277,15 +275,15 @@ module _ (opened : Opened) (numbers : List ℕ) (list : List IndexSeries) (lists
       }
 
   pub as_listed : map (λ (one : ℕ × IndexSeries). one.1) (zip numbers list) ≡ list
-  as_listed = zip_seconds numbers list (all_found opened.bytes opened.symbols None numbers list has.series).many
+  as_listed = zip_seconds _ _ (all_found _ _ _ _ _ has.series).many
 
   pub are_taken : AreTaken opened.bytes opened.rows lists (zip numbers list) numbers
   are_taken = record {
     are_bytes = are;
-    ascend = held_ascends opened.bytes opened.toc.postings_table opened.rows is.rows_are;
-    first_empty = listed_first opened.bytes opened.toc.postings_table opened.rows numbers is.rows_are has.listed;
-    lists_are = lists_found opened.bytes opened.rows lists has.read;
-    firsts_are = λ number one h. let at = place_of_member (zip numbers list) (number, one) h in contains_place numbers at.0 number (zip_first numbers list at.0 number one at.1);
+    ascend = held_ascends _ _ _ is.rows_are;
+    first_empty = listed_first _ _ _ _ is.rows_are has.listed;
+    lists_are = lists_found _ _ _ has.read;
+    firsts_are = λ number one h. let at = place_of_member _ _ h in contains_place _ at.0 _ (zip_first numbers list at.0 _ _ at.1);
     lawful = λ number one h. (series_known.stand number one h).lawful;
   }
 
@@ -295,7 +293,7 @@ pub read_again : (opened : Opened) (listed : List (ℕ × IndexSeries)) → IsOp
 read_again opened listed is known stand =
     let numbers = map (λ (one : ℕ × IndexSeries). one.0) listed in
     let list = map (λ (one : ℕ × IndexSeries). one.1) listed in
-    let lists = lists_again opened.bytes opened.rows (λ row has. let one = stand row has in (one.0, list_again IsNextPosting posting_at posting_turn opened.bytes row.offset one.0 one.1)) in (
+    let lists = lists_again _ _ (λ row has. let one = stand row has in (one.0, list_again IsNextPosting posting_at posting_turn _ _ _ one.1)) in (
       lists.0,
       record {
         listed = numbers_again opened.bytes opened.toc.postings_table opened.rows numbers is.rows_are known.numbers_are;

@@ -3,7 +3,7 @@ use Rattle.std.proofs.Common.{◌≡◌, ℕ, zero, suc, ◌+◌, ◌-◌, ◌<�
 use Rattle.std.specs.Prelude.{slice_get, IsErrAnd}
 use Rattle.std.specs.List.{All}
 use Rattle.std.specs.List.Sorted.{IsStrictlyIncreasing}
-use Rattle.std.proofs.lemmas.List.Elements.{All-nil, All-push}
+use Rattle.std.proofs.lemmas.List.Elements.{All-push}
 use Rattle.std.proofs.lemmas.List.{append-nil, drop_all, take_more, length-append}
 use Rattle.std.proofs.lemmas.Option.{slice_get_within, get_or_from_slice_get, slice_get_cases}
 use Rattle.reading_core.specs.Reading.{◌>>=◌, refused_as, Gives}
@@ -25,55 +25,55 @@ pub record SeriesSoFar (index : List ℕ) (symbols : List (List ℕ)) (numbers :
   pub whole : all_at index symbols None numbers ≡ (all_at index symbols (last_of made) (drop place numbers) >>= λ others. Ok (made ++ others))
 
 pub series_start : (index : List ℕ) (symbols : List (List ℕ)) (numbers : List ℕ) → SeriesSoFar index symbols numbers 0 []
-series_start index symbols numbers = record { many = refl; whole = again (all_at index symbols None numbers) }
+series_start _ _ _ = record { many = refl; whole = again _ }
 
 slice_get_last : (made : List IndexSeries) (one : IndexSeries) (n : ℕ) → n ≡ length made → slice_get (made ++ one ∷ []) n ≡ Some one
-slice_get_last [] one zero e = refl
-slice_get_last [] one (suc n) e = absurd (omega arith)
-slice_get_last (m ∷ made) one zero e = absurd (omega arith)
-slice_get_last (m ∷ made) one (suc n) e = slice_get_last made one n (omega arith)
+slice_get_last [] _ zero e = refl
+slice_get_last [] _ (suc n) e = absurd (omega arith)
+slice_get_last (m ∷ made) _ zero e = absurd (omega arith)
+slice_get_last (m ∷ made) one (suc n) e = slice_get_last made _ n (omega arith)
 
 last_pushed : (made : List IndexSeries) (one : IndexSeries) → last_of (made ++ one ∷ []) ≡ Some one
-last_pushed made one = slice_get_last made one (length (made ++ one ∷ []) - 1) (omega (arith, length-append made (one ∷ [])))
+last_pushed made one = slice_get_last _ _ (length (made ++ one ∷ []) - 1) (omega (arith, length-append made (one ∷ [])))
 
 at_front : (xs : List ℕ) (i x : ℕ) → i < length xs → x ≡ get_or xs i 0 → drop i xs ≡ x ∷ drop (i + 1) xs
-at_front xs i x lt e = rw (add-one, e) (drop-cons xs i 0 lt)
+at_front _ i x lt e = rw (add-one, e) (drop-cons _ i 0 lt)
 
 one_more : (index : List ℕ) (symbols : List (List ℕ)) (before : Option IndexSeries) (number : ℕ) (numbers : List ℕ) (one : IndexSeries) → behind_at index symbols before number ≡ Ok one → all_at index symbols before (number ∷ numbers) ≡ (all_at index symbols (Some one) numbers >>= λ others. Ok (one ∷ others))
 unfolding all_at
-one_more index symbols before number numbers one e = rw e refl
+one_more _ _ _ _ _ _ e = rw e refl
 
 none_more : (index : List ℕ) (symbols : List (List ℕ)) (before : Option IndexSeries) (number : ℕ) (numbers : List ℕ) (refusal : IndexRefusal) → behind_at index symbols before number ≡ Err refusal → all_at index symbols before (number ∷ numbers) ≡ Err refusal
 unfolding all_at
-none_more index symbols before number numbers refusal e = rw e refl
+none_more _ _ _ _ _ _ e = rw e refl
 
 nothing_left : (index : List ℕ) (symbols : List (List ℕ)) (before : Option IndexSeries) → all_at index symbols before [] ≡ Ok []
 unfolding all_at
-nothing_left index symbols before = refl
+nothing_left _ _ _ = refl
 
 pub series_step : (index : List ℕ) (symbols : List (List ℕ)) (numbers : List ℕ) (place next number : ℕ) (made seen new : List IndexSeries) (one : IndexSeries)
     → SeriesSoFar index symbols numbers place made → place < length numbers → next ≡ place + 1 → number ≡ get_or numbers place 0 → seen ≡ made → behind_at index symbols (last_of seen) number ≡ Ok one → new ≡ made ++ one ∷ [] → SeriesSoFar index symbols numbers next new
-series_step index symbols numbers place next number made seen new one far lt e n s behind pushed =
-    let read : behind_at index symbols (last_of made) number ≡ Ok one = ap (λ (xs : List IndexSeries). behind_at index symbols (last_of xs) number) (sym s) ∙ behind in
-    let front : all_at index symbols (last_of made) (drop place numbers) ≡ (all_at index symbols (Some one) (drop (place + 1) numbers) >>= λ others. Ok (one ∷ others)) = rw (at_front numbers place number lt n) (one_more index symbols (last_of made) number (drop (place + 1) numbers) one read) in
-    let last : all_at index symbols (last_of (made ++ one ∷ [])) (drop (place + 1) numbers) ≡ all_at index symbols (Some one) (drop (place + 1) numbers) = ap (λ (o : Option IndexSeries). all_at index symbols o (drop (place + 1) numbers)) (last_pushed made one) in
+series_step index symbols numbers place _ number made _ _ one far lt e n s behind pushed =
+    let read = ap (λ xs. behind_at index symbols (last_of xs) number) (sym s) ∙ behind in
+    let front : all_at index symbols (last_of made) (drop place numbers) ≡ (all_at index symbols (Some one) (drop (place + 1) numbers) >>= λ others. Ok (one ∷ others)) = rw (at_front numbers place number lt n) (one_more _ _ _ _ _ _ read) in
+    let last = ap (λ o. all_at index symbols o (drop (place + 1) numbers)) (last_pushed made _) in
     rw (e, pushed) (record {
       many = let m = far.many in omega (arith, length-append made (one ∷ []));
-      whole = far.whole ∙ ap (λ (r : Result (List IndexSeries) IndexRefusal). r >>= λ others. Ok (made ++ others)) front ∙ moved (all_at index symbols (Some one) (drop (place + 1) numbers)) one made
-          ∙ ap (λ (r : Result (List IndexSeries) IndexRefusal). r >>= λ others. Ok ((made ++ one ∷ []) ++ others)) (sym last);
+      whole = far.whole ∙ ap (λ (r : Result (List IndexSeries) IndexRefusal). r >>= λ others. Ok (made ++ others)) front ∙ moved _ _ _
+          ∙ ap (λ r. r >>= λ others. Ok ((made ++ one ∷ []) ++ others)) (sym last);
     })
 
 pub series_stop : (index : List ℕ) (symbols : List (List ℕ)) (numbers : List ℕ) (place number : ℕ) (made seen : List IndexSeries) (refusal : IndexRefusal)
     → SeriesSoFar index symbols numbers place made → place < length numbers → number ≡ get_or numbers place 0 → seen ≡ made → behind_at index symbols (last_of seen) number ≡ Err refusal → all_at index symbols None numbers ≡ Err refusal
-series_stop index symbols numbers place number made seen refusal far lt n s behind =
-    let read : behind_at index symbols (last_of made) number ≡ Err refusal = ap (λ (xs : List IndexSeries). behind_at index symbols (last_of xs) number) (sym s) ∙ behind in
-    let front : all_at index symbols (last_of made) (drop place numbers) ≡ Err refusal = rw (at_front numbers place number lt n) (none_more index symbols (last_of made) number (drop (place + 1) numbers) refusal read) in
-    far.whole ∙ ap (λ (r : Result (List IndexSeries) IndexRefusal). r >>= λ others. Ok (made ++ others)) front
+series_stop index symbols numbers place number made _ refusal far lt n s behind =
+    let read = ap (λ xs. behind_at index symbols (last_of xs) number) (sym s) ∙ behind in
+    let front : all_at index symbols (last_of made) (drop place numbers) ≡ Err refusal = rw (at_front numbers place number lt n) (none_more _ _ _ _ _ _ read) in
+    far.whole ∙ ap (λ r. r >>= λ others. Ok (made ++ others)) front
 
 pub series_end : (index : List ℕ) (symbols : List (List ℕ)) (numbers : List ℕ) (place : ℕ) (made : List IndexSeries) → SeriesSoFar index symbols numbers place made → length numbers ≤ place → all_at index symbols None numbers ≡ Ok made
 series_end index symbols numbers place made far le =
-    let front : all_at index symbols (last_of made) (drop place numbers) ≡ Ok [] = rw (drop_all place numbers le) (nothing_left index symbols (last_of made)) in
-    far.whole ∙ ap (λ (r : Result (List IndexSeries) IndexRefusal). r >>= λ others. Ok (made ++ others)) front ∙ ap Ok (append-nil made)
+    let front : all_at index symbols (last_of made) (drop place numbers) ≡ Ok [] = rw (drop_all) (nothing_left _ _ _) in
+    far.whole ∙ ap (λ r. r >>= λ others. Ok (made ++ others)) front ∙ ap Ok (append-nil made)
 
 -- ---- lists of rows
 
@@ -82,40 +82,37 @@ pub record ListsSoFar (part : Part) (rows : List PostingsRow) (place : ℕ) (lis
   pub rise : All IsStrictlyIncreasing lists
   pub whole : lists_at part rows ≡ (lists_at part (drop place rows) >>= λ others. Ok (lists ++ others))
 
-pub lists_start : (part : Part) (rows : List PostingsRow) → ListsSoFar part rows 0 []
-lists_start part rows = record { many = refl; rise = All-nil IsStrictlyIncreasing; whole = again (lists_at part rows) }
-
 pub drop_at : (rows : List PostingsRow) (place : ℕ) (row : PostingsRow) → slice_get rows place ≡ Some row → drop place rows ≡ row ∷ drop (place + 1) rows
-drop_at rows place row at = rw (add-one, ← get_or_from_slice_get rows place row row at) (drop-cons rows place row (slice_get_within rows place row at))
+drop_at rows place row at = rw (add-one, ← get_or_from_slice_get rows place row row at) (drop-cons rows _ _ (slice_get_within _ _ _ at))
 
 one_list : (part : Part) (row : PostingsRow) (rows : List PostingsRow) (list : List ℕ) → refused_as (refused_in 5) (list_in part row.offset) ≡ Ok list → lists_at part (row ∷ rows) ≡ (lists_at part rows >>= λ others. Ok (list ∷ others))
 unfolding lists_at
-one_list part row rows list e = rw e refl
+one_list _ _ _ _ e = rw e refl
 
 no_list : (part : Part) (row : PostingsRow) (rows : List PostingsRow) (refusal : IndexRefusal) → refused_as (refused_in 5) (list_in part row.offset) ≡ Err refusal → lists_at part (row ∷ rows) ≡ Err refusal
 unfolding lists_at
-no_list part row rows refusal e = rw e refl
+no_list _ _ _ _ e = rw e refl
 
 no_lists : (part : Part) → lists_at part [] ≡ Ok []
 unfolding lists_at
-no_lists part = refl
+no_lists _ = refl
 
 pub lists_step : (part : Part) (rows : List PostingsRow) (place : ℕ) (row : PostingsRow) (lists new : List (List ℕ)) (list : List ℕ)
     → ListsSoFar part rows place lists → slice_get rows place ≡ Some row → refused_as (refused_in 5) (list_in part row.offset) ≡ Ok list → IsStrictlyIncreasing list → new ≡ lists ++ list ∷ [] → ListsSoFar part rows (place + 1) new
 lists_step part rows place row lists new list far at read rises pushed =
-    let front : lists_at part (drop place rows) ≡ (lists_at part (drop (place + 1) rows) >>= λ others. Ok (list ∷ others)) = rw (drop_at rows place row at) (one_list part row (drop (place + 1) rows) list read) in
-    rw pushed (record { many = (let m = far.many in omega (arith, length-append lists (list ∷ []))); rise = All-push IsStrictlyIncreasing lists list far.rise rises; whole = far.whole ∙ ap (λ (r : Result (List (List ℕ)) IndexRefusal). r >>= λ others. Ok (lists ++ others)) front ∙ moved (lists_at part (drop (place + 1) rows)) list lists })
+    let front : lists_at part (drop place rows) ≡ (lists_at part (drop (place + 1) rows) >>= λ others. Ok (list ∷ others)) = rw (drop_at rows place row at) (one_list _ _ _ _ read) in
+    rw pushed (record { many = (let m = far.many in omega (arith, length-append lists (list ∷ []))); rise = All-push IsStrictlyIncreasing _ _ far.rise rises; whole = far.whole ∙ ap (λ r. r >>= λ others. Ok (lists ++ others)) front ∙ moved _ _ _ })
 
 pub lists_stop : (part : Part) (rows : List PostingsRow) (place : ℕ) (row : PostingsRow) (lists : List (List ℕ)) (refusal : IndexRefusal)
     → ListsSoFar part rows place lists → slice_get rows place ≡ Some row → refused_as (refused_in 5) (list_in part row.offset) ≡ Err refusal → lists_at part rows ≡ Err refusal
 lists_stop part rows place row lists refusal far at read =
-    let front : lists_at part (drop place rows) ≡ Err refusal = rw (drop_at rows place row at) (no_list part row (drop (place + 1) rows) refusal read) in
-    far.whole ∙ ap (λ (r : Result (List (List ℕ)) IndexRefusal). r >>= λ others. Ok (lists ++ others)) front
+    let front : lists_at part (drop place rows) ≡ Err refusal = rw (drop_at rows place row at) (no_list _ _ _ _ read) in
+    far.whole ∙ ap (λ r. r >>= λ others. Ok (lists ++ others)) front
 
 pub lists_end : (part : Part) (rows : List PostingsRow) (place : ℕ) (lists : List (List ℕ)) → ListsSoFar part rows place lists → length rows ≤ place → lists_at part rows ≡ Ok lists
 lists_end part rows place lists far le =
-    let front : lists_at part (drop place rows) ≡ Ok [] = rw (drop_all place rows le) (no_lists part) in
-    far.whole ∙ ap (λ (r : Result (List (List ℕ)) IndexRefusal). r >>= λ others. Ok (lists ++ others)) front ∙ ap Ok (append-nil lists)
+    let front : lists_at part (drop place rows) ≡ Ok [] = rw (drop_all) (no_lists _) in
+    far.whole ∙ ap (λ r. r >>= λ others. Ok (lists ++ others)) front ∙ ap Ok (append-nil lists)
 
 pub row_within : (rows : List PostingsRow) (place : ℕ) {P : Type 0} → place < length rows → slice_get rows place ≡ None → P
 row_within rows place lt none =
@@ -126,11 +123,11 @@ row_within rows place lt none =
 
 -- the front of the rows is one longer
 pub front_more : (rows : List PostingsRow) (place : ℕ) (row : PostingsRow) → slice_get rows place ≡ Some row → take (place + 1) rows ≡ take place rows ++ row ∷ []
-front_more rows place row at = take_more rows place row (slice_get_within rows place row at) ∙ ap (λ (r : PostingsRow). take place rows ++ r ∷ []) (get_or_from_slice_get rows place row row at)
+front_more rows place row at = take_more _ _ row (slice_get_within _ _ _ at) ∙ ap (λ r. take place rows ++ r ∷ []) (get_or_from_slice_get rows place _ row at)
 
 -- ---- an exit by `?`
 
 pub gives_stop : {X Y Z E : Type 0} (no_memory : E) (view : X → Y) (r : Result X E) (e : E) (one : Result Z E) (all : Result Y E) → IsErrAnd r (λ d. d ≡ e) → (e ≡ no_memory) ⊎ (one ≡ Err e) → (one ≡ Err e → all ≡ Err e) → Gives no_memory view r all
-gives_stop no_memory view (Ok x) e one all is why then = absurd is
-gives_stop no_memory view (Err d) e one all is (inl out) then = inl (is ∙ out)
-gives_stop no_memory view (Err d) e one all is (inr refused) then = inr (then refused ∙ ap Err (sym is))
+gives_stop _ _ (Ok x) e _ _ is why then = absurd is
+gives_stop _ _ (Err d) e _ _ is (inl out) then = inl (is ∙ out)
+gives_stop _ _ (Err d) e _ _ is (inr refused) then = inr (then refused ∙ ap Err (sym is))

@@ -11,16 +11,16 @@ pub record IsLeft (chunks : List ChunkPlace) (before : Option ChunkPlace) (i : �
   pub left : InOrder StartsAfter chunks → InOrderAfter StartsAfter before (drop i chunks)
 
 front : (chunks : List ChunkPlace) (i : ℕ) (x d : ChunkPlace) → i < length chunks → x ≡ get_or chunks i d → drop i chunks ≡ x ∷ drop (i + 1) chunks
-front chunks i x d lt at = drop_more chunks i d lt ∙ ap (λ (y : ChunkPlace). y ∷ drop (i + 1) chunks) (sym at)
+front chunks i x d lt at = drop_more chunks i d lt ∙ ap (λ y. y ∷ drop (i + 1) chunks) (sym at)
 
 pub step : (chunks : List ChunkPlace) (before : Option ChunkPlace) (i : ℕ) (x d : ChunkPlace) → IsLeft chunks before i → i < length chunks → x ≡ get_or chunks i d → StartsAfter before x → IsLeft chunks (Some x) (i + 1)
-step chunks before i x d so_far lt at starts = record {
-  all = λ others. so_far.all (subst (InOrderAfter StartsAfter before) (sym (front chunks i x d lt at)) (starts, others));
-  left = λ whole. (subst (InOrderAfter StartsAfter before) (front chunks i x d lt at) (so_far.left whole)).1;
+step _ before i x d so_far lt at starts = record {
+  all = λ others. so_far.all (subst (InOrderAfter StartsAfter before) (sym (front _ i x d lt at)) (starts, others));
+  left = λ whole. (subst (InOrderAfter StartsAfter before) (front _ i x d lt at) (so_far.left whole)).1;
 }
 
 pub stop : (chunks : List ChunkPlace) (before : Option ChunkPlace) (i : ℕ) (x d : ChunkPlace) → IsLeft chunks before i → i < length chunks → x ≡ get_or chunks i d → (StartsAfter before x → ⊥) → InOrder StartsAfter chunks → ⊥
-stop chunks before i x d so_far lt at not_starts whole = not_starts (subst (InOrderAfter StartsAfter before) (front chunks i x d lt at) (so_far.left whole)).0
+stop _ before i x d so_far lt at not_starts whole = not_starts (subst (InOrderAfter StartsAfter before) (front _ i x d lt at) (so_far.left whole)).0
 
 pub end : (chunks : List ChunkPlace) (before : Option ChunkPlace) (i : ℕ) → IsLeft chunks before i → length chunks ≤ i → InOrder StartsAfter chunks
-end chunks before i so_far past = so_far.all (subst (InOrderAfter StartsAfter before) (sym (drop_all i chunks past)) tt)
+end _ before i so_far past = so_far.all (subst (InOrderAfter StartsAfter before) (sym (drop_all i _ past)) tt)

@@ -20,43 +20,43 @@ use Rattle.index_writing.proofs.SortedTexts.{all_at}
 use Rattle.index_writing.proofs.Groups.{AreKinds}
 
 abbrev pub labels_with : ℕ → List ℕ → List ℕ → List Entry
-labels_with series names values = map (λ (label : ℕ × ℕ). record { name = label.0; value = label.1; series = series }) (zip names values)
+labels_with series names values = map (λ label. record { name = label.0; value = label.1; series = series }) (zip names values)
 
 abbrev pub entry_with : ℕ → ℕ → ℕ → List Entry
 entry_with series name value = record { name = name; value = value; series = series } ∷ []
 
 pub labels_law : (series name value : ℕ) (names values : List ℕ) → labels_with series (name ∷ names) (value ∷ values) ≡ entry_with series name value ++ labels_with series names values
-labels_law series name value names values = refl
+labels_law _ _ _ _ _ = refl
 
 pub no_labels : (series : ℕ) (values : List ℕ) → labels_with series [] values ≡ []
-no_labels series values = refl
+no_labels _ _ = refl
 
 pub all_law : (one : RawSeries) (number : ℕ) (series : List RawSeries) (numbers : List ℕ) → all_entries (one ∷ series) (number ∷ numbers) ≡ entries_of one number ++ all_entries series numbers
 unfolding all_entries
-all_law one number series numbers = refl
+all_law _ _ _ _ = refl
 
 pub none_law : (numbers : List ℕ) → all_entries [] numbers ≡ []
 unfolding all_entries
-none_law numbers = refl
+none_law _ = refl
 
 pub entry_is : (one : RawSeries) (number : ℕ) → entries_of one number ≡ labels_with number one.names one.values
 unfolding entries_of
-entry_is one number = refl
+entry_is _ _ = refl
 
 pub entries_added : (one : RawSeries) (number : ℕ) (names values : List ℕ) (old new : List Entry) → names ≡ one.names → values ≡ one.values → new ≡ old ++ labels_with number names values → new ≡ old ++ entries_of one number
-entries_added one number names values old new names_are values_are is =
-    is ∙ ap (λ (l : List ℕ). old ++ labels_with number l values) names_are ∙ ap (λ (l : List ℕ). old ++ labels_with number one.names l) values_are ∙ ap (λ (l : List Entry). old ++ l) (sym (entry_is one number))
+entries_added one number names values old _ names_are values_are is =
+    is ∙ ap (λ l. old ++ labels_with number l values) names_are ∙ ap (λ l. old ++ labels_with number one.names l) values_are ∙ ap (λ l. old ++ l) (sym (entry_is _ _))
 
 pub as_many_at : (series : List RawSeries) (i : ℕ) (one : RawSeries) → AllByRecursion IsStorable series → i < length series → one ≡ get_or series i one → length one.names ≡ length one.values
-as_many_at series i one all lt at = subst (λ (s : RawSeries). length s.names ≡ length s.values) (sym at) (all_at IsStorable series i one all lt).0
+as_many_at _ i _ all lt at = subst (λ s. length s.names ≡ length s.values) (sym at) (all_at _ _ i _ all lt).0
 
 -- ---- their order
 
 pub entries_total : IsTotalOrder compare_entries
-entries_total = then_total (on_total (λ (e : Entry). e.name) nat_cmp_total) (then_total (on_total (λ (e : Entry). e.value) nat_cmp_total) (on_total (λ (e : Entry). e.series) nat_cmp_total))
+entries_total = then_total (on_total (λ e. e.name) nat_cmp_total) (then_total (on_total (λ e. e.value) nat_cmp_total) (on_total (λ e. e.series) nat_cmp_total))
 
 pub entries_order : IsStrictWeakOrder is_lesser_entry
-entries_order = ranks_by entries_total (λ (e : Entry). e)
+entries_order = ranks_by entries_total (λ e. e)
 
 pub entries_sorted : (xs ys : List Entry) → IsSorted compare_entries ys → IsStable compare_entries xs ys → ys ≡ in_order is_lesser_entry xs
 entries_sorted xs ys sorted stable = in_order-from_sort is_lesser_entry entries_order xs ys sorted stable
@@ -74,7 +74,7 @@ pub label_kinds : AreKinds have_same_label join_series
 label_kinds = record {
   left = λ a b c. refl;
   right = λ a b c. refl;
-  assoc = λ a b c. ap (λ (l : List ℕ). record { name = a.name; value = a.value; series = l }) (append_assoc a.series b.series c.series);
+  assoc = λ a b c. ap (λ l. record { name = a.name; value = a.value; series = l }) (append_assoc a.series b.series c.series);
   alike = same_label;
 }
 
@@ -87,6 +87,6 @@ pub name_kinds : AreKinds have_same_name join_values
 name_kinds = record {
   left = λ a b c. refl;
   right = λ a b c. refl;
-  assoc = λ a b c. ap (λ (l : List ℕ). record { name = a.name; values = l }) (append_assoc a.values b.values c.values);
+  assoc = λ a b c. ap (λ l. record { name = a.name; values = l }) (append_assoc a.values b.values c.values);
   alike = same_name;
 }

@@ -31,58 +31,58 @@ then_less Greater b e = absurd cc
 before_from : (x y : Entry) → compare_entries x y ≡ Less → Before x y
 before_from x y e =
     let inner = ordering_then (nat_cmp x.value y.value) (nat_cmp x.series y.series) in
-    elim (then_less (nat_cmp x.name y.name) inner e) [
-      | inl l ↦ record { is = inl (inl (cmp_less x.name y.name l)) }
-      | inr r ↦ elim (then_less (nat_cmp x.value y.value) (nat_cmp x.series y.series) r.1) [
-        | inl l ↦ record { is = inl (inr (cmp_equal x.name y.name r.0, cmp_less x.value y.value l)) }
-        | inr s ↦ record { is = inr (cmp_equal x.name y.name r.0, cmp_equal x.value y.value s.0, cmp_less x.series y.series s.1) }
+    elim (then_less _ _ e) [
+      | inl l ↦ record { is = inl (inl (cmp_less _ _ l)) }
+      | inr r ↦ elim (then_less _ _ r.1) [
+        | inl l ↦ record { is = inl (inr (cmp_equal _ _ r.0, cmp_less _ _ l)) }
+        | inr s ↦ record { is = inr (cmp_equal _ _ r.0, cmp_equal _ _ s.0, cmp_less _ _ s.1) }
       ]
     ]
 
 same_entry : (x y : Entry) → compare_entries x y ≡ Equal → x ≡ y
 same_entry x y e =
-    let one = Equal-from_then (nat_cmp x.name y.name) (ordering_then (nat_cmp x.value y.value) (nat_cmp x.series y.series)) e in
-    let two = Equal-from_then (nat_cmp x.value y.value) (nat_cmp x.series y.series) one.1 in
-    let name = cmp_equal x.name y.name one.0 in
-    let value = cmp_equal x.value y.value two.0 in
-    let series = cmp_equal x.series y.series two.1 in
+    let one = Equal-from_then _ _ e in
+    let two = Equal-from_then _ _ one.1 in
+    let name = cmp_equal _ _ one.0 in
+    let value = cmp_equal _ _ two.0 in
+    let series = cmp_equal _ _ two.1 in
     λ i. record { name = name i; value = value i; series = series i }
 
 pub entries_strict : IsStrict is_lesser_entry (λ x y. compare_entries x y ≡ Less)
 entries_strict = strict_order compare_entries entries_total same_entry
 
 pub before_all : (entries : List Entry) → AllPairs (λ x y. compare_entries x y ≡ Less) entries → AllPairs Before entries
-before_all entries up i j d below within = before_from _ _ (up i j d below within)
+before_all _ up i j d below within = before_from _ _ (up i j d below within)
 
 -- ---- each stands once
 
 in_labels : (series : ℕ) (names values : List ℕ) (e : Entry) → Contains (labels_with series names values) e → (e.series ≡ series) × Contains names e.name
-in_labels series [] values e h = absurd (no_member e h)
-in_labels series (name ∷ names) [] e h = absurd (no_member e h)
+in_labels _ [] _ e h = absurd (no_member e h)
+in_labels _ (name ∷ names) [] e h = absurd (no_member e h)
 in_labels series (name ∷ names) (value ∷ values) e h =
     let first : Entry = record { name = name; value = value; series = series } in
-    elim (member_cases first e (labels_with series names values) h) [
-      | inl is ↦ (ap (λ (x : Entry). x.series) (sym is), subst (Contains (name ∷ names)) (ap (λ (x : Entry). x.name) is) (contains_first name names))
-      | inr r ↦ let others = in_labels series names values e r in (others.0, contains_later name e.name names others.1)
+    elim (member_cases _ e _ h) [
+      | inl is ↦ (ap (λ x. x.series) (sym is), subst (Contains (name ∷ names)) (ap (λ x. x.name) is) (contains_first _ _))
+      | inr r ↦ let others = in_labels series names _ e r in (others.0, contains_later _ _ _ others.1)
     ]
 
 once_labels : (series : ℕ) (names values : List ℕ) → AllPairs Below names → Once (labels_with series names values)
-once_labels series [] values up = tt
-once_labels series (name ∷ names) [] up = tt
+once_labels _ [] _ up = tt
+once_labels _ (name ∷ names) [] up = tt
 once_labels series (name ∷ names) (value ∷ values) up =
-    (λ h. let later : name < name = each_member (λ m. name < m) names name (first_pairs Below name names up) (in_labels series names values (record { name = name; value = value; series = series }) h).1 in omega arith, once_labels series names values (later_pairs Below name names up))
+    (λ h. let later = each_member _ _ _ (first_pairs Below name names up) (in_labels series names values (record { name = name; value = value; series = series }) h).1 in omega arith, once_labels series names values (later_pairs Below name names up))
 
 once_append : {A : Type 0} (xs ys : List A) → Once xs → Once ys → ((x : A) → Contains xs x → Contains ys x → ⊥) → Once (xs ++ ys)
-once_append [] ys a b apart = b
-once_append (x ∷ xs) ys a b apart =
-    (λ h. elim (Contains-append_cases xs ys x h) [ inl i ↦ a.0 i | inr i ↦ apart x (contains_first x xs) i ], once_append xs ys a.1 b (λ y i j. apart y (contains_later x y xs i) j))
+once_append [] _ a b apart = b
+once_append (x ∷ xs) _ a b apart =
+    (λ h. elim (Contains-append_cases _ _ x h) [ inl i ↦ a.0 i | inr i ↦ apart x (contains_first x xs) i ], once_append xs _ a.1 b (λ y i j. apart y (contains_later x y _ i) j))
 
 in_series : (series : List RawSeries) (numbers : List ℕ) (e : Entry) → Contains (all_entries series numbers) e → Contains numbers e.series
 unfolding all_entries entries_of
-in_series [] numbers e h = absurd (no_member e h)
+in_series [] _ e h = absurd (no_member e h)
 in_series (one ∷ series) [] e h = absurd (no_member e h)
 in_series (one ∷ series) (number ∷ numbers) e h = elim (Contains-append_cases (entries_of one number) (all_entries series numbers) e h) [
-  | inl i ↦ subst (Contains (number ∷ numbers)) (sym (in_labels number one.names one.values e i).0) (contains_first number numbers)
+  | inl i ↦ subst (Contains (number ∷ numbers)) (sym (in_labels _ one.names one.values e i).0) (contains_first _ numbers)
   | inr i ↦ contains_later number e.series numbers (in_series series numbers e i)
 ]
 
@@ -91,8 +91,8 @@ unfolding all_entries entries_of
 once_entries [] numbers names up = tt
 once_entries (one ∷ series) [] names up = tt
 once_entries (one ∷ series) (number ∷ numbers) names up =
-    once_append (entries_of one number) (all_entries series numbers) (once_labels number one.names one.values names.0) (once_entries series numbers names.1 (later_pairs Below number numbers up))
+    once_append (entries_of one number) (all_entries series numbers) (once_labels _ _ one.values names.0) (once_entries series _ names.1 (later_pairs Below number _ up))
     (λ e i j.
-    let here = (in_labels number one.names one.values e i).0 in
+    let here = (in_labels _ one.names one.values e i).0 in
     let later : number < e.series = each_member (λ m. number < m) numbers e.series (first_pairs Below number numbers up) (in_series series numbers e j) in
     omega arith)

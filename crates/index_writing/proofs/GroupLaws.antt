@@ -41,13 +41,13 @@ module _ {X A K : Type 0} (key_of : X → K) (number : X → ℕ) (key : A → K
 
   -- two of one key are one
   pub one_group : ((k : K) → R k k → ⊥) → (groups : List A) (one other : A) → AllPairs GroupBefore groups → Contains groups one → Contains groups other → key one ≡ key other → one ≡ other
-  one_group irreflexive [] one other up h i same = absurd (no_member one h)
-  one_group irreflexive (x ∷ groups) one other up h i same = elim (member_cases x one groups h) [
-    | inl a ↦ elim (member_cases x other groups i) [
+  one_group irreflexive [] one _ up h i same = absurd (no_member _ h)
+  one_group irreflexive (x ∷ groups) one other up h i same = elim (member_cases x _ _ h) [
+    | inl a ↦ elim (member_cases x _ _ i) [
       | inl b ↦ sym a ∙ b
-      | inr b ↦ absurd (irreflexive (key other) (subst (λ (k : K). R k (key other)) (ap key a ∙ same) (each_member (λ g. R (key x) (key g)) groups other (first_pairs GroupBefore x groups up) b)))
+      | inr b ↦ absurd (irreflexive (key other) (subst (λ (k : K). R k (key other)) (ap key a ∙ same) (each_member _ _ _ (first_pairs GroupBefore x _ up) b)))
     ]
-    | inr a ↦ elim (member_cases x other groups i) [
+    | inr a ↦ elim (member_cases x _ groups i) [
       | inl b ↦ absurd (irreflexive (key one) (subst (λ (k : K). R k (key one)) (ap key b ∙ sym same) (each_member (λ g. R (key x) (key g)) groups one (first_pairs GroupBefore x groups up) a)))
       | inr b ↦ one_group irreflexive groups one other (later_pairs GroupBefore x groups up) a b same
     ]
@@ -58,7 +58,7 @@ module _ {X A K : Type 0} (key_of : X → K) (number : X → ℕ) (key : A → K
     before_group : (x : X) (xs : List X) (groups : List A) (g : A) (n : ℕ) → AllByRecursion (Before x) xs → AreGroups xs groups → Contains groups g → Contains (numbers g) n → R (key_of x) (key g) ⊎ ((key_of x ≡ key g) × (number x < n))
     before_group x xs groups g n before are h i =
         let found = are.only g n h i in
-        elim (law.before_parts x found.0 (each_member (Before x) xs found.0 before found.1)) [
+        elim (law.before_parts x found.0 (each_member _ _ _ before found.1)) [
           | inl k ↦ inl (subst (R (key_of x)) found.2 k)
           | inr s ↦ inr (s.0 ∙ found.2, subst (λ (m : ℕ). number x < m) found.3 s.1)
         ]
@@ -69,24 +69,24 @@ module _ {X A K : Type 0} (key_of : X → K) (number : X → ℕ) (key : A → K
         elim (before_group x xs groups g found.0 before are h found.1) [ inl k ↦ inl k | inr s ↦ inr s.0 ]
 
     later_only : (x : X) (xs : List X) (groups : List A) (g : A) (n : ℕ) → AreGroups xs groups → Contains groups g → Contains (numbers g) n → (y : X) × Contains (x ∷ xs) y × (key_of y ≡ key g) × (number y ≡ n)
-    later_only x xs groups g n are h i = let found = are.only g n h i in (found.0, contains_later x found.0 xs found.1, found.2, found.3)
+    later_only x xs groups g n are h i = let found = are.only g n h i in (found.0, contains_later x _ _ found.1, found.2, found.3)
 
     -- ---- a group of its own
 
     first_only : (x : X) (xs : List X) (g : A) (n : ℕ) → g ≡ of x → Contains (numbers g) n → (y : X) × Contains (x ∷ xs) y × (key_of y ≡ key g) × (number y ≡ n)
     first_only x xs g n is i =
         let m : Contains (number x ∷ []) n = subst (λ (l : List ℕ). Contains l n) (ap numbers is ∙ law.of_numbers x) i in
-        (x, contains_first x xs, sym (ap key is ∙ law.of_key x), only_member (number x) n m)
+        (x, contains_first x _, sym (ap key is ∙ law.of_key x), only_member _ n m)
 
     apart_groups : (x : X) (xs : List X) (groups : List A) → AllByRecursion (Before x) xs → AreGroups xs groups → ((g : A) → Contains groups g → key_of x ≡ key g → ⊥) → AreGroups (x ∷ xs) (of x ∷ groups)
     apart_groups x xs groups before are apart = record {
-      ascend = pairs_cons GroupBefore (of x) groups (all_members (λ g. R (key (of x)) (key g)) groups (λ g h. elim (key_case x xs groups g before are h) [ inl k ↦ subst (λ (l : K). R l (key g)) (sym (law.of_key x)) k | inr s ↦ absurd (apart g h s) ])) are.ascend;
-      rise = λ g h. elim (member_cases (of x) g groups h) [ inl is ↦ subst (AllPairs Below) (sym (ap numbers (sym is) ∙ law.of_numbers x)) (pairs_cons Below (number x) [] tt (no_pairs Below)) | inr r ↦ are.rise g r ];
-      some = λ g h. elim (member_cases (of x) g groups h) [ inl is ↦ (number x, subst (λ (l : List ℕ). Contains l (number x)) (sym (ap numbers (sym is) ∙ law.of_numbers x)) (contains_first (number x) [])) | inr r ↦ are.some g r ];
-      only = λ g n h i. elim (member_cases (of x) g groups h) [ inl is ↦ first_only x xs g n (sym is) i | inr r ↦ later_only x xs groups g n are r i ];
-      all = λ y h. elim (member_cases x y xs h) [
-        | inl is ↦ (of x, contains_first (of x) groups, law.of_key x ∙ ap key_of is, subst (λ (l : List ℕ). Contains l (number y)) (sym (law.of_numbers x)) (subst (Contains (number x ∷ [])) (ap number is) (contains_first (number x) [])))
-        | inr r ↦ let found = are.all y r in (found.0, contains_later (of x) found.0 groups found.1, found.2, found.3)
+      ascend = pairs_cons GroupBefore (of x) _ (all_members _ _ (λ g h. elim (key_case x xs groups g before are h) [ inl k ↦ subst (λ (l : K). R l (key g)) (sym (law.of_key x)) k | inr s ↦ absurd (apart g h s) ])) are.ascend;
+      rise = λ g h. elim (member_cases _ g _ h) [ inl is ↦ subst (AllPairs Below) (sym (ap numbers (sym is) ∙ law.of_numbers x)) (pairs_cons Below (number x) [] tt (no_pairs Below)) | inr r ↦ are.rise g r ];
+      some = λ g h. elim (member_cases _ g _ h) [ inl is ↦ (number x, subst (λ l. Contains l (number x)) (sym (ap numbers (sym is) ∙ law.of_numbers x)) (contains_first _ [])) | inr r ↦ are.some g r ];
+      only = λ g n h i. elim (member_cases _ g _ h) [ inl is ↦ first_only x xs g n (sym is) i | inr r ↦ later_only x xs groups g n are r i ];
+      all = λ y h. elim (member_cases x y _ h) [
+        | inl is ↦ (of x, contains_first _ _, law.of_key x ∙ ap key_of is, subst (λ l. Contains l (number y)) (sym (law.of_numbers x)) (subst (Contains (number x ∷ [])) (ap number is) (contains_first _ [])))
+        | inr r ↦ let found = are.all y r in (found.0, contains_later _ _ _ found.1, found.2, found.3)
       ];
     }
 
@@ -97,53 +97,53 @@ module _ {X A K : Type 0} (key_of : X → K) (number : X → ℕ) (key : A → K
       joined_key = law.join_key (of x) y ∙ law.of_key x ∙ alike
 
       joined_numbers : numbers (join (of x) y) ≡ number x ∷ numbers y
-      joined_numbers = law.join_numbers (of x) y ∙ ap (λ (l : List ℕ). l ++ numbers y) (law.of_numbers x)
+      joined_numbers = law.join_numbers (of x) y ∙ ap (λ l. l ++ numbers y) (law.of_numbers x)
 
       later : (m : ℕ) → Contains (numbers y) m → number x < m
-      later m i = elim (before_group x xs (y ∷ ys) y m before are (contains_first y ys) i) [
-        | inl k ↦ absurd (law.irreflexive (key y) (subst (λ (l : K). R l (key y)) alike k))
+      later m i = elim (before_group x xs (y ∷ ys) y m before are (contains_first y _) i) [
+        | inl k ↦ absurd (law.irreflexive (key y) (subst (λ l. R l (key y)) alike k))
         | inr s ↦ s.1
       ]
 
       joined_only : (g : A) (n : ℕ) → g ≡ join (of x) y → Contains (numbers g) n → (z : X) × Contains (x ∷ xs) z × (key_of z ≡ key g) × (number z ≡ n)
       joined_only g n is i =
-          let its : key g ≡ key y = ap key is ∙ joined_key in
-          elim (member_cases (number x) n (numbers y) (subst (λ (l : List ℕ). Contains l n) (ap numbers is ∙ joined_numbers) i)) [
-            | inl a ↦ (x, contains_first x xs, alike ∙ sym its, a)
-            | inr b ↦ let found = are.only y n (contains_first y ys) b in (found.0, contains_later x found.0 xs found.1, found.2 ∙ sym its, found.3)
+          let its = ap key is ∙ joined_key in
+          elim (member_cases _ n _ (subst (λ l. Contains l n) (ap numbers is ∙ joined_numbers) i)) [
+            | inl a ↦ (x, contains_first x _, alike ∙ sym its, a)
+            | inr b ↦ let found = are.only y n (contains_first y _) b in (found.0, contains_later x _ _ found.1, found.2 ∙ sym its, found.3)
           ]
 
       joined_all : (z : X) → Contains xs z → (g : A) × Contains (join (of x) y ∷ ys) g × (key g ≡ key_of z) × Contains (numbers g) (number z)
       joined_all z h =
           let found = are.all z h in
-          elim (member_cases y found.0 ys found.1) [
+          elim (member_cases y _ _ found.1) [
             | inl is ↦ (
               join (of x) y,
-              contains_first (join (of x) y) ys,
+              contains_first _ _,
               joined_key ∙ ap key is ∙ found.2,
-              subst (λ (l : List ℕ). Contains l (number z)) (sym joined_numbers) (contains_later (number x) (number z) (numbers y) (subst (λ (a : A). Contains (numbers a) (number z)) (sym is) found.3)),
+              subst (λ l. Contains l (number z)) (sym joined_numbers) (contains_later _ _ _ (subst (λ a. Contains (numbers a) (number z)) (sym is) found.3)),
             )
-            | inr r ↦ (found.0, contains_later (join (of x) y) found.0 ys r, found.2, found.3)
+            | inr r ↦ (found.0, contains_later _ _ _ r, found.2, found.3)
           ]
 
       joined_groups : AreGroups (x ∷ xs) (join (of x) y ∷ ys)
       joined_groups = record {
-        ascend = pairs_cons GroupBefore (join (of x) y) ys (all_members (λ g. R (key (join (of x) y)) (key g)) ys (λ g h. subst (λ (l : K). R l (key g)) (sym joined_key) (each_member (λ a. R (key y) (key a)) ys g (first_pairs GroupBefore y ys are.ascend) h))) (later_pairs GroupBefore y ys are.ascend);
-        rise = λ g h. elim (member_cases (join (of x) y) g ys h) [
-          | inl is ↦ subst (AllPairs Below) (sym (ap numbers (sym is) ∙ joined_numbers)) (pairs_cons Below (number x) (numbers y) (all_members (λ m. number x < m) (numbers y) later) (are.rise y (contains_first y ys)))
-          | inr r ↦ are.rise g (contains_later y g ys r)
+        ascend = pairs_cons GroupBefore (join (of x) y) _ (all_members _ _ (λ g h. subst (λ l. R l (key g)) (sym joined_key) (each_member _ _ g (first_pairs GroupBefore y _ are.ascend) h))) (later_pairs GroupBefore y _ are.ascend);
+        rise = λ g h. elim (member_cases _ g _ h) [
+          | inl is ↦ subst (AllPairs Below) (sym (ap numbers (sym is) ∙ joined_numbers)) (pairs_cons Below (number x) _ (all_members _ _ later) (are.rise y (contains_first y _)))
+          | inr r ↦ are.rise g (contains_later y g _ r)
         ];
-        some = λ g h. elim (member_cases (join (of x) y) g ys h) [
-          | inl is ↦ (number x, subst (λ (l : List ℕ). Contains l (number x)) (sym (ap numbers (sym is) ∙ joined_numbers)) (contains_first (number x) (numbers y)))
-          | inr r ↦ are.some g (contains_later y g ys r)
+        some = λ g h. elim (member_cases _ g _ h) [
+          | inl is ↦ (number x, subst (λ l. Contains l (number x)) (sym (ap numbers (sym is) ∙ joined_numbers)) (contains_first _ _))
+          | inr r ↦ are.some g (contains_later y g _ r)
         ];
-        only = λ g n h i. elim (member_cases (join (of x) y) g ys h) [ inl is ↦ joined_only g n (sym is) i | inr r ↦ later_only x xs (y ∷ ys) g n are (contains_later y g ys r) i ];
-        all = λ z h. elim (member_cases x z xs h) [
+        only = λ g n h i. elim (member_cases _ g _ h) [ inl is ↦ joined_only g n (sym is) i | inr r ↦ later_only x xs (y ∷ ys) g n are (contains_later y g _ r) i ];
+        all = λ z h. elim (member_cases x z _ h) [
           | inl is ↦ (
             join (of x) y,
-            contains_first (join (of x) y) ys,
+            contains_first _ _,
             joined_key ∙ sym alike ∙ ap key_of is,
-            subst (λ (l : List ℕ). Contains l (number z)) (sym joined_numbers) (subst (Contains (number x ∷ numbers y)) (ap number is) (contains_first (number x) (numbers y))),
+            subst (λ l. Contains l (number z)) (sym joined_numbers) (subst (Contains (number x ∷ numbers y)) (ap number is) (contains_first _ _)),
           )
           | inr r ↦ joined_all z r
         ];
@@ -153,12 +153,12 @@ module _ {X A K : Type 0} (key_of : X → K) (number : X → ℕ) (key : A → K
 
     -- a member with another key than the first group's has a key of its own
     apart_first : (x : X) (xs : List X) (y : A) (ys : List A) → AllByRecursion (Before x) xs → AreGroups xs (y ∷ ys) → same (of x) y ≡ false → (g : A) → Contains (y ∷ ys) g → key_of x ≡ key g → ⊥
-    apart_first x xs y ys before are apart g h alike = elim (member_cases y g ys h) [
+    apart_first x xs y ys before are apart g h alike = elim (member_cases y g _ h) [
       | inl is ↦ true≢false (sym (law.same_test (of x) y (law.of_key x ∙ alike ∙ ap key (sym is))) ∙ apart)
-      | inr r ↦ let behind : R (key y) (key g) = each_member (λ a. R (key y) (key a)) ys g (first_pairs GroupBefore y ys are.ascend) r in
-          elim (key_case x xs (y ∷ ys) y before are (contains_first y ys)) [
-            | inl less ↦ law.irreflexive (key g) (subst (λ (l : K). R l (key g)) alike (law.trans (key_of x) (key y) (key g) less behind))
-            | inr is ↦ law.irreflexive (key g) (subst (λ (l : K). R l (key g)) (sym is ∙ alike) behind)
+      | inr r ↦ let behind = each_member _ _ g (first_pairs GroupBefore y _ are.ascend) r in
+          elim (key_case x xs (y ∷ ys) y before are (contains_first y _)) [
+            | inl less ↦ law.irreflexive (key g) (subst (λ l. R l (key g)) alike (law.trans (key_of x) (key y) (key g) less behind))
+            | inr is ↦ law.irreflexive (key g) (subst (λ l. R l (key g)) (sym is ∙ alike) behind)
           ]
     ]
 
@@ -173,4 +173,4 @@ module _ {X A K : Type 0} (key_of : X → K) (number : X → ℕ) (key : A → K
     pub are_groups : (xs : List X) → AllPairs Before xs → AreGroups xs (grouped same join (map of xs))
     unfolding grouped
     are_groups [] up = none
-    are_groups (x ∷ xs) up = groups_first x xs (grouped same join (map of xs)) (first_pairs Before x xs up) (are_groups xs (later_pairs Before x xs up))
+    are_groups (x ∷ xs) up = groups_first x xs (grouped same join (map of xs)) (first_pairs Before x _ up) (are_groups xs (later_pairs Before x _ up))

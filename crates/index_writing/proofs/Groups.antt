@@ -71,7 +71,7 @@ module _ {X A : Type 0} (same : A → A → Bool) (join : A → A → A) (kinds 
       }
 
   pub groups_apart : (whole done longer : List A) (here new : A) (others : List X) (i : ℕ) (x d : X) → GroupsSoFar same join of whole done here others i → i < length others → x ≡ get_or others i d → same here (of x) ≡ false → new ≡ of x → longer ≡ done ++ here ∷ [] → GroupsSoFar same join of whole longer new others (i + 1)
-  groups_apart whole done longer here new others i x d so_far lt at is new_is longer_is =
+  groups_apart _ done longer here new others i x d so_far lt at is new_is longer_is =
       let more = grouped same join (map of (drop (i + 1) others)) in
       record {
         is = ap (λ (l : List A). l ++ with_first same join new more) longer_is
@@ -82,13 +82,13 @@ module _ {X A : Type 0} (same : A → A → Bool) (join : A → A → A) (kinds 
       }
 
   next_case : (b : Bool) (whole done longer : List A) (here new : A) (others : List X) (i : ℕ) (x d : X) → GroupsSoFar same join of whole done here others i → i < length others → x ≡ get_or others i d → same here (of x) ≡ b → MatchBool b ((longer ≡ done) × (new ≡ join here (of x))) ((longer ≡ done ++ here ∷ []) × (new ≡ of x)) → GroupsSoFar same join of whole longer new others (i + 1)
-  next_case true whole done longer here new others i x d so_far lt at is next =
-      subst (λ (l : List A). GroupsSoFar same join of whole l new others (i + 1)) (sym next.0) (groups_joined whole done here new others i x d so_far lt at is next.1)
-  next_case false whole done longer here new others i x d so_far lt at is next = groups_apart whole done longer here new others i x d so_far lt at is next.1 next.0
+  next_case true whole done _ here new others i x d so_far lt at is next =
+      subst (λ l. GroupsSoFar same join of whole l new others (i + 1)) (sym next.0) (groups_joined whole done here new others i x d so_far lt at is next.1)
+  next_case false _ _ _ _ _ _ i x d so_far lt at is next = groups_apart _ _ _ _ _ _ i x d so_far lt at is next.1 next.0
 
   pub groups_next : (whole done longer : List A) (here new : A) (others : List X) (i : ℕ) (x d : X) → GroupsSoFar same join of whole done here others i → i < length others → x ≡ get_or others i d → MatchBool (same here (of x)) ((longer ≡ done) × (new ≡ join here (of x))) ((longer ≡ done ++ here ∷ []) × (new ≡ of x)) → GroupsSoFar same join of whole longer new others (i + 1)
-  groups_next whole done longer here new others i x d so_far lt at next = next_case (same here (of x)) whole done longer here new others i x d so_far lt at refl next
+  groups_next _ _ _ _ _ _ i x d so_far lt at next = next_case _ _ _ _ _ _ _ i x d so_far lt at refl next
 
   pub groups_end : (whole done longer : List A) (here : A) (others : List X) (i : ℕ) → GroupsSoFar same join of whole done here others i → length others ≤ i → longer ≡ done ++ here ∷ [] → longer ≡ whole
-  groups_end whole done longer here others i so_far past longer_is =
-      longer_is ∙ ap (λ (l : List A). done ++ with_first same join here l) (sym (groups_none (drop i others) (drop_all i others past))) ∙ so_far.is
+  groups_end _ done _ here others i so_far past longer_is =
+      longer_is ∙ ap (λ l. done ++ with_first same join here l) (sym (groups_none (drop i others) (drop_all i _ past))) ∙ so_far.is

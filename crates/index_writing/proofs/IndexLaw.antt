@@ -5,7 +5,6 @@ use Rattle.std.specs.List.{AllByRecursion, Contains}
 use Rattle.std.specs.List.Sorted.{IsStrictlySortedBy}
 use Rattle.std.proofs.lemmas.Bool.Decides.{nat_tests}
 use Rattle.label_sets.specs.Labels.{IsLabelSet}
-use Rattle.index_parts.specs.declared.postings_row.PostingsRow.{PostingsRow}
 use Rattle.index_parts.specs.Turns.{InOrder}
 use Rattle.index_parts.specs.Contents.{IsToc, toc_text}
 use Rattle.index_parts.specs.LabelIndices.{IsLabelOffsets}
@@ -53,8 +52,8 @@ holds_at IsSectionOf index reference members some stands =
 symbols_hold : (list : List IndexSeries) → IsShown list → Holds IsSymbols (written list) (toc_of (parts_of list)).symbols (symbols_of list)
 unfolding toc_of
 symbols_hold list shown =
-    let more = written_series list in
-    holds_at IsSymbols (written list) 5 (symbols_of list) (omega arith) (subst (λ (l : List ℕ). IsSymbols l 5 (symbols_of list)) (sym more.1) (shown.symbols more.0))
+    let more = written_series _ in
+    holds_at IsSymbols (written list) 5 (symbols_of list) (omega arith) (subst (λ l. IsSymbols l 5 (symbols_of list)) (sym more.1) (shown.symbols more.0))
 
 table_ordered : (list : List IndexSeries) → IsShown list → InOrder MayComeAfter (table_rows (parts_of list).symbols (parts_of list).rows (list_places (parts_of list)))
 unfolding parts_of
@@ -67,36 +66,36 @@ table_holds : (list : List IndexSeries) → IsShown list → Holds IsPostingsTab
 unfolding toc_of
 table_holds list shown =
     let place = length (with_label_offsets (parts_of list)) in
-    holds_at IsPostingsTable (written list) place (table list) (table_place list)
-    (subst (λ (l : List ℕ). IsPostingsTable l place (table list)) (sym (written_table list))
-    (subst (λ (t : List PostingsRow). IsPostingsTable (with_table (parts_of list) ++ toc_text (toc_of (parts_of list))) place t) (table_is list) (shown.table (table_ordered list shown) (toc_text (toc_of (parts_of list))))))
+    holds_at IsPostingsTable (written list) _ _ (table_place _)
+    (subst (λ l. IsPostingsTable l place (table list)) (sym (written_table _))
+    (subst (λ t. IsPostingsTable (with_table (parts_of list) ++ toc_text (toc_of (parts_of list))) place t) (table_is _) (shown.table (table_ordered _ shown) (toc_text (toc_of (parts_of list))))))
 
 is_opened : (list : List IndexSeries) → IsShown list → IsOpened (opened list)
 is_opened list shown = record {
   begins = begins list;
   long = long list;
   toc_is = shown.toc;
-  symbols_are = symbols_hold list shown;
-  rows_are = table_holds list shown;
+  symbols_are = symbols_hold _ shown;
+  rows_are = table_holds _ shown;
 }
 
 -- ---- sections are present
 
 symbols_present : (list : List IndexSeries) → (toc_of (parts_of list)).symbols ≢ 0
 unfolding toc_of
-symbols_present list = λ e. absurd (omega arith)
+symbols_present _ = λ e. absurd (omega arith)
 
 series_place : (front : List ℕ) (ns : List ℕ) → 5 ≤ length front → ((n : ℕ) → Contains ns n → length front ≤ 16 * n) → 0 < unwrap_or (option_map (λ number. 16 * number) (slice_get ns 0)) (length front)
-series_place front [] size after = omega arith
-series_place front (n ∷ ns) size after = omega (arith, after n (contains_first n ns))
+series_place _ [] size after = omega arith
+series_place _ (n ∷ ns) size after = omega (arith, after n (contains_first n _))
 
 series_present : (list : List IndexSeries) → (toc_of (parts_of list)).series ≢ 0
 unfolding toc_of parts_of
-series_present list = λ e. absurd (omega (arith, series_place (up_to_symbols (symbols_of list)) (numbers list) (front_size (symbols_of list)) (λ n h. numbers_after (up_to_symbols (symbols_of list)) (map (raw_of (symbols_of list)) list) n h)))
+series_present list = λ e. absurd (omega (arith, series_place (up_to_symbols (symbols_of list)) (numbers list) (front_size _) (λ n h. numbers_after (up_to_symbols (symbols_of list)) (map (raw_of (symbols_of list)) list) n h)))
 
 first_place : (parts : Parts) → first_or 0 (list_places parts) ≡ length (padded 4 (with_label_indices parts))
 unfolding list_places places_at
-first_place parts = refl
+first_place _ = refl
 
 postings_present : (list : List IndexSeries) → (toc_of (parts_of list)).postings ≢ 0
 unfolding toc_of
@@ -106,20 +105,20 @@ postings_present list = λ e. absurd (omega (arith, first_place (parts_of list),
 
 series_shown : (list : List IndexSeries) → IsShown list → EachStands (with_series (parts_of list)) (numbers list) (map (raw_of (symbols_of list)) list)
 unfolding parts_of
-series_shown list shown = shown.series
+series_shown _ shown = shown.series
 
 pub index_law : (list : List IndexSeries) → AreWritable list → IsShown list → IsIndex (written list) list
 index_law list lawful shown = record {
   opened = opened list;
   bytes_are = refl;
-  is_opened = is_opened list shown;
+  is_opened = is_opened _ shown;
   listed = listed list;
-  list_is = zip_seconds (numbers list) list (many list);
+  list_is = zip_seconds _ _ (many _);
   series_are = record {
-    numbers_are = subst (λ (l : List ℕ). IsPostings (written list) (all_place list) l) (sym (zip_firsts (numbers list) list (many list))) (all_stands list shown.room shown.labels);
-    present = inr (symbols_present list, series_present list, postings_present list);
-    stand = λ n s has. series_hold list n s shown.labels (series_shown list shown) has;
-    ascend = subst (IsStrictlySortedBy compare_series) (sym (zip_seconds (numbers list) list (many list))) lawful.ascend;
+    numbers_are = subst (λ l. IsPostings (written list) (all_place list) l) (sym (zip_firsts _ _ (many _))) (all_stands _ shown.room shown.labels);
+    present = inr (symbols_present _, series_present _, postings_present _);
+    stand = λ n s has. series_hold list n s shown.labels (series_shown _ shown) has;
+    ascend = subst (IsStrictlySortedBy compare_series) (sym (zip_seconds _ _ (many _))) lawful.ascend;
   };
   rows_are = λ row has. rows_hold list row shown.room shown.labels has;
   complete = λ n s has label h. complete list n s label shown.labels has h;
@@ -127,12 +126,12 @@ index_law list lawful shown = record {
 
 symbols_shown : (list : List IndexSeries) → IsShown list → IsSymbols (written list) (toc_of (parts_of list)).symbols (symbols_of list)
 unfolding toc_of
-symbols_shown list shown = let more = written_series list in subst (λ (l : List ℕ). IsSymbols l 5 (symbols_of list)) (sym more.1) (shown.symbols more.0)
+symbols_shown list shown = let more = written_series _ in subst (λ l. IsSymbols l 5 (symbols_of list)) (sym more.1) (shown.symbols more.0)
 
 offsets_shown : (list : List IndexSeries) → IsShown list → IsLabelOffsets (written list) (toc_of (parts_of list)).label_offsets (offset_rows (parts_of list))
 unfolding toc_of
 offsets_shown list shown =
-    subst (λ (l : List ℕ). IsLabelOffsets l (length (with_lists (parts_of list))) (offset_rows (parts_of list))) (sym (written_table list)) (shown.offsets (toc_text (toc_of (parts_of list))))
+    subst (λ l. IsLabelOffsets l (length (with_lists (parts_of list))) (offset_rows (parts_of list))) (sym (written_table _)) (shown.offsets (toc_text (toc_of (parts_of list))))
 
 pub label_indices_law : (list : List IndexSeries) → IsShown list → HasLabelIndices (written list) list
 label_indices_law list shown = label_table_law list shown.room shown.labels shown.toc (symbols_shown list shown) (offsets_shown list shown)
@@ -153,10 +152,10 @@ Shown out list = (out ≡ written list) × IsShown list
 
 shown_at : (r : Result (Unit {0}) IndexWriteRefusal) (list : List IndexSeries) (first third out : List ℕ) (toc : Toc) → first ≡ with_series (parts_of list) → AllByRecursion (λ one. IsLabelSet one.labels) list → ((after : List ℕ) → IsSymbols (first ++ after) 5 (symbols_of list)) → Makes r out (third ++ toc_text toc) → OnOk r (IsToc out toc)
     → EachStands first (parts_of list).numbers (parts_of list).series → third ≡ with_table (parts_of list) → TableStands third (parts_of list) → OffsetsStand third (parts_of list) → toc ≡ toc_of (parts_of list) → OnOk r (Shown out list)
-shown_at (Err e) list first third out toc first_is labels symbols makes stands series third_is stand offsets toc_is = tt
-shown_at (Ok x) list first third out toc first_is labels symbols made stands series third_is stand offsets toc_is =
-    let text : third ++ toc_text toc ≡ written list = ap (λ (l : List ℕ). l ++ toc_text toc) third_is ∙ ap (λ (t : Toc). with_table (parts_of list) ++ toc_text t) toc_is ∙ sym (written_table list) in
-    let makes : Makes {A = Unit {0}} (Ok x) out (written list) = subst (λ (l : List ℕ). Makes {A = Unit {0}} (Ok x) out l) text made in (
+shown_at (Err e) _ _ _ _ _ first_is labels symbols makes stands series third_is stand offsets toc_is = tt
+shown_at (Ok x) list _ _ out toc first_is labels symbols made stands series third_is stand offsets toc_is =
+    let text = ap (λ l. l ++ toc_text toc) third_is ∙ ap (λ t. with_table (parts_of list) ++ toc_text t) toc_is ∙ sym (written_table _) in
+    let makes = subst (λ l. Makes {A = Unit {0}} (Ok x) out l) text made in (
       makes.0,
       record {
         room = makes.1;
@@ -171,13 +170,13 @@ shown_at (Ok x) list first third out toc first_is labels symbols made stands ser
 
 pub fill_shown : (r : Result (Unit {0}) IndexWriteRefusal) (list : List IndexSeries) (parts : Parts) (first third out : List ℕ) (toc : Toc) → parts ≡ parts_of list → first ≡ with_series (parts_of list) → AllByRecursion (λ one. IsLabelSet one.labels) list → ((after : List ℕ) → IsSymbols (first ++ after) 5 (symbols_of list)) → Makes r out (third ++ toc_text toc) → OnOk r (IsToc out toc)
     → EachStands first parts.numbers parts.series → third ≡ with_table parts → TableStands third parts → OffsetsStand third parts → toc ≡ toc_of parts → OnOk r (Shown out list)
-fill_shown r list parts first third out toc is first_is labels symbols makes stands =
-    subst (λ (p : Parts). EachStands first p.numbers p.series → third ≡ with_table p → TableStands third p → OffsetsStand third p → toc ≡ toc_of p → OnOk r (Shown out list)) (sym is) (shown_at r list first third out toc first_is labels symbols makes stands)
+fill_shown r list _ first third out toc is first_is labels symbols makes stands =
+    subst (λ p. EachStands first p.numbers p.series → third ≡ with_table p → TableStands third p → OffsetsStand third p → toc ≡ toc_of p → OnOk r (Shown out list)) (sym is) (shown_at r _ _ _ _ _ first_is labels symbols makes stands)
 
 pub fill_index : (r : Result (Unit {0}) IndexWriteRefusal) (list : List IndexSeries) (out : List ℕ) → AreWritable list → OnOk r (Shown out list) → OnOk r (IsIndex out list)
-fill_index (Err e) list out lawful shown = tt
-fill_index (Ok x) list out lawful shown = subst (λ (l : List ℕ). IsIndex l list) (sym shown.0) (index_law list lawful shown.1)
+fill_index (Err e) _ _ lawful shown = tt
+fill_index (Ok x) list _ lawful shown = subst (λ l. IsIndex l list) (sym shown.0) (index_law _ lawful shown.1)
 
 pub fill_label_indices : (r : Result (Unit {0}) IndexWriteRefusal) (list : List IndexSeries) (out : List ℕ) → OnOk r (Shown out list) → OnOk r (HasLabelIndices out list)
-fill_label_indices (Err e) list out shown = tt
-fill_label_indices (Ok x) list out shown = subst (λ (l : List ℕ). HasLabelIndices l list) (sym shown.0) (label_indices_law list shown.1)
+fill_label_indices (Err e) _ _ shown = tt
+fill_label_indices (Ok x) list _ shown = subst (λ l. HasLabelIndices l list) (sym shown.0) (label_indices_law _ shown.1)

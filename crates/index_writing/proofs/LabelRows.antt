@@ -62,18 +62,18 @@ same_number n m e = grind (arith, nat_tests)
 have_parts : (a b : LabelRow) → have_same_label a b ≡ true → row_key a ≡ row_key b
 have_parts a b is =
     let both = and_parts (a.name == b.name) (a.value == b.value) is in
-    let name = same_number a.name b.name both.0 in
-    let value = same_number a.value b.value both.1 in
+    let name = same_number _ _ both.0 in
+    let value = same_number _ _ both.1 in
     λ i. (name i, value i)
 
 have_all : (a b : LabelRow) → row_key a ≡ row_key b → have_same_label a b ≡ true
-have_all a b same = ap (λ (k : ℕ × ℕ). (k.0 == b.name) && (k.1 == b.value)) same ∙ both_true b.name b.value
+have_all a b same = ap (λ k. (k.0 == b.name) && (k.1 == b.value)) same ∙ both_true b.name b.value
 
 entries_grouping : IsGrouping entry_key (λ entry. entry.series) row_key (λ row. row.series) LabelBefore Before have_same_label join_series row_of_entry
 entries_grouping = record {
   before_parts = λ x y b. elim b.is [ inl k ↦ inl (record { is = k }) | inr s ↦ inr ((λ i. (s.0 i, s.1 i)), s.2) ];
   irreflexive = not_itself;
-  trans = λ a b c p q. record { is = key_trans a.0 a.1 b.0 b.1 c.0 c.1 p.is q.is };
+  trans = λ a b c p q. record { is = key_trans a.0 _ _ _ _ _ p.is q.is };
   same_keys = have_parts;
   same_test = have_all;
   of_key = λ x. refl;
@@ -87,15 +87,15 @@ grouped_rows entries up = are_groups entry_key (λ entry. entry.series) row_key 
 
 -- a row's number is of an entry
 pub row_entry : (entries : List Entry) (rows : List LabelRow) (row : LabelRow) (n : ℕ) → AreRowsOf entries rows → Contains rows row → Contains row.series n → Contains entries (entry_in row n)
-row_entry entries rows row n are h i =
+row_entry entries _ row n are h i =
     let found = are.only row n h i in
     let key = found.2 in
     let number = found.3 in
-    subst (λ (e : Entry). Contains entries e) (λ j. record { name = (key j).0; value = (key j).1; series = number j }) found.1
+    subst (λ e. Contains entries e) (λ j. record { name = (key j).0; value = (key j).1; series = number j }) found.1
 
 -- two rows of one label are one
 pub one_row : (rows : List LabelRow) (one other : LabelRow) → AllPairs RowBefore rows → Contains rows one → Contains rows other → one.name ≡ other.name → one.value ≡ other.value → one ≡ other
-one_row rows one other up h i name value = one_group entry_key (λ entry. entry.series) row_key (λ row. row.series) LabelBefore not_itself rows one other up h i (λ j. (name j, value j))
+one_row rows _ _ up h i name value = one_group entry_key (λ entry. entry.series) row_key (λ row. row.series) LabelBefore not_itself _ _ _ up h i (λ j. (name j, value j))
 
 -- ---- names
 
@@ -105,7 +105,7 @@ rows_grouping = record {
   irreflexive = λ n lt. omega arith;
   trans = λ a b c p q. omega arith;
   same_keys = λ a b is. same_number a.name b.name is;
-  same_test = λ a b same. ap (λ (n : ℕ). n == b.name) same ∙ grind (arith, nat_tests);
+  same_test = λ a b same. ap (λ n. n == b.name) same ∙ grind (arith, nat_tests);
   of_key = λ x. refl;
   of_numbers = λ x. refl;
   join_key = λ a b. refl;
@@ -114,8 +114,8 @@ rows_grouping = record {
 
 pub grouped_names : (rows : List LabelRow) → AllPairs RowBefore rows → AreNamesOf rows (names_of rows)
 unfolding names_of
-grouped_names rows up = are_groups (λ (row : LabelRow). row.name) (λ row. row.value) (λ (name : NameValues). name.name) (λ name. name.values) (λ n m. n < m) RowBefore have_same_name join_values values_of_row rows_grouping rows up
+grouped_names rows up = are_groups (λ row. row.name) (λ row. row.value) (λ name. name.name) (λ name. name.values) (λ n m. n < m) RowBefore have_same_name join_values values_of_row rows_grouping rows up
 
 -- two of one name are one
 pub one_name : (names : List NameValues) (one other : NameValues) → AllPairs NameBefore names → Contains names one → Contains names other → one.name ≡ other.name → one ≡ other
-one_name names one other up h i same = one_group (λ (row : LabelRow). row.name) (λ row. row.value) (λ (name : NameValues). name.name) (λ name. name.values) (λ n m. n < m) (λ n lt. omega arith) names one other up h i same
+one_name _ _ _ up h i same = one_group (λ (row : LabelRow). row.name) (λ row. row.value) (λ name. name.name) (λ name. name.values) (λ n m. n < m) (λ n lt. omega arith) _ _ _ up h i same

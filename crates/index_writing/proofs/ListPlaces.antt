@@ -1,6 +1,6 @@
 -- Postings lists and label indices stand at their places in a text that is not too long.
-use Rattle.std.proofs.Common.{◌≡◌, ℕ, ◌/◌, ◌%◌, ◌^◌, ◌<◌, ◌≤◌, Bool, true, false, cond, List, [], ◌∷◌, ◌++◌, length, zip, fold, Option, Some, None, sym, ap, ◌∙◌, subst, arith, inl, inr, length-append, append_assoc}
-use Rattle.std.specs.Prelude.{bit_xor, ◌==◌}
+use Rattle.std.proofs.Common.{◌≡◌, ℕ, ◌/◌, ◌^◌, ◌<◌, ◌≤◌, Bool, true, false, cond, List, [], ◌∷◌, ◌++◌, length, zip, fold, Option, Some, None, sym, ap, ◌∙◌, subst, arith, inl, inr, length-append, append_assoc}
+use Rattle.std.specs.Prelude.{bit_xor}
 use Rattle.std.specs.Int.{w32, to_be_bytes}
 use Rattle.std.specs.List.{All, AllByRecursion, flat_map, Contains, AllPairs}
 use Rattle.std.proofs.lemmas.Nat.{xor_of_32}
@@ -22,33 +22,33 @@ use Rattle.index_writing.proofs.Standing.{each_begins}
 -- ---- sums have 32 bits
 
 halved : (b : Bool) (r : ℕ) → r < 2 ^ 32 → cond b (bit_xor (r / 2) castagnoli) (r / 2) < 2 ^ 32
-halved true r lt = xor_of_32 (r / 2) castagnoli (omega arith) (omega arith)
+halved true r lt = xor_of_32 _ castagnoli (omega arith) (omega arith)
 halved false r lt = omega arith
 
 bit_fits : (r bit : ℕ) → r < 2 ^ 32 → bit < 2 → with_bit r bit < 2 ^ 32
-bit_fits r bit lt small = halved (bit_xor r bit % 2 == 1) (bit_xor r bit) (xor_of_32 r bit lt (omega arith))
+bit_fits r _ lt small = halved _ _ (xor_of_32 r _ lt (omega arith))
 
 abbrev Bits : List ℕ → Type 0
 Bits bits = AllByRecursion (λ bit. bit < 2) bits
 
 fold_fits : (bits : List ℕ) (r : ℕ) → r < 2 ^ 32 → Bits bits → fold with_bit r bits < 2 ^ 32
 fold_fits [] r lt all = lt
-fold_fits (bit ∷ bits) r lt all = fold_fits bits (with_bit r bit) (bit_fits r bit lt all.0) all.1
+fold_fits (bit ∷ bits) r lt all = fold_fits bits _ (bit_fits r _ lt all.0) all.1
 
 all_append : {A : Type 0} (P : A → Type 0) (xs ys : List A) → AllByRecursion P xs → AllByRecursion P ys → AllByRecursion P (xs ++ ys)
-all_append P [] ys all more = more
-all_append P (x ∷ xs) ys all more = (all.0, all_append P xs ys all.1 more)
+all_append P [] _ all more = more
+all_append P (x ∷ xs) _ all more = (all.0, all_append P xs _ all.1 more)
 
 bits_of : (byte : ℕ) → Bits (coefficients byte)
-bits_of byte = (omega arith, (omega arith, (omega arith, (omega arith, (omega arith, (omega arith, (omega arith, (omega arith, tt))))))))
+bits_of _ = (omega arith, (omega arith, (omega arith, (omega arith, (omega arith, (omega arith, (omega arith, (omega arith, tt))))))))
 
 all_bits : (bytes : List ℕ) → Bits (flat_map coefficients bytes)
 all_bits [] = tt
-all_bits (byte ∷ bytes) = all_append (λ bit. bit < 2) (coefficients byte) (flat_map coefficients bytes) (bits_of byte) (all_bits bytes)
+all_bits (byte ∷ bytes) = all_append _ (coefficients byte) _ (bits_of byte) (all_bits bytes)
 
 pub crc_fits : (bytes : List ℕ) → crc bytes < 2 ^ 32
 unfolding crc remainder
-crc_fits bytes = xor_of_32 (fold with_bit ones (flat_map coefficients bytes)) ones (fold_fits (flat_map coefficients bytes) ones (omega arith) (all_bits bytes)) (omega arith)
+crc_fits bytes = xor_of_32 (fold with_bit ones (flat_map coefficients bytes)) _ (fold_fits _ ones (omega arith) (all_bits bytes)) (omega arith)
 
 -- ---- places
 
@@ -61,10 +61,10 @@ pub record StandsAt (whole : List ℕ) (place : ℕ) (text : List ℕ) : Type 0 
 
 pub each_stands : (unit : ℕ) (start : List ℕ) (texts : List (List ℕ)) (place : ℕ) (text : List ℕ) → Contains (zip (places_at unit start texts) texts) (place, text) → StandsAt (each_at unit start texts) place text
 unfolding each_at places_at
-each_stands unit start [] place text h = absurd (no_member (place, text) h)
+each_stands _ _ [] _ _ h = absurd (no_member _ h)
 each_stands unit start (next ∷ texts) place text h =
-    elim (member_cases (length (padded unit start), next) (place, text) (zip (places_at unit (padded unit start ++ next) texts) texts) h) [
-      | inl is ↦ let more = each_begins unit (padded unit start ++ next) texts in
+    elim (member_cases _ _ _ h) [
+      | inl is ↦ let more = each_begins unit _ texts in
           record {
             before = padded unit start;
             after = more.0;
@@ -75,18 +75,18 @@ each_stands unit start (next ∷ texts) place text h =
     ]
 
 pub stands_on : (whole more : List ℕ) (place : ℕ) (text longer : List ℕ) → StandsAt whole place text → longer ≡ whole ++ more → StandsAt longer place text
-stands_on whole more place text longer stands is = record {
+stands_on _ more _ text _ stands is = record {
   before = stands.before;
   after = stands.after ++ more;
-  is = is ∙ ap (λ (l : List ℕ). l ++ more) stands.is ∙ append_assoc (stands.before ++ text) stands.after more;
+  is = is ∙ ap (λ l. l ++ more) stands.is ∙ append_assoc (stands.before ++ text) stands.after more;
   at = stands.at;
 }
 
 -- ---- lists of numbers
 
 order_after : (before : Option ℕ) (numbers : List ℕ) → AllByRecursion (Rises before) numbers → AllPairs Below numbers → InOrderAfter Rises before numbers
-order_after before [] all up = tt
-order_after before (n ∷ numbers) all up = (all.0, order_after (Some n) numbers (first_pairs Below n numbers up) (later_pairs Below n numbers up))
+order_after _ [] all up = tt
+order_after _ (n ∷ numbers) all up = (all.0, order_after (Some n) numbers (first_pairs Below n _ up) (later_pairs Below n _ up))
 
 any_first : (numbers : List ℕ) → AllByRecursion (Rises None) numbers
 any_first [] = tt
@@ -99,20 +99,20 @@ content_shorter content before after =
 
 -- numbers that rise are in order
 pub in_order : (numbers : List ℕ) → AllPairs Below numbers → InOrder Rises numbers
-in_order numbers up = order_after None numbers (any_first numbers) up
+in_order numbers up = order_after _ _ (any_first _) up
 
 pub list_stands : (whole : List ℕ) (place : ℕ) (numbers : List ℕ) → length whole ≤ greatest → StandsAt whole place (postings_text numbers) → AllByRecursion (λ n. n < 2 ^ 32) numbers → AllPairs Below numbers → IsPostings whole place numbers
-list_stands whole place numbers room stands small up =
+list_stands whole _ numbers room stands small up =
     let content = list_content (to_be_bytes w32) numbers in
-    let fits : length content < 2 ^ 32 = omega (arith, room, ap length stands.is, content_shorter content stands.before stands.after) in
-    let section : IsSection ((stands.before ++ section_text content) ++ stands.after) (length stands.before) content = section_stands stands.before content stands.after fits (crc_fits content) in
-    subst (λ (n : ℕ). IsPostings whole n numbers) stands.at (subst (λ (l : List ℕ). IsPostings l (length stands.before) numbers) (sym stands.is)
-    (postings_stand ((stands.before ++ section_text content) ++ stands.after) (length stands.before) numbers fits (all_from (λ n. n < 2 ^ 32) numbers small) (in_order numbers up) section))
+    let fits : length content < 2 ^ 32 = omega (arith, ap length stands.is, content_shorter content stands.before stands.after) in
+    let section : IsSection ((stands.before ++ section_text content) ++ stands.after) (length stands.before) content = section_stands _ _ _ fits (crc_fits _) in
+    subst (λ (n : ℕ). IsPostings whole n numbers) stands.at (subst (λ l. IsPostings l (length stands.before) numbers) (sym stands.is)
+    (postings_stand _ _ _ fits (all_from _ _ small) (in_order _ up) section))
 
 pub index_stands : (whole : List ℕ) (place : ℕ) (values : List ℕ) → length whole ≤ greatest → StandsAt whole place (label_index_text values) → All (λ n. n < 2 ^ 32) values → IsLabelIndex whole place values
-index_stands whole place values room stands small =
+index_stands whole _ values room stands small =
     let content = label_index_content values in
-    let fits : length content < 2 ^ 32 = omega (arith, room, ap length stands.is, content_shorter content stands.before stands.after) in
-    let section : IsSection ((stands.before ++ section_text content) ++ stands.after) (length stands.before) content = section_stands stands.before content stands.after fits (crc_fits content) in
-    subst (λ (n : ℕ). IsLabelIndex whole n values) stands.at (subst (λ (l : List ℕ). IsLabelIndex l (length stands.before) values) (sym stands.is)
-    (values_stand ((stands.before ++ section_text content) ++ stands.after) (length stands.before) values fits small section))
+    let fits : length content < 2 ^ 32 = omega (arith, ap length stands.is, content_shorter content stands.before stands.after) in
+    let section : IsSection ((stands.before ++ section_text content) ++ stands.after) (length stands.before) content = section_stands _ _ _ fits (crc_fits _) in
+    subst (λ n. IsLabelIndex whole n values) stands.at (subst (λ l. IsLabelIndex l (length stands.before) values) (sym stands.is)
+    (values_stand _ _ _ fits small section))

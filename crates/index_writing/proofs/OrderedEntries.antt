@@ -17,16 +17,16 @@ abbrev pub Below : ℕ → ℕ → Type 0
 Below n m = n < m
 
 pub no_pairs : {A : Type 0} (R : A → A → Type 0) → AllPairs R []
-no_pairs R i j d below within = absurd (omega (arith, within))
+no_pairs R i j d below within = absurd (omega arith)
 
 pub pairs_cons : {A : Type 0} (R : A → A → Type 0) (x : A) (xs : List A) → AllByRecursion (R x) xs → AllPairs R xs → AllPairs R (x ∷ xs)
-pairs_cons R x xs first others = AllPairs-cons R x xs (All-from_recursion (R x) xs first) others
+pairs_cons R x _ first others = AllPairs-cons R x _ (All-from_recursion (R x) _ first) others
 
 pub first_pairs : {A : Type 0} (R : A → A → Type 0) (x : A) (xs : List A) → AllPairs R (x ∷ xs) → AllByRecursion (R x) xs
-first_pairs R x xs all = recursion_from_All (R x) xs (λ k d within. all 0 (suc k) d (omega arith) (omega (arith, within)))
+first_pairs R x _ all = recursion_from_All (R x) _ (λ k d within. all 0 (suc k) d (omega arith) (omega arith))
 
 pub later_pairs : {A : Type 0} (R : A → A → Type 0) (x : A) (xs : List A) → AllPairs R (x ∷ xs) → AllPairs R xs
-later_pairs R x xs all i j d below within = all (suc i) (suc j) d (omega (arith, below)) (omega (arith, within))
+later_pairs R x _ all i j d below within = all (suc i) (suc j) d (omega arith) (omega arith)
 
 -- ---- an order
 
@@ -42,7 +42,7 @@ module _ {A : Type 0} (c : A → A → Ordering) (total : IsTotalOrder c) (ties 
   other_way : (x y : A) (o : Ordering) → o ≡ c x y → is_lt (c y x) ≡ false → (x ≡ y → ⊥) → c x y ≡ Less
   other_way x y Less e not_back apart = sym e
   other_way x y Equal e not_back apart = absurd (apart (ties x y (sym e)))
-  other_way x y Greater e not_back apart = let back : is_lt (c y x) ≡ true = ap is_lt (total.antisymm y x ∙ ap ordering_reverse (sym e)) in absurd cc
+  other_way x y Greater e not_back apart = let back = ap is_lt (total.antisymm y x ∙ ap ordering_reverse (sym e)) in absurd cc
 
   pub strict_order : IsStrict (λ x y. is_lt (c x y)) (λ x y. c x y ≡ Less)
   strict_order = record {
@@ -62,17 +62,17 @@ module _ {A : Type 0} (less : A → A → Bool) (R : A → A → Type 0) (o : Is
   all_before x y (z ∷ ys) r all = (o.trans x y z r all.0, all_before x y ys r all.1)
 
   all_placed : (y x : A) (ys : List A) → R y x → AllByRecursion (R y) ys → AllByRecursion (R y) (placed less x ys)
-  all_placed y x ys r all = all_members (R y) (placed less x ys) (λ z h. elim (of_placed less x z ys h) [ inl e ↦ subst (R y) e r | inr w ↦ each_member (R y) ys z all w ])
+  all_placed y x _ r all = all_members _ _ (λ z h. elim (of_placed less x z _ h) [ inl e ↦ subst (R y) e r | inr w ↦ each_member _ _ z all w ])
 
   rise_case : (b : Bool) (x y : A) (ys rest : List A) → less y x ≡ b → (x ≡ y → ⊥) → AllPairs R (y ∷ ys) → (R y x → AllByRecursion (R y) rest) → AllPairs R rest → AllPairs R (cond b (y ∷ rest) (x ∷ y ∷ ys))
-  rise_case true x y ys rest e apart up all others = pairs_cons R y rest (all (o.yes y x e)) others
-  rise_case false x y ys rest e apart up all others = let r : R x y = o.other x y e apart in pairs_cons R x (y ∷ ys) (r, all_before x y ys r (first_pairs R y ys up)) up
+  rise_case true x y _ _ e apart up all others = pairs_cons R y _ (all (o.yes y x e)) others
+  rise_case false x y ys _ e apart up all others = let r = o.other x y e apart in pairs_cons R x (y ∷ ys) (r, all_before x y _ r (first_pairs R y _ up)) up
 
   pub rise_placed : (x : A) (ys : List A) → (Contains ys x → ⊥) → AllPairs R ys → AllPairs R (placed less x ys)
   unfolding placed
   rise_placed x [] new up = pairs_cons R x [] tt (no_pairs R)
   rise_placed x (y ∷ ys) new up =
-      rise_case (less y x) x y ys (placed less x ys) refl (λ e. new (subst (Contains (y ∷ ys)) (sym e) (contains_first y ys))) up (λ r. all_placed y x ys r (first_pairs R y ys up)) (rise_placed x ys (λ h. new (contains_later y x ys h)) (later_pairs R y ys up))
+      rise_case _ x y _ _ refl (λ e. new (subst (Contains (y ∷ ys)) (sym e) (contains_first y _))) up (λ r. all_placed y x ys r (first_pairs R y ys up)) (rise_placed x ys (λ h. new (contains_later y x _ h)) (later_pairs R y _ up))
 
   pub rise_order : (xs : List A) → Once xs → AllPairs R (in_order less xs)
   unfolding in_order

@@ -1,15 +1,13 @@
 -- The parts of an index: how many places there are, and that the text only grows.
-use Rattle.std.proofs.Common.{◌≡◌, ℕ, suc, ◌+◌, ◌/◌, ◌≤◌, subst, List, [], ◌∷◌, length, map, zip, Err, refl, sym, ap, ◌∙◌, arith, length-append}
+use Rattle.std.proofs.Common.{◌≡◌, ℕ, suc, ◌+◌, ◌≤◌, subst, List, [], ◌∷◌, length, map, zip, Err, refl, sym, ap, ◌∙◌, arith, length-append}
 use Rattle.std.proofs.lemmas.List.{length-map}
 use Rattle.index_parts.specs.Contents.{toc_text}
-use Rattle.index_parts.specs.LabelIndices.{label_index_text, label_offsets_text}
+use Rattle.index_parts.specs.LabelIndices.{label_offsets_text}
 use Rattle.index_parts.specs.Postings.{postings_text}
 use Rattle.index_parts.specs.Rows.{postings_table_text}
 use Rattle.index_parts.specs.Turns.{InOrder}
-use Rattle.index_parts.specs.SeriesEntry.{StartsAfter, series_text}
-use Rattle.index_parts.specs.declared.chunk_place.ChunkPlace.{ChunkPlace}
+use Rattle.index_parts.specs.SeriesEntry.{StartsAfter}
 use Rattle.index_parts.specs.declared.raw_series.RawSeries.{RawSeries}
-use Rattle.label_sets.specs.declared.label.Label.{Label}
 use Rattle.label_sets.specs.Labels.{compare_texts}
 use Rattle.std.specs.List.{AllByRecursion}
 use Rattle.std.specs.List.Sorted.{IsStrictlySortedBy}
@@ -17,8 +15,8 @@ use Rattle.index_file.specs.declared.index_series.IndexSeries.{IndexSeries}
 use Rattle.index_writing.specs.declared.label_groups.LabelRow.{LabelRow}
 use Rattle.index_writing.specs.declared.label_groups.NameValues.{NameValues}
 use Rattle.index_writing.specs.declared.parts.Parts.{Parts}
-use Rattle.index_writing.specs.SymbolsInUse.{symbols_of, number_of, raw_of}
-use Rattle.index_writing.specs.Aligned.{each_at, places_at}
+use Rattle.index_writing.specs.SymbolsInUse.{symbols_of, raw_of}
+use Rattle.index_writing.specs.Aligned.{each_at}
 use Rattle.index_writing.specs.WriteSteps.{greatest, Makes, IsStorable}
 use Rattle.index_writing.specs.declared.write_refusal.IndexWriteRefusal.{IndexWriteRefusal}
 use Rattle.index_writing.specs.Written.{AreWritable, HaveSmallNumbers, up_to_symbols, numbers_behind, label_index_texts, list_texts, name_texts, table_rows, with_series, with_label_indices, with_lists, label_index_places, list_places, with_label_offsets, with_table, toc_of, parts_of, written}
@@ -28,21 +26,21 @@ use Rattle.index_writing.proofs.SmallNumbers.{parts_small}
 
 pub as_many_indices : (parts : Parts) → length (label_index_places parts) ≡ length parts.names
 unfolding label_index_places
-as_many_indices parts = places_many 4 (with_series parts) (label_index_texts parts.names) ∙ length-map parts.names (λ (name : NameValues). label_index_text name.values)
+as_many_indices _ = places_many 4 _ _ ∙ length-map _ _
 
 pub as_many_lists : (parts : Parts) → length (list_places parts) ≡ length parts.rows + 1
 unfolding list_places
 as_many_lists parts =
-    let lists : length (list_texts parts.numbers parts.rows) ≡ suc (length parts.rows) = ap suc (length-map parts.rows (λ (row : LabelRow). postings_text row.series)) in
+    let lists = ap suc (length-map parts.rows (λ (row : LabelRow). postings_text row.series)) in
     omega (arith, places_many 4 (with_label_indices parts) (list_texts parts.numbers parts.rows), lists)
 
 pub indices_longer : (parts : Parts) → length (with_series parts) ≤ length (with_label_indices parts)
 unfolding with_label_indices
-indices_longer parts = each_longer 4 (with_series parts) (label_index_texts parts.names)
+indices_longer _ = each_longer 4 _ _
 
 pub lists_longer : (parts : Parts) → length (with_label_indices parts) ≤ length (with_lists parts)
 unfolding with_lists
-lists_longer parts = each_longer 4 (with_label_indices parts) (list_texts parts.numbers parts.rows)
+lists_longer _ = each_longer 4 _ _
 
 pub offsets_longer : (parts : Parts) → length (with_lists parts) ≤ length (with_label_offsets parts)
 unfolding with_label_offsets
@@ -58,50 +56,50 @@ written_longer list = omega (arith, length-append (with_table (parts_of list)) (
 
 pub front_longer : (list : List IndexSeries) → length (up_to_symbols (symbols_of list)) ≤ length (with_series (parts_of list))
 unfolding parts_of with_series
-front_longer list = each_longer 16 (up_to_symbols (symbols_of list)) (map series_text (map (raw_of (symbols_of list)) list))
+front_longer _ = each_longer _ _ _
 
 pub series_written : (list : List IndexSeries) → length (with_series (parts_of list)) ≤ length (written list)
 series_written list = omega (arith, indices_longer (parts_of list), lists_longer (parts_of list), offsets_longer (parts_of list), table_longer (parts_of list), written_longer list)
 
 pub lists_written : (list : List IndexSeries) (parts : Parts) → parts ≡ parts_of list → length (with_lists parts) ≤ length (written list)
-lists_written list parts is = omega (arith, ap (λ (p : Parts). length (with_lists p)) is, offsets_longer (parts_of list), table_longer (parts_of list), written_longer list)
+lists_written list _ is = omega (arith, ap (λ p. length (with_lists p)) is, offsets_longer (parts_of list), table_longer (parts_of list), written_longer list)
 
 pub end_is : (list : List IndexSeries) (parts : Parts) → parts ≡ parts_of list → parts.symbols_end ≡ length (up_to_symbols parts.symbols)
 unfolding parts_of
-end_is list parts is = ap (λ (p : Parts). p.symbols_end) is ∙ ap (λ (p : Parts). length (up_to_symbols p.symbols)) (sym is)
+end_is _ _ is = ap (λ p. p.symbols_end) is ∙ ap (λ p. length (up_to_symbols p.symbols)) (sym is)
 
 -- ---- what is asked of series
 
 as_many_labels : (symbols : List (List ℕ)) (series : IndexSeries) → length (raw_of symbols series).names ≡ length (raw_of symbols series).values
 unfolding raw_of
-as_many_labels symbols series = length-map series.labels (λ (l : Label). number_of symbols l.name) ∙ sym (length-map series.labels (λ (l : Label). number_of symbols l.value))
+as_many_labels _ _ = length-map _ _ ∙ sym (length-map _ _)
 
 same_chunks : (symbols : List (List ℕ)) (series : IndexSeries) → (raw_of symbols series).chunks ≡ series.chunks
 unfolding raw_of
-same_chunks symbols series = refl
+same_chunks _ _ = refl
 
 raws_storable : (symbols : List (List ℕ)) (list : List IndexSeries) → AllByRecursion (λ series. InOrder StartsAfter series.chunks) list → AllByRecursion IsStorable (map (raw_of symbols) list)
-raws_storable symbols [] all = tt
-raws_storable symbols (series ∷ list) all = ((as_many_labels symbols series, subst (λ (l : List ChunkPlace). InOrder StartsAfter l) (sym (same_chunks symbols series)) all.0), raws_storable symbols list all.1)
+raws_storable _ [] all = tt
+raws_storable symbols (series ∷ list) all = ((as_many_labels _ _, subst (λ l. InOrder StartsAfter l) (sym (same_chunks symbols series)) all.0), raws_storable symbols list all.1)
 
 pub storable : (symbols : List (List ℕ)) (list : List IndexSeries) (series : List RawSeries) → AreWritable list → series ≡ map (raw_of symbols) list → AllByRecursion IsStorable series
-storable symbols list series lawful is = subst (AllByRecursion IsStorable) (sym is) (raws_storable symbols list lawful.chunks)
+storable _ _ _ lawful is = subst (AllByRecursion IsStorable) (sym is) (raws_storable _ _ lawful.chunks)
 
 pub as_many_numbers : (before : List ℕ) (series : List RawSeries) (numbers : List ℕ) → numbers ≡ numbers_behind before series → length series ≡ length numbers
-as_many_numbers before series numbers is =
-    sym (ap length is ∙ length-map (places_at 16 before (map series_text series)) (λ place. place / 16) ∙ places_many 16 before (map series_text series) ∙ length-map series series_text)
+as_many_numbers _ _ _ is =
+    sym (ap length is ∙ length-map _ _ ∙ places_many _ _ _ ∙ length-map _ _)
 
 pub strict_as : (list : List IndexSeries) (symbols members : List (List ℕ)) → symbols ≡ symbols_of list → members ≡ symbols → IsStrictlySortedBy compare_texts members
 strict_as list symbols members is same = subst (λ (l : List (List ℕ)). IsStrictlySortedBy compare_texts l) (sym (same ∙ is)) (symbols_strict list)
 
 pub small_as : (list : List IndexSeries) (parts : Parts) → parts ≡ parts_of list → length (with_series (parts_of list)) ≤ greatest → HaveSmallNumbers parts
-small_as list parts is room = subst HaveSmallNumbers (sym is) (parts_small list room)
+small_as list parts is room = subst HaveSmallNumbers (sym is) (parts_small _ room)
 
 pub indices_as : (parts : Parts) (out new : List ℕ) (names : List NameValues) (e : IndexWriteRefusal) → out ≡ with_series parts → names ≡ parts.names → Makes {A = List ℕ} (Err e) new (each_at 4 out (label_index_texts names)) → Makes {A = List ℕ} (Err e) new (with_label_indices parts)
 unfolding with_label_indices
-indices_as parts out new names e so_far same makes =
-    let is : each_at 4 out (label_index_texts names) ≡ each_at 4 (with_series parts) (label_index_texts parts.names) = ap (λ (l : List ℕ). each_at 4 l (label_index_texts names)) so_far ∙ ap (λ (l : List NameValues). each_at 4 (with_series parts) (label_index_texts l)) same in
-    subst (λ (l : List ℕ). Makes {A = List ℕ} (Err e) new l) is makes
+indices_as parts _ new names e so_far same makes =
+    let is = ap (λ l. each_at 4 l (label_index_texts names)) so_far ∙ ap (λ l. each_at 4 (with_series parts) (label_index_texts l)) same in
+    subst (λ l. Makes {A = List ℕ} (Err e) new l) is makes
 
 pub front_as : (list : List IndexSeries) (symbols : List (List ℕ)) → symbols ≡ symbols_of list → length (up_to_symbols symbols) ≤ length (with_series (parts_of list))
-front_as list symbols is = omega (arith, front_longer list, ap (λ (l : List (List ℕ)). length (up_to_symbols l)) is)
+front_as list _ is = omega (arith, front_longer list, ap (λ l. length (up_to_symbols l)) is)

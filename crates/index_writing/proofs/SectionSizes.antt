@@ -22,20 +22,20 @@ use Rattle.index_writing.specs.WriteSteps.{greatest, text_size, row_size}
 
 texts_most : (texts : List (List ℕ)) → sum_by (λ text. 21 + length text) texts ≤ 21 * sum_by text_size texts
 texts_most [] = omega arith
-texts_most (text ∷ texts) = omega (arith, texts_most texts, sum_by-cons (λ (t : List ℕ). 21 + length t) text texts, sum_by-cons text_size text texts)
+texts_most (text ∷ texts) = omega (arith, texts_most texts, sum_by-cons (λ t. 21 + length t) text texts, sum_by-cons text_size text texts)
 
 rows_most : (rows : List PostingsRow) → sum_by (λ row. 31 + length row.name + length row.value) rows ≤ 8 * sum_by row_size rows
 rows_most [] = omega arith
-rows_most (row ∷ rows) = omega (arith, rows_most rows, sum_by-cons (λ (r : PostingsRow). 31 + length r.name + length r.value) row rows, sum_by-cons row_size row rows)
+rows_most (row ∷ rows) = omega (arith, rows_most rows, sum_by-cons (λ r. 31 + length r.name + length r.value) row rows, sum_by-cons row_size row rows)
 
 pub symbols_fit : (symbols : List (List ℕ)) → sum_by text_size symbols ≤ greatest → length (list_content text_field symbols) < 2 ^ 32
-symbols_fit symbols fit = texts_small symbols (omega (arith, texts_most symbols))
+symbols_fit symbols fit = texts_small _ (omega (arith, texts_most symbols))
 
 pub offsets_fit : (names : List (List ℕ)) (places : List ℕ) → sum_by text_size names ≤ greatest → length (list_content offset_text (zip names places)) < 2 ^ 32
-offsets_fit names places fit = names_small names places (omega (arith, texts_most names))
+offsets_fit names places fit = names_small _ _ (omega (arith, texts_most names))
 
 pub rows_fit : (rows : List PostingsRow) → sum_by row_size rows ≤ greatest → length (list_content row_text rows) < 2 ^ 32
-rows_fit rows fit = rows_small rows (omega (arith, rows_most rows))
+rows_fit rows fit = rows_small _ (omega (arith, rows_most rows))
 
 -- ---- at least
 
@@ -54,7 +54,7 @@ symbols_least [] = omega arith
 symbols_least (text ∷ symbols) = omega (arith, symbols_least symbols, field_least text, sum_by-cons text_size text symbols, ap length (flat_map-cons text_field text symbols), length-append (text_field text) (flat_map text_field symbols))
 
 offsets_least : (names : List (List ℕ)) (places : List ℕ) → length names ≡ length places → sum_by text_size names ≤ length (flat_map offset_text (zip names places))
-offsets_least [] places many = omega arith
+offsets_least [] _ many = omega arith
 offsets_least (name ∷ names) [] many = absurd (omega arith)
 offsets_least (name ∷ names) (place ∷ places) many =
     omega (arith, offsets_least names places (omega arith), field_least name, sum_by-cons text_size name names, ap length (flat_map-cons offset_text (name, place) (zip names places)), length-append (offset_text (name, place)) (flat_map offset_text (zip names places)), length-append (text_field name) (uvarint_text place))

@@ -10,7 +10,6 @@ use Rattle.label_sets.specs.Labels.{compare_texts, IsLabelSet, StandsBefore}
 use Rattle.index_parts.specs.declared.raw_series.RawSeries.{RawSeries}
 use Rattle.index_parts.specs.Framed.{entry_text}
 use Rattle.index_parts.specs.SeriesEntry.{series_text, series_content}
-use Rattle.section_writers.proofs.Writing.{uvarint_text_size}
 use Rattle.index_file.specs.declared.index_series.IndexSeries.{IndexSeries}
 use Rattle.index_writing.specs.declared.label_groups.Entry.{Entry}
 use Rattle.index_writing.specs.SymbolsInUse.{symbols_of, number_of, raw_of}
@@ -29,24 +28,24 @@ use Rattle.index_writing.proofs.Entries.{labels_with}
 -- ---- names
 
 names_behind : (symbols : List (List ℕ)) (name : List ℕ) (labels : List Label) → IsStrictlySortedBy compare_texts symbols → Contains symbols name → StandsBefore name labels → AllByRecursion (λ m. number_of symbols name < m) (map (λ l. number_of symbols l.name) labels)
-names_behind symbols name [] up h before = tt
-names_behind symbols name (l ∷ labels) up h before = (number_less symbols name l.name up h before.0, names_behind symbols name labels up h before.1)
+names_behind _ _ [] up h before = tt
+names_behind symbols name (l ∷ labels) up h before = (number_less _ name l.name up h before.0, names_behind symbols name labels up h before.1)
 
 names_rise : (symbols : List (List ℕ)) (labels : List Label) → IsStrictlySortedBy compare_texts symbols → ((l : Label) → Contains labels l → Contains symbols l.name) → IsLabelSet labels → AllPairs Below (map (λ l. number_of symbols l.name) labels)
-names_rise symbols [] up known lawful = no_pairs Below
+names_rise _ [] up known lawful = no_pairs Below
 names_rise symbols (l ∷ labels) up known lawful =
-    pairs_cons Below (number_of symbols l.name) (map (λ (m : Label). number_of symbols m.name) labels) (names_behind symbols l.name labels up (known l (contains_first l labels)) lawful.2) (names_rise symbols labels up (λ m h. known m (contains_later l m labels h)) lawful.3)
+    pairs_cons Below (number_of symbols l.name) _ (names_behind _ _ _ up (known l (contains_first l _)) lawful.2) (names_rise symbols labels up (λ m h. known m (contains_later l m _ h)) lawful.3)
 
 raw_names : (symbols : List (List ℕ)) (series : IndexSeries) → IsStrictlySortedBy compare_texts symbols → ((l : Label) → Contains series.labels l → Contains symbols l.name) → IsLabelSet series.labels → AllPairs Below (raw_of symbols series).names
 unfolding raw_of
-raw_names symbols series up known lawful = names_rise symbols series.labels up known lawful
+raw_names symbols series up known lawful = names_rise _ _ up known lawful
 
 each_names : (symbols : List (List ℕ)) (list : List IndexSeries) → IsStrictlySortedBy compare_texts symbols → ((s : IndexSeries) (l : Label) → Contains list s → Contains s.labels l → Contains symbols l.name) → AllByRecursion (λ one. IsLabelSet one.labels) list → AllByRecursion (λ one. AllPairs Below one.names) (map (raw_of symbols) list)
-each_names symbols [] up known lawful = tt
-each_names symbols (series ∷ list) up known lawful = (raw_names symbols series up (λ l h. known series l (contains_first series list) h) lawful.0, each_names symbols list up (λ s l h i. known s l (contains_later series s list h) i) lawful.1)
+each_names _ [] up known lawful = tt
+each_names symbols (series ∷ list) up known lawful = (raw_names _ _ up (λ l h. known series l (contains_first _ _) h) lawful.0, each_names symbols list up (λ s l h i. known s l (contains_later _ s _ h) i) lawful.1)
 
 pub all_names : (list : List IndexSeries) → AllByRecursion (λ one. IsLabelSet one.labels) list → AllByRecursion (λ one. AllPairs Below one.names) (map (raw_of (symbols_of list)) list)
-all_names list lawful = each_names (symbols_of list) list (symbols_strict list) (λ s l h i. (label_in list s l h i).0) lawful
+all_names list lawful = each_names (symbols_of list) _ (symbols_strict _) (λ s l h i. (label_in _ s l h i).0) lawful
 
 -- ---- numbers
 
@@ -54,7 +53,7 @@ series_size : (series : RawSeries) → 1 ≤ length (series_text series)
 unfolding entry_text
 series_size series =
     let content = series_content series in
-    omega (arith, uvarint_text_size (length content), length-append (uvarint_text (length content) ++ content) (to_be_bytes w32 (crc content)), length-append (uvarint_text (length content)) content)
+    omega (arith, length-append (uvarint_text (length content) ++ content) (to_be_bytes w32 (crc content)), length-append (uvarint_text (length content)) content)
 
 -- a place behind a text at which something may stand
 abbrev IsBehindAt : ℕ → ℕ → Type 0
@@ -62,32 +61,32 @@ IsBehindAt size place = (size ≤ place) × (16 * (place / 16) ≡ place)
 
 places_behind : (text : List ℕ) (texts : List (List ℕ)) (least : ℕ) → least ≤ length text → AllByRecursion (IsBehindAt least) (places_at 16 text texts)
 unfolding places_at
-places_behind text [] least le = tt
+places_behind _ [] _ le = tt
 places_behind text (next ∷ texts) least le =
     ((omega (arith, padded_longer 16 text), multiple text), places_behind (padded 16 text ++ next) texts least (omega (arith, padded_longer 16 text, length-append (padded 16 text) next)))
 
 above : (n : ℕ) (places : List ℕ) (least : ℕ) → 16 * n < least → AllByRecursion (IsBehindAt least) places → AllByRecursion (λ m. n < m) (map (λ place. place / 16) places)
-above n [] least lt all = tt
-above n (place ∷ places) least lt all = ((let here = all.0 in omega (arith, here.0, here.1)), above n places least lt all.1)
+above n [] _ lt all = tt
+above n (place ∷ places) _ lt all = ((let here = all.0 in omega (arith, here.1)), above n places _ lt all.1)
 
 places_rise : (text : List ℕ) (series : List RawSeries) → AllPairs Below (map (λ place. place / 16) (places_at 16 text (map series_text series)))
 unfolding places_at
-places_rise text [] = no_pairs Below
+places_rise _ [] = no_pairs Below
 places_rise text (one ∷ series) =
     let place = length (padded 16 text) in
     let next = padded 16 text ++ series_text one in
-    pairs_cons Below (place / 16) (map (λ (at : ℕ). at / 16) (places_at 16 next (map series_text series))) (above (place / 16) (places_at 16 next (map series_text series)) (length next) (omega (arith, multiple text, series_size one, length-append (padded 16 text) (series_text one))) (places_behind next (map series_text series) (length next) (omega arith))) (places_rise next series)
+    pairs_cons Below (place / 16) (map (λ at. at / 16) (places_at 16 next (map series_text series))) (above (place / 16) (places_at 16 next (map series_text series)) (length next) (omega (arith, series_size one, length-append (padded 16 text) (series_text one))) (places_behind next (map series_text series) _ (omega arith))) (places_rise next series)
 
 pub numbers_rise : (front : List ℕ) (series : List RawSeries) → AllPairs Below (numbers_behind front series)
-numbers_rise front series = places_rise front series
+numbers_rise front series = places_rise _ _
 
 from_places : (front : List ℕ) (places : List ℕ) → AllByRecursion (IsBehindAt (length front)) places → AllByRecursion (λ m. length front ≤ 16 * m) (map (λ place. place / 16) places)
-from_places front [] all = tt
+from_places _ [] all = tt
 from_places front (place ∷ places) all = ((let here = all.0 in omega (arith, here.0, here.1)), from_places front places all.1)
 
 -- a number's place is not before the end of the text
 pub numbers_after : (front : List ℕ) (series : List RawSeries) (n : ℕ) → Contains (numbers_behind front series) n → length front ≤ 16 * n
-numbers_after front series n h = each_member (λ m. length front ≤ 16 * m) (numbers_behind front series) n (from_places front (places_at 16 front (map series_text series)) (places_behind front (map series_text series) (length front) (omega arith))) h
+numbers_after _ _ n h = each_member _ _ n (from_places _ _ (places_behind _ _ _ (omega arith))) h
 
 -- ---- which entries there are
 
@@ -98,35 +97,35 @@ abbrev entries_with : List (List ℕ) → ℕ → List Label → List Entry
 entries_with symbols n labels = labels_with n (map (λ l. number_of symbols l.name) labels) (map (λ l. number_of symbols l.value) labels)
 
 from_labels : (symbols : List (List ℕ)) (n : ℕ) (labels : List Label) (e : Entry) → Contains (entries_with symbols n labels) e → (l : Label) × Contains labels l × (e.name ≡ number_of symbols l.name) × (e.value ≡ number_of symbols l.value) × (e.series ≡ n)
-from_labels symbols n [] e h = absurd (no_member e h)
-from_labels symbols n (l ∷ labels) e h = elim (member_cases (entry_of symbols n l) e (entries_with symbols n labels) h) [
-  | inl is ↦ (l, contains_first l labels, ap (λ (x : Entry). x.name) (sym is), ap (λ (x : Entry). x.value) (sym is), ap (λ (x : Entry). x.series) (sym is))
-  | inr r ↦ let found = from_labels symbols n labels e r in (found.0, contains_later l found.0 labels found.1, found.2, found.3, found.4)
+from_labels _ n [] e h = absurd (no_member e h)
+from_labels symbols n (l ∷ labels) e h = elim (member_cases _ e _ h) [
+  | inl is ↦ (l, contains_first l _, ap (λ x. x.name) (sym is), ap (λ x. x.value) (sym is), ap (λ (x : Entry). x.series) (sym is))
+  | inr r ↦ let found = from_labels symbols n labels e r in (found.0, contains_later l _ _ found.1, found.2, found.3, found.4)
 ]
 
 to_labels : (symbols : List (List ℕ)) (n : ℕ) (labels : List Label) (l : Label) → Contains labels l → Contains (entries_with symbols n labels) (entry_of symbols n l)
-to_labels symbols n [] l h = absurd (no_member l h)
-to_labels symbols n (x ∷ labels) l h = elim (member_cases x l labels h) [
-  | inl is ↦ subst (λ (y : Label). Contains (entry_of symbols n x ∷ entries_with symbols n labels) (entry_of symbols n y)) is (contains_first (entry_of symbols n x) (entries_with symbols n labels))
-  | inr r ↦ contains_later (entry_of symbols n x) (entry_of symbols n l) (entries_with symbols n labels) (to_labels symbols n labels l r)
+to_labels _ n [] l h = absurd (no_member l h)
+to_labels symbols n (x ∷ labels) l h = elim (member_cases x l _ h) [
+  | inl is ↦ subst (λ y. Contains (entry_of symbols n x ∷ entries_with symbols n labels) (entry_of symbols n y)) is (contains_first _ _)
+  | inr r ↦ contains_later _ (entry_of symbols n l) (entries_with symbols n labels) (to_labels symbols n labels l r)
 ]
 
 pub entry_from : (symbols : List (List ℕ)) (list : List IndexSeries) (numbers : List ℕ) (e : Entry) → Contains (all_entries (map (raw_of symbols) list) numbers) e → (s : IndexSeries) × Contains (zip numbers list) (e.series, s) × (l : Label) × Contains s.labels l × (e.name ≡ number_of symbols l.name) × (e.value ≡ number_of symbols l.value)
 unfolding all_entries entries_of raw_of
-entry_from symbols [] numbers e h = absurd (no_member e h)
-entry_from symbols (s ∷ list) [] e h = absurd (no_member e h)
-entry_from symbols (s ∷ list) (n ∷ numbers) e h = elim (Contains-append_cases (entries_of (raw_of symbols s) n) (all_entries (map (raw_of symbols) list) numbers) e h) [
-  | inl i ↦ let found = from_labels symbols n s.labels e i in (s, subst (λ (m : ℕ). Contains ((n, s) ∷ zip numbers list) (m, s)) (sym found.4) (contains_first (n, s) (zip numbers list)), found.0, found.1, found.2, found.3)
-  | inr i ↦ let found = entry_from symbols list numbers e i in (found.0, contains_later (n, s) (e.series, found.0) (zip numbers list) found.1, found.2, found.3, found.4, found.5)
+entry_from _ [] _ e h = absurd (no_member e h)
+entry_from _ (s ∷ list) [] e h = absurd (no_member e h)
+entry_from symbols (s ∷ list) (n ∷ numbers) e h = elim (Contains-append_cases _ _ e h) [
+  | inl i ↦ let found = from_labels _ n _ e i in (s, subst (λ m. Contains ((n, s) ∷ zip numbers list) (m, s)) (sym found.4) (contains_first _ _), found.0, found.1, found.2, found.3)
+  | inr i ↦ let found = entry_from symbols list _ e i in (found.0, contains_later _ _ _ found.1, found.2, found.3, found.4, found.5)
 ]
 
 pub entry_to : (symbols : List (List ℕ)) (list : List IndexSeries) (numbers : List ℕ) (n : ℕ) (s : IndexSeries) (l : Label) → Contains (zip numbers list) (n, s) → Contains s.labels l → Contains (all_entries (map (raw_of symbols) list) numbers) (entry_of symbols n l)
 unfolding all_entries entries_of raw_of
-entry_to symbols list [] n s l h i = absurd (no_member (n, s) h)
-entry_to symbols [] (m ∷ numbers) n s l h i = absurd (no_member (n, s) h)
-entry_to symbols (t ∷ list) (m ∷ numbers) n s l h i = elim (member_cases (m, t) (n, s) (zip numbers list) h) [
-  | inl is ↦ let here = to_labels symbols n t.labels l (subst (λ (x : ℕ × IndexSeries). Contains x.1.labels l) (sym is) i) in
-      Contains-append_left (entries_of (raw_of symbols t) m) (all_entries (map (raw_of symbols) list) numbers) (entry_of symbols n l)
-      (subst (λ (k : ℕ). Contains (entries_with symbols k t.labels) (entry_of symbols n l)) (ap (λ (x : ℕ × IndexSeries). x.0) (sym is)) here)
-  | inr r ↦ Contains-append_right (entries_of (raw_of symbols t) m) (all_entries (map (raw_of symbols) list) numbers) (entry_of symbols n l) (entry_to symbols list numbers n s l r i)
+entry_to _ _ [] n s l h i = absurd (no_member _ h)
+entry_to _ [] (m ∷ numbers) n s l h i = absurd (no_member _ h)
+entry_to symbols (t ∷ list) (m ∷ numbers) n s l h i = elim (member_cases _ _ _ h) [
+  | inl is ↦ let here = to_labels _ n _ l (subst (λ x. Contains x.1.labels l) (sym is) i) in
+      Contains-append_left _ _ _
+      (subst (λ k. Contains (entries_with symbols k t.labels) (entry_of symbols n l)) (ap (λ x. x.0) (sym is)) here)
+  | inr r ↦ Contains-append_right (entries_of (raw_of symbols t) m) (all_entries (map (raw_of symbols) list) numbers) (entry_of symbols n l) (entry_to symbols list _ n s l r i)
 ]

@@ -17,55 +17,55 @@ use Rattle.index_writing.proofs.SymbolNumbers.{symbols_in_order}
 
 pub each_begins : (unit : ℕ) (text : List ℕ) (texts : List (List ℕ)) → (more : List ℕ) × (each_at unit text texts ≡ text ++ more)
 unfolding each_at padded
-each_begins unit text [] = ([], sym (append-nil text))
+each_begins _ text [] = ([], sym (append-nil text))
 each_begins unit text (next ∷ texts) =
     let zeros = replicate (gap unit (length text)) 0 in
     let others = each_begins unit (padded unit text ++ next) texts in
-    (zeros ++ next ++ others.0, others.1 ∙ ap (λ (l : List ℕ). l ++ others.0) (append_assoc text zeros next) ∙ append_assoc text (zeros ++ next) others.0)
+    (zeros ++ next ++ others.0, others.1 ∙ ap (λ l. l ++ others.0) (append_assoc text zeros next) ∙ append_assoc text (zeros ++ next) others.0)
 
 -- ---- series
 
 behind : (text new more after : List ℕ) → new ≡ text ++ more → new ++ after ≡ text ++ (more ++ after)
-behind text new more after is = ap (λ (l : List ℕ). l ++ after) is ∙ append_assoc text more after
+behind text _ more after is = ap (λ l. l ++ after) is ∙ append_assoc text more after
 
 pub stands_more : (text new more numbers : List ℕ) (series : List RawSeries) → new ≡ text ++ more → EachStands text numbers series → EachStands new numbers series
-stands_more text new more [] [] is stand = tt
-stands_more text new more [] (one ∷ series) is stand = stand
-stands_more text new more (number ∷ numbers) [] is stand = stand
+stands_more _ _ _ [] [] is stand = tt
+stands_more _ _ _ [] (one ∷ series) is stand = stand
+stands_more _ _ _ (number ∷ numbers) [] is stand = stand
 stands_more text new more (number ∷ numbers) (one ∷ series) is stand =
-    (λ after. subst (λ (l : List ℕ). IsSeries l (16 * number) one) (sym (behind text new more after is)) (stand.0 (more ++ after)), stands_more text new more numbers series is stand.1)
+    (λ after. subst (λ l. IsSeries l (16 * number) one) (sym (behind _ _ _ _ is)) (stand.0 (more ++ after)), stands_more text new more numbers _ is stand.1)
 
 stands_push : (text numbers : List ℕ) (number : ℕ) (series : List RawSeries) (one : RawSeries) → EachStands text numbers series → ((after : List ℕ) → IsSeries (text ++ after) (16 * number) one) → EachStands text (numbers ++ number ∷ []) (series ++ one ∷ [])
-stands_push text [] number [] one stand here = (here, tt)
-stands_push text [] number (y ∷ series) one stand here = absurd stand
-stands_push text (n ∷ numbers) number [] one stand here = absurd stand
-stands_push text (n ∷ numbers) number (y ∷ series) one stand here = (stand.0, stands_push text numbers number series one stand.1 here)
+stands_push _ [] _ [] _ stand here = (here, tt)
+stands_push _ [] _ (y ∷ series) _ stand here = absurd stand
+stands_push _ (n ∷ numbers) _ [] _ stand here = absurd stand
+stands_push text (n ∷ numbers) number (y ∷ series) one stand here = (stand.0, stands_push text numbers _ _ _ stand.1 here)
 
 rounded : (n t : ℕ) → t ≡ n + gap 16 n → 16 * (t / 16) ≡ t
 rounded n t e = omega arith
 
 pub multiple : (text : List ℕ) → 16 * (length (padded 16 text) / 16) ≡ length (padded 16 text)
 unfolding padded
-multiple text = rounded (length text) (length (padded 16 text)) (length-append text (replicate (gap 16 (length text)) 0) ∙ ap (λ n. length text + n) (length-replicate (gap 16 (length text)) 0))
+multiple text = rounded _ _ (length-append _ _ ∙ ap (λ n. length text + n) (length-replicate _ 0))
 
 pub stands_next : (series : List RawSeries) (i : ℕ) (out new numbers more : List ℕ) (one : RawSeries) (number : ℕ) → EachStands out numbers (take i series) → i < length series → one ≡ get_or series i one → new ≡ padded 16 out ++ series_text one → number ≡ length (padded 16 out) / 16 → more ≡ numbers ++ number ∷ []
     → ((after : List ℕ) → IsSeries (new ++ after) (length (padded 16 out)) one) → EachStands new more (take (i + 1) series)
 unfolding padded
-stands_next series i out new numbers more one number stand lt at is number_is more_is here =
+stands_next series i out new _ more one _ stand lt at is number_is more_is here =
     let zeros = replicate (gap 16 (length out)) 0 in
-    let still : EachStands new numbers (take i series) = stands_more out new (zeros ++ series_text one) numbers (take i series) (is ∙ append_assoc out zeros (series_text one)) stand in
-    let place : length (padded 16 out) ≡ 16 * number = sym (multiple out) ∙ ap (λ n. 16 * n) (sym number_is) in
-    let last : EachStands new (numbers ++ number ∷ []) (take i series ++ one ∷ []) = stands_push new numbers number (take i series) one still (λ after. subst (λ (n : ℕ). IsSeries (new ++ after) n one) place (here after)) in
-    let taken : take (i + 1) series ≡ take i series ++ one ∷ [] = take_more series i one lt ∙ ap (λ (s : RawSeries). take i series ++ s ∷ []) (sym at) in
-    subst (λ (l : List RawSeries). EachStands new more l) (sym taken) (subst (λ (l : List ℕ). EachStands new l (take i series ++ one ∷ [])) (sym more_is) last)
+    let still = stands_more _ _ _ _ _ (is ∙ append_assoc out zeros (series_text one)) stand in
+    let place = sym (multiple out) ∙ ap (λ n. 16 * n) (sym number_is) in
+    let last = stands_push _ _ _ _ _ still (λ after. subst (λ n. IsSeries (new ++ after) n one) place (here after)) in
+    let taken = take_more _ i _ lt ∙ ap (λ s. take i series ++ s ∷ []) (sym at) in
+    subst (λ l. EachStands new more l) (sym taken) (subst (λ l. EachStands new l (take i series ++ one ∷ [])) (sym more_is) last)
 
 pub stands_end : (series : List RawSeries) (i : ℕ) (out numbers : List ℕ) → EachStands out numbers (take i series) → length series ≤ i → EachStands out numbers series
-stands_end series i out numbers stand past = subst (λ (l : List RawSeries). EachStands out numbers l) (take_all i series past) stand
+stands_end series i out numbers stand past = subst (λ l. EachStands out numbers l) (take_all i series past) stand
 
 -- ---- symbols
 
 pub symbols_still : (list : List IndexSeries) (symbols : List (List ℕ)) (out new : List ℕ) (series : List RawSeries) → symbols ≡ symbols_of list → new ≡ up_to_series out series → (InOrder MayFollow symbols → (after : List ℕ) → IsSymbols (out ++ after) 5 symbols) → (after : List ℕ) → IsSymbols (new ++ after) 5 (symbols_of list)
 symbols_still list symbols out new series is new_is stands after =
     let more = each_begins 16 out (map series_text series) in
-    let order : InOrder MayFollow symbols = subst (λ (l : List (List ℕ)). InOrder MayFollow l) (sym is) (symbols_in_order (symbols_of list) (symbols_strict list)) in
-    subst (λ (l : List (List ℕ)). IsSymbols (new ++ after) 5 l) is (subst (λ (l : List ℕ). IsSymbols l 5 symbols) (sym (behind out new more.0 after (new_is ∙ more.1))) (stands order (more.0 ++ after)))
+    let order : InOrder MayFollow symbols = subst (λ (l : List (List ℕ)). InOrder MayFollow l) (sym is) (symbols_in_order _ (symbols_strict _)) in
+    subst (λ l. IsSymbols (new ++ after) 5 l) is (subst (λ l. IsSymbols l 5 symbols) (sym (behind _ _ _ _ (new_is ∙ more.1))) (stands order (more.0 ++ after)))

@@ -10,7 +10,6 @@ use Rattle.std.proofs.lemmas.Cmp.{tied_itself}
 use Rattle.std.proofs.lemmas.List.Kept.{Contains-dedup}
 use Rattle.label_sets.specs.declared.label.Label.{Label}
 use Rattle.label_sets.specs.Labels.{compare_texts}
-use Rattle.label_sets.specs.Ordered.{in_order}
 use Rattle.index_parts.specs.Turns.{InOrderAfter, InOrder}
 use Rattle.index_parts.specs.Symbols.{MayFollow}
 use Rattle.index_file.specs.declared.index_series.IndexSeries.{IndexSeries}
@@ -22,22 +21,22 @@ use Rattle.list_core.proofs.Bools.{bytes_eq-same}
 
 pub symbol_in : (list : List IndexSeries) (text : List ℕ) → Contains (texts_of list) text → Contains (symbols_of list) text
 unfolding symbols_of
-symbol_in list text h = Contains-dedup nat_list_eq_equiv bytes_eq-same (in_order is_lesser_text (texts_of list)) text (into_in_order is_lesser_text text (texts_of list) h)
+symbol_in _ _ h = Contains-dedup nat_list_eq_equiv bytes_eq-same _ _ (into_in_order is_lesser_text _ _ h)
 
 in_labels : (labels : List Label) (label : Label) → Contains labels label → Contains (texts_of_labels labels) label.name × Contains (texts_of_labels labels) label.value
-in_labels labels label h = (
-  into_flat_map (λ (l : Label). l.name ∷ l.value ∷ []) labels label label.name h (contains_first label.name (label.value ∷ [])),
-  into_flat_map (λ (l : Label). l.name ∷ l.value ∷ []) labels label label.value h (contains_later label.name label.value (label.value ∷ []) (contains_first label.value [])),
+in_labels _ label h = (
+  into_flat_map (λ l. l.name ∷ l.value ∷ []) _ _ _ h (contains_first _ (label.value ∷ [])),
+  into_flat_map (λ l. l.name ∷ l.value ∷ []) _ _ _ h (contains_later label.name _ (label.value ∷ []) (contains_first _ [])),
 )
 
 in_texts : (list : List IndexSeries) (series : IndexSeries) (text : List ℕ) → Contains list series → Contains (texts_of_labels series.labels) text → Contains (texts_of list) text
 unfolding texts_of
-in_texts list series text h i = into_flat_map (λ (s : IndexSeries). texts_of_labels s.labels) list series text h i
+in_texts _ _ _ h i = into_flat_map _ _ _ _ h i
 
 pub label_in : (list : List IndexSeries) (series : IndexSeries) (label : Label) → Contains list series → Contains series.labels label → Contains (symbols_of list) label.name × Contains (symbols_of list) label.value
 label_in list series label h i =
-    let both = in_labels series.labels label i in
-    (symbol_in list label.name (in_texts list series label.name h both.0), symbol_in list label.value (in_texts list series label.value h both.1))
+    let both = in_labels series.labels _ i in
+    (symbol_in _ _ (in_texts _ _ _ h both.0), symbol_in _ _ (in_texts _ _ _ h both.1))
 
 -- ---- numbers
 
@@ -45,7 +44,7 @@ less_is : (x y : List ℕ) → compare_texts x y ≡ Less → is_lesser_text x y
 less_is x y e = ap is_lt e
 
 equal_is : (x y : List ℕ) → x ≡ y → is_lesser_text x y ≡ false
-equal_is x y e = ap (λ (z : List ℕ). is_lesser_text x z) (sym e) ∙ ap is_lt (tied_itself nat_list_cmp_total x)
+equal_is x y e = ap (λ z. is_lesser_text x z) (sym e) ∙ ap is_lt (tied_itself nat_list_cmp_total x)
 
 hit : (symbols : List (List ℕ)) (x text : List ℕ) → is_lesser_text x text ≡ true → number_of (x ∷ symbols) text ≡ 1 + number_of symbols text
 unfolding number_of
@@ -61,36 +60,36 @@ next_at x xs n = let e : 1 + n ≡ suc n = omega arith in ap (slice_get (x ∷ x
 -- the symbol of a number in use
 pub number_at : (symbols : List (List ℕ)) (text : List ℕ) → IsStrictlySortedBy compare_texts symbols → Contains symbols text → slice_get symbols (number_of symbols text) ≡ Some text
 unfolding IsStrictlySortedBy
-number_at [] text up h = absurd (no_member text h)
-number_at (x ∷ symbols) text up h = elim (member_cases x text symbols h) [
-  | inl e ↦ ap (slice_get (x ∷ symbols)) (miss symbols x text (equal_is x text e)) ∙ ap Some e
-  | inr r ↦ ap (slice_get (x ∷ symbols)) (hit symbols x text (less_is x text (each_member (λ y. compare_texts x y ≡ Less) symbols text up.0 r))) ∙ next_at x symbols (number_of symbols text) ∙ number_at symbols text up.1 r
+number_at [] _ up h = absurd (no_member _ h)
+number_at (x ∷ symbols) text up h = elim (member_cases x _ _ h) [
+  | inl e ↦ ap (slice_get (x ∷ symbols)) (miss _ x _ (equal_is x _ e)) ∙ ap Some e
+  | inr r ↦ ap (slice_get (x ∷ symbols)) (hit _ x _ (less_is x _ (each_member _ _ _ up.0 r))) ∙ next_at x symbols (number_of symbols text) ∙ number_at symbols _ up.1 r
 ]
 
 pub symbol_at : (symbols : List (List ℕ)) (text : List ℕ) → IsStrictlySortedBy compare_texts symbols → Contains symbols text → symbol_of symbols (number_of symbols text) ≡ text
 unfolding symbol_of
-symbol_at symbols text up h = let found = number_at symbols text up h in cc
+symbol_at _ _ up h = let found = number_at _ _ up h in cc
 
 -- numbers ascend as texts do
 pub number_less : (symbols : List (List ℕ)) (text other : List ℕ) → IsStrictlySortedBy compare_texts symbols → Contains symbols text → compare_texts text other ≡ Less → number_of symbols text < number_of symbols other
 unfolding IsStrictlySortedBy
-number_less [] text other up h less = absurd (no_member text h)
-number_less (x ∷ symbols) text other up h less = elim (member_cases x text symbols h) [
-  | inl e ↦ omega (arith, miss symbols x text (equal_is x text e), hit symbols x other (less_is x other (subst (λ (t : List ℕ). compare_texts t other ≡ Less) (sym e) less)))
-  | inr r ↦ let first : compare_texts x text ≡ Less = each_member (λ y. compare_texts x y ≡ Less) symbols text up.0 r in
-      omega (arith, hit symbols x text (less_is x text first), hit symbols x other (less_is x other (nat_list_cmp_total.trans x text other first less)), number_less symbols text other up.1 r less)
+number_less [] _ _ up h less = absurd (no_member _ h)
+number_less (x ∷ symbols) text other up h less = elim (member_cases x _ _ h) [
+  | inl e ↦ omega (arith, miss symbols x text (equal_is x _ e), hit symbols x other (less_is x _ (subst (λ (t : List ℕ). compare_texts t other ≡ Less) (sym e) less)))
+  | inr r ↦ let first : compare_texts x text ≡ Less = each_member _ _ _ up.0 r in
+      omega (arith, hit symbols x text (less_is x _ first), hit symbols x other (less_is x _ (nat_list_cmp_total.trans x text other first less)), number_less symbols text other up.1 r less)
 ]
 
 -- ---- symbols in order
 
 in_order_after : (before : Option (List ℕ)) (symbols : List (List ℕ)) → IsStrictlySortedBy compare_texts symbols → AllByRecursion (MayFollow before) symbols → InOrderAfter MayFollow before symbols
 unfolding IsStrictlySortedBy
-in_order_after before [] up all = tt
-in_order_after before (x ∷ symbols) up all = (all.0, in_order_after (Some x) symbols up.1 up.0)
+in_order_after _ [] up all = tt
+in_order_after _ (x ∷ symbols) up all = (all.0, in_order_after (Some x) symbols up.1 up.0)
 
 all_first : (symbols : List (List ℕ)) → AllByRecursion (MayFollow None) symbols
 all_first [] = tt
 all_first (x ∷ symbols) = (tt, all_first symbols)
 
 pub symbols_in_order : (symbols : List (List ℕ)) → IsStrictlySortedBy compare_texts symbols → InOrder MayFollow symbols
-symbols_in_order symbols up = in_order_after None symbols up (all_first symbols)
+symbols_in_order _ up = in_order_after _ _ up (all_first _)

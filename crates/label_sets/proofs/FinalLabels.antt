@@ -13,10 +13,10 @@ use Rattle.label_sets.proofs.OrderedLabels.{value_of-in_order, value_of-append, 
 -- what is left out is not found, and what is kept is found as before
 kept_value : (gone here left : Bool) (value others kept : Option (List ℕ)) → (here ≡ true → gone ≡ left) → kept ≡ cond left None others
     → cond (not gone) (cond here value kept) kept ≡ cond left None (cond here value others)
-kept_value true true left value others kept h e = e ∙ ap (λ b. cond b None others) (sym (h refl)) ∙ ap (λ b. cond b None value) (h refl)
-kept_value true false left value others kept h e = e
-kept_value false true left value others kept h e = ap (λ b. cond b None value) (h refl)
-kept_value false false left value others kept h e = e
+kept_value true true _ value others _ h e = e ∙ ap (λ b. cond b None others) (sym (h refl)) ∙ ap (λ b. cond b None value) (h refl)
+kept_value true false _ _ _ _ h e = e
+kept_value false true _ value _ _ h e = ap (λ b. cond b None value) (h refl)
+kept_value false false _ _ _ _ h e = e
 
 either_none : (b : Bool) → cond {A = Option (List ℕ)} b None None ≡ None
 either_none true = refl
@@ -27,23 +27,23 @@ same_among names one other t = ap (λ n. is_among names n) ((bytes_decides one o
 
 value_of-cond : (b : Bool) (l : Label) (ls : List Label) (name : List ℕ) → value_of (cond b (l ∷ ls) ls) name ≡ cond b (cond (bytes_eq l.name name) (Some l.value) (value_of ls name)) (value_of ls name)
 unfolding value_of
-value_of-cond true l ls name = refl
-value_of-cond false l ls name = refl
+value_of-cond true l _ _ = refl
+value_of-cond false l _ _ = refl
 
 pub value_of-without : (names : List (List ℕ)) (ls : List Label) (name : List ℕ) → value_of (without names ls) name ≡ cond (is_among names name) None (value_of ls name)
 unfolding without value_of
-value_of-without names [] name = sym (either_none (is_among names name))
+value_of-without _ [] _ = sym (either_none _)
 value_of-without names (l ∷ ls) name =
     value_of-cond (not (is_among names l.name)) l (without names ls) name
-    ∙ kept_value (is_among names l.name) (bytes_eq l.name name) (is_among names name) (Some l.value) (value_of ls name) (value_of (without names ls) name)
-    (same_among names l.name name) (value_of-without names ls name)
+    ∙ kept_value _ _ _ _ _ _
+    (same_among names l.name name) (value_of-without names ls _)
 
 none_kept : (names : List (List ℕ)) (ls : List Label) (name : List ℕ) → value_of ls name ≡ None → value_of (without names ls) name ≡ None
-none_kept names ls name e = value_of-without names ls name ∙ ap (λ v. cond (is_among names name) None v) e ∙ either_none (is_among names name)
+none_kept names ls name e = value_of-without _ _ _ ∙ ap (λ v. cond (is_among names name) None v) e ∙ either_none _
 
 pub MakeASet-without : (names : List (List ℕ)) (ls : List Label) → MakeASet ls → MakeASet (without names ls)
 unfolding without
-MakeASet-without names [] h = tt
+MakeASet-without _ [] h = tt
 MakeASet-without names (l ∷ ls) h = elim (is_among names l.name) as (λ b. MakeASet (cond (not b) (l ∷ without names ls) (without names ls))) [
   | true ↦ MakeASet-without names ls h.3
   | false ↦ (h.0, h.1, none_kept names ls l.name h.2, MakeASet-without names ls h.3)
@@ -51,7 +51,7 @@ MakeASet-without names (l ∷ ls) h = elim (is_among names l.name) as (λ b. Mak
 
 StandsBefore-without : (names : List (List ℕ)) (name : List ℕ) (ls : List Label) → StandsBefore name ls → StandsBefore name (without names ls)
 unfolding without
-StandsBefore-without names name [] h = tt
+StandsBefore-without _ _ [] h = tt
 StandsBefore-without names name (l ∷ ls) h = elim (is_among names l.name) as (λ b. StandsBefore name (cond (not b) (l ∷ without names ls) (without names ls))) [
   | true ↦ StandsBefore-without names name ls h.1
   | false ↦ (h.0, StandsBefore-without names name ls h.1)
@@ -59,7 +59,7 @@ StandsBefore-without names name (l ∷ ls) h = elim (is_among names l.name) as (
 
 pub IsLabelSet-without : (names : List (List ℕ)) (ls : List Label) → IsLabelSet ls → IsLabelSet (without names ls)
 unfolding without
-IsLabelSet-without names [] h = tt
+IsLabelSet-without _ [] h = tt
 IsLabelSet-without names (l ∷ ls) h = elim (is_among names l.name) as (λ b. IsLabelSet (cond (not b) (l ∷ without names ls) (without names ls))) [
   | true ↦ IsLabelSet-without names ls h.3
   | false ↦ (h.0, h.1, StandsBefore-without names l.name ls h.2, IsLabelSet-without names ls h.3)
@@ -67,124 +67,124 @@ IsLabelSet-without names (l ∷ ls) h = elim (is_among names l.name) as (λ b. I
 
 pub among_names : (ls : List Label) (name : List ℕ) → is_among (names_of ls) name ≡ is_some (value_of ls name)
 unfolding is_among value_of
-among_names [] name = refl
+among_names [] _ = refl
 among_names (l ∷ ls) name = elim (bytes_eq l.name name) as (λ b. (b || is_among (names_of ls) name) ≡ is_some (cond b (Some l.value) (value_of ls name))) [
   | true ↦ refl
-  | false ↦ among_names ls name
+  | false ↦ among_names ls _
 ]
 
 own_values : (labels external : List Label) (name : List ℕ) → value_of (without (names_of external) labels) name ≡ cond (is_some (value_of external name)) None (value_of labels name)
-own_values labels external name = value_of-without (names_of external) labels name ∙ ap (λ b. cond b None (value_of labels name)) (among_names external name)
+own_values labels _ name = value_of-without _ _ _ ∙ ap (λ b. cond b None (value_of labels name)) (among_names _ _)
 
 one_is_none : (outer own : Option (List ℕ)) (v : Option (List ℕ)) → own ≡ cond (is_some outer) None v → (outer ≡ None) ⊎ (own ≡ None)
-one_is_none None own v e = inl refl
-one_is_none (Some x) own v e = inr e
+one_is_none None _ v e = inl refl
+one_is_none (Some x) _ v e = inr e
 
 or_else : (outer own v : Option (List ℕ)) → own ≡ cond (is_some outer) None v → option_or outer own ≡ option_or outer v
-or_else None own v e = e
-or_else (Some x) own v e = refl
+or_else None _ v e = e
+or_else (Some x) _ v e = refl
 
 pub IsLabelSet-reduced : (labels external : List Label) (replicas : List (List ℕ)) → IsLabelSet labels → IsLabelSet (reduced_of labels external replicas)
 unfolding reduced_of
-IsLabelSet-reduced labels external replicas h = IsLabelSet-without replicas (without (names_of external) labels) (IsLabelSet-without (names_of external) labels h)
+IsLabelSet-reduced _ _ _ h = IsLabelSet-without _ _ (IsLabelSet-without _ _ h)
 
 final_make : (labels external : List Label) (replicas : List (List ℕ)) → IsLabelSet labels → IsLabelSet external → MakeASet (without replicas (external ++ without (names_of external) labels))
 final_make labels external replicas p q =
-    MakeASet-without replicas (external ++ without (names_of external) labels)
-    (MakeASet-append external (without (names_of external) labels) (MakeASet-from_set external q)
-    (MakeASet-without (names_of external) labels (MakeASet-from_set labels p))
-    (λ name. one_is_none (value_of external name) (value_of (without (names_of external) labels) name) (value_of labels name) (own_values labels external name)))
+    MakeASet-without replicas _
+    (MakeASet-append _ _ (MakeASet-from_set _ q)
+    (MakeASet-without _ _ (MakeASet-from_set _ p))
+    (λ name. one_is_none (value_of external name) (value_of (without (names_of external) labels) name) (value_of labels name) (own_values _ _ _)))
 
 pub IsLabelSet-final : (labels external : List Label) (replicas : List (List ℕ)) → IsLabelSet labels → IsLabelSet external → IsLabelSet (final_of labels external replicas)
 unfolding final_of
 IsLabelSet-final labels external replicas p q =
-    IsLabelSet-in_order (without replicas (external ++ without (names_of external) labels)) (final_make labels external replicas p q)
+    IsLabelSet-in_order (without replicas (external ++ without (names_of external) labels)) (final_make _ _ _ p q)
 
 -- the value of a final label: none under a replica label, else the external one, else the series' own
 pub value_of-final : (labels external : List Label) (replicas : List (List ℕ)) (name : List ℕ)
     → value_of (final_of labels external replicas) name ≡ cond (is_among replicas name) None (option_or (value_of external name) (value_of labels name))
 unfolding final_of
 value_of-final labels external replicas name =
-    value_of-in_order (without replicas (external ++ without (names_of external) labels)) name
-    ∙ value_of-without replicas (external ++ without (names_of external) labels) name
+    value_of-in_order (without replicas (external ++ without (names_of external) labels)) _
+    ∙ value_of-without _ _ _
     ∙ ap (λ v. cond (is_among replicas name) None v)
-    (value_of-append external (without (names_of external) labels) name
-    ∙ or_else (value_of external name) (value_of (without (names_of external) labels) name) (value_of labels name) (own_values labels external name))
+    (value_of-append _ _ _
+    ∙ or_else _ _ _ (own_values _ _ _))
 
 pub value_of-reduced : (labels external : List Label) (replicas : List (List ℕ)) (name : List ℕ)
     → value_of (reduced_of labels external replicas) name ≡ cond (is_among replicas name) None (cond (is_some (value_of external name)) None (value_of labels name))
 unfolding reduced_of
-value_of-reduced labels external replicas name =
-    value_of-without replicas (without (names_of external) labels) name
-    ∙ ap (λ v. cond (is_among replicas name) None v) (own_values labels external name)
+value_of-reduced _ _ replicas name =
+    value_of-without _ _ _
+    ∙ ap (λ v. cond (is_among replicas name) None v) (own_values _ _ _)
 
 joined : (gone : Bool) (outer own : Option (List ℕ)) → cond gone None (option_or (cond gone None outer) (cond gone None (cond (is_some outer) None own))) ≡ cond gone None (option_or outer own)
-joined true outer own = refl
-joined false None own = refl
-joined false (Some x) own = refl
+joined true _ _ = refl
+joined false None _ = refl
+joined false (Some x) _ = refl
 
 -- Final labels can be taken from the reduced ones.
 pub final_from_reduced : (labels external : List Label) (replicas : List (List ℕ)) → IsLabelSet labels → IsLabelSet external
     → final_of (reduced_of labels external replicas) (without replicas external) replicas ≡ final_of labels external replicas
 final_from_reduced labels external replicas p q =
     same_sets (final_of (reduced_of labels external replicas) (without replicas external) replicas) (final_of labels external replicas)
-    (IsLabelSet-final (reduced_of labels external replicas) (without replicas external) replicas (IsLabelSet-reduced labels external replicas p) (IsLabelSet-without replicas external q))
-    (IsLabelSet-final labels external replicas p q)
+    (IsLabelSet-final (reduced_of labels external replicas) (without replicas external) _ (IsLabelSet-reduced _ _ _ p) (IsLabelSet-without _ _ q))
+    (IsLabelSet-final _ _ _ p q)
     (λ name. value_of-final (reduced_of labels external replicas) (without replicas external) replicas name
-    ∙ ap (λ v. cond (is_among replicas name) None (option_or v (value_of (reduced_of labels external replicas) name))) (value_of-without replicas external name)
-    ∙ ap (λ v. cond (is_among replicas name) None (option_or (cond (is_among replicas name) None (value_of external name)) v)) (value_of-reduced labels external replicas name)
+    ∙ ap (λ v. cond (is_among replicas name) None (option_or v (value_of (reduced_of labels external replicas) name))) (value_of-without _ _ _)
+    ∙ ap (λ v. cond (is_among replicas name) None (option_or (cond (is_among replicas name) None (value_of external name)) v)) (value_of-reduced _ _ _ _)
     ∙ joined (is_among replicas name) (value_of external name) (value_of labels name)
-    ∙ sym (value_of-final labels external replicas name))
+    ∙ sym (value_of-final _ _ _ _))
 
 without-append : (names : List (List ℕ)) (xs ys : List Label) → without names (xs ++ ys) ≡ without names xs ++ without names ys
 unfolding without
-without-append names [] ys = refl
+without-append _ [] _ = refl
 without-append names (x ∷ xs) ys = elim (is_among names x.name) as (λ b. cond (not b) (x ∷ without names (xs ++ ys)) (without names (xs ++ ys)) ≡ cond (not b) (x ∷ without names xs) (without names xs) ++ without names ys) [
-  | true ↦ without-append names xs ys
-  | false ↦ ap (λ ws. x ∷ ws) (without-append names xs ys)
+  | true ↦ without-append names xs _
+  | false ↦ ap (λ ws. x ∷ ws) (without-append names xs _)
 ]
 
 without_nothing : (xs : List Label) → without [] xs ≡ xs
 unfolding without is_among
 without_nothing [] = refl
-without_nothing (x ∷ xs) = ap (λ ws. x ∷ ws) (without_nothing xs)
+without_nothing (x ∷ xs) = ap (λ ws. x ∷ ws) (without_nothing _)
 
 pub reduced-nil : (external : List Label) (replicas : List (List ℕ)) → reduced_of [] external replicas ≡ []
 unfolding reduced_of without
-reduced-nil external replicas = refl
+reduced-nil _ _ = refl
 
 pub reduced-append : (xs ys external : List Label) (replicas : List (List ℕ)) → reduced_of (xs ++ ys) external replicas ≡ reduced_of xs external replicas ++ reduced_of ys external replicas
 unfolding reduced_of
-reduced-append xs ys external replicas = ap (without replicas) (without-append (names_of external) xs ys) ∙ without-append replicas (without (names_of external) xs) (without (names_of external) ys)
+reduced-append _ _ _ replicas = ap (without replicas) (without-append _ _ _) ∙ without-append _ _ _
 
 without_one : (names : List (List ℕ)) (l : Label) → without names (l ∷ []) ≡ cond (not (is_among names l.name)) (l ∷ []) []
 unfolding without
-without_one names l = refl
+without_one _ l = refl
 
 pub reduced_external : (l : Label) (external : List Label) (replicas : List (List ℕ)) (v : List ℕ) → value_of external l.name ≡ Some v → reduced_of (l ∷ []) external replicas ≡ []
 unfolding reduced_of without
-reduced_external l external replicas v e = ap (λ b. without replicas (cond (not b) (l ∷ []) [])) (among_names external l.name ∙ ap is_some e)
+reduced_external l _ replicas v e = ap (λ b. without replicas (cond (not b) (l ∷ []) [])) (among_names _ _ ∙ ap is_some e)
 
 pub reduced_own : (l : Label) (external : List Label) (replicas : List (List ℕ)) (b : Bool) → value_of external l.name ≡ None → b ≡ is_among replicas l.name → reduced_of (l ∷ []) external replicas ≡ cond (not b) (l ∷ []) []
 unfolding reduced_of without
-reduced_own l external replicas b e h = ap (λ b. without replicas (cond (not b) (l ∷ []) [])) (among_names external l.name ∙ ap is_some e) ∙ without_one replicas l ∙ ap (λ b. cond (not b) (l ∷ []) []) (sym h)
+reduced_own l _ replicas b e h = ap (λ b. without replicas (cond (not b) (l ∷ []) [])) (among_names _ _ ∙ ap is_some e) ∙ without_one _ l ∙ ap (λ b. cond (not b) (l ∷ []) []) (sym h)
 
 -- the external labels that are kept, then the series' own, put in order
 pub final_parts : (labels external : List Label) (replicas : List (List ℕ)) (first both : List Label) → first ≡ [] ++ reduced_of external [] replicas → both ≡ first ++ reduced_of labels external replicas
     → in_order has_lesser_name both ≡ final_of labels external replicas
 unfolding final_of reduced_of
-final_parts labels external replicas first both p q =
+final_parts labels external replicas _ _ p q =
     ap (in_order has_lesser_name)
-    (q ∙ ap (λ ws. ws ++ without replicas (without (names_of external) labels)) (p ∙ ap (without replicas) (without_nothing external))
-    ∙ sym (without-append replicas external (without (names_of external) labels)))
+    (q ∙ ap (λ ws. ws ++ without replicas (without (names_of external) labels)) (p ∙ ap (without replicas) (without_nothing _))
+    ∙ sym (without-append _ _ _))
 
 -- one label more
 pub reduced_more : (external : List Label) (replicas : List (List ℕ)) (begun kept now part done more : List Label) (l : Label)
     → kept ≡ begun ++ reduced_of done external replicas → more ≡ done ++ l ∷ [] → reduced_of (l ∷ []) external replicas ≡ part → now ≡ kept ++ part
     → now ≡ begun ++ reduced_of more external replicas
-reduced_more external replicas begun kept now part done more l k m one n =
+reduced_more external replicas begun _ _ part done _ l k m one n =
     n ∙ ap (λ ws. ws ++ part) k ∙ append_assoc begun (reduced_of done external replicas) part
-    ∙ ap (λ ws. begun ++ ws) (ap (λ ws. reduced_of done external replicas ++ ws) (sym one) ∙ sym (reduced-append done (l ∷ []) external replicas) ∙ ap (λ ws. reduced_of ws external replicas) (sym m))
+    ∙ ap (λ ws. begun ++ ws) (ap (λ ws. reduced_of done external replicas ++ ws) (sym one) ∙ sym (reduced-append _ _ _ _) ∙ ap (λ ws. reduced_of ws external replicas) (sym m))
 
 -- what the two passes of `final_labels` and its sort leave
 pub final_sorted : {made first both sorted outer own again labels external : List Label} {names others replicas : List (List ℕ)}
@@ -192,7 +192,7 @@ pub final_sorted : {made first both sorted outer own again labels external : Lis
     → first ≡ made ++ reduced_of outer [] names → both ≡ first ++ reduced_of own again others → sorted ≡ in_order has_lesser_name both
     → sorted ≡ final_of labels external replicas
 final_sorted {first = first} {both = both} {labels = labels} {external = external} {replicas = replicas} m a b c d e f g s =
-    s ∙ final_parts labels external replicas first both
+    s ∙ final_parts _ _ _ _ _
     (f ∙ (λ i. m i ++ reduced_of (a i) [] (d i))) (g ∙ (λ i. first ++ reduced_of (b i) (c i) (e i)))
 
 -- what the one pass of `reduced` leaves

@@ -21,7 +21,7 @@ sign_of_digit d low = (grind (arith, nat_tests), grind (arith, nat_tests))
 
 digit_of_sign : (byte : ℕ) → is_hex_sign byte ≡ true → (hex_sign (digit_value byte) ≡ byte) × (digit_value byte < 16) × (byte ≢ 43)
 unfolding hex_sign is_hex_sign
-digit_of_sign byte is = (grind (arith, nat_tests), grind (arith, nat_tests), grind (arith, nat_tests))
+digit_of_sign _ is = (grind (arith, nat_tests), grind (arith, nat_tests), grind (arith, nat_tests))
 
 -- texts of signs are digits
 digits_of_signs : (text : List ℕ) → list_all is_hex_sign text ≡ true → AllDigits 16 text × (map hex_sign (map digit_value text) ≡ text)
@@ -29,7 +29,7 @@ digits_of_signs [] all = (tt, refl)
 digits_of_signs (c ∷ text) all =
     let p = and_parts (is_hex_sign c) (list_all is_hex_sign text) all in
     let first = digit_of_sign c p.0 in
-    let others = digits_of_signs text p.1 in
+    let others = digits_of_signs _ p.1 in
     ((first.1, others.0), λ i. first.0 i ∷ others.1 i)
 
 -- and digits are written by signs
@@ -37,7 +37,7 @@ signs_of_digits : (digits : List ℕ) → AllBelowBase 16 digits → (list_all i
 signs_of_digits [] all = (refl, refl)
 signs_of_digits (d ∷ digits) all =
     let first = sign_of_digit d all.0 in
-    let others = signs_of_digits digits all.1 in
+    let others = signs_of_digits _ all.1 in
     (λ i. first.1 i && others.0 i, λ i. first.0 i ∷ others.1 i)
 
 test_passed : (b : Bool) (x : ℕ) (y : ℕ) → cond b (Some x) None ≡ Some y → (b ≡ true) × (x ≡ y)
@@ -45,24 +45,24 @@ test_passed true x y e = (refl, cc)
 test_passed false x y e = absurd cc
 
 sixteen : (digits : List ℕ) → eqb (length digits) 16 ≡ true → length digits ≡ 16
-sixteen digits e = grind (arith, nat_tests)
+sixteen _ e = grind (arith, nat_tests)
 
 small : (digits : List ℕ) → AllDigits 16 digits → length digits ≡ 16 → digits_value 16 digits < 2 ^ 64
 small digits all long =
-    let low : digits_value 16 digits < 16 ^ 16 = subst (λ n. digits_value 16 digits < 16 ^ n) long (digits_value-lt 16 digits all) in
+    let low = subst (λ n. digits_value 16 digits < 16 ^ n) long (digits_value-lt _ _ all) in
     omega arith
 
 -- what is read as a pattern is the text of the pattern
 pub pattern_found : (digits : List ℕ) (pattern : ℕ) → pattern_of digits ≡ Some pattern → (digits ≡ pattern_text pattern) × (pattern < 2 ^ 64)
 unfolding pattern_of pattern_text hex_text hex_number
 pattern_found digits pattern e =
-    let t = test_passed (eqb (length digits) 16 && list_all is_hex_sign digits) (digits_value 16 digits) pattern e in
+    let t = test_passed _ _ _ e in
     let b = and_parts (eqb (length digits) 16) (list_all is_hex_sign digits) t.0 in
-    let long = sixteen digits b.0 in
-    let known = digits_of_signs digits b.1 in
-    let values = fixed_digits-only 16 pattern (map digit_value digits) (omega arith) (all_below_base_from_digits 16 digits known.0) (sym (digits_value_is 16 digits) ∙ t.1) in (
-      sym known.1 ∙ ap (map hex_sign) (values ∙ ap (λ n. fixed_digits 16 n pattern) (length-map digits digit_value ∙ long)),
-      subst (λ n. n < 2 ^ 64) t.1 (small digits known.0 long),
+    let long = sixteen _ b.0 in
+    let known = digits_of_signs _ b.1 in
+    let values = fixed_digits-only _ _ _ (omega arith) (all_below_base_from_digits _ _ known.0) (sym (digits_value_is 16 digits) ∙ t.1) in (
+      sym known.1 ∙ ap (map hex_sign) (values ∙ ap (λ n. fixed_digits 16 n pattern) (length-map _ _ ∙ long)),
+      subst (λ n. n < 2 ^ 64) t.1 (small _ known.0 long),
     )
 
 -- and the text of each pattern is read
@@ -71,30 +71,30 @@ unfolding pattern_of pattern_text hex_text hex_number
 pattern_again pattern fits =
     let digits = fixed_digits 16 16 pattern in
     let text = map hex_sign digits in
-    let below : AllBelowBase 16 digits = below-fixed_digits 16 16 pattern (omega arith) in
-    let signs = signs_of_digits digits below in
-    let long : eqb (length text) 16 ≡ true = eq-eqb _ _ (length-map digits hex_sign ∙ length-fixed_digits 16 16 pattern) in
-    let number : digits_value 16 text ≡ pattern = digits_value_is 16 text ∙ ap (number_from_digits 16) signs.1 ∙ number-fixed_digits 16 16 pattern (omega arith) (omega arith) in
+    let below = below-fixed_digits _ _ _ (omega arith) in
+    let signs = signs_of_digits _ below in
+    let long = eq-eqb _ _ (length-map _ _ ∙ length-fixed_digits _ _ _) in
+    let number = digits_value_is 16 text ∙ ap (number_from_digits 16) signs.1 ∙ number-fixed_digits _ _ _ (omega arith) (omega arith) in
     (λ i. cond (long i && signs.0 i) (Some (number i)) None)
 
 no_plus : (digits : List ℕ) → AllDigits 16 digits → get_or digits 0 0 ≢ 43
 no_plus [] all = λ e. omega arith
-no_plus (c ∷ digits) all = λ e. let low : digit_value c < 16 = all.0 in grind (arith, nat_tests)
+no_plus (c ∷ digits) all = λ e. let low = all.0 in grind (arith, nat_tests)
 
 given : {E : Type 0} (digits : List ℕ) (r : Result ℕ E) → IsNumeral 16 digits → digits_value 16 digits < 2 ^ 64 → OkIff r (IsNumeral 16 digits × (digits_value 16 digits < 2 ^ 64)) (digits_value 16 digits) → result_ok r ≡ Some (digits_value 16 digits)
-given digits (Ok n) is low parsed = ap (λ k. Some k) parsed.1
-given digits (Err e) is low parsed = absurd (parsed (is, low))
+given _ (Ok n) is low parsed = ap (λ k. Some k) parsed.1
+given _ (Err e) is low parsed = absurd (parsed (is, low))
 
 -- what `from_str_radix` gives is the pattern
 pub pattern_parsed : {E : Type 0} (digits : List ℕ) (r : Result ℕ E) → ParsesUnsigned 64 16 digits r → length digits ≡ 16 → list_all is_hex_sign digits ≡ true → result_ok r ≡ pattern_of digits
 unfolding pattern_of hex_number
 pattern_parsed {E} digits r parsed long all =
-    let known = (digits_of_signs digits all).0 in
-    let bare = without_leading_plus_none digits (no_plus digits known) in
-    let at : OkIff r (IsNumeral 16 digits × (digits_value 16 digits < 2 ^ 64)) (digits_value 16 digits) =
-    subst (λ (t : List ℕ). OkIff r (IsNumeral 16 t × (digits_value 16 t < 2 ^ 64)) (digits_value 16 t)) bare parsed in
-    let test : eqb (length digits) 16 ≡ true = eq-eqb _ _ long in
-    given digits r (omega arith, known) (small digits known long) at ∙ (λ i. cond (sym test i && sym all i) (Some (digits_value 16 digits)) None)
+    let known = (digits_of_signs _ all).0 in
+    let bare = without_leading_plus_none _ (no_plus _ known) in
+    let at =
+    subst (λ t. OkIff r (IsNumeral 16 t × (digits_value 16 t < 2 ^ 64)) (digits_value 16 t)) bare parsed in
+    let test = eq-eqb _ _ long in
+    given _ r (omega arith, known) (small _ known long) at ∙ (λ i. cond (sym test i && sym all i) (Some (digits_value 16 digits)) None)
 
 -- and a text that fails a test is none
 pub pattern_unread : (digits : List ℕ) → length digits ≢ 16 → pattern_of digits ≡ None

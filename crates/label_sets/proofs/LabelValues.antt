@@ -23,13 +23,13 @@ pub compare_self : (name : List ℕ) → compare_texts name name ≡ Equal
 compare_self name = tied_itself nat_list_cmp_total name
 
 pub before_differs : (one other : List ℕ) → ComesBefore one other → one ≢ other
-before_differs one other b e = lesser_equal (compare_texts one one) (subst (λ n. ComesBefore one n) (sym e) b) (compare_self one)
+before_differs one _ b e = lesser_equal _ (subst (λ n. ComesBefore one n) (sym e) b) (compare_self one)
 
 pub before_trans : (a b c : List ℕ) → ComesBefore a b → ComesBefore b c → ComesBefore a c
 before_trans a b c p q = nat_list_cmp_total.trans a b c p q
 
 pub bytes_eq_differs : (one other : List ℕ) → one ≢ other → bytes_eq one other ≡ false
-bytes_eq_differs one other n = untrue (bytes_eq one other) (λ t. n ((bytes_decides one other).0 t))
+bytes_eq_differs one other n = untrue _ (λ t. n ((bytes_decides one other).0 t))
 
 pub same_text : (one other : List ℕ) → compare_texts one other ≡ Equal → one ≡ other
 same_text one other e = (bytes_decides one other).0 (texts_ties one other ∙ ap is_eq e)
@@ -45,16 +45,16 @@ value_hit l ls name e = ap (λ b. cond b (Some l.value) (value_of ls name)) ((by
 
 pub value_miss : (l : Label) (ls : List Label) (name : List ℕ) → l.name ≢ name → value_of (l ∷ ls) name ≡ value_of ls name
 unfolding value_of
-value_miss l ls name n = ap (λ b. cond b (Some l.value) (value_of ls name)) (bytes_eq_differs l.name name n)
+value_miss l ls name n = ap (λ b. cond b (Some l.value) (value_of ls name)) (bytes_eq_differs _ _ n)
 
 pub value_nil : (name : List ℕ) → value_of [] name ≡ None
 unfolding value_of
-value_nil name = refl
+value_nil _ = refl
 
 -- a name that stands before all names is not among them
 pub value_of-below : (name : List ℕ) (ls : List Label) → StandsBefore name ls → value_of ls name ≡ None
 value_of-below name [] h = value_nil name
-value_of-below name (l ∷ ls) h = value_miss l ls name (λ e. before_differs name l.name h.0 (sym e)) ∙ value_of-below name ls h.1
+value_of-below name (l ∷ ls) h = value_miss l _ _ (λ e. before_differs name l.name h.0 (sym e)) ∙ value_of-below _ _ h.1
 
 pub StandsBefore-trans : (a b : List ℕ) (ls : List Label) → ComesBefore a b → StandsBefore b ls → StandsBefore a ls
 StandsBefore-trans a b [] p h = tt
@@ -62,27 +62,27 @@ StandsBefore-trans a b (l ∷ ls) p h = (before_trans a b l.name p h.0, StandsBe
 
 -- a set that begins after the name has no value under it, as one that begins with it has
 head_not_before : (x y : Label) (xs ys : List Label) → StandsBefore y.name ys → value_of (x ∷ xs) x.name ≡ value_of (y ∷ ys) x.name → ComesBefore x.name y.name → ⊥
-head_not_before x y xs ys q same b = some_not_none x.value (value_of (x ∷ xs) x.name) (value_hit x xs x.name refl)
-    (same ∙ value_of-below x.name (y ∷ ys) (b, StandsBefore-trans x.name y.name ys b q))
+head_not_before x y _ _ q same b = some_not_none _ _ (value_hit x _ _ refl)
+    (same ∙ value_of-below _ _ (b, StandsBefore-trans _ _ _ b q))
 
 tail_values : (x y : Label) (xs ys : List Label) (name : List ℕ) → x.name ≡ y.name → StandsBefore x.name xs → StandsBefore y.name ys → value_of (x ∷ xs) name ≡ value_of (y ∷ ys) name → value_of xs name ≡ value_of ys name
-tail_values x y xs ys name e p q same = by_bool (bytes_eq x.name name)
+tail_values x y xs ys name e p q same = by_bool _
     (λ t. let here : x.name ≡ name = (bytes_decides x.name name).0 t in
     subst (λ n. value_of xs n ≡ value_of ys n) here
-    (value_of-below x.name xs p ∙ sym (subst (λ n. value_of ys n ≡ None) (sym e) (value_of-below y.name ys q))))
+    (value_of-below _ _ p ∙ sym (subst (λ n. value_of ys n ≡ None) (sym e) (value_of-below _ _ q))))
     (λ f. let apart : x.name ≢ name = λ h. true≢false (sym ((bytes_decides x.name name).1 h) ∙ f) in
-    sym (value_miss x xs name apart) ∙ same ∙ value_miss y ys name (λ h. apart (e ∙ h)))
+    sym (value_miss x _ _ apart) ∙ same ∙ value_miss y _ _ (λ h. apart (e ∙ h)))
 
 -- A label set is determined by the values under all names.
 pub same_sets : (xs ys : List Label) → IsLabelSet xs → IsLabelSet ys → ((name : List ℕ) → value_of xs name ≡ value_of ys name) → xs ≡ ys
 same_sets [] [] p q same = refl
-same_sets [] (y ∷ ys) p q same = absurd (some_not_none y.value (value_of (y ∷ ys) y.name) (value_hit y ys y.name refl) (sym (same y.name) ∙ value_nil y.name))
-same_sets (x ∷ xs) [] p q same = absurd (some_not_none x.value (value_of (x ∷ xs) x.name) (value_hit x xs x.name refl) (same x.name ∙ value_nil x.name))
-same_sets (x ∷ xs) (y ∷ ys) p q same = by_ordering (compare_texts x.name y.name)
-    (λ b. absurd (head_not_before x y xs ys q.2 (same x.name) b))
-    (λ t. let e : x.name ≡ y.name = same_text x.name y.name t in
-    let v : x.value ≡ y.value = one_value x.value y.value (value_of (x ∷ xs) x.name) (value_hit x xs x.name refl) (same x.name ∙ value_hit y ys x.name (sym e)) in
+same_sets [] (y ∷ ys) p q same = absurd (some_not_none _ _ (value_hit y _ _ refl) (sym (same y.name) ∙ value_nil _))
+same_sets (x ∷ xs) [] p q same = absurd (some_not_none _ _ (value_hit x _ _ refl) (same x.name ∙ value_nil _))
+same_sets (x ∷ xs) (y ∷ ys) p q same = by_ordering _
+    (λ b. absurd (head_not_before x y _ _ q.2 (same x.name) b))
+    (λ t. let e = same_text _ _ t in
+    let v = one_value _ _ _ (value_hit x _ _ refl) (same x.name ∙ value_hit y _ _ (sym e)) in
     let l : x ≡ y = λ i. record { name = e i; value = v i } in
-    let ls : xs ≡ ys = same_sets xs ys p.3 q.3 (λ name. tail_values x y xs ys name e p.2 q.2 (same name)) in
+    let ls = same_sets _ _ p.3 q.3 (λ name. tail_values x y xs ys name e p.2 q.2 (same name)) in
     λ i. l i ∷ ls i)
-    (λ g. absurd (head_not_before y x ys xs p.2 (sym (same y.name)) (nat_list_cmp_total.antisymm y.name x.name ∙ ap ordering_reverse g)))
+    (λ g. absurd (head_not_before y x _ _ p.2 (sym (same y.name)) (nat_list_cmp_total.antisymm y.name x.name ∙ ap ordering_reverse g)))

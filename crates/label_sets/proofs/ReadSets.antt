@@ -33,19 +33,19 @@ after_equals name n after = unless (nat_lt 0 n) EmptyName >> (past 34 after >>= 
 
 same_read : (text value after : List ℕ) (label : Label) (rest : List ℕ) → ◌≡◌ {A = Result (Label × List ℕ) LabelRefusal} (Ok (record { name = name_at text; value = value }, after)) (Ok (label, rest))
     → (name_at text ≡ label.name) × (value ≡ label.value) × (after ≡ rest)
-same_read text value after label rest q =
-    let e = ok_is (record { name = name_at text; value = value }, after) (label, rest) q in
+same_read _ value _ _ _ q =
+    let e = ok_is _ _ q in
     (ap (λ x. x.0.name) e, ap (λ x. x.0.value) e, ap (λ x. x.1) e)
 
 pub pair_steps : (text : List ℕ) (label : Label) (rest : List ℕ) → pair_at text ≡ Ok (label, rest) → PairSteps text label rest
 unfolding pair_at with_value after_quote after_equals
-pair_steps text label rest e =
-    let a = bind_ok (past 61 (drop (name_length text) text)) (after_equals (name_at text) (name_length text)) (label, rest) e in
-    let b = unless_ok (nat_lt 0 (name_length text)) EmptyName (past 34 a.0 >>= after_quote (name_at text)) (label, rest) a.2 in
-    let c = bind_ok (past 34 a.0) (after_quote (name_at text)) (label, rest) b.1 in
-    let d = bind_ok (value_at false c.0) (with_value (name_at text)) (label, rest) c.2 in
-    let f = unless_ok (nat_lt 0 (length d.0.0)) EmptyValue (Ok (record { name = name_at text; value = d.0.0 }, d.0.1)) (label, rest) d.2 in
-    let g = same_read text d.0.0 d.0.1 label rest f.1 in
+pair_steps _ _ _ e =
+    let a = bind_ok _ _ _ e in
+    let b = unless_ok _ _ _ _ a.2 in
+    let c = bind_ok _ _ _ b.1 in
+    let d = bind_ok _ _ _ c.2 in
+    let f = unless_ok _ _ _ _ d.2 in
+    let g = same_read _ _ _ _ _ f.1 in
     record {
       after = a.0;
       inside = c.0;
@@ -61,14 +61,14 @@ pub concluded_repeat : (total : ℕ) (labels sorted : List Label) (e : LabelRefu
     → conclusion total labels (Err (e, pair)) ≡ Err Repeated
 unfolding conclusion
 concluded_repeat total labels sorted e pair name s n t =
-    ap (λ b. cond b (Err Repeated) (Err (placed_at total e))) (ap (λ x. repeats (x ∷ names_of labels)) (sym n) ∙ sym (repeats_sorted_with labels sorted name s) ∙ t)
+    ap (λ b. cond b (Err Repeated) (Err (placed_at total e))) (ap (λ x. repeats (x ∷ names_of labels)) (sym n) ∙ sym (repeats_sorted_with _ _ _ s) ∙ t)
 
 pub concluded_stop : (total : ℕ) (labels sorted : List Label) (e placed : LabelRefusal) (pair name : List ℕ) → sorted ≡ in_order has_lesser_name labels → name ≡ name_at pair → repeats (name ∷ names_of sorted) ≡ false
     → placed ≡ placed_at total e → conclusion total labels (Err (e, pair)) ≡ Err placed
 unfolding conclusion
-concluded_stop total labels sorted e placed pair name s n f p =
-    ap (λ b. cond b (Err Repeated) (Err (placed_at total e))) (ap (λ x. repeats (x ∷ names_of labels)) (sym n) ∙ sym (repeats_sorted_with labels sorted name s) ∙ f) ∙ ap (λ x. Err x) (sym p)
+concluded_stop total labels _ e _ _ _ s n f p =
+    ap (λ b. cond b (Err Repeated) (Err (placed_at total e))) (ap (λ x. repeats (x ∷ names_of labels)) (sym n) ∙ sym (repeats_sorted_with _ _ _ s) ∙ f) ∙ ap (λ x. Err x) (sym p)
 
 pub name_front : (text name : List ℕ) (n : ℕ) → n ≡ name_length text → name ≡ take n text → name ≡ name_at text
 unfolding name_at
-name_front text name n e f = f ∙ ap (λ m. take m text) e
+name_front text _ n e f = f ∙ ap (λ m. take m text) e

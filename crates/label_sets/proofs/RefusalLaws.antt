@@ -49,7 +49,7 @@ fresh_named labels = letters_named (total_names labels)
 not_long : (labels : List Label) (n : ℕ) → total_names labels < n → is_among (names_of labels) (replicate n 97) ≡ false
 unfolding total_names is_among
 not_long [] n few = refl
-not_long (l ∷ ls) n few = λ i. bytes_eq_differs l.name (replicate n 97) (λ e. let same : length l.name ≡ n = ap length e ∙ length-replicate n 97 in absurd (omega arith)) i || not_long ls n (omega arith) i
+not_long (l ∷ ls) n few = λ i. bytes_eq_differs l.name (replicate n 97) (λ e. let same = ap length e ∙ length-replicate n _ in absurd (omega arith)) i || not_long ls n (omega arith) i
 
 fresh_new : (labels : List Label) → repeats (names_of labels) ≡ false → repeats (fresh labels ∷ names_of labels) ≡ false
 unfolding repeats fresh
@@ -68,23 +68,23 @@ begun_pair : (labels : List Label) (l : Label) (front more : List ℕ) → ArePa
 begun_pair labels l front more are one once shape =
     shorter_begins (123 ∷ (commas labels ++ front)) more
     (rw (append_assoc (commas labels) front more, shape, ← pairs_and_last labels l)
-    (begun (labels ++ l ∷ []) (All-push (λ (l : Label). (is_name l.name ≡ true) × (l.value ≢ [])) labels l are one) (repeats-last labels l ∙ once)))
+    (begun _ (All-push (λ l. (is_name l.name ≡ true) × (l.value ≢ [])) _ l are one) (repeats-last _ l ∙ once)))
 
 -- what is refused whatever follows begins none
 no_beginning : (front : List ℕ) → ((more : List ℕ) → IsErr (walk_at (front ++ more)).1) → ¬ BeginsASet front
 unfolding read_set
 no_beginning front bad b =
     let text : List ℕ = front ++ b.after in
-    let c = concluded (length text) (walk_at text).0 (walk_at text).1 b.set (length text) (ap read_set (sym (append-nil text)) ∙ set_text_again text [] b.set b.is_text) in
+    let c = concluded (length text) _ _ _ _ (ap read_set (sym (append-nil text)) ∙ set_text_again _ _ _ b.is_text) in
     true≢false (sym (bad b.after) ∙ ap is_err c.1)
 
 -- ---- a place where it stops
 
 further : (front after : List ℕ) → ((c : ℕ) (others : List ℕ) → after ≡ c ∷ others → ¬ BeginsASet (front ++ c ∷ [])) → length front < length (front ++ after) → ¬ BeginsASet (take (suc (length front)) (front ++ after))
-further front [] h l = absurd (omega (arith, l, length-append front []))
+further front [] h l = absurd (omega (arith, length-append front []))
 further front (c ∷ others) h l =
     let one : length (front ++ c ∷ []) ≡ suc (length front) = omega (arith, length-append front (c ∷ [])) in
-    let cut : take (suc (length front)) (front ++ c ∷ others) ≡ front ++ c ∷ [] = ap (take (suc (length front))) (sym (append_assoc front (c ∷ []) others)) ∙ take_at (front ++ c ∷ []) others (suc (length front)) one in
+    let cut = ap (take (suc (length front))) (sym (append_assoc front (c ∷ []) others)) ∙ take_at _ _ _ one in
     λ b. h c others refl (subst BeginsASet cut b)
 
 reaches : (text front after : List ℕ) → text ≡ front ++ after → BeginsASet front → ((c : ℕ) (others : List ℕ) → after ≡ c ∷ others → ¬ BeginsASet (front ++ c ∷ [])) → GoesOnTo text (length text - length after)
@@ -92,29 +92,29 @@ reaches text front after e b h =
     let at : length front ≡ length text - length after = omega (arith, ap length e, length-append front after) in
     rw (← at, e) (record {
       within = omega (arith, length-append front after);
-      so_far = rw (take_at front after (length front) refl) b;
-      no_further = further front after h;
+      so_far = rw (take_at) b;
+      no_further = further _ _ h;
     })
 
 on_pair_bad : (more : List ℕ → Walk) (text : List ℕ) (r : Result (Label × List ℕ) LabelRefusal) → IsErr r → IsErr (on_pair more text r).1
 unfolding on_pair
-on_pair_bad more text (Ok read) bad = absurd (true≢false (sym bad))
-on_pair_bad more text (Err e) bad = refl
+on_pair_bad _ _ (Ok read) bad = absurd (true≢false (sym bad))
+on_pair_bad _ _ (Err e) bad = refl
 
 end_bad : (text : List ℕ) (r : Result (List ℕ) LabelRefusal) → IsErr r → IsErr (at_end text r).1
 unfolding at_end stopped_at
-end_bad text (Ok after) bad = absurd (true≢false (sym bad))
-end_bad text (Err e) bad = refl
+end_bad _ (Ok after) bad = absurd (true≢false (sym bad))
+end_bad _ (Err e) bad = refl
 
 past_same : (front : List ℕ) (c : ℕ) (others more : List ℕ) → IsErr (past 125 (front ++ c ∷ others)) → IsErr (past 125 (front ++ c ∷ more))
-past_same [] c others more h = past_first 125 c others more h
-past_same (x ∷ front) c others more h = past_first 125 x (front ++ c ∷ others) (front ++ c ∷ more) h
+past_same [] c _ _ h = past_first _ c _ _ h
+past_same (x ∷ front) c _ _ h = past_first _ x _ _ h
 
 -- behind pairs with commas, where with this byte every walk is refused
 stops_after : (text : List ℕ) (labels : List Label) (front after : List ℕ) → HasPairs text labels (front ++ after) → BeginsASet (123 ∷ (commas labels ++ front))
     → ((c : ℕ) (others behind : List ℕ) → after ≡ c ∷ others → IsErr (walk_at (123 ∷ (commas labels ++ (front ++ c ∷ behind)))).1) → GoesOnTo text (length text - length after)
-stops_after text labels front after p b bad =
-    reaches text (123 ∷ (commas labels ++ front)) after (p.begins ∙ ap (λ t. 123 ∷ t) (sym (append_assoc (commas labels) front after))) b
+stops_after _ labels front after p b bad =
+    reaches _ _ _ (p.begins ∙ ap (λ t. 123 ∷ t) (sym (append_assoc (commas labels) front after))) b
     (λ c others g. no_beginning ((123 ∷ (commas labels ++ front)) ++ c ∷ []) (λ behind. simp append_assoc (bad c others behind g)))
 
 -- within a pair
@@ -123,13 +123,13 @@ in_pair_reaches : (text : List ℕ) (labels : List Label) (pair : List ℕ) (e :
 unfolding repeats
 in_pair_reaches text labels pair e p closed once s =
     let more = s.so_far in
-    let found : s.front ++ more.0 ≡ pair_text more.1.0 = pair_found (s.front ++ more.0) more.1.0 more.1.1 more.2 ∙ ap (λ t. pair_text more.1.0 ++ t) more.3.0 ∙ append-nil (pair_text more.1.0) in
+    let found : s.front ++ more.0 ≡ pair_text more.1.0 = pair_found (s.front ++ more.0) more.1.0 _ more.2 ∙ ap (λ t. pair_text more.1.0 ++ t) more.3.0 ∙ append-nil (pair_text more.1.0) in
     let new : repeats (more.1.0.name ∷ names_of labels) ≡ false = elim more.3.1 [
       | inl own ↦ rw (own, once)
-      | inr its ↦ rw its (fresh_new labels (or_parts (is_among (names_of labels) (name_at pair)) (repeats (names_of labels)) once).1)
+      | inr its ↦ rw its (fresh_new _ (or_parts _ _ once).1)
     ] in
-    stops_after text labels s.front s.after (subst (HasPairs text labels) s.whole p)
-    (begun_pair labels more.1.0 s.front more.0 p.lawful (pair_written (s.front ++ more.0) more.1.0 more.1.1 more.2) new found)
+    stops_after _ _ _ _ (subst (HasPairs text labels) s.whole p)
+    (begun_pair _ _ _ more.0 p.lawful (pair_written (s.front ++ more.0) more.1.0 more.1.1 more.2) new found)
     (λ c others behind g.
     let other : List ℕ = s.front ++ c ∷ behind in
     let walk = walk_goes_on labels other p.lawful (λ none. past_same s.front c others behind (subst (λ t. IsErr (past 125 t)) (s.whole ∙ ap (λ t. s.front ++ t) g) (closed none))) in
@@ -138,20 +138,20 @@ in_pair_reaches text labels pair e p closed once s =
 -- behind a pair
 behind_reaches : (text : List ℕ) (labels : List Label) (stop : LabelRefusal × List ℕ) (s : StopsBehind text labels stop) → repeats (names_of labels) ≡ false → GoesOnTo text (length text - length s.rest)
 unfolding end_at
-behind_reaches text labels stop s once =
+behind_reaches _ _ _ s once =
     let b = s.behind in
-    stops_after text b.front (pair_text b.last) s.rest b.pairs
-    (subst (λ t. BeginsASet (123 ∷ t)) (ap pairs_text b.labels_are ∙ pairs_and_last b.front b.last) (begun labels b.lawful once))
+    stops_after _ _ _ _ b.pairs
+    (subst (λ t. BeginsASet (123 ∷ t)) (ap pairs_text b.labels_are ∙ pairs_and_last _ _) (begun _ b.lawful once))
     (λ c others behind g.
     let first : (byte : ℕ) → IsErr (past byte s.rest) → IsErr (past byte (c ∷ behind)) = λ byte bad. past_first byte c others behind (subst (λ t. IsErr (past byte t)) g bad) in
-    rw (walk_ends_behind b.front b.last (c ∷ behind) (subst ArePairs b.labels_are b.lawful) (first 44 s.no_comma)) (end_bad (c ∷ behind) (past 125 (c ∷ behind)) (first 125 s.no_end)))
+    rw (walk_ends_behind b.front b.last (c ∷ behind) (subst ArePairs b.labels_are b.lawful) (first 44 s.no_comma)) (end_bad _ _ (first 125 s.no_end)))
 
 -- at the start of a text without the opening brace
 start_reaches : (text : List ℕ) → IsErr (past 123 text) → GoesOnTo text (length text - length text)
 unfolding set_text repeats pairs_text
 start_reaches text bad =
-    reaches text [] text refl (shorter_begins [] (123 ∷ []) (begun [] (λ k d lt. absurd (omega arith)) refl))
-    (λ c others g b. true≢false (sym (past_first 123 c others b.after (subst (λ t. IsErr (past 123 t)) g bad)) ∙ ap (λ t. is_err (past 123 t)) b.is_text.written ∙ ap is_err (past_it 123 (pairs_text b.is_text.listed ++ 125 ∷ []))))
+    reaches _ _ _ refl (shorter_begins [] (123 ∷ []) (begun [] (λ k d lt. absurd (omega arith)) refl))
+    (λ c others g b. true≢false (sym (past_first _ c _ _ (subst (λ t. IsErr (past 123 t)) g bad)) ∙ ap (λ t. is_err (past 123 t)) b.is_text.written ∙ ap is_err (past_it _ _)))
 
 -- ---- each refusal has its cause
 
@@ -178,11 +178,11 @@ repeated_pairs text labels rest b t =
 stop_cause : (text : List ℕ) (labels : List Label) (pair : List ℕ) (d : LabelRefusal) → HasPairs text labels pair → (labels ≡ [] → IsErr (past 125 pair)) → repeats (name_at pair ∷ names_of labels) ≡ false
     → PairRefused (fresh labels) pair d → Cause text (placed_at (length text) d)
 unfolding placed_at name_at name_length
-stop_cause text labels pair d p closed once (inl why) = rw why.0 (record {
+stop_cause text labels _ d p closed once (inl why) = rw why.0 (record {
   listed = labels;
   after = why.1.0;
   pairs = subst (HasPairs text labels) why.1.1 p;
-  once = sym (repeats-nameless labels p.lawful) ∙ ap (λ t. repeats (name_at t ∷ names_of labels)) (sym why.1.1) ∙ once;
+  once = sym (repeats-nameless _ p.lawful) ∙ ap (λ t. repeats (name_at t ∷ names_of labels)) (sym why.1.1) ∙ once;
 })
 stop_cause text labels pair d p closed once (inr (inl why)) = rw why.0 (record {
   listed = labels;
@@ -192,39 +192,39 @@ stop_cause text labels pair d p closed once (inr (inl why)) = rw why.0 (record {
   named = why.1.2;
   once = once;
 })
-stop_cause text labels pair d p closed once (inr (inr s)) = rw s.place_is (in_pair_reaches text labels pair d p closed once s)
+stop_cause _ _ _ d p closed once (inr (inr s)) = rw s.place_is (in_pair_reaches _ _ _ d p closed once s)
 
 -- where a walk behind the opening brace came to its end
 braces_cause : (text : List ℕ) (labels : List Label) (end : Result (List ℕ) (LabelRefusal × List ℕ)) (e : LabelRefusal) → InBraces text labels end → conclusion (length text) labels end ≡ Err e → Cause text e
 unfolding conclusion name_at name_length placed_at
 braces_cause text labels (Ok after) e b h = elim (cond_is (repeats (names_of labels)) (Err Repeated) (Ok (in_order has_lesser_name labels, length text - length after)) (Err e) h) [
-  | inl t ↦ subst (Cause text) (err_is Repeated e t.1) (repeated_pairs text labels (125 ∷ after) b.1 t.0)
+  | inl t ↦ subst (Cause text) (err_is Repeated e t.1) (repeated_pairs _ _ _ b.1 t.0)
   | inr f ↦ absurd (true≢false (sym (ap is_err f.1)))
 ]
 braces_cause text labels (Err stop) e b h =
-    let whole : StopsBehind text labels stop → repeats (names_of labels) ≡ repeats (name_at stop.1 ∷ names_of labels) = λ s. sym (repeats-nameless labels s.behind.lawful) ∙ ap (λ x. repeats (name_at x.1 ∷ names_of labels)) (sym s.stop_is) in
-    elim (cond_is (repeats (name_at stop.1 ∷ names_of labels)) (Err Repeated) (Err (placed_at (length text) stop.0)) (Err e) h) [
-      | inl t ↦ subst (Cause text) (err_is Repeated e t.1) (elim b.1 [
+    let whole : StopsBehind text labels stop → repeats (names_of labels) ≡ repeats (name_at stop.1 ∷ names_of labels) = λ s. sym (repeats-nameless _ s.behind.lawful) ∙ ap (λ x. repeats (name_at x.1 ∷ names_of labels)) (sym s.stop_is) in
+    elim (cond_is _ (Err Repeated) (Err (placed_at (length text) stop.0)) (Err e) h) [
+      | inl t ↦ subst (Cause text) (err_is _ e t.1) (elim b.1 [
         | inl s ↦ record { listed = labels; after = stop.1; pairs = s.0; again = t.0 }
-        | inr s ↦ repeated_pairs text labels s.rest s.behind (whole s ∙ t.0)
+        | inr s ↦ repeated_pairs _ _ _ s.behind (whole s ∙ t.0)
       ])
-      | inr f ↦ subst (Cause text) (err_is (placed_at (length text) stop.0) e f.1) (elim b.1 [
-        | inl s ↦ stop_cause text labels stop.1 stop.0 s.0 (λ none. subst (λ ls. IsErr (past 125 (commas ls ++ stop.1))) none (b.0 (commas labels ++ stop.1) s.0.begins)) f.0
-            (pair_refused (fresh labels) stop.1 stop.0 (fresh_named labels) s.1)
-        | inr s ↦ subst (λ (x : LabelRefusal × List ℕ). Cause text (placed_at (length text) x.0)) (sym s.stop_is) (behind_reaches text labels stop s (whole s ∙ f.0))
+      | inr f ↦ subst (Cause text) (err_is _ e f.1) (elim b.1 [
+        | inl s ↦ stop_cause _ _ _ _ s.0 (λ none. subst (λ ls. IsErr (past 125 (commas ls ++ stop.1))) none (b.0 (commas labels ++ stop.1) s.0.begins)) f.0
+            (pair_refused _ _ _ (fresh_named _) s.1)
+        | inr s ↦ subst (λ x. Cause text (placed_at (length text) x.0)) (sym s.stop_is) (behind_reaches _ _ _ s (whole s ∙ f.0))
       ])
     ]
 
 walk_cause : (text : List ℕ) (w : Walk) (e : LabelRefusal) → IsWalk text w → conclusion (length text) w.0 w.1 ≡ Err e → Cause text e
 unfolding conclusion stopped_at placed_at repeats name_at name_length is_among
 walk_cause text w e (inl stop) h =
-    subst (Cause text) (err_is (BadText (length text - length text)) e (rw stop.1 at h)) (start_reaches text stop.0)
+    subst (Cause text) (err_is _ e (rw stop.1 at h)) (start_reaches _ stop.0)
 walk_cause text w e (inr (inl empty)) h = absurd (true≢false (sym (ap is_err (rw empty.2 at h))))
-walk_cause text w e (inr (inr braces)) h = braces_cause text w.0 w.1 e braces h
+walk_cause text w e (inr (inr braces)) h = braces_cause _ _ _ e braces h
 
 cause_of : (text : List ℕ) (e : LabelRefusal) → read_set text ≡ Err e → Cause text e
 unfolding read_set
-cause_of text e h = walk_cause text (walk_at text) e (walk_is text) h
+cause_of _ e h = walk_cause _ _ e (walk_is _) h
 
 -- ---- and back
 
@@ -232,104 +232,104 @@ cause_of text e h = walk_cause text (walk_at text) e (walk_is text) h
 refused_behind : (text : List ℕ) (labels : List Label) (pair : List ℕ) (d : LabelRefusal) → HasPairs text labels pair → (labels ≡ [] → IsErr (past 125 pair)) → pair_at pair ≡ Err d
     → read_set text ≡ cond (repeats (name_at pair ∷ names_of labels)) (Err Repeated) (Err (placed_at (length text) d))
 unfolding on_pair conclusion read_set
-refused_behind text labels pair d p unclosed h = let w = walk_goes_on labels pair p.lawful unclosed in rw (p.begins, w.1, h, append-nil labels)
+refused_behind text labels _ d p unclosed h = let w = walk_goes_on _ _ p.lawful unclosed in rw (p.begins, w.1, h, append-nil labels)
 
 -- the equals sign, and the empty value
 lacks_name_again : (text : List ℕ) → LacksName text → read_set text ≡ Err EmptyName
 unfolding placed_at name_at name_length pair_at past after_equals after_quote with_value
-lacks_name_again text t =
-    refused_behind text t.listed (61 ∷ t.after) EmptyName t.pairs (λ none. refl) refl
+lacks_name_again _ t =
+    refused_behind _ _ _ _ t.pairs (λ none. refl) refl
     ∙ rw (repeats-nameless t.listed t.pairs.lawful ∙ t.once)
 
 named_at : (name rest : List ℕ) → is_name name ≡ true → name_at (name ++ 61 ∷ rest) ≡ name
 unfolding name_at
-named_at name rest is = rw (name_again name rest 61 is refl) (take_at name (61 ∷ rest) (length name) refl)
+named_at name rest is = rw (name_again name rest 61 is refl) (take_at _ _ _ refl)
 
 lacks_value_again : (text : List ℕ) → LacksValue text → read_set text ≡ Err EmptyValue
 unfolding placed_at past after_quote with_value value_at
 lacks_value_again text t =
-    let pair : List ℕ = t.name ++ 61 ∷ 34 ∷ 34 ∷ t.after in
-    refused_behind text t.listed pair EmptyValue (subst (HasPairs text t.listed) (append_assoc t.name (61 ∷ 34 ∷ 34 ∷ []) t.after) t.pairs)
-    (λ none. begins_no_end t.name (61 ∷ 34 ∷ 34 ∷ t.after) t.named) (pair_named pair t.name (34 ∷ 34 ∷ t.after) t.named refl)
+    let pair = t.name ++ 61 ∷ 34 ∷ 34 ∷ t.after in
+    refused_behind _ _ _ _ (subst (HasPairs text t.listed) (append_assoc t.name (61 ∷ 34 ∷ 34 ∷ []) t.after) t.pairs)
+    (λ none. begins_no_end t.name (61 ∷ 34 ∷ 34 ∷ t.after) t.named) (pair_named _ _ _ t.named refl)
     ∙ rw (named_at t.name (34 ∷ 34 ∷ t.after) t.named, t.once)
 
 -- a name that stands twice among what was read is refused whatever the end
 repeated_whole : (total : ℕ) (labels : List Label) (end : Result (List ℕ) (LabelRefusal × List ℕ)) → repeats (names_of labels) ≡ true → conclusion total labels end ≡ Err Repeated
 unfolding conclusion repeats
-repeated_whole total labels (Ok after) t = rw t
-repeated_whole total labels (Err stop) t = rw (t, or-true (is_among (names_of labels) (name_at stop.1)))
+repeated_whole _ _ (Ok after) t = rw t
+repeated_whole _ _ (Err stop) t = rw (t, or-true)
 
 repeated_pair : (text : List ℕ) (labels : List Label) (pair : List ℕ) (r : Result (Label × List ℕ) LabelRefusal) → pair_at pair ≡ r → HasPairs text labels pair → (labels ≡ [] → IsErr (past 125 pair))
     → repeats (name_at pair ∷ names_of labels) ≡ true → read_set text ≡ Err Repeated
 unfolding on_pair with_label read_set
-repeated_pair text labels pair (Err d) h p unclosed t = refused_behind text labels pair d p unclosed h ∙ rw t
-repeated_pair text labels pair (Ok read) h p unclosed t =
-    let w = walk_goes_on labels pair p.lawful unclosed in
-    let more : Walk = after_pair (pairs_at w.0) read.1 in
-    let once : repeats (names_of (labels ++ read.0 ∷ [])) ≡ true = rw (repeats-last labels read.0, (pair_steps pair read.0 read.1 h).name_is, t) in
-    rw (p.begins, w.1, h) (repeated_whole _ (labels ++ read.0 ∷ more.0) more.1
-    (ap (λ ls. repeats (names_of ls)) (sym (append_assoc labels (read.0 ∷ []) more.0)) ∙ repeats-more (labels ++ read.0 ∷ []) more.0 once))
+repeated_pair _ _ _ (Err d) h p unclosed t = refused_behind _ _ _ d p unclosed h ∙ rw t
+repeated_pair _ labels _ (Ok read) h p unclosed t =
+    let w = walk_goes_on _ _ p.lawful unclosed in
+    let more = after_pair (pairs_at w.0) read.1 in
+    let once : repeats (names_of (labels ++ read.0 ∷ [])) ≡ true = rw (repeats-last, (pair_steps _ _ _ h).name_is, t) in
+    rw (p.begins, w.1, h) (repeated_whole _ _ _
+    (ap (λ ls. repeats (names_of ls)) (sym (append_assoc labels (read.0 ∷ []) more.0)) ∙ repeats-more _ _ once))
 
 repeats_again : (text : List ℕ) → RepeatsName text → read_set text ≡ Err Repeated
 unfolding repeats is_among
-repeats_again text t = repeated_pair text t.listed t.after (pair_at t.after) refl t.pairs (λ none. absurd (true≢false (sym (rw none at t.again)))) t.again
+repeats_again _ t = repeated_pair _ _ _ _ refl t.pairs (λ none. absurd (true≢false (sym (rw none at t.again)))) t.again
 
 -- ---- the laws
 
 stops_from : (text : List ℕ) (place : ℕ) → read_set text ≡ Err (BadText place) → GoesOnTo text place → StopsAt text place
 stops_from text place h r = record {
   goes_on = r;
-  no_set = λ front after set is e. ok_not_err (set, length front) (BadText place) (read_set text) (ap read_set e ∙ set_text_again front after set is) h;
-  no_lack = λ t. absurd (cc (sym (lacks_name_again text t) ∙ h));
-  no_empty = λ t. absurd (cc (sym (lacks_value_again text t) ∙ h));
-  no_repeat = λ t. absurd (cc (sym (repeats_again text t) ∙ h));
+  no_set = λ front after set is e. ok_not_err (set, length front) (BadText place) (read_set text) (ap read_set e ∙ set_text_again _ _ _ is) h;
+  no_lack = λ t. absurd (cc (sym (lacks_name_again _ t) ∙ h));
+  no_empty = λ t. absurd (cc (sym (lacks_value_again _ t) ∙ h));
+  no_repeat = λ t. absurd (cc (sym (repeats_again _ t) ∙ h));
 }
 
 -- each refusal has its cause
 pub refused_is : (text : List ℕ) (e : LabelRefusal) → read_set text ≡ Err e → IsRefused text e
-refused_is text EmptyName h = cause_of text EmptyName h
-refused_is text EmptyValue h = cause_of text EmptyValue h
-refused_is text Repeated h = cause_of text Repeated h
-refused_is text (BadText place) h = stops_from text place h (cause_of text (BadText place) h)
-refused_is text NoMemory h = cause_of text NoMemory h
+refused_is _ EmptyName h = cause_of _ _ h
+refused_is _ EmptyValue h = cause_of _ _ h
+refused_is _ Repeated h = cause_of _ _ h
+refused_is _ (BadText place) h = stops_from _ _ h (cause_of _ _ h)
+refused_is _ NoMemory h = cause_of _ _ h
 
 begins_before : (text : List ℕ) (p q : ℕ) → p ≤ q → BeginsASet (take q text) → BeginsASet (take p text)
 begins_before text p q l b =
-    let cut : take q text ≡ take p text ++ drop p (take q text) = sym (take-append-drop p (take q text)) ∙ ap (λ t. t ++ drop p (take q text)) (take-take p q text l) in
-    shorter_begins (take p text) (drop p (take q text)) (subst BeginsASet cut b)
+    let cut = sym (take-append-drop p _) ∙ ap (λ t. t ++ drop p (take q text)) (take-take p q _ l) in
+    shorter_begins _ _ (subst BeginsASet cut b)
 
 same_place : (text : List ℕ) (p q : ℕ) → GoesOnTo text p → GoesOnTo text q → p ≡ q
-same_place text p q s r = elim (cases_order p q) [
+same_place _ p q s r = elim (cases_order p q) [
   | inl same ↦ same
   | inr differs ↦ elim differs [
-    | inl below ↦ absurd (s.no_further (omega (arith, r.within)) (begins_before text (suc p) q (omega arith) r.so_far))
-    | inr above ↦ absurd (r.no_further (omega (arith, s.within)) (begins_before text (suc q) p (omega arith) s.so_far))
+    | inl below ↦ absurd (s.no_further (omega arith) (begins_before _ (suc p) q (omega arith) r.so_far))
+    | inr above ↦ absurd (r.no_further (omega arith) (begins_before _ (suc q) p (omega arith) s.so_far))
   ]
 ]
 
 stop_again : (text : List ℕ) (place : ℕ) (r : Result (List Label × ℕ) LabelRefusal) → StopsAt text place → read_set text ≡ r → r ≡ Err (BadText place)
 stop_again text place (Ok read) s h = absurd (s.no_set (take read.1 text) (drop read.1 text) read.0 (set_text_found text read.0 read.1 h) (sym (take-append-drop read.1 text)))
 stop_again text place (Err EmptyName) s h = absurd (s.no_lack (refused_is text EmptyName h))
-stop_again text place (Err EmptyValue) s h = absurd (s.no_empty (refused_is text EmptyValue h))
-stop_again text place (Err Repeated) s h = absurd (s.no_repeat (refused_is text Repeated h))
-stop_again text place (Err (BadText other)) s h = ap (λ p. Err (BadText p)) (same_place text other place (cause_of text (BadText other) h) s.goes_on)
-stop_again text place (Err NoMemory) s h = absurd (refused_is text NoMemory h)
+stop_again text place (Err EmptyValue) s h = absurd (s.no_empty (refused_is _ _ h))
+stop_again text _ (Err Repeated) s h = absurd (s.no_repeat (refused_is _ _ h))
+stop_again _ _ (Err (BadText other)) s h = ap (λ p. Err (BadText p)) (same_place _ _ _ (cause_of _ _ h) s.goes_on)
+stop_again _ _ (Err NoMemory) s h = absurd (refused_is _ _ h)
 
 -- and each cause its refusal
 pub refused_exactly : (text : List ℕ) (e : LabelRefusal) → IsRefused text e → read_set text ≡ Err e
-refused_exactly text EmptyName t = lacks_name_again text t
-refused_exactly text EmptyValue t = lacks_value_again text t
-refused_exactly text Repeated t = repeats_again text t
-refused_exactly text (BadText place) t = stop_again text place (read_set text) t refl
-refused_exactly text NoMemory t = absurd t
+refused_exactly _ EmptyName t = lacks_name_again _ t
+refused_exactly _ EmptyValue t = lacks_value_again _ t
+refused_exactly _ Repeated t = repeats_again _ t
+refused_exactly _ (BadText place) t = stop_again _ _ _ t refl
+refused_exactly _ NoMemory t = absurd t
 
 -- what a call that reads a set refuses
 pub refused_of : {X : Type 0} (view : X → List Label × ℕ) (r : Result X LabelRefusal) (text : List ℕ) → Gives NoMemory view r (read_set text) → IfErr r (λ e. (e ≡ NoMemory) ⊎ IsRefused text e)
-refused_of view (Ok x) text h = tt
-refused_of view (Err e) text (inl none) = inl none
-refused_of view (Err e) text (inr h) = inr (refused_is text e h)
+refused_of _ (Ok x) _ h = tt
+refused_of _ (Err e) _ (inl none) = inl none
+refused_of _ (Err e) _ (inr h) = inr (refused_is _ e h)
 
 pub exact_of : {X : Type 0} (view : X → List Label × ℕ) (r : Result X LabelRefusal) (text : List ℕ) (refusal : LabelRefusal) → Gives NoMemory view r (read_set text) → IsRefused text refusal → IsErrAnd r (λ e. (e ≡ NoMemory) ⊎ (e ≡ refusal))
-exact_of view (Ok x) text refusal h t = absurd (ok_not_err (view x) refusal (read_set text) h (refused_exactly text refusal t))
-exact_of view (Err e) text refusal (inl none) t = inl none
-exact_of view (Err e) text refusal (inr h) t = inr (err_is e refusal (sym h ∙ refused_exactly text refusal t))
+exact_of _ (Ok x) _ _ h t = absurd (ok_not_err _ _ _ h (refused_exactly _ _ t))
+exact_of _ (Err e) _ _ (inl none) t = inl none
+exact_of _ (Err e) _ _ (inr h) t = inr (err_is e _ (sym h ∙ refused_exactly _ _ t))

@@ -28,8 +28,8 @@ use Rattle.list_core.proofs.StableSorts.{NoneLess, Rises, Rises-from_sorted}
 
 among_labels : (labels : List Label) (name : List ℕ) → list_any (λ l. bytes_eq l.name name) labels ≡ is_among (names_of labels) name
 unfolding is_among
-among_labels [] name = refl
-among_labels (l ∷ ls) name = ap (λ b. bytes_eq l.name name || b) (among_labels ls name)
+among_labels [] _ = refl
+among_labels (l ∷ ls) name = ap (λ b. bytes_eq l.name name || b) (among_labels ls _)
 
 -- two neighbours with one name
 repeats_at : (labels : List Label) (k : ℕ) (d : Label) → suc k < length labels → bytes_eq (get_or labels k d).name (get_or labels (suc k) d).name ≡ true → repeats (names_of labels) ≡ true
@@ -37,7 +37,7 @@ unfolding repeats is_among
 repeats_at [] k d l e = absurd (omega arith)
 repeats_at (x ∷ []) k d l e = absurd (omega arith)
 repeats_at (x ∷ y ∷ ys) zero d l e = rw (nat_list_eq_equiv.symm y.name x.name ∙ e)
-repeats_at (x ∷ y ∷ ys) (suc k) d l e = rw (repeats_at (y ∷ ys) k d (omega arith) e, or-true (is_among (names_of (y ∷ ys)) x.name))
+repeats_at (x ∷ y ∷ ys) (suc k) d l e = rw (repeats_at (y ∷ ys) k d (omega arith) e, or-true)
 
 -- of two texts that are not less than one another
 tied : (o : Ordering) → is_lt o ≡ false → is_lt (ordering_reverse o) ≡ false → is_eq o ≡ true
@@ -48,11 +48,11 @@ tied Greater f g = sym g
 -- a name that y does not stand before, and that is not y's, is none of those behind y
 not_among_later : (name : List ℕ) (y : Label) (ys : List Label) → is_lt (compare_texts y.name name) ≡ false → bytes_eq y.name name ≡ false → NoneLess has_lesser_name y ys → is_among (names_of ys) name ≡ false
 unfolding is_among
-not_among_later name y [] low apart n = refl
+not_among_later _ y [] low apart n = refl
 not_among_later name y (w ∷ ws) low apart n = rw (
   bytes_eq_differs w.name name (λ e.
-      let high : is_lt (ordering_reverse (compare_texts y.name name)) ≡ false = ap is_lt (sym (nat_list_cmp_total.antisymm name y.name) ∙ ap (λ t. compare_texts t y.name) (sym e)) ∙ n.0 in
-      true≢false (sym (texts_ties y.name name ∙ tied (compare_texts y.name name) low high) ∙ apart)),
+      let high = ap is_lt (sym (nat_list_cmp_total.antisymm name y.name) ∙ ap (λ t. compare_texts t y.name) (sym e)) ∙ n.0 in
+      true≢false (sym (texts_ties y.name name ∙ tied _ low high) ∙ apart)),
   not_among_later name y ws low apart n.1,
 )
 
@@ -61,27 +61,27 @@ unfolding repeats is_among
 no_repeats [] r h = refl
 no_repeats (x ∷ []) r h = refl
 no_repeats (x ∷ y ∷ ys) r h =
-    let apart : bytes_eq y.name x.name ≡ false = nat_list_eq_equiv.symm y.name x.name ∙ h 0 x (omega arith) in
+    let apart = nat_list_eq_equiv.symm y.name x.name ∙ h 0 x (omega arith) in
     rw (apart, not_among_later x.name y ys r.0.0 apart r.1.0, no_repeats (y ∷ ys) r.1 (λ k d l. h (suc k) d (omega arith)))
 
 -- the same at a place of a loop
 pub repeats_before : (labels : List Label) (i : ℕ) (d e : Label) → 1 ≤ i → i < length labels → true ≡ bytes_eq (get_or labels (i - 1) d).name (get_or labels i e).name → true ≡ repeats (names_of labels)
 repeats_before labels i d e low l h =
     let j : i ≡ suc (i - 1) = omega arith in
-    let same : get_or labels i e ≡ get_or labels (suc (i - 1)) d = get_or_default labels i e d l ∙ ap (λ n. get_or labels n d) j in
-    sym (repeats_at labels (i - 1) d (omega arith) (ap (λ y. bytes_eq (get_or labels (i - 1) d).name y.name) (sym same) ∙ sym h))
+    let same = get_or_default labels i e d l ∙ ap (λ n. get_or labels n d) j in
+    sym (repeats_at _ _ d (omega arith) (ap (λ y. bytes_eq (get_or labels (i - 1) d).name y.name) (sym same) ∙ sym h))
 
 pub no_repeats_before : (labels : List Label) (i : ℕ) → length labels ≤ i → IsSortedBy has_lesser_name labels
     → ((k : ℕ) (d : Label) → k + 1 < i → bytes_eq (get_or labels k d).name (get_or labels (k + 1) d).name ≡ false) → false ≡ repeats (names_of labels)
-no_repeats_before labels i end up h = sym (no_repeats labels (Rises-from_sorted has_lesser_name (ranks_by nat_list_cmp_total (λ (l : Label). l.name)) labels up)
-    (λ k d l. subst (λ (n : ℕ). bytes_eq (get_or labels k d).name (get_or labels n d).name ≡ false) {x = k + 1} {y = suc k} (omega arith) (h k d (omega arith))))
+no_repeats_before labels i end up h = sym (no_repeats _ (Rises-from_sorted has_lesser_name (ranks_by nat_list_cmp_total (λ l. l.name)) _ up)
+    (λ k d l. subst (λ n. bytes_eq (get_or labels k d).name (get_or labels n d).name ≡ false) {x = k + 1} {y = suc k} (omega arith) (h k d (omega arith))))
 
 -- a list that has the same value under a name has the name too
 among_same : (labels others : List Label) (name : List ℕ) → value_of labels name ≡ value_of others name → is_among (names_of labels) name ≡ is_among (names_of others) name
-among_same labels others name e = among_names labels name ∙ ap is_some e ∙ sym (among_names others name)
+among_same _ _ name e = among_names _ _ ∙ ap is_some e ∙ sym (among_names _ _)
 
 among-in_order : (labels : List Label) (name : List ℕ) → is_among (names_of (in_order has_lesser_name labels)) name ≡ is_among (names_of labels) name
-among-in_order labels name = among_same (in_order has_lesser_name labels) labels name (value_of-in_order labels name)
+among-in_order labels _ = among_same _ _ _ (value_of-in_order _ _)
 
 -- the first two may change places
 repeats-swap : (l m : Label) (ls : List Label) → repeats (names_of (m ∷ l ∷ ls)) ≡ repeats (names_of (l ∷ m ∷ ls))
@@ -95,35 +95,35 @@ repeats-placed : (l : Label) (ls : List Label) → repeats (names_of (placed has
 unfolding placed repeats
 repeats-placed l [] = refl
 repeats-placed l (m ∷ ms) = elim (cases_Bool (has_lesser_name m l)) [
-  | inl t ↦ rw t ((λ i. among_same (placed has_lesser_name l ms) (l ∷ ms) m.name (value_of-placed l ms m.name) i || repeats-placed l ms i) ∙ repeats-swap l m ms)
+  | inl t ↦ rw t ((λ i. among_same (placed has_lesser_name l ms) (l ∷ ms) m.name (value_of-placed l ms m.name) i || repeats-placed l ms i) ∙ repeats-swap l m _)
   | inr f ↦ rw f
 ]
 
 pub repeats-in_order : (labels : List Label) → repeats (names_of (in_order has_lesser_name labels)) ≡ repeats (names_of labels)
 unfolding in_order repeats
 repeats-in_order [] = refl
-repeats-in_order (l ∷ ls) = repeats-placed l (in_order has_lesser_name ls) ∙ (λ i. among-in_order ls l.name i || repeats-in_order ls i)
+repeats-in_order (l ∷ ls) = repeats-placed l _ ∙ (λ i. among-in_order ls l.name i || repeats-in_order ls i)
 
 -- in a form that takes what a sort ensures
 pub repeats_sorted : (labels sorted : List Label) → sorted ≡ in_order has_lesser_name labels → repeats (names_of sorted) ≡ repeats (names_of labels)
-repeats_sorted labels sorted e = rw e (repeats-in_order labels)
+repeats_sorted _ _ e = rw e (repeats-in_order _)
 
 pub repeats_sorted_with : (labels sorted : List Label) (name : List ℕ) → sorted ≡ in_order has_lesser_name labels → repeats (name ∷ names_of sorted) ≡ repeats (name ∷ names_of labels)
 unfolding repeats
-repeats_sorted_with labels sorted name e = rw (e, among-in_order labels name, repeats-in_order labels)
+repeats_sorted_with _ _ _ e = rw (e, among-in_order, repeats-in_order)
 
 -- labels that can stand as pairs, no two of one name, make a set
 named_some : (name : List ℕ) → is_name name ≡ true → name ≢ []
 unfolding is_name
-named_some name is e = true≢false (sym is ∙ ap is_name e)
+named_some _ is e = true≢false (sym is ∙ ap is_name e)
 
 pub MakeASet-from_pairs : (labels : List Label) → ArePairs labels → repeats (names_of labels) ≡ false → MakeASet labels
 unfolding repeats
 MakeASet-from_pairs [] are once = tt
 MakeASet-from_pairs (l ∷ ls) are once =
-    let p = or_parts (is_among (names_of ls) l.name) (repeats (names_of ls)) once in
+    let p = or_parts _ _ once in
     let one = are 0 l (omega arith) in
-    (named_some l.name one.0, one.1, None-from_is_some (value_of ls l.name) (sym (among_names ls l.name) ∙ p.0), MakeASet-from_pairs ls (λ k d lt. are (suc k) d (omega arith)) p.1)
+    (named_some _ one.0, one.1, None-from_is_some _ (sym (among_names _ _) ∙ p.0), MakeASet-from_pairs ls (λ k d lt. are (suc k) d (omega arith)) p.1)
 
 pub once_from_able : (labels : List Label) → MakeASet labels → repeats (names_of labels) ≡ false
 unfolding repeats
@@ -134,16 +134,16 @@ once_from_able (l ∷ ls) able = rw (among_names ls l.name, able.2, once_from_ab
 nameless : (labels : List Label) → ArePairs labels → is_among (names_of labels) [] ≡ false
 unfolding is_among
 nameless [] are = refl
-nameless (l ∷ ls) are = rw (bytes_eq_differs l.name [] (named_some l.name (are 0 l (omega arith)).0), nameless ls (λ k d lt. are (suc k) d (omega arith)))
+nameless (l ∷ ls) are = rw (bytes_eq_differs l.name [] (named_some _ (are 0 l (omega arith)).0), nameless ls (λ k d lt. are (suc k) d (omega arith)))
 
 pub repeats-nameless : (labels : List Label) → ArePairs labels → repeats ([] ∷ names_of labels) ≡ repeats (names_of labels)
 unfolding repeats is_among
-repeats-nameless labels are = rw (nameless labels are)
+repeats-nameless _ are = rw (nameless)
 
 among-last : (labels : List Label) (l : Label) (name : List ℕ) → is_among (names_of (labels ++ l ∷ [])) name ≡ (bytes_eq l.name name || is_among (names_of labels) name)
 unfolding is_among
-among-last [] l name = refl
-among-last (x ∷ xs) l name = ap (λ b. bytes_eq x.name name || b) (among-last xs l name) ∙ or_swap (bytes_eq x.name name) (bytes_eq l.name name) (is_among (names_of xs) name)
+among-last [] l _ = refl
+among-last (x ∷ xs) l name = ap (λ b. bytes_eq x.name name || b) (among-last xs l _) ∙ or_swap (bytes_eq x.name name) (bytes_eq l.name name) (is_among (names_of xs) name)
 
 -- the last label may stand first
 pub repeats-last : (labels : List Label) (l : Label) → repeats (names_of (labels ++ l ∷ [])) ≡ repeats (l.name ∷ names_of labels)
@@ -152,24 +152,24 @@ repeats-last [] l = refl
 repeats-last (x ∷ xs) l = (λ i. among-last xs l x.name i || repeats-last xs l i) ∙ repeats-swap l x xs
 
 among-more : (labels more : List Label) (name : List ℕ) → is_among (names_of labels) name ≡ true → is_among (names_of (labels ++ more)) name ≡ true
-among-more labels more name t =
+among-more _ more name t =
     let has : Label → Bool = λ l. bytes_eq l.name name in
-    sym (among_labels (labels ++ more) name) ∙ list_any-append has labels more ∙ ap (λ b. b || list_any has more) (among_labels labels name ∙ t)
+    sym (among_labels _ _) ∙ list_any-append has _ _ ∙ ap (λ b. b || list_any has more) (among_labels _ _ ∙ t)
 
 -- what stands twice does so whatever follows
 pub repeats-more : (labels more : List Label) → repeats (names_of labels) ≡ true → repeats (names_of (labels ++ more)) ≡ true
 unfolding repeats
-repeats-more [] more t = absurd (true≢false (sym t))
-repeats-more (x ∷ xs) more t = elim (cases_Bool (is_among (names_of xs) x.name)) [
+repeats-more [] _ t = absurd (true≢false (sym t))
+repeats-more (x ∷ xs) more t = elim (cases_Bool _) [
   | inl here ↦ rw (among-more xs more x.name here)
-  | inr f ↦ rw (repeats-more xs more (rw f at t), or-true (is_among (names_of (xs ++ more)) x.name))
+  | inr f ↦ rw (repeats-more xs more (rw f at t), or-true)
 ]
 
 -- the name that is added is among the others, or only the others decide
 pub repeats_found : (labels : List Label) (name : List ℕ) (r : Bool) → r ≡ list_any (λ l. bytes_eq l.name name) labels → r ≡ true → r ≡ repeats (name ∷ names_of labels)
 unfolding repeats
-repeats_found labels name r e t = t ∙ sym (rw (sym (among_labels labels name) ∙ sym e ∙ t))
+repeats_found labels _ r e t = t ∙ sym (rw (sym (among_labels labels _) ∙ sym e ∙ t))
 
 pub repeats_others : (labels : List Label) (name : List ℕ) (a r : Bool) → a ≡ list_any (λ l. bytes_eq l.name name) labels → a ≡ false → r ≡ repeats (names_of labels) → r ≡ repeats (name ∷ names_of labels)
 unfolding repeats
-repeats_others labels name a r e f h = h ∙ sym (rw (sym (among_labels labels name) ∙ sym e ∙ f))
+repeats_others labels _ a r e f h = h ∙ sym (rw (sym (among_labels labels _) ∙ sym e ∙ f))

@@ -27,15 +27,15 @@ abbrev HasNoColon : List ℕ → Type 0
 HasNoColon text = list_all (λ byte. not (is_colon byte)) text ≡ true
 
 through : (front rest : List ℕ) → HasNoColon front → position_or_len is_colon (front ++ 58 ∷ rest) ≡ length front
-through [] rest none = refl
+through [] _ none = refl
 through (byte ∷ front) rest none =
     let p = and_parts (not (is_colon byte)) (list_all (λ b. not (is_colon b)) front) none in
     ap (λ b. cond b (1 + position_or_len is_colon (front ++ 58 ∷ rest)) 0) p.0 ∙ ap (λ n. 1 + n) (through front rest p.1) ∙ omega arith
 
 cut_at_colon : (front rest : List ℕ) → HasNoColon front → (before_first is_colon (front ++ 58 ∷ rest) ≡ front) × (after_first is_colon (front ++ 58 ∷ rest) ≡ rest)
 cut_at_colon front rest none =
-    let n = through front rest none in (
-      ap (λ k. take k (front ++ 58 ∷ rest)) n ∙ take_at front (58 ∷ rest) (length front) refl,
+    let n = through _ _ none in (
+      ap (λ k. take k (front ++ 58 ∷ rest)) n ∙ take_at _ _ _ refl,
       ap (λ k. drop (k + 1) (front ++ 58 ∷ rest)) n ∙ ap (drop (length front + 1)) (sym (append_assoc front (58 ∷ []) rest))
           ∙ drop_at (front ++ 58 ∷ []) rest (length front + 1) (omega (arith, length-append front (58 ∷ []))),
     )
@@ -49,8 +49,8 @@ digits_only (d ∷ ds) all =
 
 time_only : (time : ℤ) → HasNoColon (signed_text time)
 unfolding signed_text
-time_only (pos n) = digits_only (decimal_text n) (decimal_digits (decimal_text n) (decimal_again n).0).1
-time_only (negsuc n) = digits_only (decimal_text (suc n)) (decimal_digits (decimal_text (suc n)) (decimal_again (suc n)).0).1
+time_only (pos n) = digits_only (decimal_text n) (decimal_digits _ (decimal_again n).0).1
+time_only (negsuc n) = digits_only (decimal_text (suc n)) (decimal_digits _ (decimal_again (suc n)).0).1
 
 -- a text with a colon in it
 with_colon : (text : List ℕ) → after_first is_colon text ≢ [] → text ≡ before_first is_colon text ++ 58 ∷ after_first is_colon text
@@ -58,7 +58,7 @@ with_colon text some =
     elim (cases_lt (position_or_len is_colon text) (length text)) [
       | inl within ↦
           let here : get_or text (position_or_len is_colon text) 0 ≡ 58 = let test = passes_at_first is_colon text 0 within in grind (arith, nat_tests) in
-          split_at_first is_colon text 0 within ∙ ap (λ c. before_first is_colon text ++ (c ∷ after_first is_colon text)) here
+          split_at_first is_colon _ 0 within ∙ ap (λ c. before_first is_colon text ++ (c ∷ after_first is_colon text)) here
       | inr beyond ↦ absurd (some (drop_of_length-le text (omega arith)))
     ]
 
@@ -71,28 +71,28 @@ nothing_before = refl
 -- a text of a time and a pattern is read in its parts
 pub timed_is : (text : List ℕ) (time : ℤ) (pattern : ℕ) → pattern < 2 ^ 64 → text ≡ timed_text time pattern → sample_of text ≡ sample_with (Some pattern) (signed_of (signed_text time))
 unfolding timed_text sample_of
-timed_is text time pattern fits e =
-    let c = cut_at_colon (signed_text time) (pattern_text pattern) (time_only time) in
-    ap sample_of e ∙ (λ i. sample_with (pattern_of (c.1 i)) (signed_of (c.0 i))) ∙ ap (λ p. sample_with p (signed_of (signed_text time))) (pattern_again pattern fits)
+timed_is text time _ fits e =
+    let c = cut_at_colon _ _ (time_only _) in
+    ap sample_of e ∙ (λ i. sample_with (pattern_of (c.1 i)) (signed_of (c.0 i))) ∙ ap (λ p. sample_with p (signed_of (signed_text time))) (pattern_again _ fits)
 
 -- a text in front of whose pattern something stands
 pub parts_of : (text : List ℕ) (pattern : ℕ) → pattern_of (after_first is_colon text) ≡ Some pattern
     → (text ≡ before_first is_colon text ++ 58 ∷ pattern_text pattern) × (pattern < 2 ^ 64)
 parts_of text pattern e =
-    let f = pattern_found (after_first is_colon text) pattern e in
-    let some : after_first is_colon text ≢ [] = λ none. let clash : ◌≡◌ {A = Option ℕ} None (Some pattern) = sym nothing_before ∙ ap pattern_of (sym none) ∙ e in absurd cc in
-    (with_colon text some ∙ ap (λ rest. before_first is_colon text ++ 58 ∷ rest) f.0, f.1)
+    let f = pattern_found _ _ e in
+    let some : after_first is_colon text ≢ [] = λ none. let clash = sym nothing_before ∙ ap pattern_of (sym none) ∙ e in absurd cc in
+    (with_colon _ some ∙ ap (λ rest. before_first is_colon text ++ 58 ∷ rest) f.0, f.1)
 
 -- ---- what a sample is read from
 
 with_ok : (p : Option ℕ) (t : Result ℤ NumberRefusal) (sample : Sample) → sample_with p t ≡ Ok sample → (p ≡ Some sample.pattern) × (t ≡ Ok sample.time)
 unfolding sample_with
-with_ok None t sample e = absurd cc
+with_ok None t _ e = absurd cc
 with_ok (Some pattern) (Ok time) sample e =
     let same : ◌≡◌ {A = Sample} (record { time = time; pattern = pattern }) sample = cc in
     (ap (λ s. Some s.pattern) same, ap (λ s. Ok s.time) same)
-with_ok (Some pattern) (Err NotANumber) sample e = absurd cc
-with_ok (Some pattern) (Err TooLarge) sample e = absurd cc
+with_ok (Some pattern) (Err NotANumber) _ e = absurd cc
+with_ok (Some pattern) (Err TooLarge) _ e = absurd cc
 
 with_large : (p : Option ℕ) (t : Result ℤ NumberRefusal) → sample_with p t ≡ Err OutOfRange → (pattern : ℕ) × (p ≡ Some pattern) × (t ≡ Err TooLarge)
 unfolding sample_with
@@ -103,68 +103,68 @@ with_large (Some pattern) (Err TooLarge) e = (pattern, refl, refl)
 
 pub sample_of-found : (text : List ℕ) (sample : Sample) → sample_of text ≡ Ok sample → text ≡ sample_text sample
 unfolding sample_of sample_text timed_text
-sample_of-found text sample e =
-    let w = with_ok (pattern_of (after_first is_colon text)) (signed_of (before_first is_colon text)) sample e in
-    (parts_of text sample.pattern w.0).0 ∙ ap (λ front. front ++ 58 ∷ pattern_text sample.pattern) (signed_found (before_first is_colon text) sample.time w.1).0
+sample_of-found _ sample e =
+    let w = with_ok _ _ _ e in
+    (parts_of _ _ w.0).0 ∙ ap (λ front. front ++ 58 ∷ pattern_text sample.pattern) (signed_found _ _ w.1).0
 
 -- what is read fits
 pub sample_of-fits : (text : List ℕ) (sample : Sample) → sample_of text ≡ Ok sample → FitsSigned w64 sample.time × (sample.pattern < 2 ^ 64)
 unfolding sample_of
-sample_of-fits text sample e =
-    let w = with_ok (pattern_of (after_first is_colon text)) (signed_of (before_first is_colon text)) sample e in
-    ((signed_found (before_first is_colon text) sample.time w.1).1, (parts_of text sample.pattern w.0).1)
+sample_of-fits text _ e =
+    let w = with_ok _ _ _ e in
+    ((signed_found _ _ w.1).1, (parts_of text _ w.0).1)
 
 pub sample_of-only : (text : List ℕ) (sample : Sample) → FitsSigned w64 sample.time → sample.pattern < 2 ^ 64 → text ≡ sample_text sample → sample_of text ≡ Ok sample
 unfolding sample_text sample_with
-sample_of-only text sample fits small e = timed_is text sample.time sample.pattern small e ∙ ap (sample_with (Some sample.pattern)) (signed_again sample.time fits)
+sample_of-only _ sample fits small e = timed_is _ _ _ small e ∙ ap (sample_with (Some sample.pattern)) (signed_again _ fits)
 
 pub sample_of-large : (text : List ℕ) → sample_of text ≡ Err OutOfRange → (time : ℤ) × (pattern : ℕ) × (¬ FitsSigned w64 time) × (pattern < 2 ^ 64) × (text ≡ timed_text time pattern)
 unfolding sample_of timed_text
-sample_of-large text e =
-    let w = with_large (pattern_of (after_first is_colon text)) (signed_of (before_first is_colon text)) e in
-    let t = signed_found_large (before_first is_colon text) w.2 in
-    let p = parts_of text w.0 w.1 in
+sample_of-large _ e =
+    let w = with_large _ _ e in
+    let t = signed_found_large _ w.2 in
+    let p = parts_of _ _ w.1 in
     (t.0, w.0, t.1, p.1, p.0 ∙ ap (λ front. front ++ 58 ∷ pattern_text w.0) t.2)
 
 pub sample_of-large_again : (text : List ℕ) (time : ℤ) (pattern : ℕ) → ¬ FitsSigned w64 time → pattern < 2 ^ 64 → text ≡ timed_text time pattern → sample_of text ≡ Err OutOfRange
 unfolding sample_with
-sample_of-large_again text time pattern large small e = timed_is text time pattern small e ∙ ap (sample_with (Some pattern)) (signed_large time large)
+sample_of-large_again _ _ pattern large small e = timed_is _ _ _ small e ∙ ap (sample_with (Some pattern)) (signed_large _ large)
 
 time_is_number : (time : ℤ) (pattern : ℕ) (t : Result ℤ NumberRefusal) → signed_of (signed_text time) ≡ t → sample_with (Some pattern) t ≡ Err NotASample → ⊥
 unfolding sample_with
-time_is_number time pattern (Ok n) e h = cc
-time_is_number time pattern (Err NotANumber) e h = signed_found_none (signed_text time) e time refl
-time_is_number time pattern (Err TooLarge) e h = cc
+time_is_number _ _ (Ok n) e h = cc
+time_is_number _ _ (Err NotANumber) e h = signed_found_none _ e _ refl
+time_is_number _ _ (Err TooLarge) e h = cc
 
 pub sample_of-none : (text : List ℕ) → sample_of text ≡ Err NotASample → (time : ℤ) (pattern : ℕ) → pattern < 2 ^ 64 → text ≢ timed_text time pattern
-sample_of-none text e time pattern small is =
-    time_is_number time pattern (signed_of (signed_text time)) refl (sym (timed_is text time pattern small is) ∙ e)
+sample_of-none _ e _ _ small is =
+    time_is_number _ _ _ refl (sym (timed_is _ _ _ small is) ∙ e)
 
 refused : (text front : List ℕ) (p : Option ℕ) (t : Result ℤ NumberRefusal) → signed_of front ≡ t → ((pattern : ℕ) → p ≡ Some pattern → (text ≡ front ++ 58 ∷ pattern_text pattern) × (pattern < 2 ^ 64))
     → ((time : ℤ) (pattern : ℕ) → pattern < 2 ^ 64 → text ≢ timed_text time pattern) → sample_with p t ≡ Err NotASample
 unfolding sample_with timed_text
-refused text front None t e parts none = refl
-refused text front (Some pattern) (Ok time) e parts none =
+refused _ _ None t e parts none = refl
+refused _ _ (Some pattern) (Ok time) e parts none =
     let p = parts pattern refl in
-    absurd (none time pattern p.1 (p.0 ∙ ap (λ x. x ++ 58 ∷ pattern_text pattern) (signed_found front time e).0))
-refused text front (Some pattern) (Err NotANumber) e parts none = refl
-refused text front (Some pattern) (Err TooLarge) e parts none =
+    absurd (none time pattern p.1 (p.0 ∙ ap (λ x. x ++ 58 ∷ pattern_text pattern) (signed_found _ _ e).0))
+refused _ _ (Some pattern) (Err NotANumber) e parts none = refl
+refused _ _ (Some pattern) (Err TooLarge) e parts none =
     let p = parts pattern refl in
-    let t = signed_found_large front e in
+    let t = signed_found_large _ e in
     absurd (none t.0 pattern p.1 (p.0 ∙ ap (λ x. x ++ 58 ∷ pattern_text pattern) t.2))
 
 pub sample_of-none_again : (text : List ℕ) → ((time : ℤ) (pattern : ℕ) → pattern < 2 ^ 64 → text ≢ timed_text time pattern) → sample_of text ≡ Err NotASample
 unfolding sample_of
 sample_of-none_again text none =
-    refused text (before_first is_colon text) (pattern_of (after_first is_colon text)) (signed_of (before_first is_colon text)) refl (λ pattern e. parts_of text pattern e) none
+    refused _ _ _ _ refl (λ pattern e. parts_of text pattern e) none
 
 pub found_of : (text : List ℕ) (r : Result Sample SampleRefusal) → r ≡ sample_of text → IfOk r (λ sample. text ≡ sample_text sample)
-found_of text (Ok sample) e = sample_of-found text sample (sym e)
-found_of text (Err refusal) e = tt
+found_of _ (Ok sample) e = sample_of-found _ _ (sym e)
+found_of _ (Err refusal) e = tt
 
 -- where a text has no colon, it is no sample
 pub uncut : (text : List ℕ) → position_or_len is_colon text ≡ length text → sample_of text ≡ Err NotASample
 unfolding sample_of sample_with
 uncut text none =
-    let nothing : after_first is_colon text ≡ [] = ap (λ k. drop (k + 1) text) none ∙ drop_of_length-le text (omega arith) in
+    let nothing = ap (λ k. drop (k + 1) text) none ∙ drop_of_length-le text (omega arith) in
     ap (λ p. sample_with p (signed_of (before_first is_colon text))) (ap pattern_of nothing ∙ nothing_before)

@@ -16,10 +16,10 @@ use Rattle.label_sets.proofs.SetsFound.{set_found}
 use Rattle.label_sets.proofs.SetLaws.{set_text_found}
 
 some_byte : (a b c : Bool) (byte : ℕ) → 1 ≤ length (cond a (92 ∷ 92 ∷ []) (cond b (92 ∷ 34 ∷ []) (cond c (92 ∷ 110 ∷ []) (byte ∷ []))))
-some_byte true b c byte = omega arith
-some_byte false true c byte = omega arith
-some_byte false false true byte = omega arith
-some_byte false false false byte = omega arith
+some_byte true b c _ = omega arith
+some_byte false true c _ = omega arith
+some_byte false false true _ = omega arith
+some_byte false false false _ = omega arith
 
 longer_quoted : (value : List ℕ) → length value ≤ length (quoted value)
 unfolding quoted quoted_byte
@@ -44,7 +44,7 @@ longer_set (l ∷ ls) =
     omega (arith, sum_by-cons members_of l ls, longer_pair l, longer_pairs ls, length-append (pair_text l) (flat_map comma_pair_text ls), length-append (pairs_text (l ∷ ls)) (125 ∷ []))
 
 take_front : (text : List ℕ) (labels : List Label) (after : List ℕ) (taken : ℕ) → text ≡ set_text labels ++ after → taken ≡ length (set_text labels) → take taken text ≡ set_text labels
-take_front text labels after taken whole is = (λ i. take (is i) (whole i)) ∙ take_at (set_text labels) after (length (set_text labels)) refl
+take_front _ _ _ _ whole is = (λ i. take (is i) (whole i)) ∙ take_at _ _ _ refl
 
 longer_text : (text : List ℕ) (set : List Label) → IsSetText text set → members_in set ≤ length text
 longer_text text set is = omega (arith, longer_set is.listed, ap length is.written, sum_by-IsPermutation members_of is.listed set is.arranged)
@@ -54,7 +54,7 @@ pub members_read : {X : Type 0} (view : X → List Label × ℕ) (r : Result X L
     → IfOk r (λ x. (members_in (view x).0 ≤ (view x).1) × ((view x).1 ≤ length text))
 members_read view (Ok x) text h =
     let s = set_found text (view x).0 (view x).1 h in
-    let is = set_text_found text (view x).0 (view x).1 h in
-    let front : length (take (view x).1 text) ≡ (view x).1 = ap length (take_front text s.labels s.after (view x).1 s.whole s.taken_is) ∙ sym s.taken_is in
-    (omega (arith, longer_text (take (view x).1 text) (view x).0 is, front), omega (arith, s.taken_is, ap length s.whole, length-append (set_text s.labels) s.after))
-members_read view (Err e) text h = tt
+    let is = set_text_found text (view x).0 _ h in
+    let front = ap length (take_front _ _ _ _ s.whole s.taken_is) ∙ sym s.taken_is in
+    (omega (arith, longer_text (take (view x).1 text) (view x).0 is, front), omega (arith, ap length s.whole, length-append (set_text s.labels) s.after))
+members_read _ (Err e) _ h = tt

@@ -30,7 +30,7 @@ unfolding hex_sign
 all_signs = tt
 
 pub signs_at : (n : ℕ) → n < 256 → (get_or SIGNS (n * 2) 0 ≡ hex_sign (n / 16)) × (get_or SIGNS (n * 2 + 1) 0 ≡ hex_sign (n % 16))
-signs_at n low = below 256 n all_signs low
+signs_at n low = below _ n all_signs low
 
 -- ---- digits from the last one on, before what stands behind a place
 
@@ -38,12 +38,12 @@ one_before : (whole text : List ℕ) (from place rest c : ℕ) → from + place 
     → map hex_sign (fixed_digits 16 (suc place) rest) ++ drop (from + suc place) text ≡ whole
     → map hex_sign (fixed_digits 16 place (rest / 16)) ++ drop (from + place) (set text (from + place) c) ≡ whole
 unfolding fixed_digits
-one_before whole text from place rest c low is so_far =
+one_before _ text from place rest c low is so_far =
     let next : from + place + 1 ≡ from + suc place = omega arith in
-    let tail : drop (from + place) (set text (from + place) c) ≡ hex_sign (rest % 16) ∷ drop (from + suc place) text =
-    drop-set text (from + place) c low ∙ rw (is, next) refl in
-    let front : map hex_sign (fixed_digits 16 place (rest / 16) ++ (rest % 16 ∷ [])) ≡ map hex_sign (fixed_digits 16 place (rest / 16)) ++ (hex_sign (rest % 16) ∷ []) =
-    map-append hex_sign (fixed_digits 16 place (rest / 16)) (rest % 16 ∷ []) in
+    let tail =
+    drop-set _ _ c low ∙ rw (is, next) refl in
+    let front =
+    map-append _ _ _ in
     ap (λ t. map hex_sign (fixed_digits 16 place (rest / 16)) ++ t) tail
     ∙ sym (append_assoc (map hex_sign (fixed_digits 16 place (rest / 16))) (hex_sign (rest % 16) ∷ []) (drop (from + suc place) text))
     ∙ ap (λ t. t ++ drop (from + suc place) text) (sym front) ∙ so_far
@@ -55,9 +55,9 @@ Stands whole field pair rest = map hex_sign (fixed_digits 16 (2 * pair) rest) ++
 two : (whole field : List ℕ) (k rest high low : ℕ) → 24 + suc k < length field → high ≡ hex_sign (rest / 16 % 16) → low ≡ hex_sign (rest % 16)
     → map hex_sign (fixed_digits 16 (suc (suc k)) rest) ++ drop (24 + suc (suc k)) field ≡ whole
     → map hex_sign (fixed_digits 16 k (rest / 16 / 16)) ++ drop (24 + k) (set (set field (24 + suc k) low) (24 + k) high) ≡ whole
-two whole field k rest high low room is_high is_low so_far =
-    one_before whole (set field (24 + suc k) low) 24 k (rest / 16) high (omega (arith, length-set field (24 + suc k) low)) is_high
-    (one_before whole field 24 (suc k) rest low room is_low so_far)
+two _ field k _ _ low room is_high is_low so_far =
+    one_before _ _ _ k _ _ (omega (arith, length-set field (24 + suc k) low)) is_high
+    (one_before _ _ _ _ _ _ room is_low so_far)
 
 pub two_before : (whole field : List ℕ) (pair rest high low i j : ℕ) → 0 < pair → length field ≡ 40 → pair ≤ 8 → i ≡ 24 + 2 * (pair - 1) → j ≡ 25 + 2 * (pair - 1)
     → high ≡ hex_sign (rest % 256 / 16) → low ≡ hex_sign (rest % 256 % 16)
@@ -65,13 +65,13 @@ pub two_before : (whole field : List ℕ) (pair rest high low i j : ℕ) → 0 <
 two_before whole field pair rest high low i j some long few i_is j_is is_high is_low so_far =
     let k = 2 * (pair - 1) in
     let both : 2 * pair ≡ suc (suc k) = omega arith in
-    let j_at : 24 + suc k ≡ j = omega (arith, j_is) in
+    let j_at : 24 + suc k ≡ j = omega arith in
     let digit : rest % 256 / 16 ≡ rest / 16 % 16 = omega arith in
     let last : rest % 256 % 16 ≡ rest % 16 = omega arith in
     let left : rest / 16 / 16 ≡ rest / 256 = omega arith in
-    let room : 24 + suc k < length field = omega (arith, long, few, some) in
+    let room : 24 + suc k < length field = omega arith in
     let begun = subst (λ n. map hex_sign (fixed_digits 16 n rest) ++ drop (24 + n) field ≡ whole) both so_far in
-    let made = two whole field k rest high low room (is_high ∙ ap hex_sign digit) (is_low ∙ ap hex_sign last) begun in
+    let made = two _ _ k _ _ _ room (is_high ∙ ap hex_sign digit) (is_low ∙ ap hex_sign last) begun in
     subst (λ n. map hex_sign (fixed_digits 16 k n) ++ drop (24 + k) (set (set field j low) i high) ≡ whole) left
     (subst (λ n. map hex_sign (fixed_digits 16 k (rest / 16 / 16)) ++ drop (24 + k) (set (set field j low) n high) ≡ whole) (sym i_is)
     (subst (λ n. map hex_sign (fixed_digits 16 k (rest / 16 / 16)) ++ drop (24 + k) (set (set field n low) (24 + k) high) ≡ whole) j_at made))
@@ -79,12 +79,12 @@ two_before whole field pair rest high low i j some long few i_is j_is is_high is
 -- before the first pair, and behind the last one
 pub none_stand : (pattern : ℕ) (field : List ℕ) → length field ≡ 40 → Stands (pattern_text pattern) field 8 pattern
 unfolding pattern_text hex_text
-none_stand pattern field long = ap (λ t. map hex_sign (fixed_digits 16 16 pattern) ++ t) (drop_all 40 field (omega (arith, long))) ∙ append-nil _
+none_stand pattern field long = ap (λ t. map hex_sign (fixed_digits 16 16 pattern) ++ t) (drop_all 40 field (omega arith)) ∙ append-nil _
 
 pub all_stand : (pattern : ℕ) (field : List ℕ) (pair rest : ℕ) → pair ≤ 0 → Stands (pattern_text pattern) field pair rest → drop 24 field ≡ pattern_text pattern
 unfolding fixed_digits
-all_stand pattern field zero rest none stands = stands
-all_stand pattern field (suc pair) rest none stands = absurd (omega arith)
+all_stand _ _ zero _ none stands = stands
+all_stand _ _ (suc pair) _ none stands = absurd (omega arith)
 
 -- ---- a whole field
 
@@ -93,9 +93,9 @@ pub spaced : (time : ℤ) (pattern : ℕ) (made field : List ℕ) (start : ℕ) 
     → drop 24 made ≡ pattern_text pattern → drop start field ≡ signed_decimal time ++ drop 23 (set made 23 58) → FitsSigned w64 time
     → drop (start - 1) (set field (start - 1) 32) ≡ 32 ∷ timed_text time pattern
 unfolding timed_text
-spaced time pattern made field start long some within signs written fits =
+spaced time pattern _ field start long some within signs written fits =
     let back : start - 1 + 1 ≡ start = omega arith in
-    let colon : drop 23 (set made 23 58) ≡ 58 ∷ pattern_text pattern = drop-set made 23 58 long ∙ ap (λ t. 58 ∷ t) signs in
-    drop-set field (start - 1) 32 (omega arith)
+    let colon = drop-set _ _ _ long ∙ ap (λ t. 58 ∷ t) signs in
+    drop-set _ (start - 1) 32 (omega arith)
     ∙ ap (λ n. 32 ∷ drop n field) back
-    ∙ ap (λ t. 32 ∷ t) (written ∙ ap (λ t. signed_decimal time ++ t) colon ∙ ap (λ t. t ++ 58 ∷ pattern_text pattern) (printed_signed time fits))
+    ∙ ap (λ t. 32 ∷ t) (written ∙ ap (λ t. signed_decimal time ++ t) colon ∙ ap (λ t. t ++ 58 ∷ pattern_text pattern) (printed_signed _ fits))

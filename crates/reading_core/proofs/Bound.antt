@@ -49,9 +49,9 @@ of_refused f (Err d) p = of_err
 -- ---- from a reading function to the call
 
 pub of_gives : {X Y E : Type 0} {P : Y → Type 0} {read : Result Y E} (no_memory : E) (view : X → Y) (result : Result X E) → OfValue read P → Gives no_memory view result read → IfOk result (λ x. P (view x))
-of_gives no_memory view (Ok x) p gives = p.holds (view x) gives
-of_gives no_memory view (Err e) p gives = tt
+of_gives _ view (Ok x) p gives = p.holds (view x) gives
+of_gives _ _ (Err e) p gives = tt
 
 pub of_answers : {X Y E : Type 0} {P : Y → Type 0} {read : Result Y E} (view : X → Y) (result : Result X E) → OfValue read P → Answers view result read → IfOk result (λ x. P (view x))
 of_answers view (Ok x) p answers = p.holds (view x) answers
-of_answers view (Err e) p answers = tt
+of_answers _ (Err e) p answers = tt

@@ -27,8 +27,8 @@ digits_are_numerals = numerals_by_value AreDigits tells
 digits_after : (n : ℕ) (ds : List ℕ) → 0 < n → AllBelowBase 10 ds → digits_of 10 (number_from_digits_after 10 n ds) ≡ digits_of 10 n ++ ds
 digits_after n [] some low = sym (append-nil (digits_of 10 n))
 digits_after n (d ∷ ds) some low =
-    let step : digits_of 10 (n * 10 + d) ≡ digits_of 10 n ++ (d ∷ []) = digits_of_step 10 (n * 10 + d) (omega arith) (omega arith) ∙ rw (div-mul-add n 10 d low.0, mod-mul-add n 10 d low.0) refl in
-    digits_after (n * 10 + d) ds (omega arith) low.1 ∙ ap (λ (front : List ℕ). front ++ ds) step ∙ append_assoc (digits_of 10 n) (d ∷ []) ds
+    let step : digits_of 10 (n * 10 + d) ≡ digits_of 10 n ++ (d ∷ []) = digits_of_step _ (n * 10 + d) (omega arith) (omega arith) ∙ rw (div-mul-add n 10 d low.0, mod-mul-add n 10 d low.0) refl in
+    digits_after (n * 10 + d) ds (omega arith) low.1 ∙ ap (λ front. front ++ ds) step ∙ append_assoc (digits_of 10 n) (d ∷ []) ds
 
 small_quotient : (d : ℕ) → d < 10 → d / 10 ≡ 0
 small_quotient d low = omega arith
@@ -40,8 +40,8 @@ small_rest d low = omega arith
 digits_back : (d : ℕ) (ds : List ℕ) → 0 < d → AllBelowBase 10 (d ∷ ds) → digits_of 10 (number_from_digits 10 (d ∷ ds)) ≡ d ∷ ds
 digits_back d ds some low =
     let e : 0 * 10 + d ≡ d = omega arith in
-    let one : digits_of 10 d ≡ d ∷ [] = digits_of_step 10 d (omega arith) some ∙ rw (small_quotient d low.0, small_rest d low.0) refl in
-    rw e (digits_after d ds some low.1 ∙ ap (λ (front : List ℕ). front ++ ds) one)
+    let one : digits_of 10 d ≡ d ∷ [] = digits_of_step _ d (omega arith) some ∙ rw (small_quotient d low.0, small_rest d low.0) refl in
+    rw e (digits_after d _ some low.1 ∙ ap (λ front. front ++ ds) one)
 
 pub both : (a b : Bool) → (a && b) ≡ true → (a ≡ true) × (b ≡ true)
 both true b e = (refl, e)
@@ -59,16 +59,16 @@ value_below c e = let r = in_range c e in let v = value_is c e in omega arith
 values_below : (text : List ℕ) → AreDigits text → AllBelowBase 10 (map digit_value text)
 values_below [] are = tt
 values_below (c ∷ cs) are =
-    let p = both (is_ascii_digit c) (list_all is_ascii_digit cs) are in
+    let p = both _ _ are in
     (value_below c p.0, values_below cs p.1)
 
 -- the characters of the values of digits are the digits
 characters : (text : List ℕ) → AreDigits text → map (λ digit. 48 + digit) (map digit_value text) ≡ text
 characters [] are = refl
 characters (c ∷ cs) are =
-    let p = both (is_ascii_digit c) (list_all is_ascii_digit cs) are in
+    let p = both _ _ are in
     let e : 48 + digit_value c ≡ c = omega (arith, value_is c p.0) in
-    rw e (ap (λ (text : List ℕ). c ∷ text) (characters cs p.1))
+    rw e (ap (λ text. c ∷ text) (characters _ p.1))
 
 pub decimal_text-pos : (n : ℕ) → 0 < n → decimal_text n ≡ map (λ digit. 48 + digit) (digits_of 10 n)
 unfolding decimal_text
@@ -81,37 +81,37 @@ number_positive d ds some = omega (arith, number_after_ge 10 (0 * 10 + d) ds (om
 -- digits that don't begin with `0` are the text of their value
 text_back : (c : ℕ) (cs : List ℕ) → AreDigits (c ∷ cs) → c ≢ 48 → (0 < digits_value 10 (c ∷ cs)) × (decimal_text (digits_value 10 (c ∷ cs)) ≡ c ∷ cs)
 text_back c cs are other =
-    let first = (both (is_ascii_digit c) (list_all is_ascii_digit cs) are).0 in
+    let first = (both _ _ are).0 in
     let low = values_below (c ∷ cs) are in
     let some : 0 < digit_value c = omega (arith, value_is c first, other, in_range c first) in
     let value : digits_value 10 (c ∷ cs) ≡ number_from_digits 10 (map digit_value (c ∷ cs)) = digits_value_is 10 (c ∷ cs) in
-    let positive : 0 < number_from_digits 10 (map digit_value (c ∷ cs)) = number_positive (digit_value c) (map digit_value cs) some in (
+    let positive : 0 < number_from_digits 10 (map digit_value (c ∷ cs)) = number_positive _ (map digit_value cs) some in (
       rw value positive,
-      ap decimal_text value ∙ decimal_text-pos (number_from_digits 10 (map digit_value (c ∷ cs))) positive
-          ∙ ap (map (λ digit. 48 + digit)) (digits_back (digit_value c) (map digit_value cs) some low) ∙ characters (c ∷ cs) are,
+      ap decimal_text value ∙ decimal_text-pos _ positive
+          ∙ ap (map (λ digit. 48 + digit)) (digits_back _ _ some low) ∙ characters _ are,
     )
 
 alone : (c : ℕ) (cs : List ℕ) → c ≡ 48 → (not (eqb c 48) || eqb (length (c ∷ cs)) 1) ≡ true → cs ≡ []
 alone c cs e test =
     let one : eqb (length (c ∷ cs)) 1 ≡ true = rw e at test in
-    nil_from_length cs (omega (arith, eqb-true _ _ one))
+    nil_from_length _ (omega (arith, eqb-true _ _ one))
 
 -- what is_decimal asks
 decimal_parts : (c : ℕ) (cs : List ℕ) → is_decimal (c ∷ cs) ≡ true → AreDigits (c ∷ cs) × ((c ≢ 48) ⊎ ((c ≡ 48) × (cs ≡ [])))
 unfolding is_decimal
-decimal_parts c cs e =
-    let p = both (ltb 0 (length (c ∷ cs)) && (not (eqb c 48) || eqb (length (c ∷ cs)) 1)) (list_all is_ascii_digit (c ∷ cs)) e in
-    let front = both (ltb 0 (length (c ∷ cs))) (not (eqb c 48) || eqb (length (c ∷ cs)) 1) p.0 in (
+decimal_parts c _ e =
+    let p = both _ _ e in
+    let front = both _ _ p.0 in (
       p.1,
-      elim (cases_eq c 48) [
-        | inl zero_first ↦ inr (zero_first, alone c cs zero_first front.1)
+      elim (cases_eq c _) [
+        | inl zero_first ↦ inr (zero_first, alone c _ zero_first front.1)
         | inr other ↦ inl other
       ],
     )
 
 zero_back : (c : ℕ) (cs : List ℕ) → c ≡ 48 → cs ≡ [] → decimal_text (digits_value 10 (c ∷ cs)) ≡ c ∷ cs
 unfolding decimal_text
-zero_back c cs e f = rw (e, f) refl
+zero_back c _ e f = rw (e, f) refl
 
 pub nothing_read : is_decimal [] ≡ true → ⊥
 unfolding is_decimal
@@ -124,8 +124,8 @@ decimal_found [] e = absurd cc
 decimal_found (c ∷ cs) e =
     let p = decimal_parts c cs e in
     elim p.1 [
-      | inl other ↦ (text_back c cs p.0 other).1
-      | inr zero_alone ↦ zero_back c cs zero_alone.0 zero_alone.1
+      | inl other ↦ (text_back c _ p.0 other).1
+      | inr zero_alone ↦ zero_back c _ zero_alone.0 zero_alone.1
     ]
 
 shown : (d : ℕ) → d < 10 → is_ascii_digit (48 + d) ≡ true
@@ -139,7 +139,7 @@ shown_values : (ds : List ℕ) → AllBelowBase 10 ds → map digit_value (map (
 shown_values [] low = refl
 shown_values (d ∷ ds) low =
     let e : digit_value (48 + d) ≡ d = omega (arith, value_is (48 + d) (shown d low.0)) in
-    rw e (ap (λ (others : List ℕ). d ∷ others) (shown_values ds low.1))
+    rw e (ap (λ others. d ∷ others) (shown_values _ low.1))
 
 shown_decimal : (ds : List ℕ) → AllBelowBase 10 ds → 0 < get_or ds 0 0 → is_decimal (map (λ digit. 48 + digit) ds) ≡ true
 unfolding is_decimal
@@ -156,15 +156,15 @@ decimal_again zero = (refl, refl)
 decimal_again (suc n) =
     let ds = digits_of 10 (suc n) in
     let low = all_below_base_digits_of 10 (suc n) (omega arith) in
-    let first = first_digits_of 10 (suc n) (omega arith) (omega arith) in (
-      shown_decimal ds low first,
-      digits_value_is 10 (map (λ digit. 48 + digit) ds) ∙ ap (number_from_digits 10) (shown_values ds low) ∙ number_digits_of 10 (suc n) (omega arith),
+    let first = first_digits_of _ (suc n) (omega arith) (omega arith) in (
+      shown_decimal _ low first,
+      digits_value_is 10 (map (λ digit. 48 + digit) ds) ∙ ap (number_from_digits 10) (shown_values _ low) ∙ number_digits_of _ _ (omega arith),
     )
 
 -- the first character of a decimal text is a digit
 pub decimal_first : (text : List ℕ) → is_decimal text ≡ true → IsInRange 48 57 (get_or text 0 0)
 decimal_first [] e = absurd (nothing_read e)
-decimal_first (c ∷ cs) e = in_range c (both (is_ascii_digit c) (list_all is_ascii_digit cs) (decimal_parts c cs e).0).0
+decimal_first (c ∷ cs) e = in_range c (both _ _ (decimal_parts c _ e).0).0
 
 leads : (ds : List ℕ) → 0 < get_or ds 0 0 → 48 < get_or (map (λ digit. 48 + digit) ds) 0 0
 leads [] some = absurd (omega arith)
@@ -172,9 +172,9 @@ leads (d ∷ ds) some = omega arith
 
 -- no text of a number above zero begins with `0`
 pub decimal_leads : (n : ℕ) → 0 < n → 48 < get_or (decimal_text n) 0 0
-decimal_leads n some = rw (decimal_text-pos n some) (leads (digits_of 10 n) (first_digits_of 10 n (omega arith) some))
+decimal_leads n some = rw (decimal_text-pos) (leads _ (first_digits_of _ n (omega arith) some))
 
 -- a decimal text is digits, and at least one
 pub decimal_digits : (text : List ℕ) → is_decimal text ≡ true → (0 < length text) × AreDigits text
 decimal_digits [] e = absurd (nothing_read e)
-decimal_digits (c ∷ cs) e = (omega arith, (decimal_parts c cs e).0)
+decimal_digits (c ∷ cs) e = (omega arith, (decimal_parts c _ e).0)

@@ -9,34 +9,34 @@ use Rattle.std.specs.declared.num.ParseIntError.{ParseIntError}
 use Rattle.std.proofs.lemmas.Bool.{false_from_ne_true}
 use Rattle.reading_core.specs.declared.refusal.NumberRefusal.{NumberRefusal}
 use Rattle.reading_core.specs.declared.refusal.NumberRefusal.TheVariants.{NotANumber, TooLarge}
-use Rattle.reading_core.specs.Decimal.{signed_text, is_signed_decimal, signed_of, fits_signed}
+use Rattle.reading_core.specs.Decimal.{signed_text, is_signed_decimal, signed_of}
 use Rattle.reading_core.proofs.Parsed.{true_or_false}
 use Rattle.reading_core.proofs.SignedRanges.{fits_from_test, test_from_fits}
 use Rattle.reading_core.proofs.SignedDecimals.{signed_text_of_value, signed_texts, signed_numeral}
 
 fits_or_not : (n : ℤ) → (FitsSigned w64 n) ⊎ (¬ FitsSigned w64 n)
 fits_or_not n =
-    elim (true_or_false (fits_signed n)) [
+    elim (true_or_false _) [
       | inl e ↦ inl (fits_from_test n e)
       | inr e ↦ inr (λ fits. let test = test_from_fits n fits in cc)
     ]
 
 pub signed_not : (text : List ℕ) → is_signed_decimal text ≡ false → signed_of text ≡ Err NotANumber
 unfolding signed_of
-signed_not text e = rw e refl
+signed_not _ e = rw e refl
 
 fits : (text : List ℕ) → is_signed_decimal text ≡ true → FitsSigned w64 (signed_digits_value 10 text) → signed_of text ≡ Ok (signed_digits_value 10 text)
 unfolding signed_of
-fits text e small = let test = test_from_fits (signed_digits_value 10 text) small in rw (e, test) refl
+fits _ e small = let test = test_from_fits _ small in rw (e, test) refl
 
 passes : (text : List ℕ) → is_signed_decimal text ≡ true → ¬ FitsSigned w64 (signed_digits_value 10 text) → signed_of text ≡ Err TooLarge
 unfolding signed_of
-passes text e large = let test : fits_signed (signed_digits_value 10 text) ≡ false = false_from_ne_true (fits_signed (signed_digits_value 10 text)) (λ t. large (fits_from_test (signed_digits_value 10 text) t)) in rw (e, test) refl
+passes _ e large = let test = false_from_ne_true _ (λ t. large (fits_from_test _ t)) in rw (e, test) refl
 
 -- what `parse` gives
 pub parsed_signed : (text : List ℕ) (r : Result ℤ ParseIntError) → is_signed_decimal text ≡ true → ParsesSigned w64 10 text r → result_or r (Err TooLarge) ≡ signed_of text
 parsed_signed text (Ok x) e h = ap (λ (n : ℤ). Ok n) h.1 ∙ sym (fits text e h.0.1)
-parsed_signed text (Err f) e h = sym (passes text e (λ small. h (signed_numeral text e, small)))
+parsed_signed text (Err f) e h = sym (passes _ e (λ small. h (signed_numeral _ e, small)))
 
 -- a text of a number is read
 pub signed_again : (n : ℤ) → FitsSigned w64 n → signed_of (signed_text n) ≡ Ok n
@@ -45,28 +45,28 @@ signed_again n small =
     fits (signed_text n) a.0 (rw a.1 small) ∙ ap (λ (k : ℤ). Ok k) a.1
 
 pub signed_large : (n : ℤ) → ¬ FitsSigned w64 n → signed_of (signed_text n) ≡ Err TooLarge
-signed_large n large = let a = signed_texts n in passes (signed_text n) a.0 (rw a.1 large)
+signed_large n large = let a = signed_texts n in passes _ a.0 (rw a.1 large)
 
 -- Reading a text has three outcomes.
 abbrev SignedOutcome : List ℕ → Type 0
 SignedOutcome text = ((n : ℤ) × (text ≡ signed_text n) × FitsSigned w64 n) ⊎ (((n : ℤ) × (¬ FitsSigned w64 n) × (text ≡ signed_text n)) ⊎ (((n : ℤ) → text ≢ signed_text n) × (signed_of text ≡ Err NotANumber)))
 
 no_text : (text : List ℕ) → is_signed_decimal text ≡ false → (n : ℤ) → text ≢ signed_text n
-no_text text e n is = let a = signed_texts n in let same : is_signed_decimal text ≡ true = ap is_signed_decimal is ∙ a.0 in cc
+no_text _ e n is = let a = signed_texts n in let same = ap is_signed_decimal is ∙ a.0 in cc
 
 signed_outcome : (text : List ℕ) → SignedOutcome text
 signed_outcome text =
     elim (true_or_false (is_signed_decimal text)) [
-      | inl e ↦ elim (fits_or_not (signed_digits_value 10 text)) [
-        | inl small ↦ inl (signed_digits_value 10 text, sym (signed_text_of_value text e), small)
-        | inr large ↦ inr (inl (signed_digits_value 10 text, large, sym (signed_text_of_value text e)))
+      | inl e ↦ elim (fits_or_not _) [
+        | inl small ↦ inl (signed_digits_value 10 text, sym (signed_text_of_value _ e), small)
+        | inr large ↦ inr (inl (signed_digits_value 10 text, large, sym (signed_text_of_value _ e)))
       ]
-      | inr e ↦ inr (inr (no_text text e, signed_not text e))
+      | inr e ↦ inr (inr (no_text _ e, signed_not _ e))
     ]
 
 is_ok_then : (text : List ℕ) (n m : ℤ) → text ≡ signed_text m → FitsSigned w64 m → signed_of text ≡ Ok n → (text ≡ signed_text n) × FitsSigned w64 n
-is_ok_then text n m is small e =
-    let same : Ok m ≡ signed_of text = sym (ap signed_of is ∙ signed_again m small) in
+is_ok_then _ n m is small e =
+    let same = sym (ap signed_of is ∙ signed_again m small) in
     let k : m ≡ n = cc in
     (rw (← k) is, rw (← k) small)
 
@@ -74,9 +74,9 @@ is_ok_then text n m is small e =
 pub signed_found : (text : List ℕ) (n : ℤ) → signed_of text ≡ Ok n → (text ≡ signed_text n) × FitsSigned w64 n
 signed_found text n e =
     elim (signed_outcome text) [
-      | inl p ↦ is_ok_then text n p.0 p.1 p.2 e
+      | inl p ↦ is_ok_then _ n _ p.1 p.2 e
       | inr q ↦ elim q [
-        | inl p ↦ let no : signed_of text ≡ Err TooLarge = ap signed_of p.2 ∙ signed_large p.0 p.1 in absurd cc
+        | inl p ↦ let no = ap signed_of p.2 ∙ signed_large _ p.1 in absurd cc
         | inr p ↦ let no = p.1 in absurd cc
       ]
     ]
@@ -84,7 +84,7 @@ signed_found text n e =
 pub signed_found_large : (text : List ℕ) → signed_of text ≡ Err TooLarge → (n : ℤ) × (¬ FitsSigned w64 n) × (text ≡ signed_text n)
 signed_found_large text e =
     elim (signed_outcome text) [
-      | inl p ↦ let no : signed_of text ≡ Ok p.0 = ap signed_of p.1 ∙ signed_again p.0 p.2 in absurd cc
+      | inl p ↦ let no = ap signed_of p.1 ∙ signed_again _ p.2 in absurd cc
       | inr q ↦ elim q [
         | inl p ↦ p
         | inr p ↦ let no = p.1 in absurd cc
@@ -94,9 +94,9 @@ signed_found_large text e =
 pub signed_found_none : (text : List ℕ) → signed_of text ≡ Err NotANumber → (n : ℤ) → text ≢ signed_text n
 signed_found_none text e =
     elim (signed_outcome text) [
-      | inl p ↦ let no : signed_of text ≡ Ok p.0 = ap signed_of p.1 ∙ signed_again p.0 p.2 in absurd cc
+      | inl p ↦ let no = ap signed_of p.1 ∙ signed_again _ p.2 in absurd cc
       | inr q ↦ elim q [
-        | inl p ↦ let no : signed_of text ≡ Err TooLarge = ap signed_of p.2 ∙ signed_large p.0 p.1 in absurd cc
+        | inl p ↦ let no = ap signed_of p.2 ∙ signed_large _ p.1 in absurd cc
         | inr p ↦ p.0
       ]
     ]
@@ -112,5 +112,5 @@ signed_none text none =
     ]
 
 pub signed_found_text : (text : List ℕ) (r : Result ℤ NumberRefusal) → r ≡ signed_of text → IfOk r (λ n. text ≡ signed_text n)
-signed_found_text text (Ok n) e = (signed_found text n (sym e)).0
-signed_found_text text (Err f) e = tt
+signed_found_text _ (Ok n) e = (signed_found _ n (sym e)).0
+signed_found_text _ (Err f) e = tt

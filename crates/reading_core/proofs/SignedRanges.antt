@@ -3,7 +3,6 @@ use Rattle.std.proofs.Common.{◌≡◌, ◌≤ℤ◌, ℤ, pos, negsuc, unsigne
 use Rattle.std.specs.Int.{w64}
 use Rattle.std.specs.Int.RustNames.{FitsSigned}
 use Rattle.std.proofs.lemmas.Bool.{lt-ltb, ltb-true}
-use Rattle.std.proofs.lemmas.Int.{ints}
 use Rattle.reading_core.specs.Decimal.{fits_signed}
 
 pub fits_from_test : (n : ℤ) → fits_signed n ≡ true → FitsSigned w64 n
@@ -17,4 +16,4 @@ test_from_fits (negsuc n) fits = lt-ltb _ _ fits.sfits
 -- a number that is not negative is its own size
 pub pos-unsigned_abs : (z : ℤ) → pos 0 ≤ℤ z → pos (unsigned_abs z) ≡ z
 pos-unsigned_abs (pos n) le = refl
-pos-unsigned_abs (negsuc n) le = absurd (omega (arith, ints, le))
+pos-unsigned_abs (negsuc n) le = absurd (omega arith)

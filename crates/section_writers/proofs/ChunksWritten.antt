@@ -21,27 +21,24 @@ use Rattle.index_parts.specs.SeriesEntry.{reference_of, IsLabel, Begins, Refers,
 
 module _ (chunks : List ChunkPlace) (i : ℕ) (d : ChunkPlace) (lt : i < length chunks) where
   next_is : drop i chunks ≡ get_or chunks i d ∷ drop (i + 1) chunks
-  next_is = drop-cons chunks i d lt ∙ ap (λ (n : ℕ). get_or chunks i d ∷ drop n chunks) (sym (add-one i))
+  next_is = drop-cons _ i d lt ∙ ap (λ n. get_or chunks i d ∷ drop n chunks) (sym (add-one i))
 
   next_text : (before : Option ChunkPlace) → chunks_text before (drop i chunks) ≡ chunk_text before (get_or chunks i d) ++ chunks_text (Some (get_or chunks i d)) (drop (i + 1) chunks)
   unfolding chunks_text
   next_text before = ap (chunks_text before) next_is
 
   pub chunks_more : (before : Option ChunkPlace) (start old new whole : List ℕ) → old ++ chunks_text before (drop i chunks) ≡ start ++ whole → new ≡ old ++ chunk_text before (get_or chunks i d) → new ++ chunks_text (Some (get_or chunks i d)) (drop (i + 1) chunks) ≡ start ++ whole
-  chunks_more before start old new whole so_far put =
+  chunks_more before _ old _ _ so_far put =
       let rest = chunks_text (Some (get_or chunks i d)) (drop (i + 1) chunks) in
-      ap (λ (l : List ℕ). l ++ rest) put ∙ append_assoc old (chunk_text before (get_or chunks i d)) rest ∙ ap (λ (l : List ℕ). old ++ l) (sym (next_text before)) ∙ so_far
-
-  pub order_now : (before : Option ChunkPlace) → InOrderAfter StartsAfter before (drop i chunks) → StartsAfter before (get_or chunks i d)
-  order_now before order = let o = subst (λ (l : List ChunkPlace). InOrderAfter StartsAfter before l) next_is order in o.0
+      ap (λ l. l ++ rest) put ∙ append_assoc old (chunk_text before (get_or chunks i d)) rest ∙ ap (λ l. old ++ l) (sym (next_text _)) ∙ so_far
 
   pub order_more : (before : Option ChunkPlace) → InOrderAfter StartsAfter before (drop i chunks) → InOrderAfter StartsAfter (Some (get_or chunks i d)) (drop (i + 1) chunks)
-  order_more before order = let o = subst (λ (l : List ChunkPlace). InOrderAfter StartsAfter before l) next_is order in o.1
+  order_more before order = let o = subst (λ l. InOrderAfter StartsAfter before l) next_is order in o.1
 
 pub chunks_all : (chunks : List ChunkPlace) (i : ℕ) (before : Option ChunkPlace) (start new whole : List ℕ) → new ++ chunks_text before (drop i chunks) ≡ start ++ whole → length chunks ≤ i → new ≡ start ++ whole
 unfolding chunks_text
-chunks_all chunks i before start new whole so_far past =
-    sym (append-nil new) ∙ ap (λ (l : List ℕ). new ++ l) (ap (chunks_text before) (sym (drop_all i chunks past))) ∙ so_far
+chunks_all _ i before _ new _ so_far past =
+    sym (append-nil new) ∙ ap (λ l. new ++ l) (ap (chunks_text before) (sym (drop_all i _ past))) ∙ so_far
 
 -- ---- a chunk that is written is a text of it
 
@@ -56,7 +53,7 @@ FitsBefore (Some b) = FitsTypes b
 
 bounds : (z : ℤ) → FitsSigned w64 z → (pos 0 ≤ℤ (z +ℤ pos (2 ^ 63))) × (z <ℤ pos (2 ^ 63))
 bounds (pos n) fits = let small = fits.sfits in (omega (arith, ints), omega (arith, ints))
-bounds (negsuc n) fits = let small = fits.sfits in (omega (arith, ints), omega (arith, ints))
+bounds (negsuc n) fits = let small = fits.sfits in (omega (arith, ints), omega arith)
 
 from_bounds : (z : ℤ) → pos 0 ≤ℤ (z +ℤ pos (2 ^ 63)) → z <ℤ pos (2 ^ 63) → FitsSigned w64 z
 from_bounds (pos n) low high = record { sfits = omega (arith, ints, high) }
@@ -79,20 +76,20 @@ step_is : (r s : ℕ) → pos r ≡ pos s +ℤ (pos r -ℤ pos s)
 step_is r s = omega (arith, ints)
 
 step_fits : (r s : ℕ) → r < 2 ^ 63 → s < 2 ^ 63 → FitsSigned w64 (pos r -ℤ pos s)
-step_fits r s a b = from_bounds (pos r -ℤ pos s) (omega (arith, ints, a, b)) (omega (arith, ints, a, b))
+step_fits r s a b = from_bounds _ (omega (arith, ints, a, b)) (omega (arith, ints, a, b))
 
 begins_written : (before : Option ChunkPlace) (chunk : ChunkPlace) → StartsAfter before chunk → FitsBefore before → FitsTypes chunk → Begins before (begin_text before chunk) chunk.min
-begins_written None chunk follows fb fits = varint_text_is chunk.min fits.0
-begins_written (Some b) chunk follows fb fits = (span b.max chunk.min, uvarint_text_is (span b.max chunk.min) (later_fits b.max chunk.min fb.1 fits.0), later_is b.max chunk.min follows.0)
+begins_written None _ follows fb fits = varint_text_is _ fits.0
+begins_written (Some b) chunk follows fb fits = (span b.max chunk.min, uvarint_text_is _ (later_fits _ _ fb.1 fits.0), later_is _ _ follows.0)
 
 refers_written : (before : Option ChunkPlace) (chunk : ChunkPlace) → StartsAfter before chunk → FitsBefore before → FitsTypes chunk → Refers before (refer_text before chunk) (reference_of chunk)
-refers_written None chunk follows fb fits = uvarint_text_is (reference_of chunk) (omega (arith, fits.2, fits.3))
+refers_written None _ follows fb fits = uvarint_text_is _ (omega arith)
 refers_written (Some b) chunk follows fb fits =
-    (pos (reference_of chunk) -ℤ pos (reference_of b), varint_text_is (pos (reference_of chunk) -ℤ pos (reference_of b)) (step_fits (reference_of chunk) (reference_of b) (omega (arith, fits.3, follows.2)) (omega (arith, fb.3, follows.3))), step_is (reference_of chunk) (reference_of b))
+    (pos (reference_of chunk) -ℤ pos (reference_of b), varint_text_is _ (step_fits _ (reference_of b) (omega (arith, follows.2)) (omega arith)), step_is _ _)
 
 lasts : (before : Option ChunkPlace) (chunk : ChunkPlace) → StartsAfter before chunk → chunk.min ≤ℤ chunk.max
-lasts None chunk follows = follows.0
-lasts (Some b) chunk follows = follows.1
+lasts None _ follows = follows.0
+lasts (Some b) _ follows = follows.1
 
 chunk_written : (before : Option ChunkPlace) (chunk : ChunkPlace) → StartsAfter before chunk → FitsBefore before → FitsTypes chunk → IsNextChunk before (chunk_text before chunk) chunk
 chunk_written before chunk follows fb fits = record {
@@ -100,12 +97,12 @@ chunk_written before chunk follows fb fits = record {
   span = uvarint_text (span chunk.min chunk.max);
   reference = refer_text before chunk;
   lasts = span chunk.min chunk.max;
-  begins = begins_written before chunk follows fb fits;
-  span_is = uvarint_text_is (span chunk.min chunk.max) (later_fits chunk.min chunk.max fits.0 fits.1);
-  max_is = later_is chunk.min chunk.max (lasts before chunk follows);
+  begins = begins_written _ _ follows fb fits;
+  span_is = uvarint_text_is _ (later_fits _ _ fits.0 fits.1);
+  max_is = later_is _ _ (lasts _ _ follows);
   min_fits = fits.0;
   max_fits = fits.1;
-  refers = refers_written before chunk follows fb fits;
+  refers = refers_written _ _ follows fb fits;
   segment_fits = fits.2;
   offset_fits = fits.3;
   text_is = refl;
@@ -113,18 +110,18 @@ chunk_written before chunk follows fb fits = record {
 
 chunks_written : (before : Option ChunkPlace) (chunks : List ChunkPlace) → InOrderAfter StartsAfter before chunks → FitsBefore before → AllByRecursion FitsTypes chunks → AreInTurn IsNextChunk before (chunks_text before chunks) chunks
 unfolding chunks_text
-chunks_written before [] order fb fit = refl
+chunks_written _ [] order fb fit = refl
 chunks_written before (chunk ∷ chunks) order fb fit =
     (chunk_text before chunk, chunks_text (Some chunk) chunks, chunk_written before chunk order.0 fb fit.0, chunks_written (Some chunk) chunks order.1 fit.0 fit.1, refl)
 
 -- ---- a series that is written stands where it was written
 
 labels_written : (names values : List ℕ) → ((k : ℕ) → get_or names k 0 < 2 ^ 64) → ((k : ℕ) → get_or values k 0 < 2 ^ 64) → AreTexts IsLabel (flat_map label_text (zip names values)) (zip names values)
-labels_written [] values fn fv = refl
+labels_written [] _ fn fv = refl
 labels_written (name ∷ names) [] fn fv = refl
 labels_written (name ∷ names) (value ∷ values) fn fv =
-    let first : IsLabel (label_text (name, value)) (name, value) = record { name = uvarint_text name; value = uvarint_text value; name_is = uvarint_text_is name (fn 0); value_is = uvarint_text_is value (fv 0); text_is = refl } in
-    (label_text (name, value), flat_map label_text (zip names values), first, labels_written names values (λ k. fn (suc k)) (λ k. fv (suc k)), flat_map-cons label_text (name, value) (zip names values))
+    let first : IsLabel (label_text (name, value)) (name, value) = record { name = uvarint_text name; value = uvarint_text value; name_is = uvarint_text_is _ (fn 0); value_is = uvarint_text_is _ (fv 0); text_is = refl } in
+    (label_text (name, value), flat_map label_text (zip names values), first, labels_written names _ (λ k. fn (suc k)) (λ k. fv (suc k)), flat_map-cons label_text _ _)
 
 -- what the types of a series' fields say
 pub record FitsSeries (series : RawSeries) : Type 0 where
@@ -139,7 +136,7 @@ regroup a b c d = sym (append_assoc (a ++ b) c d) ∙ sym (append-nil (a ++ b ++
 
 pub series_stands : (index : List ℕ) (at : ℕ) (series : RawSeries) → length series.names ≡ length series.values → InOrder StartsAfter series.chunks → FitsSeries series → IsEntry index at (series_content series) → IsSeries index at series
 unfolding labels_text
-series_stands index at series many order fits entry = record {
+series_stands _ _ series many order fits entry = record {
   content = series_content series;
   label_count = uvarint_text (length series.names);
   labels = flat_map label_text (zip series.names series.values);
@@ -149,8 +146,8 @@ series_stands index at series many order fits entry = record {
   entry = entry;
   content_is = regroup (uvarint_text (length series.names)) (flat_map label_text (zip series.names series.values)) (uvarint_text (length series.chunks)) (chunks_text None series.chunks);
   as_many = many;
-  label_count_is = uvarint_text_is (length series.names) fits.label_count;
-  labels_are = labels_written series.names series.values fits.names fits.values;
-  chunk_count_is = uvarint_text_is (length series.chunks) fits.chunk_count;
-  chunks_are = chunks_written None series.chunks order tt fits.chunks;
+  label_count_is = uvarint_text_is _ fits.label_count;
+  labels_are = labels_written _ _ fits.names fits.values;
+  chunk_count_is = uvarint_text_is _ fits.chunk_count;
+  chunks_are = chunks_written _ _ order tt fits.chunks;
 }

@@ -24,7 +24,7 @@ row_most row = omega (arith, text_field_most row.name, text_field_most row.value
 
 list_most : {A : Type 0} (text_of : A → List ℕ) (most : A → ℕ) → ((x : A) → length (text_of x) ≤ most x) → (xs : List A) → length (list_content text_of xs) ≤ 4 + sum_by most xs
 list_most text_of most one xs =
-    omega (arith, length-append (to_be_bytes w32 (length xs)) (flat_map text_of xs), length-flat_map text_of xs, sum_by-le-sum_by (λ x. length (text_of x)) most xs one)
+    omega (arith, length-flat_map text_of xs, sum_by-le-sum_by (λ x. length (text_of x)) most xs one)
 
 -- what a caller shows who knows the lengths of the texts
 pub symbols_small : (symbols : List (List ℕ)) → 4 + sum_by (λ text. 10 + length text) symbols < 2 ^ 32 → length (list_content text_field symbols) < 2 ^ 32
@@ -44,13 +44,13 @@ values_small values few = omega (arith, length-four_each values, length-append (
 
 -- the same of a table of offsets by its names
 names_most : (names : List (List ℕ)) (offsets : List ℕ) → sum_by (λ row. 21 + length row.0) (zip names offsets) ≤ sum_by (λ name. 21 + length name) names
-names_most [] offsets = omega arith
+names_most [] _ = omega arith
 names_most (name ∷ names) [] = omega arith
 names_most (name ∷ names) (offset ∷ offsets) =
-    omega (arith, names_most names offsets, sum_by-cons (λ (row : List ℕ × ℕ). 21 + length row.0) (name, offset) (zip names offsets), sum_by-cons (λ (text : List ℕ). 21 + length text) name names)
+    omega (arith, names_most names offsets, sum_by-cons (λ row. 21 + length row.0) (name, offset) (zip names offsets), sum_by-cons (λ text. 21 + length text) name names)
 
 pub names_small : (names : List (List ℕ)) (offsets : List ℕ) → 4 + sum_by (λ name. 21 + length name) names < 2 ^ 32 → length (list_content offset_text (zip names offsets)) < 2 ^ 32
-names_small names offsets small = offsets_small (zip names offsets) (omega (arith, names_most names offsets))
+names_small names offsets small = offsets_small _ (omega (arith, names_most names offsets))
 
 pub texts_small : (symbols : List (List ℕ)) → 4 + sum_by (λ text. 21 + length text) symbols < 2 ^ 32 → length (list_content text_field symbols) < 2 ^ 32
-texts_small symbols small = symbols_small symbols (omega (arith, sum_by-le-sum_by (λ (text : List ℕ). 10 + length text) (λ (text : List ℕ). 21 + length text) symbols (λ text. omega arith)))
+texts_small symbols small = symbols_small _ (omega (arith, sum_by-le-sum_by (λ text. 10 + length text) (λ text. 21 + length text) symbols (λ text. omega arith)))

@@ -3,7 +3,6 @@ use Rattle.std.proofs.Common.{◌≡◌, ℕ, ◌^◌, ◌<◌, List, ◌++◌, 
 use Rattle.std.specs.Prelude.{OnOk}
 use Rattle.std.specs.Int.{w32, to_be_bytes}
 use Rattle.std.proofs.lemmas.List.{drop_at}
-use Rattle.wire_bytes.specs.FieldTexts.{IsFixed}
 use Rattle.wire_bytes.specs.Crc.{crc}
 use Rattle.index_parts.specs.Framed.{IsFramed, IsSection, section_text}
 
@@ -22,8 +21,8 @@ framed_stands IsSize before size content after is sum = record {
 
 pub section_stands : (before content after : List ℕ) → length content < 2 ^ 32 → crc content < 2 ^ 32 → IsSection ((before ++ section_text content) ++ after) (length before) content
 unfolding section_text
-section_stands before content after fits sum = framed_stands (IsFixed w32) before (to_be_bytes w32 (length content)) content after (record { digits = refl; fits = fits }) sum
+section_stands before _ _ fits sum = framed_stands _ _ _ _ _ (record { digits = refl; fits = fits }) sum
 
 pub framed_written : {E : Type 0} (IsSize : List ℕ → ℕ → Type 0) (r : Result (Unit {0}) E) (old new size content after : List ℕ) (sum : ℕ) → OnOk r (new ≡ old ++ (size ++ content ++ to_be_bytes w32 (crc content))) → IsSize size (length content) → sum ≡ crc content → sum < 2 ^ 32 → OnOk r (IsFramed IsSize (new ++ after) (length old) content)
-framed_written IsSize (Ok x) old new size content after sum put is e small = subst (λ (a : List ℕ). IsFramed IsSize (a ++ after) (length old) content) (sym put) (framed_stands IsSize old size content after is (omega arith))
-framed_written IsSize (Err d) old new size content after sum put is e small = tt
+framed_written IsSize (Ok x) old _ _ content after _ put is e small = subst (λ a. IsFramed IsSize (a ++ after) (length old) content) (sym put) (framed_stands _ _ _ _ _ is (omega arith))
+framed_written IsSize (Err d) _ _ _ _ _ _ put is e small = tt

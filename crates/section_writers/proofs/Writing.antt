@@ -12,7 +12,6 @@ use Rattle.std.proofs.lemmas.List.Concat.{flat_map-cons}
 use Rattle.reading_core.specs.Grammar.{AreTexts}
 use Rattle.wire_bytes.specs.FieldTexts.{IsFixed}
 use Rattle.wire_bytes.specs.Written.{uvarint_text, groups_text}
-use Rattle.wire_bytes.proofs.FixedLaws.{wide32}
 use Rattle.wire_bytes.proofs.GroupTexts.{uvarint_text_is}
 use Rattle.index_parts.specs.Turns.{AreInTurn, InOrderAfter, InOrder}
 use Rattle.index_parts.specs.Framed.{IsSection, IsText, text_field}
@@ -28,12 +27,12 @@ use Rattle.index_parts.specs.LabelIndices.{IsLabelIndex, label_index_content}
 
 -- the content that was appended, by how it was made
 pub same_content : {X : Type 0} (text_of : X → List ℕ) (index : List ℕ) (at : ℕ) (lent made : List ℕ) (seen given : X) → IsSection index at lent → lent ≡ made → made ≡ text_of seen → seen ≡ given → IsSection index at (text_of given)
-same_content text_of index at lent made seen given section a b c = subst (IsSection index at) (a ∙ b ∙ ap text_of c) section
+same_content text_of index at _ _ _ _ section a b c = subst (IsSection index at) (a ∙ b ∙ ap text_of c) section
 
 -- ---- how many there are
 
 pub few_members : {A : Type 0} (text_of : A → List ℕ) → ((x : A) → 1 ≤ length (text_of x)) → (xs : List A) → length xs ≤ length (flat_map text_of xs)
-few_members text_of one [] = omega arith
+few_members _ one [] = omega arith
 few_members text_of one (x ∷ xs) = omega (arith, one x, few_members text_of one xs, ap length (flat_map-cons text_of x xs), length-append (text_of x) (flat_map text_of xs))
 
 pub count_fits : {A : Type 0} (text_of : A → List ℕ) → ((x : A) → 1 ≤ length (text_of x)) → (xs : List A) → length (list_content text_of xs) < 2 ^ 32 → length xs < 2 ^ 32
@@ -73,7 +72,7 @@ module _ {A : Type 0} (IsNext : Option A → List ℕ → A → Type 0) (Follows
 -- ---- symbols
 
 pub text_written : (text : List ℕ) → IsUtf8 text → length text < 2 ^ 64 → IsText (text_field text) text
-text_written text utf8 fits = record { size = uvarint_text (length text); size_is = uvarint_text_is (length text) fits; utf8 = utf8; bytes_are = refl }
+text_written text utf8 fits = record { size = uvarint_text (length text); size_is = uvarint_text_is _ fits; utf8 = utf8; bytes_are = refl }
 
 pub uvarint_text_size : (n : ℕ) → 1 ≤ length (uvarint_text n)
 unfolding groups_text
@@ -95,23 +94,23 @@ symbol_writing = record {
 -- ---- numbers
 
 number_size : (n : ℕ) → 1 ≤ length (to_be_bytes w32 n)
-number_size n = omega (arith, wide32.len n)
+number_size n = omega arith
 
 pub posting_writing : IsWrittenBy IsNextPosting Rises (λ n. n < 2 ^ 32) (to_be_bytes w32)
 posting_writing = record { some = number_size; one = λ before n rises fits small. record { text_is = record { digits = refl; fits = fits }; rises = rises } }
 
 pub postings_stand : (index : List ℕ) (at : ℕ) (numbers : List ℕ) → length (list_content (to_be_bytes w32) numbers) < 2 ^ 32 → All (λ number. number < 2 ^ 32) numbers → InOrder Rises numbers → IsSection index at (list_content (to_be_bytes w32) numbers) → IsPostings index at numbers
-postings_stand index at numbers small all order section = list_stands IsNextPosting Rises (λ n. n < 2 ^ 32) (to_be_bytes w32) posting_writing index at numbers small (recursion_from_All (λ n. n < 2 ^ 32) numbers all) order section
+postings_stand index at numbers small all order section = list_stands IsNextPosting Rises (λ n. n < 2 ^ 32) (to_be_bytes w32) posting_writing index at numbers small (recursion_from_All (λ n. n < 2 ^ 32) _ all) order section
 
 fixed_written : (w : Width) (numbers : List ℕ) → AllByRecursion (λ n. n < 2 ^ (8 * byte_len w)) numbers → AreTexts (IsFixed w) (flat_map (to_be_bytes w) numbers) numbers
 fixed_written w [] all = refl
-fixed_written w (n ∷ numbers) all = (to_be_bytes w n, flat_map (to_be_bytes w) numbers, record { digits = refl; fits = all.0 }, fixed_written w numbers all.1, flat_map-cons (to_be_bytes w) n numbers)
+fixed_written w (n ∷ numbers) all = (to_be_bytes w n, flat_map (to_be_bytes w) numbers, record { digits = refl; fits = all.0 }, fixed_written w numbers all.1, flat_map-cons (to_be_bytes w) n _)
 
 pub values_few : (values : List ℕ) → length (label_index_content values) < 2 ^ 32 → length values < 2 ^ 32
 values_few values fits = count_fits (to_be_bytes w32) number_size values (omega (arith, length-append (to_be_bytes w32 1) (list_content (to_be_bytes w32) values)))
 
 pub values_stand : (index : List ℕ) (at : ℕ) (values : List ℕ) → length (label_index_content values) < 2 ^ 32 → All (λ number. number < 2 ^ 32) values → IsSection index at (label_index_content values) → IsLabelIndex index at values
-values_stand index at values fits all section = record {
+values_stand _ _ values fits all section = record {
   content = label_index_content values;
   one = to_be_bytes w32 1;
   count = to_be_bytes w32 (length values);
@@ -119,17 +118,17 @@ values_stand index at values fits all section = record {
   section = section;
   content_is = sym (append_assoc (to_be_bytes w32 1) (to_be_bytes w32 (length values)) (flat_map (to_be_bytes w32) values));
   one_is = record { digits = refl; fits = omega arith };
-  count_is = record { digits = refl; fits = values_few values fits };
-  texts_are = fixed_written w32 values (recursion_from_All (λ n. n < 2 ^ 32) values all);
+  count_is = record { digits = refl; fits = values_few _ fits };
+  texts_are = fixed_written _ _ (recursion_from_All (λ n. n < 2 ^ 32) _ all);
 }
 
 -- ---- rows
 
 row_text_size : (row : PostingsRow) → 1 ≤ length (row_text row)
-row_text_size row = omega arith
+row_text_size _ = omega arith
 
 row_written : (before : Option PostingsRow) (x : PostingsRow) → MayComeAfter before x → IsWritable x → length (row_text x) < 2 ^ 32 → IsNextRow before (row_text x) x
-row_written before x follows lawful small =
+row_written _ x follows lawful small =
     let whole : length (row_text x) ≡ 1 + (length (text_field x.name) + length (text_field x.value) + length (uvarint_text x.offset)) = omega (arith, length-append (text_field x.name ++ text_field x.value) (uvarint_text x.offset), length-append (text_field x.name) (text_field x.value)) in
     record {
       name = text_field x.name;
@@ -149,15 +148,15 @@ row_writing = record { some = row_text_size; one = row_written }
 
 pub toc_stands : (before index content : List ℕ) (toc : Toc) → AllByRecursion (λ n. n < 2 ^ 64) (references_of toc) → content ≡ references_text toc → crc content < 2 ^ 32 → index ≡ before ++ content ++ to_be_bytes w32 (crc content) → IsToc index toc
 unfolding references_text
-toc_stands before index content toc all made sum is = record {
+toc_stands before _ content toc all made sum is = record {
   before = before;
   references = content;
   sum = to_be_bytes w32 (crc content);
-  references_are = subst (λ (a : List ℕ). AreTexts (IsFixed w64) a (references_of toc)) (sym made) (fixed_written w64 (references_of toc) all);
+  references_are = subst (λ a. AreTexts (IsFixed w64) a (references_of toc)) (sym made) (fixed_written w64 (references_of toc) all);
   sum_is = record { digits = refl; fits = sum };
   stands = is;
 }
 
 pub toc_written : {E : Type 0} (r : Result (Unit {0}) E) (before index lent content : List ℕ) (toc : Toc) → AllByRecursion (λ n. n < 2 ^ 64) (references_of toc) → lent ≡ content → content ≡ references_text toc → OnOk r (crc lent < 2 ^ 32) → OnOk r (index ≡ before ++ lent ++ to_be_bytes w32 (crc lent)) → OnOk r (IsToc index toc)
-toc_written (Ok x) before index lent content toc all a b sum is = toc_stands before index lent toc all (a ∙ b) sum is
-toc_written (Err d) before index lent content toc all a b sum is = tt
+toc_written (Ok x) before index lent content _ all a b sum is = toc_stands _ _ _ _ all (a ∙ b) sum is
+toc_written (Err d) _ _ _ _ _ all a b sum is = tt

@@ -33,11 +33,11 @@ rises_sorted (x ∷ xs) up (suc k) d le lt =
 
 ascending-first : (xs : List Sample) → IsStrictlySortedBy compare_times (first_samples xs)
 unfolding first_samples
-ascending-first xs = IsStrictlySortedBy-dedup times_total (λ x y. refl) (in_order has_lesser_time xs)
-    (rises_sorted (in_order has_lesser_time xs) (Rises-in_order has_lesser_time times_ranked xs))
+ascending-first _ = IsStrictlySortedBy-dedup times_total (λ x y. refl) _
+    (rises_sorted _ (Rises-in_order has_lesser_time times_ranked _))
 
 pub ascends_first : (lent made xs : List Sample) → made ≡ first_samples xs → lent ≡ made → IsStrictlySortedBy compare_times lent
-ascends_first lent made xs is same = subst (IsStrictlySortedBy compare_times) (sym (same ∙ is)) (ascending-first xs)
+ascends_first lent _ xs is same = subst (IsStrictlySortedBy compare_times) (sym (same ∙ is)) (ascending-first _)
 
 -- ---- what is found at a time
 
@@ -54,11 +54,11 @@ other_than t x y same less = times_alike.congr t x y same ∙ other_time y x les
 find-placed : (t x : Sample) (ys : List Sample) → find (has_same_time t) (placed has_lesser_time x ys) ≡ find (has_same_time t) (x ∷ ys)
 unfolding placed
 find-placed t x [] = refl
-find-placed t x (y ∷ ys) = by_bool (has_lesser_time y x)
+find-placed t x (y ∷ ys) = by_bool _
     (λ less. ap (λ b. find (has_same_time t) (cond b (y ∷ placed has_lesser_time x ys) (x ∷ y ∷ ys))) less
     ∙ ap (λ o. cond (has_same_time t y) (Some y) o) (find-placed t x ys)
     ∙ by_bool (has_same_time t x)
-    (λ same. find_skip (has_same_time t) y (x ∷ ys) (other_than t x y same less) ∙ find_here (has_same_time t) x ys same ∙ sym (find_here (has_same_time t) x (y ∷ ys) same))
+    (λ same. find_skip (has_same_time t) y (x ∷ ys) (other_than t x y same less) ∙ find_here (has_same_time t) x _ same ∙ sym (find_here (has_same_time t) x (y ∷ ys) same))
     (λ f. ap (λ o. cond (has_same_time t y) (Some y) o) (find_skip (has_same_time t) x ys f) ∙ sym (find_skip (has_same_time t) x (y ∷ ys) f)))
     (λ f. ap (λ b. find (has_same_time t) (cond b (y ∷ placed has_lesser_time x ys) (x ∷ y ∷ ys))) f)
 
@@ -72,7 +72,7 @@ alike t x y e = times_alike.symm t x ∙ sym (times_alike.congr y x t e) ∙ tim
 
 -- the second of two neighbours at one time is never found
 find_twin : (t x y : Sample) (ys : List Sample) → has_same_time y x ≡ true → find (has_same_time t) (x ∷ y ∷ ys) ≡ find (has_same_time t) (x ∷ ys)
-find_twin t x y ys e = by_bool (has_same_time t x)
+find_twin t x y ys e = by_bool _
     (λ same. find_here (has_same_time t) x (y ∷ ys) same ∙ sym (find_here (has_same_time t) x ys same))
     (λ f. ap (λ o. cond (has_same_time t x) (Some x) o) (find_skip (has_same_time t) y ys (sym (alike t x y e) ∙ f)))
 
@@ -80,23 +80,23 @@ find-dedup_from : (t x : Sample) (xs : List Sample) → find (has_same_time t) (
 find-dedup_from t x [] = refl
 find-dedup_from t x (y ∷ ys) = by_bool (has_same_time y x)
     (λ e. ap (λ b. find (has_same_time t) (cond b (dedup_from has_same_time x ys) (x ∷ dedup_from has_same_time y ys))) e
-    ∙ find-dedup_from t x ys ∙ sym (find_twin t x y ys e))
+    ∙ find-dedup_from t x ys ∙ sym (find_twin t x y _ e))
     (λ f. ap (λ b. find (has_same_time t) (cond b (dedup_from has_same_time x ys) (x ∷ dedup_from has_same_time y ys))) f
     ∙ ap (λ o. cond (has_same_time t x) (Some x) o) (find-dedup_from t y ys))
 
 find-dedup : (t : Sample) (xs : List Sample) → find (has_same_time t) (dedup has_same_time xs) ≡ find (has_same_time t) xs
 find-dedup t [] = refl
-find-dedup t (x ∷ xs) = find-dedup_from t x xs
+find-dedup t (x ∷ xs) = find-dedup_from t x _
 
 find-first : (t : Sample) (xs : List Sample) → find (has_same_time t) (first_samples xs) ≡ find (has_same_time t) xs
 unfolding first_samples
-find-first t xs = find-dedup t (in_order has_lesser_time xs) ∙ find-in_order t xs
+find-first t _ = find-dedup t _ ∙ find-in_order t _
 
 find-joined : (t : Sample) (xs ys : List Sample) → find (has_same_time t) (first_samples (first_samples xs ++ first_samples ys)) ≡ find (has_same_time t) (first_samples (xs ++ ys))
-find-joined t xs ys = find-first t (first_samples xs ++ first_samples ys) ∙ find-append (has_same_time t) (first_samples xs) (first_samples ys)
-    ∙ ap (λ o. option_or o (find (has_same_time t) (first_samples ys))) (find-first t xs)
-    ∙ ap (λ o. option_or (find (has_same_time t) xs) o) (find-first t ys)
-    ∙ sym (find-append (has_same_time t) xs ys) ∙ sym (find-first t (xs ++ ys))
+find-joined t xs ys = find-first t _ ∙ find-append (has_same_time t) _ _
+    ∙ ap (λ o. option_or o (find (has_same_time t) (first_samples ys))) (find-first t _)
+    ∙ ap (λ o. option_or (find (has_same_time t) xs) o) (find-first t _)
+    ∙ sym (find-append (has_same_time t) _ _) ∙ sym (find-first t _)
 
 -- ---- samples at ascending times are told by what is found
 
@@ -115,8 +115,8 @@ some_same x y e = cc
 
 -- the least of one list is not before the least of another that has the same
 not_before : (x y : Sample) (xs ys : List Sample) → Climbs (y ∷ ys) → find (has_same_time x) (x ∷ xs) ≡ find (has_same_time x) (y ∷ ys) → has_lesser_time x y ≡ false
-not_before x y xs ys rise same = by_bool (has_lesser_time x y)
-    (λ t. some_none x (sym (find_here (has_same_time x) x xs (times_alike.refl x)) ∙ same ∙ none_earlier x (y ∷ ys) (t, before_too x y ys (times_ranked.one_way x y t) rise.0)))
+not_before x y xs ys rise same = by_bool _
+    (λ t. some_none x (sym (find_here (has_same_time x) x xs (times_alike.refl x)) ∙ same ∙ none_earlier x (y ∷ ys) (t, before_too x y _ (times_ranked.one_way x y t) rise.0)))
     (λ f. f)
 
 same_found : (xs ys : List Sample) → Climbs xs → Climbs ys → ((t : Sample) → find (has_same_time t) xs ≡ find (has_same_time t) ys) → xs ≡ ys
@@ -124,37 +124,37 @@ same_found [] [] up rise same = refl
 same_found [] (y ∷ ys) up rise same = some_none y (sym (same y ∙ find_here (has_same_time y) y ys (times_alike.refl y)))
 same_found (x ∷ xs) [] up rise same = some_none x (sym (find_here (has_same_time x) x xs (times_alike.refl x)) ∙ same x)
 same_found (x ∷ xs) (y ∷ ys) up rise same =
-    let f : has_lesser_time x y ≡ false = not_before x y xs ys rise (same x) in
-    let g : has_lesser_time y x ≡ false = not_before y x ys xs up (sym (same y)) in
-    let e : x ≡ y = some_same x y (sym (find_here (has_same_time x) x xs (times_alike.refl x)) ∙ same x ∙ find_here (has_same_time x) y ys (same_time y x g f)) in
-    let tails : xs ≡ ys = same_found xs ys up.1 rise.1 (λ t. by_bool (has_same_time t x)
-    (λ s. none_at t x xs s up.0 ∙ sym (none_at t y ys (sym (ap (has_same_time t) e) ∙ s) rise.0))
+    let f : has_lesser_time x y ≡ false = not_before x y xs _ rise (same x) in
+    let g = not_before y x _ _ up (sym (same y)) in
+    let e = some_same x y (sym (find_here (has_same_time x) x xs (times_alike.refl x)) ∙ same x ∙ find_here (has_same_time x) y ys (same_time y x g f)) in
+    let tails = same_found _ _ up.1 rise.1 (λ t. by_bool (has_same_time t x)
+    (λ s. none_at t x xs s up.0 ∙ sym (none_at t y _ (sym (ap (has_same_time t) e) ∙ s) rise.0))
     (λ n. sym (find_skip (has_same_time t) x xs n) ∙ same t ∙ find_skip (has_same_time t) y ys (sym (ap (has_same_time t) e) ∙ n))) in
     λ i. e i ∷ tails i
 
 joined_firsts : (xs ys : List Sample) → first_samples (first_samples xs ++ first_samples ys) ≡ first_samples (xs ++ ys)
-joined_firsts xs ys = same_found (first_samples (first_samples xs ++ first_samples ys)) (first_samples (xs ++ ys))
-    (climbs (first_samples (first_samples xs ++ first_samples ys)) (ascending-first (first_samples xs ++ first_samples ys)))
-    (climbs (first_samples (xs ++ ys)) (ascending-first (xs ++ ys))) (λ t. find-joined t xs ys)
+joined_firsts xs ys = same_found (first_samples (first_samples xs ++ first_samples ys)) _
+    (climbs _ (ascending-first _))
+    (climbs _ (ascending-first _)) (λ t. find-joined t xs ys)
 
 pub parts_joined : (made front back lent samples xs ys : List Sample) (place : ℕ) → xs ≡ take place samples → ys ≡ drop place samples
     → front ≡ first_samples xs → back ≡ first_samples ys → lent ≡ back → made ≡ first_samples (front ++ lent) → made ≡ first_samples samples
-parts_joined made front back lent samples xs ys place is_front is_back first second same is =
+parts_joined _ front _ _ samples _ _ place is_front is_back first second same is =
     is ∙ ap (λ zs. first_samples (front ++ zs)) (same ∙ second ∙ ap first_samples is_back)
     ∙ ap (λ zs. first_samples (zs ++ first_samples (drop place samples))) (first ∙ ap first_samples is_front)
-    ∙ joined_firsts (take place samples) (drop place samples) ∙ ap first_samples (take-append-drop place samples)
+    ∙ joined_firsts _ _ ∙ ap first_samples (take-append-drop _ _)
 
 -- the same of parts
 pub halves_joined : (made front lent first second : List Sample) (parts before behind : List (List Sample)) (place : ℕ) → before ≡ take place parts → behind ≡ drop place parts
     → first ≡ first_samples (all_of before) → second ≡ first_samples (all_of behind) → front ≡ first → lent ≡ second → made ≡ first_samples (front ++ lent) → made ≡ first_samples (all_of parts)
-halves_joined made front lent first second parts before behind place is_before is_behind is_first is_second same_front same_lent is =
-    is ∙ ap (λ zs. first_samples (zs ++ lent)) (same_front ∙ is_first ∙ ap (λ (ps : List (List Sample)). first_samples (all_of ps)) is_before)
-    ∙ ap (λ zs. first_samples (first_samples (all_of (take place parts)) ++ zs)) (same_lent ∙ is_second ∙ ap (λ (ps : List (List Sample)). first_samples (all_of ps)) is_behind)
-    ∙ joined_firsts (all_of (take place parts)) (all_of (drop place parts))
-    ∙ ap first_samples (sym (flat_map-append (λ (p : List Sample). p) (take place parts) (drop place parts)) ∙ ap (λ (ps : List (List Sample)). all_of ps) (take-append-drop place parts))
+halves_joined _ _ lent _ _ parts _ _ place is_before is_behind is_first is_second same_front same_lent is =
+    is ∙ ap (λ zs. first_samples (zs ++ lent)) (same_front ∙ is_first ∙ ap (λ ps. first_samples (all_of ps)) is_before)
+    ∙ ap (λ zs. first_samples (first_samples (all_of (take place parts)) ++ zs)) (same_lent ∙ is_second ∙ ap (λ ps. first_samples (all_of ps)) is_behind)
+    ∙ joined_firsts _ _
+    ∙ ap first_samples (sym (flat_map-append (λ p. p) (take place parts) (drop place parts)) ∙ ap (λ ps. all_of ps) (take-append-drop place _))
 
 -- no part has no first sample
 pub none_first : (made : List Sample) (parts : List (List Sample)) → length parts ≡ 0 → made ≡ [] → made ≡ first_samples (all_of parts)
 unfolding first_samples in_order
-none_first made [] e is = is
-none_first made (p ∷ ps) e is = absurd (omega arith)
+none_first _ [] e is = is
+none_first _ (p ∷ ps) e is = absurd (omega arith)

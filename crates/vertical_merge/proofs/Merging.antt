@@ -38,7 +38,7 @@ same_under labels one other = ap (λ o. is_eq (ordering_then o (int_cmp one.time
 
 in_order-under : (labels : List Label) (samples : List Sample) → in_order has_lesser_key (triples_under labels samples) ≡ triples_under labels (in_order has_lesser_time samples)
 unfolding triples_under
-in_order-under labels samples = in_order-map has_lesser_key (triple_of labels) has_lesser_time (lesser_under labels) samples
+in_order-under labels samples = in_order-map has_lesser_key _ _ (lesser_under labels) _
 
 dedup-under : (labels : List Label) (samples : List Sample) → dedup has_same_key (triples_under labels samples) ≡ triples_under labels (dedup has_same_time samples)
 unfolding triples_under
@@ -55,36 +55,36 @@ AllAfter labels [] = Unit {0}
 AllAfter labels (t ∷ ts) = (compare_sets labels t.labels ≡ Less) × AllAfter labels ts
 
 after-append : (labels : List Label) (xs ys : List Triple) → AllAfter labels xs → AllAfter labels ys → AllAfter labels (xs ++ ys)
-after-append labels [] ys p q = q
-after-append labels (x ∷ xs) ys p q = (p.0, after-append labels xs ys p.1 q)
+after-append _ [] _ p q = q
+after-append labels (x ∷ xs) ys p q = (p.0, after-append labels xs _ p.1 q)
 
 after-under : (labels others : List Label) (samples : List Sample) → compare_sets labels others ≡ Less → AllAfter labels (triples_under others samples)
 unfolding triples_under
-after-under labels others [] before = tt
+after-under _ _ [] before = tt
 after-under labels others (s ∷ ss) before = (before, after-under labels others ss before)
 
 after-triples : (labels : List Label) (series : List Series) → AllByRecursion (λ others. compare_sets labels others ≡ Less) (labels_of series) → AllAfter labels (triples_of series)
 unfolding triples_of
-after-triples labels [] all = tt
-after-triples labels (s ∷ ss) all = after-append labels (triples_under s.labels s.samples) (triples_of ss) (after-under labels s.labels s.samples all.0) (after-triples labels ss all.1)
+after-triples _ [] all = tt
+after-triples labels (s ∷ ss) all = after-append _ _ _ (after-under _ s.labels s.samples all.0) (after-triples labels ss all.1)
 
 none_less-after : (one : Triple) (ts : List Triple) → AllAfter one.labels ts → NoneLess has_lesser_key one ts
-none_less-after one [] all = tt
+none_less-after _ [] all = tt
 none_less-after one (t ∷ ts) all = (ap is_lt (greater_key one t all.0), none_less-after one ts all.1)
 
 none_same-after : (one : Triple) (ts : List Triple) → AllAfter one.labels ts → NoneSame has_same_key one ts
-none_same-after one [] all = tt
+none_same-after _ [] all = tt
 none_same-after one (t ∷ ts) all = (ap is_eq (greater_key one t all.0), none_same-after one ts all.1)
 
 below-after : (labels : List Label) (samples : List Sample) (ts : List Triple) → AllAfter labels ts → IsBelow has_lesser_key (triples_under labels samples) ts
 unfolding triples_under
-below-after labels [] ts all = tt
-below-after labels (s ∷ ss) ts all = (none_less-after (triple_of labels s) ts all, below-after labels ss ts all)
+below-after _ [] _ all = tt
+below-after labels (s ∷ ss) ts all = (none_less-after (triple_of labels s) ts all, below-after labels ss _ all)
 
 apart-after : (labels : List Label) (samples : List Sample) (ts : List Triple) → AllAfter labels ts → IsApart has_same_key (triples_under labels samples) ts
 unfolding triples_under
-apart-after labels [] ts all = tt
-apart-after labels (s ∷ ss) ts all = (none_same-after (triple_of labels s) ts all, apart-after labels ss ts all)
+apart-after _ [] _ all = tt
+apart-after labels (s ∷ ss) ts all = (none_same-after (triple_of labels s) ts all, apart-after labels ss _ all)
 
 abbrev pub ordered : Series → Series
 ordered s = record { labels = s.labels; samples = in_order has_lesser_time s.samples }
@@ -100,16 +100,16 @@ in_order-triples : (series : List Series) → LabelsAscend series → in_order h
 unfolding triples_of IsStrictlySortedBy in_order
 in_order-triples [] up = refl
 in_order-triples (s ∷ ss) up =
-    in_order-append has_lesser_key (triples_under s.labels s.samples) (triples_of ss) (below-after s.labels s.samples (triples_of ss) (after-triples s.labels ss up.0))
-    ∙ ap (λ ts. ts ++ in_order has_lesser_key (triples_of ss)) (in_order-under s.labels s.samples)
+    in_order-append has_lesser_key (triples_under s.labels s.samples) (triples_of ss) (below-after s.labels _ _ (after-triples _ _ up.0))
+    ∙ ap (λ ts. ts ++ in_order has_lesser_key (triples_of ss)) (in_order-under _ _)
     ∙ ap (λ ts. triples_under s.labels (in_order has_lesser_time s.samples) ++ ts) (in_order-triples ss up.1)
 
 dedup-triples : (series : List Series) → LabelsAscend series → dedup has_same_key (triples_of series) ≡ triples_of (map cut_down series)
 unfolding triples_of IsStrictlySortedBy
 dedup-triples [] up = refl
 dedup-triples (s ∷ ss) up =
-    dedup-append has_same_key (triples_under s.labels s.samples) (triples_of ss) (apart-after s.labels s.samples (triples_of ss) (after-triples s.labels ss up.0))
-    ∙ ap (λ ts. ts ++ dedup has_same_key (triples_of ss)) (dedup-under s.labels s.samples)
+    dedup-append has_same_key (triples_under s.labels s.samples) (triples_of ss) (apart-after s.labels _ _ (after-triples _ _ up.0))
+    ∙ ap (λ ts. ts ++ dedup has_same_key (triples_of ss)) (dedup-under _ _)
     ∙ ap (λ ts. triples_under s.labels (dedup has_same_time s.samples) ++ ts) (dedup-triples ss up.1)
 
 labels-ordered : (series : List Series) → labels_of (map ordered series) ≡ labels_of series
@@ -119,23 +119,23 @@ labels-ordered (s ∷ ss) = ap (λ ls. s.labels ∷ ls) (labels-ordered ss)
 firsts-parts : (series : List Series) → map cut_down (map ordered series) ≡ map firsts series
 unfolding first_samples
 firsts-parts [] = refl
-firsts-parts (s ∷ ss) = ap (λ (ls : List Series). firsts s ∷ ls) (firsts-parts ss)
+firsts-parts (s ∷ ss) = ap (λ ls. firsts s ∷ ls) (firsts-parts ss)
 
 -- the first patterns of series whose labels strictly ascend
 first-ascending : (series : List Series) → LabelsAscend series → first_of (triples_of series) ≡ triples_of (map firsts series)
 unfolding first_of
-first-ascending series up = ap (dedup has_same_key) (in_order-triples series up)
-    ∙ dedup-triples (map ordered series) (subst (IsStrictlySortedBy compare_sets) (sym (labels-ordered series)) up)
-    ∙ ap triples_of (firsts-parts series)
+first-ascending _ up = ap (dedup has_same_key) (in_order-triples _ up)
+    ∙ dedup-triples _ (subst (IsStrictlySortedBy compare_sets) (sym (labels-ordered _)) up)
+    ∙ ap triples_of (firsts-parts _)
 
 -- ---- a stable sort by labels
 
 -- of a series under other labels no sample has the key
 apart_case : (l m : Ordering) (times back : Ordering) → m ≡ ordering_reverse l → (not (is_lt l) && not (is_lt m)) ≡ false
     → (not (is_lt (ordering_then l times)) && not (is_lt (ordering_then m back))) ≡ false
-apart_case Less m times back e f = refl
-apart_case Equal m times back e f = absurd (true≢false (sym (ap (λ o. not false && not (is_lt o)) e) ∙ f))
-apart_case Greater m times back e f = ap (λ o. not false && not (is_lt (ordering_then o back))) e
+apart_case Less m _ _ e f = refl
+apart_case Equal m _ _ e f = absurd (true≢false (sym (ap (λ o. not false && not (is_lt o)) e) ∙ f))
+apart_case Greater m _ back e f = ap (λ o. not false && not (is_lt (ordering_then o back))) e
 
 -- the labels of a key as those of a series
 abbrev pub under_key : Triple → Series
@@ -143,13 +143,13 @@ under_key key = record { labels = key.labels; samples = [] }
 
 no_tie : (key : Triple) (labels : List Label) (s : Sample) → ties has_lesser_labels (under_key key) (record { labels = labels; samples = [] }) ≡ false
     → ties has_lesser_key key (triple_of labels s) ≡ false
-no_tie key labels s f = apart_case (compare_sets key.labels labels) (compare_sets labels key.labels) (int_cmp key.time s.time) (int_cmp s.time key.time)
+no_tie key labels s f = apart_case _ _ _ _
     (sets_total.antisymm labels key.labels) f
 
 none_under : (key : Triple) (labels : List Label) (samples : List Sample) → ties has_lesser_labels (under_key key) (record { labels = labels; samples = [] }) ≡ false
     → filter (ties has_lesser_key key) (triples_under labels samples) ≡ []
 unfolding triples_under
-none_under key labels [] f = refl
+none_under _ _ [] f = refl
 none_under key labels (s ∷ ss) f = filter_miss (ties has_lesser_key key) (triple_of labels s) (triples_under labels ss) (no_tie key labels s f) ∙ none_under key labels ss f
 
 -- the samples at a key are those in the series that have its labels
@@ -157,22 +157,22 @@ filter-triples : (key : Triple) (series : List Series)
     → filter (ties has_lesser_key key) (triples_of series) ≡ filter (ties has_lesser_key key) (triples_of (filter (ties has_lesser_labels (under_key key)) series))
 unfolding triples_of
 filter-triples key [] = refl
-filter-triples key (s ∷ ss) = filter-append (ties has_lesser_key key) (triples_under s.labels s.samples) (triples_of ss)
+filter-triples key (s ∷ ss) = filter-append (ties has_lesser_key key) _ _
     ∙ ap (λ ts. filter (ties has_lesser_key key) (triples_under s.labels s.samples) ++ ts) (filter-triples key ss)
     ∙ by_bool (ties has_lesser_labels (under_key key) s)
-    (λ t. sym (filter-append (ties has_lesser_key key) (triples_under s.labels s.samples) (triples_of (filter (ties has_lesser_labels (under_key key)) ss)))
-    ∙ ap (λ (l : List Series). filter (ties has_lesser_key key) (triples_of l)) (sym (filter_hit (ties has_lesser_labels (under_key key)) s ss t)))
-    (λ f. ap (λ ts. ts ++ filter (ties has_lesser_key key) (triples_of (filter (ties has_lesser_labels (under_key key)) ss))) (none_under key s.labels s.samples f)
-    ∙ ap (λ (l : List Series). filter (ties has_lesser_key key) (triples_of l)) (sym (filter_miss (ties has_lesser_labels (under_key key)) s ss f)))
+    (λ t. sym (filter-append (ties has_lesser_key key) (triples_under s.labels s.samples) _)
+    ∙ ap (λ l. filter (ties has_lesser_key key) (triples_of l)) (sym (filter_hit (ties has_lesser_labels (under_key key)) s ss t)))
+    (λ f. ap (λ ts. ts ++ filter (ties has_lesser_key key) (triples_of (filter (ties has_lesser_labels (under_key key)) ss))) (none_under key _ _ f)
+    ∙ ap (λ l. filter (ties has_lesser_key key) (triples_of l)) (sym (filter_miss (ties has_lesser_labels (under_key key)) s ss f)))
 
 first-sorted : (added sorted : List Series) → IsStableBy has_lesser_labels added sorted → first_of (triples_of sorted) ≡ first_of (triples_of added)
 unfolding first_of
 first-sorted added sorted stable = ap (dedup has_same_key) (same_in_order has_lesser_key keys_ranked
     (in_order has_lesser_key (triples_of sorted)) (in_order has_lesser_key (triples_of added))
-    (Rises-in_order has_lesser_key keys_ranked (triples_of sorted)) (Rises-in_order has_lesser_key keys_ranked (triples_of added))
+    (Rises-in_order has_lesser_key keys_ranked (triples_of sorted)) (Rises-in_order has_lesser_key keys_ranked _)
     (λ key. filter-in_order has_lesser_key keys_ranked key (triples_of sorted)
-    ∙ filter-triples key sorted ∙ ap (λ (l : List Series). filter (ties has_lesser_key key) (triples_of l)) (stable (under_key key)) ∙ sym (filter-triples key added)
-    ∙ sym (filter-in_order has_lesser_key keys_ranked key (triples_of added))))
+    ∙ filter-triples key _ ∙ ap (λ l. filter (ties has_lesser_key key) (triples_of l)) (stable (under_key key)) ∙ sym (filter-triples key _)
+    ∙ sym (filter-in_order has_lesser_key keys_ranked key _)))
 
 -- ---- what is not empty
 
@@ -193,17 +193,17 @@ kept_some x (y ∷ ys) e = elim (has_same_time y x) as (λ b. cond b (dedup has_
 
 some_kept : (xs : List Sample) → xs ≢ [] → dedup has_same_time xs ≢ []
 some_kept [] some = absurd (some refl)
-some_kept (x ∷ xs) some = kept_some x xs
+some_kept (x ∷ xs) some = kept_some x _
 
 some_ordered : (xs : List Sample) → xs ≢ [] → in_order has_lesser_time xs ≢ []
 unfolding in_order
 some_ordered [] some = absurd (some refl)
-some_ordered (x ∷ xs) some = placed_some x (in_order has_lesser_time xs)
+some_ordered (x ∷ xs) some = placed_some x _
 
 inhabited-firsts : (series : List Series) → AllInhabited series → AllInhabited (map firsts series)
 unfolding first_samples
 inhabited-firsts [] all = tt
-inhabited-firsts (s ∷ ss) all = (some_kept (in_order has_lesser_time s.samples) (some_ordered s.samples all.0), inhabited-firsts ss all.1)
+inhabited-firsts (s ∷ ss) all = (some_kept _ (some_ordered s.samples all.0), inhabited-firsts ss all.1)
 
 labels-firsts : (series : List Series) → labels_of (map firsts series) ≡ labels_of series
 labels-firsts [] = refl
@@ -229,10 +229,10 @@ whole made added sorted united up stable all is_united is_made =
       ascending = subst (IsStrictlySortedBy compare_sets) (sym (labels-firsts (fold joined_to [] sorted))) ascend;
       inhabited = All-from_recursion (λ (s : Series). s.samples ≢ []) (map firsts (fold joined_to [] sorted))
           (inhabited_all (map firsts (fold joined_to [] sorted)) (inhabited-firsts (fold joined_to [] sorted)
-          (inhabited-fold [] sorted tt (all_inhabited sorted (recursion_from_All (λ (s : Series). s.samples ≢ []) sorted all)))));
+          (inhabited-fold [] _ tt (all_inhabited _ (recursion_from_All (λ s. s.samples ≢ []) _ all)))));
       first = subst (AreFirst (triples_of added))
-          (sym (sym (first-ascending (fold joined_to [] sorted) ascend) ∙ ap first_of (triples-fold [] sorted) ∙ first-sorted added sorted stable))
-          (are_first (triples_of added));
+          (sym (sym (first-ascending _ ascend) ∙ ap first_of (triples-fold [] sorted) ∙ first-sorted _ _ stable))
+          (are_first _);
     })
 
 -- the same of series in parts
@@ -241,9 +241,9 @@ firsts_of one = record { labels = one.labels; samples = first_samples (all_of on
 
 firsts-of_parts : (parts : List Parts) → map firsts_of parts ≡ map firsts (map series_of parts)
 firsts-of_parts [] = refl
-firsts-of_parts (p ∷ ps) = ap (λ (l : List Series). firsts_of p ∷ l) (firsts-of_parts ps)
+firsts-of_parts (p ∷ ps) = ap (λ l. firsts_of p ∷ l) (firsts-of_parts ps)
 
 pub merged : (made added sorted : List Series) (parts : List Parts) → IsSortedBy has_lesser_labels sorted → IsStableBy has_lesser_labels added sorted
     → All (λ (s : Series). s.samples ≢ []) sorted → map series_of parts ≡ fold joined_to [] sorted → made ≡ map firsts_of parts → IsMerge (triples_of added) made
-merged made added sorted parts up stable all is_united is_made =
-    whole made added sorted (map series_of parts) up stable all is_united (is_made ∙ firsts-of_parts parts)
+merged made added _ _ up stable all is_united is_made =
+    whole _ _ _ _ up stable all is_united (is_made ∙ firsts-of_parts _)

@@ -18,26 +18,26 @@ alike : (a b : ℤ) → a ≤ℤ b → b ≤ℤ a → a ≡ b
 alike a b below above = grind (arith, ints)
 
 least_once : (time_of : Meta → ℤ) (metas : List Meta) (a b : ℤ) → IsLeast time_of metas a → IsLeast time_of metas b → a ≡ b
-least_once time_of metas a b is so =
+least_once time_of _ a b is so =
     alike a b
-    (subst (λ (t : ℤ). a ≤ℤ t) so.one.4 (All-contains (λ (m : Meta). a ≤ℤ time_of m) metas so.one.1 is.none_below (so.one.0, so.one.2, so.one.3)))
-    (subst (λ (t : ℤ). b ≤ℤ t) is.one.4 (All-contains (λ (m : Meta). b ≤ℤ time_of m) metas is.one.1 so.none_below (is.one.0, is.one.2, is.one.3)))
+    (subst (λ t. a ≤ℤ t) so.one.4 (All-contains (λ m. a ≤ℤ time_of m) _ _ is.none_below (so.one.0, so.one.2, so.one.3)))
+    (subst (λ t. b ≤ℤ t) is.one.4 (All-contains (λ m. b ≤ℤ time_of m) _ _ so.none_below (is.one.0, is.one.2, is.one.3)))
 
 greatest_once : (time_of : Meta → ℤ) (metas : List Meta) (a b : ℤ) → IsGreatest time_of metas a → IsGreatest time_of metas b → a ≡ b
-greatest_once time_of metas a b is so =
+greatest_once time_of _ a b is so =
     alike a b
-    (subst (λ (t : ℤ). t ≤ℤ b) is.one.4 (All-contains (λ (m : Meta). time_of m ≤ℤ b) metas is.one.1 so.none_above (is.one.0, is.one.2, is.one.3)))
-    (subst (λ (t : ℤ). t ≤ℤ a) so.one.4 (All-contains (λ (m : Meta). time_of m ≤ℤ a) metas so.one.1 is.none_above (so.one.0, so.one.2, so.one.3)))
+    (subst (λ t. t ≤ℤ b) is.one.4 (All-contains (λ m. time_of m ≤ℤ b) _ _ so.none_above (is.one.0, is.one.2, is.one.3)))
+    (subst (λ t. t ≤ℤ a) so.one.4 (All-contains (λ m. time_of m ≤ℤ a) _ _ is.none_above (so.one.0, so.one.2, so.one.3)))
 
 level_once : (metas : List Meta) (a b : ℕ) → IsGreatestLevel metas a → IsGreatestLevel metas b → a ≡ b
-level_once metas a b is so =
-    let below : a ≤ b = subst (λ (n : ℕ). n ≤ b) is.one.4 (All-contains (λ (m : Meta). m.level ≤ b) metas is.one.1 so.none_above (is.one.0, is.one.2, is.one.3)) in
-    let above : b ≤ a = subst (λ (n : ℕ). n ≤ a) so.one.4 (All-contains (λ (m : Meta). m.level ≤ a) metas so.one.1 is.none_above (so.one.0, so.one.2, so.one.3)) in
-    omega (arith, below, above)
+level_once _ a b is so =
+    let below = subst (λ n. n ≤ b) is.one.4 (All-contains (λ m. m.level ≤ b) _ _ so.none_above (is.one.0, is.one.2, is.one.3)) in
+    let above = subst (λ n. n ≤ a) so.one.4 (All-contains (λ m. m.level ≤ a) _ _ is.none_above (so.one.0, so.one.2, so.one.3)) in
+    omega arith
 
 next_once : (metas : List Meta) (a b : ℕ) → IsNextLevel metas a → IsNextLevel metas b → a ≡ b
-next_once metas a b is so =
-    is.next ∙ ap (λ (n : ℕ). min (n + 1) 4294967295) (level_once metas is.greatest so.greatest is.is_greatest so.is_greatest) ∙ sym so.next
+next_once _ a b is so =
+    is.next ∙ ap (λ n. min (n + 1) 4294967295) (level_once _ _ _ is.is_greatest so.is_greatest) ∙ sym so.next
 
 -- ---- the plan, without the proofs that it carries
 
@@ -58,26 +58,26 @@ abbrev made : (f : Fields) → AreLawfulTimes f.min_time f.max_time → IsStrict
 made f times distinct = record { ulid = f.ulid; min_time = f.min_time; max_time = f.max_time; level = f.level; sources = f.sources; parents = f.parents; labels = f.labels; source = f.source; times = times; distinct = distinct }
 
 times_prop : (least most : ℤ) → IsProp (AreLawfulTimes least most)
-times_prop least most = hlevel props
+times_prop _ _ = hlevel props
 
 distinct_prop : (sources : List ℕ) → IsProp (IsStrictlyIncreasing sources)
-distinct_prop sources = hlevel props
+distinct_prop _ = hlevel props
 
 same_made : (f g : Fields) → f ≡ g → (t : AreLawfulTimes f.min_time f.max_time) (d : IsStrictlyIncreasing f.sources) (t' : AreLawfulTimes g.min_time g.max_time) (d' : IsStrictlyIncreasing g.sources) → made f t d ≡ made g t' d'
 same_made f g e t d =
-    subst (λ (h : Fields). (t' : AreLawfulTimes h.min_time h.max_time) (d' : IsStrictlyIncreasing h.sources) → made f t d ≡ made h t' d') e
-    (λ t' d'. ap (λ (x : AreLawfulTimes f.min_time f.max_time). made f x d) (times_prop f.min_time f.max_time t t') ∙ ap (λ (x : IsStrictlyIncreasing f.sources). made f t' x) (distinct_prop f.sources d d'))
+    subst (λ h. (t' : AreLawfulTimes h.min_time h.max_time) (d' : IsStrictlyIncreasing h.sources) → made f t d ≡ made h t' d') e
+    (λ t' d'. ap (λ x. made f x d) (times_prop _ _ t t') ∙ ap (λ x. made f t' x) (distinct_prop _ d d'))
 
 pub one_compacted : (inputs : List Meta) (ulid : ℕ) (labels : List Label) (plan other : BlockPlan) → IsCompactedPlan inputs ulid labels plan → IsCompactedPlan inputs ulid labels other → plan ≡ other
-one_compacted inputs ulid labels plan other is so =
-    let ulids : plan.ulid ≡ other.ulid = is.ulid_is ∙ sym so.ulid_is in
-    let begins : plan.min_time ≡ other.min_time = least_once (λ (m : Meta). m.min_time) inputs plan.min_time other.min_time is.begin so.begin in
-    let ends : plan.max_time ≡ other.max_time = greatest_once (λ (m : Meta). m.max_time) inputs plan.max_time other.max_time is.end so.end in
-    let levels : plan.level ≡ other.level = next_once inputs plan.level other.level is.level so.level in
-    let sources : plan.sources ≡ other.sources = is.sources ∙ sym so.sources in
-    let parents : plan.parents ≡ other.parents = is.parents ∙ sym so.parents in
-    let their : plan.labels ≡ other.labels = is.labels_are ∙ sym so.labels_are in
-    let source : plan.source ≡ other.source = is.source ∙ sym so.source in
-    same_made (fields_of plan) (fields_of other)
+one_compacted _ ulid labels _ _ is so =
+    let ulids = is.ulid_is ∙ sym so.ulid_is in
+    let begins = least_once _ _ _ _ is.begin so.begin in
+    let ends = greatest_once _ _ _ _ is.end so.end in
+    let levels = next_once _ _ _ is.level so.level in
+    let sources = is.sources ∙ sym so.sources in
+    let parents = is.parents ∙ sym so.parents in
+    let their = is.labels_are ∙ sym so.labels_are in
+    let source = is.source ∙ sym so.source in
+    same_made _ _
     (λ i. record { ulid = ulids i; min_time = begins i; max_time = ends i; level = levels i; sources = sources i; parents = parents i; labels = their i; source = source i })
-    plan.times plan.distinct other.times other.distinct
+    _ _ _ _

@@ -4,9 +4,9 @@ use Rattle.std.specs.Prelude.{replicate}
 use Rattle.std.specs.Int.{bit_at, byte_at, bytes_high_first, to_be_bytes, from_be_bytes, w64}
 use Rattle.std.proofs.lemmas.Bool.{eq-eqb, ne_eqb, cases_eq}
 use Rattle.std.proofs.lemmas.Nat.{pow-add, shr-shr, shr_high, mod-pow-add, be_bytes_8, shr_split}
-use Rattle.std.proofs.lemmas.Nat.Bits.{bit_at-lt, bit_at_cat_low, bit_at_above, bit_at-zero}
+use Rattle.std.proofs.lemmas.Nat.Bits.{bit_at_cat_low, bit_at_above, bit_at-zero}
 use Rattle.wire_bits.specs.Bits.{bits_of, number_of, bits_in}
-use Rattle.std.proofs.Math.Nat.{mod-eq_of_lt, pow-suc}
+use Rattle.std.proofs.Math.Nat.{mod-eq_of_lt}
 
 pub length-bits_of : (k n : ℕ) → length (bits_of k n) ≡ k
 unfolding bits_of
@@ -32,7 +32,7 @@ number_of-lt (bit ∷ bits) =
 
 -- a bit is 0 or 1
 bit_cases : (n i : ℕ) → (bit_at n i ≡ 0) ⊎ (bit_at n i ≡ 1)
-bit_cases n i = elim (cases_eq (bit_at n i) 0) [ inl e ↦ inl e | inr ne ↦ inr (omega (arith, bit_at-lt n i, ne)) ]
+bit_cases n i = elim (cases_eq _ 0) [ inl e ↦ inl e | inr ne ↦ inr (omega arith) ]
 
 pub number_of-bits_of : (k n : ℕ) → number_of (bits_of k n) ≡ n % 2 ^ k
 unfolding bits_of number_of
@@ -52,7 +52,7 @@ bits_of-high zero j m n h = refl
 bits_of-high (suc k) j m n h = rw (bit_at_cat_low m j n k (omega arith), bits_of-high k j m n (omega arith)) refl
 
 pub bits_of-mod : (k n : ℕ) → bits_of k (n % 2 ^ k) ≡ bits_of k n
-bits_of-mod k n = sym (bits_of-high k k (n / 2 ^ k) (n % 2 ^ k) (omega arith)) ∙ ap (bits_of k) (shr_split n k)
+bits_of-mod k n = sym (bits_of-high k k _ _ (omega arith)) ∙ ap (bits_of k) (shr_split n k)
 
 pub bits_of-number_of : (bits : List Bool) → bits_of (length bits) (number_of bits) ≡ bits
 unfolding bits_of number_of
@@ -84,25 +84,25 @@ pub bits_of-zero : (k : ℕ) → bits_of k 0 ≡ replicate k false
 unfolding bits_of
 bits_of-zero zero = refl
 bits_of-zero (suc k) =
-    let none : bit_at 0 k ≡ 0 = bit_at-zero k in
+    let none = bit_at-zero k in
     rw (ne_eqb (bit_at 0 k) 1 (λ h. omega (arith, none, h)), bits_of-zero k) refl
 
 -- two numbers of so many bits that have the same bits are equal
 pub same_from_bits_of : (k m n : ℕ) → m < 2 ^ k → n < 2 ^ k → bits_of k m ≡ bits_of k n → m ≡ n
 same_from_bits_of k m n p q e =
-    let number : m % 2 ^ k ≡ n % 2 ^ k = sym (number_of-bits_of k m) ∙ ap number_of e ∙ number_of-bits_of k n in
+    let number = sym (number_of-bits_of k m) ∙ ap number_of e ∙ number_of-bits_of k n in
     sym (mod-eq_of_lt p) ∙ number ∙ mod-eq_of_lt q
 
 pow_bytes : (i : ℕ) → 256 ^ i ≡ 2 ^ (8 * i)
 pow_bytes zero = refl
 pow_bytes (suc i) =
     let longer : 2 ^ (8 * suc i) ≡ 2 ^ (8 * i + 8) = ap (λ e. 2 ^ e) (omega arith) in
-    omega (arith, pow-suc 256 i, pow_bytes i, longer, pow-add 2 (8 * i) 8)
+    omega (arith, pow_bytes i, longer, pow-add 2 (8 * i) 8)
 
 byte_at-is : (i n : ℕ) → byte_at i n ≡ n / 2 ^ (8 * i) % 2 ^ 8
 byte_at-is zero n = omega arith
 byte_at-is (suc i) n =
-    rw (pow_bytes (suc i)) refl
+    rw (pow_bytes) refl
 
 pub bits_of-nil : (n : ℕ) → bits_of 0 n ≡ []
 unfolding bits_of
@@ -112,16 +112,16 @@ pub bits_in-bytes : (k n : ℕ) → bits_in (bytes_high_first k n) ≡ bits_of (
 bits_in-bytes zero n = sym (bits_of-nil n)
 bits_in-bytes (suc k) n =
     let longer : 8 * suc k ≡ 8 + 8 * k = omega arith in
-    let head : bits_of 8 (byte_at k n) ≡ bits_of 8 (n / 2 ^ (8 * k)) = ap (bits_of 8) (byte_at-is k n) ∙ bits_of-mod 8 (n / 2 ^ (8 * k)) in
-    let tail : bits_in (bytes_high_first k n) ≡ bits_of (8 * k) n = bits_in-bytes k n in
-    let joined : bits_of 8 (byte_at k n) ++ bits_in (bytes_high_first k n) ≡ bits_of 8 (n / 2 ^ (8 * k)) ++ bits_of (8 * k) n = ap (λ (a : List Bool). a ++ bits_in (bytes_high_first k n)) head ∙ ap (λ (b : List Bool). bits_of 8 (n / 2 ^ (8 * k)) ++ b) tail in
-    joined ∙ sym (ap (λ e. bits_of e n) longer ∙ bits_of-append 8 (8 * k) n)
+    let head = ap (bits_of 8) (byte_at-is k n) ∙ bits_of-mod 8 _ in
+    let tail = bits_in-bytes k n in
+    let joined = ap (λ a. a ++ bits_in (bytes_high_first k n)) head ∙ ap (λ b. bits_of 8 (n / 2 ^ (8 * k)) ++ b) tail in
+    joined ∙ sym (ap (λ e. bits_of e n) longer ∙ bits_of-append 8 _ n)
 
 pub bits_in-to_be_bytes : (n : ℕ) → bits_in (to_be_bytes w64 n) ≡ bits_of 64 n
 bits_in-to_be_bytes n = bits_in-bytes 8 n
 
 pub bits_of-from_be_bytes : (bytes : List ℕ) → length bytes ≡ 8 → ((i : ℕ) → get_or bytes i 0 < 256) → bits_of 64 (from_be_bytes w64 bytes) ≡ bits_in bytes
-bits_of-from_be_bytes bytes len small = sym (bits_in-to_be_bytes (from_be_bytes w64 bytes)) ∙ ap bits_in (be_bytes_8 bytes _ len small refl)
+bits_of-from_be_bytes _ len small = sym (bits_in-to_be_bytes _) ∙ ap bits_in (be_bytes_8 _ _ len small refl)
 
 pub length-bits_in : (bytes : List ℕ) → length (bits_in bytes) ≡ 8 * length bytes
 length-bits_in [] = refl

@@ -36,26 +36,26 @@ reduced-xor a b h k low_a low_b =
         | inr b1 ↦ rw (a0, b1) (xor_assoc h k castagnoli)
       ]
       | inr a1 ↦ elim (two_bits b low_b) [
-        | inl b0 ↦ rw (a1, b0) (xor_assoc h k castagnoli ∙ ap (bit_xor h) (xor_comm k castagnoli) ∙ sym (xor_assoc h castagnoli k))
-        | inr b1 ↦ rw (a1, b1) (sym (swap_inner h castagnoli k castagnoli ∙ ap (bit_xor (bit_xor h k)) (xor_self castagnoli) ∙ xor_zero_r (bit_xor h k)))
+        | inl b0 ↦ rw (a1, b0) (xor_assoc h k castagnoli ∙ ap (bit_xor h) (xor_comm k _) ∙ sym (xor_assoc h castagnoli k))
+        | inr b1 ↦ rw (a1, b1) (sym (swap_inner h _ k _ ∙ ap (bit_xor (bit_xor h k)) (xor_self castagnoli) ∙ xor_zero_r (bit_xor h k)))
       ]
     ]
 
 pub times_x-xor : (a b : ℕ) → times_x (bit_xor a b) ≡ bit_xor (times_x a) (times_x b)
 times_x-xor a b =
-    let half : bit_xor a b / 2 ≡ bit_xor (a / 2) (b / 2) = xor_shr a b 1 in
-    let low : bit_xor a b % 2 ≡ bit_xor (a % 2) (b % 2) = xor_mod a b 1 in
-    rw (low, half) (reduced-xor (a % 2) (b % 2) (a / 2) (b / 2) (omega arith) (omega arith))
+    let half = xor_shr a b 1 in
+    let low = xor_mod a b 1 in
+    rw (low, half) (reduced-xor _ _ (a / 2) (b / 2) (omega arith) (omega arith))
 
 pub times_x_to-xor : (n a b : ℕ) → times_x_to n (bit_xor a b) ≡ bit_xor (times_x_to n a) (times_x_to n b)
 unfolding times_x_to
 times_x_to-xor zero a b = refl
-times_x_to-xor (suc n) a b = ap (times_x_to n) (times_x-xor a b) ∙ times_x_to-xor n (times_x a) (times_x b)
+times_x_to-xor (suc n) a b = ap (times_x_to n) (times_x-xor a b) ∙ times_x_to-xor n _ _
 
 pub times_x_to-add : (m n r : ℕ) → times_x_to (m + n) r ≡ times_x_to n (times_x_to m r)
 unfolding times_x_to
 times_x_to-add zero n r = let e : 0 + n ≡ n = omega arith in rw e refl
-times_x_to-add (suc m) n r = let e : suc m + n ≡ suc (m + n) = omega arith in rw e (times_x_to-add m n (times_x r))
+times_x_to-add (suc m) n r = let e : suc m + n ≡ suc (m + n) = omega arith in rw e (times_x_to-add m n _)
 
 -- a polynomial of a lower degree moves without a remainder
 times_x-double : (h : ℕ) → times_x (2 * h) ≡ h
@@ -67,24 +67,24 @@ times_x-double h =
 one_power : (h weight next : ℕ) → next ≡ 2 * weight → times_x (h * next) ≡ h * weight
 one_power h weight next e =
     let twice : h * next ≡ 2 * (h * weight) = rw e (omega arith) in
-    ap times_x twice ∙ times_x-double (h * weight)
+    ap times_x twice ∙ times_x-double _
 
 shifted_back : (n h : ℕ) → times_x_to n (h * 2 ^ n) ≡ h
 unfolding times_x_to
 shifted_back zero h = omega arith
 shifted_back (suc n) h =
     let next : 2 ^ suc n ≡ 2 * 2 ^ n = rw pow-suc (omega arith) in
-    ap (times_x_to n) (one_power h (2 ^ n) (2 ^ suc n) next) ∙ shifted_back n h
+    ap (times_x_to n) (one_power h _ _ next) ∙ shifted_back n h
 
 -- coefficients are taken from the low end, and the others move
 pub times_x_to-part : (k n w : ℕ) → times_x_to (k + n) w ≡ bit_xor (times_x_to n (w / 2 ^ k)) (times_x_to (k + n) (w % 2 ^ k))
 times_x_to-part k n w =
     let above = w / 2 ^ k in
     let below = w % 2 ^ k in
-    let whole : above * 2 ^ k + below ≡ w = div-add-mod' w (2 ^ k) in
-    let apart : w ≡ bit_xor (above * 2 ^ k) below = sym (xor_shifted above k below (mod-lt w (pow_pos k)) ∙ whole) in
-    let high : times_x_to (k + n) (above * 2 ^ k) ≡ times_x_to n above = times_x_to-add k n (above * 2 ^ k) ∙ ap (times_x_to n) (shifted_back k above) in
-    ap (times_x_to (k + n)) apart ∙ times_x_to-xor (k + n) (above * 2 ^ k) below ∙ ap (λ part. bit_xor part (times_x_to (k + n) below)) high
+    let whole = div-add-mod' w (2 ^ k) in
+    let apart = sym (xor_shifted above k below (mod-lt w (pow_pos k)) ∙ whole) in
+    let high = times_x_to-add k n _ ∙ ap (times_x_to n) (shifted_back k _) in
+    ap (times_x_to (k + n)) apart ∙ times_x_to-xor _ _ _ ∙ ap (λ part. bit_xor part (times_x_to (k + n) below)) high
 
 -- ---- coefficients one after another
 
@@ -120,10 +120,10 @@ low_first [] = 0
 low_first (byte ∷ bytes) = byte + 256 * low_first bytes
 
 bits_of_byte : (byte : ℕ) → byte < 256 → number_of (coefficients byte) ≡ byte
-bits_of_byte byte small = omega arith
+bits_of_byte _ small = omega arith
 
 are_bits : (byte : ℕ) → AreBits (coefficients byte)
-are_bits byte = (omega arith, (omega arith, (omega arith, (omega arith, (omega arith, (omega arith, (omega arith, (omega arith, tt))))))))
+are_bits _ = (omega arith, (omega arith, (omega arith, (omega arith, (omega arith, (omega arith, (omega arith, (omega arith, tt))))))))
 
 with_one_byte : (r byte : ℕ) → byte < 256 → fold with_bit r (coefficients byte) ≡ times_x_to 8 (bit_xor r byte)
 with_one_byte r byte small = with_bits r (coefficients byte) (are_bits byte) ∙ ap (λ n. times_x_to 8 (bit_xor r n)) (bits_of_byte byte small)
@@ -141,17 +141,17 @@ with_bytes r (byte ∷ bytes) are =
     let high = low_first bytes in
     let n = 8 * length bytes in
     let parts : fold with_bit r (flat_map coefficients (byte ∷ bytes)) ≡ fold with_bit (fold with_bit r (coefficients byte)) (flat_map coefficients bytes) = ap (fold with_bit r) (flat_map-cons coefficients byte bytes) ∙ fold-append with_bit r (coefficients byte) (flat_map coefficients bytes) in
-    let first : fold with_bit r (coefficients byte) ≡ times_x_to 8 (bit_xor r byte) = with_one_byte r byte are.0 in
-    let at_once : times_x_to 8 (bit_xor r (byte + 256 * high)) ≡ bit_xor (times_x_to 8 (bit_xor r byte)) high =
-    ap (times_x_to 8) (ap (bit_xor r) (low_byte byte high are.0) ∙ sym (xor_assoc r byte (high * 256))) ∙ times_x_to-xor 8 (bit_xor r byte) (high * 256) ∙ ap (bit_xor (times_x_to 8 (bit_xor r byte))) (shifted_back 8 high) in
+    let first = with_one_byte r _ are.0 in
+    let at_once =
+    ap (times_x_to 8) (ap (bit_xor r) (low_byte _ _ are.0) ∙ sym (xor_assoc r byte (high * 256))) ∙ times_x_to-xor 8 (bit_xor r byte) (high * 256) ∙ ap (bit_xor (times_x_to 8 (bit_xor r byte))) (shifted_back 8 _) in
     let count : 8 * suc (length bytes) ≡ 8 + n = omega arith in
     parts ∙ with_bytes (fold with_bit r (coefficients byte)) bytes are.1 ∙ ap (λ k. times_x_to n (bit_xor k high)) first
-    ∙ ap (times_x_to n) (sym at_once) ∙ sym (ap (λ k. times_x_to k (bit_xor r (byte + 256 * high))) count ∙ times_x_to-add 8 n (bit_xor r (byte + 256 * high)))
+    ∙ ap (times_x_to n) (sym at_once) ∙ sym (ap (λ k. times_x_to k (bit_xor r (byte + 256 * high))) count ∙ times_x_to-add 8 n _)
 
 -- ---- four and sixteen bytes of the code, and one
 
 next_entry : (n k w : ℕ) → times_x_to (8 + n) (w / 2 ^ k) ≡ bit_xor (times_x_to n (w / 2 ^ (k + 8))) (times_x_to (8 + n) (w / 2 ^ k % 256))
-next_entry n k w = times_x_to-part 8 n (w / 2 ^ k) ∙ ap (λ v. bit_xor (times_x_to n v) (times_x_to (8 + n) (w / 2 ^ k % 256))) (shr-shr w k 8)
+next_entry n k w = times_x_to-part 8 n _ ∙ ap (λ v. bit_xor (times_x_to n v) (times_x_to (8 + n) (w / 2 ^ k % 256))) (shr-shr w k 8)
 
 four_parts : (n w : ℕ) → w < 2 ^ 32 → times_x_to (8 + (8 + (8 + (8 + n)))) w ≡ bit_xor (bit_xor (times_x_to (8 + n) (w / 2 ^ 24 % 256)) (times_x_to (8 + (8 + n)) (w / 2 ^ 16 % 256))) (bit_xor (times_x_to (8 + (8 + (8 + n))) (w / 2 ^ 8 % 256)) (times_x_to (8 + (8 + (8 + (8 + n)))) (w % 256)))
 four_parts n w small =
@@ -160,9 +160,9 @@ four_parts n w small =
     let b = times_x_to (8 + (8 + n)) (w / 2 ^ 16 % 256) in
     let c = times_x_to (8 + (8 + (8 + n))) (w / 2 ^ 8 % 256) in
     let d = times_x_to (8 + (8 + (8 + (8 + n)))) (w % 256) in
-    times_x_to-part 8 (8 + (8 + (8 + n))) w
-    ∙ ap (λ m. bit_xor m d) (next_entry (8 + (8 + n)) 8 w
-    ∙ ap (λ m. bit_xor m c) (next_entry (8 + n) 16 w
+    times_x_to-part 8 _ w
+    ∙ ap (λ m. bit_xor m d) (next_entry _ 8 w
+    ∙ ap (λ m. bit_xor m c) (next_entry _ 16 w
     ∙ ap (λ m. bit_xor (times_x_to (8 + n) m) b) top))
     ∙ xor_assoc (bit_xor a b) c d
 
@@ -179,7 +179,7 @@ four_entries behind half small =
 
 -- what was read moves on by the four bytes behind it
 moved : (n r half : ℕ) → times_x_to n (bit_xor (times_x_to 32 r) half) ≡ bit_xor (times_x_to (32 + n) r) (times_x_to n half)
-moved n r half = times_x_to-xor n (times_x_to 32 r) half ∙ ap (λ m. bit_xor m (times_x_to n half)) (sym (times_x_to-add 32 n r))
+moved n r half = times_x_to-xor n _ _ ∙ ap (λ m. bit_xor m (times_x_to n half)) (sym (times_x_to-add _ n r))
 
 -- of sixteen bytes only the first four meet what was read before them
 four_halves : (r b c d : ℕ) → bit_xor (bit_xor (bit_xor (times_x_to 96 b) (times_x_to 64 c)) (times_x_to 32 d)) (times_x_to 128 r) ≡ times_x_to 32 (bit_xor (times_x_to 32 (bit_xor (times_x_to 32 (bit_xor (times_x_to 32 r) b)) c)) d)
@@ -190,8 +190,8 @@ four_halves r b c d =
     let last = times_x_to 32 d in
     let two = bit_xor (times_x_to 32 r) b in
     let three = bit_xor (times_x_to 32 two) c in
-    let apart : times_x_to 32 (bit_xor (times_x_to 32 three) d) ≡ bit_xor (bit_xor (bit_xor first second) third) last =
-    moved 32 three d ∙ ap (λ m. bit_xor m last) (moved 64 two c ∙ ap (λ m. bit_xor m third) (moved 96 r b)) in
+    let apart =
+    moved _ _ d ∙ ap (λ m. bit_xor m last) (moved _ _ c ∙ ap (λ m. bit_xor m third) (moved _ r b)) in
     xor_comm (bit_xor (bit_xor second third) last) first
     ∙ sym (apart ∙ ap (λ m. bit_xor m last) (xor_assoc first second third) ∙ xor_assoc first (bit_xor second third) last)
 
@@ -207,16 +207,16 @@ bytes_small (byte ∷ bytes) are = (are 0, bytes_small bytes (λ i. are (suc i))
 
 low_first-half : (bytes : List ℕ) → length bytes ≡ 4 → low_first bytes ≡ from_le_bytes w32 bytes
 low_first-half (a ∷ b ∷ c ∷ d ∷ []) four = omega arith
-low_first-half other four = absurd (omega arith)
+low_first-half _ four = absurd (omega arith)
 
 of_half : (r : ℕ) (bytes : List ℕ) → length bytes ≡ 4 → IsBytes bytes → times_x_to 32 (bit_xor r (from_le_bytes w32 bytes)) ≡ remainder r bytes
 unfolding remainder
 of_half r bytes four are =
-    sym (with_bytes r bytes (bytes_small bytes are) ∙ ap (λ n. times_x_to (8 * n) (bit_xor r (low_first bytes))) four ∙ ap (λ n. times_x_to 32 (bit_xor r n)) (low_first-half bytes four))
+    sym (with_bytes r bytes (bytes_small _ are) ∙ ap (λ n. times_x_to (8 * n) (bit_xor r (low_first bytes))) four ∙ ap (λ n. times_x_to 32 (bit_xor r n)) (low_first-half _ four))
 
 of_byte : (r byte : ℕ) → byte < 256 → times_x_to 8 (bit_xor r byte) ≡ remainder r (byte ∷ [])
 unfolding remainder
-of_byte r byte small = sym (ap (fold with_bit r) (flat_map-cons coefficients byte []) ∙ fold-append with_bit r (coefficients byte) [] ∙ with_one_byte r byte small)
+of_byte r byte small = sym (ap (fold with_bit r) (flat_map-cons coefficients byte []) ∙ fold-append with_bit r (coefficients byte) [] ∙ with_one_byte r _ small)
 
 -- what is read, before what is still to be read
 remainder-append : (r : ℕ) (front after : List ℕ) → remainder (remainder r front) after ≡ remainder r (front ++ after)
@@ -225,13 +225,13 @@ remainder-append r front after =
     sym (ap (fold with_bit r) (flat_map-append coefficients front after) ∙ fold-append with_bit r (flat_map coefficients front) (flat_map coefficients after))
 
 pub remainder-split : (n r : ℕ) (rest : List ℕ) → remainder (remainder r (take n rest)) (drop n rest) ≡ remainder r rest
-remainder-split n r rest = remainder-append r (take n rest) (drop n rest) ∙ ap (remainder r) (take-append-drop n rest)
+remainder-split n r rest = remainder-append r (take n rest) _ ∙ ap (remainder r) (take-append-drop n _)
 
 -- four bytes more, sixteen, and one
 pub half_more : (r total : ℕ) (rest : List ℕ) → 4 ≤ length rest → IsBytes rest → remainder r rest ≡ total → remainder (times_x_to 32 (bit_xor r (from_le_bytes w32 (take 4 rest)))) (drop 4 rest) ≡ total
-half_more r total rest long are so_far =
+half_more r _ rest long are so_far =
     let front = take 4 rest in
-    ap (λ m. remainder m (drop 4 rest)) (of_half r front (omega (arith, length-take 4 rest)) (IsBytes-take 4 rest are)) ∙ remainder-split 4 r rest ∙ so_far
+    ap (λ m. remainder m (drop 4 rest)) (of_half r _ (omega (arith, length-take 4 rest)) (IsBytes-take 4 _ are)) ∙ remainder-split 4 r _ ∙ so_far
 
 pub sixteen_are : (r : ℕ) (bytes : List ℕ) → length bytes ≡ 16 → IsBytes bytes → bit_xor (bit_xor (bit_xor (times_x_to 96 (from_le_bytes w32 (take 4 (drop 4 bytes)))) (times_x_to 64 (from_le_bytes w32 (take 4 (drop 4 (drop 4 bytes)))))) (times_x_to 32 (from_le_bytes w32 (drop 4 (drop 4 (drop 4 bytes)))))) (times_x_to 128 (bit_xor r (from_le_bytes w32 (take 4 bytes)))) ≡ remainder r bytes
 sixteen_are r bytes sixteen are =
@@ -246,27 +246,27 @@ sixteen_are r bytes sixteen are =
     let twelve : length rest1 ≡ 12 = omega (arith, length-drop 4 bytes) in
     let eight : length rest2 ≡ 8 = omega (arith, length-drop 4 rest1) in
     let four : length rest3 ≡ 4 = omega (arith, length-drop 4 rest2) in
-    let are1 = IsBytes-drop 4 bytes are in
-    let are2 = IsBytes-drop 4 rest1 are1 in
-    let are3 = IsBytes-drop 4 rest2 are2 in
+    let are1 = IsBytes-drop 4 _ are in
+    let are2 = IsBytes-drop 4 _ are1 in
+    let are3 = IsBytes-drop 4 _ are2 in
     let r1 = times_x_to 32 (bit_xor r a) in
     let r2 = times_x_to 32 (bit_xor r1 b) in
     let r3 = times_x_to 32 (bit_xor r2 c) in
-    let one = half_more r total bytes (omega arith) are refl in
-    let two = half_more r1 total rest1 (omega arith) are1 one in
-    let three = half_more r2 total rest2 (omega arith) are2 two in
-    four_halves (bit_xor r a) b c d ∙ of_half r3 rest3 four are3 ∙ three
+    let one = half_more r _ _ (omega arith) are refl in
+    let two = half_more _ _ _ (omega arith) are1 one in
+    let three = half_more _ _ _ (omega arith) are2 two in
+    four_halves _ b c d ∙ of_half _ _ four are3 ∙ three
 
 pub byte_more : (r total i : ℕ) (rest : List ℕ) → i < length rest → IsBytes rest → remainder r (drop i rest) ≡ total → remainder (times_x_to 8 (bit_xor r (get_or rest i 0))) (drop (i + 1) rest) ≡ total
 byte_more r total i rest lt are so_far =
     let byte = get_or rest i 0 in
     let after = drop (i + 1) rest in
     let split : drop i rest ≡ byte ∷ after = rw (add-one, drop-cons rest i 0) refl in
-    ap (λ m. remainder m after) (of_byte r byte (are i)) ∙ remainder-append r (byte ∷ []) after ∙ ap (remainder r) (sym split) ∙ so_far
+    ap (λ m. remainder m after) (of_byte r _ (are i)) ∙ remainder-append r _ _ ∙ ap (remainder r) (sym split) ∙ so_far
 
 -- where nothing is left, what was read is all
 pub all_read : (r total i : ℕ) (rest : List ℕ) → length rest ≤ i → remainder r (drop i rest) ≡ total → r ≡ total
 unfolding remainder
-all_read r total i rest le so_far =
-    let nothing : drop i rest ≡ [] = nil_from_length (drop i rest) (omega (arith, length-drop i rest)) in
-    ap (λ (left : List ℕ). remainder r left) (sym nothing) ∙ so_far
+all_read r _ i rest le so_far =
+    let nothing = nil_from_length (drop i rest) (omega (arith, length-drop i rest)) in
+    ap (λ left. remainder r left) (sym nothing) ∙ so_far

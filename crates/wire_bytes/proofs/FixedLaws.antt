@@ -29,7 +29,7 @@ pub record IsWide (w : Width) : Type 0 where
 
 one_byte_back : (bytes : List ℕ) → length bytes ≡ 1 → IsBytes bytes → to_be_bytes w8 (from_be_bytes w8 bytes) ≡ bytes
 one_byte_back [] len are = absurd (omega arith)
-one_byte_back (b ∷ []) len are = let e : b % 256 ≡ b = omega (arith, are 0) in ap (λ (n : ℕ). n ∷ []) e
+one_byte_back (b ∷ []) len are = let e : b % 256 ≡ b = omega (arith, are 0) in ap (λ n. n ∷ []) e
 one_byte_back (b ∷ c ∷ bytes) len are = absurd (omega arith)
 
 pub wide8 : IsWide w8
@@ -37,7 +37,7 @@ wide8 = record {
   len = λ n. refl;
   back = one_byte_back;
   again = λ n lt. omega arith;
-  below = λ bytes are. omega (arith, are 0);
+  below = λ bytes are. omega arith;
 }
 
 pub wide16 : IsWide w16
@@ -45,7 +45,7 @@ wide16 = record {
   len = λ n. refl;
   back = λ bytes len are. be_bytes_2 bytes _ len are refl;
   again = λ n lt. from_be_bytes-to_be_bytes_2 n lt;
-  below = λ bytes are. omega (arith, are 0, are 1);
+  below = λ bytes are. omega arith;
 }
 
 pub wide32 : IsWide w32
@@ -53,7 +53,7 @@ wide32 = record {
   len = λ n. refl;
   back = λ bytes len are. be_bytes_4 bytes _ len are refl;
   again = λ n lt. from_be_bytes-to_be_bytes_4 n lt;
-  below = λ bytes are. omega (arith, are 0, are 1, are 2, are 3);
+  below = λ bytes are. omega arith;
 }
 
 pub wide64 : IsWide w64
@@ -61,36 +61,36 @@ wide64 = record {
   len = λ n. refl;
   back = λ bytes len are. be_bytes_8 bytes _ len are refl;
   again = λ n lt. from_be_bytes-to_be_bytes_8 n lt;
-  below = λ bytes are. omega (arith, are 0, are 1, are 2, are 3, are 4, are 5, are 6, are 7);
+  below = λ bytes are. omega arith;
 }
 
 module _ (w : Width) (wide : IsWide w) where
   number_parts : (p q : Position) (n : ℕ) → number_at w p ≡ Ok (n, q) → (byte_len w ≤ length (left p)) × (from_be_bytes w (take (byte_len w) (left p)) ≡ n) × (further (byte_len w) p ≡ q)
   unfolding number_at
   number_parts p q n e =
-      let g = cond_ok (ltb (length (left p)) (byte_len w)) Short (Ok (from_be_bytes w (take (byte_len w) (left p)), further (byte_len w) p)) (n, q) e in
-      let same : ◌≡◌ {A = ℕ × Position} (from_be_bytes w (take (byte_len w) (left p)), further (byte_len w) p) (n, q) = ok_is {E = WireRefusal} _ _ g.1 in
-      (ltb-false _ _ g.0, ap (λ (y : ℕ × Position). y.0) same, ap (λ (y : ℕ × Position). y.1) same)
+      let g = cond_ok _ _ _ _ e in
+      let same = ok_is {E = WireRefusal} _ _ g.1 in
+      (ltb-false _ _ g.0, ap (λ y. y.0) same, ap (λ y. y.1) same)
 
   -- what is read is the text of the number
   pub number_found : (p q : Position) (n : ℕ) → IsBytes (left p) → number_at w p ≡ Ok (n, q) → HasFront (IsFixed w) (left p) n (left q)
   number_found p q n are e =
       let x = number_parts p q n e in
       let front = take (byte_len w) (left p) in
-      let front_are : IsBytes front = IsBytes-take (byte_len w) (left p) are in
+      let front_are = IsBytes-take (byte_len w) _ are in
       let text : IsFixed w front n = record {
         digits = sym (wide.back front (omega (arith, length-take (byte_len w) (left p), x.0)) front_are) ∙ ap (to_be_bytes w) x.1;
         fits = subst (λ (k : ℕ). k < 2 ^ (8 * byte_len w)) x.1 (wide.below front front_are);
       } in
-      (front, text, sym (take-append-drop (byte_len w) (left p)) ∙ ap (λ (others : List ℕ). front ++ others) (sym (left-further (byte_len w) p) ∙ ap left x.2))
+      (front, text, sym (take-append-drop _ _) ∙ ap (λ others. front ++ others) (sym (left-further _ p) ∙ ap left x.2))
 
   -- and it is read again, whatever follows
   pub number_again : (p : Position) (text : List ℕ) (n : ℕ) (after : List ℕ) → IsFixed w text n → left p ≡ text ++ after → number_at w p ≡ Ok (n, further (length text) p)
   unfolding number_at
   number_again p text n after is e =
-      let len : length text ≡ byte_len w = ap length is.digits ∙ wide.len n in
+      let len = ap length is.digits ∙ wide.len n in
       let long : ltb (length (left p)) (byte_len w) ≡ false = le-ltb _ _ (omega (arith, ap length e, length-append text after)) in
-      let front : take (byte_len w) (left p) ≡ to_be_bytes w n = ap (take (byte_len w)) e ∙ take_at text after (byte_len w) len ∙ is.digits in
+      let front : take (byte_len w) (left p) ≡ to_be_bytes w n = ap (take (byte_len w)) e ∙ take_at _ _ _ len ∙ is.digits in
       rw (long, front, wide.again n is.fits, ← len) refl
 
   pub number_short : (p : Position) → (number_at w p ≡ Err Short) ↔ (length (left p) < byte_len w)
@@ -112,20 +112,20 @@ length-four_each (n ∷ numbers) = omega (arith, length-four_each numbers, ap le
 
 bytes_enough : (count : ℕ) (p : Position) → count ≤ length (left p) → bytes_at count p ≡ Ok (take count (left p), further count p)
 unfolding bytes_at
-bytes_enough count p long = rw (le-ltb _ _ long) refl
+bytes_enough _ p long = rw (le-ltb _ _ long) refl
 
 bytes_too_few : (count : ℕ) (p : Position) → length (left p) < count → bytes_at count p ≡ Err Short
 unfolding bytes_at
-bytes_too_few count p short = rw (lt-ltb _ _ short) refl
+bytes_too_few _ p short = rw (lt-ltb _ _ short) refl
 
 pub bytes_found : (count : ℕ) (p q : Position) (r : Result (Bor (List ℕ)) WireRefusal) → Steps (λ bytes. bytes.now) p q r (bytes_at count p) → IfOk r (λ bytes. (length bytes.now ≡ count) × (left p ≡ bytes.now ++ left q))
-bytes_found count p q (Ok bytes) e = bytes_split count p q bytes.now e
-bytes_found count p q (Err d) e = tt
+bytes_found count p q (Ok bytes) e = bytes_split _ p q _ e
+bytes_found _ p q (Err d) e = tt
 
 pub bytes_short : (count : ℕ) (p q : Position) (r : Result (Bor (List ℕ)) WireRefusal) → Steps (λ bytes. bytes.now) p q r (bytes_at count p) → (r ≡ Err Short) ↔ (length (left p) < count)
-bytes_short count p q (Ok bytes) e = let x = bytes_parts count p q bytes.now e in (λ f. absurd cc, λ short. absurd (omega (arith, x.0)))
+bytes_short _ p q (Ok bytes) e = let x = bytes_parts _ p q _ e in (λ f. absurd cc, λ short. absurd (omega arith))
 bytes_short count p q (Err d) e =
     elim (cases_lt (length (left p)) count) [
-      | inl short ↦ let no = e.0 in let few = bytes_too_few count p short in (λ f. short, λ f. cc)
-      | inr long ↦ let no = e.0 in let enough = bytes_enough count p long in absurd cc
+      | inl short ↦ let no = e.0 in let few = bytes_too_few _ p short in (λ f. short, λ f. cc)
+      | inr long ↦ let no = e.0 in let enough = bytes_enough _ p long in absurd cc
     ]

@@ -20,23 +20,23 @@ limit (suc more) = 128 * limit more
 
 last_bit : (more group : ℕ) (groups : List ℕ) → group < 128 → groups_of (suc more) (group ∷ groups) ≡ Ok (group, 1)
 unfolding groups_of
-last_bit more group groups small = rw (lt-ltb _ _ small) refl
+last_bit _ _ _ small = rw (lt-ltb _ _ small) refl
 
 not_last : (more group : ℕ) (groups : List ℕ) → 128 ≤ group → groups_of (suc more) (group ∷ groups) ≡ (groups_of more groups >>= λ high. Ok (group - 128 + 128 * high.0, high.1 + 1))
 unfolding groups_of
-not_last more group groups large = rw (le-ltb _ _ large) refl
+not_last _ _ _ large = rw (le-ltb _ _ large) refl
 
 tenth_bit : (group : ℕ) (groups : List ℕ) → group < 2 → groups_of 0 (group ∷ groups) ≡ Ok (group, 1)
 unfolding groups_of
-tenth_bit group groups small = rw (lt-ltb _ _ small) refl
+tenth_bit _ _ small = rw (lt-ltb _ _ small) refl
 
 tenth_passes : (group : ℕ) (groups : List ℕ) → 2 ≤ group → groups_of 0 (group ∷ groups) ≡ Err Overlong
 unfolding groups_of
-tenth_passes group groups large = rw (le-ltb _ _ large) refl
+tenth_passes _ _ large = rw (le-ltb _ _ large) refl
 
 ends : (more : ℕ) → groups_of more [] ≡ Err Short
 unfolding groups_of
-ends more = refl
+ends _ = refl
 
 -- ---- what is read is a text
 
@@ -47,28 +47,28 @@ pub record Reads (more : ℕ) (bytes : List ℕ) (n count : ℕ) : Type 0 where
   pub small : n < limit more
 
 pub more_groups : (group n high : ℕ) (text : List ℕ) → 128 ≤ group → group < 256 → n + 128 ≡ group + 128 * high → IsGroups text high → IsGroups (group ∷ text) n
-more_groups group n high [] large byte value are = absurd are
-more_groups group n high (next ∷ others) large byte value are = (large, byte, high, value, are)
+more_groups _ n _ [] large byte value are = absurd are
+more_groups _ n high (next ∷ others) large byte value are = (large, byte, high, value, are)
 
 reads_last : (more group : ℕ) (groups : List ℕ) (n count : ℕ) → group < 128 → group < limit more → ◌≡◌ {A = ℕ × ℕ} (group, 1) (n, count) → Reads more (group ∷ groups) n count
-reads_last more group groups n count small fits e =
-    let value : group ≡ n = ap (λ (p : ℕ × ℕ). p.0) e in
-    let one : 1 ≡ count = ap (λ (p : ℕ × ℕ). p.1) e in
+reads_last _ _ groups n _ small fits e =
+    let value = ap (λ p. p.0) e in
+    let one = ap (λ p. p.1) e in
     rw (← one, ← value) (record { groups = (small, refl); within = omega arith; few = omega arith; small = fits })
 
 reads_more : (more group : ℕ) (groups : List ℕ) (n count high taken : ℕ) → 128 ≤ group → group < 256 → Reads more groups high taken → ◌≡◌ {A = ℕ × ℕ} (group - 128 + 128 * high, taken + 1) (n, count) → Reads (suc more) (group ∷ groups) n count
-reads_more more group groups n count high taken large byte so_far e =
+reads_more _ group groups n count high taken large byte so_far e =
     let value : group - 128 + 128 * high ≡ n = ap (λ (p : ℕ × ℕ). p.0) e in
-    let length_is : suc taken ≡ count = omega (arith, ap (λ (p : ℕ × ℕ). p.1) e) in
+    let length_is : suc taken ≡ count = omega (arith, ap (λ p. p.1) e) in
     rw (← length_is) (record {
-      groups = more_groups group n high (take taken groups) large byte (omega arith) so_far.groups;
-      within = omega (arith, so_far.within);
-      few = omega (arith, so_far.few);
-      small = omega (arith, so_far.small);
+      groups = more_groups _ n _ _ large byte (omega arith) so_far.groups;
+      within = omega arith;
+      few = omega arith;
+      small = omega arith;
     })
 
 rest_bytes : (b : ℕ) (bytes : List ℕ) → IsBytes (b ∷ bytes) → IsBytes bytes
-rest_bytes b bytes are i = are (suc i)
+rest_bytes b _ are i = are (suc i)
 
 two_or_more : (more : ℕ) → 128 ≤ limit (suc more)
 two_or_more zero = omega arith
@@ -83,41 +83,41 @@ groups_found zero (group ∷ groups) n count are e =
     ]
 groups_found (suc more) (group ∷ groups) n count are e =
     elim (cases_lt group 128) [
-      | inl small ↦ reads_last (suc more) group groups n count small (omega (arith, two_or_more more)) (ok_is {E = WireRefusal} _ _ (sym (last_bit more group groups small) ∙ e))
+      | inl small ↦ reads_last (suc more) group groups n _ small (omega (arith, two_or_more more)) (ok_is {E = WireRefusal} _ _ (sym (last_bit _ _ _ small) ∙ e))
       | inr large ↦
-          let p = bind_ok (groups_of more groups) (λ high. Ok (group - 128 + 128 * high.0, high.1 + 1)) (n, count) (sym (not_last more group groups large) ∙ e) in
-          reads_more more group groups n count p.0.0 p.0.1 large (are 0) (groups_found more groups p.0.0 p.0.1 (rest_bytes group groups are) p.1) (ok_is {E = WireRefusal} _ _ p.2)
+          let p = bind_ok _ _ _ (sym (not_last _ _ _ large) ∙ e) in
+          reads_more _ _ _ n _ _ p.0.1 large (are 0) (groups_found more groups _ _ (rest_bytes _ _ are) p.1) (ok_is {E = WireRefusal} _ _ p.2)
     ]
 
 -- ---- each text is read, whatever follows
 
 pub groups_again : (more : ℕ) (text : List ℕ) (n : ℕ) (after : List ℕ) → IsGroups text n → length text ≤ suc more → n < limit more → groups_of more (text ++ after) ≡ Ok (n, length text)
-groups_again more [] n after are few small = absurd are
-groups_again zero (group ∷ []) n after are few small = rw are.1 (tenth_bit group after (omega (arith, are.1)))
-groups_again (suc more) (group ∷ []) n after are few small = rw are.1 (last_bit more group after are.0)
+groups_again _ [] n _ are few small = absurd are
+groups_again zero (group ∷ []) n _ are few small = rw are.1 (tenth_bit _ _ (omega arith))
+groups_again (suc more) (group ∷ []) n _ are few small = rw are.1 (last_bit _ _ _ are.0)
 groups_again zero (group ∷ next ∷ others) n after are few small = absurd (omega arith)
 groups_again (suc more) (group ∷ next ∷ others) n after are few small =
     let high = are.2 in
     let again = groups_again more (next ∷ others) high after are.4 (omega arith) (omega (arith, are.3)) in
-    let value : group - 128 + 128 * high ≡ n = omega (arith, are.3, are.0) in
+    let value : group - 128 + 128 * high ≡ n = omega arith in
     let count : suc (length others) + 1 ≡ suc (suc (length others)) = omega arith in
-    not_last more group (next ∷ others ++ after) are.0 ∙ rw (again, value, count) refl
+    not_last _ _ _ are.0 ∙ rw (again, value, count) refl
 
 -- ---- refusals
 
 -- a refusal comes from the groups that follow
 step_err : (more group : ℕ) (groups : List ℕ) (d : WireRefusal) → 128 ≤ group → groups_of (suc more) (group ∷ groups) ≡ Err d → groups_of more groups ≡ Err d
-step_err more group groups d large e =
-    elim (bind_err (groups_of more groups) (λ high. Ok (group - 128 + 128 * high.0, high.1 + 1)) d (sym (not_last more group groups large) ∙ e)) [
+step_err _ _ _ d large e =
+    elim (bind_err _ _ d (sym (not_last _ _ _ large) ∙ e)) [
       | inl refused ↦ refused
       | inr p ↦ let no = p.2 in absurd cc
     ]
 
 step_refused : (more group : ℕ) (groups : List ℕ) (d : WireRefusal) → 128 ≤ group → groups_of more groups ≡ Err d → groups_of (suc more) (group ∷ groups) ≡ Err d
-step_refused more group groups d large e = not_last more group groups large ∙ rw e refl
+step_refused _ _ _ d large e = not_last _ _ _ large ∙ rw e refl
 
 pub groups_short : (more : ℕ) (bytes : List ℕ) → groups_of more bytes ≡ Err Short → AllByRecursion (λ byte. 128 ≤ byte) bytes × (length bytes ≤ more)
-groups_short more [] e = (tt, omega arith)
+groups_short _ [] e = (tt, omega arith)
 groups_short zero (group ∷ groups) e =
     elim (cases_lt group 2) [
       | inl small ↦ let no = tenth_bit group groups small in absurd cc
@@ -127,14 +127,14 @@ groups_short (suc more) (group ∷ groups) e =
     elim (cases_lt group 128) [
       | inl small ↦ let no = last_bit more group groups small in absurd cc
       | inr large ↦
-          let p = groups_short more groups (step_err more group groups Short large e) in
-          ((large, p.0), omega (arith, p.1))
+          let p = groups_short _ _ (step_err _ _ _ _ large e) in
+          ((large, p.0), omega arith)
     ]
 
 pub groups_short_again : (more : ℕ) (bytes : List ℕ) → AllByRecursion (λ byte. 128 ≤ byte) bytes → length bytes ≤ more → groups_of more bytes ≡ Err Short
-groups_short_again more [] follow few = ends more
+groups_short_again _ [] follow few = ends _
 groups_short_again zero (group ∷ groups) follow few = absurd (omega arith)
-groups_short_again (suc more) (group ∷ groups) follow few = step_refused more group groups Short follow.0 (groups_short_again more groups follow.1 (omega arith))
+groups_short_again (suc more) (group ∷ groups) follow few = step_refused _ _ _ _ follow.0 (groups_short_again _ _ follow.1 (omega arith))
 
 pub record Passes (more : ℕ) (bytes : List ℕ) : Type 0 where
   pub follows : AllByRecursion (λ byte. 128 ≤ byte) (take more bytes)
@@ -152,11 +152,11 @@ groups_over (suc more) (group ∷ groups) e =
     elim (cases_lt group 128) [
       | inl small ↦ let no = last_bit more group groups small in absurd cc
       | inr large ↦
-          let p = groups_over more groups (step_err more group groups Overlong large e) in
+          let p = groups_over _ _ (step_err _ _ _ _ large e) in
           record { follows = (large, p.follows); many = omega (arith, p.many); large = p.large }
     ]
 
 pub groups_over_again : (more : ℕ) (bytes : List ℕ) → Passes more bytes → groups_of more bytes ≡ Err Overlong
-groups_over_again more [] p = absurd (omega (arith, p.many))
-groups_over_again zero (group ∷ groups) p = tenth_passes group groups (omega (arith, p.large))
-groups_over_again (suc more) (group ∷ groups) p = step_refused more group groups Overlong p.follows.0 (groups_over_again more groups (record { follows = p.follows.1; many = omega (arith, p.many); large = p.large }))
+groups_over_again _ [] p = absurd (omega arith)
+groups_over_again zero (group ∷ groups) p = tenth_passes _ _ (omega arith)
+groups_over_again (suc more) (group ∷ groups) p = step_refused _ _ _ _ p.follows.0 (groups_over_again _ _ (record { follows = p.follows.1; many = omega arith; large = p.large }))

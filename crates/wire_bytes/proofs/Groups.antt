@@ -1,5 +1,5 @@
 -- A loop over the groups of a number: what is read of the low groups, put before what the rest gives.
-use Rattle.std.proofs.Common.{◌≡◌, ℕ, suc, ◌+◌, ◌-◌, ◌*◌, ◌%◌, ◌^◌, ◌<◌, ◌≤◌, true, false, ltb, List, [], ◌∷◌, length, get_or, drop, Result, Ok, Err, refl, ap, ◌∙◌, arith, add-one, drop-cons, length-drop}
+use Rattle.std.proofs.Common.{◌≡◌, ℕ, suc, ◌+◌, ◌-◌, ◌*◌, ◌%◌, ◌^◌, ◌<◌, ◌≤◌, List, [], ◌∷◌, length, get_or, drop, Result, Ok, Err, refl, ap, ◌∙◌, arith, add-one, drop-cons, length-drop}
 use Rattle.std.proofs.Math.Nat.{mul-le-mul_left}
 use Rattle.std.proofs.Math.Pow.{pow_mono}
 use Rattle.std.proofs.lemmas.Nat.{pow-add, shl_whole}
@@ -17,7 +17,7 @@ with_low n i high = high >>= λ h. Ok (n + 2 ^ (7 * i) * h.0, i + h.1)
 pub next_weight : (i : ℕ) → 2 ^ (7 * (i + 1)) ≡ 128 * 2 ^ (7 * i)
 next_weight i =
     let e : 7 * (i + 1) ≡ 7 + 7 * i = omega arith in
-    ap (λ k. 2 ^ k) e ∙ pow-add 2 7 (7 * i)
+    ap (λ k. 2 ^ k) e ∙ pow-add 2 7 _
 
 scaled_below : (n group weight : ℕ) → n < weight → group < 128 → n + group * weight < 128 * weight
 scaled_below n group weight small low =
@@ -26,11 +26,11 @@ scaled_below n group weight small low =
 
 -- a group more stays below the next weight
 pub joined_below : (n group i : ℕ) → n < 2 ^ (7 * i) → group < 128 → n + group * 2 ^ (7 * i) < 2 ^ (7 * (i + 1))
-joined_below n group i small low = rw next_weight (scaled_below n group (2 ^ (7 * i)) small low)
+joined_below n _ i small low = rw next_weight (scaled_below n _ _ small low)
 
 -- and a shift puts it in its place
 pub shifted_group : (group i : ℕ) → group < 128 → i < 9 → group * 2 ^ (7 * i) % 18446744073709551616 ≡ group * 2 ^ (7 * i)
-shifted_group group i low few = shl_whole group 7 (7 * i) 64 low (omega arith)
+shifted_group _ i low few = shl_whole _ 7 _ 64 low (omega arith)
 
 pub weight_fits : (i : ℕ) → i < 9 → 2 ^ (7 * (i + 1)) ≤ 2 ^ 63
 weight_fits i few = let p : 7 * (i + 1) ≤ 63 = omega arith in pow_mono p
@@ -39,24 +39,24 @@ split : (i : ℕ) (bytes : List ℕ) → i < length bytes → drop i bytes ≡ g
 split i bytes lt = rw (add-one, drop-cons bytes i 0) refl
 
 ended : (i : ℕ) (bytes : List ℕ) → length bytes ≤ i → drop i bytes ≡ []
-ended i bytes le = nil_from_length (drop i bytes) (omega (arith, length-drop i bytes))
+ended i bytes le = nil_from_length _ (omega (arith, length-drop i bytes))
 
 groups-nil : (more : ℕ) → groups_of more [] ≡ Err Short
 unfolding groups_of
-groups-nil more = refl
+groups-nil _ = refl
 
 pub low_short : (n i : ℕ) (bytes : List ℕ) → length bytes ≤ i → with_low n i (groups_of (9 - i) (drop i bytes)) ≡ Err Short
-low_short n i bytes le = rw (ended i bytes le, groups-nil) refl
+low_short n i _ le = rw (ended, groups-nil) refl
 
 scaled : (n group weight k : ℕ) → ◌≡◌ {A = Result (ℕ × ℕ) WireRefusal} (Ok (n + weight * group, k)) (Ok (n + group * weight, k))
-scaled n group weight k = let e : n + weight * group ≡ n + group * weight = omega arith in ap (λ (m : ℕ). Ok (m, k)) e
+scaled n group weight k = let e : n + weight * group ≡ n + group * weight = omega arith in ap (λ m. Ok (m, k)) e
 
 pub low_last : (n i group : ℕ) (bytes : List ℕ) → i < 9 → i < length bytes → group ≡ get_or bytes i 0 → group < 128 → with_low n i (groups_of (9 - i) (drop i bytes)) ≡ Ok (n + group * 2 ^ (7 * i), i + 1)
 unfolding groups_of
-low_last n i group bytes few lt is small =
+low_last n i _ _ few lt is small =
     let k : 9 - i ≡ suc (9 - (i + 1)) = omega arith in
-    let test : ltb group 128 ≡ true = lt-ltb _ _ small in
-    rw (split i bytes lt, k, ← is, test) (scaled n group (2 ^ (7 * i)) (i + 1))
+    let test = lt-ltb _ _ small in
+    rw (split, k, ← is, test) (scaled n _ _ _)
 
 abbrev raised : ℕ → Result (ℕ × ℕ) WireRefusal → Result (ℕ × ℕ) WireRefusal
 raised low high = high >>= λ h. Ok (low + 128 * h.0, h.1 + 1)
@@ -65,15 +65,15 @@ abbrev put_before : ℕ → ℕ → ℕ → Result (ℕ × ℕ) WireRefusal → 
 put_before n i weight high = high >>= λ h. Ok (n + weight * h.0, i + h.1)
 
 moved : (n low i weight next : ℕ) → next ≡ 128 * weight → (high : Result (ℕ × ℕ) WireRefusal) → put_before n i weight (raised low high) ≡ put_before (n + low * weight) (i + 1) next high
-moved n low i weight next e (Err f) = refl
+moved n _ i _ _ e (Err f) = refl
 moved n low i weight next e (Ok h) =
     let value : n + weight * (low + 128 * h.0) ≡ n + low * weight + next * h.0 = rw e (omega arith) in
     let count : i + (h.1 + 1) ≡ i + 1 + h.1 = omega arith in
-    ap (λ (v : ℕ). Ok (v, i + (h.1 + 1))) value ∙ ap (λ (k : ℕ). Ok (n + low * weight + next * h.0, k)) count
+    ap (λ v. Ok (v, i + (h.1 + 1))) value ∙ ap (λ k. Ok (n + low * weight + next * h.0, k)) count
 
 pub low_more : (n i group : ℕ) (bytes : List ℕ) → i < 9 → i < length bytes → group ≡ get_or bytes i 0 → 128 ≤ group → with_low n i (groups_of (9 - i) (drop i bytes)) ≡ with_low (n + (group - 128) * 2 ^ (7 * i)) (i + 1) (groups_of (9 - (i + 1)) (drop (i + 1) bytes))
 unfolding groups_of
-low_more n i group bytes few lt is high =
+low_more n i _ _ few lt is high =
     let k : 9 - i ≡ suc (9 - (i + 1)) = omega arith in
-    let test : ltb group 128 ≡ false = le-ltb _ _ high in
-    rw (split i bytes lt, k, ← is, test) (moved n (group - 128) i (2 ^ (7 * i)) (2 ^ (7 * (i + 1))) (next_weight i) (groups_of (9 - (i + 1)) (drop (i + 1) bytes)))
+    let test = le-ltb _ _ high in
+    rw (split, k, ← is, test) (moved n _ i _ _ (next_weight i) _)

@@ -23,7 +23,7 @@ pub record HasRead (front samples : List Sample) (count : ℕ) (second : State) 
 
 pub begins : (front : List Sample) (second : State) (bits : List Bool) → HasRead front front 0 second bits second bits
 unfolding members_at
-begins front second bits = record { found = []; so_far = sym (append-nil front); read = refl }
+begins front _ _ = record { found = []; so_far = sym (append-nil front); read = refl }
 
 pub goes_on : (front samples more : List Sample) (count : ℕ) (second last after : State) (bits rest left : List Bool) → HasRead front samples count second bits last rest → next_at last rest ≡ Ok (after, left) → more ≡ samples ++ sample_of after ∷ []
     → HasRead front more (count + 1) second bits after left
@@ -38,33 +38,33 @@ goes_on front samples more count second last after bits rest left h next pushed 
 
 pub stops : (front samples : List Sample) (i count : ℕ) (second last : State) (bits rest : List Bool) (e : XorRefusal) → HasRead front samples i second bits last rest → i < count → next_at last rest ≡ Err e → with_front front (others_at count second bits) ≡ Err e
 unfolding sample_at others_at
-stops front samples i count second last bits rest e h more refused =
+stops _ _ i count second last bits rest e h more refused =
     let one : sample_at (last, rest) ≡ Err e = rw refused refl in
     rw (members_stop sample_at i count (second, bits) (last, rest) h.found e more h.read one) refl
 
 pub ends : (front samples : List Sample) (i count : ℕ) (second last : State) (bits rest : List Bool) → HasRead front samples i second bits last rest → i ≡ count → with_front front (others_at count second bits) ≡ Ok (samples, rest)
 unfolding others_at
-ends front samples i count second last bits rest h all = rw (← all, h.read, h.so_far) refl
+ends _ _ i _ _ _ _ _ h all = rw (← all, h.read, h.so_far) refl
 
 regroup : (front : List Sample) (s : Sample) (read : Result (List Sample × List Bool) XorRefusal) → with_front (front ++ s ∷ []) read ≡ with_front front (read >>= λ x. Ok (s ∷ x.0, x.1))
-regroup front s (Ok x) = ap (λ (ss : List Sample). Ok (ss, x.1)) (append_assoc front (s ∷ []) x.0)
-regroup front s (Err e) = refl
+regroup front s (Ok x) = ap (λ ss. Ok (ss, x.1)) (append_assoc front (s ∷ []) x.0)
+regroup _ s (Err e) = refl
 
 -- the second sample, and those after it
 pub rest_steps : (front more : List Sample) (count gap : ℕ) (change : ℤ) (first second : State) (bytes after : List ℕ) (reader bits : List Bool) → (count ≡ 0 → ⊥) → gap_at bytes ≡ Ok (gap, after) → reader ≡ bits_in after → change ≡ pos gap → follow_at first change reader ≡ Ok (second, bits)
     → more ≡ front ++ sample_of second ∷ [] → with_front more (others_at (count - 1) second bits) ≡ with_front front (rest_at count first bytes)
 unfolding rest_at
-rest_steps front more zero gap change first second bytes after reader bits some e r z f pushed = absurd (some refl)
-rest_steps front more (suc count) gap change first second bytes after reader bits some e r z f pushed =
+rest_steps _ _ zero _ _ _ _ _ _ _ _ some e r z f pushed = absurd (some refl)
+rest_steps _ _ (suc count) gap _ first _ _ _ reader _ some e r z f pushed =
     let same : suc count - 1 ≡ count = omega arith in
-    let follows : follow_at first (pos gap) (bits_in after) ≡ Ok (second, bits) = ap (follow_at first (pos gap)) (sym r) ∙ ap (λ w. follow_at first w reader) (sym z) ∙ f in
-    rw (same, pushed, e, follows) (regroup front (sample_of second) (others_at count second bits))
+    let follows = ap (follow_at first (pos gap)) (sym r) ∙ ap (λ w. follow_at first w reader) (sym z) ∙ f in
+    rw (same, pushed, e, follows) (regroup _ _ _)
 
 -- ---- what is left
 
 pub all_left : (most left number : ℕ) (bits after : List Bool) → left ≡ min (length bits) (2 ^ 64 - 1) → left ≤ most → most ≤ 64 → bits ≡ bits_of left number ++ after → number < 2 ^ left → (number == 0) ≡ is_filling most bits
 all_left most left number bits after left-is le few parts lt =
     let len : length bits ≡ left = omega arith in
-    let none : after ≡ [] = nil_from_length after (omega (arith, ap length parts, length-append (bits_of left number) after, length-bits_of left number)) in
-    let value : number_of bits ≡ number = ap number_of (parts ∙ ap (λ (a : List Bool). bits_of left number ++ a) none ∙ append-nil (bits_of left number)) ∙ number_of-bits_of left number ∙ mod-eq_of_lt lt in
+    let none : after ≡ [] = nil_from_length _ (omega (arith, ap length parts, length-append (bits_of left number) after, length-bits_of left number)) in
+    let value : number_of bits ≡ number = ap number_of (parts ∙ ap (λ a. bits_of left number ++ a) none ∙ append-nil (bits_of left number)) ∙ number_of-bits_of _ _ ∙ mod-eq_of_lt lt in
     rw (le-leb (length bits) most (omega arith), value) refl

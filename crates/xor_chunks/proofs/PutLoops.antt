@@ -16,17 +16,17 @@ pub record HasPut (start : List Bool) (second : LastWritten) (samples : List Sam
   pub bits : written ++ others_bits put (drop i samples) ≡ start ++ others_bits second samples
 
 pub put_begins : (start : List Bool) (second : LastWritten) (samples : List Sample) → AreToCome second samples → HasPut start second samples 0 start second
-put_begins start second samples h = record { to_come = h; bits = refl }
+put_begins _ _ _ h = record { to_come = h; bits = refl }
 
 -- the sample at the loop's place can follow
 pub at_place : (start written : List Bool) (second put : LastWritten) (samples : List Sample) (i : ℕ) (d : Sample) → HasPut start second samples i written put → i < length samples → CanFollow put (get_or samples i d)
-at_place start written second put samples i d h lt = (subst (λ (ss : List Sample). AreToCome put ss) (drop_more samples i d lt) h.to_come).0
+at_place _ _ _ put samples i d h lt = (subst (λ ss. AreToCome put ss) (drop_more samples i d lt) h.to_come).0
 
 pub put_goes_on : (start written more : List Bool) (second put after : LastWritten) (samples : List Sample) (i : ℕ) (s d : Sample) → HasPut start second samples i written put → i < length samples → s ≡ get_or samples i d → more ≡ written ++ next_bits put s → after ≡ put_after put s
     → HasPut start second samples (i + 1) more after
-put_goes_on start written more second put after samples i s d h lt e bits after-is =
-    let parts : drop i samples ≡ s ∷ drop (i + 1) samples = drop_more samples i d lt ∙ ap (λ (x : Sample). x ∷ drop (i + 1) samples) (sym e) in
-    let to_come = (subst (λ (ss : List Sample). AreToCome put ss) parts h.to_come).1 in
+put_goes_on _ written more second put after samples i s d h lt e bits after-is =
+    let parts = drop_more samples i d lt ∙ ap (λ x. x ∷ drop (i + 1) samples) (sym e) in
+    let to_come = (subst (λ ss. AreToCome put ss) parts h.to_come).1 in
     record {
       to_come = subst (λ (p : LastWritten). AreToCome p (drop (i + 1) samples)) (sym after-is) to_come;
       bits = ap (λ (a : List Bool). a ++ others_bits after (drop (i + 1) samples)) bits ∙ ap (λ (p : LastWritten). written ++ next_bits put s ++ others_bits p (drop (i + 1) samples)) after-is
@@ -34,7 +34,7 @@ put_goes_on start written more second put after samples i s d h lt e bits after-
     }
 
 pub put_ends : (start written : List Bool) (second put : LastWritten) (samples : List Sample) (i : ℕ) → HasPut start second samples i written put → length samples ≤ i → written ≡ start ++ others_bits second samples
-put_ends start written second put samples i h le = sym (append-nil written) ∙ ap (λ (ss : List Sample). written ++ others_bits put ss) (sym (drop_all i samples le)) ∙ h.bits
+put_ends _ written _ put _ i h le = sym (append-nil written) ∙ ap (λ ss. written ++ others_bits put ss) (sym (drop_all i _ le)) ∙ h.bits
 
 -- what was put, as the code hands its numbers on
 pub put_cast : (put : LastWritten) → FitsSigned w64 put.time → FitsSigned w64 put.delta
@@ -44,4 +44,4 @@ put_cast put t d = rw (to_z-of_z w64 put.time t, to_z-of_z w64 put.delta d) refl
 -- each pattern that a loop has seen is one of 64 bits
 pub patterns_go_on : (samples : List Sample) (i : ℕ) (s d : Sample) → AllWithin (λ (x : Sample). x.pattern < 2 ^ 64) samples 0 i → i < length samples → s ≡ get_or samples i d → s.pattern < 2 ^ 64 → AllWithin (λ (x : Sample). x.pattern < 2 ^ 64) samples 0 (i + 1)
 patterns_go_on samples i s d h lt e p =
-    AllWithin-more (λ (x : Sample). x.pattern < 2 ^ 64) samples 0 i h (λ other. subst (λ (x : Sample). x.pattern < 2 ^ 64) (e ∙ get_or_default samples i d other lt) p)
+    AllWithin-more (λ x. x.pattern < 2 ^ 64) _ 0 i h (λ other. subst (λ x. x.pattern < 2 ^ 64) (e ∙ get_or_default samples i d other lt) p)

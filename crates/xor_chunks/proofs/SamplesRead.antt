@@ -3,7 +3,6 @@ use Rattle.std.proofs.Common.{◌≡◌, ℕ, zero, suc, ◌+◌, ◌<◌, ◌�
 use Rattle.std.specs.Prelude.{cond, Err}
 use Rattle.std.proofs.lemmas.Bool.{leb-true, le-leb}
 use Rattle.reading_core.specs.Grammar.{IsBytes, HasFront}
-use Rattle.wire_bytes.specs.Fields.{uvarint_at}
 use Rattle.wire_bytes.specs.FieldTexts.{IsUvarint}
 use Rattle.wire_bytes.proofs.FieldLaws.{uvarint_found, uvarint_again, left_after}
 use Rattle.reading_core.specs.Decimal.{fits_signed}
@@ -21,20 +20,20 @@ use Rattle.reading_core.proofs.SignedRanges.{fits_from_test, test_from_fits}
 use Rattle.xor_chunks.proofs.FieldsRead.{HasText, Finds, change_found, change_again, value_found, value_again, value_inside}
 
 after_at : (before delta : ℤ) (fits : Bool) → fits_signed (before +ℤ delta) ≡ fits → OfValue (cond fits (risen (before +ℤ delta) delta) (Err OutOfRange)) (λ x. (delta ≡ pos x.1) × Follows before x.0 x.1)
-after_at before (pos zero) true e = of_err
-after_at before (pos (suc n)) true e = of_ok (refl, record { later = refl; rises = omega arith; fits = fits_from_test _ e })
-after_at before (negsuc n) true e = of_err
-after_at before delta false e = of_err
+after_at _ (pos zero) true e = of_err
+after_at _ (pos (suc n)) true e = of_ok (refl, record { later = refl; rises = omega arith; fits = fits_from_test _ e })
+after_at _ (negsuc n) true e = of_err
+after_at _ _ false e = of_err
 
 after_found : (before delta : ℤ) → OfValue (time_after before delta) (λ x. (delta ≡ pos x.1) × Follows before x.0 x.1)
 unfolding time_after
-after_found before delta = after_at before delta _ refl
+after_found _ _ = after_at _ _ _ refl
 
 after_again : (before time : ℤ) (d : ℕ) → Follows before time d → time_after before (pos d) ≡ Ok (time, d)
 unfolding time_after
-after_again before time zero h = absurd (omega (arith, h.rises))
-after_again before time (suc d) h =
-    rw (ap fits_signed (sym h.later) ∙ test_from_fits time h.fits) (ap (λ (z : ℤ). Ok (z, suc d)) (sym h.later))
+after_again _ _ zero h = absurd (omega arith)
+after_again _ time (suc d) h =
+    rw (ap fits_signed (sym h.later) ∙ test_from_fits time h.fits) (ap (λ z. Ok (z, suc d)) (sym h.later))
 
 -- the sample comes later by a step that is so much longer, and has this text of its value
 abbrev pub Shows : State → ℤ → List Bool → State → Type 0
@@ -42,9 +41,9 @@ Shows last change text next = (pos next.delta ≡ pos last.delta +ℤ change) ×
 
 pub follow_found : (last : State) (change : ℤ) (bits : List Bool) → Finds (Shows last change) bits (follow_at last change bits)
 unfolding follow_at
-follow_found last change bits =
-    of_bind _ (value_found last.window last.pattern bits) (λ v h. of_unless (is_inside v.0.1) _ _ (λ inside.
-    of_bind _ (after_found last.time (pos last.delta +ℤ change)) (λ t a. of_ok (record {
+follow_found _ _ _ =
+    of_bind _ (value_found _ _ _) (λ v h. of_unless (is_inside v.0.1) _ _ (λ inside.
+    of_bind _ (after_found _ _) (λ t a. of_ok (record {
       text = h.text;
       is = (sym a.0, a.1, h.is (leb-true (v.0.1.lead + v.0.1.width) 64 inside));
       whole = h.whole;
@@ -53,40 +52,40 @@ follow_found last change bits =
 pub follow_again : (last : State) (change : ℤ) (text : List Bool) (next : State) (after : List Bool) → IsInside last.window → pos next.delta ≡ pos last.delta +ℤ change → Follows last.time next.time next.delta → IsValue last.window last.pattern text next.pattern next.window
     → follow_at last change (text ++ after) ≡ Ok (next, after)
 unfolding follow_at
-follow_again last change text next after inside longer follows shows =
-    let within = le-leb (next.window.lead + next.window.width) 64 (value_inside last.window last.pattern text next.pattern next.window inside shows) in
+follow_again last _ text next after inside longer follows shows =
+    let within = le-leb (next.window.lead + next.window.width) 64 (value_inside _ _ _ _ _ inside shows) in
     rw (value_again last.window last.pattern text next.pattern next.window after shows, within, sym longer, after_again last.time next.time next.delta follows) refl
 
 -- what begins with one text and goes on with another
 joined : (bits more after one other : List Bool) → bits ≡ one ++ more → more ≡ other ++ after → bits ≡ (one ++ other) ++ after
-joined bits more after one other p q = p ∙ ap (λ (a : List Bool). one ++ a) q ∙ sym (append_assoc one other after)
+joined _ _ after one other p q = p ∙ ap (λ a. one ++ a) q ∙ sym (append_assoc one other after)
 
 pub next_found : (last : State) (bits : List Bool) → Finds (IsNext last) bits (next_at last bits)
 unfolding next_at
-next_found last bits =
-    of_bind _ (change_found bits) (λ c step. of_weaker (λ n value. record {
+next_found _ _ =
+    of_bind _ (change_found _) (λ c step. of_weaker (λ n value. record {
       text = step.text ++ value.text;
       is = record { change = c.0; step = step.text; value = value.text; text = refl; changes = step.is; longer = value.is.0; follows = value.is.1; shows = value.is.2 };
-      whole = joined _ _ _ step.text value.text step.whole value.whole;
-    }) (follow_found last c.0 c.1))
+      whole = joined _ _ _ _ _ step.whole value.whole;
+    }) (follow_found _ _ _))
 
 pub next_again : (last : State) (text : List Bool) (next : State) (after : List Bool) → IsInside last.window → IsNext last text next → next_at last (text ++ after) ≡ Ok (next, after)
 unfolding next_at
-next_again last text next after inside h =
-    let parts : text ++ after ≡ h.step ++ (h.value ++ after) = ap (λ (x : List Bool). x ++ after) h.text ∙ append_assoc h.step h.value after in
-    rw (parts, change_again h.step h.change (h.value ++ after) h.changes) (follow_again last h.change h.value next after inside h.longer h.follows h.shows)
+next_again last text _ after inside h =
+    let parts = ap (λ x. x ++ after) h.text ∙ append_assoc h.step h.value after in
+    rw (parts, change_again h.step h.change (h.value ++ after) h.changes) (follow_again _ _ _ _ _ inside h.longer h.follows h.shows)
 
 -- ---- samples after the second
 
 sample_found : (last : State) (bits : List Bool) → OfValue (sample_at (last, bits)) (λ x. (x.0 ≡ sample_of x.1.0) × HasText (IsNext last) bits x.1.0 x.1.1)
 unfolding sample_at
-sample_found last bits = of_bind _ (next_found last bits) (λ n h. of_ok (refl, h))
+sample_found _ _ = of_bind _ (next_found _ _) (λ n h. of_ok (refl, h))
 
 pub others_found : (count : ℕ) (last : State) (bits : List Bool) → OfValue (members_at sample_at count (last, bits)) (λ x. (length x.0 ≡ count) × HasText (λ text ss. AreOthers last text ss) bits x.0 x.1.1)
 unfolding members_at sample_at
-others_found zero last bits = of_ok (refl, record { text = []; is = refl; whole = refl })
-others_found (suc count) last bits =
-    of_bind _ (sample_found last bits) (λ x one. of_bind _ (others_found count x.1.0 x.1.1) (λ y more. of_ok (
+others_found zero _ _ = of_ok (refl, record { text = []; is = refl; whole = refl })
+others_found (suc count) _ _ =
+    of_bind _ (sample_found _ _) (λ x one. of_bind _ (others_found _ _ _) (λ y more. of_ok (
       ap suc more.0,
       record {
         text = one.1.text ++ more.1.text;
@@ -110,30 +109,30 @@ others_again (s ∷ ss) last text after inside h =
 
 -- each sample has a bit at least
 change_some : (text : List Bool) (z : ℤ) → IsChange text z → 0 < length text
-change_some text z (unchanged e v) = omega (arith, ap length e)
+change_some _ z (unchanged e v) = omega (arith, ap length e)
 change_some text z (row_14 r) = omega (arith, ap length r.text)
 change_some text z (row_17 r) = omega (arith, ap length r.text)
 change_some text z (row_20 r) = omega (arith, ap length r.text)
 change_some text z (row_64 r) = omega (arith, ap length r.text)
 
 pub value_some : (window : Window) (before : ℕ) (text : List Bool) (pattern : ℕ) (next : Window) → IsValue window before text pattern next → 0 < length text
-value_some window before text pattern next (same_pattern e p w) = omega (arith, ap length e)
-value_some window before text pattern next (in_window within e w h) = omega (arith, ap length e)
-value_some window before text pattern next (opens opened e h) = omega (arith, ap length e)
+value_some _ _ _ _ _ (same_pattern e p w) = omega (arith, ap length e)
+value_some _ _ _ _ _ (in_window within e w h) = omega (arith, ap length e)
+value_some _ _ _ _ _ (opens opened e h) = omega (arith, ap length e)
 
 pub others_few : (samples : List Sample) (last : State) (text : List Bool) → AreOthers last text samples → length samples ≤ length text
-others_few [] last text h = omega arith
-others_few (s ∷ ss) last text h =
+others_few [] _ _ h = omega arith
+others_few (s ∷ ss) _ text h =
     omega (arith, ap length h.3, length-append h.1 h.2, ap length h.4.text, length-append h.4.step h.4.value, change_some h.4.step h.4.change h.4.changes, others_few ss h.0 h.2 h.6)
 
 -- ---- from bytes to the second sample
 
 pub gap_found : (bytes : List ℕ) → IsBytes bytes → OfValue (gap_at bytes) (λ x. HasFront IsUvarint bytes x.0 x.1)
 unfolding gap_at
-gap_found bytes are = of_bind_as _ (uvarint_at (start bytes)) _ (λ g e. of_ok (uvarint_found (start bytes) g.1 g.0 are e))
+gap_found _ are = of_bind_as _ _ _ (λ g e. of_ok (uvarint_found _ _ _ are e))
 
 pub gap_again : (bytes : List ℕ) (gap : ℕ) (after : List ℕ) → HasFront IsUvarint bytes gap after → gap_at bytes ≡ Ok (gap, after)
 unfolding gap_at
 gap_again bytes gap after h =
     let read = uvarint_again (start bytes) h.0 gap after h.1 h.2 in
-    rw read (ap (λ (a : List ℕ). Ok (gap, a)) (left_after h.0 after (start bytes) h.2))
+    rw read (ap (λ (a : List ℕ). Ok (gap, a)) (left_after _ _ _ h.2))

@@ -36,22 +36,22 @@ unfolding take_at
 taken count bits = elim (cases_lt (length bits) count) [
   | inl lt ↦ rw (lt-ltb (length bits) count lt) of_err
   | inr le ↦ rw (le-ltb (length bits) count le) (
-      let len : length (take count bits) ≡ count = length-take-le count bits le in
-      let same : bits_of count (number_of (take count bits)) ≡ take count bits = ap (λ k. bits_of k (number_of (take count bits))) (sym len) ∙ bits_of-number_of (take count bits) in
-      of_ok (sym (take-append-drop count bits) ∙ ap (λ (a : List Bool). a ++ drop count bits) (sym same), subst (λ k. number_of (take count bits) < 2 ^ k) len (number_of-lt (take count bits))))
+      let len = length-take-le _ _ le in
+      let same = ap (λ k. bits_of k (number_of (take count bits))) (sym len) ∙ bits_of-number_of _ in
+      of_ok (sym (take-append-drop _ _) ∙ ap (λ a. a ++ drop count bits) (sym same), subst (λ k. number_of (take count bits) < 2 ^ k) len (number_of-lt _)))
 ]
 
 pub take_found : (count : ℕ) (bits : List Bool) (n : ℕ) (after : List Bool) → take_at count bits ≡ Ok (n, after) → (bits ≡ bits_of count n ++ after) × (n < 2 ^ count)
-take_found count bits n after e = (taken count bits).holds (n, after) e
+take_found _ _ n after e = (taken _ _).holds (n, after) e
 
 -- too few bits, or enough
 pub take_cases : (count : ℕ) (bits : List Bool) → (take_at count bits ≡ Err Short) ⊎ ((n : ℕ) × (after : List Bool) × (n < 2 ^ count) × (bits ≡ bits_of count n ++ after))
 take_cases count bits = elim (cases_lt (length bits) count) [
-  | inl lt ↦ inl (take_short count bits lt)
+  | inl lt ↦ inl (take_short _ _ lt)
   | inr le ↦ inr (
-      let len : length (take count bits) ≡ count = length-take-le count bits le in
-      let same : take count bits ≡ bits_of count (number_of (take count bits)) = sym (ap (λ k. bits_of k (number_of (take count bits))) (sym len) ∙ bits_of-number_of (take count bits)) in
-      (number_of (take count bits), drop count bits, subst (λ k. number_of (take count bits) < 2 ^ k) len (number_of-lt (take count bits)), sym (take-append-drop count bits) ∙ ap (λ (a : List Bool). a ++ drop count bits) same))
+      let len = length-take-le _ _ le in
+      let same = sym (ap (λ k. bits_of k (number_of (take count bits))) (sym len) ∙ bits_of-number_of _) in
+      (number_of (take count bits), drop count bits, subst (λ k. number_of (take count bits) < 2 ^ k) len (number_of-lt _), sym (take-append-drop _ _) ∙ ap (λ a. a ++ drop count bits) same))
 ]
 
 enough_taken : (count : ℕ) (bits : List Bool) (e : XorRefusal) → count ≤ length bits → take_at count bits ≡ Err e → ⊥
@@ -60,29 +60,29 @@ enough_taken count bits e le h = let same = rw (le-ltb (length bits) count le) a
 
 pub take_err : (count : ℕ) (bits : List Bool) (e : XorRefusal) → take_at count bits ≡ Err e → (e ≡ Short) × (length bits < count)
 take_err count bits e h = elim (cases_lt (length bits) count) [
-  | inl lt ↦ (sym (err_is {A = ℕ × List Bool} Short e (sym (take_short count bits lt) ∙ h)), lt)
-  | inr le ↦ absurd (enough_taken count bits e le h)
+  | inl lt ↦ (sym (err_is {A = ℕ × List Bool} _ e (sym (take_short _ _ lt) ∙ h)), lt)
+  | inr le ↦ absurd (enough_taken _ _ e le h)
 ]
 
 -- a field behind known bits, from both in one piece
 pub field_found : (known width both : ℕ) (bits after : List Bool) → take_at (known + width) bits ≡ Ok (both, after) → field_behind known width bits ≡ Ok (field_value width (both % 2 ^ width), after)
 unfolding field_behind field_at
-field_found known width both bits after e =
-    let found = take_found (known + width) bits both after e in
-    let parts : bits ≡ bits_of known (both / 2 ^ width) ++ (bits_of width (both % 2 ^ width) ++ after) =
-    found.0 ∙ ap (λ (a : List Bool). a ++ after) (bits_of-append known width both ∙ ap (λ (a : List Bool). bits_of known (both / 2 ^ width) ++ a) (sym (bits_of-mod width both))) ∙ append_assoc (bits_of known (both / 2 ^ width)) (bits_of width (both % 2 ^ width)) after in
-    let first : take_at known bits ≡ Ok (both / 2 ^ width, bits_of width (both % 2 ^ width) ++ after) = ap (take_at known) parts ∙ take_again known (both / 2 ^ width) (bits_of width (both % 2 ^ width) ++ after) (shr_below both known width found.1) in
-    rw (first, take_again width (both % 2 ^ width) after (mod_below both (2 ^ width) (pow_pos width))) refl
+field_found known width both _ after e =
+    let found = take_found _ _ _ _ e in
+    let parts =
+    found.0 ∙ ap (λ a. a ++ after) (bits_of-append _ _ _ ∙ ap (λ a. bits_of known (both / 2 ^ width) ++ a) (sym (bits_of-mod _ _))) ∙ append_assoc (bits_of known (both / 2 ^ width)) (bits_of width (both % 2 ^ width)) after in
+    let first = ap (take_at known) parts ∙ take_again _ _ _ (shr_below _ _ _ found.1) in
+    rw (first, take_again width (both % 2 ^ width) after (mod_below _ _ (pow_pos _))) refl
 
 pub field_short : (known width : ℕ) (bits : List Bool) (e : XorRefusal) → take_at (known + width) bits ≡ Err e → field_behind known width bits ≡ Err e
 unfolding field_behind field_at
 field_short known width bits e h =
-    let short = take_err (known + width) bits e h in
+    let short = take_err _ _ e h in
     elim (take_cases known bits) [
       | inl no_known ↦ rw (no_known, short.0) refl
       | inr parts ↦
-          let first : take_at known bits ≡ Ok (parts.0, parts.1) = ap (take_at known) parts.3 ∙ take_again known parts.0 parts.1 parts.2 in
-          let lacks : length parts.1 < width = omega (arith, short.1, ap length parts.3, length-append (bits_of known parts.0) parts.1, length-bits_of known parts.0) in
+          let first : take_at known bits ≡ Ok (parts.0, parts.1) = ap (take_at known) parts.3 ∙ take_again _ _ _ parts.2 in
+          let lacks : length parts.1 < width = omega (arith, ap length parts.3, length-append (bits_of known parts.0) parts.1, length-bits_of known parts.0) in
           rw (first, take_short width parts.1 lacks, short.0) refl
     ]
 
@@ -90,7 +90,7 @@ field_short known width bits e h =
 
 number_of-cons : (bit : Bool) (bits : List Bool) → number_of (bit ∷ bits) ≡ cond bit (2 ^ length bits) 0 + number_of bits
 unfolding number_of
-number_of-cons bit bits = refl
+number_of-cons _ _ = refl
 
 pub number_of-zeros : (n : ℕ) → number_of (replicate n false) ≡ 0
 unfolding number_of
@@ -100,7 +100,7 @@ number_of-zeros (suc n) = omega (arith, number_of-zeros n)
 pub front-lt : (n : ℕ) (bits : List Bool) → front n bits < 2 ^ n
 front-lt n bits =
     let enough : n ≤ length (bits ++ replicate n false) = omega (arith, length-append bits (replicate n false), length-replicate n false) in
-    subst (λ k. front n bits < 2 ^ k) (length-take-le n (bits ++ replicate n false) enough) (number_of-lt (take n (bits ++ replicate n false)))
+    subst (λ k. front n bits < 2 ^ k) (length-take-le n _ enough) (number_of-lt _)
 
 pub front-nil : (n : ℕ) → front n [] ≡ 0
 front-nil n = ap number_of (take_all n (replicate n false) (omega (arith, length-replicate n false))) ∙ number_of-zeros n
@@ -108,11 +108,11 @@ front-nil n = ap number_of (take_all n (replicate n false) (omega (arith, length
 pub front-cons : (n : ℕ) (bit : Bool) (bits : List Bool) → front (suc n) (bit ∷ bits) ≡ cond bit (2 ^ n) 0 + front n bits
 front-cons n bit bits =
     let next : n + 1 ≡ suc n = omega arith in
-    let zeros : replicate (suc n) false ≡ replicate n false ++ false ∷ [] = sym (replicate_more n false ∙ ap (λ k. replicate k false) next) in
+    let zeros : replicate (suc n) false ≡ replicate n false ++ false ∷ [] = sym (replicate_more n _ ∙ ap (λ k. replicate k false) next) in
     let enough : n ≤ length (bits ++ replicate n false) = omega (arith, length-append bits (replicate n false), length-replicate n false) in
     let same : take n (bits ++ replicate (suc n) false) ≡ take n (bits ++ replicate n false) =
-    ap (λ (a : List Bool). take n a) (ap (λ (a : List Bool). bits ++ a) zeros ∙ sym (append_assoc bits (replicate n false) (false ∷ []))) ∙ take-append-le n (bits ++ replicate n false) (false ∷ []) enough in
-    number_of-cons bit (take n (bits ++ replicate (suc n) false)) ∙ ap (λ (a : List Bool). cond bit (2 ^ length a) 0 + number_of a) same ∙ ap (λ k. cond bit (2 ^ k) 0 + front n bits) (length-take-le n (bits ++ replicate n false) enough)
+    ap (λ (a : List Bool). take n a) (ap (λ (a : List Bool). bits ++ a) zeros ∙ sym (append_assoc bits (replicate n false) (false ∷ []))) ∙ take-append-le n _ _ enough in
+    number_of-cons _ _ ∙ ap (λ a. cond bit (2 ^ length a) 0 + number_of a) same ∙ ap (λ k. cond bit (2 ^ k) 0 + front n bits) (length-take-le n _ enough)
 
 -- ---- which row a change stands in
 
@@ -120,15 +120,15 @@ pub no_change : (bits : List Bool) → front 1 bits ≡ 0 → change_at bits ≡
 unfolding change_at take_at
 no_change [] e = refl
 no_change (false ∷ bits) e = rw (le-ltb (length (false ∷ bits)) 1 (omega arith)) refl
-no_change (true ∷ bits) e = absurd (omega (arith, e, front-cons 0 true bits))
+no_change (true ∷ bits) e = absurd (omega (arith, front-cons 0 true bits))
 
 pub row_10 : (bits : List Bool) → front 2 bits ≡ 2 → change_at bits ≡ field_behind 2 14 bits
 unfolding change_at take_at field_behind
 row_10 [] e = refl
 row_10 (true ∷ []) e = refl
 row_10 (true ∷ false ∷ bits) e = rw (le-ltb (length (true ∷ false ∷ bits)) 2 (omega arith)) refl
-row_10 (true ∷ true ∷ bits) e = absurd (omega (arith, e, front-cons 1 true (true ∷ bits), front-cons 0 true bits))
-row_10 (false ∷ bits) e = absurd (omega (arith, e, front-cons 1 false bits, front-lt 1 bits))
+row_10 (true ∷ true ∷ bits) e = absurd (omega (arith, front-cons 1 true (true ∷ bits), front-cons 0 true bits))
+row_10 (false ∷ bits) e = absurd (omega (arith, front-cons 1 false bits, front-lt 1 bits))
 
 pub row_110 : (bits : List Bool) → front 3 bits ≡ 6 → change_at bits ≡ field_behind 3 17 bits
 unfolding change_at take_at field_behind
@@ -136,9 +136,9 @@ row_110 [] e = refl
 row_110 (true ∷ []) e = refl
 row_110 (true ∷ true ∷ []) e = refl
 row_110 (true ∷ true ∷ false ∷ bits) e = rw (le-ltb (length (true ∷ true ∷ false ∷ bits)) 3 (omega arith)) refl
-row_110 (true ∷ true ∷ true ∷ bits) e = absurd (omega (arith, e, front-cons 2 true (true ∷ true ∷ bits), front-cons 1 true (true ∷ bits), front-cons 0 true bits))
-row_110 (true ∷ false ∷ bits) e = absurd (omega (arith, e, front-cons 2 true (false ∷ bits), front-cons 1 false bits, front-lt 1 bits))
-row_110 (false ∷ bits) e = absurd (omega (arith, e, front-cons 2 false bits, front-lt 2 bits))
+row_110 (true ∷ true ∷ true ∷ bits) e = absurd (omega (arith, front-cons 2 true (true ∷ true ∷ bits), front-cons 1 true (true ∷ bits), front-cons 0 true bits))
+row_110 (true ∷ false ∷ bits) e = absurd (omega (arith, front-cons 2 true (false ∷ bits), front-cons 1 false bits, front-lt 1 bits))
+row_110 (false ∷ bits) e = absurd (omega (arith, front-cons 2 false bits, front-lt 2 bits))
 
 pub row_1110 : (bits : List Bool) → front 4 bits ≡ 14 → change_at bits ≡ field_behind 4 20 bits
 unfolding change_at take_at field_behind
@@ -148,9 +148,9 @@ row_1110 (true ∷ true ∷ []) e = refl
 row_1110 (true ∷ true ∷ true ∷ []) e = refl
 row_1110 (true ∷ true ∷ true ∷ false ∷ bits) e = rw (le-ltb (length (true ∷ true ∷ true ∷ false ∷ bits)) 4 (omega arith)) refl
 row_1110 (true ∷ true ∷ true ∷ true ∷ bits) e = absurd (omega (arith, e, front-cons 3 true (true ∷ true ∷ true ∷ bits), front-cons 2 true (true ∷ true ∷ bits), front-cons 1 true (true ∷ bits), front-cons 0 true bits))
-row_1110 (true ∷ true ∷ false ∷ bits) e = absurd (omega (arith, e, front-cons 3 true (true ∷ false ∷ bits), front-cons 2 true (false ∷ bits), front-cons 1 false bits, front-lt 1 bits))
-row_1110 (true ∷ false ∷ bits) e = absurd (omega (arith, e, front-cons 3 true (false ∷ bits), front-cons 2 false bits, front-lt 2 bits))
-row_1110 (false ∷ bits) e = absurd (omega (arith, e, front-cons 3 false bits, front-lt 3 bits))
+row_1110 (true ∷ true ∷ false ∷ bits) e = absurd (omega (arith, front-cons 3 true (true ∷ false ∷ bits), front-cons 2 true (false ∷ bits), front-cons 1 false bits, front-lt 1 bits))
+row_1110 (true ∷ false ∷ bits) e = absurd (omega (arith, front-cons 3 true (false ∷ bits), front-cons 2 false bits, front-lt 2 bits))
+row_1110 (false ∷ bits) e = absurd (omega (arith, front-cons 3 false bits, front-lt 3 bits))
 
 pub row_1111 : (bits : List Bool) → front 4 bits ≡ 15 → change_at bits ≡ (take_at 4 bits >>= λ p. whole_field_at p.1)
 unfolding change_at take_at
@@ -160,31 +160,31 @@ row_1111 (true ∷ true ∷ []) e = refl
 row_1111 (true ∷ true ∷ true ∷ []) e = refl
 row_1111 (true ∷ true ∷ true ∷ true ∷ bits) e = rw (le-ltb (length (true ∷ true ∷ true ∷ true ∷ bits)) 4 (omega arith)) refl
 row_1111 (true ∷ true ∷ true ∷ false ∷ bits) e = absurd (omega (arith, e, front-cons 3 true (true ∷ true ∷ false ∷ bits), front-cons 2 true (true ∷ false ∷ bits), front-cons 1 true (false ∷ bits), front-cons 0 false bits, front-lt 0 bits))
-row_1111 (true ∷ true ∷ false ∷ bits) e = absurd (omega (arith, e, front-cons 3 true (true ∷ false ∷ bits), front-cons 2 true (false ∷ bits), front-cons 1 false bits, front-lt 1 bits))
-row_1111 (true ∷ false ∷ bits) e = absurd (omega (arith, e, front-cons 3 true (false ∷ bits), front-cons 2 false bits, front-lt 2 bits))
-row_1111 (false ∷ bits) e = absurd (omega (arith, e, front-cons 3 false bits, front-lt 3 bits))
+row_1111 (true ∷ true ∷ false ∷ bits) e = absurd (omega (arith, front-cons 3 true (true ∷ false ∷ bits), front-cons 2 true (false ∷ bits), front-cons 1 false bits, front-lt 1 bits))
+row_1111 (true ∷ false ∷ bits) e = absurd (omega (arith, front-cons 3 true (false ∷ bits), front-cons 2 false bits, front-lt 2 bits))
+row_1111 (false ∷ bits) e = absurd (omega (arith, front-cons 3 false bits, front-lt 3 bits))
 
 -- the low bits, as the code masks them
 pub masked : (n width : ℕ) → width < 64 → bit_and n (1 * 2 ^ width % 2 ^ 64 - 1) ≡ n % 2 ^ width
-masked n width lt = ap (λ m. bit_and n (m - 1)) (one_shl width 64 lt) ∙ and_mask n width
+masked n _ lt = ap (λ m. bit_and n (m - 1)) (one_shl _ _ lt) ∙ and_mask n _
 
 -- a signed number as the code gives it
 pub cast_is : (z v : ℤ) (after : List Bool) → FitsSigned w64 z → z ≡ v → ◌≡◌ {A = Result (ℤ × List Bool) XorRefusal} (Ok (v, after)) (Ok (cast_signed w64 (cast_unsigned w64 z), after))
-cast_is z v after fits e = ap (λ (w : ℤ). Ok (w, after)) (sym e ∙ sym (to_z-of_z w64 z fits))
+cast_is z v after fits e = ap (λ w. Ok (w, after)) (sym e ∙ sym (to_z-of_z w64 z fits))
 
 -- ---- the same, for bits that were taken
 
 pub row_1111_found : (bits middle after : List Bool) (n field : ℕ) → front 4 bits ≡ 15 → take_at 4 bits ≡ Ok (n, middle) → take_at 64 middle ≡ Ok (field, after) → change_at bits ≡ Ok (cast_signed w64 field, after)
 unfolding whole_field_at
-row_1111_found bits middle after n field e h k = row_1111 bits e ∙ rw (h, k) refl
+row_1111_found _ _ _ n _ e h k = row_1111 _ e ∙ rw (h, k) refl
 
 pub row_1111_known_short : (bits : List Bool) (e : XorRefusal) → front 4 bits ≡ 15 → take_at 4 bits ≡ Err e → change_at bits ≡ Err e
-row_1111_known_short bits refusal e h = row_1111 bits e ∙ rw h refl
+row_1111_known_short _ _ e h = row_1111 _ e ∙ rw h refl
 
 pub row_1111_short : (bits middle : List Bool) (n : ℕ) (e : XorRefusal) → front 4 bits ≡ 15 → take_at 4 bits ≡ Ok (n, middle) → take_at 64 middle ≡ Err e → change_at bits ≡ Err e
 unfolding whole_field_at
-row_1111_short bits middle n refusal e h k = row_1111 bits e ∙ rw (h, k) refl
+row_1111_short _ _ n _ e h k = row_1111 _ e ∙ rw (h, k) refl
 
 -- what a call read is what was to be read
 pub reads_same : {X Y : Type 0} (view : X → Y) (after : List Bool) (result : Result X XorRefusal) (read wanted : Result (Y × List Bool) XorRefusal) → Reads view after result read → read ≡ wanted → Reads view after result wanted
-reads_same {Y = Y} view after result read wanted h e = subst (λ (r : Result (Y × List Bool) XorRefusal). Reads view after result r) e h
+reads_same {Y = Y} view after result _ _ h e = subst (λ r. Reads view after result r) e h

@@ -20,7 +20,7 @@ use Rattle.label_sets.specs.declared.sample.Sample.{Sample}
 use Rattle.xor_chunks.specs.State.{State}
 use Rattle.xor_chunks.specs.declared.refusal.XorRefusal.{XorRefusal}
 use Rattle.xor_chunks.specs.declared.refusal.XorRefusal.TheVariants.{NoMemory}
-use Rattle.wire_bits.specs.Bits.{bits_of, bits_in, number_of}
+use Rattle.wire_bits.specs.Bits.{bits_of, number_of}
 use Rattle.xor_chunks.specs.Samples.{begun}
 use Rattle.xor_chunks.specs.Data.{start, count_at, first_at, sample_at, others_at, rest_at, samples_at, is_filling, data_at}
 use Rattle.xor_chunks.specs.Grammar.{AreOthers, AreRest, AreSamples, IsText}
@@ -33,20 +33,20 @@ use Rattle.xor_chunks.proofs.SamplesRead.{follow_found, follow_again, others_fou
 
 others_at_found : (count : ℕ) (last : State) (bits : List Bool) → OfValue (others_at count last bits) (λ x. (length x.0 ≡ count) × HasText (λ text ss. AreOthers last text ss) bits x.0 x.1)
 unfolding others_at
-others_at_found count last bits = of_bind _ (others_found count last bits) (λ x h. of_ok h)
+others_at_found _ _ _ = of_bind _ (others_found _ _ _) (λ x h. of_ok h)
 
 others_at_again : (count : ℕ) (last end : State) (bits : List Bool) (samples : List Sample) (after : List Bool) → members_at sample_at count (last, bits) ≡ Ok (samples, (end, after)) → others_at count last bits ≡ Ok (samples, after)
 unfolding others_at
-others_at_again count last end bits samples after e = rw e refl
+others_at_again _ _ _ _ _ _ e = rw e refl
 
 -- ---- from the second sample on
 
 rest_found : (count : ℕ) (first : Sample) (bytes : List ℕ) → IsBytes bytes → OfValue (rest_at count (begun first) bytes) (λ x. (length x.0 ≡ count) × AreRest first bytes x.0 x.1)
 unfolding rest_at
-rest_found zero first bytes are = of_ok (refl, refl)
-rest_found (suc count) first bytes are =
-    of_bind _ (gap_found bytes are) (λ gap g. of_bind _ (follow_found (begun first) (pos gap.0) (bits_in gap.1)) (λ second s.
-    of_bind _ (others_at_found count second.0 second.1) (λ others o. of_ok (
+rest_found zero _ _ are = of_ok (refl, refl)
+rest_found (suc count) _ bytes are =
+    of_bind _ (gap_found _ are) (λ gap g. of_bind _ (follow_found _ _ _) (λ second s.
+    of_bind _ (others_at_found _ _ _) (λ others o. of_ok (
       ap suc o.0,
       record {
         gap = second.0.delta;
@@ -64,7 +64,7 @@ rest_found (suc count) first bytes are =
 
 rest_again : (first : Sample) (bytes : List ℕ) (samples : List Sample) (after : List Bool) → AreRest first bytes samples after → rest_at (length samples) (begun first) bytes ≡ Ok (samples, after)
 unfolding rest_at
-rest_again first bytes [] after h = ap (λ (a : List Bool). Ok ([], a)) h
+rest_again _ _ [] _ h = ap (λ (a : List Bool). Ok ([], a)) h
 rest_again first bytes (s ∷ ss) after h =
     let inside : IsInside whole = omega arith in
     let second : State = record { time = s.time; delta = h.gap; pattern = s.pattern; window = h.window } in
@@ -77,14 +77,14 @@ rest_again first bytes (s ∷ ss) after h =
 first_found : (bytes : List ℕ) → IsBytes bytes → OfValue (first_at bytes) (λ x. (middle : List ℕ) × HasFront IsVarint bytes x.0.time middle × HasFront (IsFixed w64) middle x.0.pattern x.1)
 unfolding first_at
 first_found bytes are =
-    of_bind_as _ (varint_at (start bytes)) _ (λ time e. let t = varint_found (start bytes) time.1 time.0 are e in
-    of_bind_as _ (number_at w64 time.1) _ (λ pattern e. of_ok (left time.1, t, number_found w64 wide64 time.1 pattern.1 pattern.0 (IsBytes-after t.0 (left time.1) bytes t.2 are) e)))
+    of_bind_as _ (varint_at (start bytes)) _ (λ time e. let t = varint_found (start bytes) _ _ are e in
+    of_bind_as _ (number_at w64 time.1) _ (λ pattern e. of_ok (left time.1, t, number_found _ wide64 time.1 _ _ (IsBytes-after t.0 (left time.1) _ t.2 are) e)))
 
 first_again : (bytes : List ℕ) (s : Sample) (middle after : List ℕ) → HasFront IsVarint bytes s.time middle → HasFront (IsFixed w64) middle s.pattern after → first_at bytes ≡ Ok (s, after)
 unfolding first_at
 first_again bytes s middle after time pattern =
     let q = further (length time.0) (start bytes) in
-    let here : left q ≡ middle = left_after time.0 middle (start bytes) time.2 in
+    let here = left_after _ _ _ time.2 in
     let read = varint_again (start bytes) time.0 s.time middle time.1 time.2 in
     let next = number_again w64 wide64 q pattern.0 s.pattern after pattern.1 (here ∙ pattern.2) in
     rw (read, next) (ap (λ (a : List ℕ). Ok (s, a)) (left_after pattern.0 after q (here ∙ pattern.2)))
@@ -93,16 +93,16 @@ samples_found : (count : ℕ) (bytes : List ℕ) → IsBytes bytes → OfValue (
 unfolding samples_at
 samples_found zero bytes are = of_ok (refl, refl)
 samples_found (suc count) bytes are =
-    of_bind _ (first_found bytes are) (λ first f.
-    let after = IsBytes-after f.2.0 first.1 f.0 f.2.2 (IsBytes-after f.1.0 f.0 bytes f.1.2 are) in
-    of_bind _ (rest_found count first.0 first.1 after) (λ rest r. of_ok (
+    of_bind _ (first_found _ are) (λ first f.
+    let after = IsBytes-after _ _ _ f.2.2 (IsBytes-after _ _ _ f.1.2 are) in
+    of_bind _ (rest_found _ _ _ after) (λ rest r. of_ok (
       ap suc r.0,
       record { after_time = f.0; after = first.1; time_is = f.1; pattern_is = f.2; rest_are = r.1 },
     )))
 
 samples_again : (bytes : List ℕ) (samples : List Sample) (after : List Bool) → AreSamples bytes samples after → samples_at (length samples) bytes ≡ Ok (samples, after)
 unfolding samples_at
-samples_again bytes [] after h = ap (λ (a : List Bool). Ok ([], a)) h
+samples_again _ [] _ h = ap (λ a. Ok ([], a)) h
 samples_again bytes (s ∷ ss) after h = rw (first_again bytes s h.after_time h.after h.time_is h.pattern_is, rest_again s h.after ss after h.rest_are) refl
 
 -- ---- what is left
@@ -110,33 +110,33 @@ samples_again bytes (s ∷ ss) after h = rw (first_again bytes s h.after_time h.
 filling_found : (most : ℕ) (bits : List Bool) → is_filling most bits ≡ true → (k : ℕ) × (bits ≡ replicate k false) × (k ≤ most)
 filling_found most bits e =
     let both = and_parts (nat_le (length bits) most) (number_of bits == 0) e in
-    let none : number_of bits ≡ 0 = eqb-true (number_of bits) 0 both.1 in
-    (length bits, sym (bits_of-number_of bits) ∙ ap (bits_of (length bits)) none ∙ bits_of-zero (length bits), leb-true (length bits) most both.0)
+    let none = eqb-true (number_of bits) 0 both.1 in
+    (length bits, sym (bits_of-number_of _) ∙ ap (bits_of (length bits)) none ∙ bits_of-zero _, leb-true (length bits) most both.0)
 
 filling_again : (most k : ℕ) → k ≤ most → is_filling most (replicate k false) ≡ true
-filling_again most k le = rw (length-replicate k false, le-leb k most le, number_of-zeros k) refl
+filling_again most k le = rw (length-replicate, le-leb k most le, number_of-zeros) refl
 
 -- ---- the whole
 
 count_found : (bytes : List ℕ) → IsBytes bytes → OfValue (count_at bytes) (λ x. HasFront (IsFixed w16) bytes x.0 x.1)
 unfolding count_at
-count_found bytes are = of_bind_as _ (number_at w16 (start bytes)) _ (λ n e. of_ok (number_found w16 wide16 (start bytes) n.1 n.0 are e))
+count_found _ are = of_bind_as _ _ _ (λ n e. of_ok (number_found _ wide16 _ _ _ are e))
 
 count_again : (bytes : List ℕ) (n : ℕ) (after : List ℕ) → HasFront (IsFixed w16) bytes n after → count_at bytes ≡ Ok (n, after)
 unfolding count_at
 count_again bytes n after h =
-    let read = number_again w16 wide16 (start bytes) h.0 n after h.1 h.2 in
-    rw read (ap (λ (a : List ℕ). Ok (n, a)) (left_after h.0 after (start bytes) h.2))
+    let read = number_again _ wide16 (start bytes) h.0 n after h.1 h.2 in
+    rw read (ap (λ (a : List ℕ). Ok (n, a)) (left_after _ _ _ h.2))
 
 data_found : (most : ℕ) (bytes : List ℕ) → IsBytes bytes → OfValue (data_at most bytes) (λ ss. IsText most bytes ss)
 unfolding data_at
 data_found most bytes are =
-    of_bind _ (count_found bytes are) (λ count c. of_bind _ (samples_found count.0 count.1 (IsBytes-after c.0 count.1 bytes c.2 are)) (λ all s. of_unless (is_filling most all.1) _ _ (λ filling.
-    let left = filling_found most all.1 filling in
+    of_bind _ (count_found bytes are) (λ count c. of_bind _ (samples_found _ _ (IsBytes-after _ _ _ c.2 are)) (λ all s. of_unless (is_filling most all.1) _ _ (λ filling.
+    let left = filling_found _ _ filling in
     of_ok (record {
       after = count.1;
       left = left.0;
-      counted = subst (λ (n : ℕ). HasFront (IsFixed w16) bytes n count.1) (sym s.0) c;
+      counted = subst (λ n. HasFront (IsFixed w16) bytes n count.1) (sym s.0) c;
       samples_are = subst (AreSamples count.1 all.0) left.1 s.1;
       filling = left.2;
     }))))
@@ -147,13 +147,13 @@ data_again most bytes samples h =
     rw (count_again bytes (length samples) h.after h.counted, samples_again h.after samples (replicate h.left false) h.samples_are, filling_again most h.left h.filling) refl
 
 pub text_few : (most : ℕ) (bytes : List ℕ) (samples : List Sample) → IsText most bytes samples → length samples ≤ 8 * length bytes
-text_few most bytes [] h = omega arith
-text_few most bytes (s ∷ []) h = omega (arith, ap length h.counted.2, length-append h.counted.0 h.after, ap length h.counted.1.digits)
-text_few most bytes (s ∷ t ∷ ss) h =
+text_few _ _ [] h = omega arith
+text_few _ _ (s ∷ []) h = omega (arith, ap length h.counted.2, length-append h.counted.0 h.after, ap length h.counted.1.digits)
+text_few _ _ (s ∷ t ∷ ss) h =
     let from = h.samples_are in
     let second = from.rest_are in
-    let value = value_some whole s.pattern second.value t.pattern second.window second.shows in
-    let others = others_few ss _ second.rest second.others_are in
+    let value = value_some _ _ _ _ _ second.shows in
+    let others = others_few _ _ _ second.others_are in
     let bits = ap length second.bits_are in
     let three : length second.value + (length second.rest + length (replicate h.left false)) ≡ 8 * length second.after =
     omega (arith, bits, length-bits_in second.after, length-append second.value (second.rest ++ replicate h.left false), length-append second.rest (replicate h.left false)) in
@@ -165,12 +165,12 @@ text_few most bytes (s ∷ t ∷ ss) h =
 -- ---- what the calls say
 
 pub only : (most : ℕ) (bytes : List ℕ) (r : Result (List Sample) XorRefusal) (samples : List Sample) → Gives NoMemory (λ ss. ss) r (data_at most bytes) → IsText most bytes samples → (r ≡ Ok samples) ⊎ (r ≡ Err NoMemory)
-only most bytes (Ok ss) samples h is = inl (ap (λ (x : List Sample). Ok x) (ok_is {E = XorRefusal} _ _ (sym h ∙ data_again most bytes samples is)))
-only most bytes (Err d) samples (inl e) is = inr (ap (λ (x : XorRefusal). Err x) e)
-only most bytes (Err d) samples (inr e) is = let no = sym e ∙ data_again most bytes samples is in absurd cc
+only _ _ (Ok ss) _ h is = inl (ap (λ x. Ok x) (ok_is {E = XorRefusal} _ _ (sym h ∙ data_again _ _ _ is)))
+only _ _ (Err d) _ (inl e) is = inr (ap (λ x. Err x) e)
+only _ _ (Err d) _ (inr e) is = let no = sym e ∙ data_again _ _ _ is in absurd cc
 
 pub found : (most : ℕ) (bytes : List ℕ) (r : Result (List Sample) XorRefusal) → IsBytes bytes → Gives NoMemory (λ ss. ss) r (data_at most bytes) → IfOk r (λ ss. IsText most bytes ss)
-found most bytes r are h = of_gives NoMemory (λ ss. ss) r (data_found most bytes are) h
+found _ _ r are h = of_gives _ _ r (data_found _ _ are) h
 
 pub few : (most : ℕ) (bytes : List ℕ) (r : Result (List Sample) XorRefusal) → IsBytes bytes → Gives NoMemory (λ ss. ss) r (data_at most bytes) → IfOk r (λ ss. length ss ≤ 8 * length bytes)
-few most bytes r are h = IfOk-weaker r _ _ (λ ss is. text_few most bytes ss is) (found most bytes r are h)
+few most bytes r are h = IfOk-weaker r _ _ (λ ss is. text_few most bytes ss is) (found _ _ r are h)

@@ -7,7 +7,7 @@ use Rattle.std.specs.Ordering.{int_eq}
 use Rattle.std.proofs.lemmas.Bool.{and_parts, leb-true, ltb-true, cases_eq, eq-eqb, ne_eqb}
 use Rattle.std.proofs.lemmas.Bool.Decides.{Decides-int_eq}
 use Rattle.std.proofs.lemmas.Int.{ints, to_z-of_z}
-use Rattle.std.proofs.lemmas.Nat.{xor_lt, shr_below, shr_split, mod_below, pow_pos}
+use Rattle.std.proofs.lemmas.Nat.{xor_lt, shr_below, mod_below, pow_pos}
 use Rattle.xor_chunks.specs.declared.window_setting.WindowSetting.{WindowSetting}
 use Rattle.xor_chunks.specs.declared.window_setting.WindowSetting.TheVariants.{Unset, Set}
 use Rattle.wire_bits.specs.Bits.{bits_of}
@@ -23,7 +23,7 @@ seen Unset = whole
 seen (Set w) = w
 
 xor_back : (a b : ℕ) → bit_xor a (bit_xor a b) ≡ b
-xor_back a b = sym (xor_assoc a a b) ∙ ap (λ (x : ℕ). bit_xor x b) (xor_self a) ∙ xor_zero_l b
+xor_back a b = sym (xor_assoc a a b) ∙ ap (λ x. bit_xor x b) (xor_self a) ∙ xor_zero_l b
 
 no_change : (a b : ℕ) → bit_xor a b ≡ 0 → b ≡ a
 no_change a b e = sym (xor_back a b) ∙ ap (bit_xor a) e ∙ xor_zero_r a
@@ -39,12 +39,12 @@ record IsRound (w : Window) (change : ℕ) : Type 0 where
 within_written : (w : Window) (before pattern : ℕ) → before < 2 ^ 64 → pattern < 2 ^ 64 → (bit_xor before pattern ≡ 0 → ⊥) → IsRound w (bit_xor before pattern) → IsWithin w before (in_window w (bit_xor before pattern)) pattern
 within_written w before pattern b p some h =
     let change = bit_xor before pattern in
-    let below : change < 2 ^ 64 = xor_lt 64 before pattern b p in
-    let inside : w.lead + w.width ≤ 64 = h.inside in
+    let below = xor_lt 64 _ _ b p in
+    let inside = h.inside in
     let shifted : 64 - w.lead ≡ w.width + trail w = omega arith in
-    let short : change < 2 ^ (w.width + trail w) = subst (λ (k : ℕ). change < 2 ^ k) shifted (leading_below change w.lead below h.lead) in
-    let low : change % 2 ^ trail w ≡ 0 = trailing_low change (trail w) (omega (arith, some)) below h.trail in
-    let back : change / 2 ^ trail w * 2 ^ trail w ≡ change = omega (arith, shr_split change (trail w), low) in
+    let short = subst (λ k. change < 2 ^ k) shifted (leading_below _ _ below h.lead) in
+    let low = trailing_low _ _ (omega arith) below h.trail in
+    let back : change / 2 ^ trail w * 2 ^ trail w ≡ change = omega arith in
     record {
       field = change / 2 ^ trail w;
       fits = shr_below change w.width (trail w) short;
@@ -54,21 +54,21 @@ within_written w before pattern b p some h =
     }
 
 round_is : (change : ℕ) → change < 2 ^ 64 → (change ≡ 0 → ⊥) → IsRound (window_round change) change × ((window_round change).lead < 32) × (0 < (window_round change).width)
-round_is change below some =
-    let apart = counts_apart change (omega (arith, some)) below in
-    (record { inside = omega (arith, apart); lead = omega arith; trail = omega (arith, apart) }, omega arith, omega (arith, apart))
+round_is _ below some =
+    let apart = counts_apart _ (omega arith) below in
+    (record { inside = omega arith; lead = omega arith; trail = omega arith }, omega arith, omega arith)
 
 opens_written : (window : Window) (before pattern : ℕ) → before < 2 ^ 64 → pattern < 2 ^ 64 → (bit_xor before pattern ≡ 0 → ⊥) → IsValue window before (coded Unset (bit_xor before pattern)) pattern (window_round (bit_xor before pattern))
 opens_written window before pattern b p some =
     let change = bit_xor before pattern in
-    let round = round_is change (xor_lt 64 before pattern b p) some in
+    let round = round_is _ (xor_lt 64 _ _ b p) some in
     opens _ refl (record {
       lead = round.1;
       some = round.2;
       few = omega arith;
       within = in_window (window_round change) change;
       text = refl;
-      field = within_written (window_round change) before pattern b p some round.0;
+      field = within_written _ _ _ b p some round.0;
     })
 
 -- a window that was set lies within a pattern
@@ -81,41 +81,41 @@ set_written : (w : Window) (before pattern : ℕ) (round : Bool) → is_round w 
 set_written w before pattern true e inside b p some =
     let change = bit_xor before pattern in
     let both = and_parts (nat_le w.lead (leading_zeros w64 change)) (nat_le (trail w) (trailing_zeros w64 change)) e in
-    within_window (in_window w change) refl refl (within_written w before pattern b p some (record { inside = inside; lead = leb-true _ _ both.0; trail = leb-true _ _ both.1 }))
-set_written w before pattern false e inside b p some = opens_written w before pattern b p some
+    within_window (in_window w change) refl refl (within_written w _ _ b p some (record { inside = inside; lead = leb-true _ _ both.0; trail = leb-true _ _ both.1 }))
+set_written w before _ false e inside b p some = opens_written w _ _ b p some
 
 change_written : (set : WindowSetting) (before pattern : ℕ) → IsSeen set → before < 2 ^ 64 → pattern < 2 ^ 64 → (bit_xor before pattern ≡ 0 → ⊥) → IsValue (seen set) before (coded (reused set (bit_xor before pattern)) (bit_xor before pattern)) pattern (seen (kept (reused set (bit_xor before pattern)) (bit_xor before pattern)))
-change_written Unset before pattern h b p some = opens_written whole before pattern b p some
-change_written (Set w) before pattern h b p some = set_written w before pattern (is_round w (bit_xor before pattern)) refl h b p some
+change_written Unset _ _ h b p some = opens_written _ _ _ b p some
+change_written (Set w) _ _ h b p some = set_written w _ _ _ refl h b p some
 
 pub value_written : (set : WindowSetting) (before pattern : ℕ) → IsSeen set → before < 2 ^ 64 → pattern < 2 ^ 64 → IsValue (seen set) before (value_bits set (bit_xor before pattern)) pattern (seen (window_after set (bit_xor before pattern)))
 unfolding value_bits window_after
-value_written set before pattern h b p =
-    elim (cases_eq (bit_xor before pattern) 0) [
-      | inl none ↦ rw (eq-eqb (bit_xor before pattern) 0 none) (same_pattern refl (no_change before pattern none) refl)
-      | inr some ↦ rw (ne_eqb (bit_xor before pattern) 0 some) (change_written set before pattern h b p some)
+value_written _ before pattern h b p =
+    elim (cases_eq _ 0) [
+      | inl none ↦ rw (eq-eqb (bit_xor before pattern) 0 none) (same_pattern refl (no_change _ _ none) refl)
+      | inr some ↦ rw (ne_eqb (bit_xor before pattern) 0 some) (change_written _ _ _ h b p some)
     ]
 
 kept_of : (w : Window) (before pattern : ℕ) (round : Bool) → IsInside w → before < 2 ^ 64 → pattern < 2 ^ 64 → (bit_xor before pattern ≡ 0 → ⊥) → IsSeen (kept (cond round (Set w) Unset) (bit_xor before pattern))
-kept_of w before pattern true h b p some = h
-kept_of w before pattern false h b p some = (round_is (bit_xor before pattern) (xor_lt 64 before pattern b p) some).0.inside
+kept_of w _ _ true h b p some = h
+kept_of w _ _ false h b p some = (round_is _ (xor_lt 64 _ _ b p) some).0.inside
 
 kept_after : (set : WindowSetting) (before pattern : ℕ) → IsSeen set → before < 2 ^ 64 → pattern < 2 ^ 64 → (bit_xor before pattern ≡ 0 → ⊥) → IsSeen (kept (reused set (bit_xor before pattern)) (bit_xor before pattern))
-kept_after Unset before pattern h b p some = (round_is (bit_xor before pattern) (xor_lt 64 before pattern b p) some).0.inside
-kept_after (Set w) before pattern h b p some = kept_of w before pattern (is_round w (bit_xor before pattern)) h b p some
+kept_after Unset before pattern h b p some = (round_is (bit_xor before pattern) (xor_lt 64 _ _ b p) some).0.inside
+kept_after (Set w) _ _ h b p some = kept_of w _ _ _ h b p some
 
 pub kept_seen : (set : WindowSetting) (before pattern : ℕ) → IsSeen set → before < 2 ^ 64 → pattern < 2 ^ 64 → IsSeen (window_after set (bit_xor before pattern))
 unfolding window_after
 kept_seen set before pattern h b p =
-    elim (cases_eq (bit_xor before pattern) 0) [
+    elim (cases_eq _ 0) [
       | inl none ↦ rw (eq-eqb (bit_xor before pattern) 0 none) h
-      | inr some ↦ rw (ne_eqb (bit_xor before pattern) 0 some) (kept_after set before pattern h b p some)
+      | inr some ↦ rw (ne_eqb (bit_xor before pattern) 0 some) (kept_after _ _ _ h b p some)
     ]
 
 -- ---- steps
 
 row_is : (width : ℕ) (front : List Bool) (n : ℕ) (z : ℤ) → StandsFor width (n % 2 ^ width) z → IsRow front width (front ++ bits_of width n) z
-row_is width front n z h = record { field = n % 2 ^ width; fits = mod_below n (2 ^ width) (pow_pos width); text = ap (λ (a : List Bool). front ++ a) (sym (bits_of-mod width n)); value = h }
+row_is width front n z h = record { field = n % 2 ^ width; fits = mod_below n _ (pow_pos _); text = ap (λ a. front ++ a) (sym (bits_of-mod _ n)); value = h }
 
 fits_14 : (z : ℤ) → fits_field 14 z ≡ true → StandsFor 14 (cast_unsigned w64 z % 2 ^ 14) z
 fits_14 (pos n) e = let le = leb-true n 8192 e in inl (omega (arith, ints, le), omega (arith, ints, le))
@@ -130,17 +130,17 @@ fits_20 (pos n) e = let le = leb-true n 524288 e in inl (omega (arith, ints, le)
 fits_20 (negsuc n) e = let lt = ltb-true (suc n) 524288 e in inr (omega (arith, ints, lt), omega (arith, ints, lt))
 
 cast_below : (z : ℤ) → FitsSigned w64 z → cast_unsigned w64 z < 2 ^ 64
-cast_below (pos n) fits = omega (arith, ints, fits.sfits)
-cast_below (negsuc n) fits = omega (arith, ints, fits.sfits)
+cast_below (pos n) fits = omega arith
+cast_below (negsuc n) fits = omega arith
 
 rows : (z : ℤ) (none a b d : Bool) → FitsSigned w64 z → int_eq z (pos 0) ≡ none → fits_field 14 z ≡ a → fits_field 17 z ≡ b → fits_field 20 z ≡ d
     → IsChange (cond none (false ∷ []) (cond a (true ∷ false ∷ bits_of 14 (cast_unsigned w64 z)) (cond b (true ∷ true ∷ false ∷ bits_of 17 (cast_unsigned w64 z)) (cond d (true ∷ true ∷ true ∷ false ∷ bits_of 20 (cast_unsigned w64 z)) (true ∷ true ∷ true ∷ true ∷ bits_of 64 (cast_unsigned w64 z)))))) z
 rows z true a b d fits e f g h = unchanged refl ((Decides-int_eq z (pos 0)).0 e)
-rows z false true b d fits e f g h = row_14 (row_is 14 (true ∷ false ∷ []) (cast_unsigned w64 z) z (fits_14 z f))
-rows z false false true d fits e f g h = row_17 (row_is 17 (true ∷ true ∷ false ∷ []) (cast_unsigned w64 z) z (fits_17 z g))
-rows z false false false true fits e f g h = row_20 (row_is 20 (true ∷ true ∷ true ∷ false ∷ []) (cast_unsigned w64 z) z (fits_20 z h))
+rows z false true b d fits e f g h = row_14 (row_is _ _ _ z (fits_14 z f))
+rows z false false true d fits e f g h = row_17 (row_is _ _ _ z (fits_17 z g))
+rows z false false false true fits e f g h = row_20 (row_is _ _ _ z (fits_20 z h))
 rows z false false false false fits e f g h = row_64 (record { field = cast_unsigned w64 z; fits = cast_below z fits; text = refl; value = sym (to_z-of_z w64 z fits) })
 
 pub step_written : (z : ℤ) → FitsSigned w64 z → IsChange (change_bits z) z
 unfolding change_bits
-step_written z fits = rows z (int_eq z (pos 0)) (fits_field 14 z) (fits_field 17 z) (fits_field 20 z) fits refl refl refl refl
+step_written z fits = rows z _ _ _ _ fits refl refl refl refl

@@ -10,10 +10,10 @@ use Rattle.std.proofs.Math.Pow.{pow_mono}
 low_zero : (t n : ℕ) → ((i : ℕ) → i < t → bit_at n i ≡ 0) → n % 2 ^ t ≡ 0
 low_zero zero n h = omega arith
 low_zero (suc t) n h =
-    let split : n % 2 ^ (1 + t) ≡ bit_at n t * 2 ^ t + n % 2 ^ t = mod-pow-add n 1 t in
+    let split = mod-pow-add n 1 t in
     let longer : n % 2 ^ suc t ≡ n % 2 ^ (1 + t) = ap (λ e. n % 2 ^ e) (omega arith) in
     let below = low_zero t n (λ i lt. h i (omega arith)) in
-    omega (arith, longer, split, below, ap (λ b. b * 2 ^ t) (h t (omega arith)))
+    omega (arith, ap (λ b. b * 2 ^ t) (h t (omega arith)))
 
 pub trailing_low : (n t : ℕ) → 0 < n → n < 2 ^ 64 → t ≤ trailing_zeros w64 n → n % 2 ^ t ≡ 0
 trailing_low n t some lt le =
@@ -24,7 +24,7 @@ pub leading_below : (n l : ℕ) → n < 2 ^ 64 → l ≤ leading_zeros w64 n →
 leading_below n l lt le =
     let top = leading_length 64 n lt in
     let small : top.0 ≤ 64 - l = omega (arith, top.1, le) in
-    omega (arith, top.2, pow_mono small)
+    omega (arith, pow_mono small)
 
 pub counts_apart : (n : ℕ) → 0 < n → n < 2 ^ 64 → leading_zeros w64 n + trailing_zeros w64 n < 64
 counts_apart n some lt =

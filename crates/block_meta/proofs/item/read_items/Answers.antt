@@ -11,7 +11,7 @@ returns-in_err-read g c =
     let i = c.loop-value.value-index in
     let lt : i < length vs = omega arith in
     let at : c.value-item.result ≡ get_or vs i c.value-item.result = search rules in
-    let h = each_refused (g.T.Item.reads c.args.list.now) vs i c.value-item.result c.loop-value.found c.in_err-read.field-0.0 lt at c.loop-value.invariant c.in_err-read.ensures in
+    let h = each_refused (g.T.Item.reads c.args.list.now) _ i _ _ _ lt at c.loop-value.invariant c.in_err-read.ensures in
     search rules
 
 pub loop-value-preserved : goal.loop-value-preserved
@@ -20,5 +20,5 @@ loop-value-preserved g c =
     let i = c.loop-value.value-index in
     let lt : i < length vs = omega arith in
     let at : c.value-item.result ≡ get_or vs i c.value-item.result = search rules in
-    let h = each_more (g.T.Item.reads c.args.list.now) vs i c.value-item.result c.loop-value.found c.in_ok-read.field-0 lt at c.loop-value.invariant c.in_ok-read.ensures in
+    let h = each_more (g.T.Item.reads c.args.list.now) _ i _ _ _ lt at c.loop-value.invariant c.in_ok-read.ensures in
     rw c.in_ok-push.ensures.ok h

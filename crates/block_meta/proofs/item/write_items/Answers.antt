@@ -1,4 +1,4 @@
-use Rattle.std.proofs.Common.{rules, ◌≡◌, ◌+◌, ◌<◌, ◌++◌, ◌∷◌, [], ℕ, List, Ok, length, take, get_or, sym, ap, ◌∙◌, arith}
+use Rattle.std.proofs.Common.{rules, ◌≡◌, ◌<◌, ◌++◌, ◌∷◌, [], ℕ, List, Ok, length, take, get_or, sym, ap, ◌∙◌, arith}
 use Rattle.std.proofs.lemmas.List.{take_more}
 use Rattle.std.proofs.lemmas.List.Elements.{All-push, All-nil}
 use Rattle.block_meta.proofs.Lists.{written_none, written_more}
@@ -13,7 +13,7 @@ loop-item-preserved g c =
     let i = c.loop-item.item-index in
     let lt : i < length xs = omega arith in
     let at : c.item-item.result ≡ get_or xs i c.item-item.result = search rules in
-    let more : take (i + 1) xs ≡ take i xs ++ c.item-item.result ∷ [] = take_more xs i c.item-item.result lt ∙ ap (λ x. take i xs ++ x ∷ []) (sym at) in
+    let more = take_more _ i _ lt ∙ ap (λ x. take i xs ++ x ∷ []) (sym at) in
     record {
       written = rw (c.in_ok-push.ensures.items, more) (written_more g.T.Item.written c.loop-item.made.items (take i xs) c.in_ok-write.field-0 c.item-item.result c.loop-item.invariant.written c.in_ok-write.ensures.value);
       again = rw more (All-push (λ x. (name : List ℕ) → g.T.Item.reads name (g.T.Item.written x) ≡ Ok x) (take i xs) c.item-item.result c.loop-item.invariant.again c.in_ok-write.ensures.again);

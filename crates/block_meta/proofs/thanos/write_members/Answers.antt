@@ -12,4 +12,4 @@ loop-label-preserved c =
     let l = c.label-item.result in
     let lt : i < length ls = omega arith in
     let at : l ≡ get_or ls i l = search rules in
-    members_more ls i l c.loop-label.members.entries c.put.new.map.entries c.in_ok-value.value c.requires lt at c.loop-label.invariant (search rules) (search rules)
+    members_more _ i l _ _ c.in_ok-value.value c.requires lt at c.loop-label.invariant (search rules) (search rules)

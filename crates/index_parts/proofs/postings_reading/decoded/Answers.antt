@@ -12,7 +12,7 @@ loop-front-init c = record {
 }
 
 pub push_reserved-requires : goal.push_reserved-requires
-push_reserved-requires c = let so_far = c.loop-front.invariant in omega (arith, so_far.count, so_far.room, c.loop-front-test.true)
+push_reserved-requires c = let so_far = c.loop-front.invariant in omega arith
 
 pub loop-front-preserved : goal.loop-front-preserved
 loop-front-preserved c =
@@ -28,4 +28,4 @@ loop-front-preserved c =
 pub returns-then-ascend-clause-decoded : goal.returns-then-ascend-clause-decoded
 returns-then-ascend-clause-decoded c =
     let so_far = c.loop-front.invariant in
-    all_risen (from_be_bytes w32) c.args.fronts.now c.loop-front.front-index c.loop-front.ascend c.loop-front.least _ c.loop-front-test.false so_far.items so_far.rise c.if-ascend.true
+    all_risen _ _ _ _ _ _ c.loop-front-test.false so_far.items so_far.rise c.if-ascend.true

@@ -1,8 +1,6 @@
 use Rattle.std.proofs.Common.{rules}
 use Rattle.reading_core.proofs.Counted.{loop_start, loop_step}
-use Rattle.index_parts.specs.PostingsReading.{posting_at}
 use Rattle.index_parts.specs.ListReading.{turns_at}
-use Rattle.index_parts.specs.declared.refusal.PartRefusal.TheVariants.{NoMemory}
 use Rattle.index_parts.proofs.Loops.{turns_exit, turns_end}
 use Rattle.index_parts.proofs.postings_reading.numbers_in_turn.Goals as goal
 
@@ -14,8 +12,8 @@ loop-preserved c = search (rules, loop_step)
 
 pub returns-in_err-number : goal.returns-in_err-number
 unfolding turns_at
-returns-in_err-number c = turns_exit posting_at NoMemory _ _ _ _ _ _ _ _ c.loop.invariant c.from_residual-in_err-number.ensures.1 c.in_err-number.ensures c.loop-test.true
+returns-in_err-number c = turns_exit _ _ _ _ _ _ _ _ _ _ c.loop.invariant c.from_residual-in_err-number.ensures.1 c.in_err-number.ensures c.loop-test.true
 
 pub returns : goal.returns
 unfolding turns_at
-returns c = turns_end posting_at _ _ _ _ _ c.loop.invariant c.loop-test.false c.loop.auto.counter-end
+returns c = turns_end _ _ _ _ _ _ c.loop.invariant c.loop-test.false c.loop.auto.counter-end

@@ -1,4 +1,4 @@
-use Rattle.std.proofs.Common.{◌≡◌, List, ℕ, refl, subst, true}
+use Rattle.std.proofs.Common.{◌≡◌, refl, subst, true}
 use Rattle.std.specs.Str.{is_utf8}
 use Rattle.std.proofs.lemmas.Str.{is_utf8-from_IsUtf8}
 use Rattle.index_parts.proofs.SameNames.{same_bytes}
@@ -8,4 +8,4 @@ pub row_of_same_name-requires-clause-same : goal.row_of_same_name-requires-claus
 row_of_same_name-requires-clause-same c = same_bytes _ _ _ _ c.as_bytes.ensures.value c.eq.ensures c.if-eq.true
 
 pub row_of_same_name-requires-clause-name : goal.row_of_same_name-requires-clause-name
-row_of_same_name-requires-clause-name c = subst (λ (n : List ℕ). is_utf8 n ≡ true) (same_bytes c.as_bytes.result.now _ _ _ refl c.eq.ensures c.if-eq.true) (is_utf8-from_IsUtf8 c.as_bytes.result.now c.as_bytes.ensures.utf8)
+row_of_same_name-requires-clause-name c = subst (λ n. is_utf8 n ≡ true) (same_bytes _ _ _ _ refl c.eq.ensures c.if-eq.true) (is_utf8-from_IsUtf8 _ c.as_bytes.ensures.utf8)

@@ -1,9 +1,7 @@
 use Rattle.std.proofs.Common.{rules}
 use Rattle.std.proofs.lemmas.List.{map_push}
 use Rattle.reading_core.proofs.Counted.{loop_start, loop_step}
-use Rattle.index_parts.specs.RowsReading.{row_at}
 use Rattle.index_parts.specs.ListReading.{turns_at}
-use Rattle.index_parts.specs.declared.refusal.PartRefusal.TheVariants.{NoMemory}
 use Rattle.index_parts.proofs.Loops.{turns_exit, turns_end}
 use Rattle.index_parts.proofs.postings_table.rows_of.Goals as goal
 
@@ -15,8 +13,8 @@ loop-preserved c = search (rules, loop_step, map_push)
 
 pub returns-in_err-row : goal.returns-in_err-row
 unfolding turns_at
-returns-in_err-row c = turns_exit row_at NoMemory _ _ _ _ _ _ _ _ c.loop.invariant c.from_residual-in_err-row.ensures.1 c.in_err-row.ensures c.loop-test.true
+returns-in_err-row c = turns_exit _ _ _ _ _ _ _ _ _ _ c.loop.invariant c.from_residual-in_err-row.ensures.1 c.in_err-row.ensures c.loop-test.true
 
 pub returns : goal.returns
 unfolding turns_at
-returns c = turns_end row_at _ _ _ _ _ c.loop.invariant c.loop-test.false c.loop.auto.counter-end
+returns c = turns_end _ _ _ _ _ _ c.loop.invariant c.loop-test.false c.loop.auto.counter-end

@@ -4,7 +4,7 @@ use Rattle.index_parts.proofs.row_search.place_of.Goals as goal
 
 pub loop-low-preserved-in-Less : goal.loop-low-preserved-in-Less
 loop-low-preserved-in-Less c =
-    between_raised _ _ _ c.loop-low.low _ _ _ _ c.requires c.loop-low.invariant (omega arith) (sym c.in-Some.ensures)
+    between_raised _ _ _ _ _ _ _ _ c.requires c.loop-low.invariant (omega arith) (sym c.in-Some.ensures)
     (sym c.compare_row.ensures ∙ c.in-Less.is) (omega arith)
 
 pub returns-in-Equal-clause-found : goal.returns-in-Equal-clause-found
@@ -12,5 +12,5 @@ returns-in-Equal-clause-found c = equal_row _ _ _ _ _ (sym c.in-Some.ensures) (s
 
 pub loop-low-preserved : goal.loop-low-preserved
 loop-low-preserved c =
-    between_lowered _ _ _ _ c.loop-low.high _ _ c.requires c.loop-low.invariant (omega arith) (omega arith) (sym c.in-Some.ensures)
+    between_lowered _ _ _ _ _ _ _ c.requires c.loop-low.invariant (omega arith) (omega arith) (sym c.in-Some.ensures)
     (sym c.compare_row.ensures ∙ c.in-Greater.is)

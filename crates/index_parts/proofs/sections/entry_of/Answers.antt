@@ -4,7 +4,7 @@ use Rattle.index_parts.proofs.Moves.{uvarint_size, framed_past, framed_answers, 
 use Rattle.index_parts.proofs.sections.entry_of.Goals as goal
 
 pub returns-then-at-index : goal.returns-then-at-index
-returns-then-at-index c = framed_past uvarint_at uvarint_size c.args.index.now c.args.at c.if-at-index.true
+returns-then-at-index c = framed_past uvarint_at uvarint_size _ _ c.if-at-index.true
 
 pub summed_content-requires : goal.summed_content-requires
 summed_content-requires c = search (rules, framed_within uvarint_at uvarint_size)

@@ -5,7 +5,7 @@ use Rattle.index_parts.proofs.Moves.{number_size, framed_past, framed_answers, f
 use Rattle.index_parts.proofs.sections.section_of.Goals as goal
 
 pub returns-then-at-index : goal.returns-then-at-index
-returns-then-at-index c = framed_past (number_at w32) number_size c.args.index.now c.args.at c.if-at-index.true
+returns-then-at-index c = framed_past (number_at w32) number_size _ _ c.if-at-index.true
 
 pub summed_content-requires : goal.summed_content-requires
 summed_content-requires c = search (rules, framed_within (number_at w32) number_size)

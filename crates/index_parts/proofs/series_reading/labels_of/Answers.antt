@@ -1,5 +1,4 @@
 use Rattle.std.proofs.Common.{rules}
-use Rattle.index_parts.specs.declared.refusal.PartRefusal.TheVariants.{NoMemory}
 use Rattle.index_parts.specs.SeriesReading.{label_at, labels_at}
 use Rattle.index_parts.proofs.Loops.{pairs_begin, pairs_more, pairs_end, pairs_exit}
 use Rattle.index_parts.proofs.series_reading.labels_of.Goals as goal
@@ -12,8 +11,8 @@ loop-preserved c = search (rules, pairs_more)
 
 pub returns : goal.returns
 unfolding labels_at
-returns c = pairs_end label_at c.loop.names.items c.loop.values.items c.loop.counter c.args.count c.args.cursor c.loop.cursor c.loop.invariant c.loop-test.false c.loop.auto.counter-end
+returns c = pairs_end label_at _ _ _ _ _ _ c.loop.invariant c.loop-test.false c.loop.auto.counter-end
 
 pub returns-in_err-name : goal.returns-in_err-name
 unfolding labels_at
-returns-in_err-name c = pairs_exit label_at NoMemory _ c.from_residual.result c.loop.names.items c.loop.values.items c.loop.counter c.args.count c.args.cursor c.loop.cursor c.in_err-name.field-0.0 c.loop.invariant c.from_residual.ensures.1 c.in_err-name.ensures c.loop-test.true
+returns-in_err-name c = pairs_exit label_at _ _ _ _ _ _ _ _ _ _ c.loop.invariant c.from_residual.ensures.1 c.in_err-name.ensures c.loop-test.true

@@ -3,4 +3,4 @@ use Rattle.index_v2.proofs.Spending.{no_section}
 use Rattle.index_v2.proofs.budget.section_bytes.Goals as goal
 
 pub returns-then-at-index : goal.returns-then-at-index
-returns-then-at-index c = no_section c.args.index.now c.args.at (omega (arith, c.if-at-index.true))
+returns-then-at-index c = no_section _ _ (omega arith)

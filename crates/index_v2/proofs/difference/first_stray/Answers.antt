@@ -4,13 +4,13 @@ use Rattle.index_v2.proofs.difference.first_stray.Goals as goal
 
 pub returns-then-not-are-clause-exact : goal.returns-then-not-are-clause-exact
 returns-then-not-are-clause-exact c =
-    stray_stop _ _ _ c.loop-place.place (record { name = c.in-Some.row.0.now; value = c.in-Some.row.1.now; offset = c.in-Some.row.2 }) c.members.result.now c.index-lists-place.result _ c.loop-place.invariant c.requires.one_each
+    stray_stop _ _ _ _ _ _ _ _ c.loop-place.invariant c.requires.one_each
     (sym c.in-Some.ensures) c.index-lists-place.is c.members.ensures c.are_of_row-are.ensures c.if-not-are.true
 
 pub loop-place-preserved : goal.loop-place-preserved
 loop-place-preserved c =
-    stray_step _ _ _ c.loop-place.place (record { name = c.in-Some.row.0.now; value = c.in-Some.row.1.now; offset = c.in-Some.row.2 }) c.members.result.now c.index-lists-place.result _ c.loop-place.invariant c.requires.one_each
+    stray_step _ _ _ _ _ _ _ _ c.loop-place.invariant c.requires.one_each
     (sym c.in-Some.ensures) c.index-lists-place.is c.members.ensures c.are_of_row-are.ensures c.if-not-are.false
 
 pub returns-clause-exact : goal.returns-clause-exact
-returns-clause-exact c = stray_end _ _ _ c.loop-place.place c.loop-place.invariant (omega arith)
+returns-clause-exact c = stray_end _ _ _ _ c.loop-place.invariant (omega arith)

@@ -1,4 +1,4 @@
-use Rattle.std.proofs.Common.{arith, refl, get_or, map}
+use Rattle.std.proofs.Common.{arith, refl}
 use Rattle.std.proofs.lemmas.List.{length-map}
 use Rattle.index_v2.specs.LentLabels.{as_label}
 use Rattle.index_v2.proofs.Differences.{gaps_start, gaps_end}
@@ -6,11 +6,11 @@ use Rattle.index_v2.proofs.LentOrder.{lent_step}
 use Rattle.index_v2.proofs.difference.gap_of.Goals as goal
 
 pub loop-label-init : goal.loop-label-init
-loop-label-init c = gaps_start c.args.rows.now c.args.lists.now c.args.number (map as_label c.args.labels.now)
+loop-label-init c = gaps_start _ _ _ _
 
 pub loop-label-preserved : goal.loop-label-preserved
 loop-label-preserved c =
-    lent_step _ _ _ c.args.labels.now c.loop-label.label-index (get_or c.args.labels.now c.loop-label.label-index _) _ _ _ _ c.loop-label.invariant c.loop-label-test.true refl c.gap_at-gap.ensures c.earlier-least.ensures
+    lent_step _ _ _ _ _ _ _ _ _ _ c.loop-label.invariant c.loop-label-test.true refl c.gap_at-gap.ensures c.earlier-least.ensures
 
 pub returns : goal.returns
-returns c = gaps_end _ _ _ (map as_label c.args.labels.now) c.loop-label.label-index _ c.loop-label.invariant (omega (arith, length-map c.args.labels.now as_label))
+returns c = gaps_end _ _ _ _ _ _ c.loop-label.invariant (omega (arith, length-map c.args.labels.now as_label))

@@ -3,10 +3,10 @@ use Rattle.index_v2.proofs.LabelTexts.{passing_steps, passing_stops, passing_end
 use Rattle.index_v2.proofs.series_labels.after_fault.Goals as goal
 
 pub returns-in_err-cursor : goal.returns-in_err-cursor
-returns-in_err-cursor c = answers_err _ c.from_residual.result c.in_err-cursor.field-0.0 _ c.from_residual.ensures.1 (passing_stops _ _ _ c.loop.counter c.loop.cursor _ c.loop.invariant c.in_err-cursor.ensures c.loop-test.true)
+returns-in_err-cursor c = answers_err _ _ _ _ c.from_residual.ensures.1 (passing_stops _ _ _ _ _ _ c.loop.invariant c.in_err-cursor.ensures c.loop-test.true)
 
 pub loop-preserved : goal.loop-preserved
-loop-preserved c = passing_steps _ _ _ c.loop.counter c.loop.cursor c.in_ok-cursor.field-0-1 c.in_ok-cursor.field-0-0 c.loop.invariant c.in_ok-cursor.ensures c.loop-test.true
+loop-preserved c = passing_steps _ _ _ _ _ _ _ c.loop.invariant c.in_ok-cursor.ensures c.loop-test.true
 
 pub returns : goal.returns
-returns c = passing_ends _ _ _ c.loop.counter c.loop.cursor c.loop.invariant c.loop-test.false
+returns c = passing_ends _ _ _ _ _ c.loop.invariant c.loop-test.false

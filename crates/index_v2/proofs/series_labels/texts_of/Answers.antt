@@ -7,21 +7,21 @@ use Rattle.index_v2.proofs.series_labels.texts_of.Goals as goal
 
 pub returns-in_err-name : goal.returns-in_err-name
 returns-in_err-name c =
-    gives_err _ _ c.from_residual-in_err-name.result c.in_err-name.field-0.0 _ c.from_residual-in_err-name.ensures.1
-    (texts_stop _ _ _ c.loop-place.before.now c.loop-place.place (map as_label c.loop-place.labels.items) c.loop-place.cursor _ c.loop-place.invariant.0 c.in_err-name.ensures c.loop-place-test.true)
+    gives_err _ _ _ _ _ c.from_residual-in_err-name.ensures.1
+    (texts_stop _ _ _ _ _ _ _ _ c.loop-place.invariant.0 c.in_err-name.ensures c.loop-place-test.true)
 
 pub returns-in-Err : goal.returns-in-Err
 returns-in-Err c =
-    gives_answered _ _ c.after_fault.result _ _
-    (texts_fault _ _ _ c.loop-place.before.now c.loop-place.place _ (map as_label c.loop-place.labels.items) c.loop-place.cursor c.in_ok-name.rest c.in_ok-name.name c.in_ok-name.value c.in-Err.fault c.loop-place.invariant.0 c.in_ok-name.ensures c.in-Err.ensures c.loop-place-test.true refl)
+    gives_answered _ _ _ _ _
+    (texts_fault _ _ _ _ _ _ _ _ _ _ _ _ c.loop-place.invariant.0 c.in_ok-name.ensures c.in-Err.ensures c.loop-place-test.true refl)
     c.after_fault.ensures
 
 pub loop-place-preserved : goal.loop-place-preserved
 loop-place-preserved c = (
-  texts_step _ _ _ c.loop-place.before.now c.loop-place.place _ (map as_label c.loop-place.labels.items) _ c.loop-place.cursor c.in_ok-name.rest c.in_ok-name.name c.in_ok-name.value (as_label c.in-Ok.label) c.loop-place.invariant.0 c.in_ok-name.ensures c.in-Ok.ensures c.loop-place-test.true refl
-      (ap (map as_label) c.in_ok-push-in-Ok.ensures.items ∙ map_push as_label c.loop-place.labels.items c.in-Ok.label),
+  texts_step _ _ _ _ _ _ _ _ _ _ _ _ _ c.loop-place.invariant.0 c.in_ok-name.ensures c.in-Ok.ensures c.loop-place-test.true refl
+      (ap (map as_label) c.in_ok-push-in-Ok.ensures.items ∙ map_push as_label _ _),
   search rules,
 )
 
 pub returns : goal.returns
-returns c = texts_end _ _ _ c.loop-place.before.now c.loop-place.place (map as_label c.loop-place.labels.items) c.loop-place.cursor c.loop-place.invariant.0 c.loop-place-test.false
+returns c = texts_end _ _ _ _ _ _ _ c.loop-place.invariant.0 c.loop-place-test.false

@@ -2,19 +2,19 @@ use Rattle.std.proofs.Common.{refl, arith, sum_by, ap}
 use Rattle.std.proofs.lemmas.List.{take_more, take_all}
 use Rattle.index_v2.proofs.WholeLoops.{series_step, series_stop, series_end, gives_stop}
 use Rattle.index_v2.proofs.Spending.{spent, texts_spent}
-use Rattle.index_v2.specs.Budget.{members_of, series_bytes, text_bytes}
+use Rattle.index_v2.specs.Budget.{series_bytes}
 use Rattle.index_v2.proofs.whole.all_series.Goals as goal
 
 pub returns-in_err-series-clause-exact : goal.returns-in_err-series-clause-exact
 returns-in_err-series-clause-exact c =
-    gives_stop _ _ c.from_residual.result c.in_err-series.field-0.0 _ _ c.from_residual.ensures.1 c.in_err-series.ensures
+    gives_stop _ _ _ _ _ _ c.from_residual.ensures.1 c.in_err-series.ensures
     (λ refused. series_stop _ _ _ c.loop-number.number-index _ _ _ _ c.loop-number.invariant.0 c.loop-number-test.true refl c.as_slice.ensures.value refused)
 
 pub loop-number-preserved : goal.loop-number-preserved
 loop-number-preserved c = (
-  series_step _ _ _ c.loop-number.number-index _ _ _ _ _ _ c.loop-number.invariant.0 c.loop-number-test.true refl refl c.as_slice.ensures.value c.in_ok-series.ensures c.in_ok-push.ensures.items,
-  spent members_of (series_bytes c.args.index.now) _ _ _ _ _ _ _ _ _ _ _ _ c.loop-number.invariant.1 c.in_ok-push.ensures.items (take_more c.args.numbers.now c.loop-number.number-index 0 c.loop-number-test.true) c.series_bytes.ensures c.in_ok-between.ensures c.members_of.ensures c.in_ok-left.ensures,
-  texts_spent text_bytes _ _ _ _ _ _ _ c.loop-number.invariant.2 c.in_ok-push.ensures.items c.in_ok-size.ensures c.in_ok-texts.ensures,
+  series_step _ _ _ _ _ _ _ _ _ _ c.loop-number.invariant.0 c.loop-number-test.true refl refl c.as_slice.ensures.value c.in_ok-series.ensures c.in_ok-push.ensures.items,
+  spent _ _ _ _ _ _ _ _ _ _ _ _ _ _ c.loop-number.invariant.1 c.in_ok-push.ensures.items (take_more _ _ 0 c.loop-number-test.true) c.series_bytes.ensures c.in_ok-between.ensures c.members_of.ensures c.in_ok-left.ensures,
+  texts_spent _ _ _ _ _ _ _ _ c.loop-number.invariant.2 c.in_ok-push.ensures.items c.in_ok-size.ensures c.in_ok-texts.ensures,
 )
 
 pub returns-clause-exact : goal.returns-clause-exact

@@ -4,7 +4,7 @@ use Rattle.index_v2.proofs.LentOrder.{one_copied}
 use Rattle.index_v2.proofs.whole.copies_of.Goals as goal
 
 pub loop-one-preserved : goal.loop-one-preserved
-loop-one-preserved c = one_copied c.args.series.now c.loop-one.copies.items _ c.loop-one.one-index c.one-item.result c.in_ok-copy.copy _ c.loop-one.invariant c.loop-one-test.true c.one-item.is c.in_ok-copy.ensures c.in_ok-push.ensures.items
+loop-one-preserved c = one_copied _ _ _ _ _ _ _ c.loop-one.invariant c.loop-one-test.true c.one-item.is c.in_ok-copy.ensures c.in_ok-push.ensures.items
 
 pub returns : goal.returns
 returns c = c.from_vec.ensures ∙ c.loop-one.invariant ∙ take_all c.loop-one.one-index c.args.series.now (omega arith)

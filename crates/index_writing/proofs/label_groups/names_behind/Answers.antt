@@ -9,7 +9,7 @@ loop-row-init c = groups_start have_same_name join_values name_kinds values_of_r
 
 pub loop-row-preserved : goal.loop-row-preserved
 loop-row-preserved c =
-    groups_next have_same_name join_values name_kinds values_of_row _ _ _ _ _ c.args.others.now c.loop-row.row-index c.row-item.result c.row-item.result c.loop-row.invariant c.loop-row-test.true c.row-item.is c.in_ok-name-2.ensures
+    groups_next have_same_name join_values name_kinds values_of_row _ _ _ _ _ _ _ _ _ c.loop-row.invariant c.loop-row-test.true c.row-item.is c.in_ok-name-2.ensures
 
 pub returns : goal.returns
-returns c = groups_end have_same_name join_values name_kinds values_of_row _ _ _ _ c.args.others.now c.loop-row.row-index c.loop-row.invariant c.loop-row-test.false c.in_ok-push.ensures.items
+returns c = groups_end have_same_name join_values name_kinds values_of_row _ _ _ _ _ _ c.loop-row.invariant c.loop-row-test.false c.in_ok-push.ensures.items

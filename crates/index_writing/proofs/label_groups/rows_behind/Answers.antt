@@ -9,7 +9,7 @@ loop-entry-init c = groups_start have_same_label join_series label_kinds row_of_
 
 pub loop-entry-preserved : goal.loop-entry-preserved
 loop-entry-preserved c =
-    groups_next have_same_label join_series label_kinds row_of_entry _ _ _ _ _ c.args.others.now c.loop-entry.entry-index _ _ c.loop-entry.invariant c.loop-entry-test.true refl c.in_ok-row-2.ensures
+    groups_next have_same_label join_series label_kinds row_of_entry _ _ _ _ _ _ _ _ _ c.loop-entry.invariant c.loop-entry-test.true refl c.in_ok-row-2.ensures
 
 pub returns : goal.returns
-returns c = groups_end have_same_label join_series label_kinds row_of_entry _ _ _ _ c.args.others.now c.loop-entry.entry-index c.loop-entry.invariant c.loop-entry-test.false c.in_ok-push.ensures.items
+returns c = groups_end have_same_label join_series label_kinds row_of_entry _ _ _ _ _ _ c.loop-entry.invariant c.loop-entry-test.false c.in_ok-push.ensures.items

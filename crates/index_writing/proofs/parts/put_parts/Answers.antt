@@ -1,27 +1,27 @@
 use Rattle.std.proofs.Common.{ℕ, sym, ap, ◌∙◌}
-use Rattle.index_writing.specs.Written.{up_to_symbols, with_series, numbers_behind, parts_of}
+use Rattle.index_writing.specs.Written.{numbers_behind}
 use Rattle.index_writing.proofs.AlignedTexts.{makes_longer}
 use Rattle.index_writing.proofs.PartsLaws.{front_as, storable, as_many_numbers, strict_as}
 use Rattle.index_writing.proofs.Standing.{symbols_still}
 use Rattle.index_writing.proofs.parts.put_parts.Goals as goal
 
 pub raws_of-requires : goal.raws_of-requires
-raws_of-requires c = strict_as c.args.list.now c.in_ok-symbols.symbols c.members.result.now c.in_ok-symbols.ensures.symbols c.members.ensures
+raws_of-requires c = strict_as _ _ _ c.in_ok-symbols.ensures.symbols c.members.ensures
 
 pub returns-in_err-symbols_end-clause-makes : goal.returns-in_err-symbols_end-clause-makes
 returns-in_err-symbols_end-clause-makes c =
-    makes_longer ℕ c.from_residual-in_err-symbols_end.result c.in_err-symbols_end.field-0.0 c.put_front.new.out.items _ (up_to_symbols c.in_ok-symbols.symbols) (with_series (parts_of c.args.list.now)) c.from_residual-in_err-symbols_end.ensures.1 c.in_err-symbols_end.ensures.makes (front_as c.args.list.now c.in_ok-symbols.symbols c.in_ok-symbols.ensures.symbols)
+    makes_longer ℕ _ _ _ _ _ _ c.from_residual-in_err-symbols_end.ensures.1 c.in_err-symbols_end.ensures.makes (front_as _ _ c.in_ok-symbols.ensures.symbols)
 
 pub put_all_series-requires-clause-lawful : goal.put_all_series-requires-clause-lawful
-put_all_series-requires-clause-lawful c = storable c.members.result.now c.args.list.now c.as_slice.result.now c.requires.lawful (c.as_slice.ensures.value ∙ c.in_ok-series.ensures)
+put_all_series-requires-clause-lawful c = storable _ _ _ c.requires.lawful (c.as_slice.ensures.value ∙ c.in_ok-series.ensures)
 
 pub rows_of-requires-clause-as_many : goal.rows_of-requires-clause-as_many
 rows_of-requires-clause-as_many c =
-    as_many_numbers _ c.as_slice-2.result.now c.members-2.result.now (c.members-2.ensures ∙ c.in_ok-numbers.ensures.numbers ∙ ap (numbers_behind c.put_front.new.out.items) (c.as_slice.ensures.value ∙ sym c.as_slice-2.ensures.value))
+    as_many_numbers _ _ _ (c.members-2.ensures ∙ c.in_ok-numbers.ensures.numbers ∙ ap (numbers_behind c.put_front.new.out.items) (c.as_slice.ensures.value ∙ sym c.as_slice-2.ensures.value))
 
 pub rows_of-requires-clause-lawful : goal.rows_of-requires-clause-lawful
-rows_of-requires-clause-lawful c = storable c.members.result.now c.args.list.now c.as_slice-2.result.now c.requires.lawful (c.as_slice-2.ensures.value ∙ c.in_ok-series.ensures)
+rows_of-requires-clause-lawful c = storable _ _ _ c.requires.lawful (c.as_slice-2.ensures.value ∙ c.in_ok-series.ensures)
 
 pub returns-clause-symbols : goal.returns-clause-symbols
 returns-clause-symbols c =
-    symbols_still c.args.list.now c.in_ok-symbols.symbols c.put_front.new.out.items c.put_all_series.new.out.items _ c.in_ok-symbols.ensures.symbols c.in_ok-numbers.ensures.makes.0 c.in_ok-symbols_end.ensures.stands
+    symbols_still _ _ _ _ _ c.in_ok-symbols.ensures.symbols c.in_ok-numbers.ensures.makes.0 c.in_ok-symbols_end.ensures.stands

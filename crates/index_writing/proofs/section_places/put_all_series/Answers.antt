@@ -6,19 +6,19 @@ use Rattle.index_writing.proofs.section_places.put_all_series.Goals as goal
 
 pub returns-in_err-put_series-clause-makes : goal.returns-in_err-put_series-clause-makes
 returns-in_err-put_series-clause-makes c =
-    so_far_stop 16 series_text (λ place. place / 16) c.from_residual.result c.in_err-put_series.field-0.0 _ [] c.args.series.now c.loop-one.one-index c.loop-one.out.items c.loop-one.numbers c.put_series.new.out.items _ c.one-item.result c.one-item.result c.loop-one.invariant.0 c.loop-one-test.true c.one-item.is c.in_err-put_series.ensures.makes c.from_residual.ensures.1
+    so_far_stop _ series_text (λ place. place / 16) _ _ _ _ _ _ _ _ _ _ _ _ c.loop-one.invariant.0 c.loop-one-test.true c.one-item.is c.in_err-put_series.ensures.makes c.from_residual.ensures.1
 
 pub loop-one-preserved : goal.loop-one-preserved
 loop-one-preserved c = (
   so_far_step 16 series_text (λ place. place / 16) _ [] c.args.series.now c.loop-one.one-index c.loop-one.out.items c.loop-one.numbers c.put_series.new.out.items _ c.one-item.result c.one-item.result _ c.loop-one.invariant.0 c.loop-one-test.true c.one-item.is c.in_ok-put_series.ensures.makes c.in_ok-put_series.ensures.number c.in_ok-push.ensures.ok,
-  stands_next c.args.series.now c.loop-one.one-index c.loop-one.out.items c.put_series.new.out.items c.loop-one.numbers _ c.one-item.result _ c.loop-one.invariant.1 c.loop-one-test.true c.one-item.is c.in_ok-put_series.ensures.makes.0 c.in_ok-put_series.ensures.number c.in_ok-push.ensures.ok c.in_ok-put_series.ensures.stands,
+  stands_next _ _ _ _ _ _ _ _ c.loop-one.invariant.1 c.loop-one-test.true c.one-item.is c.in_ok-put_series.ensures.makes.0 c.in_ok-put_series.ensures.number c.in_ok-push.ensures.ok c.in_ok-put_series.ensures.stands,
 )
 
 pub returns-clause-makes : goal.returns-clause-makes
-returns-clause-makes c = so_far_end 16 series_text (λ place. place / 16) (List ℕ) _ [] c.args.series.now c.loop-one.one-index c.loop-one.out.items c.loop-one.numbers c.loop-one.numbers c.loop-one.invariant.0 c.loop-one-test.false
+returns-clause-makes c = so_far_end _ series_text (λ place. place / 16) (List ℕ) _ _ _ _ _ _ c.loop-one.numbers c.loop-one.invariant.0 c.loop-one-test.false
 
 pub returns-clause-numbers : goal.returns-clause-numbers
-returns-clause-numbers c = so_far_places 16 series_text (λ place. place / 16) _ [] c.args.series.now c.loop-one.one-index c.loop-one.out.items c.loop-one.numbers c.loop-one.invariant.0 c.loop-one-test.false
+returns-clause-numbers c = so_far_places _ series_text (λ place. place / 16) _ _ _ _ _ _ c.loop-one.invariant.0 c.loop-one-test.false
 
 pub returns-clause-stand : goal.returns-clause-stand
-returns-clause-stand c = stands_end c.args.series.now c.loop-one.one-index c.loop-one.out.items c.loop-one.numbers c.loop-one.invariant.1 c.loop-one-test.false
+returns-clause-stand c = stands_end _ _ _ _ c.loop-one.invariant.1 c.loop-one-test.false

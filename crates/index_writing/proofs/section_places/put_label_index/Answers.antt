@@ -1,5 +1,4 @@
 use Rattle.std.proofs.Common.{arith}
-use Rattle.index_parts.specs.LabelIndices.{label_index_text}
 use Rattle.index_writing.proofs.AlignedTexts.{behind_padding}
 use Rattle.index_writing.proofs.SectionSizes.{values_large}
 use Rattle.index_writing.proofs.TableRows.{refused_stop}
@@ -7,5 +6,5 @@ use Rattle.index_writing.proofs.section_places.put_label_index.Goals as goal
 
 pub returns-in_err-place-clause-makes : goal.returns-in_err-place-clause-makes
 returns-in_err-place-clause-makes c =
-    refused_stop c.from_residual.result c.in_err-place.field-0.0 _ _ _ c.from_residual.ensures.1
-    (λ large. let many = c.in_err-place.ensures.large large in behind_padding 4 c.args.out.now.items (label_index_text c.args.values.now) (λ before. values_large before c.args.values.now (omega arith))) (λ longer. longer)
+    refused_stop _ _ _ _ _ c.from_residual.ensures.1
+    (λ large. let many = c.in_err-place.ensures.large large in behind_padding 4 _ _ (λ before. values_large before c.args.values.now (omega arith))) (λ longer. longer)

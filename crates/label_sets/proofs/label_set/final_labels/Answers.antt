@@ -7,4 +7,4 @@ pub returns : goal.returns
 returns c = final_sorted c.new-kept.ensures.items c.labels.ensures.value c.labels-2.ensures.value c.labels-3.ensures.value c.members.ensures c.members-2.ensures c.in_ok-copy_kept.ensures c.in_ok-copy_kept-2.ensures c.in_ok-sort_by_name.ensures.ordered
 
 pub invariant_of-result : goal.invariant_of-result
-invariant_of-result c = subst IsLabelSet (sym (returns c)) (IsLabelSet-final c.args.labels.now c.args.external.now c.args.replicas.now c.labels-2.ensures.lawful c.labels.ensures.lawful)
+invariant_of-result c = subst IsLabelSet (sym (returns c)) (IsLabelSet-final _ _ _ c.labels-2.ensures.lawful c.labels.ensures.lawful)

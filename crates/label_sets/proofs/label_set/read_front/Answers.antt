@@ -6,4 +6,4 @@ pub invariant_of-result : goal.invariant_of-result
 invariant_of-result c = read_set-lawful _ _ _ c.in_ok-labels.ensures
 
 pub returns-clause-cut : goal.returns-clause-cut
-returns-clause-cut c = set_cut c.args.text.now c.as_bytes.result.now _ _ c.utf8.text c.as_bytes.ensures.value c.in_ok-labels.ensures
+returns-clause-cut c = set_cut _ _ _ _ c.utf8.text c.as_bytes.ensures.value c.in_ok-labels.ensures

@@ -5,11 +5,11 @@ use Rattle.label_sets.proofs.ReadSets.{concluded_repeat, concluded_stop, name_fr
 use Rattle.label_sets.proofs.notation.first_refusal.Goals as goal
 
 pub returns-then-repeats_with-clause-first : goal.returns-then-repeats_with-clause-first
-returns-then-repeats_with-clause-first c = concluded_repeat c.args.total c.args.labels.items _ c.args.stop.refusal c.args.stop.pair.now c.split_at.result.0.now c.in_ok-sort_by_name.ensures.ordered
+returns-then-repeats_with-clause-first c = concluded_repeat _ _ _ _ _ _ c.in_ok-sort_by_name.ensures.ordered
     (name_front _ _ _ c.name_length.ensures.value c.split_at.ensures.front)
     (ap (λ ls. repeats (c.split_at.result.0.now ∷ names_of ls)) (sym c.as_slice.ensures.value) ∙ sym c.if-repeats_with.ensures)
 
 pub returns-clause-first : goal.returns-clause-first
-returns-clause-first c = concluded_stop c.args.total c.args.labels.items _ c.args.stop.refusal _ c.args.stop.pair.now c.split_at.result.0.now c.in_ok-sort_by_name.ensures.ordered
+returns-clause-first c = concluded_stop _ _ _ _ _ _ _ c.in_ok-sort_by_name.ensures.ordered
     (name_front _ _ _ c.name_length.ensures.value c.split_at.ensures.front)
     (ap (λ ls. repeats (c.split_at.result.0.now ∷ names_of ls)) (sym c.as_slice.ensures.value) ∙ sym c.if-repeats_with.ensures) c.placed_at.ensures

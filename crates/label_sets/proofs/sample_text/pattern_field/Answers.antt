@@ -5,7 +5,7 @@ use Rattle.label_sets.proofs.Signs.{two_before, none_stand, all_stand}
 use Rattle.label_sets.proofs.sample_text.pattern_field.Goals as goal
 
 pub loop-pair-init : goal.loop-pair-init
-loop-pair-init c = record { size = refl; few = omega arith; whole = none_stand c.args.pattern (replicate 40 32) refl }
+loop-pair-init c = record { size = refl; few = omega arith; whole = none_stand _ (replicate 40 32) refl }
 
 pub loop-pair-preserved : goal.loop-pair-preserved
 loop-pair-preserved c =
@@ -18,4 +18,4 @@ loop-pair-preserved c =
     }
 
 pub returns : goal.returns
-returns c = all_stand c.args.pattern c.loop-pair.field c.loop-pair.pair c.loop-pair.rest c.loop-pair-test.false c.loop-pair.invariant.whole
+returns c = all_stand _ _ _ _ c.loop-pair-test.false c.loop-pair.invariant.whole

@@ -7,4 +7,4 @@ pub returns-clause-text : goal.returns-clause-text
 returns-clause-text c =
     let made = c.pattern_field-field.result in
     let written = c.write_time-start.ensures.written ∙ ap (λ t. signed_decimal t ++ drop 23 (set made 23 58)) (to_z-of_z c.ranges.time) in
-    spaced c.args.time c.args.pattern made c.write_time-start.new.field c.write_time-start.result (omega arith) (omega arith) (omega arith) c.pattern_field-field.ensures written c.ranges.time
+    spaced _ _ made c.write_time-start.new.field c.write_time-start.result (omega arith) (omega arith) (omega arith) c.pattern_field-field.ensures written c.ranges.time

@@ -1,4 +1,4 @@
-use Rattle.std.proofs.Common.{◌≡◌, ◌+◌, ◌-◌, ◌++◌, List, ℕ, drop, ap, arith, rules, to_z-of_z}
+use Rattle.std.proofs.Common.{◌≡◌, ◌+◌, ◌-◌, ◌++◌, drop, ap, arith, rules, to_z-of_z}
 use Rattle.std.proofs.lemmas.Fmt.{length-decimal-le}
 use Rattle.std.proofs.lemmas.List.{drop-set}
 use Rattle.itoa.proofs.Decimal.{minus_first}
@@ -26,4 +26,4 @@ returns-clause-written c =
     let e : w.result - 1 + 1 ≡ w.result = omega arith in
     let back = to_z-of_z c.ranges.time in
     rw (drop-set w.new.buf (w.result - 1) 45 (omega arith), e, w.ensures.written, c.unsigned_abs.ensures.value, back)
-    (ap (λ (text : List ℕ). text ++ drop 23 c.args.field.now) (minus_first c.args.time (rw back at c.if-time-ge0.false)))
+    (ap (λ text. text ++ drop 23 c.args.field.now) (minus_first _ (rw back at c.if-time-ge0.false)))

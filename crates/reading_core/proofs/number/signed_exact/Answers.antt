@@ -3,7 +3,7 @@ use Rattle.reading_core.proofs.ParsedSigned.{parsed_signed, signed_not}
 use Rattle.reading_core.proofs.number.signed_exact.Goals as goal
 
 pub returns : goal.returns
-returns c = c.or.ensures ∙ parsed_signed c.args.text.now c.parse.result (rw c.as_bytes.ensures.value at (sym c.if-not-are_signed_digits.ensures)) c.parse.ensures.value.0
+returns c = c.or.ensures ∙ parsed_signed _ _ (rw c.as_bytes.ensures.value at (sym c.if-not-are_signed_digits.ensures)) c.parse.ensures.value.0
 
 pub returns-then-not-are_signed_digits : goal.returns-then-not-are_signed_digits
-returns-then-not-are_signed_digits c = sym (signed_not c.args.text.now (rw c.as_bytes.ensures.value at (sym c.if-not-are_signed_digits.ensures)))
+returns-then-not-are_signed_digits c = sym (signed_not _ (rw c.as_bytes.ensures.value at (sym c.if-not-are_signed_digits.ensures)))

@@ -1,4 +1,4 @@
-use Rattle.std.proofs.Common.{◌++◌, length, List, ℕ}
+use Rattle.std.proofs.Common.{◌++◌, length}
 use Rattle.index_parts.specs.LabelIndices.{label_index_content}
 use Rattle.section_writers.proofs.Writing.{same_content, values_few, values_stand}
 use Rattle.std.proofs.lemmas.Result.{on_ok_weaker}
@@ -6,10 +6,10 @@ use Rattle.section_writers.proofs.Sizes.{values_small}
 use Rattle.section_writers.proofs.list_writing.write_label_index.Goals as goal
 
 pub values_content-requires-clause-count : goal.values_content-requires-clause-count
-values_content-requires-clause-count c = rw c.members.ensures (values_few c.args.values.now (values_small c.args.values.now c.requires.count))
+values_content-requires-clause-count c = rw c.members.ensures (values_few _ (values_small _ c.requires.count))
 
 pub returns-clause-stands : goal.returns-clause-stands
-returns-clause-stands c = λ after. on_ok_weaker c.append_section.result (λ section. values_stand (c.append_section.new.out.items ++ after) (length c.args.out.now.items) c.args.values.now (values_small c.args.values.now c.requires.count) c.requires.numbers (same_content (λ (x : List ℕ). label_index_content x) (c.append_section.new.out.items ++ after) (length c.args.out.now.items) c.as_slice.result.now c.in_ok-content.content.items c.members.result.now c.args.values.now section c.as_slice.ensures.value c.in_ok-content.ensures c.members.ensures)) (c.append_section.ensures.stands after)
+returns-clause-stands c = λ after. on_ok_weaker c.append_section.result (λ section. values_stand (c.append_section.new.out.items ++ after) (length c.args.out.now.items) c.args.values.now (values_small _ c.requires.count) c.requires.numbers (same_content (λ x. label_index_content x) _ _ _ _ _ _ section c.as_slice.ensures.value c.in_ok-content.ensures c.members.ensures)) (c.append_section.ensures.stands after)
 
 pub append_section-requires : goal.append_section-requires
-append_section-requires c = rw (c.as_slice.ensures.value, c.in_ok-content.ensures, c.members.ensures) (values_small c.args.values.now c.requires.count)
+append_section-requires c = rw (c.as_slice.ensures.value, c.in_ok-content.ensures, c.members.ensures) (values_small _ c.requires.count)

@@ -1,4 +1,4 @@
-use Rattle.std.proofs.Common.{◌≡◌, ◌∷◌, ◌-◌, ◌∙◌, List, length, map, take, drop, refl, ap, arith, rules}
+use Rattle.std.proofs.Common.{◌∙◌, List, map, refl, ap, arith, rules}
 use Rattle.std.specs.Int.{w64}
 use Rattle.std.specs.Prelude.{FitsSigned}
 use Rattle.std.specs.List.{flat_map}
@@ -13,8 +13,8 @@ pub returns : goal.returns
 returns c =
     let begins : FitsSigned w64 c.least_time.result = search rules in
     let ends : FitsSigned w64 c.greatest_time.result = search rules in
-    let inputs : c.args.inputs.now ≡ c.first-item.result ∷ take (length c.members.result.now - 1) (drop 1 c.members.result.now) =
-    first_and_others c.args.inputs.now c.members.result.now c.first-item.result c.members.ensures (omega (arith, c.in-len1-up.len_at_least)) c.first-item.is in
+    let inputs =
+    first_and_others _ _ _ c.members.ensures (omega arith) c.first-item.is in
     record {
       ulid_is = refl;
       begin = least_of c.args.inputs.now _ _ _ _ inputs (to_z-of_z w64 c.least_time.result begins) c.least_time.ensures;

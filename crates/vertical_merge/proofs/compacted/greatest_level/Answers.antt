@@ -3,8 +3,8 @@ use Rattle.vertical_merge.proofs.Extremes.{level_alone, level_more}
 use Rattle.vertical_merge.proofs.compacted.greatest_level.Goals as goal
 
 pub loop-meta-init : goal.loop-meta-init
-loop-meta-init c = level_alone c.args.first.now _ refl
+loop-meta-init c = level_alone _ _ refl
 
 pub loop-meta-preserved : goal.loop-meta-preserved
 loop-meta-preserved c =
-    level_more c.args.first.now c.args.others.now c.loop-meta.meta-index c.meta-item.result c.loop-meta.greatest _ c.loop-meta-test.true c.meta-item.is c.max-greatest.ensures c.loop-meta.invariant
+    level_more _ _ _ _ _ _ c.loop-meta-test.true c.meta-item.is c.max-greatest.ensures c.loop-meta.invariant

@@ -8,10 +8,10 @@ use Rattle.vertical_merge.proofs.compacted.least_time.Goals as goal
 pub loop-meta-init : goal.loop-meta-init
 loop-meta-init c =
     let fits : FitsSigned w64 c.args.first.now.min_time = search rules in
-    least_alone (λ m. m.min_time) c.args.first.now _ (to_z-of_z w64 c.args.first.now.min_time fits)
+    least_alone _ _ _ (to_z-of_z w64 c.args.first.now.min_time fits)
 
 pub loop-meta-preserved : goal.loop-meta-preserved
 loop-meta-preserved c =
     let fits : FitsSigned w64 c.earlier_begin-least.result = search rules in
-    least_more (λ m. m.min_time) c.args.first.now c.args.others.now c.loop-meta.meta-index c.meta-item.result _ _ c.loop-meta-test.true c.meta-item.is
+    least_more _ _ _ _ _ _ _ c.loop-meta-test.true c.meta-item.is
     (to_z-of_z w64 c.earlier_begin-least.result fits ∙ c.earlier_begin-least.ensures) c.loop-meta.invariant

@@ -6,5 +6,5 @@ use Rattle.vertical_merge.proofs.compacted.members.Goals as goal
 pub returns-clause-increasing : goal.returns-clause-increasing
 returns-clause-increasing c =
     let same : c.from_vec.result ≡ c.args.set.now.keys = search rules in
-    let o = IsStrictlyIncreasing-from_sorted c.args.set.now.keys c.iter.ensures.ordered in
+    let o = IsStrictlyIncreasing-from_sorted _ c.iter.ensures.ordered in
     subst IsStrictlyIncreasing (sym same) o

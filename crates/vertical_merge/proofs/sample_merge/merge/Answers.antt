@@ -5,10 +5,10 @@ use Rattle.vertical_merge.proofs.sample_merge.merge.Goals as goal
 
 pub returns-then-start-len : goal.returns-then-start-len
 returns-then-start-len c = IfOk-weaker c.appended.result _ _ (λ made is. all_behind made.items c.as_slice.result.now c.args.samples.items c.args.others.now c.start_of-start.result
-    c.requires.ascend c.requires.others (omega (arith, c.if-start-len.true, c.len.ensures, c.args.samples.ok)) c.as_slice.ensures.value c.start_of-start.ensures.before is) c.appended.ensures
+    c.requires.ascend c.requires.others (omega arith) c.as_slice.ensures.value c.start_of-start.ensures.before is) c.appended.ensures
 
 pub with_merged-requires-clause-ascend : goal.with_merged-requires-clause-ascend
-with_merged-requires-clause-ascend c = tail_ascends _ _ c.args.samples.items c.start_of-start.result c.requires.ascend
+with_merged-requires-clause-ascend c = tail_ascends _ _ _ _ c.requires.ascend
     (c.split_at.ensures.back ∙ ap (drop c.start_of-start.result) c.as_slice-2.ensures.value) refl
 
 pub returns : goal.returns

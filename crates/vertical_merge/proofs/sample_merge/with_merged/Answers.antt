@@ -7,7 +7,7 @@ pub loop-here-preserved-then-is_before : goal.loop-here-preserved-then-is_before
 loop-here-preserved-then-is_before c = (
   search rules,
   c.loop-here.invariant.1,
-  one_more c.args.samples.now c.args.others.now c.loop-here.made.items _ _ c.loop-here.here c.loop-here.there _ _ c.requires.ascend c.requires.others
+  one_more _ _ _ _ _ _ _ _ _ c.requires.ascend c.requires.others
       c.loop-here-test.true c.if-there-others.true (sym c.if-is_before.ensures) c.in_ok-push.ensures.items c.loop-here.invariant.2,
 )
 
@@ -15,7 +15,7 @@ pub loop-here-preserved-then-is_before-2 : goal.loop-here-preserved-then-is_befo
 loop-here-preserved-then-is_before-2 c = (
   c.loop-here.invariant.0,
   search rules,
-  other_more c.args.samples.now c.args.others.now c.loop-here.made.items _ _ c.loop-here.here c.loop-here.there _ _ c.requires.ascend c.requires.others
+  other_more _ _ _ _ _ _ _ _ _ c.requires.ascend c.requires.others
       c.loop-here-test.true c.if-there-others.true (sym c.if-is_before-2.ensures) c.in_ok-push-2.ensures.items c.loop-here.invariant.2,
 )
 
@@ -23,12 +23,12 @@ pub loop-here-preserved : goal.loop-here-preserved
 loop-here-preserved c = (
   search rules,
   search rules,
-  both_more c.args.samples.now c.args.others.now c.loop-here.made.items _ _ c.loop-here.here c.loop-here.there _ _ c.requires.ascend c.requires.others
+  both_more _ _ _ _ _ _ _ _ _ c.requires.ascend c.requires.others
       c.loop-here-test.true c.if-there-others.true (sym c.if-is_before.ensures) (sym c.if-is_before-2.ensures) c.in_ok-push-3.ensures.items c.loop-here.invariant.2,
 )
 
 pub returns : goal.returns
-returns c = all_put c.args.samples.now c.args.others.now c.loop-here.made.items c.extend_from_slice.new.self.items _ _ c.loop-here.here c.loop-here.there c.requires.ascend c.requires.others
+returns c = all_put _ _ _ _ _ _ _ _ c.requires.ascend c.requires.others
     (elim c.loop-here-test.branch [
       | then-loop-here-test+else-there-others w ↦ inr w.if-there-others.false
       | else-loop-here-test w ↦ inl w.loop-here-test.false

@@ -4,11 +4,11 @@ use Rattle.wire_bits.proofs.Crossings.{across, shl_twice}
 use Rattle.wire_bits.proofs.taking.take_across.Goals as goal
 
 shifted : (n lacking : ℕ) → 0 < lacking → n * 2 % 2 ^ 64 * 2 ^ (lacking - 1) % 2 ^ 64 ≡ n * 2 ^ lacking % 2 ^ 64
-shifted n lacking some = shl_twice n (lacking - 1) ∙ ap (λ (k : ℕ). n * 2 ^ k % 2 ^ 64) (omega (arith, some))
+shifted n lacking some = shl_twice n _ ∙ ap (λ k. n * 2 ^ k % 2 ^ 64) (omega arith)
 
 pub returns : goal.returns
 returns c =
     let next = c.from_be_bytes-next in
-    let all = across c.args.word c.args.count c.args.need next.result _ c.args.bytes.now _ c.requires.buffer c.ranges.word.fits next.type_inv next.ensures (λ i. omega (arith, c.type_inv.bytes i)) c.requires.bytes c.requires.more c.requires.few
-    (shifted next.result (c.args.need - c.args.count) (omega (arith, c.requires.more))) (take_rest c.args.bytes.now 8) in
+    let all = across _ _ _ _ _ c.args.bytes.now _ c.requires.buffer c.ranges.word.fits next.type_inv next.ensures (λ i. omega (arith, c.type_inv.bytes i)) c.requires.bytes c.requires.more c.requires.few
+    (shifted next.result _ (omega arith)) (take_rest _ 8) in
     record { taken = all.1; number = all.2; buffer = all.0 }

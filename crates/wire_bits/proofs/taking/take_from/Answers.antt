@@ -2,7 +2,7 @@ use Rattle.wire_bits.proofs.Crossings.{never_short}
 use Rattle.wire_bits.proofs.taking.take_from.Goals as goal
 
 pub returns-then-need-count-clause-short : goal.returns-then-need-count-clause-short
-returns-then-need-count-clause-short c = never_short c.args.need c.take_waiting.result.0 _ _ c.take_waiting.ensures.taken
+returns-then-need-count-clause-short c = never_short _ _ _ _ c.take_waiting.ensures.taken
 
 pub returns-then-bytes-ge8-clause-short : goal.returns-then-bytes-ge8-clause-short
-returns-then-bytes-ge8-clause-short c = never_short c.args.need c.take_across.result.0 _ _ c.take_across.ensures.taken
+returns-then-bytes-ge8-clause-short c = never_short _ _ _ _ c.take_across.ensures.taken

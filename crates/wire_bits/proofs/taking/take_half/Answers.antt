@@ -10,4 +10,4 @@ returns-then-count-need-clause-short c =
 pub returns-clause-short : goal.returns-clause-short
 returns-clause-short c =
     let r = c.refill_word-word in
-    never_short c.args.need c.take_waiting.result.0 _ _ (sym r.ensures.same ∙ c.take_waiting.ensures.taken)
+    never_short _ _ _ _ (sym r.ensures.same ∙ c.take_waiting.ensures.taken)

@@ -13,5 +13,5 @@ pub returns : goal.returns
 returns c =
     let high = c.in_ok-high in
     let low = c.in_ok-low in
-    let all = joined_fields c.args.need high.high low.low _ _ _ high.ensures.number low.ensures.number c.if-need-le32.false c.requires.few high.ensures.taken low.ensures.taken in
+    let all = joined_fields _ _ _ _ _ _ high.ensures.number low.ensures.number c.if-need-le32.false c.requires.few high.ensures.taken low.ensures.taken in
     record { taken = all.0; number = all.1; buffer = low.ensures.buffer; short = never_short c.args.need _ _ _ all.0 }

@@ -6,7 +6,7 @@ use Rattle.wire_bytes.proofs.crc.crc_of.Goals as goal
 
 pub loop-rest-preserved : goal.loop-rest-preserved
 loop-rest-preserved c =
-    rw (c.with_sixteen-sum.ensures, c.split_at.ensures.front, c.split_at.ensures.back) (remainder-split 16 c.loop-rest.sum c.loop-rest.rest.now ∙ c.loop-rest.invariant)
+    rw (c.with_sixteen-sum.ensures, c.split_at.ensures.front, c.split_at.ensures.back) (remainder-split 16 _ _ ∙ c.loop-rest.invariant)
 
 pub returns : goal.returns
 unfolding crc

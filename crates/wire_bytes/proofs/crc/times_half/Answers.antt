@@ -16,4 +16,4 @@ returns c =
       c.byte_of-3.ensures,
       c.byte_of-4.ensures,
       lowest,
-    ) (four_entries c.args.behind half (omega arith))
+    ) (four_entries _ _ (omega arith))

@@ -16,7 +16,7 @@ pub loop-byte-preserved : goal.loop-byte-preserved
 loop-byte-preserved c =
     let rest = c.loop-rest.rest.now in
     let total = remainder c.args.before c.args.bytes.now in
-    rw c.with_byte-sum.ensures (byte_more c.loop-byte.sum total c.loop-byte.byte-index rest c.loop-byte-test.true c.loop-rest.invariant.rest_bytes c.loop-byte.invariant)
+    rw c.with_byte-sum.ensures (byte_more _ _ _ _ c.loop-byte-test.true c.loop-rest.invariant.rest_bytes c.loop-byte.invariant)
 
 pub returns : goal.returns
-returns c = all_read c.loop-byte.sum (remainder c.args.before c.args.bytes.now) c.loop-byte.byte-index c.loop-rest.rest.now c.loop-byte-test.false c.loop-byte.invariant
+returns c = all_read _ _ _ _ c.loop-byte-test.false c.loop-byte.invariant

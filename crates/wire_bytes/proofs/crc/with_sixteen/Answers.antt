@@ -18,4 +18,4 @@ returns c =
       c.split_at-2.ensures.back,
       c.split_at.ensures.front,
       c.split_at.ensures.back,
-    ) (sixteen_are c.args.sum c.args.bytes.now c.requires (λ i. (c.type_inv.bytes i).fits))
+    ) (sixteen_are _ _ c.requires (λ i. (c.type_inv.bytes i).fits))

@@ -1,15 +1,15 @@
-use Rattle.std.proofs.Common.{List, ℕ, ◌++◌, ap, sym, arith, ◌∙◌}
+use Rattle.std.proofs.Common.{◌++◌, ap, sym, arith, ◌∙◌}
 use Rattle.std.proofs.lemmas.Result.{on_ok_weaker}
 use Rattle.wire_bytes.proofs.GroupTexts.{one_put, two_put, three_put, two_groups, three_groups}
 use Rattle.wire_bytes.proofs.put.put_short.Goals as goal
 
 pub returns-then-n-lt128-clause-ok : goal.returns-then-n-lt128-clause-ok
-returns-then-n-lt128-clause-ok c = on_ok_weaker c.put_bytes.result (λ put. put ∙ ap (λ (text : List ℕ). c.args.out.now.items ++ text) (sym (one_put c.args.n c.if-n-lt128.true))) c.put_bytes.ensures.ok
+returns-then-n-lt128-clause-ok c = on_ok_weaker c.put_bytes.result (λ put. put ∙ ap (λ text. c.args.out.now.items ++ text) (sym (one_put _ c.if-n-lt128.true))) c.put_bytes.ensures.ok
 
 pub returns-then-n-lt16384-clause-ok : goal.returns-then-n-lt16384-clause-ok
 returns-then-n-lt16384-clause-ok c =
-    on_ok_weaker c.put_bytes-then-n-lt16384.result (λ put. put ∙ ap (λ (text : List ℕ). c.args.out.now.items ++ text) (two_groups c.args.n _ c.low_group.ensures ∙ sym (two_put c.args.n (omega (arith, c.if-n-lt128.false)) c.if-n-lt16384.true))) c.put_bytes-then-n-lt16384.ensures.ok
+    on_ok_weaker c.put_bytes-then-n-lt16384.result (λ put. put ∙ ap (λ text. c.args.out.now.items ++ text) (two_groups _ _ c.low_group.ensures ∙ sym (two_put _ (omega arith) c.if-n-lt16384.true))) c.put_bytes-then-n-lt16384.ensures.ok
 
 pub returns-else-n-lt16384-clause-ok : goal.returns-else-n-lt16384-clause-ok
 returns-else-n-lt16384-clause-ok c =
-    on_ok_weaker c.put_bytes-else-n-lt16384.result (λ put. put ∙ ap (λ (text : List ℕ). c.args.out.now.items ++ text) (three_groups c.args.n _ _ c.low_group-else-n-lt16384.ensures c.low_group-else-n-lt16384-2.ensures ∙ sym (three_put c.args.n (omega (arith, c.if-n-lt16384.false)) c.requires))) c.put_bytes-else-n-lt16384.ensures.ok
+    on_ok_weaker c.put_bytes-else-n-lt16384.result (λ put. put ∙ ap (λ text. c.args.out.now.items ++ text) (three_groups _ _ _ c.low_group-else-n-lt16384.ensures c.low_group-else-n-lt16384-2.ensures ∙ sym (three_put _ (omega arith) c.requires))) c.put_bytes-else-n-lt16384.ensures.ok

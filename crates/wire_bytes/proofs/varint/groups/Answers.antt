@@ -7,7 +7,7 @@ use Rattle.wire_bytes.proofs.varint.groups.Goals as goal
 pub returns-then-high-lt128-clause-text : goal.returns-then-high-lt128-clause-text
 returns-then-high-lt128-clause-text c =
     let l = c.loop-i in
-    written_last l.i l.high l.groups (uvarint_text c.args.n) c.loop-i-test.true l.invariant.room c.if-high-lt128.true l.invariant.whole
+    written_last _ _ _ _ c.loop-i-test.true l.invariant.room c.if-high-lt128.true l.invariant.whole
 
 pub loop-i-preserved : goal.loop-i-preserved
 loop-i-preserved c =
@@ -21,4 +21,4 @@ loop-i-preserved c =
 pub returns-clause-text : goal.returns-clause-text
 returns-clause-text c =
     let l = c.loop-i in
-    written_tenth l.i l.high l.groups (uvarint_text c.args.n) c.loop-i-test.false l.auto.i-end l.invariant.room l.invariant.whole
+    written_tenth _ _ _ _ c.loop-i-test.false l.auto.i-end l.invariant.room l.invariant.whole

@@ -13,4 +13,4 @@ returns-clause-value c = rw (shifted_group c.args.group c.args.place c.requires.
 pub returns-clause-below : goal.returns-clause-below
 returns-clause-below c =
     let a = c.args in
-    rw (shifted_group a.group a.place c.requires.group c.requires.limit) (joined_below a.n a.group a.place c.requires.low c.requires.group)
+    rw (shifted_group a.group a.place c.requires.group c.requires.limit) (joined_below _ _ _ c.requires.low c.requires.group)

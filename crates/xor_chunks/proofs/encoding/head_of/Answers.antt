@@ -1,4 +1,4 @@
-use Rattle.std.proofs.Common.{◌∙◌, ◌++◌, List, ℕ, ℤ, ap, rules}
+use Rattle.std.proofs.Common.{◌∙◌, ◌++◌, ap, rules}
 use Rattle.std.specs.Int.{w16, w64, to_be_bytes}
 use Rattle.std.proofs.lemmas.Int.{to_z-of_z}
 use Rattle.wire_bytes.specs.Written.{varint_text}
@@ -7,6 +7,6 @@ use Rattle.xor_chunks.proofs.encoding.head_of.Goals as goal
 
 pub returns-clause-bits : goal.returns-clause-bits
 returns-clause-bits c =
-    head_bits c.args.count c.args.first.pattern (varint_text c.args.first.time) c.put_u16.new.out.items c.put_varint.new.out.items c.put_u64.new.out.items
-    (c.in_ok-put_u16.ensures.ok ∙ ap (λ (x : List ℕ). x ++ to_be_bytes w16 c.args.count) (c.reserve.ensures.items ∙ c.new-bytes.ensures.items))
-    (c.in_ok-put_varint.ensures.ok ∙ ap (λ (t : ℤ). c.put_u16.new.out.items ++ varint_text t) (to_z-of_z w64 c.args.first.time (search rules))) c.in_ok-put_u64.ensures.ok
+    head_bits _ _ _ _ _ _
+    (c.in_ok-put_u16.ensures.ok ∙ ap (λ x. x ++ to_be_bytes w16 c.args.count) (c.reserve.ensures.items ∙ c.new-bytes.ensures.items))
+    (c.in_ok-put_varint.ensures.ok ∙ ap (λ t. c.put_u16.new.out.items ++ varint_text t) (to_z-of_z w64 c.args.first.time (search rules))) c.in_ok-put_u64.ensures.ok

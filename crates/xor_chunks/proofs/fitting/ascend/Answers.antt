@@ -2,10 +2,9 @@ use Rattle.std.proofs.Common.{rules}
 use Rattle.std.specs.Ordering.{int_cmp, is_lt}
 use Rattle.std.proofs.lemmas.Cmp.{int_cmp_total}
 use Rattle.std.proofs.lemmas.List.Sorted.{answers_always}
-use Rattle.label_sets.specs.declared.sample.Sample.{Sample}
 use Rattle.list_core.proofs.Ascending.{ascends_answer}
 use Rattle.xor_chunks.proofs.fitting.ascend.Goals as goal
 
 pub returns : goal.returns
-returns c = ascends_answer int_cmp int_cmp_total (λ (s : Sample). s.time) c.args.samples.now c.is_sorted_by.result
+returns c = ascends_answer int_cmp int_cmp_total (λ s. s.time) _ _
     (c.is_sorted_by.ensures.cases (λ a b. is_lt (int_cmp a.time b.time)) (answers_always _ _ _ (λ f a r g k. search rules)))

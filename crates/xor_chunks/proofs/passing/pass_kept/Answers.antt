@@ -5,10 +5,10 @@ use Rattle.xor_chunks.proofs.passing.pass_kept.Goals as goal
 
 pub returns-then-head-eq2-clause-passed : goal.returns-then-head-eq2-clause-passed
 returns-then-head-eq2-clause-passed c = λ bits pattern window wide shows long.
-    let head = head_is c.args.word c.args.known 2 bits (omega (arith, c.requires.known)) (shows.first (c.args.known + 2) (omega arith)) in
-    pass_within c.args.known window pattern _ bits (sym head ∙ c.if-head-eq2.true) (omega (arith, wide)) (omega (arith, long, c.requires.known, c.requires.width))
+    let head = head_is _ _ 2 _ (omega arith) (shows.first (c.args.known + 2) (omega arith)) in
+    pass_within _ _ _ _ _ (sym head ∙ c.if-head-eq2.true) (omega arith) (omega arith)
 
 pub returns-then-head-eq0-clause-passed : goal.returns-then-head-eq0-clause-passed
 returns-then-head-eq0-clause-passed c = λ bits pattern window wide shows long.
-    let head = head_is c.args.word c.args.known 1 bits (omega (arith, c.requires.known)) (shows.first (c.args.known + 1) (omega arith)) in
-    pass_same c.args.known window pattern _ bits (sym head ∙ c.if-head-eq0.true) refl (omega (arith, long, c.requires.known))
+    let head = head_is _ _ 1 _ (omega arith) (shows.first (c.args.known + 1) (omega arith)) in
+    pass_same _ _ _ _ _ (sym head ∙ c.if-head-eq0.true) refl (omega arith)

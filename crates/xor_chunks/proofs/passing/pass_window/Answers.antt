@@ -1,4 +1,4 @@
-use Rattle.std.proofs.Common.{◌≡◌, ◌+◌, ◌-◌, ◌^◌, ℕ, ℤ, negsuc, ◌+ℤ◌, ◌≤ℤ◌, drop, rules, refl, sym, ap, ◌∙◌, arith}
+use Rattle.std.proofs.Common.{◌≡◌, ◌+◌, ◌-◌, ◌^◌, ℕ, negsuc, ◌+ℤ◌, ◌≤ℤ◌, drop, rules, refl, sym, ap, ◌∙◌, arith}
 use Rattle.std.specs.Int.{w64, cast_signed, cast_unsigned}
 use Rattle.std.proofs.lemmas.Int.{ints}
 use Rattle.wire_bits.specs.Bits.{bits_in}
@@ -13,7 +13,7 @@ use Rattle.xor_chunks.proofs.passing.pass_window.Goals as goal
 pub loop-left-init : goal.loop-left-init
 loop-left-init c =
     let same : c.args.second.time ≡ cast_signed w64 (cast_unsigned w64 c.args.second.time) = search rules in
-    (ap (λ (z : ℤ). end_at c.args.count (at_time z c.args.second.delta (state_of c.args.second)) (drop c.args.begin (bits_in c.args.bytes.now))) same, c.requires.within, omega arith, c.requires.steps.0, c.requires.steps.1)
+    (ap (λ z. end_at c.args.count (at_time z c.args.second.delta (state_of c.args.second)) (drop c.args.begin (bits_in c.args.bytes.now))) same, c.requires.within, omega arith, c.requires.steps.0, c.requires.steps.1)
 
 pub loop-left-preserved : goal.loop-left-preserved
 loop-left-preserved c =
@@ -31,19 +31,19 @@ loop-left-preserved c =
             kept_on c.args.count c.loop-left.left c.loop-left.place (3 + c.width-width.result) c.if-is_steady.place second (drop c.args.begin bits) bits time _ _ delta delta _ c.loop-left.invariant.0 c.loop-left-test.true w.place-is w.time-is w.delta-is
                 (pass_steadily c.word_at-word.result (3 + c.width-width.result) (at_time time delta second) (cast_signed w64 (cast_unsigned w64 (time +ℤ cast_signed w64 delta))) (drop c.loop-left.place bits) told shows long (ap (λ (n : ℕ). 3 + n) c.width-width.ensures.width) c.requires.inside
                 (steady_after time delta low soon c.loop-left.invariant.3 c.loop-left.invariant.4)),
-            omega (arith, w.place-is, c.if-place-greatest.true, c.width-width.ensures.few, c.requires.room),
+            omega (arith, c.requires.room),
             omega (arith, c.loop-left.invariant.2),
-            omega (arith, w.delta-is, c.loop-left.invariant.3),
-            omega (arith, w.delta-is, c.loop-left.invariant.4),
+            omega (arith, c.loop-left.invariant.3),
+            omega arith,
           )
       | else-is_steady+in-Some w ↦
           let same : w.in-Some.after ≡ cast_signed w64 (cast_unsigned w64 w.in-Some.after) = search rules in
           let found = w.in-Some.ensures.passed (drop c.loop-left.place bits) (at_time time delta second) refl refl (sym c.width-width.ensures.width) c.requires.inside shows long in (
-            kept_on c.args.count c.loop-left.left c.loop-left.place w.in-Some.passed c.if-is_steady.place second (drop c.args.begin bits) bits time _ _ delta w.in-Some.step _ c.loop-left.invariant.0 c.loop-left-test.true w.place-is (w.time-is ∙ sym same) w.delta-is found,
-            omega (arith, w.place-is, c.if-place-greatest.true, w.in-Some.ensures.few, c.requires.room),
+            kept_on _ _ _ w.in-Some.passed c.if-is_steady.place second (drop c.args.begin bits) bits time _ _ delta w.in-Some.step _ c.loop-left.invariant.0 c.loop-left-test.true w.place-is (w.time-is ∙ sym same) w.delta-is found,
+            omega (arith, w.in-Some.ensures.few, c.requires.room),
             omega (arith, c.loop-left.invariant.2),
             omega (arith, w.delta-is, w.in-Some.ensures.steps.0),
-            omega (arith, w.delta-is, w.in-Some.ensures.steps.1),
+            omega (arith, w.in-Some.ensures.steps.1),
           )
     ]
 

@@ -13,5 +13,5 @@ returns-clause-passed c = λ bits last same_time same_delta wide inside shows lo
     let told : time_after c.args.time (pos c.args.delta +ℤ cast_signed w128 (cast_unsigned w128 c.from.result)) ≡ Ok (c.in_ok-time.time, c.in_ok-time.delta) = search rules in
     let times : time_after c.args.time (pos c.args.delta +ℤ c.in_ok-change.change) ≡ Ok (cast_signed w64 (cast_unsigned w64 c.in_ok-time.time), c.in_ok-time.delta) =
     ap (λ (z : ℤ). time_after c.args.time (pos c.args.delta +ℤ z)) (sym given) ∙ told ∙ ap (λ (z : ℤ). Ok (z, c.in_ok-time.delta)) same in
-    pass_kept_next c.in_ok-change.known c.in_ok-passed.passed last c.args.time c.args.delta c.in_ok-change.change bits (cast_signed w64 (cast_unsigned w64 c.in_ok-time.time)) c.in_ok-time.delta same_time same_delta inside
-    (c.in_ok-change.ensures.told bits (shows_less _ 37 24 bits (omega arith) shows)) (c.in_ok-passed.ensures.passed bits last.pattern last.window wide (shows_less _ 37 _ bits (omega (arith, c.in_ok-change.ensures.few)) shows) long) times
+    pass_kept_next c.in_ok-change.known c.in_ok-passed.passed _ _ _ _ _ _ _ same_time same_delta inside
+    (c.in_ok-change.ensures.told bits (shows_less _ _ _ bits (omega arith) shows)) (c.in_ok-passed.ensures.passed bits last.pattern last.window wide (shows_less _ 37 _ bits (omega (arith, c.in_ok-change.ensures.few)) shows) long) times

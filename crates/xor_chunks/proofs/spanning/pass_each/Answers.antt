@@ -5,15 +5,15 @@ use Rattle.xor_chunks.proofs.SpansRead.{passes_none, passes_one, passing_stops, 
 use Rattle.xor_chunks.proofs.spanning.pass_each.Goals as goal
 
 pub loop-init : goal.loop-init
-loop-init c = passes_none (state_of c.args.second) c.args.reader
+loop-init c = passes_none _ _
 
 pub loop-preserved : goal.loop-preserved
-loop-preserved c = passes_one c.loop.counter (state_of c.args.second) (state_of c.loop.last) (state_of c.in_ok-after.after) c.args.reader c.loop.reader c.in_ok-after.left c.loop.invariant c.in_ok-after.ensures
+loop-preserved c = passes_one _ _ _ _ _ _ _ c.loop.invariant c.in_ok-after.ensures
 
 pub returns-in_err-after : goal.returns-in_err-after
 returns-in_err-after c =
     let p = err_from_is_err_and c.from_residual.result c.from_residual.ensures.1 in
-    rw (p.1, p.2) (passing_stops c.loop.counter c.args.count (state_of c.args.second) (state_of c.loop.last) c.args.reader c.loop.reader c.in_err-after.field-0.0 c.loop.invariant c.loop-test.true c.in_err-after.ensures)
+    rw (p.1, p.2) (passing_stops c.loop.counter c.args.count (state_of c.args.second) _ _ _ _ c.loop.invariant c.loop-test.true c.in_err-after.ensures)
 
 pub returns : goal.returns
-returns c = passes_all c.loop.counter c.args.count (state_of c.args.second) (state_of c.loop.last) c.args.reader c.loop.reader c.loop.invariant (omega arith)
+returns c = passes_all _ _ _ _ _ _ c.loop.invariant (omega arith)

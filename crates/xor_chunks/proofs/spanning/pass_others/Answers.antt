@@ -1,7 +1,6 @@
-use Rattle.std.proofs.Common.{ℤ, Bool, List, Result, sym, subst}
+use Rattle.std.proofs.Common.{sym, subst}
 use Rattle.reading_core.specs.Reading.{Answers}
-use Rattle.xor_chunks.specs.declared.refusal.XorRefusal.{XorRefusal}
 use Rattle.xor_chunks.proofs.spanning.pass_others.Goals as goal
 
 pub returns : goal.returns
-returns c = subst (λ (r : Result (ℤ × List Bool) XorRefusal). Answers (λ x. (x.0.time, x.1)) c.pass_each.result r) (sym c.pass_most-left.ensures) c.pass_each.ensures
+returns c = subst (λ r. Answers (λ x. (x.0.time, x.1)) c.pass_each.result r) (sym c.pass_most-left.ensures) c.pass_each.ensures

@@ -1,24 +1,22 @@
 use Rattle.std.proofs.Common.{ap, sym, ◌∙◌, Some, Ok}
 use Rattle.std.proofs.lemmas.Result.{err_from_is_err_and}
-use Rattle.xor_chunks.specs.declared.sample_span.SampleSpan.{SampleSpan}
-use Rattle.xor_chunks.specs.Known.{state_of}
 use Rattle.xor_chunks.proofs.SpansRead.{no_span, span_no_first, span_stopped, span_reads}
 use Rattle.xor_chunks.proofs.spanning.pass_samples.Goals as goal
 
 pub returns-then-count-eq0 : goal.returns-then-count-eq0
-returns-then-count-eq0 c = no_span c.args.count c.args.bytes.now c.new.result c.if-count-eq0.true c.new.ensures
+returns-then-count-eq0 c = no_span _ _ _ c.if-count-eq0.true c.new.ensures
 
 pub returns-in_err-first : goal.returns-in_err-first
 returns-in_err-first c =
     let p = err_from_is_err_and c.from_residual.result c.from_residual.ensures.1 in
-    rw (p.1, p.2) (span_no_first c.args.count c.args.bytes.now c.in_err-first.field-0.0 c.if-count-eq0.false c.in_err-first.ensures)
+    rw (p.1, p.2) (span_no_first c.args.count c.args.bytes.now _ c.if-count-eq0.false c.in_err-first.ensures)
 
 pub returns-in_err-last : goal.returns-in_err-last
 returns-in_err-last c =
     let p = err_from_is_err_and c.from_residual-in_err-last.result c.from_residual-in_err-last.ensures.1 in
-    rw (p.1, p.2) (span_stopped c.args.count c.in_ok-first.first (state_of c.begun.result) c.args.bytes.now c.in_ok-first.rest.now c.if-count-eq0.false c.in_ok-first.ensures c.begun.ensures c.in_err-last.field-0.0 c.in_err-last.ensures)
+    rw (p.1, p.2) (span_stopped c.args.count c.in_ok-first.first _ _ _ c.if-count-eq0.false c.in_ok-first.ensures c.begun.ensures _ c.in_err-last.ensures)
 
 pub returns : goal.returns
 returns c =
-    span_reads c.args.count c.in_ok-first.first (state_of c.begun.result) c.args.bytes.now c.in_ok-first.rest.now c.if-count-eq0.false c.in_ok-first.ensures c.begun.ensures c.in_ok-last.last.time c.in_ok-last.reader c.in_ok-last.ensures
-    ∙ ap (λ (s : SampleSpan). Ok (Some s, c.in_ok-last.reader)) (sym c.span.ensures)
+    span_reads _ _ _ _ _ c.if-count-eq0.false c.in_ok-first.ensures c.begun.ensures _ _ c.in_ok-last.ensures
+    ∙ ap (λ s. Ok (Some s, c.in_ok-last.reader)) (sym c.span.ensures)

@@ -5,7 +5,7 @@ use Rattle.xor_chunks.proofs.spanning.span_data.Goals as goal
 pub returns-in_err-count-clause-exact : goal.returns-in_err-count-clause-exact
 returns-in_err-count-clause-exact c =
     let p = err_from_is_err_and c.from_residual.result c.from_residual.ensures.1 in
-    rw (p.1, p.2) (span_no_count c.args.most c.args.bytes.now c.in_err-count.field-0.0 c.in_err-count.ensures)
+    rw (p.1, p.2) (span_no_count c.args.most c.args.bytes.now _ c.in_err-count.ensures)
 
 pub returns-in_err-span-clause-exact : goal.returns-in_err-span-clause-exact
 returns-in_err-span-clause-exact c =

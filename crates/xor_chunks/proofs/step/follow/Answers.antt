@@ -1,4 +1,4 @@
-use Rattle.std.proofs.Common.{ℤ, ap, ◌∙◌}
+use Rattle.std.proofs.Common.{ap, ◌∙◌}
 use Rattle.std.specs.Int.{w128}
 use Rattle.std.proofs.lemmas.Int.{to_z-of_z}
 use Rattle.xor_chunks.specs.Known.{state_of}
@@ -9,5 +9,5 @@ use Rattle.xor_chunks.proofs.step.follow.Goals as goal
 
 pub returns : goal.returns
 returns c =
-    reads_same state_of c.follow_known.new.reader c.follow_known.result _ _ c.follow_known.ensures
-    (ap (λ (z : ℤ). behind 0 (follow_at (state_of c.args.last) z) c.peek-word.new.self) (to_z-of_z w128 c.args.change c.ranges.change) ∙ behind_none (follow_at (state_of c.args.last) c.args.change) c.peek-word.new.self ∙ ap (follow_at (state_of c.args.last) c.args.change) c.peek-word.ensures.same)
+    reads_same _ _ _ _ _ c.follow_known.ensures
+    (ap (λ z. behind 0 (follow_at (state_of c.args.last) z) c.peek-word.new.self) (to_z-of_z w128 c.args.change c.ranges.change) ∙ behind_none _ _ ∙ ap (follow_at (state_of c.args.last) c.args.change) c.peek-word.ensures.same)

@@ -21,8 +21,8 @@ returns-in_err-after c =
 pub returns-then-word-eq0 : goal.returns-then-word-eq0
 returns-then-word-eq0 c =
     let word = c.peek-word.ensures in
-    let told = no_change c.args.reader (sym (word.bits.first 1 (omega arith)) ∙ c.if-word-eq0.true) in
-    next_known 1 (state_of c.args.last) (pos 0) (pos 0) c.args.reader c.peek-word.new.self told refl word.same ∙ c.in_ok-after.ensures
+    let told = no_change _ (sym (word.bits.first 1 (omega arith)) ∙ c.if-word-eq0.true) in
+    next_known 1 _ _ _ _ _ told refl word.same ∙ c.in_ok-after.ensures
 
 pub returns-in_err-after-2 : goal.returns-in_err-after-2
 returns-in_err-after-2 c =
@@ -35,6 +35,6 @@ returns-in_err-after-2 c =
 pub returns : goal.returns
 returns c =
     let word = c.peek-word.ensures in
-    let told = c.in-Some.ensures.told c.args.reader (shows_less c.peek-word.result 37 24 c.args.reader (omega arith) word.bits) in
+    let told = c.in-Some.ensures.told c.args.reader (shows_less _ _ 24 c.args.reader (omega arith) word.bits) in
     let change : cast_signed w128 (cast_unsigned w128 c.from.result) ≡ c.in-Some.change = first_of (search rules, grind (arith, ints)) in
-    next_known c.in-Some.known (state_of c.args.last) c.in-Some.change _ c.args.reader c.peek-word.new.self told change word.same ∙ c.in_ok-after-2.ensures
+    next_known _ _ _ _ _ _ told change word.same ∙ c.in_ok-after-2.ensures

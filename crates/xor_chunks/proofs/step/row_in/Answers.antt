@@ -7,4 +7,4 @@ use Rattle.xor_chunks.proofs.step.row_in.Goals as goal
 pub returns-clause-change : goal.returns-clause-change
 returns-clause-change c =
     let same : c.field_value.result ≡ cast_signed w64 (cast_unsigned w64 c.field_value.result) = search rules in
-    sym same ∙ c.field_value.ensures ∙ ap (field_value c.args.width) (masked _ c.args.width (omega (arith, c.requires.few)))
+    sym same ∙ c.field_value.ensures ∙ ap (field_value c.args.width) (masked _ _ (omega arith))

@@ -12,4 +12,4 @@ returns-in_err-take_peeked-clause-read c =
 pub returns-clause-read : goal.returns-clause-read
 returns-clause-read c =
     let e = c.in_ok-take_peeked.ensures in
-    ap (take_at c.args.count) e.taken ∙ take_again c.args.count c.in_ok-take_peeked.field-0 c.take_peeked.new.self e.number
+    ap (take_at c.args.count) e.taken ∙ take_again _ _ _ e.number

@@ -5,15 +5,15 @@ use Rattle.xor_chunks.proofs.step.wide_time.Goals as goal
 
 pub returns-in_default : goal.returns-in_default
 returns-in_default c =
-    refused_out c.try_from.result c.args.time c.args.delta _ c.try_from.ensures c.in_default.not-Ok (sum_is c.args.time c.args.delta c.from.result c.from.ensures c.ranges.time c.ranges.delta c.requires.low c.requires.high)
+    refused_out _ _ _ _ c.try_from.ensures c.in_default.not-Ok (sum_is _ _ _ c.from.ensures c.ranges.time c.ranges.delta c.requires.low c.requires.high)
 
 pub returns-then-delta-lt1 : goal.returns-then-delta-lt1
 returns-then-delta-lt1 c =
-    let sum = sum_is c.args.time c.args.delta c.from.result c.from.ensures c.ranges.time c.ranges.delta c.requires.low c.requires.high in
-    refused_falling c.args.time c.args.delta (taken_in c.try_from.result c.args.time c.args.delta _ c.in-Ok.after c.try_from.ensures c.in-Ok.is sum).0 (grind (arith, ints))
+    let sum = sum_is _ _ _ c.from.ensures c.ranges.time c.ranges.delta c.requires.low c.requires.high in
+    refused_falling _ _ (taken_in _ c.args.time c.args.delta _ _ c.try_from.ensures c.in-Ok.is sum).0 (grind (arith, ints))
 
 pub returns : goal.returns
 returns c =
-    let sum = sum_is c.args.time c.args.delta c.from.result c.from.ensures c.ranges.time c.ranges.delta c.requires.low c.requires.high in
-    let taken = taken_in c.try_from.result c.args.time c.args.delta _ c.in-Ok.after c.try_from.ensures c.in-Ok.is sum in
-    is_after_cast c.args.time c.args.delta c.in-Ok.after taken c.ranges.delta (grind (arith, ints))
+    let sum = sum_is _ _ _ c.from.ensures c.ranges.time c.ranges.delta c.requires.low c.requires.high in
+    let taken = taken_in _ c.args.time c.args.delta _ _ c.try_from.ensures c.in-Ok.is sum in
+    is_after_cast _ _ _ taken c.ranges.delta (grind (arith, ints))

@@ -3,7 +3,7 @@ use Rattle.block_meta.proofs.FoundTexts.{mark_text_found, mark_text_only}
 use Rattle.block_meta.proofs.deletion_mark.DeletionMark.read.Goals as goal
 
 pub returns-clause-only : goal.returns-clause-only
-returns-clause-only c = mark_text_only c.args.bytes.now
+returns-clause-only c = mark_text_only _
 
 pub returns-clause-found : goal.returns-clause-found
-returns-clause-found c = of_gives _ _ c.of_text.result (mark_text_found c.args.bytes.now) c.of_text.ensures
+returns-clause-found c = of_gives _ _ _ (mark_text_found _) c.of_text.ensures

@@ -1,4 +1,3 @@
-use Rattle.block_meta.specs.MetaFields.{fields_of}
 use Rattle.block_meta.proofs.Again.{meta_again, thanos_written}
 use Rattle.block_meta.proofs.Rising.{ascending_already, lawful_passes}
 use Rattle.block_meta.proofs.meta.Meta.to_value.Goals as goal
@@ -6,4 +5,4 @@ use Rattle.block_meta.proofs.meta.Meta.to_value.Goals as goal
 pub returns-clause-again : goal.returns-clause-again
 returns-clause-again c =
     let m = c.args.self.now in
-    meta_again (fields_of m) c.in_ok-write_ulid.ensures.written (lawful_passes _ _ m.times) (ascending_already _ m.distinct) c.in_ok-compaction.ensures.again (thanos_written (fields_of m) c.in_ok-write_thanos.ensures.fits c.in_ok-write_thanos.ensures.labels_again)
+    meta_again _ c.in_ok-write_ulid.ensures.written (lawful_passes _ _ m.times) (ascending_already _ m.distinct) c.in_ok-compaction.ensures.again (thanos_written _ c.in_ok-write_thanos.ensures.fits c.in_ok-write_thanos.ensures.labels_again)

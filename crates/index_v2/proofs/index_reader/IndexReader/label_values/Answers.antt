@@ -7,9 +7,9 @@ use Rattle.index_v2.proofs.ValuesAgree.{values_agree}
 use Rattle.index_v2.proofs.index_reader.IndexReader.label_values.Goals as goal
 
 pub returns-clause-few : goal.returns-clause-few
-returns-clause-few c = rw (← c.self.view_is) (omega (arith, c.self.invariant.4, values_few c.self.inside.rows c.args.name.now, ap length c.in_ok-values_of.ensures))
+returns-clause-few c = rw (← c.self.view_is) (omega (arith, values_few c.self.inside.rows c.args.name.now, ap length c.in_ok-values_of.ensures))
 
 pub returns-clause-agrees : goal.returns-clause-agrees
 returns-clause-agrees c =
     let h : Held = record { bytes = c.self.inside.bytes.now; toc = c.self.inside.toc; symbols = c.self.inside.symbols; rows = c.self.inside.rows; lists = part_of c.self.inside.lists; symbols_size = c.self.inside.symbols_size; rows_size = c.self.inside.rows_size } in
-    rw (← c.self.view_is) (λ index list is reads. values_agree h.rows c.args.name.now c.in_ok-values_of.field-0 index list is (reader_holds h is.opened c.self.invariant.0 is.is_opened reads).rows_are c.in_ok-values_of.ensures)
+    rw (← c.self.view_is) (λ index list is reads. values_agree h.rows c.args.name.now c.in_ok-values_of.field-0 index list is (reader_holds h _ c.self.invariant.0 is.is_opened reads).rows_are c.in_ok-values_of.ensures)

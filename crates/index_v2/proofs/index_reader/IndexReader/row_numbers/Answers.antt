@@ -1,5 +1,3 @@
-use Rattle.std.proofs.Common.{◌≡◌, Some}
-use Rattle.std.specs.Prelude.{slice_get}
 use Rattle.index_parts.specs.declared.postings_row.PostingsRow.{PostingsRow}
 use Rattle.index_slices.specs.Parts.{part_of}
 use Rattle.index_v2.specs.Held.{Held}
@@ -10,16 +8,16 @@ pub returns-clause-agrees : goal.returns-clause-agrees
 returns-clause-agrees c =
     let h : Held = record { bytes = c.self.inside.bytes.now; toc = c.self.inside.toc; symbols = c.self.inside.symbols; rows = c.self.inside.rows; lists = part_of c.self.inside.lists; symbols_size = c.self.inside.symbols_size; rows_size = c.self.inside.rows_size } in
     let one : PostingsRow = record { name = c.unwrap-row.result.0.now; value = c.unwrap-row.result.1.now; offset = c.unwrap-row.result.2 } in
-    let at : slice_get h.rows c.args.place ≡ Some one = row_is _ c.get.result c.unwrap-row.result _ c.unwrap-row.ensures c.get.ensures in
+    let at = row_is _ _ _ _ c.unwrap-row.ensures c.get.ensures in
     rw (← c.self.view_is) (λ index list is reads.
-    let holds = reader_holds h is.opened c.self.invariant.0 is.is_opened reads in
-    row_agrees h index list is c.args.place one at holds c.list_at.result (c.list_at.ensures.found is.opened.bytes holds.lists_are))
+    let holds = reader_holds h _ c.self.invariant.0 is.is_opened reads in
+    row_agrees h index list is _ _ at holds c.list_at.result (c.list_at.ensures.found is.opened.bytes holds.lists_are))
 
 pub returns-clause-wanting : goal.returns-clause-wanting
 returns-clause-wanting c =
     let h : Held = record { bytes = c.self.inside.bytes.now; toc = c.self.inside.toc; symbols = c.self.inside.symbols; rows = c.self.inside.rows; lists = part_of c.self.inside.lists; symbols_size = c.self.inside.symbols_size; rows_size = c.self.inside.rows_size } in
     let one : PostingsRow = record { name = c.unwrap-row.result.0.now; value = c.unwrap-row.result.1.now; offset = c.unwrap-row.result.2 } in
-    let at : slice_get h.rows c.args.place ≡ Some one = row_is _ c.get.result c.unwrap-row.result _ c.unwrap-row.ensures c.get.ensures in
+    let at = row_is _ _ _ _ c.unwrap-row.ensures c.get.ensures in
     rw (← c.self.view_is) (λ index list is has.
-    let holds = reader_holds h is.opened c.self.invariant.0 is.is_opened (has_reader h is.opened (slice_get h.rows c.args.place) has) in
-    row_wanting h index list is c.args.place one at holds c.list_at.result c.self.invariant.0 has c.list_at.ensures.exact)
+    let holds = reader_holds h _ c.self.invariant.0 is.is_opened (has_reader h _ _ has) in
+    row_wanting h index list is _ _ at holds c.list_at.result c.self.invariant.0 has c.list_at.ensures.exact)

@@ -1,12 +1,10 @@
-use Rattle.std.proofs.Common.{subst, List, ℕ, ap, ◌∙◌}
-use Rattle.index_file.specs.Opened.{Opened}
+use Rattle.std.proofs.Common.{subst, ap, ◌∙◌}
 use Rattle.index_file.specs.IndexFile.{IsSeriesOf}
 use Rattle.index_slices.specs.Parts.{part_of}
-use Rattle.index_v2.specs.Held.{Held, opened_of}
+use Rattle.index_v2.specs.Held.{Held}
 use Rattle.index_v2.proofs.PostingsLaws.{opened_is}
 use Rattle.index_v2.proofs.HeldLaws.{opened_from}
 use Rattle.index_v2.proofs.FewLaws.{if_ok, series_few}
-use Rattle.index_file.specs.declared.index_series.IndexSeries.{IndexSeries}
 use Rattle.index_v2.specs.SeriesLabels.{numbered_at}
 use Rattle.index_v2.proofs.SeriesSlices.{number_absent, refused_or_none}
 use Rattle.index_v2.proofs.index_reader.IndexReader.series.Goals as goal
@@ -15,14 +13,14 @@ pub returns-clause-only : goal.returns-clause-only
 returns-clause-only c = rw (← c.self.view_is) c.series_of_file.ensures.only
 
 pub returns-clause-few : goal.returns-clause-few
-returns-clause-few c = rw (← c.self.view_is) (if_ok _ _ c.series_of_file.result (λ series is. series_few _ _ c.args.number series is) c.series_of_file.ensures.found)
+returns-clause-few c = rw (← c.self.view_is) (if_ok _ _ _ (λ series is. series_few _ _ c.args.number series is) c.series_of_file.ensures.found)
 
 pub returns-clause-agrees : goal.returns-clause-agrees
 returns-clause-agrees c =
     let h : Held = record { bytes = c.self.inside.bytes.now; toc = c.self.inside.toc; symbols = c.self.inside.symbols; rows = c.self.inside.rows; lists = part_of c.self.inside.lists; symbols_size = c.self.inside.symbols_size; rows_size = c.self.inside.rows_size } in
     rw (← c.self.view_is) (λ list is series has. c.series_of_file.ensures.only series
-    (subst (λ (x : Opened). IsSeriesOf x.bytes x.symbols c.args.number series) (opened_is (opened_of h) (opened_from h c.self.invariant.0 list is) list is) (is.series_are.stand c.args.number series has)))
+    (subst (λ x. IsSeriesOf x.bytes x.symbols c.args.number series) (opened_is _ (opened_from h c.self.invariant.0 _ is) list is) (is.series_are.stand c.args.number series has)))
 
 pub returns-clause-absent : goal.returns-clause-absent
 returns-clause-absent c = rw (← c.self.view_is) (λ none.
-    refused_or_none (λ (s : IndexSeries). s) c.series_of_file.result (numbered_at c.self.inside.bytes.now c.self.inside.symbols c.args.number) _ (ap (λ (bytes : List ℕ). numbered_at bytes c.self.inside.symbols c.args.number) none ∙ number_absent c.self.inside.symbols c.args.number) c.series_of_file.ensures.exact)
+    refused_or_none (λ s. s) c.series_of_file.result (numbered_at c.self.inside.bytes.now c.self.inside.symbols c.args.number) _ (ap (λ bytes. numbered_at bytes c.self.inside.symbols c.args.number) none ∙ number_absent _ _) c.series_of_file.ensures.exact)

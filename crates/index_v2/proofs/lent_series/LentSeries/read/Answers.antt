@@ -1,4 +1,4 @@
-use Rattle.std.proofs.Common.{List, Vec, Global, map, Ok, Err, inr}
+use Rattle.std.proofs.Common.{List, Vec, Global, map, inr}
 use Rattle.label_sets.specs.declared.label.Label.{Label}
 use Rattle.index_v2.specs.declared.lent_label.LentLabel.{LentLabel}
 use Rattle.index_v2.specs.LentLabels.{as_label}
@@ -12,19 +12,19 @@ abbrev views : Vec LentLabel Global → List Label
 views labels = map as_label labels.items
 
 pub returns-in_err-count : goal.returns-in_err-count
-returns-in_err-count c = gives_err _ _ c.from_residual.result c.in_err-count.field-0.0 _ c.from_residual.ensures.1 (labelled_not_begun _ _ _ _ c.in_err-count.ensures)
+returns-in_err-count c = gives_err _ _ _ _ _ c.from_residual.ensures.1 (labelled_not_begun _ _ _ _ c.in_err-count.ensures)
 
 pub returns-in-Err : goal.returns-in-Err
-returns-in-Err c = labelled_no_labels _ _ _ c.in_ok-count.count c.in_ok-count.cursor _ c.in_ok-count.ensures c.in-Err.ensures
+returns-in-Err c = labelled_no_labels _ _ _ _ _ _ c.in_ok-count.ensures c.in-Err.ensures
 
 pub returns-in_err-chunks : goal.returns-in_err-chunks
-returns-in_err-chunks c = gives_refused _ _ c.from_residual-in_err-chunks.result c.in_err-chunks.field-0.0 _ c.from_residual-in_err-chunks.ensures.1 (labelled_no_chunks _ _ _ c.in_ok-count.count c.in_ok-count.cursor c.in-Ok.read.1 _ _ c.in_ok-count.ensures c.in-Ok.ensures c.in_err-chunks.ensures)
+returns-in_err-chunks c = gives_refused _ _ _ _ _ c.from_residual-in_err-chunks.ensures.1 (labelled_no_chunks _ _ _ _ _ _ _ _ c.in_ok-count.ensures c.in-Ok.ensures c.in_err-chunks.ensures)
 
 pub invariant_of-result : goal.invariant_of-result
-invariant_of-result c = labels_lawful_read _ _ c.in_ok-count.cursor _ c.in-Ok.read.1 (texts_told views _ _ c.in_ok-count.cursor c.in-Ok.read.1 c.in-Ok.read.0 (Ok c.in-Ok-texts.labels) c.in-Ok.ensures c.in-Ok-texts.is)
+invariant_of-result c = labels_lawful_read _ _ _ _ _ (texts_told _ _ _ _ _ _ _ c.in-Ok.ensures c.in-Ok-texts.is)
 
 pub returns-in-Ok-texts : goal.returns-in-Ok-texts
-returns-in-Ok-texts c = labelled_found _ _ _ _ c.in_ok-count.cursor c.in-Ok.read.1 _ _ c.in_ok-count.ensures (texts_told views _ _ c.in_ok-count.cursor c.in-Ok.read.1 c.in-Ok.read.0 (Ok c.in-Ok-texts.labels) c.in-Ok.ensures c.in-Ok-texts.is) c.in_ok-chunks.ensures
+returns-in-Ok-texts c = labelled_found _ _ _ _ _ _ _ _ c.in_ok-count.ensures (texts_told _ _ _ _ _ _ _ c.in-Ok.ensures c.in-Ok-texts.is) c.in_ok-chunks.ensures
 
 pub returns-in-Err-texts : goal.returns-in-Err-texts
-returns-in-Err-texts c = inr (labelled_refused _ _ _ _ c.in_ok-count.cursor c.in-Ok.read.1 c.in-Err-texts.fault _ _ c.in_ok-count.ensures (texts_told views _ _ c.in_ok-count.cursor c.in-Ok.read.1 c.in-Ok.read.0 (Err c.in-Err-texts.fault) c.in-Ok.ensures c.in-Err-texts.is) c.in_ok-chunks.ensures c.fault_at.ensures)
+returns-in-Err-texts c = inr (labelled_refused _ _ _ _ _ _ _ _ _ c.in_ok-count.ensures (texts_told _ _ _ _ _ _ _ c.in-Ok.ensures c.in-Err-texts.is) c.in_ok-chunks.ensures c.fault_at.ensures)

@@ -4,4 +4,4 @@ use Rattle.index_writing.proofs.index_writer.IndexWriter.add.Goals as goal
 
 pub invariant_of-self-2 : goal.invariant_of-self-2
 invariant_of-self-2 c =
-    writable_added c.self.inside.series.items c.args.self.now c.push.new.self.items c.args.labels c.args.labels c.in_ok-copy.field-0 c.args.chunks.now c.self.invariant c.self.view_is c.requires.greater refl c.requires.chunks c.in_ok-copy.ensures c.in_ok-push.ensures.items
+    writable_added _ _ _ _ _ _ _ c.self.invariant c.self.view_is c.requires.greater refl c.requires.chunks c.in_ok-copy.ensures c.in_ok-push.ensures.items

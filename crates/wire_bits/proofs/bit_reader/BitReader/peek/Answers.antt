@@ -7,5 +7,5 @@ pub returns-clause-bits : goal.returns-clause-bits
 returns-clause-bits c = record {
   first = λ n le.
       let r = c.refill_word-word in
-      front_is r.result.0 r.result.1 n r.result.2.now r.ensures.buffer (omega arith) (omega (arith, le, c.requires)) (fewer_wait n c.args.count r.result.1 r.result.2.now le r.ensures.ready) ∙ ap (front n) (r.ensures.same ∙ c.self.view_is);
+      front_is _ _ n _ r.ensures.buffer (omega arith) (omega arith) (fewer_wait n _ _ _ le r.ensures.ready) ∙ ap (front n) (r.ensures.same ∙ c.self.view_is);
 }

@@ -2,4 +2,4 @@ use Rattle.wire_bits.proofs.Writers.{behind_bytes}
 use Rattle.wire_bits.proofs.bit_writer.BitWriter.behind.Goals as goal
 
 pub returns : goal.returns
-returns c = behind_bytes c.args.bytes.items
+returns c = behind_bytes _

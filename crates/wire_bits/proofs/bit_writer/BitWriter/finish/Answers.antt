@@ -1,4 +1,4 @@
-use Rattle.std.proofs.Common.{◌≡◌, ap, ◌∙◌, List, ℕ, ◌++◌, take}
+use Rattle.std.proofs.Common.{ap, ◌∙◌, ◌++◌, take}
 use Rattle.wire_bits.specs.Bits.{bits_in, filled}
 use Rattle.wire_bits.proofs.Writers.{finished}
 use Rattle.wire_bits.proofs.bit_writer.BitWriter.finish.Goals as goal
@@ -7,5 +7,5 @@ pub returns-clause-bits : goal.returns-clause-bits
 returns-clause-bits c =
     let i = c.self.inside in
     let items = rw c.unwrap.ensures at c.extend_from_slice.ensures.items in
-    let bytes : c.blob_of.result ≡ i.bytes.items ++ take c.div_ceil.result c.to_be_bytes-last.result = c.blob_of.ensures.same ∙ items in
-    ap bits_in (bytes ∙ ap (λ (a : List ℕ). i.bytes.items ++ take c.div_ceil.result a) c.to_be_bytes-last.ensures) ∙ finished i.bytes.items i.word i.count c.div_ceil.result c.self.invariant.buffer c.div_ceil.ensures ∙ ap filled c.self.view_is
+    let bytes = c.blob_of.ensures.same ∙ items in
+    ap bits_in (bytes ∙ ap (λ a. i.bytes.items ++ take c.div_ceil.result a) c.to_be_bytes-last.ensures) ∙ finished _ _ _ _ c.self.invariant.buffer c.div_ceil.ensures ∙ ap filled c.self.view_is

@@ -2,4 +2,4 @@ use Rattle.wire_bits.proofs.Writers.{nothing_written}
 use Rattle.wire_bits.proofs.bit_writer.BitWriter.new.Goals as goal
 
 pub returns : goal.returns
-returns c = nothing_written c.new.result.items c.new.ensures.items
+returns c = nothing_written _ c.new.ensures.items

@@ -1,4 +1,4 @@
-use Rattle.std.proofs.Common.{ℕ, ◌++◌, List, Bool, refl, sym, ap, ◌∙◌, arith, length}
+use Rattle.std.proofs.Common.{◌++◌, refl, sym, ap, ◌∙◌, arith, length}
 use Rattle.std.proofs.lemmas.List.{append-nil}
 use Rattle.wire_bits.specs.Bits.{bits_of}
 use Rattle.wire_bits.proofs.BitLists.{bits_of-nil}
@@ -6,7 +6,7 @@ use Rattle.wire_bits.proofs.Writers.{put_within, put_past, puts_within, puts_pas
 use Rattle.wire_bits.proofs.bit_writer.BitWriter.put_bits.Goals as goal
 
 pub returns-then-count-eq0-clause-ok : goal.returns-then-count-eq0-clause-ok
-returns-then-count-eq0-clause-ok c = sym (ap (λ (a : List Bool). c.args.self.now ++ a) (ap (λ k. bits_of k c.args.value) c.if-count-eq0.true ∙ bits_of-nil c.args.value) ∙ append-nil c.args.self.now)
+returns-then-count-eq0-clause-ok c = sym (ap (λ a. c.args.self.now ++ a) (ap (λ k. bits_of k c.args.value) c.if-count-eq0.true ∙ bits_of-nil _) ∙ append-nil c.args.self.now)
 
 pub invariant_of-self-then-total-lt64 : goal.invariant_of-self-then-total-lt64
 invariant_of-self-then-total-lt64 c =
@@ -16,7 +16,7 @@ invariant_of-self-then-total-lt64 c =
 pub returns-in_ok-reserve-clause-ok : goal.returns-in_ok-reserve-clause-ok
 returns-in_ok-reserve-clause-ok c =
     let i = c.self.inside in
-    puts_within c.reserve.new.self.items i.bytes.items c.args.self.now i.word i.count c.args.value c.args.count _ _ c.self.invariant.buffer c.requires c.if-total-lt64.true refl refl c.in_ok-reserve.ensures.items c.self.view_is
+    puts_within _ _ _ _ _ _ _ _ _ c.self.invariant.buffer c.requires c.if-total-lt64.true refl refl c.in_ok-reserve.ensures.items c.self.view_is
 
 pub invariant_of-self-else-total-lt64 : goal.invariant_of-self-else-total-lt64
 invariant_of-self-else-total-lt64 c =
@@ -32,5 +32,5 @@ pub returns-in_ok-reserve-2-clause-ok : goal.returns-in_ok-reserve-2-clause-ok
 returns-in_ok-reserve-2-clause-ok c =
     let i = c.self.inside in
     let items = rw c.unwrap.ensures at c.extend_from_slice.ensures.items in
-    puts_past c.extend_from_slice.new.self.items i.bytes.items c.args.self.now i.word i.count c.args.value c.args.count _ _ _ c.self.invariant.buffer c.requires c.if-total-lt64.false refl refl refl
-    (items ∙ ap (λ (a : List ℕ). a ++ c.to_be_bytes.result) c.in_ok-reserve-2.ensures.items ∙ ap (λ (a : List ℕ). i.bytes.items ++ a) c.to_be_bytes.ensures) c.self.view_is
+    puts_past _ _ _ _ _ _ _ _ _ _ c.self.invariant.buffer c.requires c.if-total-lt64.false refl refl refl
+    (items ∙ ap (λ a. a ++ c.to_be_bytes.result) c.in_ok-reserve-2.ensures.items ∙ ap (λ a. i.bytes.items ++ a) c.to_be_bytes.ensures) c.self.view_is

@@ -1,7 +1,4 @@
 use Rattle.std.specs.Int.{w32}
-use Rattle.wire_bytes.specs.declared.refusal.WireRefusal.TheVariants.{Short}
-use Rattle.wire_bytes.specs.Fields.{number_at}
-use Rattle.wire_bytes.specs.FieldTexts.{IsFixed}
 use Rattle.wire_bytes.proofs.FieldLaws.{found_from, only_from, refused, ↔-then}
 use Rattle.wire_bytes.proofs.FixedLaws.{wide32, number_found, number_again, number_short}
 use Rattle.wire_bytes.proofs.cursor.Cursor.take_u32.Goals as goal
@@ -10,14 +7,14 @@ pub returns-clause-found : goal.returns-clause-found
 returns-clause-found c =
     let p = c.args.self.now in
     let q = c.read_u32.new.self in
-    found_from (IsFixed w32) p q c.read_u32.result (number_at w32 p) (λ n e. number_found w32 wide32 p q n c.read_u32.ensures.bytes e) c.read_u32.ensures.exact
+    found_from _ p q _ _ (λ n e. number_found w32 wide32 p q n c.read_u32.ensures.bytes e) c.read_u32.ensures.exact
 
 pub returns-clause-only : goal.returns-clause-only
 returns-clause-only c =
     let p = c.args.self.now in
-    only_from (IsFixed w32) p c.read_u32.new.self c.read_u32.result (number_at w32 p) (number_again w32 wide32 p) c.read_u32.ensures.exact
+    only_from _ p _ _ _ (number_again _ wide32 p) c.read_u32.ensures.exact
 
 pub returns-clause-short : goal.returns-clause-short
 returns-clause-short c =
     let p = c.args.self.now in
-    ↔-then (refused p c.read_u32.new.self c.read_u32.result (number_at w32 p) Short c.read_u32.ensures.exact) (number_short w32 wide32 p)
+    ↔-then (refused p _ _ _ _ c.read_u32.ensures.exact) (number_short _ wide32 p)

@@ -1,7 +1,4 @@
 use Rattle.std.specs.Int.{w64}
-use Rattle.wire_bytes.specs.declared.refusal.WireRefusal.TheVariants.{Short}
-use Rattle.wire_bytes.specs.Fields.{number_at}
-use Rattle.wire_bytes.specs.FieldTexts.{IsFixed}
 use Rattle.wire_bytes.proofs.FieldLaws.{found_from, only_from, refused, ↔-then}
 use Rattle.wire_bytes.proofs.FixedLaws.{wide64, number_found, number_again, number_short}
 use Rattle.wire_bytes.proofs.cursor.Cursor.take_u64.Goals as goal
@@ -10,14 +7,14 @@ pub returns-clause-found : goal.returns-clause-found
 returns-clause-found c =
     let p = c.args.self.now in
     let q = c.read_u64.new.self in
-    found_from (IsFixed w64) p q c.read_u64.result (number_at w64 p) (λ n e. number_found w64 wide64 p q n c.read_u64.ensures.bytes e) c.read_u64.ensures.exact
+    found_from _ p q _ _ (λ n e. number_found w64 wide64 p q n c.read_u64.ensures.bytes e) c.read_u64.ensures.exact
 
 pub returns-clause-only : goal.returns-clause-only
 returns-clause-only c =
     let p = c.args.self.now in
-    only_from (IsFixed w64) p c.read_u64.new.self c.read_u64.result (number_at w64 p) (number_again w64 wide64 p) c.read_u64.ensures.exact
+    only_from _ p _ _ _ (number_again _ wide64 p) c.read_u64.ensures.exact
 
 pub returns-clause-short : goal.returns-clause-short
 returns-clause-short c =
     let p = c.args.self.now in
-    ↔-then (refused p c.read_u64.new.self c.read_u64.result (number_at w64 p) Short c.read_u64.ensures.exact) (number_short w64 wide64 p)
+    ↔-then (refused p _ _ _ _ c.read_u64.ensures.exact) (number_short _ wide64 p)

@@ -4,4 +4,4 @@ use Rattle.xor_chunks.proofs.window.Window.changed.Goals as goal
 
 pub returns : goal.returns
 returns c =
-    ap (bit_xor c.args.pattern) (shl_whole c.args.field c.args.self.width c.trail.result 64 c.requires c.trail.ensures.within ∙ ap (λ t. c.args.field * 2 ^ t) c.trail.ensures.trail)
+    ap (bit_xor c.args.pattern) (shl_whole _ _ _ _ c.requires c.trail.ensures.within ∙ ap (λ t. c.args.field * 2 ^ t) c.trail.ensures.trail)

@@ -7,5 +7,5 @@ overflow_sub-result c = omega (arith, counts_apart c.args.change c.requires (ome
 
 pub invariant_of-result : goal.invariant_of-result
 invariant_of-result c =
-    let apart = counts_apart c.args.change c.requires (omega arith) in
-    (omega (arith, c.min-lead.ensures), omega (arith, apart, c.min-lead.ensures), omega arith)
+    let apart = counts_apart _ c.requires (omega arith) in
+    (omega arith, omega arith, omega arith)
