@@ -368,7 +368,3 @@ module _ (ulid : ℕ) (meta : Meta) (index : List ℕ) (segments : List (List �
 
 pub moved_passed : (ulid : ℕ) (files : BlockFiles) (series samples more_series more_samples : ℕ) → more_series ≡ series → more_samples ≡ samples → HasPassed ulid files series samples → HasPassed ulid files more_series more_samples
 moved_passed ulid files series samples more_series more_samples many count is = record { list = is.list; passes = is.passes; series_are = many ∙ is.series_are; samples_are = count ∙ is.samples_are }
-
--- a block passes under its own ULID
-pub own_passed : (ulid : ℕ) (files : BlockFiles) (series samples : ℕ) → HasPassed ulid files series samples → HasPassed files.meta.ulid files series samples
-own_passed ulid files series samples is = subst (λ (u : ℕ). HasPassed u files series samples) (sym is.passes.own.ulid_is) is

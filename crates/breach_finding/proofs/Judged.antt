@@ -50,12 +50,6 @@ module _ (Refuses : Rule → ℕ → ℕ → Type 0) where
   asked_none rule (Some told) r is none = cc (ap is_some is, none)
 
   module _ (lied : Option (ℕ × ℕ)) (first : Option Refusal) (lie_is : IsTold (Refuses honesty) lied) (is : first ≡ refusal_of found.Bucket lied) where
-    one_asked : IsJudged Refuses 1 first
-    one_asked = subst (IsJudged Refuses 1) (sym is) (judged_next Refuses 0 found.Bucket refl nothing_below lied lie_is)
-
-    pub early_one : is_some first ≡ true → IsJudged Refuses 3 first
-    early_one some = widened 1 first (omega arith) some one_asked
-
     module _ (none : is_some first ≡ false) (untimely : Option (ℕ × ℕ)) (second : Option Refusal) (upload_is : IsTold (Refuses upload_time) untimely) (so : second ≡ refusal_of found.UploadTime untimely) where
       no_lie : (other : Rule) (x y : ℕ) → rank other < 1 → Refuses other x y → ⊥
       no_lie = by_none lied (asked_none found.Bucket lied first is none) lie_is

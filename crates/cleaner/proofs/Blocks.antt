@@ -1,5 +1,5 @@
 -- What pages of the names of blocks, and reads of their marks and metas, lead to.
-use Rattle.std.proofs.Common.{◌≡◌, ℕ, suc, ◌+◌, ◌*◌, ◌-◌, ◌^◌, ◌<◌, ◌≤◌, Bool, true, false, List, [], ◌∷◌, ◌++◌, length, min, sym, ◌∙◌, ap, subst, Option, Some, None, Result, arith, length-append}
+use Rattle.std.proofs.Common.{◌≡◌, ℕ, suc, ◌+◌, ◌*◌, ◌-◌, ◌^◌, ◌<◌, ◌≤◌, Bool, true, List, [], ◌∷◌, ◌++◌, length, min, sym, ◌∙◌, ap, subst, Option, Some, None, Result, arith, length-append}
 use Rattle.list_core.specs.declared.memory.NoMemory.{NoMemory}
 use Rattle.block_meta.specs.MetaFields.{MarkFields}
 use Rattle.world_core.specs.Operations.{entry_of}
@@ -124,9 +124,6 @@ module _ (found : List ℕ → Plan CleanEnd) (absent : Plan CleanEnd) (seq : �
 runs_if : (b : Bool) (one other : Plan CleanEnd) (entries : List Entry) (end : Option CleanEnd) → b ≡ true → Runs one entries end → Runs (choose b one other) entries end
 runs_if b one other entries end is run = subst (λ t. Runs (choose t one other) entries end) (sym is) run
 
-runs_else : (b : Bool) (one other : Plan CleanEnd) (entries : List Entry) (end : Option CleanEnd) → b ≡ false → Runs other entries end → Runs (choose b one other) entries end
-runs_else b one other entries end is run = subst (λ t. Runs (choose t one other) entries end) (sym is) run
-
 runs_marked : (seq : ℕ) (o : Option MarkFields) (next : MarkFields → Plan CleanEnd) (mark : MarkFields) (entries : List Entry) (end : Option CleanEnd) → o ≡ Some mark → Runs (next mark) entries end → Runs (if_mark seq o next) entries end
 runs_marked seq o next mark entries end is run = subst (λ m. Runs (if_mark seq m next) entries end) (sym is) run
 
@@ -159,14 +156,6 @@ module _ (c : Clean) (ulid seat : ℕ) (o : Op) (seen : Seen) where
       leads_as (may_at (Reading ulid) c) After_mark r new
       (λ entries end run. λ names more can. get_absent Marked Unmarked seen.seq seen.reply entries end is (run names more can)) leads
 
-  pub mark_young : (bytes : List ℕ) (mark : MarkFields) (r : Result (Act CleanEnd) NoMemory) (new : Clean) → seen.reply ≡ reply.Found bytes → block_mark ulid bytes ≡ Some mark
-      → is_old_mark mark seen.moment c.rules.delete ≡ false → Leads (goes_to c (blocks_left c)) r new → Leads After_mark r new
-  mark_young bytes mark r new is read young leads =
-      leads_as (goes_to c (blocks_left c)) After_mark r new
-      (λ entries end run. λ names more can. get_found Marked Unmarked seen.seq seen.reply bytes entries end is
-      (runs_marked seen.seq (block_mark ulid bytes) By_mark mark entries end read
-      (runs_else (is_old_mark mark seen.moment c.rules.delete) _ _ entries end young (run (omega (arith, can)))))) leads
-
   pub mark_old : (bytes : List ℕ) (mark : MarkFields) (blocks : ℕ) (r : Result (Act CleanEnd) NoMemory) (new : Clean) → seen.reply ≡ reply.Found bytes → block_mark ulid bytes ≡ Some mark
       → is_old_mark mark seen.moment c.rules.delete ≡ true → blocks ≡ min (c.blocks + 1) 18446744073709551615
       → Leads (λ entries end. blocks + c.partials + length c.waiting.items + 0 ≤ 2 ^ 63 → Runs (deletion c.rules ulid (looking c.rules (record { blocks = blocks; partials = c.partials }) c.waiting.items)) entries end) r new → Leads After_mark r new
@@ -197,12 +186,6 @@ module _ (c : Clean) (ulid seat : ℕ) (o : Op) (seen : Seen) where
   pub meta_found : (bytes : List ℕ) (r : Result (Act CleanEnd) NoMemory) (new : Clean) → seen.reply ≡ reply.Found bytes → Leads (goes_to c (blocks_left c)) r new → Leads After_meta r new
   meta_found bytes r new is leads =
       leads_as (goes_to c (blocks_left c)) After_meta r new (λ entries end run. λ names more can. get_found Kept No_meta seen.seq seen.reply bytes entries end is (run (omega (arith, can)))) leads
-
-  pub partial_young : (r : Result (Act CleanEnd) NoMemory) (new : Clean) → seen.reply ≡ reply.Absent → is_old_block ulid seen.moment c.rules.partial ≡ false → Leads (goes_to c (blocks_left c)) r new → Leads After_meta r new
-  partial_young r new is young leads =
-      leads_as (goes_to c (blocks_left c)) After_meta r new
-      (λ entries end run. λ names more can. get_absent Kept No_meta seen.seq seen.reply entries end is
-      (runs_else (is_old_block ulid seen.moment c.rules.partial) _ _ entries end young (run (omega (arith, can))))) leads
 
   pub partial_old : (partials : ℕ) (r : Result (Act CleanEnd) NoMemory) (new : Clean) → seen.reply ≡ reply.Absent → is_old_block ulid seen.moment c.rules.partial ≡ true → partials ≡ min (c.partials + 1) 18446744073709551615
       → Leads (λ entries end. c.blocks + partials + length c.waiting.items + 0 ≤ 2 ^ 63 → Runs (deletion c.rules ulid (looking c.rules (record { blocks = c.blocks; partials = partials }) c.waiting.items)) entries end) r new → Leads After_meta r new

@@ -1,13 +1,12 @@
 -- Keys by the names of their objects, and lawful keys.
-use Rattle.std.proofs.Common.{Bor, ◌≡◌, ℕ, ◌+◌, true, Option, None, Some, Ok, Err, Result, List, [], ◌∷◌, ◌++◌, map, length, take, drop, refl, sym, ap, subst, ◌∙◌, codes, append_assoc, length-append, arith}
-use Rattle.std.specs.Prelude.{nat_le, IfSome, IfOk, MatchOption}
+use Rattle.std.proofs.Common.{Bor, ◌≡◌, ℕ, ◌+◌, true, Option, None, Some, Ok, List, [], ◌∷◌, ◌++◌, map, length, take, drop, refl, sym, ap, subst, ◌∙◌, codes, append_assoc, length-append, arith}
+use Rattle.std.specs.Prelude.{nat_le, IfSome, MatchOption}
 use Rattle.std.specs.Option.{option_copied}
 use Rattle.std.specs.Slice.{IsItemAt}
 use Rattle.std.specs.List.{before_first, after_first, position_or_len}
-use Rattle.std.specs.Result.{result_ok}
 use Rattle.std.specs.Int.Digits.{AllBelowBase}
 use Rattle.std.proofs.Math.Seq.{take-append_seam, drop-append_seam}
-use Rattle.std.proofs.lemmas.Bool.{and_from, and_parts, le-leb, leb-true}
+use Rattle.std.proofs.lemmas.Bool.{and_from, and_parts, leb-true}
 use Rattle.std.proofs.lemmas.List.{length-map}
 use Rattle.ulid_core.specs.UlidText.{IsUlidText, text_of, ulid_of, character}
 use Rattle.ulid_core.proofs.UlidLaws.{ulid_of-only}
@@ -16,7 +15,7 @@ use Rattle.block_keys.specs.KeyText.{key_named, key_within, key_of, is_slash}
 use Rattle.block_keys.specs.declared.key.Key.{Key}
 use Rattle.block_keys.specs.declared.key.Key.TheVariants.{Meta, Index, Segment, Mark}
 use Rattle.block_keys.proofs.KeyLaws.{before_slash}
-use Rattle.cleaner.specs.Objects.{only_data, is_lawful_key, have_lawful_keys}
+use Rattle.cleaner.specs.Objects.{is_lawful_key, have_lawful_keys}
 
 -- ---- names
 
@@ -46,26 +45,12 @@ key_of_name ulid name block =
 
 -- ---- lawful keys
 
-lawful_test : (k : Key) → IsLawfulKey k → is_lawful_key k ≡ true
-lawful_test (Segment ulid number) is = and_from (nat_le 1 number) (nat_le number 999_999) (le-leb 1 number is.0) (le-leb number 999_999 is.1)
-lawful_test (Meta ulid) is = refl
-lawful_test (Index ulid) is = refl
-lawful_test (Mark ulid) is = refl
-
 lawful_key : (k : Key) → is_lawful_key k ≡ true → IsLawfulKey k
 lawful_key (Segment ulid number) e =
     let parts : _ = and_parts (nat_le 1 number) (nat_le number 999_999) e in (leb-true 1 number parts.0, leb-true number 999_999 parts.1)
 lawful_key (Meta ulid) e = tt
 lawful_key (Index ulid) e = tt
 lawful_key (Mark ulid) e = tt
-
--- what is read is lawful
-pub lawful_data : {E : Type 0} (r : Result Key E) → IfOk r IsLawfulKey → IfSome (only_data (result_ok r)) (λ k. is_lawful_key k ≡ true)
-lawful_data (Ok (Segment ulid number)) is = lawful_test (Segment ulid number) is
-lawful_data (Ok (Index ulid)) is = refl
-lawful_data (Ok (Meta ulid)) is = tt
-lawful_data (Ok (Mark ulid)) is = tt
-lawful_data (Err e) is = tt
 
 -- with one more
 pub lawful_more : (keys : List Key) (k : Key) → have_lawful_keys keys ≡ true → is_lawful_key k ≡ true → have_lawful_keys (keys ++ k ∷ []) ≡ true
@@ -78,11 +63,6 @@ lawful_more (key ∷ keys) k all one =
 pub lawful_first : (objects : List Key) (object : Key) → have_lawful_keys objects ≡ true → objects ≡ object ∷ drop 1 objects → IsLawfulKey object
 lawful_first objects object lawful is =
     lawful_key object (and_parts (is_lawful_key object) (have_lawful_keys (drop 1 objects)) (ap have_lawful_keys (sym is) ∙ lawful)).0
-
--- and the others
-pub lawful_others : (objects : List Key) → have_lawful_keys objects ≡ true → have_lawful_keys (drop 1 objects) ≡ true
-lawful_others [] lawful = refl
-lawful_others (object ∷ objects) lawful = (and_parts (is_lawful_key object) (have_lawful_keys objects) lawful).1
 
 -- the first one that is lent
 pub first_lent : (objects : List Key) (lent : Option (Bor Key)) → IsItemAt objects 0 lent → MatchOption (option_copied lent) (objects ≡ []) (λ object. objects ≡ object ∷ drop 1 objects)

@@ -1,10 +1,10 @@
 -- The files of blocks that were read, put together one after another.
-use Rattle.std.proofs.Common.{◌≡◌, ℕ, zero, suc, List, [], ◌∷◌, ◌++◌, ◌<◌, ◌≤◌, map, length, get_or, refl, sym, ap, subst, ◌∙◌, arith}
+use Rattle.std.proofs.Common.{◌≡◌, ℕ, zero, suc, List, [], ◌∷◌, ◌++◌, ◌<◌, map, length, get_or, refl, sym, ap, subst, ◌∙◌, arith}
 use Rattle.std.specs.List.{AllByRecursion, AllZip}
 use Rattle.list_core.proofs.Lists.{AllByRecursion-push}
 use Rattle.reading_core.specs.Grammar.{IsBytes}
 use Rattle.block_files.specs.declared.block_files.BlockFiles.{BlockFiles}
-use Rattle.compaction_inputs.specs.Inputs.{IsInput, HasFew}
+use Rattle.compaction_inputs.specs.Inputs.{IsInput}
 use Rattle.compaction_inputs.specs.InputFiles.{numbers_of, AreFiles, AreSegments}
 use Rattle.compaction_inputs.specs.declared.input.Input.{Input}
 use Rattle.compaction_inputs.specs.declared.input.Read.{Read}
@@ -38,22 +38,6 @@ segments_all segments yielded files numbers all are = subst (λ l. AreSegments l
     same_map [] = refl
     same_map (x ∷ xs) = ap (λ l. x ∷ l) (same_map xs)
 
-pub few_segments : (segments : List Read) (files : List (List ℕ)) (numbers : List ℕ) → AreSegments segments files numbers → length segments ≤ 999_999 → length files ≤ 999_999
-few_segments segments files numbers are few = omega (arith, few, ap length are.files_are, same_length segments)
-  where
-    same_length : (xs : List Read) → length (map (λ (s : Read). s.bytes) xs) ≡ length xs
-    same_length [] = refl
-    same_length (x ∷ xs) = ap (λ n. suc n) (same_length xs)
-
-pub input_is : (input : Input) (block : BlockFiles) (numbers : List ℕ) → block.meta ≡ input.meta → block.index ≡ input.index.bytes → IsBytes input.index.bytes
-    → AreSegments input.segments block.segments numbers → IsInput input block
-input_is input block numbers meta index bytes are = record {
-  meta = meta;
-  index = index;
-  segments = are.files_are;
-  bytes = record { index = subst IsBytes (sym index) bytes; segments = are.bytes };
-}
-
 -- ---- blocks
 
 zip_more : {A B : Type 0} (P : A → B → Type 0) (xs : List A) (ys : List B) (x : A) (y : B) → AllZip P xs ys → P x y → AllZip P (xs ++ x ∷ []) (ys ++ y ∷ [])
@@ -84,6 +68,3 @@ at : {A : Type 0} (P : A → Type 0) (xs : List A) (k : ℕ) (d : A) → AllByRe
 at P [] k d are within = absurd (omega (arith, within))
 at P (x ∷ xs) zero d are within = are.0
 at P (x ∷ xs) (suc k) d are within = at P xs k d are.1 (omega (arith, within))
-
-pub few_there : (inputs : List Input) (k : ℕ) (input : Input) → AllByRecursion HasFew inputs → (k < length inputs) × (input ≡ get_or inputs k input) → HasFew input
-few_there inputs k input few there = subst HasFew (sym there.1) (at HasFew inputs k input few there.0)

@@ -64,13 +64,6 @@ refused_so blocks numbers place at number cause block read other is first stands
       shown = was_read here.0 first.member cause number (subst (λ (b : BlockFiles). IsShownBy (numbers_of here.0) b cause number) one (subst (λ (r : Numbers). IsShownBy r block cause number) its shown));
     }
 
-pub refuses_there : (blocks : List BlockFiles) (place at : ℕ) (cause : CheckRefusal) (block : BlockFiles) → place < 4294967295 → place ≡ fitted at → IsFirstRefused blocks at cause
-    → slice_get blocks place ≡ Some block → RefusesContent block cause
-refuses_there blocks place at cause block other is first stands =
-    let same : place ≡ at = stands_for_itself place at other is in
-    let one : block ≡ first.member = some_is block first.member (sym stands ∙ ap (slice_get blocks) same ∙ first.stands) in
-    subst (λ (b : BlockFiles). RefusesContent b cause) (sym one) first.bad
-
 -- ---- the entry
 
 abbrev pub IsPlaceOf : List ℕ → ℕ → ℕ → ChunkPlace → Type 0

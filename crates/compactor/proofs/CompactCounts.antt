@@ -12,10 +12,6 @@ use Rattle.compactor.specs.declared.compact.Compact.{Compact}
 use Rattle.compaction_inputs.specs.declared.job.Job.{Job}
 use Rattle.compactor.specs.declared.stage.Stage.{Stage}
 
--- a part on a lower level than that
-pub part_under : (level above count : ℕ) → level < above → count < most_asked → most_asked * level + count < most_asked * above
-part_under level above count lower few = omega (arith, lower, few)
-
 -- a part that asks falls
 pub asks_falls : {A : Type 0} (old new : ℕ) (a : Act A) (op : Op) → a ≡ act.Do op → Falls old (Ok a) new → new < old
 asks_falls {A} old new a op is falls = subst (λ (b : Act A). Falls old (Ok b) new) is falls

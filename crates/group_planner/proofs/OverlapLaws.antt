@@ -10,7 +10,7 @@ use Rattle.block_meta.specs.declared.meta.Meta.{Meta}
 use Rattle.list_core.proofs.Lists.{cons_parts, cons_same, nil_not_middle, nil_not_cons, take_none, drop_none}
 use Rattle.group_planner.specs.Runs.{EachPasses, Stops, IsLongestRun}
 use Rattle.group_planner.specs.Overlaps.{is_before_end, overlaps, is_apart, overlaps_as, TakesOverlaps, IsOverlapPlan, IsEndOf}
-use Rattle.group_planner.proofs.LongestRuns.{one_run, all_or_cut, each_more, stops_at}
+use Rattle.group_planner.proofs.LongestRuns.{one_run, all_or_cut, each_more}
 
 -- ---- there is one
 
@@ -59,12 +59,6 @@ pub record Counted (wanted : Bool) (metas : List Meta) (place : ℕ) (begin end 
   pub each : (before : List Meta) → IsEndOf before begin → EachPasses (overlaps_as wanted) before (take place metas)
   pub end_is : (before : List Meta) → IsEndOf before begin → IsEndOf (before ++ take place metas) end
 
-pub counted_none : (wanted : Bool) (metas : List Meta) (begin end : ℤ) → end ≡ begin → Counted wanted metas 0 begin end
-counted_none wanted metas begin end e = record {
-  each = λ before is. subst (EachPasses (overlaps_as wanted) before) (sym (take_none metas)) tt;
-  end_is = λ before is. subst (λ l. IsEndOf l end) (sym (ap (λ l. before ++ l) (take_none metas) ∙ append-nil before)) (subst (IsEndOf before) (sym e) is);
-}
-
 as_wanted : (wanted test : Bool) (before : List Meta) (one : Meta) → overlaps before one ≡ test → test ≡ wanted → overlaps_as wanted before one ≡ true
 as_wanted true test before one is e = is ∙ e
 as_wanted false test before one is e = ap not (is ∙ e)
@@ -94,25 +88,9 @@ pub record Run (wanted : Bool) (metas : List Meta) (count : ℕ) (begin end : �
   pub longest : (before : List Meta) → IsEndOf before begin → IsLongestRun (overlaps_as wanted) before (take count metas) (drop count metas)
   pub end_is : (before : List Meta) → IsEndOf before begin → IsEndOf (before ++ take count metas) end
 
-pub run_stops : (wanted : Bool) (metas : List Meta) (place : ℕ) (one : Meta) (begin end : ℤ) → place < length metas → one ≡ get_or metas place one
-    → (int_lt one.min_time end ≡ wanted → ⊥) → Counted wanted metas place begin end
-    → (before : List Meta) → IsEndOf before begin → IsLongestRun (overlaps_as wanted) before (take place metas) (drop place metas)
-run_stops wanted metas place one begin end within at test so_far before is = record {
-  each = so_far.each before is;
-  ends = stops_at (overlaps_as wanted) (before ++ take place metas) metas place one within at
-      (not_wanted wanted (int_lt one.min_time end) (before ++ take place metas) one (sym (so_far.end_is before is one.min_time)) test);
-}
-
 nothing_behind : {A : Type 0} (test : List A → A → Bool) (before members : List A) → Stops test before (drop (length members) members)
 nothing_behind test before [] = tt
 nothing_behind test before (x ∷ members) = nothing_behind test before members
-
-pub run_ends : (wanted : Bool) (metas : List Meta) (begin end : ℤ) → Counted wanted metas (length metas) begin end
-    → (before : List Meta) → IsEndOf before begin → IsLongestRun (overlaps_as wanted) before (take (length metas) metas) (drop (length metas) metas)
-run_ends wanted metas begin end so_far before is = record {
-  each = so_far.each before is;
-  ends = nothing_behind (overlaps_as wanted) (before ++ take (length metas) metas) metas;
-}
 
 -- ---- the plan from two runs
 

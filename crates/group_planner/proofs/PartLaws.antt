@@ -166,9 +166,6 @@ next_found range metas place one count within at fit none longest =
 pub record PartsUpTo (range : ℤ) (metas left : List Meta) (done : List (List Meta)) : Type 0 where
   pub complete : (rest : List (List Meta)) → AreParts range left rest → AreParts range metas (done ++ rest)
 
-pub up_to_none : (range : ℤ) (metas : List Meta) → PartsUpTo range metas metas []
-up_to_none range metas = record { complete = λ rest are. are }
-
 pub up_to_next : (range : ℤ) (metas left part behind : List Meta) (done : List (List Meta)) → IsNextPart range left part behind → PartsUpTo range metas left done
     → PartsUpTo range metas behind (done ++ part ∷ [])
 up_to_next range metas left part behind done next up = record {

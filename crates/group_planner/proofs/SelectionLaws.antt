@@ -9,7 +9,7 @@ use Rattle.std.proofs.lemmas.List.Folds.{find-append}
 use Rattle.block_meta.specs.declared.meta.Meta.{Meta}
 use Rattle.group_planner.specs.Parts.{IsNextPart, AreParts, NoneFits}
 use Rattle.group_planner.specs.Selections.{Candidate, AreCandidates, is_worthwhile, is_wanted, ranges, last_begin, IsSelection}
-use Rattle.group_planner.proofs.PartLaws.{one_parts, parts_of, PartsUpTo, up_to_none, up_to_next, up_to_all}
+use Rattle.group_planner.proofs.PartLaws.{one_parts, parts_of, PartsUpTo, up_to_next, up_to_all}
 
 abbrev pub as_candidates : ℤ → List (List Meta) → List Candidate
 as_candidates range parts = map (λ part. record { range = range; part = part }) parts
@@ -47,9 +47,6 @@ pub record Found (range high : ℤ) (metas : List Meta) (part : Option (List Met
   pub parts : List (List Meta)
   pub are : AreParts range metas parts
   pub first : find (is_worthwhile range high) parts ≡ part
-
-pub searched_none : (range high : ℤ) (metas : List Meta) → Searched range high metas metas
-searched_none range high metas = record { done = []; none = refl; up_to = up_to_none range metas }
 
 pub searched_more : (range high : ℤ) (metas left part behind : List Meta) → IsNextPart range left part behind → is_worthwhile range high part ≡ false
     → Searched range high metas left → Searched range high metas behind
@@ -103,9 +100,6 @@ pub record FoundAmong (those : List ℤ) (high : ℤ) (metas : List Meta) (candi
 pub record Ranged (those rest : List ℤ) (high : ℤ) (metas : List Meta) : Type 0 where
   pub complete : (candidate : Option Candidate) → FoundAmong rest high metas candidate → FoundAmong those high metas candidate
 
-pub ranged_none : (those rest : List ℤ) (high : ℤ) (metas : List Meta) → rest ≡ those → Ranged those rest high metas
-ranged_none those rest high metas e = record { complete = λ candidate found. subst (λ l. FoundAmong l high metas candidate) e found }
-
 pub ranged_more : (those : List ℤ) (place : ℕ) (range high : ℤ) (metas : List Meta) → place < length those → range ≡ get_or those place (pos 0)
     → Found range high metas None → Ranged those (drop place those) high metas → Ranged those (drop (place + 1) those) high metas
 ranged_more those place range high metas within at none so_far = record {
@@ -137,18 +131,6 @@ ranged_all those high metas place all so_far =
     so_far.complete None (subst (λ l. FoundAmong l high metas None) (sym (ap (λ n. drop n those) all ∙ nothing_left those)) (record { candidates = []; are = refl; first = refl }))
 
 -- ---- the selection
-
-begins_last : (metas : List Meta) (last : Meta) → slice_get metas (length metas - 1) ≡ Some last → last_begin metas ≡ last.min_time
-begins_last metas last at = ap (λ o. option_map_or (λ l. l.min_time) o (pos 0)) at
-
-pub selection_from : (metas : List Meta) (last : Meta) (candidate : Option Candidate) (selected : List Meta) → slice_get metas (length metas - 1) ≡ Some last
-    → selected ≡ option_map_or (λ c. c.part) candidate [] → FoundAmong ranges last.min_time metas candidate → IsSelection metas selected
-selection_from metas last candidate selected at e found = record {
-  candidates = found.candidates;
-  listed = found.are;
-  first = e ∙ sym (ap (λ o. option_map_or (λ c. c.part) o [])
-      (ap (λ high. find (is_wanted high) found.candidates) (begins_last metas last at) ∙ found.first));
-}
 
 pub selection_of_none : (metas : List Meta) → metas ≡ [] → IsSelection metas metas
 selection_of_none metas e = subst (λ l. IsSelection l l) (sym e) (record {

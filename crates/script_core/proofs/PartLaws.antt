@@ -47,9 +47,6 @@ shorter_by text line is other =
 
 -- ---- what is left to the lines behind
 
-leaves_nothing : Leaves [] 0 (start standard_rules)
-leaves_nothing more = refl
-
 leaves_more : (text line : List ℕ) (count : ℕ) (st after : State) → Leaves text count st → ((more : List ℕ) → lines_of (line ++ newline ∷ more) ≡ line ∷ lines_of more) → line_at st (count + 1) line ≡ Ok after → Leaves (text ++ (line ++ newline ∷ [])) (count + 1) after
 unfolding lines_at
 leaves_more text line count st after so_far cut read more =

@@ -6,7 +6,7 @@ use Rattle.std.proofs.lemmas.List.{drop_all, take_more}
 use Rattle.std.proofs.lemmas.List.Concat.{flat_map-append}
 use Rattle.std.proofs.lemmas.List.{append-nil}
 use Rattle.std.proofs.lemmas.List.Elements.{Contains-append_cases}
-use Rattle.list_core.proofs.Membership.{no_member, only_member}
+use Rattle.list_core.proofs.Membership.{only_member}
 use Rattle.reading_core.specs.Reading.{◌>>=◌}
 use Rattle.label_sets.specs.declared.label.Label.{Label}
 use Rattle.label_sets.specs.Labels.{value_of}
@@ -16,7 +16,7 @@ use Rattle.index_v2.specs.declared.refusal.IndexRefusal.{IndexRefusal}
 use Rattle.index_v2.specs.Held.{Held}
 use Rattle.series_selection.specs.Selections.{deciding}
 use Rattle.series_selection.specs.SelectionSteps.{left_by, left_at, ListsStand, IsWithinBudget}
-use Rattle.series_selection.proofs.Walk.{stand_none, stand_same, stand_append}
+use Rattle.series_selection.proofs.Walk.{stand_same, stand_append}
 
 pub record LeftSoFar (held : Held) (external : List Label) (matchers : List Matcher) (numbers : List ℕ) (place : ℕ) (left : List ℕ) : Type 0 where
   pub whole : left_at held external matchers numbers ≡ left_at held external (drop place matchers) left
@@ -31,9 +31,6 @@ left_first held external m matchers numbers = refl
 left_none : (held : Held) (external : List Label) (numbers : List ℕ) → left_at held external [] numbers ≡ Ok numbers
 unfolding left_at
 left_none held external numbers = refl
-
-pub left_start : (held : Held) (external : List Label) (matchers : List Matcher) (numbers : List ℕ) → IsStrictlyIncreasing numbers → LeftSoFar held external matchers numbers 0 numbers
-left_start held external matchers numbers rise = record { whole = refl; rise = rise; stand = stand_none held; paid = λ m among. absurd (no_member m among) }
 
 drop_here : (matchers : List Matcher) (place : ℕ) (m : Matcher) → place < length matchers → m ≡ get_or matchers place m → drop place matchers ≡ m ∷ drop (place + 1) matchers
 drop_here matchers place m lt e = rw (add-one) (drop-cons matchers place m lt) ∙ ap (λ (x : Matcher). x ∷ drop (place + 1) matchers) (sym e)

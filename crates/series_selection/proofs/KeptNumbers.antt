@@ -4,7 +4,6 @@ use Rattle.std.specs.Prelude.{slice_index, ◌==◌, not, if◌then◌else◌}
 use Rattle.std.specs.List.Sorted.{IsNonDecreasing, IsStrictlyIncreasing}
 use Rattle.std.proofs.lemmas.Bool.{cases_lt}
 use Rattle.std.proofs.lemmas.Bool.Decides.{nat_tests}
-use Rattle.std.proofs.lemmas.List.Folds.{list_any_at}
 use Rattle.std.proofs.lemmas.List.{append-nil, take_more, get_or-drop, length-drop}
 use Rattle.std.proofs.lemmas.List.Elements.{filter-append}
 use Rattle.std.proofs.lemmas.List.Kept.{AllPairs-from_increasing, IsStrictlyIncreasing-filter}
@@ -15,10 +14,6 @@ none_found [] number none = refl
 none_found (n ∷ numbers) number none =
     let other : (n == number) ≡ false = (let differs = none 0 (omega arith) in grind (arith, nat_tests)) in
     rw other (none_found numbers number (λ k lt. none (suc k) (omega arith)))
-
--- a number is among ascending ones exactly where the first that is not below it is it
-pub found_here : (numbers : List ℕ) (place number : ℕ) → place < length numbers → get_or numbers place 0 ≡ number → is_one_of numbers number ≡ true
-found_here numbers place number lt e = list_any_at (λ n. n == number) numbers place 0 lt (grind (arith, nat_tests))
 
 pub not_found : (numbers : List ℕ) (place number : ℕ) → IsNonDecreasing numbers → ((k : ℕ) → k < place → get_or numbers k 0 < number) → (place < length numbers → number < get_or numbers place 0) → is_one_of numbers number ≡ false
 not_found numbers place number rise below above =

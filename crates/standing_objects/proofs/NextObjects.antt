@@ -2,7 +2,7 @@
 use Rattle.std.proofs.Common.{◌≡◌, ℕ, suc, ◌==◌, ◌&&◌, Bool, true, List, [], ◌∷◌, ◌++◌, length, Option, Some, None, refl, sym, ◌∙◌, ap, subst, arith}
 use Rattle.std.specs.Prelude.{find}
 use Rattle.std.specs.BTreeMap.{keys, IsOrdered}
-use Rattle.std.specs.Ordering.{nat_cmp, is_gt, is_lt, ordering_then}
+use Rattle.std.specs.Ordering.{nat_cmp, is_lt, ordering_then}
 use Rattle.std.specs.Cmp.Lexicographic.{slice_cmp}
 use Rattle.std.specs.declared.cmp.Ordering.TheVariants.{Less}
 use Rattle.std.proofs.lemmas.Bool.{and_parts, eqb-true, eq-eqb}
@@ -16,7 +16,6 @@ use Rattle.block_keys.specs.declared.key.Key.TheVariants.{Meta, Index, Segment, 
 use Rattle.block_keys.proofs.KeyLaws.{IsLawfulKey-text}
 use Rattle.standing_objects.specs.Held.{HaveTexts, IsWritten, Places}
 use Rattle.standing_objects.specs.Next.{IsBehindIn, IsDueAt, IsDueIn, IsFirstKey, Stands, is_due_object}
-use Rattle.standing_objects.proofs.Blocks.{not_greater}
 use Rattle.standing_objects.proofs.Changes.{in_order}
 use Rattle.standing_objects.proofs.Objects.{cmp_behind}
 use Rattle.standing_objects.proofs.Scans.{FirstDue, scanned}
@@ -29,15 +28,6 @@ module _ (places : Places) (ulid : ℕ) (key : Key) (own : key_ulid key ≡ ulid
 
   pub behind_none : IsFirstKey Behind places None → IsFirstKey (IsBehindIn ulid key) places None
   behind_none none = λ other stands due. none other stands due.1
-
-  pub behind_here : (first : Key) → IsFirstKey Behind places (Some first) → key_ulid first ≡ ulid → IsFirstKey (IsBehindIn ulid key) places (Some first)
-  behind_here first (stands, less, least) is = (stands, (is, less), λ other has due. least other has due.1)
-
-  pub behind_past : (first : Key) → IsFirstKey Behind places (Some first) → (key_ulid first ≡ ulid → ⊥) → IsFirstKey (IsBehindIn ulid key) places None
-  behind_past first (stands, less, least) other = λ k has due.
-      let low = not_greater first k (least k has due.1) in
-      let high = not_greater key first (ap is_gt less) in
-      let between : key_ulid first ≡ ulid = omega (arith, low, high, own, due.0) in other between
 
 -- ---- the first that is due
 

@@ -91,12 +91,6 @@ module _ (due : Key → Bool) (left all : List Key) (same : find due left ≡ fi
   pub scan_hit : (key : Key) (later : List Key) → left ≡ key ∷ later → due key ≡ true → option_map key_ulid (find due all) ≡ Some (key_ulid key)
   scan_hit key later begins is = ap (option_map key_ulid) (sym same ∙ ap (find due) begins ∙ ap (λ b. cond b (Some key) (find due later)) is)
 
-  pub scan_miss : (key : Key) (later : List Key) → left ≡ key ∷ later → due key ≡ false → find due later ≡ find due all
-  scan_miss key later begins is = sym (ap (find due) begins ∙ ap (λ b. cond b (Some key) (find due later)) is) ∙ same
-
-  pub scan_end : left ≡ [] → option_map key_ulid (find due all) ≡ None
-  scan_end ends = ap (option_map key_ulid) (sym same ∙ ap (find due) ends)
-
 -- ---- keys that have texts are lawful
 
 all_of : (P : Key → Type 0) (es : List (Key × ℕ)) → ((key : Key) → Has es key → P key) → AllByRecursion P (keys_of es)
@@ -109,16 +103,6 @@ lawful_keys places texts = all_of IsLawfulKey places.entries (λ key has. IsLawf
 module _ (due : Key → Bool) (left all : List Key) where
   abbrev pub IsLeft : Type 0
   IsLeft = AllByRecursion IsLawfulKey left × (find due left ≡ find due all)
-
-  module _ (key : Key) (later : List Key) (begins : left ≡ key ∷ later) (is : IsLeft) where
-    pub first_lawful : IsLawfulKey key
-    first_lawful = (subst (AllByRecursion IsLawfulKey) begins is.0).0
-
-    pub left_hit : due key ≡ true → Some key ≡ find due all
-    left_hit hit = sym (ap (λ b. cond b (Some key) (find due later)) hit) ∙ sym (ap (find due) begins) ∙ is.1
-
-    pub left_miss : due key ≡ false → AllByRecursion IsLawfulKey later × (find due later ≡ find due all)
-    left_miss miss = ((subst (AllByRecursion IsLawfulKey) begins is.0).1, sym (ap (find due) begins ∙ ap (λ b. cond b (Some key) (find due later)) miss) ∙ is.1)
 
   pub left_begun : left ≡ all → AllByRecursion IsLawfulKey all → IsLeft
   left_begun same lawful = (subst (AllByRecursion IsLawfulKey) (sym same) lawful, ap (find due) same)

@@ -44,10 +44,6 @@ module _ {B : Type 0} (asked : B → Option (List Call)) where
   asks_once reply old new op call made got no_memory none result is same wants replied (inr (unnoted, wanted)) =
       subst (λ r. AsksIn asked old new op r) (sym (replied ∙ ap reply wanted ∙ wants)) (inr unnoted)
 
-  -- a copy of the reply could not be made
-  pub asks_untold : (old new : B) (op : Op) (reply : Reply) (none : NoMemory) → AsksIn asked old new op (Ok reply) → AsksIn asked old new op (Err none)
-  asks_untold old new op reply none asks = inl asks
-
   -- the whole of what was asked, after one more operation
   all_then : (old new : B) (journal later : List Entry) (before : List Call) (since : List Call) → Asks asked old new since → calls_of later ≡ calls_of journal ++ since
       → asked old ≡ Some (before ++ opening ∷ calls_of journal) → asked new ≡ Some (before ++ opening ∷ calls_of later)

@@ -124,10 +124,3 @@ pub followed : {A T E : Type 0} (first : Plan A) (next : A → Plan T) (Gives : 
     → Runs first own (Some last) → ComesTo (next last) Gives others end → ComesTo (and_then first next) Gives (own ++ others) end
 followed first next Gives own others last None one run = joined first next own others last None one run
 followed first next Gives own others last (Some end) one (told, run, is) = (told, joined first next own others last (Some told) one run, is)
-
--- a part that does what is left of a plan, and what follows its end, are a run of both
-pub part_runs : {M A E : Type 0} (left : M → Plan A) (part : M) (next : A → Plan E) (entries : List Entry) (end : Option E)
-    → PartThen (λ m es a last. Runs (left m) es a) part (λ own came. next came) entries end → Runs (and_then (left part) next) entries end
-part_runs left part next entries end (inl (off, none)) = subst (Runs (and_then (left part) next) entries) (sym none) (begun (left part) next entries off.1)
-part_runs left part next entries end (inr hands) =
-    subst (λ es. Runs (and_then (left part) next) es end) (sym hands.are) (joined (left part) next hands.own hands.others hands.came end hands.first hands.rest)

@@ -466,9 +466,6 @@ module _ {W : Type 0} (journal : W → List Entry) (ticks faults : W → ℕ) (a
             (λ apart. ⊎_elim (λ t. inl (some_longer (λ u. (u.live ≡ true) × (u.seat ≡ n)) views (right ∷ []) t)) (λ c. inr c) (seat_still s.views r.joined r.joined id v left n at (λ m. m) (λ c. c) (r.everybody n (omega arith))));
       }
 
-  dead : (u : View) → spent ≡ u → u.live ≡ true → ⊥
-  dead u e l = true≢false (sym l ∙ ap (λ (y : View). y.live) (sym e))
-
   off_too : (v u : View) → v ≡ u → v.holds ≡ false → u.holds ≡ true → ⊥
   off_too v u e a b = true≢false (sym b ∙ (ap (λ (x : View). x.holds) (sym e) ∙ a))
 
