@@ -14,11 +14,12 @@ ghost use Rattle.replay_cli.specs.call_verdicts.specs.declared.verdict.Verdict.T
 ghost use Rattle.tosraem.specs.Calls.{IsServed, names_replay};
 
 mod advice;
+mod room;
 
 use crate::advice::tell;
+use crate::room::WithRoom;
 use bucket_core::{Sink, Site, Source};
 use dir_bucket::HostSite;
-use phase_runner::Open;
 use replay_cli::{ReaderSource, Run, Status, WriterSink, run_replay, run_tool};
 use std::alloc::Global;
 use std::process::ExitCode;
@@ -107,7 +108,15 @@ where
         site.old site.new result.shelf }
 {
     if asks_for_threads(words) {
-        run_replay(threads, alloc, words, site, script, out, &Open)
+        run_replay(
+            threads,
+            alloc,
+            words,
+            site,
+            script,
+            out,
+            &WithRoom::new(alloc),
+        )
     } else {
         run_tool(alloc, words, site, script, out)
     }

@@ -1,0 +1,46 @@
+//! Memory for threads, as the C library keeps it.
+//!
+//! What a thread takes comes from an area of its own. Such an area grows by a page or two at a time, each time by a call to the system,
+//! for which threads wait on each other; and what is freed at its end goes back to the system, to be asked for anew. A large block that
+//! is taken, left untouched and given back at once changes both: the area has grown by as much in one call, and what is freed mostly
+//! stays with the program from then on. Where a block can't be had, all is as it was.
+
+use phase_runner::Gate;
+use std::alloc::Global;
+
+/// Blocks that are smaller than this come from an area, and mostly stay in it, once one of this size was given back. Of much larger ones
+/// the C library takes no notice.
+const KEPT: usize = 31 * 1_048_576;
+
+/// By so much a thread's area grows at once.
+const ROOM: usize = 30 * 1_048_576;
+
+/// A worker of so few operations needs no room, as one that uploads a block.
+const FEW: u64 = 8;
+
+/// Holds nobody up, but makes room for a worker of many operations in the area of its thread.
+#[derive(Drop)]
+pub(crate) struct WithRoom {
+    alloc: Global,
+}
+
+impl WithRoom {
+    /// From now on freed memory stays with the program.
+    pub(crate) fn new(alloc: Global) -> WithRoom {
+        take_and_give_back(alloc, KEPT);
+        WithRoom { alloc }
+    }
+}
+
+impl Gate for WithRoom {
+    fn before(&self, _seat: u32, number: u64) {
+        if number == FEW {
+            take_and_give_back(self.alloc, ROOM);
+        }
+    }
+}
+
+/// Takes a block of so many bytes, if it can be had, and gives it back untouched.
+fn take_and_give_back(alloc: Global, bytes: usize) {
+    drop(Vec::<u8>::with_capacity(alloc, bytes));
+}
