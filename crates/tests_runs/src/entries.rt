@@ -1,8 +1,7 @@
 //! The entries of a journal, as rows show them.
-use crate::says::{put, put_number, say};
+use crate::says::{put, put_number, say, say_names, text_of};
 use block_keys::Key;
-use label_sets::{Text, TextList};
-use std::str;
+use label_sets::Text;
 use ulid_core::Ulid;
 use world_core::{Entry, Op, Reply};
 
@@ -18,10 +17,20 @@ pub(crate) fn print_entries(rt: &HostRuntime, entries: &[Entry]) {
     }
 }
 
+/// Prints an operation; of a put the text of a mark, and how many bytes another object has.
 fn print_op(rt: &HostRuntime, op: &Op) {
     match op {
         Op::Clock(moment) => put_number(rt, " clock ", moment.ms),
-        Op::Put(key, bytes) => print_put(rt, key, bytes.bytes()),
+        Op::Put(key, bytes) => {
+            put_key(rt, " put ", key);
+            match key {
+                Key::Mark(_) => {
+                    put(rt, " ");
+                    put(rt, text_of(bytes.bytes()));
+                }
+                _ => put_number(rt, " ", bytes.bytes().len() as u64),
+            }
+        }
         Op::Get(key) => put_key(rt, " get ", key),
         Op::GetRange(key, from, len) => {
             put_key(rt, " range ", key);
@@ -42,18 +51,6 @@ fn print_op(rt: &HostRuntime, op: &Op) {
     }
 }
 
-/// Prints a put: the text of a mark, of another object how many bytes it has.
-fn print_put(rt: &HostRuntime, key: &Key, bytes: &[u8]) {
-    put_key(rt, " put ", key);
-    match key {
-        Key::Mark(_) => {
-            put(rt, " ");
-            put(rt, str::from_utf8(bytes).unwrap_or("no text"));
-        }
-        _ => put_number(rt, " ", bytes.len() as u64),
-    }
-}
-
 fn print_reply(rt: &HostRuntime, reply: &Reply) {
     match reply {
         Reply::Clocked => say(rt, " done"),
@@ -64,18 +61,13 @@ fn print_reply(rt: &HostRuntime, reply: &Reply) {
         }
         Reply::Absent => say(rt, " absent"),
         Reply::Deleted => say(rt, " deleted"),
-        Reply::Names(names) => print_names(rt, names),
+        Reply::Names(names) => {
+            put(rt, " names");
+            say_names(rt, names.members());
+        }
         Reply::Failed(false) => say(rt, " failed"),
         Reply::Failed(true) => say(rt, " landed"),
     }
-}
-
-fn print_names(rt: &HostRuntime, names: &TextList) {
-    put(rt, " names");
-    for name in names.members() {
-        put_name(rt, name);
-    }
-    say(rt, "");
 }
 
 /// Prints a name behind a blank, if there is one.

@@ -19,7 +19,10 @@ where
     S::Files: Drop,
 {
     put(rt, "a shelf before its folder: ");
-    show(rt, &opens_shelf(site, FOLDER));
+    let opened = site.open_shelf(FOLDER);
+    let is_open = opened.is_ok();
+    drop(opened);
+    show(rt, &is_open);
     put(rt, "a bucket without a name: ");
     show(rt, &opens_bucket(site, ""));
     put(rt, "a bucket in no folder of files: ");
@@ -28,17 +31,7 @@ where
     show(rt, &opens_bucket(site, "memory"));
 }
 
-/// Whether a site opens a shelf of that name, which is let go again.
-fn opens_shelf<S: Site>(site: &mut S, name: &str) -> bool
-where
-    S::Files: Drop,
-{
-    let opened = site.open_shelf(name);
-    let is_open = opened.is_ok();
-    drop(opened);
-    is_open
-}
-
+/// Whether a site opens a bucket of that name, which is let go again.
 fn opens_bucket<S: Site>(site: &mut S, name: &str) -> bool
 where
     S::Store: Drop,

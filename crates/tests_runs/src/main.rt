@@ -20,7 +20,7 @@ use crate::folders::{Folder, open_both, print_call, print_openings};
 use crate::lines::{Named, add_lines, repeated, script_of, wide};
 use crate::runs::{Shown, print_run};
 use crate::says::{cut, say};
-use crate::setting::{calm, setting_of};
+use crate::setting::{CALM, setting_of};
 use crate::threads::print_threads;
 use bucket_core::{Bucket, Shelf, Site};
 use dir_bucket::HostSite;
@@ -93,40 +93,28 @@ fn do_row<R: Threads + Wait + Sync, B: Bucket, F: Shelf>(
     }
 }
 
-/// Does one run, and prints what came of it.
-fn print_one(rt: &HostRuntime, named: &[Named], word: &str, text: &str) {
-    match word {
-        "words" => print_run(rt, text, b"", &calm(), Shown::Report),
-        "repeat" => print_repeated(rt, text),
-        "wide" => print_wide(rt, text),
-        "journal" => print_script(rt, named, text, Shown::Entries),
-        "calls" => print_script(rt, named, text, Shown::Calls),
-        _ => print_script(rt, named, text, Shown::Report),
-    }
-}
-
 /// The words of a run by one thread, over memory and no shelf.
 const SERIAL: &str = "serial memory none";
 
-fn print_script(rt: &HostRuntime, named: &[Named], text: &str, shown: Shown) {
-    let (how, lines) = text.split_once(" / ").unwrap_or((text, ""));
-    match script_of(rt.alloc(), named, lines) {
-        Ok(script) => print_run(rt, SERIAL, script.as_slice(), &setting_of(how), shown),
-        Err(_) => say(rt, "  no memory"),
-    }
-}
-
-fn print_repeated(rt: &HostRuntime, text: &str) {
-    let (count, line) = cut(text);
-    match repeated(rt.alloc(), count.parse().unwrap_or(0), line) {
-        Ok(script) => print_run(rt, SERIAL, script.as_slice(), &calm(), Shown::Report),
-        Err(_) => say(rt, "  no memory"),
-    }
-}
-
-fn print_wide(rt: &HostRuntime, text: &str) {
-    match wide(rt.alloc(), text.parse().unwrap_or(0)) {
-        Ok(script) => print_run(rt, SERIAL, script.as_slice(), &calm(), Shown::Entries),
-        Err(_) => say(rt, "  no memory"),
+/// Does one run, and prints what came of it.
+fn print_one(rt: &HostRuntime, named: &[Named], word: &str, text: &str) {
+    let alloc = rt.alloc();
+    match word {
+        "words" => print_run(rt, text, Vec::new(alloc), &CALM, Shown::Report),
+        "repeat" => print_run(rt, SERIAL, repeated(alloc, text), &CALM, Shown::Report),
+        "wide" => {
+            let script = wide(alloc, text.parse().unwrap_or(0));
+            print_run(rt, SERIAL, script, &CALM, Shown::Entries);
+        }
+        _ => {
+            let (how, lines) = text.split_once(" / ").unwrap_or((text, ""));
+            let shown = match word {
+                "journal" => Shown::Entries,
+                "calls" => Shown::Calls,
+                _ => Shown::Report,
+            };
+            let script = script_of(alloc, named, lines);
+            print_run(rt, SERIAL, script, &setting_of(how), shown);
+        }
     }
 }

@@ -1,6 +1,7 @@
 //! What the rows print. A line that cannot be written shows as what is lacking in the output, by which the row fails; so no call
 //! here hands it on.
-use std::fmt;
+use label_sets::Text;
+use std::{fmt, str};
 
 /// Prints a line.
 pub(crate) fn say(rt: &HostRuntime, line: &str) {
@@ -30,7 +31,21 @@ pub(crate) fn say_lines(rt: &HostRuntime, text: &str) {
     }
 }
 
+/// Ends a line with names, each behind a blank.
+pub(crate) fn say_names(rt: &HostRuntime, names: &[Text]) {
+    for name in names {
+        put(rt, " ");
+        put(rt, name.as_str());
+    }
+    say(rt, "");
+}
+
 /// The first word of a text, and what stands behind the blank after it.
 pub(crate) fn cut(text: &str) -> (&str, &str) {
     text.split_once(' ').unwrap_or((text, ""))
+}
+
+/// The text of bytes, where they are one.
+pub(crate) fn text_of(bytes: &[u8]) -> &str {
+    str::from_utf8(bytes).unwrap_or("no text")
 }

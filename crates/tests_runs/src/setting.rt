@@ -1,12 +1,14 @@
 //! What goes wrong outside of a run.
 use crate::says::cut;
 use crate::strange_bucket::Lie;
-use bucket_core::Fail;
+use bucket_core::{Fail, FailList};
+use std::alloc::Global;
 
-/// Which call of the bucket, of the source and of the sink fails, whether the site does, and how the bucket lies.
+/// Which call of the bucket, of the shelf, of the source and of the sink fails, whether the site does, and how the bucket lies.
 #[derive(Clone, Copy)]
 pub(crate) struct Setting {
     pub(crate) bucket: Option<Fail>,
+    pub(crate) shelf: Option<Fail>,
     pub(crate) source: Option<u64>,
     pub(crate) sink: Option<u64>,
     pub(crate) site: bool,
@@ -14,50 +16,45 @@ pub(crate) struct Setting {
 }
 
 /// Nothing goes wrong.
-pub(crate) fn calm() -> Setting {
-    Setting {
-        bucket: None,
-        source: None,
-        sink: None,
-        site: false,
-        lie: Lie::Never,
-    }
-}
+pub(crate) const CALM: Setting = Setting {
+    bucket: None,
+    shelf: None,
+    source: None,
+    sink: None,
+    site: false,
+    lie: Lie::Never,
+};
 
 /// What a row says of it.
 pub(crate) fn setting_of(how: &str) -> Setting {
     let (word, number) = cut(how);
     let call: u64 = number.parse().unwrap_or(0);
+    let mut setting = CALM;
     match word {
-        "fails" => failing(call, false),
-        "lands" => failing(call, true),
-        "source" => Setting {
-            source: Some(call),
-            ..calm()
-        },
-        "sink" => Setting {
-            sink: Some(call),
-            ..calm()
-        },
-        "site" => Setting {
-            site: true,
-            ..calm()
-        },
-        "metas" => lying(Lie::Metas),
-        "indexes" => lying(Lie::Indexes),
-        "lost" => lying(Lie::Lost),
-        "pages" => lying(Lie::Pages),
-        _ => calm(),
+        "fails" => {
+            setting.bucket = Some(Fail {
+                call,
+                landed: false,
+            });
+        }
+        "lands" => setting.bucket = Some(Fail { call, landed: true }),
+        "source" => setting.source = Some(call),
+        "sink" => setting.sink = Some(call),
+        "site" => setting.site = true,
+        "metas" => setting.lie = Lie::Metas,
+        "indexes" => setting.lie = Lie::Indexes,
+        "lost" => setting.lie = Lie::Lost,
+        "pages" => setting.lie = Lie::Pages,
+        _ => {}
     }
+    setting
 }
 
-fn failing(call: u64, landed: bool) -> Setting {
-    Setting {
-        bucket: Some(Fail { call, landed }),
-        ..calm()
+/// The list of the call that fails, where one does. Where memory is wanted none fails, by which the row does.
+pub(crate) fn fails_of(alloc: Global, failing: Option<Fail>) -> FailList {
+    let mut fails = FailList::new(alloc);
+    if let Some(fail) = failing {
+        let _ = fails.push(fail);
     }
-}
-
-fn lying(lie: Lie) -> Setting {
-    Setting { lie, ..calm() }
+    fails
 }

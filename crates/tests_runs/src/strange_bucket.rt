@@ -3,15 +3,14 @@
 ghost use Rattle.std.specs.Prelude.{◌≡◌, false};
 ghost use Rattle.bucket_core.specs.Causes.{get_failed};
 
-use crate::setting::Setting;
+use crate::setting::{Setting, fails_of};
 use bucket_core::{
-    Bucket, DeleteAnswer, Fail, FailList, GetAnswer, MemoryBucket, MemoryShelf, PageAnswer,
-    PutAnswer, Site, SiteRefusal,
+    Bucket, DeleteAnswer, GetAnswer, MemoryBucket, MemoryShelf, PageAnswer, PutAnswer, Site,
+    SiteRefusal,
 };
 use call_notes::CallNotes;
 use label_sets::{Text, TextList};
-use list_core::NoMemory;
-use std::alloc::{AllocError, Global};
+use std::alloc::Global;
 use wire_bytes::Blob;
 
 /// How a strange bucket lies.
@@ -28,42 +27,32 @@ pub enum Lie {
     Pages,
 }
 
-/// What a bucket shows of an object that it found.
-#[derive(Clone, Copy)]
-enum Sight {
-    True,
-    /// The one byte `x`.
-    Other,
-    Nothing,
-}
-
-impl Lie {
-    fn sight(self, key: &str) -> Sight {
-        match self {
-            Lie::Metas if key.ends_with("/meta.json") => Sight::Other,
-            Lie::Indexes if key.ends_with("/index") => Sight::Other,
-            Lie::Lost if key.ends_with("/index") => Sight::Nothing,
-            _ => Sight::True,
-        }
-    }
-}
-
 /// A bucket in memory that may lie, and of which a call may fail. It tells no contents, but what it was asked. It notes its calls to
-/// be printed too, and a call for whose note there is no memory is not done, unless it is a deletion.
+/// be printed too. Where memory is wanted, a note is left out, and so is the name of a page that lies.
 #[derive(Drop)]
 pub struct StrangeBucket {
     alloc: Global,
     inner: MemoryBucket,
     lie: Lie,
-    /// A line for each call: its kind and the key, or the name behind which names are listed.
-    notes: Vec<u8>,
+    /// A line for each call, in order: its kind and the key, or the name behind which names are listed.
+    pub(crate) notes: Vec<u8>,
     told: CallNotes,
 }
 
 impl StrangeBucket {
-    /// The notes of its calls, in order.
-    pub fn notes(&self) -> &[u8] {
-        &self.notes
+    /// What it shows in the place of an answer: by its lie, where an object was found.
+    fn shown(&self, key: &str, answer: GetAnswer) -> GetAnswer
+        ensures { get_failed result ≡ get_failed answer }
+    {
+        match answer {
+            GetAnswer::Found(bytes) => match self.lie {
+                Lie::Metas if key.ends_with("/meta.json") => self.other(),
+                Lie::Indexes if key.ends_with("/index") => self.other(),
+                Lie::Lost if key.ends_with("/index") => GetAnswer::Absent,
+                _ => GetAnswer::Found(bytes),
+            },
+            answer => answer,
+        }
     }
 
     /// An object of one byte.
@@ -75,18 +64,12 @@ impl StrangeBucket {
             Err(_) => GetAnswer::NoMemory,
         }
     }
-
-    fn name_page(&self) -> Result<TextList, NoMemory> {
-        let mut names = TextList::new(self.alloc);
-        names.push(Text::from_str(self.alloc, "x")?)?;
-        Ok(names)
-    }
 }
 
-fn note(notes: &mut Vec<u8>, kind: &str, name: &str) -> Result<(), AllocError> {
-    notes.extend_from_slice(kind.as_bytes())?;
-    notes.extend_from_slice(name.as_bytes())?;
-    notes.extend_from_slice(b"\n")
+fn note(notes: &mut Vec<u8>, kind: &str, name: &str) {
+    let _ = notes.extend_from_slice(kind.as_bytes());
+    let _ = notes.extend_from_slice(name.as_bytes());
+    let _ = notes.push(b'\n');
 }
 
 impl Bucket for StrangeBucket {
@@ -107,64 +90,45 @@ impl Bucket for StrangeBucket {
     #[tactic(auto, using(crate::proofs::Noting::noted))]
     fn put(&mut self, key: &str, bytes: &Blob) -> PutAnswer {
         self.told.note_put(key, bytes.bytes());
-        if note(&mut self.notes, "put ", key).is_err() {
-            return PutAnswer::NoMemory;
-        }
+        note(&mut self.notes, "put ", key);
         self.inner.put(key, bytes)
     }
 
     #[tactic(auto, using(crate::proofs::Noting::noted))]
     fn get(&mut self, key: &str) -> GetAnswer {
         self.told.note_get(key);
-        if note(&mut self.notes, "get ", key).is_err() {
-            return GetAnswer::NoMemory;
-        }
-        match self.inner.get(key) {
-            GetAnswer::Found(bytes) => match self.lie.sight(key) {
-                Sight::True => GetAnswer::Found(bytes),
-                Sight::Other => self.other(),
-                Sight::Nothing => GetAnswer::Absent,
-            },
-            answer => answer,
-        }
+        note(&mut self.notes, "get ", key);
+        let answer = self.inner.get(key);
+        self.shown(key, answer)
     }
 
     #[tactic(auto, using(crate::proofs::Noting::noted))]
     fn get_range(&mut self, key: &str, from: u64, len: u64) -> GetAnswer {
         self.told.note_range(key, from, len);
-        if note(&mut self.notes, "range ", key).is_err() {
-            return GetAnswer::NoMemory;
-        }
-        match self.inner.get_range(key, from, len) {
-            GetAnswer::Found(bytes) => match self.lie.sight(key) {
-                Sight::True => GetAnswer::Found(bytes),
-                Sight::Other => self.other(),
-                Sight::Nothing => GetAnswer::Absent,
-            },
-            answer => answer,
-        }
+        note(&mut self.notes, "range ", key);
+        let answer = self.inner.get_range(key, from, len);
+        self.shown(key, answer)
     }
 
     #[tactic(auto, using(crate::proofs::Noting::noted_so))]
     fn delete(&mut self, key: &str) -> DeleteAnswer {
         self.told.note_delete(key);
-        let _noted = note(&mut self.notes, "delete ", key);
+        note(&mut self.notes, "delete ", key);
         self.inner.delete(key)
     }
 
     #[tactic(auto, using(crate::proofs::Noting::noted))]
     fn page(&mut self, within: &str, after: &str, limit: u32) -> PageAnswer {
         self.told.note_page(within, after, limit);
-        if note(&mut self.notes, "page ", after).is_err() {
-            return PageAnswer::NoMemory;
-        }
+        note(&mut self.notes, "page ", after);
         if !matches!(self.lie, Lie::Pages) {
             return self.inner.page(within, after, limit);
         }
-        match self.name_page() {
-            Ok(names) => PageAnswer::Names(names),
-            Err(_) => PageAnswer::NoMemory,
+        let mut names = TextList::new(self.alloc);
+        if let Ok(name) = Text::from_str(self.alloc, "x") {
+            let _ = names.push(name);
         }
+        PageAnswer::Names(names)
     }
 }
 
@@ -172,9 +136,7 @@ impl Bucket for StrangeBucket {
 #[derive(Drop)]
 pub struct StrangeSite {
     alloc: Global,
-    lie: Lie,
-    failing: Option<Fail>,
-    closed: bool,
+    setting: Setting,
     opened: u32,
     faults: u64,
 }
@@ -183,21 +145,10 @@ impl StrangeSite {
     pub(crate) fn new(alloc: Global, setting: &Setting) -> StrangeSite {
         StrangeSite {
             alloc,
-            lie: setting.lie,
-            failing: setting.bucket,
-            closed: setting.site,
+            setting: *setting,
             opened: 0,
             faults: 0,
         }
-    }
-
-    /// The calls of its buckets that fail.
-    fn fails(&self) -> Result<FailList, NoMemory> {
-        let mut fails = FailList::new(self.alloc);
-        if let Some(fail) = self.failing {
-            fails.push(fail)?;
-        }
-        Ok(fails)
     }
 }
 
@@ -219,18 +170,16 @@ impl Site for StrangeSite {
     ghost next_shelf = { λ s name. None };
 
     fn open_bucket(&mut self, _name: &str) -> Result<StrangeBucket, SiteRefusal> {
-        if self.closed || self.opened == u32::MAX {
+        if self.setting.site || self.opened == u32::MAX {
             self.faults = self.faults.saturating_add(1);
             return Err(SiteRefusal::Failed);
         }
-        let Ok(fails) = self.fails() else {
-            return Err(SiteRefusal::NoMemory);
-        };
+        let fails = fails_of(self.alloc, self.setting.bucket);
         self.opened += 1;
         Ok(StrangeBucket {
             alloc: self.alloc,
             inner: MemoryBucket::new(self.alloc, fails),
-            lie: self.lie,
+            lie: self.setting.lie,
             notes: Vec::new(self.alloc),
             told: CallNotes::new(),
         })

@@ -1,31 +1,70 @@
-//! Calls of the tool, of which the status is kept alone.
-use bucket_core::{MemorySink, MemorySource, Site};
+//! Calls of the tool over a script and a sink in memory, of which the status and what was written are kept alone.
+use crate::lines::script_of;
+use crate::setting::{Setting, fails_of};
+use bucket_core::{
+    FileList, MemoryBucket, MemoryShelf, MemorySink, MemorySite, MemorySource, Site,
+};
 use phase_runner::Gate;
 use replay_cli::{run_replay, run_tool};
 use std::alloc::Global;
 use std::sync::Wait;
 use std::thread::Threads;
+use wire_bytes::Blob;
 
-/// Does the call without threads, and gives its status.
-pub(crate) fn in_line<S: Site>(
-    alloc: Global,
-    words: &[String],
-    site: &mut S,
-    source: &mut MemorySource,
-    out: &mut MemorySink,
-) -> u8
-where
-    S::Store: Drop,
-    S::Files: Drop,
-{
-    let run = run_tool(alloc, words, site, source, out);
-    let status = run.status;
-    drop(run);
-    status
+/// How a call ended, and what it wrote.
+#[derive(Drop)]
+pub(crate) struct Ended {
+    pub(crate) status: u8,
+    pub(crate) out: MemorySink,
 }
 
-/// Does the call with threads, and gives its status.
-pub(crate) fn in_threads<R: Threads + Wait + Sync, S: Site, G: Gate + Sync>(
+/// Does the call of this name with the words behind it, over a bucket in memory and a shelf of these files. The script has these lines.
+/// What the setting says goes wrong, but this bucket does not lie.
+pub(crate) fn end_over_memory<R: Threads + Wait + Sync, G: Gate + Sync>(
+    threads: &R,
+    alloc: Global,
+    (call, words): (&str, &str),
+    files: FileList,
+    lines: &str,
+    setting: &Setting,
+    gate: &G,
+) -> Ended {
+    let bucket = MemoryBucket::new(alloc, fails_of(alloc, setting.bucket));
+    let shelf = MemoryShelf::with_failing(alloc, files, fails_of(alloc, setting.shelf));
+    let mut site = MemorySite::new(bucket, shelf, setting.site);
+    let script = script_of(alloc, &[], lines);
+    let ended = end_of(threads, (call, words), &mut site, script, setting, gate);
+    drop(site);
+    ended
+}
+
+/// Does the call of this name with the words behind it. Of the setting it takes which call of the source and of the sink fails.
+pub(crate) fn end_of<R: Threads + Wait + Sync, S: Site, G: Gate + Sync>(
+    threads: &R,
+    (call, words): (&str, &str),
+    site: &mut S,
+    script: Vec<u8>,
+    setting: &Setting,
+    gate: &G,
+) -> Ended
+where
+    S::Store: Drop + Send,
+    S::Files: Drop,
+{
+    let alloc = *script.allocator();
+    let mut source = MemorySource::new(Blob::from_vec(script), setting.source);
+    let mut out = MemorySink::new(alloc, setting.sink);
+    let mut list = Vec::new(alloc);
+    add_words(&mut list, call);
+    add_words(&mut list, words);
+    let status = status_of(threads, alloc, &list, site, &mut source, &mut out, gate);
+    drop(list);
+    drop(source);
+    Ended { status, out }
+}
+
+/// The status of a call, which is done with threads where its first word is `replay`.
+fn status_of<R: Threads + Wait + Sync, S: Site, G: Gate + Sync>(
     threads: &R,
     alloc: Global,
     words: &[String],
@@ -38,19 +77,23 @@ where
     S::Store: Drop + Send,
     S::Files: Drop,
 {
-    let run = run_replay(threads, alloc, words, site, source, out, gate);
+    let run = match words {
+        [call, ..] if call.as_str() == "replay" => {
+            run_replay(threads, alloc, words, site, source, out, gate)
+        }
+        _ => run_tool(alloc, words, site, source, out),
+    };
     let status = run.status;
     drop(run);
     status
 }
 
-/// The words of a text. A word for which there is no memory is lacking, by which the row fails.
-pub(crate) fn words_of(alloc: Global, text: &str) -> Vec<String> {
-    let mut words = Vec::new(alloc);
+/// Adds the words of a text. A word for which there is no memory is lacking, by which the row fails.
+pub(crate) fn add_words(words: &mut Vec<String>, text: &str) {
+    let alloc = *words.allocator();
     for word in text.split_whitespace() {
         if let Ok(word) = String::from_str(alloc, word) {
             let _ = words.push(word);
         }
     }
-    words
 }

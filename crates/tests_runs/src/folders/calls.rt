@@ -1,16 +1,16 @@
-ghost use Rattle.std.specs.Prelude.{◌≤◌, IsTrue};
+ghost use Rattle.std.specs.Prelude.{IsTrue};
 ghost use Rattle.bucket_core.specs.Contents.{IsKey};
 
-use crate::folders::memory_shelf::{print_check, print_served};
-use crate::folders::runs::{print_example, print_run, print_script};
-use crate::says::{cut, put, say, show};
+use crate::folders::memory_shelf::{CHECK, SERIAL, SHELVED, print_over_memory};
+use crate::folders::runs::{print_beside, print_over_files};
+use crate::lines::{ONE_BLOCK, script_of};
+use crate::says::{cut, put, say, say_names, show, text_of};
 use bucket_core::{Bucket, GetAnswer, PageAnswer, Shelf, ShelfAnswer};
-use label_sets::Text;
 use std::fs::{File, Permissions};
 use std::os::unix::fs::PermissionsExt;
 use std::sync::Wait;
 use std::thread::Threads;
-use std::{fs, io, str};
+use std::{fs, io};
 use wire_bytes::Blob;
 
 /// A bucket and a shelf over one folder, and a bucket in memory.
@@ -32,15 +32,22 @@ pub(crate) fn print_call<R: Threads + Wait + Sync, B: Bucket, F: Shelf>(
     put(rt, row);
     put(rt, " -> ");
     match kind {
-        "run" => print_run(threads, rt, text),
-        "example" => print_example(threads, rt, text),
-        "runs" => print_script(threads, rt, "serial", text),
-        "replays" => print_script(threads, rt, "replay", text),
-        "words" => print_check(rt, text),
-        "served" => print_served(rt, text),
-        "folder" => show(rt, &fs::create_dir_all(rt, text).is_ok()),
-        "file" => show(rt, &write_zeros(rt, text).is_ok()),
-        "mode" => show(rt, &set_mode(rt, text).is_ok()),
+        "run" => {
+            let script = script_of(rt.alloc(), &[], ONE_BLOCK);
+            print_over_files(threads, rt, cut(text), script, None);
+        }
+        "example" => {
+            let (name, shelf) = text.split_once(' ').unwrap_or((text, "none"));
+            print_beside(threads, rt, ("serial memory", shelf), "examples", name);
+        }
+        "runs" | "replays" => {
+            let (places, name) = text.rsplit_once(' ').unwrap_or(("", text));
+            let call = if kind == "runs" { "serial" } else { "replay" };
+            print_beside(threads, rt, (call, places), "runs", name);
+        }
+        "words" => print_over_memory(threads, rt, CHECK, "", text),
+        "served" => print_over_memory(threads, rt, SERIAL, SHELVED, text),
+        "folder" | "file" | "mode" => show(rt, &change(rt, kind, text).is_ok()),
         "read" => print_read(rt, folder.shelf.read(text)),
         "memory" => {
             let (kind, text) = cut(text);
@@ -52,12 +59,16 @@ pub(crate) fn print_call<R: Threads + Wait + Sync, B: Bucket, F: Shelf>(
 
 /// Prints what a bucket answers.
 fn print_answer<B: Bucket>(rt: &HostRuntime, bucket: &mut B, kind: &str, text: &str) {
+    let (first, rest) = cut(text);
     match kind {
-        "put" => print_put(rt, bucket, text),
+        "put" => print_put(rt, bucket, first, rest),
         "get" => print_get(rt, bucket.get(text)),
-        "range" => print_range(rt, bucket, text),
+        "range" => {
+            let (from, len) = cut(rest);
+            print_get(rt, bucket.get_range(first, number_of(from), number_of(len)));
+        }
         "delete" => show(rt, &bucket.delete(text)),
-        "page" => print_page(rt, bucket, text),
+        "page" => print_page(rt, bucket, first, rest),
         _ => say(rt, "no call"),
     }
 }
@@ -71,8 +82,7 @@ fn is_key(key: &str) -> bool
     }
 }
 
-fn print_put<B: Bucket>(rt: &HostRuntime, bucket: &mut B, text: &str) {
-    let (key, bytes) = cut(text);
+fn print_put<B: Bucket>(rt: &HostRuntime, bucket: &mut B, key: &str, bytes: &str) {
     if !is_key(key) {
         return say(rt, "no key");
     }
@@ -82,21 +92,18 @@ fn print_put<B: Bucket>(rt: &HostRuntime, bucket: &mut B, text: &str) {
     }
 }
 
-fn print_range<B: Bucket>(rt: &HostRuntime, bucket: &mut B, text: &str) {
-    let (key, range) = cut(text);
-    let (from, len) = cut(range);
-    print_get(rt, bucket.get_range(key, number_of(from), number_of(len)))
-}
-
 fn number_of(text: &str) -> u64 {
     text.parse().unwrap_or(0)
 }
 
-fn print_page<B: Bucket>(rt: &HostRuntime, bucket: &mut B, text: &str) {
-    let (within, rest) = cut(text);
+fn print_page<B: Bucket>(rt: &HostRuntime, bucket: &mut B, within: &str, rest: &str) {
     let (after, limit) = cut(rest);
-    match bucket.page(unless_dot(within), unless_dot(after), limit_of(limit)) {
-        PageAnswer::Names(names) => print_names(rt, names.members()),
+    let limit = limit.parse::<u32>().unwrap_or(1).max(1);
+    match bucket.page(unless_dot(within), unless_dot(after), limit) {
+        PageAnswer::Names(names) => {
+            put(rt, "names");
+            say_names(rt, names.members());
+        }
         PageAnswer::Failed => say(rt, "failed"),
         PageAnswer::NoMemory => say(rt, "no memory"),
     }
@@ -104,24 +111,6 @@ fn print_page<B: Bucket>(rt: &HostRuntime, bucket: &mut B, text: &str) {
 
 fn unless_dot(text: &str) -> &str {
     if text == "." { "" } else { text }
-}
-
-fn limit_of(text: &str) -> u32
-    ensures { 1 ≤ result }
-{
-    match text.parse::<u32>() {
-        Ok(limit) if limit > 0 => limit,
-        _ => 1,
-    }
-}
-
-fn print_names(rt: &HostRuntime, names: &[Text]) {
-    put(rt, "names");
-    for name in names {
-        put(rt, " ");
-        put(rt, name.as_str());
-    }
-    say(rt, "");
 }
 
 fn print_get(rt: &HostRuntime, answer: GetAnswer) {
@@ -149,19 +138,19 @@ fn print_found(rt: &HostRuntime, bytes: &[u8]) {
     if bytes.len() > 99 {
         let _ = println!(rt; "{} bytes", bytes.len());
     } else {
-        show(rt, &str::from_utf8(bytes).unwrap_or("no text"));
+        show(rt, &text_of(bytes));
     }
 }
 
-/// Makes a file of so many bytes, which are all zero.
-fn write_zeros(rt: &HostRuntime, text: &str) -> io::Result<()> {
-    let (path, size) = cut(text);
-    File::create(rt, path)?.set_len(number_of(size))
-}
-
-/// Sets who may read a file or a folder, by an octal number.
-fn set_mode(rt: &HostRuntime, text: &str) -> io::Result<()> {
-    let (path, mode) = cut(text);
-    let mode = u32::from_str_radix(mode, 8).unwrap_or(0);
-    fs::set_permissions(rt, path, Permissions::from_mode(mode))
+/// Makes a folder, or a file of so many bytes, which are all zero; or sets who may read one, by an octal number.
+fn change(rt: &HostRuntime, kind: &str, text: &str) -> io::Result<()> {
+    let (path, number) = cut(text);
+    match kind {
+        "folder" => fs::create_dir_all(rt, path),
+        "file" => File::create(rt, path)?.set_len(number_of(number)),
+        _ => {
+            let mode = u32::from_str_radix(number, 8).unwrap_or(0);
+            fs::set_permissions(rt, path, Permissions::from_mode(mode))
+        }
+    }
 }

@@ -2,7 +2,7 @@ ghost use Rattle.std.specs.Prelude.{◌≡◌, []};
 ghost use Rattle.world_turn.specs.Closing.{AllJoined};
 ghost use Rattle.world_turn.specs.Passes.{table_of, view_of};
 
-use crate::threads::ranges::read_at;
+use crate::threads::job::read_at;
 use crate::threads::worlds::{are_in_order, shared_world};
 use bucket_core::MemoryBucket;
 use std::alloc::Global;

@@ -1,55 +1,110 @@
 ghost use Rattle.std.specs.Prelude.{◌≡◌, IfSome, vec_len};
 
-use crate::threads::gates::{Meeting, Tally};
-use crate::threads::ranges::Ranges;
+use crate::threads::gates::Watch;
+use crate::threads::job::{Asks, Calls, CallsEnd};
 use crate::threads::worlds::{are_in_order, shared_world};
+use bucket_core::{Fail, MemoryBucket};
 use phase_runner::{Gate, Open, run_phase};
 use std::alloc::Global;
 use std::sync::Wait;
 use std::thread::Threads;
+use world_core::World;
 
-/// Two workers make a hundred calls each.
-pub fn workers_share_a_journal<R: Threads + Wait + Sync>(rt: &R, alloc: Global) -> bool {
-    works_twice(rt, alloc, &Open, 100)
-}
+/// The call that fails: the first opens the world, so this is the third put of both workers together.
+const FAILING: Fail = Fail {
+    call: 4,
+    landed: false,
+};
 
-/// Two workers wait for each other before their operation number 2, so neither comes past it unless both run.
-pub fn workers_meet<R: Threads + Wait + Sync>(rt: &R, alloc: Global) -> bool {
-    let gate = Meeting::new();
-    works_twice(rt, alloc, &gate, 5) && gate.took_place()
-}
-
-/// The gate is told how many operations each worker has done, before each of them.
-pub fn operations_are_numbered<R: Threads + Wait + Sync>(rt: &R, alloc: Global) -> bool {
-    let gate = Tally::new();
-    works_twice(rt, alloc, &gate, 20) && gate.has_counted(20)
-}
-
-/// A phase of two workers with so many calls each. The journal has them in each one's order.
-fn works_twice<R: Threads + Wait + Sync, G: Gate + Sync>(
+/// Two workers make so many reads each, under this gate. The journal has them in each one's order.
+pub fn workers_share_a_journal<R: Threads + Wait + Sync, G: Gate + Sync>(
     rt: &R,
     alloc: Global,
     gate: &G,
     count: u64,
 ) -> bool {
-    let Some(jobs) = two_jobs(alloc, count) else {
+    match phase_of_two(rt, alloc, gate, (Asks::Reads, count), None) {
+        Some(worked) => {
+            let good = are_in_order(worked.world.journal().entries(), count);
+            drop(worked);
+            good
+        }
+        None => false,
+    }
+}
+
+/// The gate is told how many operations each worker has done, before each of them. Where the workers meet, they wait for each other
+/// before their operation number 2, so neither comes past it unless both run.
+pub fn workers_are_watched<R: Threads + Wait + Sync>(
+    rt: &R,
+    alloc: Global,
+    meets: bool,
+    count: u64,
+) -> bool {
+    let gate = Watch::new(meets);
+    workers_share_a_journal(rt, alloc, &gate, count) && gate.has_counted(count) && gate.saw_both()
+}
+
+/// Two workers put three objects each, over a bucket of which one call fails. One of them stops there, and the other puts all:
+/// the journal has the puts that did not fail and the one that did.
+pub fn a_fault_stops_no_other<R: Threads + Wait + Sync>(rt: &R, alloc: Global) -> bool {
+    match phase_of_two(rt, alloc, &Open, (Asks::Puts, 3), Some(FAILING)) {
+        Some(worked) => {
+            let good = has_stopped_one(worked.ends.as_slice(), worked.world.journal().len());
+            drop(worked);
+            good
+        }
+        None => false,
+    }
+}
+
+/// Whether one worker stopped and the other put all three, where the journal has so many entries.
+fn has_stopped_one(ends: &[CallsEnd], entries: u64) -> bool {
+    let [one, two] = ends else {
         return false;
     };
-    let Some((shared, root)) = shared_world(alloc, None) else {
-        return false;
+    let (less, more) = if one.done < two.done {
+        (one.done, two.done)
+    } else {
+        (two.done, one.done)
+    };
+    more == 3 && less < 3 && entries == less.saturating_add(4)
+}
+
+/// The ends of two workers' jobs, and the world that they left.
+#[derive(Drop)]
+struct Worked {
+    ends: Vec<CallsEnd>,
+    world: World<MemoryBucket>,
+}
+
+/// A phase of two workers that ask so many times each, over an empty bucket of which a call may fail.
+fn phase_of_two<R: Threads + Wait + Sync, G: Gate + Sync>(
+    rt: &R,
+    alloc: Global,
+    gate: &G,
+    each: (Asks, u64),
+    failing: Option<Fail>,
+) -> Option<Worked> {
+    let jobs = two_jobs(alloc, each)?;
+    let Some((shared, root)) = shared_world(alloc, failing) else {
+        drop(jobs);
+        return None;
     };
     let end = run_phase(rt, alloc, &shared, root, jobs, gate);
     let world = shared.close(end.root).into_world();
-    let good = !end.memory && are_in_order(world.journal().entries(), count);
-    drop(world);
-    good
+    Some(Worked {
+        ends: end.ends,
+        world,
+    })
 }
 
-fn two_jobs(alloc: Global, count: u64) -> Option<Vec<Ranges>>
+fn two_jobs(alloc: Global, each: (Asks, u64)) -> Option<Vec<Calls>>
     ensures { IfSome result (λ jobs. vec_len jobs ≡ 2) }
 {
+    let (asks, count) = each;
     let mut jobs = Vec::new(alloc);
-    jobs.push(Ranges { count }).ok()?;
-    jobs.push(Ranges { count }).ok()?;
+    jobs.push(Calls { alloc, asks, count }).ok()?;
+    jobs.push(Calls { alloc, asks, count }).ok()?;
     Some(jobs)
 }

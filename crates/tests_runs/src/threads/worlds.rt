@@ -2,7 +2,8 @@ ghost use Rattle.std.specs.Prelude.{◌≡◌, [], IfSome};
 ghost use Rattle.world_turn.specs.Closing.{AllJoined};
 ghost use Rattle.world_turn.specs.Passes.{table_of, view_of};
 
-use bucket_core::{Fail, FailList, MemoryBucket};
+use crate::setting::fails_of;
+use bucket_core::{Fail, MemoryBucket};
 use moment_core::Span;
 use std::alloc::Global;
 use world_core::{Entry, Op, World};
@@ -10,20 +11,12 @@ use world_turn::{Pass, Shared};
 
 /// A shared world over an empty bucket, of which one call fails. The first call opens the world.
 #[tactic(auto, using(crate::proofs::Joined::none_split))]
-pub fn shared_world(alloc: Global, failing: Option<u64>) -> Option<(Shared<MemoryBucket>, Pass)>
+pub fn shared_world(alloc: Global, failing: Option<Fail>) -> Option<(Shared<MemoryBucket>, Pass)>
     ensures { IfSome result (λ r. (table_of r.1 ≡ r.0.table.shared.table_id) × (r.1.seat ≡ 0)
         × (r.1.splits ≡ 0) × ((view_of r.1).seats ≡ 1) × ((view_of r.1).joined ≡ [])
         × AllJoined (view_of r.1)) }
 {
-    let mut fails = FailList::new(alloc);
-    if let Some(call) = failing {
-        let fail = Fail {
-            call,
-            landed: false,
-        };
-        fails.push(fail).ok()?;
-    }
-    let bucket = MemoryBucket::new(alloc, fails);
+    let bucket = MemoryBucket::new(alloc, fails_of(alloc, failing));
     let Ok(world) = World::open(alloc, bucket, Span { ms: 1 }) else {
         return None;
     };

@@ -1,5 +1,0 @@
-use Rattle.tests_runs.proofs.Acting.{Did}
-use Rattle.tests_runs.proofs.threads.puts.PutsJob.run.Given as goal
-
-abbrev pub invariant-loop : goal.invariant-loop
-invariant-loop g l = let hand = g.H.Hand in Did hand.entries hand.seat hand.refused hand.wanted hand.keeps l.fn.hand l.hand l.met.full l.met.wanted
