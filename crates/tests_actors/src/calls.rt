@@ -8,12 +8,11 @@ use crate::setting::{hand_of, sync_rules};
 use crate::told::print_ops;
 use activity_runs::{CallLeft, run_call, run_sync};
 use index_cache::IndexCache;
-use label_sets::{Series, TextList};
+use label_sets::TextList;
 use matchers::Selector;
 use meta_fetcher::{SyncEnd, View};
 use series_calls::SeriesEnd;
 use std::alloc::Global;
-use ulid_core::Ulid;
 use world_core::Driven;
 
 /// Prints the reads and the end of each call of a row: CAPACITY NAME.. / ANSWER.. / QUESTION / QUESTION
@@ -26,7 +25,8 @@ pub(crate) fn print_calls(rt: &HostRuntime, objects: &[Named], text: &str) {
         match run_sync(rt.alloc(), sync_rules(1000), &mut hand) {
             Driven::Ended(SyncEnd::View(view)) => {
                 add_answers(rt.alloc(), objects, &mut hand, answers, false);
-                print_asked(rt, view, &mut hand, capacity, questions);
+                print_asked(rt, &view, &mut hand, capacity, questions);
+                drop(view);
             }
             other => {
                 drop(other);
@@ -38,25 +38,11 @@ pub(crate) fn print_calls(rt: &HostRuntime, objects: &[Named], text: &str) {
 }
 
 /// Prints what is asked with an empty cache of so many ranges.
-fn print_asked(rt: &HostRuntime, view: View, hand: &mut Played, capacity: &str, questions: &str) {
-    match IndexCache::new(
-        rt.alloc(),
-        usize::from(capacity.parse::<u16>().unwrap_or(1)).max(1),
-    ) {
-        Ok(cache) => print_each(rt, &view, hand, cache, questions),
-        Err(_) => say(rt, "  no cache"),
-    }
-    drop(view);
-}
-
-fn print_each(
-    rt: &HostRuntime,
-    view: &View,
-    hand: &mut Played,
-    empty: IndexCache,
-    questions: &str,
-) {
-    let mut cache = empty;
+fn print_asked(rt: &HostRuntime, view: &View, hand: &mut Played, capacity: &str, questions: &str) {
+    let capacity = usize::from(capacity.parse::<u16>().unwrap_or(1)).max(1);
+    let Ok(mut cache) = IndexCache::new(rt.alloc(), capacity) else {
+        return say(rt, "  no cache");
+    };
     for question in questions.split(" / ") {
         let before = hand.entries().len();
         match asked(rt.alloc(), view, question, hand, cache) {
@@ -106,28 +92,20 @@ fn print_end(rt: &HostRuntime, end: &SeriesEnd) {
     match end {
         SeriesEnd::Answer { series, sources } => {
             for source in sources.members() {
-                print_source(rt, *source);
+                put(rt, "  source ");
+                say_text(rt, &source.text());
             }
             for one in series.members() {
-                print_series(rt, one);
+                let mut text = Vec::new(rt.alloc());
+                let _ = one.write(&mut text);
+                put(rt, "  series ");
+                say_text(rt, text.as_slice());
             }
         }
         SeriesEnd::Missing(number) => print_number(rt, "missing", *number),
         SeriesEnd::Damaged(number) => print_number(rt, "damaged", *number),
         SeriesEnd::Fault(number) => print_number(rt, "fault", *number),
     }
-}
-
-fn print_source(rt: &HostRuntime, source: Ulid) {
-    put(rt, "  source ");
-    say_text(rt, &source.text());
-}
-
-fn print_series(rt: &HostRuntime, series: &Series) {
-    let mut text = Vec::new(rt.alloc());
-    let _ = series.write(&mut text);
-    put(rt, "  series ");
-    say_text(rt, text.as_slice());
 }
 
 fn print_number(rt: &HostRuntime, word: &str, number: u64) {

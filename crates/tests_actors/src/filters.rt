@@ -1,7 +1,7 @@
 //! The filters of a view.
 use crate::names::{Named, bytes_of};
 use crate::planning::partition_of;
-use crate::says::{cut, item, number_of, put, say};
+use crate::says::{cut, cut_at, number_of, put, say};
 use crate::setting::retention_of;
 use crate::told::print_blocks;
 use block_meta::{DeletionMark, Meta};
@@ -21,7 +21,12 @@ pub(crate) fn print_kept(rt: &HostRuntime, objects: &[Named], word: &str, text: 
     let (block, rest) = cut(text);
     match found_of(rt.alloc(), objects, block) {
         Some(found) => {
-            let kept = is_kept(&found, word, rest);
+            let kept = match word {
+                "young" => consistent(&found, DELAY),
+                "marked" => unmarked(&found, MARK_DELAY),
+                "expiring" => !is_expired(&found.meta, retention_of(rest), found.meta_read),
+                _ => in_partition(&found.meta, &partition_of(rest)),
+            };
             drop(found);
             say(rt, if kept { " kept" } else { " dropped" });
         }
@@ -29,34 +34,22 @@ pub(crate) fn print_kept(rt: &HostRuntime, objects: &[Named], word: &str, text: 
     }
 }
 
-fn is_kept(found: &Found, word: &str, text: &str) -> bool {
-    match word {
-        "young" => consistent(found, DELAY),
-        "marked" => unmarked(found, MARK_DELAY),
-        "expiring" => !is_expired(&found.meta, retention_of(text), found.meta_read),
-        _ => in_partition(&found.meta, &partition_of(text)),
-    }
-}
-
 /// A copy of the block of a word: META,MARK,READ, where both were read at that millisecond.
 pub(crate) fn found_of(alloc: Global, objects: &[Named], word: &str) -> Option<Found> {
-    let (meta, rest) = item(word);
-    let (mark, ms) = item(rest);
+    let (meta, rest) = cut_at(word, ',');
+    let (mark, ms) = cut_at(rest, ',');
     let mark = DeletionMark::read(alloc, bytes_of(objects, mark)).ok();
     let Ok(meta) = Meta::read(alloc, bytes_of(objects, meta)) else {
         drop(mark);
         return None;
     };
-    copied(mark, meta, number_of(ms))
-}
-
-fn copied(mark: Option<DeletionMark>, meta: Meta, ms: u64) -> Option<Found> {
+    let read = Moment { ms: number_of(ms) };
     let found = Found {
         ulid: meta.ulid,
         mark,
-        mark_read: Moment { ms },
+        mark_read: read,
         meta,
-        meta_read: Moment { ms },
+        meta_read: read,
     };
     let copy = found.copy();
     drop(found);

@@ -36,19 +36,14 @@ pub(crate) fn add_bytes(objects: &mut Vec<Named>, row: &str) {
     let (name, pieces) = cut(row);
     let mut bytes = Vec::new(*objects.allocator());
     for piece in pieces.split(' ') {
-        put_piece(&mut bytes, piece);
+        let (digits, count) = piece.split_once('*').unwrap_or((piece, "1"));
+        if let Ok(decoded) = hex::decode(*objects.allocator(), digits) {
+            for _ in 0..count.parse::<u32>().unwrap_or(0) {
+                let _ = bytes.extend_from_slice(decoded.as_slice());
+            }
+        }
     }
     add(objects, name, bytes.as_slice());
-}
-
-fn put_piece(bytes: &mut Vec<u8>, piece: &str) {
-    let (digits, count) = piece.split_once('*').unwrap_or((piece, "1"));
-    let Ok(decoded) = hex::decode(*bytes.allocator(), digits) else {
-        return;
-    };
-    for _ in 0..count.parse::<u32>().unwrap_or(0) {
-        let _ = bytes.extend_from_slice(decoded.as_slice());
-    }
 }
 
 fn add(objects: &mut Vec<Named>, name: &str, bytes: &[u8]) {

@@ -4,7 +4,7 @@ ghost use Rattle.block_keys.specs.Keys.{IsLawfulKey};
 ghost use Rattle.world_core.specs.Operations.{IsLawful};
 
 use crate::names::{Named, bytes_of};
-use crate::says::{limit_of, number_of, part};
+use crate::says::{cut_at, limit_of, number_of};
 use block_keys::Key;
 use label_sets::Text;
 use list_core::NoMemory;
@@ -18,16 +18,29 @@ use world_core::Op;
 pub(crate) fn op_of(alloc: Global, objects: &[Named], word: &str) -> Result<Op, NoMemory>
     ensures { IfOk result IsLawful }
 {
-    let (kind, text) = part(word);
-    let (first, text) = part(text);
-    let (block, rest) = part(text);
+    let (kind, text) = cut_at(word, ':');
+    let (first, text) = cut_at(text, ':');
+    let (block, rest) = cut_at(text, ':');
     match kind {
-        "put" => put_of(alloc, key_of(first, block), bytes_of(objects, rest)),
+        "put" => {
+            let bytes = Blob::from_bytes(alloc, bytes_of(objects, rest))?;
+            Ok(Op::Put(key_of(first, block), bytes))
+        }
         "get" => Ok(Op::Get(key_of(first, block))),
-        "range" => Ok(range_of(key_of(first, block), rest)),
+        "range" => {
+            let (from, len) = cut_at(rest, ':');
+            let key = key_of(first, block);
+            Ok(Op::GetRange(key, number_of(from), number_of(len)))
+        }
         "delete" => Ok(Op::Delete(key_of(first, block))),
-        "root" => root_page_of(alloc, first, block),
-        "page" => block_page_of(alloc, first, block),
+        "root" => {
+            let after = Text::from_str(alloc, first)?;
+            Ok(Op::RootPage(after, limit_of(block)))
+        }
+        "page" => {
+            let after = Text::from_str(alloc, "")?;
+            Ok(Op::BlockPage(ulid_of(first), after, limit_of(block)))
+        }
         "clock" => Ok(Op::Clock(moment_of(first))),
         _ => Err(NoMemory),
     }
@@ -53,34 +66,6 @@ fn key_of(kind: &str, block: &str) -> Key
         "d" => Key::Mark(ulid),
         _ => Key::Meta(ulid),
     }
-}
-
-fn put_of(alloc: Global, key: Key, bytes: &[u8]) -> Result<Op, NoMemory>
-    requires { IsLawfulKey key }
-    ensures { IfOk result IsLawful }
-{
-    Ok(Op::Put(key, Blob::from_bytes(alloc, bytes)?))
-}
-
-fn range_of(key: Key, range: &str) -> Op
-    requires { IsLawfulKey key }
-    ensures { IsLawful result }
-{
-    let (from, len) = part(range);
-    Op::GetRange(key, number_of(from), number_of(len))
-}
-
-fn root_page_of(alloc: Global, after: &str, limit: &str) -> Result<Op, NoMemory>
-    ensures { IfOk result IsLawful }
-{
-    Ok(Op::RootPage(Text::from_str(alloc, after)?, limit_of(limit)))
-}
-
-fn block_page_of(alloc: Global, block: &str, limit: &str) -> Result<Op, NoMemory>
-    ensures { IfOk result IsLawful }
-{
-    let none = Text::from_str(alloc, "")?;
-    Ok(Op::BlockPage(ulid_of(block), none, limit_of(limit)))
 }
 
 fn moment_of(text: &str) -> Moment

@@ -7,8 +7,8 @@ use crate::filters::blocks_of;
 use crate::names::Named;
 pub(crate) use crate::planning::gathered::print_gathered;
 pub(crate) use crate::planning::plans::print_plan;
-use crate::says::{cut, item, put, put_number, say};
-use group_planner::{Group, groups};
+use crate::says::{cut, cut_at, put, put_number, say};
+use group_planner::groups;
 use label_sets::{Text, TextList};
 use moment_core::{Partition, PartitionList};
 use querier::fan_out;
@@ -20,14 +20,11 @@ pub(crate) fn print_asks(rt: &HostRuntime, text: &str) {
     for word in words.split_ascii_whitespace() {
         let _ = partitions.push(partition_of(word));
     }
-    print_fan(rt, &partitions, partition_of(times));
-}
-
-fn print_fan(rt: &HostRuntime, partitions: &PartitionList, times: Partition) {
     if partitions.len() > 16 {
         return say(rt, " too many gateways");
     }
-    match fan_out(rt.alloc(), partitions, times.low, times.high) {
+    let times = partition_of(times);
+    match fan_out(rt.alloc(), &partitions, times.low, times.high) {
         Ok(asks) => {
             for ask in asks.members() {
                 let _ = print!(rt; " {}:{},{}", ask.gateway, ask.low, ask.high);
@@ -40,7 +37,7 @@ fn print_fan(rt: &HostRuntime, partitions: &PartitionList, times: Partition) {
 
 /// A range of times is LOW,HIGH; an end that is no number is that of all times.
 pub(crate) fn partition_of(text: &str) -> Partition {
-    let (low, high) = item(text);
+    let (low, high) = cut_at(text, ',');
     Partition {
         low: low.parse().unwrap_or(i64::MIN),
         high: high.parse().unwrap_or(i64::MAX),
@@ -59,20 +56,16 @@ pub(crate) fn print_groups(rt: &HostRuntime, objects: &[Named], text: &str) {
     drop(found);
     match told {
         Ok(groups) => {
-            print_each(rt, groups.members());
+            for group in groups.members() {
+                let _ = print!(rt; " {}:", group.resolution);
+                for meta in group.members.members() {
+                    put_number(rt, meta.ulid);
+                }
+                put(rt, ";");
+            }
             drop(groups);
+            say(rt, "");
         }
         Err(_) => say(rt, " no memory"),
     }
-}
-
-fn print_each(rt: &HostRuntime, groups: &[Group]) {
-    for group in groups {
-        let _ = print!(rt; " {}:", group.resolution);
-        for meta in group.members.members() {
-            put_number(rt, meta.ulid);
-        }
-        put(rt, ";");
-    }
-    say(rt, "");
 }

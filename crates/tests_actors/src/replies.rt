@@ -1,6 +1,6 @@
 //! The replies that rows write out.
 use crate::names::{Named, bytes_of, text_of};
-use crate::says::{number_of, part};
+use crate::says::{cut_at, number_of};
 use label_sets::{Text, TextList};
 use list_core::NoMemory;
 use std::alloc::Global;
@@ -31,7 +31,7 @@ pub(crate) fn answer_of(
 }
 
 fn reply_of(alloc: Global, objects: &[Named], word: &str) -> Result<Reply, NoMemory> {
-    let (word, name) = part(word);
+    let (word, name) = cut_at(word, ':');
     match word {
         "absent" => Ok(Reply::Absent),
         "stored" => Ok(Reply::Stored),

@@ -20,21 +20,15 @@ use world_core::{Acted, Hand};
 pub(crate) fn print_run(rt: &HostRuntime, objects: &[Named], text: &str) {
     let (setting, rounds) = text.split_once(" / ").unwrap_or((text, ""));
     let (rules, setting) = cut(setting);
-    if let Some(hand) = hand_of(rt, objects, setting) {
+    if let Some(mut hand) = hand_of(rt, objects, setting) {
         let rules = rules_of(rt.alloc(), rules);
-        print_rounds(rt, objects, hand, &rules, rounds);
+        say(rt, "");
+        for round in rounds.split(" / ") {
+            print_round(rt, objects, &mut hand, &rules, round);
+        }
         drop(rules);
+        drop(hand);
     }
-}
-
-fn print_rounds(rt: &HostRuntime, objects: &[Named], mut hand: Played, rules: &Rules, rounds: &str)
-    requires { 1 ≤ rules.now.page_limit }
-{
-    say(rt, "");
-    for round in rounds.split(" / ") {
-        print_round(rt, objects, &mut hand, rules, round);
-    }
-    drop(hand);
 }
 
 fn print_round(rt: &HostRuntime, objects: &[Named], hand: &mut Played, rules: &Rules, round: &str)
@@ -71,18 +65,14 @@ fn print_acts(rt: &HostRuntime, objects: &[Named], hand: &mut Played, words: &st
     for word in words.split(' ') {
         put(rt, "  ");
         put(rt, word);
-        print_act(rt, objects, hand, word);
-    }
-}
-
-fn print_act(rt: &HostRuntime, objects: &[Named], hand: &mut Played, word: &str) {
-    match op_of(rt.alloc(), objects, word) {
-        Ok(op) => match hand.act(op) {
-            Acted::Done(seen) => print_seen(rt, seen),
-            Acted::Full => say(rt, " -> full"),
-            Acted::NoMemory => say(rt, " -> no memory"),
-        },
-        Err(_) => say(rt, " -> no memory"),
+        match op_of(rt.alloc(), objects, word) {
+            Ok(op) => match hand.act(op) {
+                Acted::Done(seen) => print_seen(rt, seen),
+                Acted::Full => say(rt, " -> full"),
+                Acted::NoMemory => say(rt, " -> no memory"),
+            },
+            Err(_) => say(rt, " -> no memory"),
+        }
     }
 }
 

@@ -35,14 +35,9 @@ pub(crate) fn cut(text: &str) -> (&str, &str) {
     text.split_once(' ').unwrap_or((text, ""))
 }
 
-/// What stands in a text before the first colon, and behind it.
-pub(crate) fn part(text: &str) -> (&str, &str) {
-    text.split_once(':').unwrap_or((text, ""))
-}
-
-/// What stands in a text before the first comma, and behind it.
-pub(crate) fn item(text: &str) -> (&str, &str) {
-    text.split_once(',').unwrap_or((text, ""))
+/// What stands in a text before the first of these marks, and behind it.
+pub(crate) fn cut_at(text: &str, mark: char) -> (&str, &str) {
+    text.split_once(mark).unwrap_or((text, ""))
 }
 
 /// A number of milliseconds, or 0.

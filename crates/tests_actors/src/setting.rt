@@ -1,11 +1,11 @@
 //! What a row begins with: a world in which something was done, and the rules of its runs.
-ghost use Rattle.std.specs.Prelude.{◌≡◌, ◌≤◌, ◌<◌, ◌^◌, IsTrue};
+ghost use Rattle.std.specs.Prelude.{◌≡◌, ◌≤◌, IsTrue};
 ghost use Rattle.bucket_core.specs.Contents.{IsKey};
 
 use crate::names::{Named, text_of};
 use crate::ops::op_of;
 use crate::played::Played;
-use crate::says::{cut, item, limit_of, number_of, put, say, show};
+use crate::says::{cut, cut_at, limit_of, number_of, put, say, show};
 use bucket_core::{Bucket, Fail, FailList, MemoryBucket};
 use label_sets::Text;
 use meta_fetcher::SyncRules;
@@ -19,44 +19,37 @@ pub(crate) fn hand_of(rt: &HostRuntime, objects: &[Named], setting: &str) -> Opt
     let (fail, rest) = cut(setting);
     let (tick, names) = cut(rest);
     let bucket = MemoryBucket::new(rt.alloc(), fails_of(rt.alloc(), fail));
-    match opened(rt, bucket, tick) {
-        Some(world) => Some(hand_over(rt.alloc(), objects, world, names)),
-        None => None,
+    let Some(mut world) = opened(rt, bucket, tick) else {
+        return None;
+    };
+    for name in names.split(' ') {
+        for word in text_of(objects, name).split(' ') {
+            do_word(rt.alloc(), objects, &mut world, word);
+        }
     }
+    Some(Played::new(rt.alloc(), world))
 }
 
 /// A world over a bucket. Why there is none is printed.
 fn opened(rt: &HostRuntime, bucket: MemoryBucket, tick: &str) -> Option<World<MemoryBucket>> {
-    match World::open(rt.alloc(), bucket, tick_of(tick)) {
+    let tick = Span {
+        ms: u64::from(tick.parse::<u8>().unwrap_or(1)),
+    };
+    match World::open(rt.alloc(), bucket, tick) {
         Ok(world) => Some(world),
         Err((refusal, bucket)) => {
             drop(bucket);
-            print_refusal(rt, refusal);
+            match refusal {
+                OpenRefusal::NotEmpty(name) => {
+                    put(rt, " not empty: ");
+                    say(rt, name.as_str());
+                }
+                OpenRefusal::Failed => say(rt, " failed"),
+                OpenRefusal::NoMemory => say(rt, " no memory"),
+            }
             None
         }
     }
-}
-
-fn tick_of(text: &str) -> Span
-    ensures { result.ms < 2 ^ 8 }
-{
-    Span {
-        ms: u64::from(text.parse::<u8>().unwrap_or(1)),
-    }
-}
-
-fn hand_over(
-    alloc: Global,
-    objects: &[Named],
-    mut world: World<MemoryBucket>,
-    names: &str,
-) -> Played {
-    for name in names.split(' ') {
-        for word in text_of(objects, name).split(' ') {
-            do_word(alloc, objects, &mut world, word);
-        }
-    }
-    Played::new(alloc, world)
 }
 
 /// Does the operation of a word, as often as `*COUNT` behind it says.
@@ -82,17 +75,6 @@ pub(crate) fn fails_of(alloc: Global, text: &str) -> FailList {
         }
     }
     failing
-}
-
-fn print_refusal(rt: &HostRuntime, refusal: OpenRefusal) {
-    match refusal {
-        OpenRefusal::NotEmpty(name) => {
-            put(rt, " not empty: ");
-            say(rt, name.as_str());
-        }
-        OpenRefusal::Failed => say(rt, " failed"),
-        OpenRefusal::NoMemory => say(rt, " no memory"),
-    }
 }
 
 /// Prints why no world is opened over a bucket that holds one byte under each of some keys: FAIL KEY...
@@ -132,26 +114,20 @@ fn is_key(key: &str) -> bool
 pub(crate) fn rules_of(alloc: Global, text: &str) -> Rules
     ensures { 1 ≤ result.page_limit }
 {
-    let (limit, rest) = item(text);
-    let (consistency, rest) = item(rest);
-    let (delete, rest) = item(rest);
-    let (partial, retention) = item(rest);
+    let (limit, rest) = cut_at(text, ',');
+    let (consistency, rest) = cut_at(rest, ',');
+    let (delete, rest) = cut_at(rest, ',');
+    let (partial, retention) = cut_at(rest, ',');
     let mut rules = Rules::standard(alloc);
     if let Ok(name) = Text::from_str(alloc, "replica") {
         let _ = rules.replicas.push(name);
     }
-    rules.consistency = span_of(consistency);
-    rules.delete = span_of(delete);
-    rules.partial = span_of(partial);
+    rules.consistency.ms = number_of(consistency);
+    rules.delete.ms = number_of(delete);
+    rules.partial.ms = number_of(partial);
     rules.retention = retention_of(retention);
     rules.page_limit = limit_of(limit);
     rules
-}
-
-fn span_of(text: &str) -> Span {
-    Span {
-        ms: number_of(text),
-    }
 }
 
 /// How long blocks are kept, unless for ever.

@@ -19,20 +19,15 @@ pub(crate) fn print_site(rt: &HostRuntime, text: &str) {
     let shelf = MemoryShelf::new(rt.alloc(), FileList::new(rt.alloc()));
     let mut site = MemorySite::new(bucket, shelf, text == "fails");
     for name in ["one", "two"] {
-        show(rt, &opens_shelf(&mut site, name));
+        let opened = site.open_shelf(name);
+        show(rt, &opened.is_ok());
+        drop(opened);
     }
     for name in ["one", "two"] {
         show(rt, &opens_bucket(rt.alloc(), &mut site, name));
     }
     drop(site);
     say(rt, "");
-}
-
-fn opens_shelf(site: &mut MemorySite, name: &str) -> bool {
-    let opened = site.open_shelf(name);
-    let is_open = opened.is_ok();
-    drop(opened);
-    is_open
 }
 
 /// Whether a site opens a bucket, which then stores an object.

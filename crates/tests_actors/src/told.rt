@@ -4,7 +4,6 @@ use block_keys::Key;
 use label_sets::Text;
 use list_core::{NoMemory, TryCopy};
 use meta_fetcher::SyncEnd;
-use std::alloc::Global;
 use std::fmt::Debug;
 use std::str;
 use sync_filters::FoundList;
@@ -68,7 +67,12 @@ fn print_op(rt: &HostRuntime, op: &Op) {
         Op::Clock(moment) => {
             let _ = print!(rt; "@{}", moment.ms);
         }
-        Op::RootPage(after, _) => put_root(rt, after.as_str()),
+        Op::RootPage(after, _) => {
+            put(rt, "P");
+            if let Some(letter) = after.as_str().chars().last() {
+                let _ = print!(rt; "{letter}");
+            }
+        }
         Op::BlockPage(ulid, after, _) => {
             put_block(rt, "p", *ulid);
             put(rt, after.as_str());
@@ -80,14 +84,6 @@ fn print_op(rt: &HostRuntime, op: &Op) {
         }
         Op::Put(key, _) => put_key(rt, "+", key),
         Op::Delete(key) => put_key(rt, "-", key),
-    }
-}
-
-/// Prints that a page of blocks is asked for, and the last character of the name behind which it begins.
-fn put_root(rt: &HostRuntime, after: &str) {
-    put(rt, "P");
-    if let Some(letter) = after.chars().last() {
-        let _ = print!(rt; "{letter}");
     }
 }
 
@@ -167,23 +163,19 @@ pub(crate) fn print_journal(rt: &HostRuntime, journal: &Journal) {
     say(rt, "");
 }
 
-/// Prints how many entries a copy of a journal's entries has.
+/// Prints how many entries the copy of a list of copies of a journal's entries has.
 pub(crate) fn print_copies(rt: &HostRuntime, journal: &Journal) {
-    let _ = println!(rt; "  {} copies", copies_of(rt.alloc(), journal.entries()));
-}
-
-/// How many entries the copy of a list of copies has.
-fn copies_of(alloc: Global, entries: &[Entry]) -> usize {
-    let mut copies = EntryList::new(alloc);
-    for entry in entries {
+    let mut copies = EntryList::new(rt.alloc());
+    for entry in journal.entries() {
         if let Ok(copy) = entry.copy() {
             let _ = copies.push(copy);
         }
     }
     let twice = copies.copy();
     drop(copies);
-    match twice {
+    let count = match twice {
         Ok(twice) => twice.len(),
         Err(NoMemory) => 0,
-    }
+    };
+    let _ = println!(rt; "  {count} copies");
 }

@@ -15,13 +15,11 @@ mod section_calls;
 mod selectors;
 mod series_rows;
 mod taken;
-mod texts;
 
-use crate::indexes::blocks::file_of;
 use crate::indexes::calls::print_call;
 use crate::indexes::pieces::put_pieces;
 use crate::indexes::series_rows::write;
-use crate::says::cut;
+use crate::says::{cut, file_of};
 
 /// Does what a row says. Rows that make the index at hand print nothing.
 pub(crate) fn do_row(rt: &HostRuntime, index: &mut Vec<u8>, row: &str) {

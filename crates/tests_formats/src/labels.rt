@@ -7,11 +7,12 @@ mod series;
 mod sets;
 
 use crate::labels::merges::print_merged;
+use crate::labels::series::print_series;
 pub(crate) use crate::labels::series::{put_samples, samples_of};
-use crate::labels::series::{print_sample, print_series};
 pub(crate) use crate::labels::sets::set_of;
 use crate::labels::sets::{print_added, print_final, print_set};
-use crate::says::say;
+use crate::says::{say, show};
+use label_sets::Sample;
 
 pub(crate) fn print_call(rt: &HostRuntime, word: &str, text: &str) {
     match word {
@@ -19,7 +20,10 @@ pub(crate) fn print_call(rt: &HostRuntime, word: &str, text: &str) {
         "newline" => print_set(rt, "{a=\"x\n\"}"),
         "add" => print_added(rt, text),
         "final" => print_final(rt, text),
-        "sample" => print_sample(rt, text),
+        "sample" => match Sample::read(text) {
+            Ok(sample) => show(rt, &sample),
+            Err(refusal) => show(rt, &refusal),
+        },
         "series" => print_series(rt, text),
         "merge" => print_merged(rt, text),
         _ => say(rt, "no call"),

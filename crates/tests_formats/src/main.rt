@@ -9,6 +9,7 @@ mod labels;
 mod metas;
 mod says;
 mod scripts;
+mod texts;
 mod xor;
 
 use crate::says::{cut, put, say};
@@ -31,19 +32,15 @@ fn do_row(rt: &HostRuntime, index: &mut Vec<u8>, row: &str) {
         _ => {
             put(rt, row);
             put(rt, " -> ");
-            print_call(rt, table, call);
+            let (word, text) = cut(call);
+            match table {
+                "base" => base::print_call(rt, word, text),
+                "labels" => labels::print_call(rt, word, text),
+                "metas" => metas::print_call(rt, word, text),
+                "scripts" => scripts::print_call(rt, call),
+                "xor" => xor::print_call(rt, word, text),
+                _ => say(rt, "no table"),
+            }
         }
-    }
-}
-
-fn print_call(rt: &HostRuntime, table: &str, call: &str) {
-    let (word, text) = cut(call);
-    match table {
-        "base" => base::print_call(rt, word, text),
-        "labels" => labels::print_call(rt, word, text),
-        "metas" => metas::print_call(rt, word, text),
-        "scripts" => scripts::print_call(rt, call),
-        "xor" => xor::print_call(rt, word, text),
-        _ => say(rt, "no table"),
     }
 }

@@ -2,7 +2,7 @@
 //! row fails; so no call here hands them on.
 use label_sets::LabelSet;
 use list_core::TryCopy;
-use std::{fmt, str};
+use std::{fmt, fs, str};
 
 /// Prints a line.
 pub(crate) fn say(rt: &HostRuntime, line: &str) {
@@ -58,6 +58,14 @@ pub(crate) fn cut(text: &str) -> (&str, &str) {
 /// What stands before the first of these marks in a text, and what stands behind it.
 pub(crate) fn cut_at(text: &str, mark: char) -> (&str, &str) {
     text.split_once(mark).unwrap_or((text, ""))
+}
+
+/// The bytes of a file, or none.
+pub(crate) fn file_of(rt: &HostRuntime, path: &str) -> Vec<u8> {
+    match fs::read(rt, path) {
+        Ok(bytes) => bytes,
+        Err(_) => Vec::new(rt.alloc()),
+    }
 }
 
 /// The copy of a value that is gone.

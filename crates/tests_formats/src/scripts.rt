@@ -27,16 +27,12 @@ pub(crate) fn print_call(rt: &HostRuntime, row: &str) {
 /// Prints what the word asks of a script, or why the text is none.
 fn print_read(rt: &HostRuntime, word: &str, read: Result<Script, ScriptRefusal>) {
     match &read {
-        Ok(script) => print_script(rt, word, script),
+        Ok(script) => match word {
+            "=parts" => print_parts(rt, script),
+            "=day" => print_day(rt, script),
+            _ => say(rt, "a script"),
+        },
         Err(refusal) => show(rt, refusal),
     }
     drop(read);
-}
-
-fn print_script(rt: &HostRuntime, word: &str, script: &Script) {
-    match word {
-        "=parts" => print_parts(rt, script),
-        "=day" => print_day(rt, script),
-        _ => say(rt, "a script"),
-    }
 }

@@ -1,4 +1,4 @@
-use crate::says::{item, part, put, put_number, say};
+use crate::says::{cut_at, put, put_number, say};
 use label_sets::{LabelSet, Sample, SampleList, Series, SeriesList};
 use querier::{Answer, Gather};
 use std::alloc::Global;
@@ -41,24 +41,19 @@ fn add_answer(alloc: Global, gather: &mut Gather, word: &str) {
     for sample in samples.split(';') {
         add_series(alloc, &mut series, sample);
     }
-    let sources = sources_of(alloc, sources);
-    let _ = gather.add(&series, &sources);
-    drop(sources);
-    drop(series);
-}
-
-fn sources_of(alloc: Global, text: &str) -> UlidList {
-    let mut sources = UlidList::new(alloc);
-    for source in text.split(',') {
-        let _ = sources.push(Ulid::from_parts(0, u128::from(source.parse::<u32>().unwrap_or(0))));
+    let mut ulids = UlidList::new(alloc);
+    for source in sources.split(',') {
+        let _ = ulids.push(Ulid::from_parts(0, u128::from(source.parse::<u32>().unwrap_or(0))));
     }
-    sources
+    let _ = gather.add(&series, &ulids);
+    drop(ulids);
+    drop(series);
 }
 
 /// Adds a series of one sample, if the text is one.
 fn add_series(alloc: Global, series: &mut SeriesList, text: &str) {
-    let (value, sample) = part(text);
-    let (time, pattern) = item(sample);
+    let (value, sample) = cut_at(text, ':');
+    let (time, pattern) = cut_at(sample, ',');
     let (Ok(time), Ok(pattern)) = (time.parse(), pattern.parse()) else {
         return;
     };

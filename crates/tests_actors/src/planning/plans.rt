@@ -1,6 +1,4 @@
-ghost use Rattle.std.specs.Prelude.{pos, ◌<ℤ◌};
-
-use crate::says::{cut, item, put, put_number, say};
+use crate::says::{cut, cut_at, put, put_number, say};
 use block_meta::{BlockPlan, Meta};
 use group_planner::{Group, MetaList, overlapping, plan, select, split_by_range};
 use label_sets::LabelSet;
@@ -39,7 +37,7 @@ fn metas_of(alloc: Global, text: &str) -> MetaList {
 }
 
 fn read_meta(alloc: Global, place: u64, times: &str) -> Option<Meta> {
-    let (begin, end) = item(times);
+    let (begin, end) = cut_at(times, ',');
     let Ok(ulid) = Ulid::from_parts(0, u128::from(place)).to_string(alloc) else {
         return None;
     };
@@ -73,23 +71,17 @@ fn put_places(rt: &HostRuntime, ulids: &UlidList) {
 fn print_parts(rt: &HostRuntime, metas: &MetaList, text: &str) {
     let (range, _) = cut(text);
     match range.parse::<i64>() {
-        Ok(range) if range > 0 => print_parts_of(rt, metas, range),
-        _ => say(rt, " no range"),
-    }
-}
-
-fn print_parts_of(rt: &HostRuntime, metas: &MetaList, range: i64)
-    requires { pos 0 <ℤ range }
-{
-    match split_by_range(rt.alloc(), metas, range) {
-        Ok(parts) => {
-            for part in parts.members() {
-                put_places(rt, part);
-                put(rt, ";");
+        Ok(range) if range > 0 => match split_by_range(rt.alloc(), metas, range) {
+            Ok(parts) => {
+                for part in parts.members() {
+                    put_places(rt, part);
+                    put(rt, ";");
+                }
+                say(rt, "");
             }
-            say(rt, "");
-        }
-        Err(_) => say(rt, " no memory"),
+            Err(_) => say(rt, " no memory"),
+        },
+        _ => say(rt, " no range"),
     }
 }
 

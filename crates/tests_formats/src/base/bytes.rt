@@ -3,13 +3,10 @@ use wire_bytes::{Cursor, crc_of};
 
 /// Prints what bytes are read as.
 pub(crate) fn print_bytes(rt: &HostRuntime, kind: &str, text: &str) {
-    match hex::decode(rt.alloc(), text) {
-        Ok(bytes) => print_read(rt, kind, bytes.as_slice()),
-        Err(_) => say(rt, "no bytes"),
-    }
-}
-
-fn print_read(rt: &HostRuntime, kind: &str, bytes: &[u8]) {
+    let Ok(bytes) = hex::decode(rt.alloc(), text) else {
+        return say(rt, "no bytes");
+    };
+    let bytes = bytes.as_slice();
     match kind {
         "sum" => say_hex(rt, &crc_of(bytes).to_be_bytes()),
         "uvarint" => show(rt, &Cursor::new(bytes).take_uvarint()),
@@ -29,14 +26,10 @@ fn print_fields(rt: &HostRuntime, bytes: &[u8]) {
     show(rt, &cursor.take_u16());
     show(rt, &cursor.take_u64());
     show(rt, &cursor.take_u64());
-    print_rest(rt, bytes, cursor.place());
-}
-
-fn print_rest(rt: &HostRuntime, bytes: &[u8], place: usize) {
-    let mut cursor = Cursor::at(bytes, place.min(bytes.len()));
-    tell(rt, "at ", &place);
+    tell(rt, "at ", &cursor.place());
     put(rt, ": ");
-    show(rt, &cursor.rest());
-    show(rt, &cursor.take_bytes(2));
-    show(rt, &cursor.take_bytes(1));
+    let mut rest = Cursor::at(bytes, cursor.place().min(bytes.len()));
+    show(rt, &rest.rest());
+    show(rt, &rest.take_bytes(2));
+    show(rt, &rest.take_bytes(1));
 }

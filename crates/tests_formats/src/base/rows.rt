@@ -2,14 +2,13 @@ use crate::base::bytes::print_bytes;
 use crate::base::written::print_written;
 use crate::says::{copied, cut, put, say, show};
 use block_keys::Key;
-use label_sets::Text;
-use list_core::NoMemory;
 use moment_core::{Moment, Rules, Span};
 use reading_core::{read_signed, read_unsigned};
 use ulid_core::Ulid;
 
 /// Prints what a text is.
 pub(crate) fn print_call(rt: &HostRuntime, kind: &str, text: &str) {
+    let (one, other) = cut(text);
     match kind {
         "unsigned" => show(rt, &read_unsigned(text)),
         "signed" => show(rt, &read_signed(text)),
@@ -17,8 +16,8 @@ pub(crate) fn print_call(rt: &HostRuntime, kind: &str, text: &str) {
         "span" => show(rt, &Span::read(text)),
         "ulid" => print_ulid(rt, text),
         "key" => print_key(rt, text),
-        "ulids" => show(rt, &are_ordered_ulids(text)),
-        "keys" => show(rt, &are_ordered_keys(text)),
+        "ulids" => show(rt, &are_ordered(Ulid::read(one), Ulid::read(other))),
+        "keys" => show(rt, &are_ordered(Key::read(one), Key::read(other))),
         "written" => print_written(rt),
         "rules" => show(rt, &are_kept(copied(Rules::standard(rt.alloc())))),
         _ => print_bytes(rt, kind, text),
@@ -30,48 +29,32 @@ fn print_ulid(rt: &HostRuntime, text: &str) {
     match Ulid::read(text) {
         Ok(ulid) => {
             let _ = print!(rt; "{} and {:x}, written ", ulid.time(), ulid.entropy());
-            say_string(rt, ulid.to_string(rt.alloc()));
+            match ulid.to_string(rt.alloc()) {
+                Ok(text) => say(rt, text.as_str()),
+                Err(_) => say(rt, "no memory"),
+            }
         }
         Err(refusal) => show(rt, &refusal),
-    }
-}
-
-fn say_string(rt: &HostRuntime, text: Result<String, NoMemory>) {
-    match text {
-        Ok(text) => say(rt, text.as_str()),
-        Err(_) => say(rt, "no memory"),
     }
 }
 
 /// Prints the text that is written of a key.
 fn print_key(rt: &HostRuntime, text: &str) {
     match Key::read(text) {
-        Ok(key) => say_written(rt, key.text(rt.alloc())),
+        Ok(key) => {
+            put(rt, "written ");
+            match key.text(rt.alloc()) {
+                Ok(text) => say(rt, text.as_str()),
+                Err(_) => say(rt, "no memory"),
+            }
+        }
         Err(refusal) => show(rt, &refusal),
     }
 }
 
-fn say_written(rt: &HostRuntime, text: Result<Text, NoMemory>) {
-    put(rt, "written ");
-    match text {
-        Ok(text) => say(rt, text.as_str()),
-        Err(_) => say(rt, "no memory"),
-    }
-}
-
-/// Whether the first of two ULIDs is less than the second.
-fn are_ordered_ulids(text: &str) -> bool {
-    let (one, other) = cut(text);
-    match (Ulid::read(one), Ulid::read(other)) {
-        (Ok(one), Ok(other)) => one < other,
-        _ => false,
-    }
-}
-
-/// Whether the first of two keys is less than the second.
-fn are_ordered_keys(text: &str) -> bool {
-    let (one, other) = cut(text);
-    match (Key::read(one), Key::read(other)) {
+/// Whether two values were read, the first of which is less than the second.
+fn are_ordered<T: PartialOrd + Drop, E: Drop>(one: Result<T, E>, other: Result<T, E>) -> bool {
+    match (one, other) {
         (Ok(one), Ok(other)) => one < other,
         _ => false,
     }

@@ -4,12 +4,11 @@
 
 use crate::indexes::taken::put_final;
 use crate::labels::{put_samples, set_of};
-use crate::says::{put, say, show};
+use crate::says::{file_of, put, say, show};
 use chunk_files::{ChunkRefusal, read_chunk, take_chunk};
 use index_parts::ChunkPlace;
 use index_v2::IndexSeries;
 use std::alloc::Global;
-use std::fs;
 use xor_chunks::decode_stored;
 
 /// The external labels under which the blocks were asked for.
@@ -17,14 +16,6 @@ const EXTERNAL: &str = "{cluster=\"c\"}";
 
 /// What a chunk has beside its length and its data: a byte of encoding and four of its sum.
 const BESIDE: usize = 5;
-
-/// The bytes of a file, or none.
-pub(crate) fn file_of(rt: &HostRuntime, path: &str) -> Vec<u8> {
-    match fs::read(rt, path) {
-        Ok(bytes) => bytes,
-        Err(_) => Vec::new(rt.alloc()),
-    }
-}
 
 /// Prints series with all their samples, out of a segment, and the count of their chunks.
 pub(crate) fn print_block(rt: &HostRuntime, list: &[IndexSeries], path: &str) {

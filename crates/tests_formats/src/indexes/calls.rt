@@ -31,7 +31,13 @@ fn print_answer(rt: &HostRuntime, index: &[u8], call: &str) {
     let (first, rest) = cut(argument);
     match word {
         "made" => print_made(rt, index, argument),
-        "bytes" => print_bytes(rt, index, first, rest),
+        "bytes" => {
+            let end = rest.parse().unwrap_or(index.len());
+            match index.get(first.parse().unwrap_or(0)..end) {
+                Some(bytes) => say_hex(rt, bytes),
+                None => say(rt, "no bytes"),
+            }
+        }
         "toc" => show(rt, &read_toc(index)),
         "symbols" | "table" | "list" | "raw" | "place" => print_section(rt, index, word, argument),
         "selector" => print_read(rt, "", argument, ""),
@@ -41,13 +47,5 @@ fn print_answer(rt: &HostRuntime, index: &[u8], call: &str) {
         "over" => print_over(rt, index, argument),
         "in" => print_over(rt, index, call),
         _ => print_reader(rt, index, IndexReader::open(rt.alloc(), index), call),
-    }
-}
-
-fn print_bytes(rt: &HostRuntime, index: &[u8], from: &str, end: &str) {
-    let end = end.parse().unwrap_or(index.len());
-    match index.get(from.parse().unwrap_or(0)..end) {
-        Some(bytes) => say_hex(rt, bytes),
-        None => say(rt, "no bytes"),
     }
 }

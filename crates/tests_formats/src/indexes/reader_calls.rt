@@ -41,7 +41,13 @@ fn print_opened(rt: &HostRuntime, index: &[u8], reader: &IndexReader<'_>, call: 
             Err(refusal) => show(rt, &refusal),
         },
         "first" => show_of(rt, &reader.first_row(name), reader.row_count()),
-        "row" => print_row(rt, reader, number as usize),
+        "row" => match reader.row(number as usize) {
+            Some((name, value, offset)) => {
+                let _ = print!(rt; "{name:?} {value:?} {offset} ");
+                print_numbers(rt, reader.row_numbers(alloc, number as usize));
+            }
+            None => say(rt, "no row"),
+        },
         "series" => print_series(rt, reader.series(alloc, number)),
         "lent" => match reader.lent_series(number, LentSeries::new(alloc)) {
             Ok(series) => print_series(rt, series.to_series(alloc)),
@@ -88,14 +94,6 @@ pub(crate) fn print_numbers<E: fmt::Debug + Drop>(rt: &HostRuntime, read: Result
         Ok(numbers) => show(rt, &numbers.members()),
         Err(refusal) => show(rt, &refusal),
     }
-}
-
-fn print_row(rt: &HostRuntime, reader: &IndexReader<'_>, place: usize) {
-    let Some((name, value, offset)) = reader.row(place) else {
-        return say(rt, "no row");
-    };
-    let _ = print!(rt; "{name:?} {value:?} {offset} ");
-    print_numbers(rt, reader.row_numbers(rt.alloc(), place));
 }
 
 fn print_series<E: fmt::Debug + Drop>(rt: &HostRuntime, read: Result<IndexSeries, E>) {

@@ -29,19 +29,14 @@ fn add(alloc: Global, writer: &mut IndexWriter, text: &str) {
     };
     let (long, chunks) = cut(&text[end..]);
     if let Some(count) = long.strip_prefix('+') {
-        add_long(alloc, &mut labels, count.parse().unwrap_or(0));
+        if let Ok(value) = vec![in alloc; b'x'; count.parse().unwrap_or(0)] {
+            let _ = labels.add("a", str::from_utf8(value.as_slice()).unwrap_or(""));
+        }
     }
     let chunks = chunks_of(alloc, chunks);
     if writer.may_add(&labels) && are_in_order(chunks.members()) {
         let _ = writer.add(labels, &chunks);
     } else {
         drop(labels);
-    }
-}
-
-/// Adds the label whose value is so many letters.
-fn add_long(alloc: Global, labels: &mut LabelSet, count: usize) {
-    if let Ok(value) = vec![in alloc; b'x'; count] {
-        let _ = labels.add("a", str::from_utf8(value.as_slice()).unwrap_or(""));
     }
 }

@@ -10,7 +10,14 @@ pub(crate) fn print_merged(rt: &HostRuntime, text: &str) {
         add_series(&mut merger, series_of(rt.alloc(), part));
     }
     match merger.finish() {
-        Ok(list) => print_list(rt, list.members()),
+        Ok(list) => {
+            let mut out = Vec::new(rt.alloc());
+            for series in list.members() {
+                let _ = series.write(&mut out);
+                let _ = out.push(b';');
+            }
+            say_text(rt, out.as_slice());
+        }
         Err(_) => say(rt, "no memory"),
     }
 }
@@ -22,13 +29,4 @@ fn add_series(merger: &mut Merger, series: Series) {
         let _ = merger.add(&series.labels, &series.samples);
         drop(series);
     }
-}
-
-fn print_list(rt: &HostRuntime, list: &[Series]) {
-    let mut out = Vec::new(rt.alloc());
-    for series in list {
-        let _ = series.write(&mut out);
-        let _ = out.push(b';');
-    }
-    say_text(rt, out.as_slice());
 }

@@ -1,15 +1,7 @@
 use crate::labels::sets::set_of;
-use crate::says::{copied, cut, say_text, show};
+use crate::says::{copied, cut, say_text};
 use label_sets::{Sample, SampleList, Series};
 use std::alloc::Global;
-
-/// Prints a sample, or why the text is none.
-pub(crate) fn print_sample(rt: &HostRuntime, text: &str) {
-    match Sample::read(text) {
-        Ok(sample) => show(rt, &sample),
-        Err(refusal) => show(rt, &refusal),
-    }
-}
 
 /// Prints a series as its copy is written.
 pub(crate) fn print_series(rt: &HostRuntime, text: &str) {

@@ -1,5 +1,6 @@
 use crate::says::{cut, put, put_labels, say, show, tell};
-use label_sets::{LabelSet, Text, TextList, final_labels, reduced};
+use crate::texts::texts_of;
+use label_sets::{LabelSet, final_labels, reduced};
 use list_core::{NoMemory, TryCopy};
 use std::alloc::Global;
 
@@ -36,18 +37,10 @@ pub(crate) fn print_final(rt: &HostRuntime, text: &str) {
     let (external, replica) = cut(others);
     let own = set_of(rt.alloc(), own);
     let external = set_of(rt.alloc(), external);
-    let replicas = one_replica(rt.alloc(), replica);
+    let replicas = texts_of(rt.alloc(), replica);
     put_made(rt, final_labels(rt.alloc(), &own, &external, &replicas));
     put_made(rt, reduced(rt.alloc(), &own, &external, &replicas));
     say(rt, "");
-}
-
-fn one_replica(alloc: Global, replica: &str) -> TextList {
-    let mut replicas = TextList::new(alloc);
-    if let Ok(text) = Text::from_str(alloc, replica) {
-        let _ = replicas.push(text);
-    }
-    replicas
 }
 
 /// Prints a label set that was made, with no line's end behind it.

@@ -1,8 +1,7 @@
 use crate::metas::fields::print_fields;
-use crate::says::{copied, put, say};
+use crate::says::{copied, file_of, put, say};
 use block_meta::{DeletionMark, Meta, MetaRefusal};
 use list_core::NoMemory;
-use std::fs;
 use wire_bytes::Blob;
 
 /// A lawful meta without its last brace.
@@ -19,7 +18,7 @@ pub(crate) fn print_call(rt: &HostRuntime, kind: &str, text: &str) {
         "meta+" => print_longer(rt, "meta", LAWFUL, text),
         "mark+" => print_longer(rt, "mark", LAWFUL_MARK, text),
         "bytes" => print_text(rt, "meta", b"{\"version\":\"\xff\"}"),
-        "file" => print_file(rt, text),
+        "file" => print_text(rt, kind, file_of(rt, text).as_slice()),
         _ => say(rt, "no call"),
     }
 }
@@ -29,13 +28,6 @@ fn print_longer(rt: &HostRuntime, kind: &str, first: &str, others: &str) {
     match format!(in rt.alloc(); "{first},{others}}}") {
         Ok(text) => print_text(rt, kind, text.as_bytes()),
         Err(_) => say(rt, "no memory"),
-    }
-}
-
-fn print_file(rt: &HostRuntime, name: &str) {
-    match fs::read(rt, name) {
-        Ok(text) => print_text(rt, "file", text.as_slice()),
-        Err(_) => say(rt, "no file"),
     }
 }
 
@@ -63,17 +55,12 @@ fn print_meta(rt: &HostRuntime, kind: &str, text: &[u8], copy: Option<Meta>) {
 
 fn print_mark(rt: &HostRuntime, text: &[u8]) {
     match DeletionMark::read(rt.alloc(), text) {
-        Ok(mark) => print_mark_copy(rt, text, copied(mark)),
+        Ok(mark) => match copied(mark) {
+            Some(copy) => print_again(rt, text, copy.write(rt.alloc())),
+            None => say(rt, "no memory"),
+        },
         Err(refusal) => print_refusal(rt, refusal),
     }
-}
-
-fn print_mark_copy(rt: &HostRuntime, text: &[u8], copy: Option<DeletionMark>) {
-    match &copy {
-        Some(mark) => print_again(rt, text, mark.write(rt.alloc())),
-        None => say(rt, "no memory"),
-    }
-    drop(copy);
 }
 
 /// Prints that a text was read, and whether it was written again as it stood there.

@@ -17,7 +17,9 @@ pub(crate) fn spelled(alloc: Global, row: &str) -> Vec<u8> {
 fn put_part(alloc: Global, text: &mut Vec<u8>, part: &str, number: u32) {
     for byte in part.bytes() {
         if byte == b'%' {
-            put_digits(alloc, text, number);
+            if let Ok(digits) = format!(in alloc; "{number:04}") {
+                let _ = text.extend_from_slice(digits.as_bytes());
+            }
         } else {
             let _ = text.push(meant(byte));
         }
@@ -31,11 +33,5 @@ fn meant(byte: u8) -> u8 {
         b'?' => 0xff,
         b'!' => 0xc0,
         other => other,
-    }
-}
-
-fn put_digits(alloc: Global, text: &mut Vec<u8>, number: u32) {
-    if let Ok(digits) = format!(in alloc; "{number:04}") {
-        let _ = text.extend_from_slice(digits.as_bytes());
     }
 }

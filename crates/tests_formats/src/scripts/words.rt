@@ -22,12 +22,8 @@ static REFUSALS: [ScriptRefusal; 10] = [
 /// Prints how reports word the refusals.
 pub(crate) fn print_words(rt: &HostRuntime) {
     for refusal in REFUSALS {
-        print_refusal(rt, refusal);
+        let mut text = Vec::new(rt.alloc());
+        let _ = refusal.write(&mut text);
+        say_text(rt, text.as_slice());
     }
-}
-
-fn print_refusal(rt: &HostRuntime, refusal: ScriptRefusal) {
-    let mut text = Vec::new(rt.alloc());
-    let _ = refusal.write(&mut text);
-    say_text(rt, text.as_slice());
 }

@@ -20,13 +20,10 @@ pub(crate) fn print_call(rt: &HostRuntime, kind: &str, text: &str) {
 
 /// Prints what bytes are read as. Those of a chunk are read at a place.
 fn print_bytes(rt: &HostRuntime, kind: &str, place: &str, text: &str) {
-    match hex::decode(rt.alloc(), text) {
-        Ok(bytes) => print_read(rt, kind, place, bytes.as_slice()),
-        Err(_) => say(rt, "no bytes"),
-    }
-}
-
-fn print_read(rt: &HostRuntime, kind: &str, place: &str, bytes: &[u8]) {
+    let Ok(bytes) = hex::decode(rt.alloc(), text) else {
+        return say(rt, "no bytes");
+    };
+    let bytes = bytes.as_slice();
     match kind {
         "chunk" => print_lent(rt, read_chunk(bytes, place.parse().unwrap_or(0))),
         "front" => print_lent(rt, take_chunk(bytes)),
@@ -46,21 +43,17 @@ fn print_encoded(rt: &HostRuntime, samples: &[Sample]) {
     }
 }
 
+/// Prints samples, each as in a script, or why there are none.
 fn print_decoded(rt: &HostRuntime, read: Result<SampleList, XorRefusal>) {
     match read {
-        Ok(samples) => print_samples(rt, samples.members()),
+        Ok(samples) => match samples.members() {
+            [first, others @ ..] => {
+                let _ = print!(rt; "{}:{:016x}", first.time, first.pattern);
+                put_samples(rt, others);
+                say(rt, "");
+            }
+            [] => say(rt, "no samples"),
+        },
         Err(refusal) => show(rt, &refusal),
-    }
-}
-
-/// Prints samples, each as in a script.
-fn print_samples(rt: &HostRuntime, samples: &[Sample]) {
-    match samples {
-        [first, others @ ..] => {
-            let _ = print!(rt; "{}:{:016x}", first.time, first.pattern);
-            put_samples(rt, others);
-            say(rt, "");
-        }
-        [] => say(rt, "no samples"),
     }
 }

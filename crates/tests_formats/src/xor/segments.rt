@@ -11,14 +11,9 @@ pub(crate) fn print_lent(rt: &HostRuntime, lent: Result<&[u8], ChunkRefusal>) {
 
 /// Prints the segment that is written of the data of some chunks.
 pub(crate) fn print_segment(rt: &HostRuntime, texts: &str) {
-    match SegmentWriter::new(rt.alloc()) {
-        Ok(writer) => print_written(rt, writer, texts),
-        Err(_) => say(rt, "no memory"),
-    }
-}
-
-fn print_written(rt: &HostRuntime, empty: SegmentWriter, texts: &str) {
-    let mut writer = empty;
+    let Ok(mut writer) = SegmentWriter::new(rt.alloc()) else {
+        return say(rt, "no memory");
+    };
     for text in texts.split(' ') {
         if let Ok(content) = hex::decode(rt.alloc(), text) {
             let _ = writer.append(&content);
