@@ -1,172 +1,112 @@
 -- Series that are joined one after another keep their samples, and those in order get labels that strictly ascend.
-use Rattle.std.proofs.Common.{arith, length, ◌≡◌, ◌≢◌, append-nil, true, false, cond, List, [], ◌∷◌, ◌++◌, map, refl, sym, ap, ◌∙◌, subst, append_assoc}
+use Rattle.std.proofs.Common.{arith, length, ◌≡◌, ◌≢◌, append-nil, true, false, cond, List, [], ◌∷◌, ◌++◌, map, Option, Some, None, refl, sym, ap, ◌∙◌, subst, append_assoc}
 use Rattle.std.specs.Prelude.{fold}
-use Rattle.std.specs.declared.cmp.Ordering.{Ordering}
-use Rattle.std.specs.declared.cmp.Ordering.TheVariants.{Less, Equal, Greater}
-use Rattle.std.specs.Ordering.{is_lt, is_eq, ordering_reverse}
+use Rattle.std.specs.declared.cmp.Ordering.TheVariants.{Less}
+use Rattle.std.specs.Ordering.{is_lt}
 use Rattle.std.specs.List.{AllByRecursion}
 use Rattle.std.specs.List.Sorted.{IsStrictlySortedBy}
 use Rattle.std.proofs.lemmas.List.{map-append}
 use Rattle.std.proofs.lemmas.List.Concat.{flat_map-append}
-use Rattle.std.proofs.lemmas.Bool.{true≢false}
 use Rattle.label_sets.specs.declared.label.Label.{Label}
 use Rattle.label_sets.specs.declared.sample.Sample.{Sample}
 use Rattle.label_sets.specs.declared.series.Series.{Series}
 use Rattle.label_sets.specs.Labels.{compare_sets}
 use Rattle.label_sets.specs.Triples.{Triple, triples_of, triples_under}
-use Rattle.list_core.proofs.Bools.{by_bool, Less-from_is_lt}
-use Rattle.list_core.proofs.StableSorts.{NoneLess, Rises}
+use Rattle.list_core.specs.Order.{InOrderAfter, ComesAfter}
+use Rattle.list_core.proofs.Bools.{by_bool, by_order, Equal-from_is_eq}
+use Rattle.list_core.proofs.Order.{sorted_nil, sorted_from_order}
+use Rattle.list_core.proofs.StableSorts.{Rises}
 use Rattle.vertical_merge.specs.declared.parts.Parts.{Parts}
 use Rattle.vertical_merge.specs.Joined.{has_lesser_labels, has_same_labels, joined, joined_to, all_of, series_of}
-use Rattle.vertical_merge.proofs.Concats.{IsBelow}
-use Rattle.vertical_merge.proofs.Orders.{same_set, is_equal, sets_total, labels_ranked}
+use Rattle.vertical_merge.proofs.Orders.{same_set, sets_total}
 
 -- the labels of the series
 abbrev pub labels_of : List Series → List (List Label)
 labels_of series = map (λ s. s.labels) series
 
-abbrev pub LabelsAscend : List Series → Type 0
-LabelsAscend series = IsStrictlySortedBy compare_sets (labels_of series)
-
--- each series has a sample
-abbrev pub AllInhabited : List Series → Type 0
-AllInhabited [] = Unit {0}
-AllInhabited (s ∷ ss) = (s.samples ≢ []) × AllInhabited ss
-
-same_labels : (one next : Series) → has_same_labels one next ≡ true → one.labels ≡ next.labels
-same_labels one next e = same_set _ _ (is_equal _ e)
+abbrev pub HasSamples : Series → Type 0
+HasSamples s = s.samples ≢ []
 
 pub triples_under-append : (labels : List Label) (one more : List Sample) → triples_under labels (one ++ more) ≡ triples_under labels one ++ triples_under labels more
 unfolding triples_under
 triples_under-append _ _ _ = map-append _ _ _
 
-triples-joined : (one next : Series) → triples_of (joined one next) ≡ triples_under one.labels one.samples ++ (triples_under next.labels next.samples ++ [])
-unfolding joined triples_of
-triples-joined one next = by_bool _
-    (λ t. ap (λ b. triples_of (cond b (record { labels = one.labels; samples = one.samples ++ next.samples } ∷ []) (one ∷ next ∷ []))) t
-    ∙ ap (λ ts. ts ++ []) (triples_under-append _ _ _)
-    ∙ append_assoc (triples_under one.labels one.samples) (triples_under one.labels next.samples) []
-    ∙ ap (λ labels. triples_under one.labels one.samples ++ (triples_under labels next.samples ++ [])) (same_labels one next t))
-    (λ f. ap (λ b. triples_of (cond b (record { labels = one.labels; samples = one.samples ++ next.samples } ∷ []) (one ∷ next ∷ []))) f)
+-- of each series the labels are not less than those before
+abbrev pub Climb : List Label → List Series → Type 0
+Climb labels [] = Unit {0}
+Climb labels (s ∷ ss) = (is_lt (compare_sets s.labels labels) ≡ false) × Climb s.labels ss
 
-triples-joined_to : (made : List Series) (next : Series) → triples_of (joined_to made next) ≡ triples_of made ++ (triples_under next.labels next.samples ++ [])
-unfolding joined_to triples_of
-triples-joined_to [] next = refl
-triples-joined_to (one ∷ []) next = triples-joined _ _
-    ∙ sym (append_assoc (triples_under one.labels one.samples) [] (triples_under next.labels next.samples ++ []))
-triples-joined_to (one ∷ other ∷ series) next = ap (λ ts. triples_under one.labels one.samples ++ ts) (triples-joined_to (other ∷ series) _)
-    ∙ sym (append_assoc (triples_under one.labels one.samples) (triples_of (other ∷ series)) (triples_under next.labels next.samples ++ []))
+climb : (one : Series) (series : List Series) → Rises has_lesser_labels (one ∷ series) → Climb one.labels series
+climb one [] up = tt
+climb one (s ∷ ss) up = (up.0.0, climb s ss up.1)
 
-pub triples-fold : (made series : List Series) → triples_of (fold joined_to made series) ≡ triples_of made ++ triples_of series
-unfolding triples_of
-triples-fold made [] = sym (append-nil (triples_of made))
-triples-fold made (s ∷ ss) = triples-fold (joined_to made s) ss ∙ ap (λ ts. ts ++ triples_of ss) (triples-joined_to _ s)
-    ∙ append_assoc (triples_of made) (triples_under s.labels s.samples ++ []) (triples_of ss)
-    ∙ ap (λ ts. triples_of made ++ ts) (append_assoc (triples_under s.labels s.samples) [] (triples_of ss))
-
--- what holds of the labels of all and of one more, holds of those of all joined
-all-joined_to : (P : List Label → Type 0) (made : List Series) (next : Series) → AllByRecursion P (labels_of made) → P next.labels → AllByRecursion P (labels_of (joined_to made next))
-unfolding joined_to joined
-all-joined_to P [] _ all p = (p, tt)
-all-joined_to P (one ∷ []) next all p = elim (has_same_labels one next)
-    as (λ b. AllByRecursion P (labels_of (cond b (record { labels = one.labels; samples = one.samples ++ next.samples } ∷ []) (one ∷ next ∷ [])))) [
-      | true ↦ (all.0, tt)
-      | false ↦ (all.0, (p, tt))
-    ]
-all-joined_to P (one ∷ other ∷ series) _ all p = (all.0, all-joined_to P (other ∷ series) _ all.1 p)
-
--- labels that are before others are before those that these are not after
-before_next : (one other next : Series) → compare_sets one.labels other.labels ≡ Less → has_lesser_labels next other ≡ false → compare_sets one.labels next.labels ≡ Less
-before_next one other next before not_after = by_bool (has_lesser_labels one next)
-    (λ t. Less-from_is_lt (compare_sets one.labels next.labels) t)
-    (λ f. absurd (true≢false (sym (ap is_lt before) ∙ labels_ranked.chain one next other f not_after)))
-
-last_case : (o p : Ordering) → p ≡ ordering_reverse o → is_lt p ≡ false → is_eq o ≡ false → o ≡ Less
-last_case Less p e f g = refl
-last_case Equal p e f g = absurd (true≢false g)
-last_case Greater p e f g = absurd (true≢false (sym (ap is_lt e) ∙ f))
-
--- labels that are not after others, and not the same, are before them
-after_last : (one next : Series) → has_lesser_labels next one ≡ false → has_same_labels one next ≡ false → compare_sets one.labels next.labels ≡ Less
-after_last one next f g =
-    last_case _ _ (sets_total.antisymm next.labels one.labels) f g
-
--- none of these series is after another one
-abbrev pub NoneAfter : List Series → Series → Type 0
-NoneAfter [] next = Unit {0}
-NoneAfter (one ∷ series) next = (has_lesser_labels next one ≡ false) × NoneAfter series next
-
-ascend-joined_to : (made : List Series) (next : Series) → LabelsAscend made → NoneAfter made next → LabelsAscend (joined_to made next)
-unfolding joined_to joined IsStrictlySortedBy
-ascend-joined_to [] _ up none = (tt, tt)
-ascend-joined_to (one ∷ []) next up none = by_bool _
-    (λ t. subst (λ b. LabelsAscend (cond b (record { labels = one.labels; samples = one.samples ++ next.samples } ∷ []) (one ∷ next ∷ []))) (sym t) (tt, tt))
-    (λ f. subst (λ b. LabelsAscend (cond b (record { labels = one.labels; samples = one.samples ++ next.samples } ∷ []) (one ∷ next ∷ []))) (sym f)
-    ((after_last one next none.0 f, tt), (tt, tt)))
-ascend-joined_to (one ∷ other ∷ series) next up none = (
-  all-joined_to (λ labels. compare_sets one.labels labels ≡ Less) (other ∷ series) next up.0 (before_next one other next up.0.0 none.1.0),
-  ascend-joined_to (other ∷ series) next up.1 none.1,
-)
-
--- what is not less than these series is not less than any with the same labels
-abbrev pub AboveLabels : List Series → List Label → Type 0
-AboveLabels series labels = NoneLess has_lesser_labels (record { labels = labels; samples = [] }) series
-
-below_one : (one : Series) (series : List Series) → NoneLess has_lesser_labels one series → AboveLabels series one.labels
-below_one _ [] h = tt
-below_one one (s ∷ ss) h = (h.0, below_one one ss h.1)
-
-above_one : (one : Series) (series : List Series) → AboveLabels series one.labels → NoneLess has_lesser_labels one series
-above_one _ [] h = tt
-above_one one (s ∷ ss) h = (h.0, above_one one ss h.1)
-
-below_labels : (made series : List Series) → AllByRecursion (AboveLabels series) (labels_of made) → IsBelow has_lesser_labels made series
-below_labels [] _ all = tt
-below_labels (one ∷ made) series all = (above_one one series all.0, below_labels made _ all.1)
-
-labels_below : (made series : List Series) → IsBelow has_lesser_labels made series → AllByRecursion (AboveLabels series) (labels_of made)
-labels_below [] _ below = tt
-labels_below (one ∷ made) series below = (below_one one series below.0, labels_below made _ below.1)
-
-none_after : (made series : List Series) (next : Series) → IsBelow has_lesser_labels made (next ∷ series) → NoneAfter made next
-none_after [] _ _ below = tt
-none_after (one ∷ made) _ _ below = (below.0.0, none_after made _ _ below.1)
-
-below_rest : (made series : List Series) (next : Series) → IsBelow has_lesser_labels made (next ∷ series) → IsBelow has_lesser_labels made series
-below_rest [] _ _ below = tt
-below_rest (one ∷ made) _ _ below = (below.0.1, below_rest made _ _ below.1)
-
-pub ascend-fold : (made series : List Series) → LabelsAscend made → IsBelow has_lesser_labels made series → Rises has_lesser_labels series
-    → LabelsAscend (fold joined_to made series)
-ascend-fold made [] up below rises = up
-ascend-fold made (s ∷ ss) up below rises = ascend-fold (joined_to made s) ss (ascend-joined_to made s up (none_after _ _ s below))
-    (below_labels _ _
-    (all-joined_to _ _ s (labels_below _ _ (below_rest _ _ s below)) (below_one s _ rises.0)))
-    rises.1
+-- labels that are not less than others, and not the same, are greater
+greater : (one next : Series) → has_lesser_labels next one ≡ false → has_same_labels one next ≡ false
+    → compare_sets one.labels next.labels ≡ Less
+greater one next n f = by_order (compare_sets one.labels next.labels) (λ e. e)
+    (λ e. absurd cc (rw e at f))
+    (λ e. absurd cc (rw (sets_total.antisymm next.labels one.labels, e) at n))
 
 appended : (one more : List Sample) → one ≢ [] → one ++ more ≢ []
-appended [] _ some e = some refl
-appended (s ∷ ss) _ some e = cc
-
-inhabited-joined_to : (made : List Series) (next : Series) → AllInhabited made → next.samples ≢ [] → AllInhabited (joined_to made next)
-unfolding joined_to joined
-inhabited-joined_to [] _ all some = (some, tt)
-inhabited-joined_to (one ∷ []) next all some = elim (has_same_labels one next)
-    as (λ b. AllInhabited (cond b (record { labels = one.labels; samples = one.samples ++ next.samples } ∷ []) (one ∷ next ∷ []))) [
-      | true ↦ (appended _ _ all.0, tt)
-      | false ↦ (all.0, (some, tt))
-    ]
-inhabited-joined_to (one ∷ other ∷ series) _ all some = (all.0, inhabited-joined_to (other ∷ series) _ all.1 some)
-
-pub inhabited-fold : (made series : List Series) → AllInhabited made → AllInhabited series → AllInhabited (fold joined_to made series)
-inhabited-fold _ [] all more = all
-inhabited-fold made (s ∷ ss) all more = inhabited-fold (joined_to made s) ss (inhabited-joined_to _ s all more.0) more.1
+appended [] more some e = some refl
+appended (s ∷ ss) more some e = cc
 
 joined_to-last : (rest : List Series) (last next : Series) → joined_to (rest ++ last ∷ []) next ≡ rest ++ joined last next
 unfolding joined_to
 joined_to-last [] _ _ = refl
 joined_to-last (one ∷ []) _ _ = refl
 joined_to-last (one ∷ other ∷ rest) _ next = ap (λ (l : List Series). one ∷ l) (joined_to-last (other ∷ rest) _ _)
+
+-- what a series and those behind it become
+record Joins (made : List Series) (one : Series) (series : List Series) (before : Option (List Label)) : Type 0 where
+  pub all : List Series
+  pub is : fold joined_to (made ++ one ∷ []) series ≡ made ++ all
+  pub triples : triples_of all ≡ triples_of (one ∷ series)
+  pub order : InOrderAfter (ComesAfter compare_sets) before (labels_of all)
+  pub inhabited : AllByRecursion HasSamples all
+
+joins : (made : List Series) (one : Series) (series : List Series) (before : Option (List Label))
+    → ComesAfter compare_sets before one.labels → Climb one.labels series → HasSamples one
+    → AllByRecursion HasSamples series → Joins made one series before
+unfolding joined triples_of
+joins made one [] before comes up some all =
+    record { all = one ∷ []; is = refl; triples = refl; order = (comes, tt); inhabited = (some, tt) }
+joins made one (s ∷ ss) before comes up some all = by_bool (has_same_labels one s)
+    (λ t. let labels : one.labels ≡ s.labels = same_set _ _ (Equal-from_is_eq _ t) in
+    let both : Series = record { labels = one.labels; samples = one.samples ++ s.samples } in
+    let j = joins made both ss before comes (subst (λ l. Climb l ss) (sym labels) up.1) (appended _ _ some) all.1 in
+    record {
+      all = j.all;
+      is = rw (joined_to-last made one s, t) j.is;
+      triples = j.triples ∙ rw (triples_under-append one.labels one.samples s.samples, append_assoc, labels) refl;
+      order = j.order;
+      inhabited = j.inhabited;
+    })
+    (λ f. let j = joins (made ++ one ∷ []) s ss (Some one.labels) (greater one s up.0 f) up.1 all.0 all.1 in
+    record {
+      all = one ∷ j.all;
+      is = rw (joined_to-last made one s, f) (simp append_assoc at j.is);
+      triples = ap (λ ts. triples_under one.labels one.samples ++ ts) j.triples;
+      order = (comes, j.order);
+      inhabited = (some, j.inhabited);
+    })
+
+pub record AreJoined (series made : List Series) : Type 0 where
+  pub ascending : IsStrictlySortedBy compare_sets (labels_of made)
+  pub inhabited : AllByRecursion HasSamples made
+  pub triples : triples_of made ≡ triples_of series
+
+pub are_joined : (series : List Series) → Rises has_lesser_labels series → AllByRecursion HasSamples series
+    → AreJoined series (fold joined_to [] series)
+unfolding joined_to
+are_joined [] up all = record { ascending = sorted_nil compare_sets; inhabited = tt; triples = refl }
+are_joined (s ∷ ss) up all =
+    let j = joins [] s ss None tt (climb s ss up) all.0 all.1 in
+    subst (AreJoined (s ∷ ss)) (sym j.is) (record {
+      ascending = sorted_from_order compare_sets sets_total None _ j.order;
+      inhabited = j.inhabited;
+      triples = j.triples;
+    })
 
 no_parts : (series : List Parts) → length series ≡ 0 → series ≡ []
 no_parts [] e = refl

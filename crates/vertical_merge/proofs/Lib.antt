@@ -1,5 +1,5 @@
+pub mod Firsts
 pub mod Orders
-pub mod Concats
 pub mod Joining
 pub mod TimesMerged
 pub mod FirstsJoined

@@ -1,30 +1,23 @@
 -- There is one merge of a list of samples.
-use Rattle.list_core.proofs.Membership.{contains_first, contains_later, member_of_any}
+use Rattle.list_core.proofs.Membership.{member_of_any}
 use Rattle.std.proofs.Common.{◌≡◌, ◌≢◌, Bool, true, false, List, [], ◌∷◌, ◌++◌, map, Contains, Some, refl, sym, ap, ap₂, subst, ◌∙◌}
 use Rattle.std.specs.Prelude.{All}
 use Rattle.std.specs.List.{AllByRecursion, find, list_any}
 use Rattle.std.specs.List.Sorted.{IsStrictlySortedBy}
 use Rattle.std.specs.Ordering.{int_cmp, is_eq, ordering_then}
 use Rattle.std.specs.declared.cmp.Ordering.TheVariants.{Less}
-use Rattle.std.proofs.lemmas.List.Elements.{All-contains, All-head, All-tail, All-weaker, recursion_from_All}
+use Rattle.std.proofs.lemmas.List.Elements.{All-contains, All-head, All-tail}
 use Rattle.label_sets.specs.Labels.{compare_sets}
 use Rattle.label_sets.specs.Triples.{Triple, has_same_key, triples_of, triples_under}
 use Rattle.label_sets.specs.declared.label.Label.{Label}
 use Rattle.label_sets.specs.declared.sample.Sample.{Sample}
 use Rattle.label_sets.specs.declared.series.Series.{Series}
 use Rattle.vertical_merge.specs.Merged.{AreFirst, IsMerge}
-use Rattle.vertical_merge.proofs.Laws.{same_members}
-use Rattle.vertical_merge.proofs.Orders.{same_key, set_itself}
+use Rattle.vertical_merge.proofs.Firsts.{same_members}
+use Rattle.vertical_merge.proofs.Laws.{found_contains}
+use Rattle.vertical_merge.proofs.Orders.{keys_total, same_key, set_itself}
 
 -- ---- the triples that are kept
-
-found_by : (b : Bool) (p : Triple → Bool) (x : Triple) (xs : List Triple) (t : Triple) → p x ≡ b → (find p xs ≡ Some t → Contains xs t) → find p (x ∷ xs) ≡ Some t → Contains (x ∷ xs) t
-found_by true p x xs t is later found = let same : x ≡ t = cc (rw is at found) in subst (Contains (x ∷ xs)) same (contains_first x _)
-found_by false p x _ t is later found = contains_later x t _ (later (rw is at found))
-
-pub found_contains : (p : Triple → Bool) (xs : List Triple) (t : Triple) → find p xs ≡ Some t → Contains xs t
-found_contains p [] t found = absurd (cc (found))
-found_contains p (x ∷ xs) t found = found_by (p x) p x xs t refl (found_contains p xs t) found
 
 abbrev IsFirst : List Triple → Triple → Type 0
 IsFirst list t = find (has_same_key t) list ≡ Some t
@@ -32,17 +25,17 @@ IsFirst list t = find (has_same_key t) list ≡ Some t
 like : (one other : Triple) → (one.labels ≡ other.labels) × (one.time ≡ other.time) → has_same_key one ≡ has_same_key other
 like _ _ (labels, times) = ap₂ (λ l m. λ x. is_eq (ordering_then (compare_sets l x.labels) (int_cmp m x.time))) labels times
 
-kept_in : (list kept other : List Triple) → AreFirst list kept → AreFirst list other → AllByRecursion (Contains other) kept
-kept_in list kept other p q = recursion_from_All (Contains other) kept (All-weaker (IsFirst list) (Contains other) (λ t first.
-    let among : Contains list t = found_contains _ _ t first in
-    let u = member_of_any _ _ (All-contains (λ x. list_any (has_same_key x) other ≡ true) _ t q.complete among) in
+kept_in : (list kept other : List Triple) → AreFirst list kept → AreFirst list other → (t : Triple) → Contains kept t → Contains other t
+kept_in list kept other p q t among =
+    let first = All-contains (IsFirst list) _ t p.first among in
+    let u = member_of_any _ other (All-contains (λ x. list_any (has_same_key x) other ≡ true) _ t q.complete (found_contains _ _ t first)) in
     let also = All-contains (IsFirst list) _ _ q.first u.1 in
     let tests = ap (λ (p : Triple → Bool). find p list) (like t u.0 (same_key t u.0 u.2)) in
     let same : t ≡ u.0 = cc (first, also, tests) in
-    subst (Contains other) (sym same) u.1) kept p.first)
+    subst (Contains other) (sym same) u.1
 
 pub one_kept : (list kept other : List Triple) → AreFirst list kept → AreFirst list other → kept ≡ other
-one_kept list kept other p q = same_members kept other p.ascending q.ascending (kept_in _ _ _ p q) (kept_in _ _ _ q p)
+one_kept list kept other p q = same_members keys_total kept other p.ascending q.ascending (kept_in _ _ _ p q) (kept_in _ _ _ q p)
 
 -- ---- the series that hold them
 

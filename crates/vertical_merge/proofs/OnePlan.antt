@@ -2,7 +2,6 @@
 use Rattle.std.proofs.Common.{◌≡◌, ℕ, ℤ, ◌+◌, ◌≤◌, min, List, sym, ap, subst, ◌∙◌, arith}
 use Rattle.std.specs.Prelude.{◌≤ℤ◌}
 use Rattle.std.specs.List.Sorted.{IsStrictlyIncreasing}
-use Rattle.std.proofs.Props.{props}
 use Rattle.std.proofs.lemmas.Int.{ints}
 use Rattle.std.proofs.lemmas.List.Elements.{All-contains}
 use Rattle.label_sets.specs.declared.label.Label.{Label}
@@ -10,6 +9,7 @@ use Rattle.block_meta.specs.Lawful.{AreLawfulTimes}
 use Rattle.block_meta.specs.declared.block_plan.BlockPlan.{BlockPlan}
 use Rattle.block_meta.specs.declared.meta.Meta.{Meta}
 use Rattle.block_meta.specs.declared.parent.Parent.{Parent}
+use Rattle.block_meta.proofs.SameMetas.{times_prop, distinct_prop}
 use Rattle.vertical_merge.specs.Compacted.{IsCompactedPlan, IsLeast, IsGreatest, IsGreatestLevel, IsNextLevel}
 
 -- ---- least and greatest
@@ -56,12 +56,6 @@ fields_of plan = record { ulid = plan.ulid; min_time = plan.min_time; max_time =
 
 abbrev made : (f : Fields) → AreLawfulTimes f.min_time f.max_time → IsStrictlyIncreasing f.sources → BlockPlan
 made f times distinct = record { ulid = f.ulid; min_time = f.min_time; max_time = f.max_time; level = f.level; sources = f.sources; parents = f.parents; labels = f.labels; source = f.source; times = times; distinct = distinct }
-
-times_prop : (least most : ℤ) → IsProp (AreLawfulTimes least most)
-times_prop _ _ = hlevel props
-
-distinct_prop : (sources : List ℕ) → IsProp (IsStrictlyIncreasing sources)
-distinct_prop _ = hlevel props
 
 same_made : (f g : Fields) → f ≡ g → (t : AreLawfulTimes f.min_time f.max_time) (d : IsStrictlyIncreasing f.sources) (t' : AreLawfulTimes g.min_time g.max_time) (d' : IsStrictlyIncreasing g.sources) → made f t d ≡ made g t' d'
 same_made f g e t d =

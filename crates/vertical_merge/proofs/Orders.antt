@@ -1,17 +1,16 @@
 -- The orders of label sets, of samples by time and of triples by their keys.
 use Rattle.std.proofs.Common.{◌≡◌, ℤ, true, List, [], ◌∷◌, refl, sym, ◌∙◌}
-use Rattle.std.specs.declared.cmp.Ordering.{Ordering}
 use Rattle.std.specs.declared.cmp.Ordering.TheVariants.{Less, Equal, Greater}
-use Rattle.std.specs.Ordering.{int_cmp, is_eq}
+use Rattle.std.specs.Ordering.{int_cmp}
 use Rattle.std.specs.Cmp.{IsTotalOrder, IsStrictWeakOrder}
 use Rattle.std.proofs.lemmas.Cmp.{nat_list_cmp_total, lists_total, then_total, on_total, int_cmp_total, tied_itself, int_ranked, by_ranked}
 use Rattle.std.proofs.lemmas.List.Sorted.{ranks_by}
-use Rattle.list_core.proofs.Bools.{Equal-from_then}
+use Rattle.list_core.proofs.Bools.{Equal-from_then, Equal-from_is_eq}
 use Rattle.label_sets.specs.declared.label.Label.{Label}
 use Rattle.label_sets.specs.Labels.{compare_texts, compare_labels, compare_sets}
-use Rattle.label_sets.specs.Triples.{Triple, compare_keys, has_lesser_key, has_same_key}
+use Rattle.label_sets.specs.Triples.{Triple, compare_keys, has_same_key}
 use Rattle.label_sets.proofs.LabelValues.{same_text}
-use Rattle.vertical_merge.specs.Joined.{has_lesser_labels, has_lesser_time}
+use Rattle.vertical_merge.specs.Joined.{compare_times, has_lesser_labels, has_lesser_time}
 
 pub labels_total : IsTotalOrder compare_labels
 labels_total = then_total (on_total (λ l. l.name) nat_list_cmp_total) (on_total (λ l. l.value) nat_list_cmp_total)
@@ -22,8 +21,8 @@ sets_total = lists_total labels_total
 pub keys_total : IsTotalOrder compare_keys
 keys_total = then_total (on_total (λ t. t.labels) sets_total) (on_total (λ t. t.time) int_cmp_total)
 
-pub keys_ranked : IsStrictWeakOrder has_lesser_key
-keys_ranked = ranks_by keys_total (λ t. t)
+pub times_total : IsTotalOrder compare_times
+times_total = on_total (λ s. s.time) int_cmp_total
 
 pub labels_ranked : IsStrictWeakOrder has_lesser_labels
 labels_ranked = ranks_by sets_total (λ s. s.labels)
@@ -56,13 +55,8 @@ same_time one other e = by_ranked _ _ _ _ (int_ranked one other (int_cmp one oth
 pub set_itself : (labels : List Label) → compare_sets labels labels ≡ Equal
 set_itself labels = tied_itself sets_total labels
 
-pub is_equal : (o : Ordering) → is_eq o ≡ true → o ≡ Equal
-is_equal Equal e = refl
-is_equal Less e = absurd (let f = e in cc)
-is_equal Greater e = absurd (let f = e in cc)
-
 -- triples with the same key have the same labels and the same time
 pub same_key : (one other : Triple) → has_same_key one other ≡ true → (one.labels ≡ other.labels) × (one.time ≡ other.time)
 same_key _ _ e =
-    let parts = Equal-from_then _ _ (is_equal _ e) in
+    let parts = Equal-from_then _ _ (Equal-from_is_eq _ e) in
     (same_set _ _ parts.0, same_time _ _ parts.1)

@@ -1,29 +1,24 @@
 -- Samples at ascending times, merged: the first sample at each time.
 use Rattle.std.proofs.Common.{◌≡◌, ℕ, zero, suc, ◌+◌, ◌-◌, ◌<◌, ◌≤◌, true, false, cond, List, [], ◌∷◌, ◌++◌, length, take, drop, get_or, refl, sym, ap, ◌∙◌, subst, arith, append_assoc, append-nil, ◌⊎◌, inl, inr, Option}
-use Rattle.std.specs.declared.cmp.Ordering.{Ordering}
-use Rattle.std.specs.declared.cmp.Ordering.TheVariants.{Less, Equal, Greater}
 use Rattle.std.specs.Ordering.{is_lt, is_eq, ordering_reverse}
 use Rattle.std.specs.Prelude.{All, Some, None, MatchOption, is_some, slice_get, nat_lt}
-use Rattle.std.specs.Cmp.{IsTotalOrder}
 use Rattle.std.specs.List.{AllByRecursion, dedup, dedup_from}
 use Rattle.std.specs.List.Sorted.{IsStrictlySortedBy, IsSortedBy, IsPartitionedBy, IsPartitionPoint}
 use Rattle.std.proofs.lemmas.Bool.{true≢false, ltb-true, ltb-false}
-use Rattle.std.proofs.lemmas.Cmp.{int_cmp_total, on_total}
+use Rattle.std.proofs.lemmas.Cmp.{int_cmp_total}
 use Rattle.std.proofs.lemmas.List.{drop_more, drop_all, take_all, length-drop, take-append-drop}
 use Rattle.std.proofs.lemmas.List.Elements.{recursion_from_All, All-from_recursion}
 use Rattle.std.proofs.lemmas.List.Sorted.{sorted_far}
 use Rattle.std.proofs.lemmas.Map.Keys.{sorted_from_all_adjacent, Less-from_sorted}
 use Rattle.label_sets.specs.declared.sample.Sample.{Sample}
+use Rattle.label_sets.proofs.RepeatedNames.{tied}
 use Rattle.list_core.specs.Ordered.{placed, in_order}
 use Rattle.list_core.proofs.Bools.{by_bool, Less-from_is_lt, is_lt-from_Less}
 use Rattle.list_core.proofs.Lists.{take_none, drop_none, AllByRecursion-append, AllByRecursion-weaker}
-use Rattle.list_core.proofs.StableSorts.{NoneLess}
+use Rattle.list_core.proofs.Order.{sorted_drop}
 use Rattle.vertical_merge.specs.Joined.{compare_times, has_lesser_time, has_same_time, first_samples}
-use Rattle.vertical_merge.proofs.Concats.{NoneSame, placed-none_less, dedup_from-apart}
-use Rattle.vertical_merge.proofs.Orders.{times_ranked}
-
-pub times_total : IsTotalOrder compare_times
-times_total = on_total (λ s. s.time) int_cmp_total
+use Rattle.vertical_merge.proofs.Firsts.{own_class, find-firsts, ascending-firsts, same_found}
+use Rattle.vertical_merge.proofs.Orders.{times_total, times_ranked}
 
 -- ---- times before others
 
@@ -52,24 +47,11 @@ before_third x y z n l = by_bool (has_lesser_time x z) (λ t. t) (λ f. absurd (
 pub before_too : (x y : Sample) (zs : List Sample) → has_lesser_time y x ≡ false → IsBefore y zs → IsBefore x zs
 before_too x y _ n all = AllByRecursion-weaker _ _ (λ z l. before_third x y z n l) _ all
 
-none_less : (x : Sample) (ys : List Sample) → IsBefore x ys → NoneLess has_lesser_time x ys
-none_less x [] all = tt
-none_less x (y ∷ ys) all = (times_ranked.one_way x y all.0, none_less x ys all.1)
-
 pub other_time : (x y : Sample) → has_lesser_time x y ≡ true → has_same_time y x ≡ false
 other_time x y l = ap is_eq (int_cmp_total.antisymm y.time x.time ∙ ap ordering_reverse (Less-from_is_lt _ l))
 
-none_same : (x : Sample) (ys : List Sample) → IsBefore x ys → NoneSame has_same_time x ys
-none_same x [] all = tt
-none_same x (y ∷ ys) all = (other_time x y all.0, none_same x ys all.1)
-
-level : (o : Ordering) → is_lt o ≡ false → is_lt (ordering_reverse o) ≡ false → is_eq o ≡ true
-level Less f g = absurd (true≢false f)
-level Equal f g = refl
-level Greater f g = absurd (true≢false g)
-
 pub same_time : (x y : Sample) → has_lesser_time x y ≡ false → has_lesser_time y x ≡ false → has_same_time y x ≡ true
-same_time x y f g = level _ g (sym (ap is_lt (int_cmp_total.antisymm x.time y.time)) ∙ f)
+same_time x y f g = tied _ g (sym (ap is_lt (int_cmp_total.antisymm x.time y.time)) ∙ f)
 
 -- ---- what holds of all holds of all in order
 
@@ -92,10 +74,13 @@ before-in_order x _ all = all-in_order _ _ all
 -- ---- the sample that comes first
 
 placed-first : (x : Sample) (ys : List Sample) → IsBefore x ys → placed has_lesser_time x ys ≡ x ∷ ys
-placed-first x _ all = placed-none_less has_lesser_time x _ (none_less x _ all)
+unfolding placed
+placed-first x [] all = refl
+placed-first x (y ∷ ys) all = rw (times_ranked.one_way x y all.0) refl
 
 kept-first : (x : Sample) (ys : List Sample) → IsBefore x ys → dedup_from has_same_time x ys ≡ x ∷ dedup has_same_time ys
-kept-first x _ all = dedup_from-apart has_same_time x _ (none_same x _ all)
+kept-first x [] all = refl
+kept-first x (y ∷ ys) all = rw (other_time x y all.0) refl
 
 first-front : (x : Sample) (ys : List Sample) → IsBefore x ys → first_samples (x ∷ ys) ≡ x ∷ first_samples ys
 unfolding first_samples in_order
@@ -128,10 +113,9 @@ first-both x y xs ys f g p q =
     ∙ kept-first x _ (before-in_order x _ all)
 
 -- samples at ascending times are their own first samples
-pub itself : (xs : List Sample) → Climbs xs → first_samples xs ≡ xs
-unfolding first_samples in_order
-itself [] up = refl
-itself (x ∷ xs) up = first-front x _ up.0 ∙ ap (λ l. x ∷ l) (itself _ up.1)
+pub itself : (xs : List Sample) → IsStrictlySortedBy compare_times xs → first_samples xs ≡ xs
+unfolding first_samples
+itself xs up = same_found times_total _ xs (ascending-firsts times_total xs) up (λ t. find-firsts times_total _ (own_class times_total t) xs)
 
 -- ---- what is before all others stays
 
@@ -167,7 +151,7 @@ both_put xs ys made x y up rise f g = append_assoc made (x ∷ []) (first_sample
     ∙ ap (λ zs. made ++ zs) (sym (first-both x y _ _ f g up.0 rise.0))
 
 -- the rest, where one list is at its end
-rest_put : (xs ys : List Sample) → Climbs xs → Climbs ys → (xs ≡ []) ⊎ (ys ≡ []) → first_samples (xs ++ ys) ≡ xs ++ ys
+rest_put : (xs ys : List Sample) → IsStrictlySortedBy compare_times xs → IsStrictlySortedBy compare_times ys → (xs ≡ []) ⊎ (ys ≡ []) → first_samples (xs ++ ys) ≡ xs ++ ys
 rest_put _ ys up rise (inl e) = ap (λ l. first_samples (l ++ ys)) e ∙ itself _ rise ∙ ap (λ l. l ++ ys) (sym e)
 rest_put xs _ up rise (inr e) = ap (λ l. first_samples (xs ++ l)) e ∙ ap first_samples (append-nil xs) ∙ itself _ up ∙ sym (append-nil xs) ∙ ap (λ l. xs ++ l) (sym e)
 
@@ -230,7 +214,7 @@ all_put samples others made next _ _ here there up rise end is more was =
       | inr le ↦ inr (drop_all _ _ le)
     ] in
     more ∙ ap (λ zs. next ++ zs) (rest_from others there) ∙ ap (λ zs. zs ++ drop there others) (is ∙ ap (λ zs. made ++ zs) (rest_from samples here)) ∙ append_assoc made (drop here samples) (drop there others)
-    ∙ ap (λ zs. made ++ zs) (sym (rest_put _ _ (climbs-drop _ _ (climbs _ up)) (climbs-drop _ _ (climbs _ rise)) none)) ∙ was
+    ∙ ap (λ zs. made ++ zs) (sym (rest_put _ _ (sorted_drop compare_times _ _ up) (sorted_drop compare_times _ _ rise) none)) ∙ was
 
 -- ---- where the merge begins
 
@@ -265,14 +249,8 @@ all_by : (others xs : List Sample) → AllByRecursion (λ one. All (λ other. ha
 all_by _ [] all = tt
 all_by others (x ∷ xs) all = (recursion_from_All (λ other. has_lesser_time x other ≡ true) others all.0, all_by others xs all.1)
 
-sorted-drop : (count : ℕ) (xs : List Sample) → IsStrictlySortedBy compare_times xs → IsStrictlySortedBy compare_times (drop count xs)
-unfolding IsStrictlySortedBy
-sorted-drop zero _ up = subst (IsStrictlySortedBy compare_times) (sym (drop_none _)) up
-sorted-drop (suc count) [] up = tt
-sorted-drop (suc count) (x ∷ xs) up = sorted-drop count _ up.1
-
 pub tail_ascends : (lent tail xs : List Sample) (count : ℕ) → IsStrictlySortedBy compare_times xs → tail ≡ drop count xs → lent ≡ tail → IsStrictlySortedBy compare_times lent
-tail_ascends _ _ _ _ up is same = subst (IsStrictlySortedBy compare_times) (sym (same ∙ is)) (sorted-drop _ _ up)
+tail_ascends _ _ _ _ up is same = subst (IsStrictlySortedBy compare_times) (sym (same ∙ is)) (sorted_drop compare_times _ _ up)
 
 pub merged_behind : (made kept tail lent samples others : List Sample) (count : ℕ) → IsStrictlySortedBy compare_times samples → kept ≡ take count samples → tail ≡ drop count samples
     → lent ≡ samples → All (λ one. All (λ other. has_lesser_time one other ≡ true) others) (take count lent)
@@ -299,7 +277,7 @@ pub all_behind : (made lent samples others : List Sample) (count : ℕ) → IsSt
     → lent ≡ samples → All (λ one. All (λ other. has_lesser_time one other ≡ true) others) (take count lent) → made ≡ samples ++ others → made ≡ first_samples (samples ++ others)
 all_behind _ _ samples _ count up rise whole same lent_before is =
     merged_behind _ _ _ _ _ _ _ up (sym (take_all count samples whole)) (sym (drop_all _ _ whole)) same lent_before
-    (is ∙ ap (λ zs. samples ++ zs) (sym (itself _ (climbs _ rise))))
+    (is ∙ ap (λ zs. samples ++ zs) (sym (itself _ rise)))
 
 -- ---- where times fall nowhere
 
@@ -316,7 +294,7 @@ none_falls xs _ (Some place) later found = found
 none_falls xs middle None later sooner = all_rise _ (λ k d lt. by_bool (nat_lt k middle) (λ t. sooner k d (ltb-true k middle t) lt) (λ f. later k d (ltb-false k middle f) lt))
 
 pub as_it_is : (made xs : List Sample) → made ≡ xs → IsStrictlySortedBy compare_times xs → made ≡ first_samples xs
-as_it_is _ _ is up = is ∙ sym (itself _ (climbs _ up))
+as_it_is _ _ is up = is ∙ sym (itself _ up)
 
 pub as_it_was : (found : Option ℕ) (made items lent samples : List Sample) → is_some found ≡ false
     → MatchOption found (IsStrictlySortedBy compare_times lent) (λ place. (0 < place) × (place < length lent))
