@@ -12,12 +12,9 @@ use Rattle.index_file.specs.declared.index_series.IndexSeries.{IndexSeries}
 use Rattle.index_file.specs.IndexFile.{compare_series}
 use Rattle.index_file.proofs.SeriesOrder.{series_total}
 use Rattle.index_writing.specs.Written.{AreWritable, IsBehind}
+use Rattle.list_core.proofs.Lists.{AllByRecursion-push}
 
 -- ---- one more at the end
-
-all_more : {A : Type 0} (P : A → Type 0) (xs : List A) (x : A) → AllByRecursion P xs → P x → AllByRecursion P (xs ++ x ∷ [])
-all_more P [] x all p = (p, tt)
-all_more P (y ∷ xs) x all p = (all.0, all_more P xs x all.1 p)
 
 behind_from : (x : IndexSeries) (list : List IndexSeries) (one : IndexSeries) → IsStrictlySortedBy compare_series (x ∷ list) → ((last : IndexSeries) → slice_get (x ∷ list) (length list) ≡ Some last → compare_series last one ≡ Less) → AllByRecursion (λ s. compare_series s one ≡ Less) (x ∷ list)
 unfolding IsStrictlySortedBy
@@ -35,12 +32,12 @@ behind_all (x ∷ list) one up behind =
 ascend_more : (list : List IndexSeries) (one : IndexSeries) → IsStrictlySortedBy compare_series list → AllByRecursion (λ s. compare_series s one ≡ Less) list → IsStrictlySortedBy compare_series (list ++ one ∷ [])
 unfolding IsStrictlySortedBy
 ascend_more [] _ up behind = (tt, tt)
-ascend_more (x ∷ list) _ up behind = (all_more _ _ _ up.0 behind.0, ascend_more list _ up.1 behind.1)
+ascend_more (x ∷ list) _ up behind = (AllByRecursion-push _ _ _ up.0 behind.0, ascend_more list _ up.1 behind.1)
 
 writable_more : (list new : List IndexSeries) (one : IndexSeries) → AreWritable list → IsBehind list one.labels → InOrder StartsAfter one.chunks → new ≡ list ++ one ∷ [] → AreWritable new
 writable_more list new one lawful behind chunks is = subst AreWritable (sym is) (record {
   ascend = ascend_more _ _ lawful.ascend (behind_all _ one lawful.ascend behind);
-  chunks = all_more _ _ _ lawful.chunks chunks;
+  chunks = AllByRecursion-push _ _ _ lawful.chunks chunks;
 })
 
 pub writable_added : (list view new : List IndexSeries) (labels given : List Label) (chunks apart : List ChunkPlace) → AreWritable list → list ≡ view → IsBehind view given → labels ≡ given → InOrder StartsAfter apart → chunks ≡ apart → new ≡ list ++ record { labels = labels; chunks = chunks } ∷ [] → AreWritable new

@@ -16,8 +16,8 @@ use Rattle.index_writing.specs.LabelGroups.{entries_of, all_entries, compare_ent
 use Rattle.std.specs.List.{AllByRecursion}
 use Rattle.std.proofs.lemmas.Bool.{and_parts}
 use Rattle.index_writing.specs.WriteSteps.{IsStorable}
-use Rattle.index_writing.proofs.SortedTexts.{all_at}
 use Rattle.index_writing.proofs.Groups.{AreKinds}
+use Rattle.list_core.proofs.Lists.{AllByRecursion-at}
 
 abbrev pub labels_with : ℕ → List ℕ → List ℕ → List Entry
 labels_with series names values = map (λ label. record { name = label.0; value = label.1; series = series }) (zip names values)
@@ -48,7 +48,7 @@ entries_added one number names values old _ names_are values_are is =
     is ∙ ap (λ l. old ++ labels_with number l values) names_are ∙ ap (λ l. old ++ labels_with number one.names l) values_are ∙ ap (λ l. old ++ l) (sym (entry_is _ _))
 
 pub as_many_at : (series : List RawSeries) (i : ℕ) (one : RawSeries) → AllByRecursion IsStorable series → i < length series → one ≡ get_or series i one → length one.names ≡ length one.values
-as_many_at _ i _ all lt at = subst (λ s. length s.names ≡ length s.values) (sym at) (all_at _ _ i _ all lt).0
+as_many_at _ i _ all lt at = subst (λ s. length s.names ≡ length s.values) (sym at) (AllByRecursion-at _ _ i _ all lt).0
 
 -- ---- their order
 

@@ -1,7 +1,7 @@
 -- Rows of entries, and names of rows: each label once with the numbers of its series, and each name once with its values.
 use Rattle.std.proofs.Common.{◌≡◌, ℕ, ◌<◌, true, ◌&&◌, List, map, refl, ap, ◌∙◌, subst, arith, inl, inr, ◌⊎◌}
 use Rattle.std.specs.Prelude.{◌==◌}
-use Rattle.std.proofs.lemmas.Bool.{and_parts}
+use Rattle.std.proofs.lemmas.Bool.{and_parts, eqb-true}
 use Rattle.std.proofs.lemmas.Bool.Decides.{nat_tests}
 use Rattle.index_writing.specs.declared.label_groups.Entry.{Entry}
 use Rattle.index_writing.specs.declared.label_groups.LabelRow.{LabelRow}
@@ -56,14 +56,11 @@ not_itself k b = elim b.is [ inl l ↦ omega arith | inr l ↦ let less = l.1 in
 both_true : (n m : ℕ) → (n == n) && (m == m) ≡ true
 both_true n m = grind (arith, nat_tests)
 
-same_number : (n m : ℕ) → (n == m) ≡ true → n ≡ m
-same_number n m e = grind (arith, nat_tests)
-
 have_parts : (a b : LabelRow) → have_same_label a b ≡ true → row_key a ≡ row_key b
 have_parts a b is =
     let both = and_parts (a.name == b.name) (a.value == b.value) is in
-    let name = same_number _ _ both.0 in
-    let value = same_number _ _ both.1 in
+    let name = eqb-true _ _ both.0 in
+    let value = eqb-true _ _ both.1 in
     λ i. (name i, value i)
 
 have_all : (a b : LabelRow) → row_key a ≡ row_key b → have_same_label a b ≡ true
@@ -104,7 +101,7 @@ rows_grouping = record {
   before_parts = λ x y b. b.is;
   irreflexive = λ n lt. omega arith;
   trans = λ a b c p q. omega arith;
-  same_keys = λ a b is. same_number a.name b.name is;
+  same_keys = λ a b is. eqb-true a.name b.name is;
   same_test = λ a b same. ap (λ n. n == b.name) same ∙ grind (arith, nat_tests);
   of_key = λ x. refl;
   of_numbers = λ x. refl;

@@ -1,27 +1,27 @@
 -- Postings lists and label indices stand at their places in a text that is not too long.
-use Rattle.std.proofs.Common.{◌≡◌, ℕ, ◌/◌, ◌^◌, ◌<◌, ◌≤◌, Bool, true, false, cond, List, [], ◌∷◌, ◌++◌, length, zip, fold, Option, Some, None, sym, ap, ◌∙◌, subst, arith, inl, inr, length-append, append_assoc}
+use Rattle.std.proofs.Common.{◌≡◌, ℕ, ◌/◌, ◌^◌, ◌<◌, ◌≤◌, Bool, true, false, cond, List, [], ◌∷◌, ◌++◌, length, zip, fold, None, sym, ap, ◌∙◌, subst, arith, inl, inr, length-append, append_assoc}
 use Rattle.std.specs.Prelude.{bit_xor}
-use Rattle.std.specs.Int.{w32, to_be_bytes}
 use Rattle.std.specs.List.{All, AllByRecursion, flat_map, Contains, AllPairs}
+use Rattle.std.proofs.lemmas.List.{map-id}
 use Rattle.std.proofs.lemmas.Nat.{xor_of_32}
 use Rattle.wire_bytes.specs.Crc.{crc, remainder, with_bit, castagnoli, coefficients, ones}
 use Rattle.index_parts.specs.Framed.{section_text, IsSection}
-use Rattle.index_parts.specs.Lists.{list_content}
-use Rattle.index_parts.specs.LabelIndices.{IsLabelIndex, label_index_content, label_index_text}
-use Rattle.index_parts.specs.Turns.{InOrderAfter, InOrder}
+use Rattle.index_parts.specs.LabelIndices.{IsLabelIndex, label_index_text}
+use Rattle.index_parts.specs.Turns.{InOrder}
 use Rattle.index_parts.specs.Postings.{Rises, IsPostings, postings_text}
 use Rattle.section_writers.proofs.Stands.{section_stands}
 use Rattle.section_writers.proofs.Writing.{postings_stand, values_stand}
 use Rattle.index_writing.specs.Aligned.{padded, each_at, places_at}
 use Rattle.index_writing.specs.WriteSteps.{greatest}
-use Rattle.list_core.proofs.Membership.{no_member, member_cases}
-use Rattle.index_writing.proofs.OrderedEntries.{Below, first_pairs, later_pairs}
-use Rattle.index_writing.proofs.SmallNumbers.{all_from}
+use Rattle.list_core.proofs.Membership.{no_member, member_cases, all_members}
+use Rattle.list_core.proofs.Lists.{AllByRecursion-append}
+use Rattle.index_writing.proofs.OrderedEntries.{Below, pairs_in_order}
+use Rattle.index_writing.proofs.SectionSizes.{section_least}
 use Rattle.index_writing.proofs.Standing.{each_begins}
 
 -- ---- sums have 32 bits
 
-halved : (b : Bool) (r : ℕ) → r < 2 ^ 32 → cond b (bit_xor (r / 2) castagnoli) (r / 2) < 2 ^ 32
+pub halved : (b : Bool) (r : ℕ) → r < 2 ^ 32 → cond b (bit_xor (r / 2) castagnoli) (r / 2) < 2 ^ 32
 halved true r lt = xor_of_32 _ castagnoli (omega arith) (omega arith)
 halved false r lt = omega arith
 
@@ -35,16 +35,12 @@ fold_fits : (bits : List ℕ) (r : ℕ) → r < 2 ^ 32 → Bits bits → fold wi
 fold_fits [] r lt all = lt
 fold_fits (bit ∷ bits) r lt all = fold_fits bits _ (bit_fits r _ lt all.0) all.1
 
-all_append : {A : Type 0} (P : A → Type 0) (xs ys : List A) → AllByRecursion P xs → AllByRecursion P ys → AllByRecursion P (xs ++ ys)
-all_append P [] _ all more = more
-all_append P (x ∷ xs) _ all more = (all.0, all_append P xs _ all.1 more)
-
 bits_of : (byte : ℕ) → Bits (coefficients byte)
 bits_of _ = (omega arith, (omega arith, (omega arith, (omega arith, (omega arith, (omega arith, (omega arith, (omega arith, tt))))))))
 
 all_bits : (bytes : List ℕ) → Bits (flat_map coefficients bytes)
 all_bits [] = tt
-all_bits (byte ∷ bytes) = all_append _ (coefficients byte) _ (bits_of byte) (all_bits bytes)
+all_bits (byte ∷ bytes) = AllByRecursion-append _ (coefficients byte) _ (bits_of byte) (all_bits bytes)
 
 pub crc_fits : (bytes : List ℕ) → crc bytes < 2 ^ 32
 unfolding crc remainder
@@ -67,8 +63,8 @@ each_stands unit start (next ∷ texts) place text h =
       | inl is ↦ let more = each_begins unit _ texts in
           record {
             before = padded unit start;
-            after = more.0;
-            is = more.1 ∙ ap (λ (l : List ℕ). (padded unit start ++ l) ++ more.0) (ap (λ (x : ℕ × List ℕ). x.1) is);
+            after = more.more;
+            is = more.is ∙ ap (λ (l : List ℕ). (padded unit start ++ l) ++ more.more) (ap (λ (x : ℕ × List ℕ). x.1) is);
             at = ap (λ (x : ℕ × List ℕ). x.0) is;
           }
       | inr i ↦ each_stands unit (padded unit start ++ next) texts place text i
@@ -84,35 +80,17 @@ stands_on _ more _ text _ stands is = record {
 
 -- ---- lists of numbers
 
-order_after : (before : Option ℕ) (numbers : List ℕ) → AllByRecursion (Rises before) numbers → AllPairs Below numbers → InOrderAfter Rises before numbers
-order_after _ [] all up = tt
-order_after _ (n ∷ numbers) all up = (all.0, order_after (Some n) numbers (first_pairs Below n _ up) (later_pairs Below n _ up))
-
-any_first : (numbers : List ℕ) → AllByRecursion (Rises None) numbers
-any_first [] = tt
-any_first (n ∷ numbers) = (tt, any_first numbers)
-
-content_shorter : (content before after : List ℕ) → length content ≤ length ((before ++ section_text content) ++ after)
-unfolding section_text
-content_shorter content before after =
-    omega (arith, length-append (before ++ section_text content) after, length-append before (section_text content), length-append (to_be_bytes w32 (length content) ++ content) (to_be_bytes w32 (crc content)), length-append (to_be_bytes w32 (length content)) content)
-
 -- numbers that rise are in order
 pub in_order : (numbers : List ℕ) → AllPairs Below numbers → InOrder Rises numbers
-in_order numbers up = order_after _ _ (any_first _) up
+in_order numbers up = subst (InOrder Rises) (map-id numbers) (pairs_in_order Rises (λ n. n) None numbers (all_members _ _ (λ n h. tt)) up)
 
-pub list_stands : (whole : List ℕ) (place : ℕ) (numbers : List ℕ) → length whole ≤ greatest → StandsAt whole place (postings_text numbers) → AllByRecursion (λ n. n < 2 ^ 32) numbers → AllPairs Below numbers → IsPostings whole place numbers
-list_stands whole _ numbers room stands small up =
-    let content = list_content (to_be_bytes w32) numbers in
-    let fits : length content < 2 ^ 32 = omega (arith, ap length stands.is, content_shorter content stands.before stands.after) in
-    let section : IsSection ((stands.before ++ section_text content) ++ stands.after) (length stands.before) content = section_stands _ _ _ fits (crc_fits _) in
-    subst (λ (n : ℕ). IsPostings whole n numbers) stands.at (subst (λ l. IsPostings l (length stands.before) numbers) (sym stands.is)
-    (postings_stand _ _ _ fits (all_from _ _ small) (in_order _ up) section))
+section_at : (whole : List ℕ) (place : ℕ) (content : List ℕ) → length whole ≤ greatest → StandsAt whole place (section_text content) → (length content < 2 ^ 32) × IsSection whole place content
+section_at whole _ content room stands =
+    let fits : length content < 2 ^ 32 = omega (arith, ap length stands.is, section_least content, length-append (stands.before ++ section_text content) stands.after, length-append stands.before (section_text content)) in
+    (fits, subst (λ n. IsSection whole n content) stands.at (subst (λ l. IsSection l (length stands.before) content) (sym stands.is) (section_stands _ _ _ fits (crc_fits _))))
+
+pub list_stands : (whole : List ℕ) (place : ℕ) (numbers : List ℕ) → length whole ≤ greatest → StandsAt whole place (postings_text numbers) → All (λ n. n < 2 ^ 32) numbers → AllPairs Below numbers → IsPostings whole place numbers
+list_stands _ _ _ room stands small up = let at = section_at _ _ _ room stands in postings_stand _ _ _ at.0 small (in_order _ up) at.1
 
 pub index_stands : (whole : List ℕ) (place : ℕ) (values : List ℕ) → length whole ≤ greatest → StandsAt whole place (label_index_text values) → All (λ n. n < 2 ^ 32) values → IsLabelIndex whole place values
-index_stands whole _ values room stands small =
-    let content = label_index_content values in
-    let fits : length content < 2 ^ 32 = omega (arith, ap length stands.is, content_shorter content stands.before stands.after) in
-    let section : IsSection ((stands.before ++ section_text content) ++ stands.after) (length stands.before) content = section_stands _ _ _ fits (crc_fits _) in
-    subst (λ n. IsLabelIndex whole n values) stands.at (subst (λ l. IsLabelIndex l (length stands.before) values) (sym stands.is)
-    (values_stand _ _ _ fits small section))
+index_stands _ _ _ room stands small = let at = section_at _ _ _ room stands in values_stand _ _ _ at.0 small at.1

@@ -1,10 +1,7 @@
 -- The parts of an index: how many places there are, and that the text only grows.
-use Rattle.std.proofs.Common.{◌≡◌, ℕ, suc, ◌+◌, ◌≤◌, subst, List, [], ◌∷◌, length, map, zip, Err, refl, sym, ap, ◌∙◌, arith, length-append}
+use Rattle.std.proofs.Common.{◌≡◌, ℕ, suc, ◌+◌, ◌≤◌, subst, List, length, map, Err, sym, ap, ◌∙◌, arith}
 use Rattle.std.proofs.lemmas.List.{length-map}
-use Rattle.index_parts.specs.Contents.{toc_text}
-use Rattle.index_parts.specs.LabelIndices.{label_offsets_text}
 use Rattle.index_parts.specs.Postings.{postings_text}
-use Rattle.index_parts.specs.Rows.{postings_table_text}
 use Rattle.index_parts.specs.Turns.{InOrder}
 use Rattle.index_parts.specs.SeriesEntry.{StartsAfter}
 use Rattle.index_parts.specs.declared.raw_series.RawSeries.{RawSeries}
@@ -19,8 +16,11 @@ use Rattle.index_writing.specs.SymbolsInUse.{symbols_of, raw_of}
 use Rattle.index_writing.specs.Aligned.{each_at}
 use Rattle.index_writing.specs.WriteSteps.{greatest, Makes, IsStorable}
 use Rattle.index_writing.specs.declared.write_refusal.IndexWriteRefusal.{IndexWriteRefusal}
-use Rattle.index_writing.specs.Written.{AreWritable, HaveSmallNumbers, up_to_symbols, numbers_behind, label_index_texts, list_texts, name_texts, table_rows, with_series, with_label_indices, with_lists, label_index_places, list_places, with_label_offsets, with_table, toc_of, parts_of, written}
-use Rattle.index_writing.proofs.AlignedTexts.{each_longer, places_many}
+use Rattle.index_writing.specs.Written.{AreWritable, HaveSmallNumbers, up_to_symbols, numbers_behind, label_index_texts, list_texts, with_series, with_label_indices, with_lists, label_index_places, list_places, parts_of, written}
+use Rattle.list_core.proofs.Lists.{AllByRecursion-map}
+use Rattle.index_writing.proofs.AlignedTexts.{places_many}
+use Rattle.index_writing.proofs.Standing.{longer}
+use Rattle.index_writing.proofs.WrittenIndex.{series_symbols, written_lists}
 use Rattle.index_writing.proofs.SortedTexts.{symbols_strict}
 use Rattle.index_writing.proofs.SmallNumbers.{parts_small}
 
@@ -34,35 +34,8 @@ as_many_lists parts =
     let lists = ap suc (length-map parts.rows (λ (row : LabelRow). postings_text row.series)) in
     omega (arith, places_many 4 (with_label_indices parts) (list_texts parts.numbers parts.rows), lists)
 
-pub indices_longer : (parts : Parts) → length (with_series parts) ≤ length (with_label_indices parts)
-unfolding with_label_indices
-indices_longer _ = each_longer 4 _ _
-
-pub lists_longer : (parts : Parts) → length (with_label_indices parts) ≤ length (with_lists parts)
-unfolding with_lists
-lists_longer _ = each_longer 4 _ _
-
-pub offsets_longer : (parts : Parts) → length (with_lists parts) ≤ length (with_label_offsets parts)
-unfolding with_label_offsets
-offsets_longer parts = omega (arith, length-append (with_lists parts) (label_offsets_text (zip (name_texts parts.symbols parts.names) (label_index_places parts))))
-
-pub table_longer : (parts : Parts) → length (with_label_offsets parts) ≤ length (with_table parts)
-unfolding with_table
-table_longer parts = omega (arith, length-append (with_label_offsets parts) (postings_table_text (table_rows parts.symbols parts.rows (list_places parts))))
-
-pub written_longer : (list : List IndexSeries) → length (with_table (parts_of list)) ≤ length (written list)
-unfolding written
-written_longer list = omega (arith, length-append (with_table (parts_of list)) (toc_text (toc_of (parts_of list))))
-
-pub front_longer : (list : List IndexSeries) → length (up_to_symbols (symbols_of list)) ≤ length (with_series (parts_of list))
-unfolding parts_of with_series
-front_longer _ = each_longer _ _ _
-
-pub series_written : (list : List IndexSeries) → length (with_series (parts_of list)) ≤ length (written list)
-series_written list = omega (arith, indices_longer (parts_of list), lists_longer (parts_of list), offsets_longer (parts_of list), table_longer (parts_of list), written_longer list)
-
 pub lists_written : (list : List IndexSeries) (parts : Parts) → parts ≡ parts_of list → length (with_lists parts) ≤ length (written list)
-lists_written list _ is = omega (arith, ap (λ p. length (with_lists p)) is, offsets_longer (parts_of list), table_longer (parts_of list), written_longer list)
+lists_written list _ is = omega (arith, ap (λ p. length (with_lists p)) is, longer (written_lists list))
 
 pub end_is : (list : List IndexSeries) (parts : Parts) → parts ≡ parts_of list → parts.symbols_end ≡ length (up_to_symbols parts.symbols)
 unfolding parts_of
@@ -70,17 +43,9 @@ end_is _ _ is = ap (λ p. p.symbols_end) is ∙ ap (λ p. length (up_to_symbols 
 
 -- ---- what is asked of series
 
-as_many_labels : (symbols : List (List ℕ)) (series : IndexSeries) → length (raw_of symbols series).names ≡ length (raw_of symbols series).values
-unfolding raw_of
-as_many_labels _ _ = length-map _ _ ∙ sym (length-map _ _)
-
-same_chunks : (symbols : List (List ℕ)) (series : IndexSeries) → (raw_of symbols series).chunks ≡ series.chunks
-unfolding raw_of
-same_chunks _ _ = refl
-
 raws_storable : (symbols : List (List ℕ)) (list : List IndexSeries) → AllByRecursion (λ series. InOrder StartsAfter series.chunks) list → AllByRecursion IsStorable (map (raw_of symbols) list)
-raws_storable _ [] all = tt
-raws_storable symbols (series ∷ list) all = ((as_many_labels _ _, subst (λ l. InOrder StartsAfter l) (sym (same_chunks symbols series)) all.0), raws_storable symbols list all.1)
+unfolding raw_of
+raws_storable symbols list all = AllByRecursion-map _ _ _ (λ series ordered. (length-map _ _ ∙ sym (length-map _ _), ordered)) list all
 
 pub storable : (symbols : List (List ℕ)) (list : List IndexSeries) (series : List RawSeries) → AreWritable list → series ≡ map (raw_of symbols) list → AllByRecursion IsStorable series
 storable _ _ _ lawful is = subst (AllByRecursion IsStorable) (sym is) (raws_storable _ _ lawful.chunks)
@@ -102,4 +67,4 @@ indices_as parts _ new names e so_far same makes =
     subst (λ l. Makes {A = List ℕ} (Err e) new l) is makes
 
 pub front_as : (list : List IndexSeries) (symbols : List (List ℕ)) → symbols ≡ symbols_of list → length (up_to_symbols symbols) ≤ length (with_series (parts_of list))
-front_as list _ is = omega (arith, front_longer list, ap (λ l. length (up_to_symbols l)) is)
+front_as list _ is = omega (arith, longer (series_symbols list), ap (λ l. length (up_to_symbols l)) is)

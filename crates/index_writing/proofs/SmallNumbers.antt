@@ -1,14 +1,13 @@
 -- In an index that is not too long, the numbers of series and of symbols have 32 bits.
-use Rattle.std.proofs.Common.{ℕ, ◌+◌, ◌^◌, ◌<◌, ◌≤◌, Bool, true, false, cond, List, [], ◌∷◌, ◌++◌, length, map, zip, arith, length-append}
-use Rattle.std.specs.Int.{w32, to_be_bytes}
-use Rattle.std.specs.List.{All, AllByRecursion, prefix_len}
+use Rattle.std.proofs.Common.{ℕ, ◌^◌, ◌<◌, ◌≤◌, Bool, true, false, cond, List, [], ◌∷◌, ◌++◌, length, map, zip, arith, length-append}
+use Rattle.std.specs.List.{All, AllByRecursion}
+use Rattle.std.proofs.lemmas.List.Elements.{All-from_recursion}
+use Rattle.std.proofs.lemmas.List.Sums.{prefix_len-le-length}
 use Rattle.label_sets.specs.declared.label.Label.{Label}
-use Rattle.label_sets.specs.Ordered.{placed, in_order}
+use Rattle.label_sets.specs.Ordered.{in_order}
 use Rattle.index_parts.specs.declared.raw_series.RawSeries.{RawSeries}
-use Rattle.index_parts.specs.Framed.{section_text, text_field}
-use Rattle.index_parts.specs.Lists.{list_content}
+use Rattle.index_parts.specs.Framed.{text_field}
 use Rattle.index_parts.specs.SeriesEntry.{series_text}
-use Rattle.wire_bytes.specs.Crc.{crc}
 use Rattle.section_writers.proofs.Writing.{few_members, text_field_size}
 use Rattle.index_file.specs.declared.index_series.IndexSeries.{IndexSeries}
 use Rattle.index_writing.specs.declared.label_groups.Entry.{Entry}
@@ -19,48 +18,28 @@ use Rattle.index_writing.specs.LabelGroups.{entries_of, all_entries, with_first,
 use Rattle.index_writing.specs.Aligned.{padded, each_at, places_at}
 use Rattle.index_writing.specs.WriteSteps.{greatest}
 use Rattle.index_writing.specs.Written.{HaveSmallNumbers, up_to_symbols, numbers_behind, with_series, parts_of}
-use Rattle.index_writing.proofs.SortedTexts.{all_at}
 use Rattle.index_writing.proofs.AlignedTexts.{each_longer}
+use Rattle.list_core.proofs.Lists.{AllByRecursion-weaker, AllByRecursion-append, AllByRecursion-map}
+use Rattle.list_core.proofs.Membership.{all_members, each_member, of_in_order}
+use Rattle.index_writing.proofs.SectionSizes.{list_least}
 
 -- ---- what holds of each member
 
-pub all_append : {A : Type 0} (P : A → Type 0) (xs ys : List A) → AllByRecursion P xs → AllByRecursion P ys → AllByRecursion P (xs ++ ys)
-all_append P [] _ all more = more
-all_append P (x ∷ xs) _ all more = (all.0, all_append P xs _ all.1 more)
+all_in_order : {A : Type 0} (P : A → Type 0) (less : A → A → Bool) (xs : List A) → AllByRecursion P xs → AllByRecursion P (in_order less xs)
+all_in_order P less xs all = all_members P _ (λ x h. each_member P xs x all (of_in_order less x xs h))
 
-by_case : {A : Type 0} (P : List A → Type 0) (b : Bool) (xs ys : List A) → P xs → P ys → P (cond b xs ys)
-by_case P true _ _ p q = p
-by_case P false _ _ p q = q
-
-all_placed : {A : Type 0} (P : A → Type 0) (less : A → A → Bool) (x : A) (ys : List A) → P x → AllByRecursion P ys → AllByRecursion P (placed less x ys)
-unfolding placed
-all_placed P _ x [] one all = (one, tt)
-all_placed P less x (y ∷ ys) one all = by_case (AllByRecursion P) (less y x) (y ∷ placed less x ys) (x ∷ y ∷ ys) (all.0, all_placed P less x ys one all.1) (one, all)
-
-pub all_in_order : {A : Type 0} (P : A → Type 0) (less : A → A → Bool) (xs : List A) → AllByRecursion P xs → AllByRecursion P (in_order less xs)
-unfolding in_order
-all_in_order P _ [] all = tt
-all_in_order P less (x ∷ xs) all = all_placed P _ x (in_order less xs) all.0 (all_in_order P less xs all.1)
+all_first : {A : Type 0} (P : A → Type 0) (b : Bool) (xs ys : List A) → AllByRecursion P xs → AllByRecursion P ys → AllByRecursion P (cond b xs ys)
+all_first P true _ _ p q = p
+all_first P false _ _ p q = q
 
 all_with_first : {A : Type 0} (P : A → Type 0) (same : A → A → Bool) (join : A → A → A) → ((a b : A) → P a → P b → P (join a b)) → (x : A) (ys : List A) → P x → AllByRecursion P ys → AllByRecursion P (with_first same join x ys)
 all_with_first P _ _ joins x [] one all = (one, tt)
-all_with_first P same join joins x (y ∷ ys) one all = by_case (AllByRecursion P) (same x y) (join x y ∷ ys) (x ∷ y ∷ ys) (joins x y one all.0, all.1) (one, all)
+all_with_first P same join joins x (y ∷ ys) one all = all_first P (same x y) (join x y ∷ ys) (x ∷ y ∷ ys) (joins x y one all.0, all.1) (one, all)
 
-pub all_grouped : {A : Type 0} (P : A → Type 0) (same : A → A → Bool) (join : A → A → A) → ((a b : A) → P a → P b → P (join a b)) → (xs : List A) → AllByRecursion P xs → AllByRecursion P (grouped same join xs)
+all_grouped : {A : Type 0} (P : A → Type 0) (same : A → A → Bool) (join : A → A → A) → ((a b : A) → P a → P b → P (join a b)) → (xs : List A) → AllByRecursion P xs → AllByRecursion P (grouped same join xs)
 unfolding grouped
 all_grouped P _ _ joins [] all = tt
 all_grouped P same join joins (x ∷ xs) all = all_with_first P same _ joins x (grouped same join xs) all.0 (all_grouped P same join joins xs all.1)
-
-pub all_mapped : {A B : Type 0} (P : A → Type 0) (Q : B → Type 0) (f : A → B) → ((a : A) → P a → Q (f a)) → (xs : List A) → AllByRecursion P xs → AllByRecursion Q (map f xs)
-all_mapped P Q f each [] all = tt
-all_mapped P Q f each (x ∷ xs) all = (each x all.0, all_mapped P Q f each xs all.1)
-
-pub all_alike : {A : Type 0} (P Q : A → Type 0) → ((a : A) → P a → Q a) → (xs : List A) → AllByRecursion P xs → AllByRecursion Q xs
-all_alike P Q each [] all = tt
-all_alike P Q each (x ∷ xs) all = (each x all.0, all_alike P Q each xs all.1)
-
-pub all_from : {A : Type 0} (P : A → Type 0) (xs : List A) → AllByRecursion P xs → All P xs
-all_from P _ all k d lt = all_at P _ k d all lt
 
 -- ---- series numbers
 
@@ -72,35 +51,20 @@ unfolding each_at places_at
 places_below _ _ [] = tt
 places_below unit text (next ∷ texts) = (omega (arith, each_longer unit (padded unit text ++ next) texts, length-append (padded unit text) next), places_below unit (padded unit text ++ next) texts)
 
-pub numbers_small : (before : List ℕ) (series : List RawSeries) → length (each_at 16 before (map series_text series)) ≤ greatest → AllByRecursion IsSmall (numbers_behind before series)
+numbers_small : (before : List ℕ) (series : List RawSeries) → length (each_at 16 before (map series_text series)) ≤ greatest → AllByRecursion IsSmall (numbers_behind before series)
 numbers_small _ _ room =
-    all_mapped _ _ _ (λ place le. omega arith) _ (places_below _ _ _)
+    AllByRecursion-map _ _ _ (λ place le. omega arith) _ (places_below _ _ _)
 
 -- ---- symbol numbers
 
-at_most : (b : Bool) (n m : ℕ) → n ≤ m → cond b n 0 ≤ m
-at_most true n m le = le
-at_most false n m le = omega arith
-
-prefix_within : {A : Type 0} (p : A → Bool) (xs : List A) → prefix_len p xs ≤ length xs
-prefix_within p [] = omega arith
-prefix_within p (x ∷ xs) = at_most _ (1 + prefix_len p xs) (length (x ∷ xs)) (omega (arith, prefix_within p xs))
-
-pub number_within : (symbols : List (List ℕ)) (text : List ℕ) → number_of symbols text ≤ length symbols
+number_within : (symbols : List (List ℕ)) (text : List ℕ) → number_of symbols text ≤ length symbols
 unfolding number_of
-number_within _ _ = prefix_within _ _
+number_within _ _ = prefix_len-le-length _ _
 
 -- there are no more symbols than bytes
-pub symbols_few : (symbols : List (List ℕ)) → length symbols ≤ length (up_to_symbols symbols)
-unfolding up_to_symbols section_text
-symbols_few symbols =
-    let content = list_content text_field symbols in
-    omega (
-      arith,
-      few_members text_field text_field_size symbols,
-      length-append (to_be_bytes w32 (length content) ++ content) (to_be_bytes w32 (crc content)),
-      length-append (to_be_bytes w32 (length content)) content,
-    )
+symbols_few : (symbols : List (List ℕ)) → length symbols ≤ length (up_to_symbols symbols)
+unfolding up_to_symbols
+symbols_few symbols = omega (arith, few_members text_field text_field_size symbols, list_least text_field symbols)
 
 -- ---- the labels of series
 
@@ -111,13 +75,10 @@ each_number : (f : Label → List ℕ) (symbols : List (List ℕ)) (labels : Lis
 each_number f _ [] few = tt
 each_number f symbols (l ∷ labels) few = (omega (arith, number_within symbols (f l)), each_number f symbols labels few)
 
-raw_small : (symbols : List (List ℕ)) (series : IndexSeries) → length symbols < 2 ^ 32 → HasSmallValues (raw_of symbols series)
-unfolding raw_of
-raw_small symbols series few = each_number _ _ _ few
-
 raws_small : (symbols : List (List ℕ)) (list : List IndexSeries) → length symbols < 2 ^ 32 → AllByRecursion HasSmallValues (map (raw_of symbols) list)
+unfolding raw_of
 raws_small _ [] few = tt
-raws_small symbols (series ∷ list) few = (raw_small symbols series few, raws_small symbols list few)
+raws_small symbols (series ∷ list) few = (each_number (λ l. l.value) symbols series.labels few, raws_small symbols list few)
 
 abbrev IsSmallEntry : Entry → Type 0
 IsSmallEntry entry = IsSmall entry.value × IsSmall entry.series
@@ -132,7 +93,7 @@ unfolding all_entries entries_of
 entries_small [] _ values small = tt
 entries_small (one ∷ series) [] values small = tt
 entries_small (one ∷ series) (number ∷ numbers) values small =
-    all_append _ _ _ (pairs_small _ _ _ values.0 small.0) (entries_small series _ values.1 small.1)
+    AllByRecursion-append _ _ _ (pairs_small _ _ _ values.0 small.0) (entries_small series _ values.1 small.1)
 
 -- ---- rows and names
 
@@ -142,8 +103,8 @@ IsSmallRow row = IsSmall row.value × AllByRecursion IsSmall row.series
 rows_small : (entries : List Entry) → AllByRecursion IsSmallEntry entries → AllByRecursion IsSmallRow (rows_of entries)
 unfolding rows_of
 rows_small entries small =
-    all_grouped _ _ _ (λ a b p q. (p.0, all_append _ _ _ p.1 q.1)) _
-    (all_mapped _ _ _ (λ entry p. (p.0, (p.1, tt))) _ (all_in_order _ _ _ small))
+    all_grouped _ _ _ (λ a b p q. (p.0, AllByRecursion-append _ _ _ p.1 q.1)) _
+    (AllByRecursion-map _ _ _ (λ entry p. (p.0, (p.1, tt))) _ (all_in_order _ _ _ small))
 
 abbrev IsSmallName : NameValues → Type 0
 IsSmallName name = AllByRecursion IsSmall name.values
@@ -151,8 +112,8 @@ IsSmallName name = AllByRecursion IsSmall name.values
 names_small : (rows : List LabelRow) → AllByRecursion IsSmallRow rows → AllByRecursion IsSmallName (names_of rows)
 unfolding names_of
 names_small _ small =
-    all_grouped _ _ _ (λ a b p q. all_append IsSmall a.values b.values p q) _
-    (all_mapped _ _ _ (λ row p. (p.0, tt)) _ small)
+    all_grouped _ _ _ (λ a b p q. AllByRecursion-append IsSmall a.values b.values p q) _
+    (AllByRecursion-map _ _ _ (λ row p. (p.0, tt)) _ small)
 
 -- ---- all of them
 
@@ -167,7 +128,7 @@ parts_small list room =
     let small : AllByRecursion IsSmall numbers = numbers_small _ _ room in
     let rows : AllByRecursion IsSmallRow (rows_of (all_entries series numbers)) = rows_small _ (entries_small _ _ (raws_small _ _ few) small) in
     record {
-      numbers = all_from IsSmall numbers small;
-      rows = all_alike IsSmallRow (λ row. All IsSmall row.series) (λ row p. all_from IsSmall row.series p.1) (rows_of (all_entries series numbers)) rows;
-      names = all_alike IsSmallName (λ name. All IsSmall name.values) (λ name p. all_from IsSmall name.values p) (names_of (rows_of (all_entries series numbers))) (names_small (rows_of (all_entries series numbers)) rows);
+      numbers = All-from_recursion IsSmall numbers small;
+      rows = AllByRecursion-weaker IsSmallRow (λ row. All IsSmall row.series) (λ row p. All-from_recursion IsSmall row.series p.1) (rows_of (all_entries series numbers)) rows;
+      names = AllByRecursion-weaker IsSmallName (λ name. All IsSmall name.values) (λ name p. All-from_recursion IsSmall name.values p) (names_of (rows_of (all_entries series numbers))) (names_small (rows_of (all_entries series numbers)) rows);
     }

@@ -1,12 +1,13 @@
 -- What sorting texts and dropping repeats leave, and the number of a text among them.
 use Rattle.std.proofs.Common.{◌≡◌, ℕ, zero, suc, ◌+◌, ◌<◌, ◌≤◌, Bool, true, false, cond, List, [], ◌∷◌, length, get_or, sym, ap, subst, arith}
-use Rattle.std.specs.List.{prefix_len, AllByRecursion}
+use Rattle.std.specs.List.{prefix_len}
 use Rattle.std.specs.List.Sorted.{IsSortedBy, IsSorted, IsStable, IsStrictlySortedBy, IsPartitionedBy, IsPartitionPoint}
 use Rattle.std.specs.Cmp.{IsStrictWeakOrder}
 use Rattle.std.specs.Cmp.Lexicographic.{nat_list_cmp_total, texts_ties}
 use Rattle.std.proofs.lemmas.List.Sorted.{ranks_by}
 use Rattle.std.proofs.lemmas.List.Kept.{IsStrictlySortedBy-dedup}
 use Rattle.list_core.proofs.Bools.{Less-from_is_lt, is_lt-from_Less}
+use Rattle.list_core.proofs.Lists.{AllByRecursion-at}
 use Rattle.label_sets.specs.Labels.{compare_texts}
 use Rattle.label_sets.specs.Ordered.{in_order}
 use Rattle.label_sets.proofs.StableSorts.{NoneLess, Rises, in_order-from_sort, Rises-in_order}
@@ -41,17 +42,12 @@ symbols_strict list =
 
 -- ---- the number of a text
 
-pub all_at : {A : Type 0} (P : A → Type 0) (xs : List A) (k : ℕ) (d : A) → AllByRecursion P xs → k < length xs → P (get_or xs k d)
-all_at P [] k d all lt = absurd (omega arith)
-all_at P (x ∷ xs) zero d all lt = all.0
-all_at P (x ∷ xs) (suc k) d all lt = all_at P xs k d all.1 (omega arith)
-
 pub partitioned : (symbols : List (List ℕ)) (text : List ℕ) → IsStrictlySortedBy compare_texts symbols → IsPartitionedBy (λ symbol. is_lesser_text symbol text) symbols
 unfolding IsStrictlySortedBy
 partitioned [] _ strict i j d le lt less = absurd (omega arith)
 partitioned (x ∷ xs) _ strict zero zero d le lt less = less
 partitioned (x ∷ xs) text strict zero (suc j) d le lt less =
-    is_lt-from_Less _ (nat_list_cmp_total.trans x (get_or xs j d) text (all_at _ _ j d strict.0 (omega arith)) (Less-from_is_lt _ less))
+    is_lt-from_Less _ (nat_list_cmp_total.trans x (get_or xs j d) text (AllByRecursion-at _ _ j d strict.0 (omega arith)) (Less-from_is_lt _ less))
 partitioned (x ∷ xs) _ strict (suc i) zero d le lt less = absurd (omega arith)
 partitioned (x ∷ xs) text strict (suc i) (suc j) d le lt less = partitioned xs _ strict.1 i j d (omega arith) (omega arith) less
 

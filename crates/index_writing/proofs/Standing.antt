@@ -15,13 +15,23 @@ use Rattle.index_writing.proofs.SymbolNumbers.{symbols_in_order}
 
 -- ---- the text goes on
 
-pub each_begins : (unit : ℕ) (text : List ℕ) (texts : List (List ℕ)) → (more : List ℕ) × (each_at unit text texts ≡ text ++ more)
+-- a text that is the front of a whole
+pub record StartsWith (whole front : List ℕ) : Type 0 where
+  pub more : List ℕ
+  pub is : whole ≡ front ++ more
+
+pub goes_on : {whole middle front : List ℕ} → StartsWith whole middle → StartsWith middle front → StartsWith whole front
+goes_on {front = front} one two = record { more = two.more ++ one.more; is = one.is ∙ ap (λ l. l ++ one.more) two.is ∙ append_assoc front two.more one.more }
+
+pub longer : {whole front : List ℕ} → StartsWith whole front → length front ≤ length whole
+longer {front = front} one = omega (arith, ap length one.is, length-append front one.more)
+
+pub each_begins : (unit : ℕ) (text : List ℕ) (texts : List (List ℕ)) → StartsWith (each_at unit text texts) text
 unfolding each_at padded
-each_begins _ text [] = ([], sym (append-nil text))
+each_begins _ text [] = record { more = []; is = sym (append-nil text) }
 each_begins unit text (next ∷ texts) =
     let zeros = replicate (gap unit (length text)) 0 in
-    let others = each_begins unit (padded unit text ++ next) texts in
-    (zeros ++ next ++ others.0, others.1 ∙ ap (λ l. l ++ others.0) (append_assoc text zeros next) ∙ append_assoc text (zeros ++ next) others.0)
+    goes_on (each_begins unit (padded unit text ++ next) texts) (record { more = zeros ++ next; is = append_assoc text zeros next })
 
 -- ---- series
 
@@ -68,4 +78,4 @@ pub symbols_still : (list : List IndexSeries) (symbols : List (List ℕ)) (out n
 symbols_still list symbols out new series is new_is stands after =
     let more = each_begins 16 out (map series_text series) in
     let order : InOrder MayFollow symbols = subst (λ (l : List (List ℕ)). InOrder MayFollow l) (sym is) (symbols_in_order _ (symbols_strict _)) in
-    subst (λ l. IsSymbols (new ++ after) 5 l) is (subst (λ l. IsSymbols l 5 symbols) (sym (behind _ _ _ _ (new_is ∙ more.1))) (stands order (more.0 ++ after)))
+    subst (λ l. IsSymbols (new ++ after) 5 l) is (subst (λ l. IsSymbols l 5 symbols) (sym (behind _ _ _ _ (new_is ∙ more.is))) (stands order (more.more ++ after)))

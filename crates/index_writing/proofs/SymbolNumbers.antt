@@ -1,20 +1,22 @@
 -- The symbols in use and their numbers, both ways.
-use Rattle.std.proofs.Common.{◌≡◌, ℕ, suc, ◌+◌, ◌<◌, true, false, cond, List, [], ◌∷◌, Option, Some, None, sym, ap, ◌∙◌, subst, arith, inl, inr}
-use Rattle.std.specs.Prelude.{slice_get}
+use Rattle.std.proofs.Common.{◌≡◌, ℕ, suc, ◌+◌, ◌<◌, true, false, cond, List, [], ◌∷◌, Some, None, sym, ap, ◌∙◌, subst, arith, inl, inr}
+use Rattle.std.specs.Prelude.{slice_get, unwrap_or}
 use Rattle.std.specs.declared.cmp.Ordering.TheVariants.{Less}
 use Rattle.std.specs.Ordering.{is_lt}
-use Rattle.std.specs.List.{prefix_len, AllByRecursion, Contains}
+use Rattle.std.specs.List.{prefix_len, Contains}
 use Rattle.std.specs.List.Sorted.{IsStrictlySortedBy}
 use Rattle.std.specs.Cmp.Lexicographic.{nat_list_cmp_total, nat_list_eq_equiv}
 use Rattle.std.proofs.lemmas.Cmp.{tied_itself}
 use Rattle.std.proofs.lemmas.List.Kept.{Contains-dedup}
 use Rattle.label_sets.specs.declared.label.Label.{Label}
 use Rattle.label_sets.specs.Labels.{compare_texts}
-use Rattle.index_parts.specs.Turns.{InOrderAfter, InOrder}
+use Rattle.index_parts.specs.Turns.{InOrder}
 use Rattle.index_parts.specs.Symbols.{MayFollow}
 use Rattle.index_file.specs.declared.index_series.IndexSeries.{IndexSeries}
 use Rattle.index_writing.specs.SymbolsInUse.{is_lesser_text, texts_of_labels, texts_of, symbols_of, number_of, symbol_of}
-use Rattle.list_core.proofs.Membership.{contains_first, contains_later, no_member, member_cases, each_member, into_flat_map, into_in_order}
+use Rattle.list_core.proofs.Membership.{contains_first, contains_later, no_member, member_cases, each_member, all_members, into_flat_map, into_in_order}
+use Rattle.list_core.proofs.Order.{order_from_sorted, Less-at_places}
+use Rattle.index_writing.proofs.SortedTexts.{symbols_strict}
 use Rattle.list_core.proofs.Bools.{bytes_eq-same}
 
 -- ---- symbols in use
@@ -66,10 +68,6 @@ number_at (x ∷ symbols) text up h = elim (member_cases x _ _ h) [
   | inr r ↦ ap (slice_get (x ∷ symbols)) (hit _ x _ (less_is x _ (each_member _ _ _ up.0 r))) ∙ next_at x symbols (number_of symbols text) ∙ number_at symbols _ up.1 r
 ]
 
-pub symbol_at : (symbols : List (List ℕ)) (text : List ℕ) → IsStrictlySortedBy compare_texts symbols → Contains symbols text → symbol_of symbols (number_of symbols text) ≡ text
-unfolding symbol_of
-symbol_at _ _ up h = let found = number_at _ _ up h in cc
-
 -- numbers ascend as texts do
 pub number_less : (symbols : List (List ℕ)) (text other : List ℕ) → IsStrictlySortedBy compare_texts symbols → Contains symbols text → compare_texts text other ≡ Less → number_of symbols text < number_of symbols other
 unfolding IsStrictlySortedBy
@@ -82,14 +80,24 @@ number_less (x ∷ symbols) text other up h less = elim (member_cases x _ _ h) [
 
 -- ---- symbols in order
 
-in_order_after : (before : Option (List ℕ)) (symbols : List (List ℕ)) → IsStrictlySortedBy compare_texts symbols → AllByRecursion (MayFollow before) symbols → InOrderAfter MayFollow before symbols
-unfolding IsStrictlySortedBy
-in_order_after _ [] up all = tt
-in_order_after _ (x ∷ symbols) up all = (all.0, in_order_after (Some x) symbols up.1 up.0)
-
-all_first : (symbols : List (List ℕ)) → AllByRecursion (MayFollow None) symbols
-all_first [] = tt
-all_first (x ∷ symbols) = (tt, all_first symbols)
-
 pub symbols_in_order : (symbols : List (List ℕ)) → IsStrictlySortedBy compare_texts symbols → InOrder MayFollow symbols
-symbols_in_order _ up = in_order_after _ _ up (all_first _)
+symbols_in_order _ up = order_from_sorted compare_texts None _ (all_members _ _ (λ x h. tt)) up
+
+-- ---- what the number of a symbol in use tells
+
+pub record IsNumber (list : List IndexSeries) (n : ℕ) (text : List ℕ) : Type 0 where
+  pub among : Contains (symbols_of list) text
+  pub is : n ≡ number_of (symbols_of list) text
+
+module _ {list : List IndexSeries} {n : ℕ} {text : List ℕ} (known : IsNumber list n text) where
+  pub symbol_there : slice_get (symbols_of list) n ≡ Some text
+  symbol_there = ap (slice_get (symbols_of list)) known.is ∙ number_at _ _ (symbols_strict list) known.among
+
+  pub symbol_is : symbol_of (symbols_of list) n ≡ text
+  unfolding symbol_of
+  symbol_is = ap (λ o. unwrap_or o []) symbol_there
+
+-- what is less by numbers is less as texts
+pub symbols_less : {list : List IndexSeries} {n m : ℕ} {text other : List ℕ} → IsNumber list n text → IsNumber list m other → n < m → compare_texts (symbol_of (symbols_of list) n) (symbol_of (symbols_of list) m) ≡ Less
+symbols_less {list} one two lt =
+    rw (symbol_is one, symbol_is two) (Less-at_places compare_texts (symbols_of list) _ _ _ _ (symbols_strict list) lt (symbol_there one) (symbol_there two))

@@ -1,5 +1,6 @@
 -- What a call comes to that makes a text in steps, up to the greatest length of an index.
 use Rattle.std.specs.Prelude.{◌≡◌, ℕ, ◌+◌, ◌*◌, ◌<◌, ◌≤◌, List, [], ◌∷◌, ◌++◌, length, Result, Ok, Err}
+use Rattle.wire_bytes.specs.Files.{file_limit}
 use Rattle.index_parts.specs.declared.postings_row.PostingsRow.{PostingsRow}
 use Rattle.index_parts.specs.declared.raw_series.RawSeries.{RawSeries}
 use Rattle.index_parts.specs.Turns.{InOrder}
@@ -9,7 +10,7 @@ use Rattle.index_writing.specs.declared.write_refusal.IndexWriteRefusal.TheVaria
 
 -- the greatest length of an index: 64 MiB
 abbrev pub greatest : ℕ
-greatest = 67108864
+greatest = file_limit
 
 -- It made exactly this text, which is not too long; or it says that the text is too long, or it wants memory.
 abbrev pub Makes : {A : Type 0} → Result A IndexWriteRefusal → List ℕ → List ℕ → Type 0

@@ -14,10 +14,10 @@ use crate::label_groups::{LabelRow, NameValues};
 use index_parts::RawSeries;
 use list_core::NoMemory;
 use section_writers::{write_label_index, write_postings, write_series};
-use wire_bytes::{NumberList, put_bytes};
+use wire_bytes::{FILE_LIMIT, NumberList, put_bytes};
 
 /// The greatest length of an index.
-pub(crate) const GREATEST: usize = 67_108_864;
+pub(crate) const GREATEST: usize = FILE_LIMIT;
 
 const SERIES_UNIT: usize = 16;
 

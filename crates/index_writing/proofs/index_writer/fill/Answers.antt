@@ -2,12 +2,14 @@ use Rattle.std.proofs.Common.{ℕ, List}
 use Rattle.index_writing.specs.declared.parts.Parts.{Parts}
 use Rattle.index_writing.proofs.AlignedTexts.{makes_longer}
 use Rattle.index_writing.proofs.IndexLaw.{fill_shown, fill_index, fill_label_indices}
-use Rattle.index_writing.proofs.PartsLaws.{series_written, lists_written, end_is, small_as}
+use Rattle.index_writing.proofs.PartsLaws.{lists_written, end_is, small_as}
+use Rattle.index_writing.proofs.Standing.{longer}
+use Rattle.index_writing.proofs.WrittenIndex.{written_series}
 use Rattle.index_writing.proofs.index_writer.fill.Goals as goal
 
 pub returns-in_err-parts-clause-makes : goal.returns-in_err-parts-clause-makes
 returns-in_err-parts-clause-makes c =
-    makes_longer Parts _ _ _ _ _ _ c.from_residual.ensures.1 c.in_err-parts.ensures.makes (series_written _)
+    makes_longer Parts _ _ _ _ _ _ c.from_residual.ensures.1 c.in_err-parts.ensures.makes (longer (written_series _))
 
 pub put_all_lists-requires-clause-small : goal.put_all_lists-requires-clause-small
 put_all_lists-requires-clause-small c = small_as _ _ c.in_ok-parts.ensures.parts c.in_ok-parts.ensures.makes.1
