@@ -2,7 +2,7 @@
 ghost use Rattle.std.specs.Prelude.{◌≡◌, ◌++◌, ◌≤◌, ℕ, List, [], ◌∷◌, length, map, take, IfOk, OnOk};
 ghost use Rattle.block_files.specs.Built.{segment_objects};
 ghost use Rattle.block_files.specs.declared.block_files.BlockFiles.{BlockFiles};
-ghost use Rattle.block_keys.specs.Keys.{IsLawfulKey, key_number};
+ghost use Rattle.block_keys.specs.Keys.{IsLawfulKey, key_number, segment_limit};
 ghost use Rattle.block_keys.specs.KeyText.{name_of, six_digits};
 ghost use Rattle.block_meta.specs.MetaFields.{fields_of};
 ghost use Rattle.block_content.specs.Shipped.{size_of, segment_name, sizes_of, names_of, shipped_meta, IsBehindSlash};
@@ -54,7 +54,7 @@ fn sizes_of(
     segments: &[Blob],
     index: &Blob,
 ) -> Result<FileSizeList, NoMemory>
-    requires { length segments.now ≤ 999_999 }
+    requires { length segments.now ≤ segment_limit }
     ensures { IfOk result (λ sizes. sizes ≡ sizes_of ulid segments.now index.now) }
 {
     let mut sizes = FileSizeList::new(alloc);
@@ -77,7 +77,7 @@ fn segment_name(alloc: Global, ulid: Ulid, number: u32) -> Result<Text, NoMemory
 /// The names of the segments' files.
 #[tactic(auto, unfolding(crate::specs::Shipped::names_of))]
 fn names_of(alloc: Global, ulid: Ulid, segments: &[Blob]) -> Result<TextList, NoMemory>
-    requires { length segments.now ≤ 999_999 }
+    requires { length segments.now ≤ segment_limit }
     ensures { IfOk result (λ names. names ≡ names_of ulid segments.now) }
 {
     let mut names = TextList::new(alloc);
@@ -96,7 +96,7 @@ fn shipped_meta(
     index: &Blob,
     external: &LabelSet,
 ) -> Result<Meta, NoMemory>
-    requires { length segments.now ≤ 999_999 }
+    requires { length segments.now ≤ segment_limit }
     ensures { IfOk result (λ shipped. fields_of shipped
         ≡ shipped_meta meta segments.now index.now external.now) }
 {

@@ -1,4 +1,5 @@
 ghost use Rattle.std.specs.Prelude.{◌≤◌, length};
+ghost use Rattle.block_keys.specs.Keys.{segment_limit};
 
 use block_meta::Meta;
 use list_core::List;
@@ -14,5 +15,5 @@ pub struct BlockFiles {
     pub index: Blob,
     /// The segments of chunks, numbered from 1.
     pub segments: BlobList,
-    pub ghost numbered: { length segments ≤ 999_999 },
+    pub ghost numbered: { length segments ≤ segment_limit },
 }

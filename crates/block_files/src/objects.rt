@@ -1,4 +1,5 @@
 ghost use Rattle.std.specs.Prelude.{◌≡◌, ◌+◌, ◌≤◌, [], ◌∷◌, ◌++◌, All, length, vec_len, IfOk, OnOk};
+ghost use Rattle.block_keys.specs.Keys.{segment_limit};
 ghost use Rattle.block_meta.specs.MetaFields.{fields_of};
 ghost use Rattle.block_meta.specs.MetaValue.{meta_text};
 ghost use Rattle.block_files.specs.Built.{objects_of, segment_objects};
@@ -41,7 +42,7 @@ pub fn files_objects(alloc: Global, files: BlockFiles) -> Result<ObjectList, NoM
 
 #[tactic(auto, using(crate::proofs::Blocks::segments_pushed), unfolding(crate::specs::Built::segment_objects))]
 fn segment_objects(alloc: Global, ulid: Ulid, segments: Vec<Blob>) -> Result<ObjectList, NoMemory>
-    requires { vec_len segments ≤ 999_999 }
+    requires { vec_len segments ≤ segment_limit }
     ensures keys { IfOk result (λ objects. All (λ object. IsSegmentOf ulid object.key) objects) }
     ensures count { IfOk result (λ objects. length objects ≡ vec_len segments) }
     ensures value { IfOk result (λ objects. objects ≡ segment_objects ulid 1 segments.items) }
@@ -63,7 +64,7 @@ fn push_segment(
     bytes: Blob,
 ) -> Result<(), NoMemory>
     requires least { 1 ≤ number }
-    requires most { number ≤ 999_999 }
+    requires most { number ≤ segment_limit }
     requires before { All (λ object. IsSegmentOf ulid object.key) objects.old }
     ensures keys { OnOk result (All (λ object. IsSegmentOf ulid object.key) objects.new) }
     ensures count { OnOk result (length objects.new ≡ length objects.old + 1) }

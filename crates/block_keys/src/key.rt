@@ -14,6 +14,9 @@ use std::alloc::Global;
 use std::cmp::Ordering;
 use ulid_core::Ulid;
 
+/// The greatest number of a segment, as its name has six digits.
+pub const SEGMENT_LIMIT: u32 = 999_999;
+
 /// How many bytes the longest key has, that of a mark.
 const LONGEST: usize = 45;
 

@@ -6,6 +6,6 @@ mod names;
 mod object;
 mod refusal;
 
-pub use key::Key;
+pub use key::{Key, SEGMENT_LIMIT};
 pub use object::{Object, ObjectList};
 pub use refusal::NotAKey;

@@ -1,4 +1,5 @@
 ghost use Rattle.std.specs.Prelude.{◌≡◌, ◌++◌, ◌+◌, ◌%◌, ◌≤◌, OnOk, codes};
+ghost use Rattle.block_keys.specs.Keys.{segment_limit};
 ghost use Rattle.block_keys.specs.KeyText.{key_of, key_named, number_of, segment_of, six_digits};
 
 use crate::Key;
@@ -8,7 +9,7 @@ use ulid_core::Ulid;
 
 /// Appends `chunks/` and the six digits of a segment's number.
 pub(crate) fn put_segment_name(out: &mut Vec<u8>, number: u32) -> Result<(), NoMemory>
-    requires { number ≤ 999_999 }
+    requires { number ≤ segment_limit }
     ensures { OnOk result (out.new.items ≡ out.old.items ++ codes "chunks/" ++ six_digits number) }
 {
     out.extend_from_slice(b"chunks/")?;

@@ -2,6 +2,7 @@
 -- the segments from the first to the greatest that the index names. They are looked at in this order.
 use Rattle.std.specs.Prelude.{◌≡◌, ◌≢◌, ◌⊎◌, ℕ, zero, suc, ◌+◌, ◌<◌, ◌≤◌, min, max, List, [], ◌∷◌, length, All, map, slice_get, None, Some, IsSomeAnd, Ok, Err}
 use Rattle.std.specs.List.{flat_map}
+use Rattle.block_keys.specs.Keys.{segment_limit}
 use Rattle.label_sets.specs.declared.series.Series.{Series}
 use Rattle.block_keys.specs.declared.key.Key.{Key}
 use Rattle.block_keys.specs.declared.key.Key.TheVariants.{Meta, Index, Segment, Mark}
@@ -64,7 +65,7 @@ pub record AreWithinLimit (files : BlockFiles) : Type 0 where
 
 -- the number of the file in which a chunk stands, of which none passes 999,999
 abbrev pub file_number : ChunkPlace → ℕ
-file_number place = min (place.segment + 1) 999_999
+file_number place = min (place.segment + 1) segment_limit
 
 unfoldable pub greatest : List ℕ → ℕ
 greatest [] = 0

@@ -2,7 +2,7 @@
 ghost use Rattle.std.specs.Prelude.{◌≡◌, ◌+◌, ◌≤◌, ℕ, Option, Some, Ok, Err, List, All, IfOk, IfErr, length, map, max};
 ghost use Rattle.std.specs.List.{flat_map};
 ghost use Rattle.reading_core.specs.Grammar.{IsBytes};
-ghost use Rattle.block_keys.specs.Keys.{IsLawfulKey};
+ghost use Rattle.block_keys.specs.Keys.{IsLawfulKey, segment_limit};
 ghost use Rattle.block_keys.specs.declared.key.Key.{Key};
 ghost use Rattle.block_meta.specs.MetaFields.{fields_of};
 ghost use Rattle.block_content.specs.ContentReading.{index_at, ListsFew};
@@ -15,7 +15,7 @@ ghost use Rattle.block_loading.specs.LoadReading.{Loads, KeepsShelf, AsksFile, A
 use crate::LoadRefusal;
 use block_content::{CheckRefusal, read_index};
 use block_files::BlobList;
-use block_keys::Key;
+use block_keys::{Key, SEGMENT_LIMIT};
 use block_meta::{Meta, MetaRefusal};
 use bucket_core::{Shelf, ShelfAnswer};
 use index_parts::ChunkPlace;
@@ -23,9 +23,6 @@ use index_v2::{IndexSeries, IndexSeriesList};
 use std::alloc::Global;
 use ulid_core::Ulid;
 use wire_bytes::Blob;
-
-/// The greatest number that a segment's file may have, as its name has six digits.
-const LAST_NUMBER: u32 = 999_999;
 
 /// What a file's reading was answered, as the file under a key.
 fn file_of(key: &Key, answer: ShelfAnswer) -> Result<Blob, LoadRefusal>
@@ -128,7 +125,7 @@ pub(crate) fn read_series<F: Shelf>(
 fn file_number(place: &ChunkPlace) -> u32
     ensures { result ≡ file_number place.now }
 {
-    place.segment.saturating_add(1).min(LAST_NUMBER)
+    place.segment.saturating_add(1).min(SEGMENT_LIMIT)
 }
 
 /// The greater one of a number and of the files' in which chunks stand.
@@ -145,7 +142,7 @@ fn last_of(chunks: &[ChunkPlace], before: u32) -> u32
 /// The greatest number of a file that series name.
 pub(crate) fn last_segment(indexed: &[IndexSeries]) -> u32
     ensures value { result ≡ last_segment indexed.now }
-    ensures most { result ≤ 999_999 }
+    ensures most { result ≤ segment_limit }
 {
     let mut last = 0;
     for one in indexed {
@@ -161,7 +158,7 @@ pub(crate) fn read_segments<F: Shelf>(
     ulid: Ulid,
     last: u32,
 ) -> Result<BlobList, LoadRefusal>
-    requires { last ≤ 999_999 }
+    requires { last ≤ segment_limit }
     ensures read { (told : Contents) → F.files shelf.old ≡ Some told
         → Loads (λ segments. segments) result (segments_at told ulid 1 last) }
     ensures many { IfOk result (λ segments. length segments ≡ last) }

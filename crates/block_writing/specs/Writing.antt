@@ -1,6 +1,7 @@
 -- What a writer of a block keeps, as what was put into it.
 use Rattle.std.specs.Prelude.{◌≡◌, ℕ, ◌≤◌, List, ◌++◌, length, map}
 use Rattle.std.specs.List.{flat_map}
+use Rattle.block_keys.specs.Keys.{segment_limit}
 use Rattle.index_parts.specs.declared.chunk_place.ChunkPlace.{ChunkPlace}
 use Rattle.index_parts.specs.Turns.{InOrder}
 use Rattle.index_parts.specs.SeriesEntry.{StartsAfter}
@@ -35,7 +36,7 @@ all_places list chunks = flat_map (λ s. s.chunks) list ++ chunks
 -- Exactly the chunks that were put stand in the segments, in their order, and all that was put may be put.
 pub record IsWriting (plan : BlockPlan) (segments : List (List ℕ)) (list : List IndexSeries) (chunks : List ChunkPlace) (counts : Counts) : Type 0 where
   pub segments_are : AreSegments (map (content_at segments) (map part_of (all_places list chunks))) (map part_of (all_places list chunks)) segments
-  pub few : length segments ≤ 999_999
+  pub few : length segments ≤ segment_limit
   pub ordered : InOrder StartsAfter chunks
   pub series_counted : counts.series ≡ fitted (length list)
   pub chunks_counted : counts.chunks ≡ fitted (length (all_places list chunks))

@@ -1,5 +1,6 @@
 //! Segments with chunks, of which the last one may still grow.
 ghost use Rattle.std.specs.Prelude.{◌≡◌, ◌↔◌, ◌+◌, ◌-◌, ◌<◌, ◌≤◌, [], ◌∷◌, ◌++◌, ℕ, List, map, length, vec_len, IfOk, IfSome, OnOk, OnErr, Err};
+ghost use Rattle.block_keys.specs.Keys.{segment_limit};
 ghost use Rattle.wire_bytes.specs.Crc.{crc};
 ghost use Rattle.chunk_files.specs.Chunk.{header, frame_text};
 ghost use Rattle.chunk_files.specs.Layout.{greatest, header_size, xor};
@@ -7,11 +8,12 @@ ghost use Rattle.block_writing.specs.declared.segment_place.SegmentPlace.{Segmen
 ghost use Rattle.block_writing.specs.Segments.{AreRuns, AreSegments, segment_text, places_from};
 
 use crate::SegmentPlace;
+use block_keys::SEGMENT_LIMIT;
 use chunk_files::{SegmentRefusal, SegmentWriter};
 use list_core::NoMemory;
 
 /// How many segments a block may have. So many hold more than 2^44 bytes, for which there is no memory.
-const MOST: usize = 999_999;
+const MOST: usize = SEGMENT_LIMIT as usize;
 
 /// Appends a chunk, whose sum may be known, to a segment.
 fn append_one(
@@ -63,15 +65,15 @@ fn begin_segment(
     bytes: &[u8],
     sum: Option<u32>,
 ) -> Result<SegmentPlace, NoMemory>
-    requires few { vec_len segments.old ≤ 999_999 }
+    requires few { vec_len segments.old ≤ segment_limit }
     requires sum { IfSome sum (λ s. s ≡ crc (xor ∷ bytes.now)) }
     requires fits { header_size + length (frame_text bytes.now) ≤ greatest }
     ensures ok { IfOk result (λ place.
         (place ≡ record { segment = length segments.old.items; offset = header_size })
         × (segments.new.items ≡ segments.old.items ++ (header ++ frame_text bytes.now) ∷ [])) }
     ensures err { OnErr result (segments.new.items ≡ segments.old.items) }
-    ensures few { vec_len segments.new ≤ 999_999 }
-    ensures number { IfOk result (λ place. place.segment < 999_999) }
+    ensures few { vec_len segments.new ≤ segment_limit }
+    ensures number { IfOk result (λ place. place.segment < segment_limit) }
 {
     let number = segments.len();
     if number == MOST {
@@ -99,7 +101,7 @@ pub(crate) fn append_chunk(
     bytes: &[u8],
     sum: Option<u32>,
 ) -> Result<SegmentPlace, NoMemory>
-    requires few { vec_len segments.old ≤ 999_999 }
+    requires few { vec_len segments.old ≤ segment_limit }
     requires sum { IfSome sum (λ s. s ≡ crc (xor ∷ bytes.now)) }
     requires fits { header_size + length (frame_text bytes.now) ≤ greatest }
     ensures ok { (contents : List (List ℕ)) (places : List Place)
@@ -107,8 +109,8 @@ pub(crate) fn append_chunk(
         → IfOk result (λ place. AreSegments (contents ++ bytes.now ∷ []) (places ++ place ∷ [])
         segments.new.items) }
     ensures err { OnErr result (segments.new.items ≡ segments.old.items) }
-    ensures few { vec_len segments.new ≤ 999_999 }
-    ensures number { IfOk result (λ place. place.segment < 999_999) }
+    ensures few { vec_len segments.new ≤ segment_limit }
+    ensures number { IfOk result (λ place. place.segment < segment_limit) }
 {
     let count = segments.len();
     if count == 0 {

@@ -1,5 +1,6 @@
 //! What a written block says of itself.
 ghost use Rattle.std.specs.Prelude.{◌≡◌, ◌+◌, ◌%◌, ◌≤◌, ◌++◌, length, IfOk, codes};
+ghost use Rattle.block_keys.specs.Keys.{segment_limit};
 ghost use Rattle.block_keys.specs.KeyText.{six_digits};
 ghost use Rattle.block_meta.specs.MetaFields.{fields_of};
 ghost use Rattle.block_writing.specs.Writing.{plan_fields};
@@ -61,7 +62,7 @@ fn size_of_index(alloc: Global, index: &Blob) -> Result<FileSize, NoMemory>
 /// The files of a block with their sizes.
 #[tactic(auto, unfolding(crate::specs::WrittenMeta::sizes_of))]
 fn sizes_of(alloc: Global, segments: &[Blob], index: &Blob) -> Result<FileSizeList, NoMemory>
-    requires { length segments.now ≤ 999_999 }
+    requires { length segments.now ≤ segment_limit }
     ensures { IfOk result (λ sizes. sizes ≡ sizes_of segments.now index.now) }
 {
     let mut sizes = FileSizeList::new(alloc);
@@ -74,7 +75,7 @@ fn sizes_of(alloc: Global, segments: &[Blob], index: &Blob) -> Result<FileSizeLi
 
 /// The names of so many segments.
 fn names_of(alloc: Global, count: usize) -> Result<TextList, NoMemory>
-    requires { count ≤ 999_999 }
+    requires { count ≤ segment_limit }
     ensures { IfOk result (λ names. names ≡ names_from 1 count) }
 {
     let mut names = TextList::new(alloc);
@@ -93,7 +94,7 @@ pub(crate) fn meta_of(
     index: &Blob,
     segments: &[Blob],
 ) -> Result<Meta, NoMemory>
-    requires { length segments.now ≤ 999_999 }
+    requires { length segments.now ≤ segment_limit }
     ensures { IfOk result (λ meta. fields_of meta
         ≡ meta_with (plan_fields plan) counts index.now segments.now) }
 {

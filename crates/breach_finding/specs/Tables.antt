@@ -12,7 +12,7 @@ use Rattle.script_workers.specs.Works.{is_compaction}
 use Rattle.script_workers.specs.declared.task.Task.{Task}
 use Rattle.script_workers.specs.declared.worker.Worker.{Worker}
 use Rattle.world_core.specs.declared.entry.Entry.{Entry}
-use Rattle.lifecycle_core.specs.Conducts.{of_seat}
+use Rattle.world_core.specs.Journals.{of_seat}
 use Rattle.breach_finding.specs.declared.tables.Tables.{Tables}
 
 -- numbers by numbers

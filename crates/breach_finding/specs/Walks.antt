@@ -2,14 +2,13 @@
 use Rattle.std.specs.Prelude.{◌+◌, ℕ, List, length, Option, Some, None}
 use Rattle.std.specs.BTreeMap.{BTreeMap, get}
 use Rattle.std.specs.Ordering.{nat_cmp}
-use Rattle.world_core.specs.Journals.{Each}
+use Rattle.world_core.specs.Journals.{Each, of_seat}
 use Rattle.world_core.specs.Standing.{stands}
 use Rattle.world_core.specs.declared.entry.Entry.{Entry}
 use Rattle.script_core.specs.declared.script.Script.{Script}
 use Rattle.standing_objects.specs.Standings.{IsStanding}
 use Rattle.standing_objects.specs.declared.standing.Standing.{Standing}
 use Rattle.lifecycle_core.specs.Breaches.{IsBreach, IsKept, IsSeatOf, IsUnbroken, Rule, honesty, mark_time, read_time, sync_time, upload_time, view_time}
-use Rattle.lifecycle_core.specs.Conducts.{of_seat}
 use Rattle.lifecycle_core.specs.Setting.{FromShelf, Setting}
 use Rattle.lifecycle_core.specs.Tasks.{sync_rules}
 use Rattle.breach_finding.specs.Seats.{IsWatched}

@@ -4,7 +4,7 @@ ghost use Rattle.std.specs.BTreeSet.{contains};
 ghost use Rattle.std.specs.List.{last_or, list_any};
 ghost use Rattle.std.specs.Ordering.{nat_cmp};
 ghost use Rattle.script_core.specs.Lawful.{IsLawfulScript};
-ghost use Rattle.lifecycle_core.specs.Conducts.{of_seat};
+ghost use Rattle.world_core.specs.Journals.{of_seat};
 ghost use Rattle.breach_finding.specs.Tables.{AreAdded, AreCompactors, AreSeatsOf, AreTablesOf, compacts_among, compacts_at, tasks_at};
 
 use list_core::NoMemory;

@@ -1,11 +1,8 @@
 -- What the reading of a file may answer.
 use Rattle.std.specs.Prelude.{◌≡◌, ℕ, ◌<◌, ◌≤◌, List, length, Option, Some, None, IsSomeAnd}
+pub use Rattle.wire_bytes.specs.Files.{file_limit}
 use Rattle.bucket_core.specs.declared.answer.ShelfAnswer.{ShelfAnswer}
 use Rattle.bucket_core.specs.declared.answer.ShelfAnswer.TheVariants.{Found, Absent, TooLarge, Failed, NoMemory}
-
--- the most bytes that a file of a block may have, which are 64 MiB
-abbrev pub file_limit : ℕ
-file_limit = 67108864
 
 -- what may be answered about a file that has these bytes, or about one that is not there
 abbrev pub ShowsFile : Option (List ℕ) → ShelfAnswer → Type 0

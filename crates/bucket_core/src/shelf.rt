@@ -6,9 +6,6 @@ ghost use Rattle.bucket_core.specs.Files.{IsWithinLimit, ShowsFile};
 
 use crate::ShelfAnswer;
 
-/// The most bytes that a file of a block may have, which are 64 MiB.
-pub const FILE_LIMIT: usize = 67_108_864;
-
 /// Files of blocks under names, which are read whole. Reading changes none of them.
 pub trait Shelf {
     /// What the files hold, where the shelf tells it.

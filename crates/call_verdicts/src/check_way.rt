@@ -32,7 +32,7 @@ impl Stage {
 
 /// A way to check blocks that were loaded.
 pub trait CheckWay {
-    /// What has to hold for blocks to be checked so, as that what threads are lent may be shared.
+    /// What has to hold for blocks to be checked so, for example that what threads are lent may be shared.
     ghost can_check: { Self → Type 0 };
 
     /// How many of a script's blocks are loaded, at most, before those that are loaded are checked.

@@ -1,5 +1,6 @@
 -- The numbers of a segment file.
 use Rattle.std.specs.Prelude.{ℕ}
+use Rattle.wire_bytes.specs.Files.{file_limit}
 
 -- what a segment begins with
 abbrev pub magic : ℕ
@@ -14,7 +15,7 @@ header_size = 8
 
 -- how many bytes a segment has at most
 abbrev pub greatest : ℕ
-greatest = 67108864
+greatest = file_limit
 
 -- ---- encodings of a chunk's data
 

@@ -1,4 +1,5 @@
 //! The numbers of a segment file.
+use wire_bytes::FILE_LIMIT;
 
 /// What a segment begins with.
 pub(crate) const MAGIC: u32 = 0x85BD_40DD;
@@ -9,7 +10,7 @@ pub(crate) const VERSION: u8 = 1;
 pub(crate) const HEADER: u64 = 8;
 
 /// The greatest length of a segment.
-pub(crate) const GREATEST: usize = 67_108_864;
+pub const GREATEST: usize = FILE_LIMIT;
 
 /// The encoding of XOR data; those of histograms come next.
 pub(crate) const XOR: u8 = 1;

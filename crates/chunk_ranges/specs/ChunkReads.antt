@@ -2,6 +2,7 @@
 -- stick out of what was read. A chunk is tested as soon as the read that holds it is answered.
 use Rattle.std.specs.Prelude.{ℕ, ◌+◌, ◌-◌, ◌==◌, nat_lt, nat_le, int_lt, int_le, Bool, true, false, ◌&&◌, List, [], ◌∷◌, ◌++◌, map, drop, zip, Result, Ok}
 use Rattle.std.specs.List.{filter, list_all}
+use Rattle.block_keys.specs.Keys.{segment_limit}
 use Rattle.reading_core.specs.Reading.{◌>>=◌, ◌>>◌, unless, refused_as}
 use Rattle.wire_bytes.specs.Fields.{uvarint_at}
 use Rattle.label_sets.specs.declared.sample.Sample.{Sample}
@@ -127,7 +128,7 @@ module _ {E : Type 0} (breaks : Break → Cache → E) (ulid : ℕ) (tests : Tes
 
 -- the segments of these places have numbers that a key can have
 abbrev pub have_keys : List ChunkPlace → Bool
-have_keys places = list_all (λ place. nat_lt place.segment 999_999) places
+have_keys places = list_all (λ place. nat_lt place.segment segment_limit) places
 
 module _ {E : Type 0} (breaks : Break → Cache → E) (block : Block) where
   -- The chunks at these places, where no segment has a number beyond those that a key can have. Last is the entry of the last

@@ -2,12 +2,13 @@
 ghost use Rattle.std.specs.Prelude.{◌≡◌, ◌↔◌, ◌+◌, ◌≤◌, ◌<◌, ◌-◌, length, drop, option_copied, IsTrue, IfOk, IfSome, Ok, Err};
 ghost use Rattle.std.specs.List.{list_all};
 ghost use Rattle.std.specs.Result.{result_ok};
+ghost use Rattle.chunk_files.specs.Layout.{greatest};
 ghost use Rattle.block_content.specs.ContentReading.{is_time, have_times_of};
 ghost use Rattle.read_ranges.specs.Asking.{block_asked};
 ghost use Rattle.chunk_ranges.specs.ChunkReads.{chunk_len_at, is_chunk_of, stored_at, chunk_samples_at};
 ghost use Rattle.read_ranges.specs.Findings.{ReadsAs, ReadsBehind};
 
-use chunk_files::take_chunk;
+use chunk_files::{GREATEST, take_chunk};
 use index_parts::ChunkPlace;
 use label_sets::{Sample, SampleList};
 use list_core::NoMemory;
@@ -16,7 +17,7 @@ use wire_bytes::Cursor;
 use xor_chunks::{XorRefusal, append_stored};
 
 /// How many bytes a chunk's data has at most.
-const MOST: u64 = 67_108_864;
+const MOST: u64 = GREATEST as u64;
 
 /// How many bytes the header of a segment takes.
 const HEADER: u32 = 8;
@@ -27,7 +28,7 @@ const HEADER: u32 = 8;
 pub fn chunk_len(bytes: &[u8], at: u64) -> Option<u64>
     ensures value { result ≡ result_ok (chunk_len_at bytes.now at) }
     ensures within { IfSome result
-        (λ len. (at ≤ length bytes.now) × (at + len ≤ length bytes.now + 67_108_869)) }
+        (λ len. (at ≤ length bytes.now) × (at + len ≤ length bytes.now + greatest + 5)) }
 {
     if at > bytes.len() as u64 {
         return None;

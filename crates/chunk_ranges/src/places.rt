@@ -2,19 +2,18 @@
 ghost use Rattle.std.specs.Prelude.{◌≡◌, ◌++◌, ◌*◌, ◌^◌, ◌<◌, nat_lt, All, IsTrue, OnOk, IfOk};
 ghost use Rattle.std.specs.List.{filter, flat_map};
 ghost use Rattle.std.specs.List.Sorted.{IsPermutation, IsNonDecreasingBy};
+ghost use Rattle.block_keys.specs.Keys.{segment_limit};
 ghost use Rattle.index_parts.specs.SeriesEntry.{reference_of};
 ghost use Rattle.read_ranges.specs.ChunkRanges.{meets};
 ghost use Rattle.chunk_ranges.specs.ChunkReads.{have_keys};
 ghost use Rattle.chunk_ranges.specs.BlockReads.{taken};
 ghost use Rattle.read_ranges.specs.Asking.{query_asked};
 
+use block_keys::SEGMENT_LIMIT;
 use index_file::IndexSeries;
 use index_parts::{ChunkPlace, reference_of};
 use list_core::NoMemory;
 use read_ranges::Asked;
-
-/// How many segments a block may have.
-const MOST_SEGMENTS: u32 = 999_999;
 
 /// Whether a chunk tells a time in the range, or times on both sides.
 pub(crate) fn meets(asked: &Asked<'_>, place: &ChunkPlace) -> bool
@@ -56,7 +55,7 @@ fn add_taken(
 pub fn have_keys(places: &[ChunkPlace]) -> bool
     ensures value { result ≡ have_keys places.now }
     ensures small { IsTrue result
-        → All (λ place. reference_of place < 999_999 * 2 ^ 32) places.now }
+        → All (λ place. reference_of place < segment_limit * 2 ^ 32) places.now }
 {
     for place in places {
         if !has_key(place) {
@@ -68,11 +67,11 @@ pub fn have_keys(places: &[ChunkPlace]) -> bool
 
 /// Whether the segment of a place has such a number.
 fn has_key(place: &ChunkPlace) -> bool
-    ensures value { result ≡ nat_lt place.now.segment 999_999 }
-    ensures small { IsTrue result → reference_of place.now < 999_999 * 2 ^ 32 }
+    ensures value { result ≡ nat_lt place.now.segment segment_limit }
+    ensures small { IsTrue result → reference_of place.now < segment_limit * 2 ^ 32 }
 {
     let _offset = place.offset;
-    place.segment < MOST_SEGMENTS
+    place.segment < SEGMENT_LIMIT
 }
 
 /// The places ascending by their references.

@@ -52,7 +52,8 @@ fn samples_of<'a>(found: &'a [ChunkRead], place: &ChunkPlace) -> &'a [Sample]
 fn shown(asked: &Asked<'_>, series: &IndexSeries, found: &[ChunkRead]) -> Result<Series, NoMemory>
     ensures { IsStrictlyIncreasing (references_apart found.now)
         → IfOk result (λ made. triples_under made.labels made.samples
-        ≡ shown (query_asked asked.now) (block_asked asked.now) (reads_apart found.now) series.now) }
+        ≡ shown (query_asked asked.now) (block_asked asked.now)
+        (reads_apart found.now) series.now) }
 {
     let labels = final_labels(
         asked.alloc,

@@ -1,6 +1,7 @@
 -- The objects of a block that is deleted.
-use Rattle.std.specs.Prelude.{ℕ, Bool, true, ◌&&◌, nat_le, List, [], ◌∷◌, ◌++◌, Option, Some, None}
+use Rattle.std.specs.Prelude.{ℕ, Bool, List, [], ◌∷◌, ◌++◌, Option, Some, None}
 use Rattle.std.specs.List.{filter_map, list_all}
+use Rattle.block_keys.specs.Keys.{is_lawful_key}
 use Rattle.block_keys.specs.KeyText.{key_named}
 use Rattle.block_keys.specs.declared.key.Key.{Key}
 use Rattle.block_keys.specs.declared.key.Key.TheVariants.{Meta, Index, Segment, Mark}
@@ -23,13 +24,6 @@ data_keys ulid names = filter_map (data_named ulid) names
 -- they were listed or not.
 abbrev pub objects_of : ℕ → List (List ℕ) → List Key
 objects_of ulid names = Meta ulid ∷ data_keys ulid names ++ Mark ulid ∷ []
-
--- a key that an operation can have
-abbrev pub is_lawful_key : Key → Bool
-is_lawful_key (Segment ulid number) = nat_le 1 number && nat_le number 999_999
-is_lawful_key (Meta ulid) = true
-is_lawful_key (Index ulid) = true
-is_lawful_key (Mark ulid) = true
 
 abbrev pub have_lawful_keys : List Key → Bool
 have_lawful_keys keys = list_all is_lawful_key keys

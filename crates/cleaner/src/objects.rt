@@ -1,7 +1,8 @@
 ghost use Rattle.std.specs.Prelude.{◌≡◌, [], ◌∷◌, ◌++◌, drop, IsTrue, IfOk, IfSome, MatchOption, OnOk, codes};
 ghost use Rattle.std.specs.String.{string_bytes};
+ghost use Rattle.block_keys.specs.Keys.{is_lawful_key};
 ghost use Rattle.ulid_core.specs.UlidText.{IsUlidText, text_of};
-ghost use Rattle.cleaner.specs.Objects.{data_named, data_keys, have_lawful_keys, is_lawful_key, only_data as only_data_of};
+ghost use Rattle.cleaner.specs.Objects.{data_named, data_keys, have_lawful_keys, only_data as only_data_of};
 
 use block_keys::Key;
 use label_sets::Text;

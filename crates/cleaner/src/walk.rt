@@ -1,4 +1,5 @@
 ghost use Rattle.std.specs.Prelude.{◌≡◌, ◌+◌, ◌<◌, ◌≤◌, ◌^◌, [], length, None, unwrap_or, Ok, IfOk};
+ghost use Rattle.world_core.specs.Limits.{most_listed};
 ghost use Rattle.world_core.specs.Walks.{last_listed};
 ghost use Rattle.cleaner.specs.Pages.{page_of};
 
@@ -6,10 +7,7 @@ use crate::page::Page;
 use label_sets::Text;
 use list_core::{NoMemory, TryCopy};
 use std::alloc::Global;
-use world_core::{ascends, is_short, last_name};
-
-/// A walk that has listed so many names and has not come to its end is given up.
-const MOST_NAMES: u64 = 1_000_000;
+use world_core::{MOST_LISTED, ascends, is_short, last_name};
 
 /// How far a walk of pages has come.
 #[derive(Drop)]
@@ -51,7 +49,7 @@ impl Walk {
         ensures listed { result ≡ Ok Page.Full
             → self.new.listed ≡ self.old.listed + length names.now }
         ensures some { result ≡ Ok Page.Full → 0 < length names.now }
-        ensures few { result ≡ Ok Page.Full → self.new.listed < 1_000_000 }
+        ensures few { result ≡ Ok Page.Full → self.new.listed < most_listed }
         ensures last { result ≡ Ok Page.Full → self.new.last ≡ last_listed names.now }
     {
         if !ascends(self.last.as_ref(), names) {
@@ -61,7 +59,7 @@ impl Walk {
             return Ok(Page::Last);
         }
         let listed = self.listed.saturating_add(names.len() as u64);
-        if listed >= MOST_NAMES {
+        if listed >= MOST_LISTED {
             return Ok(Page::TooMany);
         }
         self.listed = listed;

@@ -1,5 +1,6 @@
 -- What a compaction reads of a block.
 use Rattle.std.specs.Prelude.{◌≡◌, ◌≤◌, map, length}
+use Rattle.block_keys.specs.Keys.{segment_limit}
 use Rattle.block_files.specs.declared.block_files.BlockFiles.{BlockFiles}
 use Rattle.block_laws.specs.PutContent.{AreBytes}
 use Rattle.compaction_inputs.specs.declared.input.Input.{Input}
@@ -14,4 +15,4 @@ pub record IsInput (input : Input) (block : BlockFiles) : Type 0 where
 
 -- the block has no more segments than a block may have
 abbrev pub HasFew : Input → Type 0
-HasFew input = length input.segments ≤ 999_999
+HasFew input = length input.segments ≤ segment_limit

@@ -1,6 +1,7 @@
 -- How many segments a block's index names.
 use Rattle.std.specs.Prelude.{ℕ, ◌+◌, max, nat_le, Bool, true, false, List, map, fold, Option, Some, None, Result, Ok, Err}
 use Rattle.std.specs.List.{flat_map}
+use Rattle.block_keys.specs.Keys.{segment_limit}
 use Rattle.index_parts.specs.declared.chunk_place.ChunkPlace.{ChunkPlace}
 use Rattle.index_file.specs.declared.index_series.IndexSeries.{IndexSeries}
 use Rattle.index_v2.specs.declared.refusal.IndexRefusal.{IndexRefusal}
@@ -21,7 +22,7 @@ if_few false count = None
 
 abbrev pub named_by : Result (List IndexSeries) IndexRefusal → Option ℕ
 named_by (Err refusal) = None
-named_by (Ok indexed) = if_few (nat_le (last_named indexed) 999_999) (last_named indexed)
+named_by (Ok indexed) = if_few (nat_le (last_named indexed) segment_limit) (last_named indexed)
 
 -- the greatest number of a segment that the index names, if it can be read and that is one that a segment may have
 abbrev pub named_segments : List ℕ → Option ℕ

@@ -1,20 +1,19 @@
 //! What has to be read of a block.
 ghost use Rattle.std.specs.Prelude.{◌≡◌, ◌≤◌, map, max, fold, nat_le, IfOk, IfSome};
+ghost use Rattle.block_keys.specs.Keys.{segment_limit};
 ghost use Rattle.compaction_inputs.specs.Named.{segment_number, last_named as last_named_by, named_segments as named_in, if_few};
 
 use block_content::{CheckRefusal, read_index};
+use block_keys::SEGMENT_LIMIT;
 use index_parts::ChunkPlace;
 use index_v2::IndexSeries;
 use list_core::NoMemory;
 use std::alloc::Global;
 
-/// The greatest number of a segment.
-const MOST_SEGMENTS: u64 = 999_999;
-
 /// The greatest number of a segment that an index names, and none where the bytes are no index or that is no number of a segment.
 pub(crate) fn named_segments(alloc: Global, bytes: &[u8]) -> Result<Option<u32>, NoMemory>
     ensures named { IfOk result (λ count. count ≡ named_in bytes.now) }
-    ensures few { IfOk result (λ count. IfSome count (λ n. n ≤ 999_999)) }
+    ensures few { IfOk result (λ count. IfSome count (λ n. n ≤ segment_limit)) }
 {
     match read_index(alloc, bytes) {
         Ok(indexed) => Ok(within(last_named(indexed.members()))),
@@ -25,10 +24,10 @@ pub(crate) fn named_segments(alloc: Global, bytes: &[u8]) -> Result<Option<u32>,
 
 /// The number as one of a segment, if it is.
 fn within(last: u64) -> Option<u32>
-    ensures named { result ≡ if_few (nat_le last 999_999) last }
-    ensures few { IfSome result (λ n. n ≤ 999_999) }
+    ensures named { result ≡ if_few (nat_le last segment_limit) last }
+    ensures few { IfSome result (λ n. n ≤ segment_limit) }
 {
-    if last <= MOST_SEGMENTS {
+    if last <= SEGMENT_LIMIT as u64 {
         Some(last as u32)
     } else {
         None

@@ -1,4 +1,5 @@
 ghost use Rattle.std.specs.Prelude.{◌≡◌, ◌+◌, ◌*◌, ◌≤◌, ◌<◌, ◌^◌, ℕ, List, [], ◌∷◌, ◌++◌, length, Option, Some, IfOk, IsSomeAnd};
+ghost use Rattle.block_keys.specs.Keys.{segment_limit};
 ghost use Rattle.world_core.specs.Machines.{Falls};
 ghost use Rattle.world_core.specs.Operations.{IsAnswer, entry_of};
 ghost use Rattle.world_core.specs.Plans.{Runs};
@@ -31,8 +32,8 @@ pub struct Reads {
     waiting: VecDeque<Meta>,
     /// Those that were read.
     inputs: InputList,
-    ghost room: { last_segment stage ≤ 999_999 },
-    ghost few: { most_segments inputs ≤ 999_999 },
+    ghost room: { last_segment stage ≤ segment_limit },
+    ghost few: { most_segments inputs ≤ segment_limit },
     ghost many: { others_of stage ≤ length inputs + length waiting.items },
 }
 
@@ -110,7 +111,7 @@ impl Reads {
         requires many { 1 ≤ length self.old.inputs + length self.old.waiting.items }
         requires answer { IsAnswer (Op.Get
             (key.Segment input.meta.ulid (length input.segments + 1))) seen }
-        requires room { length input.segments + 1 + more ≤ 999_999 }
+        requires room { length input.segments + 1 + more ≤ segment_limit }
         ensures leads { (seat : ℕ) (op : Op) → LeadsBy left_of asked_read
             (after_entry (left_at (ReadStage.Segmenting input more) self.old.inputs
             self.old.waiting.items) (entry_of seat op seen)) result self.new }
@@ -140,7 +141,7 @@ impl Reads {
         moment: Moment,
     ) -> Result<Act<ReadsEnd>, NoMemory>
         requires many { 1 ≤ length self.old.inputs + length self.old.waiting.items }
-        requires room { length input.segments + more ≤ 999_999 }
+        requires room { length input.segments + more ≤ segment_limit }
         requires moment { moment.ms < 2 ^ 48 }
         ensures leads { (last : Entry) → last.seq ≡ number → last.moment ≡ moment
             → LeadsBy left_of asked_read
@@ -187,7 +188,7 @@ impl Reads {
 
 /// The key of the next segment of a block.
 fn next_key(input: &Input) -> Key
-    requires { length input.now.segments < 999_999 }
+    requires { length input.now.segments < segment_limit }
     ensures { result ≡ key.Segment input.now.meta.ulid (length input.now.segments + 1) }
 {
     Key::Segment(input.meta.ulid, input.segments.len() as u32 + 1)

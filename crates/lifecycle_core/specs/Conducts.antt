@@ -1,6 +1,7 @@
 -- Workers, each of whom does its own tasks of a phase, one after another.
-use Rattle.std.specs.Prelude.{◌≡◌, ◌≢◌, ◌⊎◌, ◌==◌, ℕ, List, [], ◌∷◌, ◌++◌, length, map, filter, All, Contains, Option, Some, None, slice_get}
+use Rattle.std.specs.Prelude.{◌≡◌, ◌≢◌, ◌⊎◌, ℕ, List, [], ◌∷◌, ◌++◌, length, map, All, Contains, Option, Some, None, slice_get}
 use Rattle.std.specs.List.{AllZip, zip}
+use Rattle.world_core.specs.Journals.{of_seat}
 use Rattle.world_core.specs.declared.entry.Entry.{Entry}
 use Rattle.script_workers.specs.declared.task.Task.{Task}
 use Rattle.script_workers.specs.declared.work.Work.{Work}
@@ -37,10 +38,6 @@ TasksAt tasks [] found = found ≡ []
 TasksAt tasks (place ∷ places) [] = ⊥
 TasksAt tasks (place ∷ places) (own ∷ found) =
     ((own.place ≡ place) × (slice_get tasks place ≡ Some own.task)) × TasksAt tasks places found
-
--- the entries of a seat
-abbrev pub of_seat : ℕ → List Entry → List Entry
-of_seat seat entries = filter (λ e. e.seat == seat) entries
 
 -- A worker's entries are the runs of its tasks, one after another, in the order of their lines. These tasks have come to
 -- these ends; the first one that has not may have broken off, and then nothing follows it. Last comes the state after them.

@@ -3,7 +3,7 @@ use Rattle.std.specs.Prelude.{ℕ, List, [], ◌∷◌, ◌++◌, None}
 use Rattle.activity_laws.specs.CleaningOps.{IsDecision}
 use Rattle.world_core.specs.declared.entry.Entry.{Entry}
 use Rattle.cleaner.specs.Cleanings.{CleanRun}
-use Rattle.lifecycle_core.specs.Conducts.{of_seat}
+use Rattle.world_core.specs.Journals.{of_seat}
 use Rattle.lifecycle_core.specs.Setting.{Setting}
 
 -- The entries of its seat until this one, which follows these in the journal, are a cleaning by the script's rules, which decides here

@@ -11,7 +11,7 @@ use Rattle.series_calls.specs.Asking.{IsReadOf}
 use Rattle.series_calls.specs.KeptRanges.{IsOfReads}
 use Rattle.series_calls.specs.SeriesCalls.{CallEnd, SeriesRun}
 use Rattle.series_calls.specs.declared.series_end.SeriesEnd.{SeriesEnd}
-use Rattle.lifecycle_core.specs.Conducts.{of_seat}
+use Rattle.world_core.specs.Journals.{of_seat}
 use Rattle.lifecycle_core.specs.Holdings.{Use}
 use Rattle.lifecycle_core.specs.Tasks.{last_number}
 

@@ -17,7 +17,7 @@ ghost use Rattle.lifecycle_core.specs.Acting.{IsActing, IsCompactorAt};
 ghost use Rattle.lifecycle_core.specs.Breaches.{watched_compaction};
 ghost use Rattle.lifecycle_core.specs.Causes.{IsBlamedInCompaction, IsExplainedBy};
 ghost use Rattle.lifecycle_core.specs.Completed.{IsCompletedAt};
-ghost use Rattle.lifecycle_core.specs.Conducts.{of_seat};
+ghost use Rattle.world_core.specs.Journals.{of_seat};
 ghost use Rattle.lifecycle_core.specs.Decisions.{DecidesToDelete};
 ghost use Rattle.lifecycle_core.specs.Marked.{IsFirstMark, IsMarkedFor, LandsDelete};
 ghost use Rattle.lifecycle_core.specs.PutBlocks.{HoldsItsSources, IsPutAs, LiesWithin};

@@ -20,10 +20,9 @@ use std::collections::VecDeque;
 use std::mem;
 use sync_filters::{Found, uncovered};
 use ulid_core::Ulid;
-use world_core::{Act, Machine, Op, Reply, Seen, add_ulids, ascends, is_short, last_name};
-
-/// A walk that has listed so many names and has not come to its end is given up.
-const MOST_NAMES: u64 = 1_000_000;
+use world_core::{
+    Act, MOST_LISTED, Machine, Op, Reply, Seen, add_ulids, ascends, is_short, last_name,
+};
 
 /// A sync: the pages of the bucket's names up to the first short one, and then of each block its mark and its meta.
 #[derive(Drop)]
@@ -130,7 +129,7 @@ impl Sync {
             return self.read_next();
         }
         self.listed = self.listed.saturating_add(names.len() as u64);
-        if self.listed >= MOST_NAMES {
+        if self.listed >= MOST_LISTED {
             return Ok(Act::Done(SyncEnd::TooMany));
         }
         self.after = last_name(names.members())?;

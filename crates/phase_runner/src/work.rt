@@ -74,7 +74,7 @@ fn processors<R: Threads>(rt: &R) -> usize {
     }
 }
 
-/// Whether the jobs that wait are light together. How heavy those are that follow is not asked once they are not.
+/// Whether the jobs that wait are light together. Once they are not, the others are not asked.
 fn are_light<J: Job>(works: &[Work<J>]) -> bool {
     let mut sum = 0u64;
     for work in works {

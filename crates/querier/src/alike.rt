@@ -88,7 +88,7 @@ fn four_have_at(place: usize, series: &Series, answers: &[Answer], start: usize)
     are_four(series, one, two, three, four)
 }
 
-/// The same of all answers from one on, one after another.
+/// Whether the series stands at the place in each answer from one on, as they follow one another.
 fn rest_have_at(place: usize, series: &Series, answers: &[Answer], start: usize) -> bool
     ensures { result ≡ true → (k : ℕ) (d : Answer) → start ≤ k → k < length answers.now
         → slice_get (slice_index_or answers.now k d).series place ≡ Some series.now }

@@ -1,4 +1,5 @@
 ghost use Rattle.std.specs.Prelude.{◌≤◌};
+ghost use Rattle.block_keys.specs.Keys.{segment_limit};
 
 use crate::ByteRange;
 use wire_bytes::NumberList;
@@ -11,5 +12,5 @@ pub struct GroupRead {
     pub range: ByteRange,
     pub references: NumberList,
     ghost lowest: { 1 ≤ segment },
-    ghost highest: { segment ≤ 999_999 },
+    ghost highest: { segment ≤ segment_limit },
 }

@@ -1,6 +1,7 @@
 //! The reads of groups of chunks.
 ghost use Rattle.std.specs.Prelude.{◌≡◌, ◌+◌, ◌*◌, ◌^◌, ◌<◌, ◌≤◌, map, All, length, IfOk};
 ghost use Rattle.std.specs.List.Sorted.{IsStrictlyIncreasing};
+ghost use Rattle.block_keys.specs.Keys.{segment_limit};
 ghost use Rattle.read_ranges.specs.Stretches.{stretch_at, IsSpanOf};
 ghost use Rattle.read_ranges.specs.ChunkRanges.{group_of};
 ghost use Rattle.read_ranges.specs.ToRead.{group_read, AreGroupsToRead};
@@ -17,7 +18,7 @@ const BEHIND: u64 = 4096;
 /// The groups of references to chunks, which ascend, with what is read of each at first.
 pub fn groups_to_read(alloc: Global, references: &[u64]) -> Result<Vec<GroupRead>, NoMemory>
     requires rise { IsStrictlyIncreasing references.now }
-    requires keys { All (λ r. r < 999_999 * 2 ^ 32) references.now }
+    requires keys { All (λ r. r < segment_limit * 2 ^ 32) references.now }
     ensures { IfOk result (λ groups. AreGroupsToRead references.now groups.items) }
 {
     let spans = groups_of_references(alloc, references)?;
@@ -25,7 +26,7 @@ pub fn groups_to_read(alloc: Global, references: &[u64]) -> Result<Vec<GroupRead
 }
 
 fn all_groups(alloc: Global, references: &[u64], spans: &[Span]) -> Result<Vec<GroupRead>, NoMemory>
-    requires keys { All (λ r. r < 999_999 * 2 ^ 32) references.now }
+    requires keys { All (λ r. r < segment_limit * 2 ^ 32) references.now }
     requires within { All (IsSpanOf references.now) spans.now }
     ensures { IfOk result
         (λ groups. map group_read groups.items
@@ -39,7 +40,7 @@ fn all_groups(alloc: Global, references: &[u64], spans: &[Span]) -> Result<Vec<G
 }
 
 fn group_to_read(alloc: Global, references: &[u64], span: Span) -> Result<GroupRead, NoMemory>
-    requires keys { All (λ r. r < 999_999 * 2 ^ 32) references.now }
+    requires keys { All (λ r. r < segment_limit * 2 ^ 32) references.now }
     requires within { IsSpanOf references.now span }
     ensures { IfOk result (λ group. group_read group ≡ group_of (stretch_at references.now span)) }
 {

@@ -72,7 +72,15 @@ pub(crate) fn added_by(outcome: &Outcome) -> Sums
 }
 
 fn uploads(count: u64) -> Sums
-    ensures { result ≡ record { uploaded = count; rounds = 0; compacted = 0; collected = 0; cleaned = 0; partials = 0 } }
+    ensures { result
+        ≡ record {
+          uploaded = count;
+          rounds = 0;
+          compacted = 0;
+          collected = 0;
+          cleaned = 0;
+          partials = 0;
+        } }
 {
     Sums {
         uploaded: count,
@@ -81,7 +89,15 @@ fn uploads(count: u64) -> Sums
 }
 
 fn round(compacted: u64, collected: u64) -> Sums
-    ensures { result ≡ record { uploaded = 0; rounds = 1; compacted = compacted; collected = collected; cleaned = 0; partials = 0 } }
+    ensures { result
+        ≡ record {
+          uploaded = 0;
+          rounds = 1;
+          compacted = compacted;
+          collected = collected;
+          cleaned = 0;
+          partials = 0;
+        } }
 {
     Sums {
         rounds: 1,
@@ -92,7 +108,15 @@ fn round(compacted: u64, collected: u64) -> Sums
 }
 
 fn cleaning(cleaned: u64, partials: u64) -> Sums
-    ensures { result ≡ record { uploaded = 0; rounds = 0; compacted = 0; collected = 0; cleaned = cleaned; partials = partials } }
+    ensures { result
+        ≡ record {
+          uploaded = 0;
+          rounds = 0;
+          compacted = 0;
+          collected = 0;
+          cleaned = cleaned;
+          partials = partials;
+        } }
 {
     Sums {
         cleaned,

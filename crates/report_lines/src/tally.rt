@@ -32,7 +32,15 @@ impl Tally {
     fn new(alloc: Global) -> Tally
         ensures asked { result.as_asked ≡ true }
         ensures amiss { result.amiss.items ≡ [] }
-        ensures sums { result.sums ≡ record { uploaded = 0; rounds = 0; compacted = 0; collected = 0; cleaned = 0; partials = 0 } }
+        ensures sums { result.sums
+            ≡ record {
+              uploaded = 0;
+              rounds = 0;
+              compacted = 0;
+              collected = 0;
+              cleaned = 0;
+              partials = 0;
+            } }
         ensures answers { result.answers.items ≡ [] }
     {
         Tally {

@@ -2,7 +2,8 @@
 use Rattle.std.specs.Prelude.{◌≡◌, ℕ, ◌<◌, List, [], ◌∷◌, ◌++◌, map, All, Contains}
 use Rattle.std.specs.List.{AllByRecursion, flat_map}
 use Rattle.world_core.specs.declared.entry.Entry.{Entry}
-use Rattle.world_turn.specs.Seats.{Stand, of_seat}
+use Rattle.world_core.specs.Journals.{of_seat}
+use Rattle.world_turn.specs.Seats.{Stand}
 use Rattle.world_turn.specs.declared.view.View.{View as Known}
 
 -- one phase: the entry of its clock, and the entries of its workers' seats, in the workers' order

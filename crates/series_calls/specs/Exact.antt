@@ -1,6 +1,7 @@
 -- Blocks as they stand in a bucket, and what a call over them comes to.
 use Rattle.std.specs.Prelude.{◌≡◌, ℕ, ◌+◌, ◌≤◌, ◌≤ℤ◌, ◌<ℤ◌, List, All, length, Some, IfSome, option_map, slice_get, zip}
 use Rattle.std.specs.List.{AllByRecursion, AllZip, flat_map}
+use Rattle.block_keys.specs.Keys.{segment_limit}
 use Rattle.reading_core.specs.Grammar.{IsBytes}
 use Rattle.label_sets.specs.declared.series.Series.{Series}
 use Rattle.label_sets.specs.Finals.{final_of}
@@ -49,7 +50,7 @@ pub record HoldsBlock (contents : Contents) (block : Block) (list : List Series)
 -- A block that holds these series keeps its bounds: a key has room for the number of each of its segments, no segment is longer than
 -- one may be, and its samples lie within the times that are told.
 pub record IsInBounds (block : Block) (segments : List (List ℕ)) (list : List Series) : Type 0 where
-  pub few : length segments ≤ 999_999
+  pub few : length segments ≤ segment_limit
   pub short : AllByRecursion (λ segment. length segment ≤ greatest) segments
   pub within : AllByRecursion (λ s. AllByRecursion (λ sample. (block.min_time ≤ℤ sample.time) × (sample.time <ℤ block.max_time)) s.samples) list
 

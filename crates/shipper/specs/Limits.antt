@@ -1,8 +1,7 @@
 -- What an upload keeps of its objects.
-use Rattle.std.specs.Prelude.{ℕ, ◌+◌, Bool, true, ◌&&◌, nat_le, List}
+use Rattle.std.specs.Prelude.{ℕ, ◌+◌, Bool, List}
 use Rattle.std.specs.List.{list_all}
-use Rattle.block_keys.specs.declared.key.Key.{Key}
-use Rattle.block_keys.specs.declared.key.Key.TheVariants.{Segment}
+use Rattle.block_keys.specs.Keys.{is_lawful_key}
 use Rattle.block_keys.specs.declared.object.Object.{Object}
 use Rattle.shipper.specs.declared.stage.Stage.{Stage}
 use Rattle.shipper.specs.declared.stage.Stage.TheVariants.{Looking, Putting}
@@ -10,11 +9,6 @@ use Rattle.shipper.specs.declared.stage.Stage.TheVariants.{Looking, Putting}
 -- how many objects a block has at most: 999,999 segments, the index and the meta
 abbrev pub most_objects : ℕ
 most_objects = 1_000_001
-
--- a key that an operation can have
-abbrev pub is_lawful_key : Key → Bool
-is_lawful_key (Segment ulid number) = nat_le 1 number && nat_le number 999_999
-is_lawful_key other = true
 
 abbrev pub have_lawful_keys : List Object → Bool
 have_lawful_keys objects = list_all (λ object. is_lawful_key object.key) objects

@@ -17,7 +17,7 @@ ghost use Rattle.standing_objects.specs.Standings.{IsStanding};
 ghost use Rattle.world_core.specs.declared.entry.Entry.{Entry};
 
 use crate::Standing;
-use block_keys::Key;
+use block_keys::{Key, SEGMENT_LIMIT};
 use label_sets::{Text, TextList};
 use list_core::{List, NoMemory, TryCopy};
 use std::alloc::Global;
@@ -44,7 +44,7 @@ fn is_lawful(key: &Key) -> bool
     ensures { IsTrue result ↔ IsLawfulKey key.now }
 {
     match key {
-        Key::Segment(_, number) => *number >= 1 && *number <= 999_999,
+        Key::Segment(_, number) => *number >= 1 && *number <= SEGMENT_LIMIT,
         _ => true,
     }
 }

@@ -32,7 +32,8 @@ fn time_of(sample: &Sample) -> i64
 
 /// A block of one series, which has these bytes as its one chunk.
 fn block_of(alloc: Global, plan: BlockPlan, bytes: &[u8], time: i64) -> Option<BlockFiles>
-    requires { IsStored (plan_fields plan) (record { content = bytes.now; min = time; max = time }) }
+    requires { IsStored (plan_fields plan)
+        (record { content = bytes.now; min = time; max = time }) }
 {
     let Ok((labels, _)) = LabelSet::read(alloc, "{a=\"x\"}") else {
         drop(plan);

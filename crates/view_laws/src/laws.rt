@@ -16,7 +16,7 @@ ghost use Rattle.sync_filters.specs.declared.found.Found.{Found};
 ghost use Rattle.script_core.specs.Lawful.{IsLawfulScript};
 ghost use Rattle.lifecycle_core.specs.Acting.{IsActing};
 ghost use Rattle.lifecycle_core.specs.Completed.{IsCompletedAt, IsSettled, IsUploadedBefore};
-ghost use Rattle.lifecycle_core.specs.Conducts.{of_seat};
+ghost use Rattle.world_core.specs.Journals.{of_seat};
 ghost use Rattle.lifecycle_core.specs.Holdings.{Use};
 ghost use Rattle.lifecycle_core.specs.Setting.{Setting};
 ghost use Rattle.lifecycle_core.specs.SyncsAndCalls.{IsViewOf};

@@ -7,3 +7,4 @@ pub mod FieldTexts
 pub mod Written
 pub mod Crc
 pub mod Kept
+pub mod Files

@@ -1,5 +1,5 @@
 -- Journals as lists of entries.
-use Rattle.std.specs.Prelude.{◌≡◌, ◌==◌, ℕ, ◌+◌, ◌-◌, if◌then◌else◌, List, ◌∷◌, ◌++◌, length, slice_get, Option, None}
+use Rattle.std.specs.Prelude.{◌≡◌, ◌==◌, ℕ, ◌+◌, ◌-◌, if◌then◌else◌, List, ◌∷◌, ◌++◌, length, filter, slice_get, Option, None}
 use Rattle.world_core.specs.declared.entry.Entry.{Entry}
 
 -- of each entry, with the entries before it
@@ -13,3 +13,7 @@ IsNumbered entries = Each (λ before e. e.seq ≡ length before + 1) entries
 -- the entry of a number, if there is one
 abbrev pub entry_at : List Entry → ℕ → Option Entry
 entry_at entries seq = if seq == 0 then None else slice_get entries (seq - 1)
+
+-- the entries of a seat, in order
+abbrev pub of_seat : ℕ → List Entry → List Entry
+of_seat seat entries = filter (λ e. e.seat == seat) entries

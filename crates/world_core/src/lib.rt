@@ -31,7 +31,7 @@ pub use laws::{fronts_are_journals, last_landed_stands};
 pub use machine::Machine;
 pub use op::Op;
 pub use open_refusal::OpenRefusal;
-pub use page_names::{add_ulids, ascends, is_short, last_name};
+pub use page_names::{MOST_LISTED, add_ulids, ascends, is_short, last_name};
 pub use reply::Reply;
 pub use seen::Seen;
 pub use world::World;

@@ -8,6 +8,9 @@ use list_core::{NoMemory, TryCopy};
 use std::collections::VecDeque;
 use ulid_core::Ulid;
 
+/// A walk of pages that has listed so many names, and has not come to its end, is given up.
+pub const MOST_LISTED: u64 = 1_000_000;
+
 /// Tells whether each name is greater than the one before it, where the first one may have one before it too.
 pub fn ascends(before: Option<&Text>, names: &[Text]) -> bool
     ensures { result ≡ do_ascend (option_copied before.entry) names.now }

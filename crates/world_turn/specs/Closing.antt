@@ -2,7 +2,7 @@
 use Rattle.std.specs.Prelude.{◌≡◌, ℕ, ◌<◌, ◌≤◌, map, List, [], Contains, length}
 use Rattle.std.specs.List.{AllByRecursion}
 use Rattle.world_core.specs.declared.entry.Entry.{Entry}
-use Rattle.world_turn.specs.Seats.{of_seat}
+use Rattle.world_core.specs.Journals.{of_seat}
 use Rattle.world_turn.specs.declared.view.View.{View}
 
 -- each seat that was made was joined

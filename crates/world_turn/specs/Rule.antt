@@ -24,7 +24,7 @@ use Rattle.bucket_core.specs.Asking.{Call}
 use Rattle.world_core.specs.Asking.{calls_of, opening}
 use Rattle.world_core.specs.Worlds.{failed_count}
 use Rattle.world_core.specs.declared.entry.Entry.{Entry}
-use Rattle.world_turn.specs.Seats.{of_seat}
+use Rattle.world_core.specs.Journals.{of_seat}
 use Rattle.world_turn.specs.declared.view.View.{View}
 
 -- what every pass knows of a world as it was opened: how many milliseconds an operation takes, how often the bucket had

@@ -1,12 +1,8 @@
--- The entries of one seat, and where entries stand.
-use Rattle.std.specs.Prelude.{◌≡◌, ◌==◌, ℕ, ◌<◌, List, filter, Some}
+-- Where entries stand.
+use Rattle.std.specs.Prelude.{◌≡◌, ℕ, ◌<◌, List, Some}
 use Rattle.std.specs.List.{AllByRecursion}
 use Rattle.world_core.specs.Journals.{entry_at}
 use Rattle.world_core.specs.declared.entry.Entry.{Entry}
-
--- the entries of a seat, in order
-abbrev pub of_seat : ℕ → List Entry → List Entry
-of_seat seat entries = filter (λ e. e.seat == seat) entries
 
 -- the entries stand in the journal at their numbers, which are above this one
 abbrev pub Stand : ℕ → List Entry → List Entry → Type 0

@@ -5,7 +5,7 @@ use Rattle.atomic_table.specs.Table.{Me, Step, rest}
 use Rattle.bucket_core.specs.Asking.{Call}
 use Rattle.world_core.specs.declared.entry.Entry.{Entry}
 use Rattle.world_turn.specs.Rule.{IsAsked, IsFrom, opened_of}
-use Rattle.world_turn.specs.Seats.{of_seat}
+use Rattle.world_core.specs.Journals.{of_seat}
 use Rattle.world_turn.specs.declared.view.View.{View}
 
 -- the turn is taken, and this journal found; memory was wanted before, or not

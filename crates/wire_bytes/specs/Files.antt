@@ -1,0 +1,6 @@
+-- The limit of files.
+use Rattle.std.specs.Prelude.{ℕ}
+
+-- the most bytes that a file of a block may have, which are 64 MiB
+abbrev pub file_limit : ℕ
+file_limit = 67_108_864
