@@ -1,15 +1,13 @@
 -- The groups of a view's blocks: a block is a member of one at most, what is planned is of members, and no member is covered.
 use Rattle.std.proofs.Common.{◌≡◌, ◌≢◌, inl, inr, ℕ, ℤ, ◌-◌, ◌<◌, Bool, true, false, cond, not, eqb, List, [], ◌∷◌, ◌++◌, map, take, drop, length, Contains, Option, Some, None, Result, Ok, Err, refl, sym, ◌∙◌, ap, subst, arith, Less, nat_cmp, take-append-drop}
-use Rattle.std.specs.declared.cmp.Ordering.{Ordering}
-use Rattle.std.specs.declared.cmp.Ordering.TheVariants.{Equal, Greater}
+use Rattle.std.specs.declared.cmp.Ordering.TheVariants.{Equal}
 use Rattle.std.specs.Option.{option_map_or}
-use Rattle.std.specs.Ordering.{is_eq}
 use Rattle.std.specs.List.{AllByRecursion, filter, find}
 use Rattle.std.specs.List.Sorted.{IsStrictlyIncreasing, IsStrictlySortedBy}
 use Rattle.std.proofs.lemmas.Bool.{true≢false, eqb-true}
 use Rattle.std.proofs.lemmas.List.Elements.{All-contains, All-from_recursion, Contains-append_left, Contains-append_right, Contains-push}
 use Rattle.std.proofs.lemmas.Map.Keys.{sorted_from_strictly_increasing, sorted_head, sorted_tail}
-use Rattle.list_core.proofs.Bools.{lt-from_Less}
+use Rattle.list_core.proofs.Bools.{lt-from_Less, Equal-from_is_eq}
 use Rattle.list_core.proofs.Lists.{AllByRecursion-append, AllByRecursion-map, find_holds}
 use Rattle.list_core.proofs.Membership.{each_member, all_members, into_map, member_cases, member_passes, no_member, of_filter, of_in_order, of_map}
 use Rattle.list_core.proofs.Options.{tested_some}
@@ -130,7 +128,7 @@ pub record IsOfPassed (view : View) : Type 0 where
   pub covered : view.covered ≡ filter (is_covered passed) passed
   pub named : (f : Found) → Contains view.kept f → f.meta.ulid ≡ f.ulid
 
-named_is : (ulid : ℕ) (r : Result MetaFields MetaRefusal) (meta : MetaFields) → named_meta ulid r ≡ Some meta → meta.ulid ≡ ulid
+pub named_is : (ulid : ℕ) (r : Result MetaFields MetaRefusal) (meta : MetaFields) → named_meta ulid r ≡ Some meta → meta.ulid ≡ ulid
 named_is ulid (Ok own) meta is =
     let parts = tested_some (eqb own.ulid ulid) (Some own) meta is in
     let same : own ≡ meta = cc (parts.1) in
@@ -140,7 +138,7 @@ named_is ulid (Err refusal) meta is = absurd (cc (is))
 seen_named : (entries : List Entry) (f : Found) → IsSeen entries f → f.meta.ulid ≡ f.ulid
 seen_named entries f seen = named_is f.ulid _ (fields_of f.meta) seen.meta_is
 
-of_passed : (rules : SyncRules) (found : List Found) (f : Found) → Contains (kept_by rules found) f → Contains found f
+pub of_passed : (rules : SyncRules) (found : List Found) (f : Found) → Contains (kept_by rules found) f → Contains found f
 of_passed rules found f among =
     let in_time : List Found = filter (λ block. is_in_partition block.meta rules.partition) found in
     let old : List Found = filter (λ block. is_consistent block rules.consistency) in_time in
@@ -187,11 +185,6 @@ abbrev pub AreApart : List Group → Type 0
 AreApart [] = Unit {0}
 AreApart (group ∷ groups) = ((m : Meta) → Contains group.members m → IsOfNone groups m.ulid) × AreApart groups
 
-equal_from : (o : Ordering) → is_eq o ≡ true → o ≡ Equal
-equal_from Equal e = refl
-equal_from Less e = absurd (true≢false (sym e))
-equal_from Greater e = absurd (true≢false (sym e))
-
 module _ (replicas : List (List ℕ)) (view : View) (of : IsOfPassed view) where
   abbrev metas : List Meta
   metas = metas_of view.kept
@@ -216,7 +209,7 @@ module _ (replicas : List (List ℕ)) (view : View) (of : IsOfPassed view) where
   member_kept k m among = of_filter (has_key replicas k) metas m (of_in_order comes_before m (filter (has_key replicas k) metas) among)
 
   member_key : (k : Key) (m : Meta) → Contains (group_of replicas metas k).members m → compare_keys (key_of replicas m) k ≡ Equal
-  member_key k m among = equal_from (compare_keys (key_of replicas m) k) (member_passes (has_key replicas k) metas m (of_in_order comes_before m (filter (has_key replicas k) metas) among))
+  member_key k m among = Equal-from_is_eq (compare_keys (key_of replicas m) k) (member_passes (has_key replicas k) metas m (of_in_order comes_before m (filter (has_key replicas k) metas) among))
 
   of_none : (k : Key) (m : Meta) → Contains (group_of replicas metas k).members m → (keys : List Key) → AllByRecursion (λ other. compare_keys k other ≡ Less) keys → IsOfNone (map (group_of replicas metas) keys) m.ulid
   of_none k m among [] above = tt

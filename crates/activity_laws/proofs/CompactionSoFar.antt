@@ -111,12 +111,6 @@ inputs_more made e [] (input ∷ inputs) all = absurd all
 inputs_more made e (meta ∷ metas) [] all = absurd all
 inputs_more made e (meta ∷ metas) (input ∷ inputs) all = (read_more made e meta input all.0, inputs_more made e metas inputs all.1)
 
-pub zip_push : {A B : Type 0} (R : A → B → Type 0) (xs : List A) (ys : List B) (x : A) (y : B) → AllZip R xs ys → R x y → AllZip R (xs ++ x ∷ []) (ys ++ y ∷ [])
-zip_push R [] [] x y all one = (one, tt)
-zip_push R [] (b ∷ ys) x y all one = absurd all
-zip_push R (a ∷ xs) [] x y all one = absurd all
-zip_push R (a ∷ xs) (b ∷ ys) x y all one = (all.0, zip_push R xs ys x y all.1 one)
-
 -- ---- marks
 
 -- if the entry put a mark, it is one of such a block

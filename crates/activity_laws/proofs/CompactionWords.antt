@@ -32,7 +32,8 @@ use Rattle.compactor.specs.NewBlocks.{block_objects}
 use Rattle.compactor.specs.declared.compact_end.CompactEnd.{CompactEnd}
 use Rattle.compactor.specs.declared.compact_end.CompactEnd.TheVariants.{Fault, Missing}
 use Rattle.activity_laws.specs.CompactionOps.{HasMerged, IsCompactOp, IsInputRead, IsMarkMade, IsObjectMade, ReadsObject, Stores, WasRead}
-use Rattle.activity_laws.proofs.CompactionSoFar.{AreRead, IsNoMark, Reasons, SoFar, inputs_more, object_more, object_now, puts_mark_of, reads_mark_none, reasons_more, segments_and, so_far_more, zip_push}
+use Rattle.activity_laws.proofs.CompactionSoFar.{AreRead, IsNoMark, Reasons, SoFar, inputs_more, object_more, object_now, puts_mark_of, reads_mark_none, reasons_more, segments_and, so_far_more}
+use Rattle.list_core.proofs.Pairs.{AllZip-push}
 
 -- ---- plans of plans
 
@@ -171,7 +172,7 @@ module _ (rules : Rules) where
         block_asks meta (With done inputs) (with_stays done inputs) (λ made w. may.0 made w.0) (λ input e. reads_blocks read_ends (inputs ++ input ∷ []) e metas next)
         (λ now input later w was at.
         blocks_ask metas (done ++ meta ∷ []) (inputs ++ input ∷ []) later now (append_assoc done (meta ∷ []) metas ∙ are) may.1
-        (w.0, zip_push (WasRead now) done inputs meta input w.1 was) at)
+        (w.0, AllZip-push (WasRead now) done inputs meta input w.1 was) at)
         made w
 
 -- ---- uploads
@@ -236,7 +237,7 @@ module _ (rules : Rules) (view : View) (read : List Entry) (ulid : ℕ) (block :
     parts = ap (λ es. es ++ e ∷ []) h.parts ∙ append_assoc read (h.look ∷ h.puts) (e ∷ []);
     asks = h.asks;
     absent = h.absent;
-    stored = zip_push Stores h.puts done e object h.stored (asks, stored);
+    stored = AllZip-push Stores h.puts done e object h.stored (asks, stored);
   }
 
   putting_asks : (total : ℕ) (left done : List Object) (made : List Entry) → objects ≡ done ++ left → AreNoMarks left → HasPut done made → AsksFor (IsCompactOp rules) made (putting total left)
@@ -280,7 +281,7 @@ module _ (ulid : ℕ) (objects : List Object) where
     parts = ap (λ es. es ++ e ∷ []) h.parts;
     asks = h.asks;
     absent = h.absent;
-    stored = zip_push Stores h.puts done e object h.stored (asks, stored);
+    stored = AllZip-push Stores h.puts done e object h.stored (asks, stored);
   }
 
   putting_ends : (total : ℕ) (left done : List Object) (made : List Entry) → objects ≡ done ++ left → WasPut ulid done made → EndsAre AnyEntry (IfDone ulid objects) made (putting total left)

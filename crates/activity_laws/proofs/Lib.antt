@@ -6,5 +6,5 @@ pub mod MergedBlocks
 pub mod MarkTexts
 pub mod CompactionSoFar
 mod CompactionWords
-mod CompactionGroups
+pub mod CompactionGroups
 pub mod CompactionAsks

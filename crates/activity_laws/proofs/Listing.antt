@@ -15,7 +15,7 @@ use Rattle.world_core.specs.Walks.{ascends, is_after, last_listed, ulids_in}
 
 -- ---- the order of names
 
-after_option : (before : Option (List ℕ)) (name : List ℕ) → Before (unwrap_or before []) name → is_after before name ≡ true
+pub after_option : (before : Option (List ℕ)) (name : List ℕ) → Before (unwrap_or before []) name → is_after before name ≡ true
 after_option None name less = refl
 after_option (Some x) name less = ap is_lt less
 

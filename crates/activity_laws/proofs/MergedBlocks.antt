@@ -84,7 +84,7 @@ reduced_apart one other labels replicas p q same =
 alike : IsEquivalence has_same_key
 alike = eq_by_cmp_equiv keys_total
 
-are_same : (one other : Triple) → one.labels ≡ other.labels → one.time ≡ other.time → has_same_key one other ≡ true
+pub are_same : (one other : Triple) → one.labels ≡ other.labels → one.time ≡ other.time → has_same_key one other ≡ true
 are_same one other labels times =
     subst (λ t. is_eq (ordering_then (compare_sets one.labels other.labels) (int_cmp one.time t)) ≡ true) times
     (subst (λ l. is_eq (ordering_then (compare_sets one.labels l) (int_cmp one.time one.time)) ≡ true) labels (alike.refl one))

@@ -4,7 +4,6 @@ use Rattle.std.specs.Prelude.{slice_get, ◌<ℤ◌, IsErrAnd}
 use Rattle.std.specs.List.{AllByRecursion}
 use Rattle.std.proofs.lemmas.Bool.{and_parts}
 use Rattle.std.proofs.lemmas.Int.{ints}
-use Rattle.std.proofs.Math.Dec.{T}
 use Rattle.reading_core.specs.Reading.{◌>>◌, unless, Gives}
 use Rattle.reading_core.proofs.Binds.{ok_is}
 use Rattle.label_sets.specs.declared.sample.Sample.{Sample}
@@ -24,9 +23,12 @@ use Rattle.block_content.specs.declared.chunk_cause.ChunkCause.{ChunkCause}
 use Rattle.block_content.specs.declared.chunk_cause.ChunkCause.TheVariants.{File, Data, NoSamples, TimesDiffer}
 use Rattle.reading_core.proofs.FirstLaws.{some_is}
 use Rattle.std.proofs.Math.Seq.{drop-append_seam}
+use Rattle.std.proofs.lemmas.Float.{T_from_true}
 use Rattle.reading_core.specs.Firsts.{or_else}
 use Rattle.block_content.proofs.Counting.{time_cons}
 use Rattle.block_content.proofs.ChunksRead.{times_found}
+use Rattle.block_content.proofs.TimesAndOrder.{passes}
+use Rattle.list_core.proofs.Integers.{le_le}
 
 -- ---- behind others
 
@@ -34,7 +36,7 @@ pub parts_of_whole : {E : Type 0} (front all : List Sample) (read : Result (List
 parts_of_whole {E} front all (Ok x) e = (x, refl, sym (ok_is {E = E} _ _ e))
 parts_of_whole {E} front all (Err d) e = absurd cc
 
-refused_alone : {E : Type 0} (front : List Sample) (read : Result (List Sample) E) (d : E) → with_samples front read ≡ Err d → read ≡ Err d
+pub refused_alone : {E : Type 0} (front : List Sample) (read : Result (List Sample) E) (d : E) → with_samples front read ≡ Err d → read ≡ Err d
 refused_alone front (Ok x) d e = absurd cc
 refused_alone front (Err c) d e = e
 
@@ -127,9 +129,6 @@ all_weaker : (P Q : Sample → Type 0) → ((s : Sample) → P s → Q s) → (s
 all_weaker P Q weaker [] all = tt
 all_weaker P Q weaker (s ∷ ss) all = (weaker s all.0, all_weaker P Q weaker ss all.1)
 
-le_trans : (a b c : ℤ) → a ≤ℤ b → b ≤ℤ c → a ≤ℤ c
-le_trans a b c p q = omega (arith, ints)
-
 follows_later : (a b : ℤ) (delta : ℕ) → Follows a b delta → a ≤ℤ b
 follows_later a b delta is = let e = is.later in omega (arith, ints, e)
 
@@ -142,7 +141,7 @@ others_rise last bits (s ∷ ss) (next, first, behind, text, is, same, are) =
     let far : s.time ≤ℤ end_of s.time ss = subst (λ (t : ℤ). t ≤ℤ end_of t ss) time deeper.1 in
     let first_later : last.time ≤ℤ s.time = subst (λ (t : ℤ). last.time ≤ℤ t) time later in
     let rest : AllByRecursion (Between s.time (end_of s.time ss)) ss = subst (λ (t : ℤ). AllByRecursion (Between t (end_of t ss)) ss) time deeper.0 in
-    (((first_later, far), all_weaker (Between s.time (end_of s.time ss)) (Between last.time (end_of s.time ss)) (λ x b. (le_trans last.time s.time x.time first_later b.0, b.1)) ss rest), le_trans last.time s.time (end_of s.time ss) first_later far)
+    (((first_later, far), all_weaker (Between s.time (end_of s.time ss)) (Between last.time (end_of s.time ss)) (λ x b. (le_le last.time s.time x.time first_later b.0, b.1)) ss rest), le_le last.time s.time (end_of s.time ss) first_later far)
 
 text_rises : (content : List ℕ) (s : Sample) (ss : List Sample) → IsText 8 content (s ∷ ss) → AllByRecursion (Between s.time (end_of s.time ss)) (s ∷ ss)
 text_rises content s [] is = ((omega (arith, ints), omega (arith, ints)), tt)
@@ -150,8 +149,8 @@ text_rises content s (t ∷ ss) is =
     let second = is.samples_are.rest_are in
     let later : s.time ≤ℤ t.time = follows_later s.time t.time second.gap second.follows in
     let deeper = others_rise _ second.rest ss second.others_are in
-    let far : s.time ≤ℤ end_of t.time ss = le_trans s.time t.time (end_of t.time ss) later deeper.1 in
-    ((omega (arith, ints), far), ((later, deeper.1), all_weaker (Between t.time (end_of t.time ss)) (Between s.time (end_of t.time ss)) (λ x b. (le_trans s.time t.time x.time later b.0, b.1)) ss deeper.0))
+    let far : s.time ≤ℤ end_of t.time ss = le_le s.time t.time (end_of t.time ss) later deeper.1 in
+    ((omega (arith, ints), far), ((later, deeper.1), all_weaker (Between t.time (end_of t.time ss)) (Between s.time (end_of t.time ss)) (λ x b. (le_le s.time t.time x.time later b.0, b.1)) ss deeper.0))
 
 last_time : (s : Sample) (ss : List Sample) → slice_get (times_of (s ∷ ss)) (length ss) ≡ Some (end_of s.time ss)
 last_time s [] = refl
@@ -167,20 +166,12 @@ text_between place content (s ∷ ss) is timed =
 
 -- ---- a place within the block's times
 
-truly : (b : Bool) → b ≡ true → T b
-truly true e = tt
-truly false e = absurd cc
-
-passes : (b : Bool) → T b → b ≡ true
-passes true t = refl
-passes false t = absurd t
-
 between_within : (meta : Meta) (place : ChunkPlace) (s : Sample) → lies_within meta place ≡ true → Between place.min place.max s → is_within meta s ≡ true
 between_within meta place s lies is =
     let p = and_parts _ _ lies in
-    let low : meta.min_time ≤ℤ place.min = record { le = truly _ p.0 } in
-    let high : place.max <ℤ meta.max_time = record { lt = truly _ p.1 } in
-    let from : meta.min_time ≤ℤ s.time = le_trans meta.min_time place.min s.time low is.0 in
+    let low : meta.min_time ≤ℤ place.min = record { le = T_from_true _ p.0 } in
+    let high : place.max <ℤ meta.max_time = record { lt = T_from_true _ p.1 } in
+    let from : meta.min_time ≤ℤ s.time = le_le meta.min_time place.min s.time low is.0 in
     let to : s.time <ℤ meta.max_time = let q = is.1 in omega (arith, ints, q, high) in
     let both : (a b : Bool) → a ≡ true → b ≡ true → (a && b) ≡ true = λ a b e f. rw (e, f) refl in
     both _ _ (passes _ from.le) (passes _ to.lt)

@@ -4,6 +4,7 @@ use Rattle.std.specs.Prelude.{IfOk, IfErr, IsErrAnd, ◌≢◌, ◌==◌}
 use Rattle.std.specs.List.{AllByRecursion, AllZip}
 use Rattle.std.specs.Ordering.{int_eq}
 use Rattle.std.proofs.lemmas.Bool.Decides.{Decides-int_eq, Decides-eqb}
+use Rattle.std.proofs.lemmas.Bool.{false_from_ne_true, eq-eqb}
 use Rattle.reading_core.specs.Reading.{◌>>◌, unless, refused_as}
 use Rattle.reading_core.specs.Grammar.{IsBytes}
 use Rattle.reading_core.proofs.Binds.{bind_ok, bind_err, then_ok, err_is, unless_is, refused_as_ok, one_answer}
@@ -23,7 +24,6 @@ use Rattle.block_content.specs.CheckReading.{is_alone, own_at, has_series, some_
 use Rattle.block_files.specs.declared.block_files.BlockFiles.{BlockFiles}
 use Rattle.block_content.specs.declared.check_refusal.CheckRefusal.{CheckRefusal}
 use Rattle.block_content.specs.declared.check_refusal.CheckRefusal.TheVariants.{NoFile, BadMeta, UlidDiffers, NotLevelOne, SourcesNotSelf, Downsampled, TooLarge, BadIndex, EmptyBlock, BadChunk, OutsideRange, Repeated, NoMemory}
-use Rattle.block_content.proofs.ChunksRead.{otherwise}
 use Rattle.block_content.proofs.TimesAndOrder.{index_found, index_again}
 use Rattle.block_content.proofs.ContentLaws.{index_kept, content_found, content_again, content_refused, content_refuses}
 use Rattle.block_content.proofs.ContentSteps.{behind_index}
@@ -35,11 +35,8 @@ alone_found ulid [] e = absurd cc
 alone_found ulid (source ∷ []) e = ap (λ (n : ℕ). n ∷ []) ((Decides-eqb source ulid).0 e)
 alone_found ulid (source ∷ other ∷ sources) e = absurd cc
 
-same_number : (n m : ℕ) → n ≡ m → (n == m) ≡ true
-same_number n m e = (Decides-eqb n m).1 e
-
 alone_again : (ulid : ℕ) (sources : List ℕ) → sources ≡ ulid ∷ [] → is_alone ulid sources ≡ true
-alone_again ulid sources e = ap (is_alone ulid) e ∙ same_number ulid ulid refl
+alone_again ulid sources e = ap (is_alone ulid) e ∙ eq-eqb ulid ulid refl
 
 -- four tests, one after another
 four_tests : (a b c d : Bool) (e : CheckRefusal) → (unless a UlidDiffers >> (unless b NotLevelOne >> (unless c SourcesNotSelf >> unless d Downsampled))) ≡ Err e
@@ -70,15 +67,15 @@ module _ (ulid : ℕ) (meta : Meta) where
 
   pub own_again : IsOwn ulid meta → own_at ulid meta ≡ Ok tt
   unfolding own_at
-  own_again is = rw (same_number meta.ulid ulid is.ulid_is, same_number meta.level 1 is.first_level, alone_again ulid meta.sources is.one_source, (Decides-int_eq meta.resolution (pos 0)).1 is.sampled) refl
+  own_again is = rw (eq-eqb meta.ulid ulid is.ulid_is, eq-eqb meta.level 1 is.first_level, alone_again ulid meta.sources is.one_source, (Decides-int_eq meta.resolution (pos 0)).1 is.sampled) refl
 
 module _ (ulid : ℕ) (files : BlockFiles) where
   own_refused : (e : CheckRefusal) → own_at ulid files.meta ≡ Err e → RefusesBlock ulid files e
   unfolding own_at
   own_refused e h =
       elim (four_tests _ _ _ _ e h) [
-        | inl (a, same) ↦ let why : RefusesBlock ulid files UlidDiffers = unlike _ _ (same_number files.meta.ulid ulid) a in subst (RefusesBlock ulid files) same why
-        | inr (inl (a, b, same)) ↦ let why : RefusesBlock ulid files NotLevelOne = ((Decides-eqb files.meta.ulid ulid).0 a, unlike _ _ (same_number files.meta.level 1) b) in subst (RefusesBlock ulid files) same why
+        | inl (a, same) ↦ let why : RefusesBlock ulid files UlidDiffers = unlike _ _ (eq-eqb files.meta.ulid ulid) a in subst (RefusesBlock ulid files) same why
+        | inr (inl (a, b, same)) ↦ let why : RefusesBlock ulid files NotLevelOne = ((Decides-eqb files.meta.ulid ulid).0 a, unlike _ _ (eq-eqb files.meta.level 1) b) in subst (RefusesBlock ulid files) same why
         | inr (inr (inl (a, b, c, same))) ↦ let why : RefusesBlock ulid files SourcesNotSelf = ((Decides-eqb files.meta.ulid ulid).0 a, (Decides-eqb files.meta.level 1).0 b, unlike _ _ (alone_again ulid files.meta.sources) c) in subst (RefusesBlock ulid files) same why
         | inr (inr (inr (a, b, c, d, same))) ↦
             let why : RefusesBlock ulid files Downsampled = ((Decides-eqb files.meta.ulid ulid).0 a, (Decides-eqb files.meta.level 1).0 b, alone_found ulid files.meta.sources c, unlike _ _ ((Decides-int_eq files.meta.resolution (pos 0)).1) d) in
@@ -227,16 +224,16 @@ module _ (files : BlockFiles) (bytes : IsBytes files.index) (are : AllByRecursio
   own_stop ulid e refused = rw refused refl
 
   other_number : (n m : ℕ) → n ≢ m → (n == m) ≡ false
-  other_number n m differ = otherwise (n == m) (λ e. differ ((Decides-eqb n m).0 e))
+  other_number n m differ = false_from_ne_true (n == m) (λ e. differ ((Decides-eqb n m).0 e))
 
   pub check_refuses : (ulid : ℕ) (e : CheckRefusal) → RefusesBlock ulid files e → check_at ulid files.meta files.index files.segments ≡ Err e
   unfolding own_at
   check_refuses ulid UlidDiffers differ = own_stop ulid UlidDiffers (rw (other_number files.meta.ulid ulid differ) refl)
-  check_refuses ulid NotLevelOne (same, differ) = own_stop ulid NotLevelOne (rw (same_number files.meta.ulid ulid same, other_number files.meta.level 1 differ) refl)
+  check_refuses ulid NotLevelOne (same, differ) = own_stop ulid NotLevelOne (rw (eq-eqb files.meta.ulid ulid same, other_number files.meta.level 1 differ) refl)
   check_refuses ulid SourcesNotSelf (same, first, differ) =
-      own_stop ulid SourcesNotSelf (rw (same_number files.meta.ulid ulid same, same_number files.meta.level 1 first, otherwise (is_alone ulid files.meta.sources) (λ e. differ (alone_found ulid files.meta.sources e))) refl)
+      own_stop ulid SourcesNotSelf (rw (eq-eqb files.meta.ulid ulid same, eq-eqb files.meta.level 1 first, false_from_ne_true (is_alone ulid files.meta.sources) (λ e. differ (alone_found ulid files.meta.sources e))) refl)
   check_refuses ulid Downsampled (same, first, one, differ) =
-      own_stop ulid Downsampled (rw (same_number files.meta.ulid ulid same, same_number files.meta.level 1 first, alone_again ulid files.meta.sources one, otherwise (int_eq files.meta.resolution (pos 0)) (λ e. differ ((Decides-int_eq files.meta.resolution (pos 0)).0 e))) refl)
+      own_stop ulid Downsampled (rw (eq-eqb files.meta.ulid ulid same, eq-eqb files.meta.level 1 first, alone_again ulid files.meta.sources one, false_from_ne_true (int_eq files.meta.resolution (pos 0)) (λ e. differ ((Decides-int_eq files.meta.resolution (pos 0)).0 e))) refl)
   check_refuses ulid (BadIndex refusal) (own, (e, other)) = behind_own ulid (BadIndex refusal) own (index_stop refusal e other)
   check_refuses ulid EmptyBlock (own, is) = behind_own ulid EmptyBlock own (empty_stop is)
   check_refuses ulid (BadChunk series chunk cause) (own, (is, other)) =

@@ -6,6 +6,7 @@ use Rattle.std.proofs.lemmas.List.{take_more, drop_more, append-nil, length-appe
 use Rattle.std.proofs.lemmas.List.Sums.{sum_by-append, sum_by-cons}
 use Rattle.std.proofs.lemmas.List.Concat.{flat_map-append}
 use Rattle.list_core.proofs.Lists.{AllByRecursion-push}
+use Rattle.list_core.proofs.Pairs.{AllZip-push}
 use Rattle.reading_core.specs.Grammar.{IsBytes}
 use Rattle.label_sets.specs.declared.sample.Sample.{Sample}
 use Rattle.label_sets.specs.declared.series.Series.{Series}
@@ -113,12 +114,6 @@ list_of_more [] (p ∷ parts) one first many = absurd (omega (arith, many))
 list_of_more (x ∷ indexed) [] one first many = absurd (omega (arith, many))
 list_of_more (x ∷ indexed) (p ∷ parts) one first many = ap (λ (t : List Series). series_of x p ∷ t) (list_of_more indexed parts one first (omega (arith, many)))
 
-each_pushed : {A B : Type 0} (Has : A → B → Type 0) (xs : List A) (ys : List B) (x : A) (y : B) → AllZip Has xs ys → Has x y → AllZip Has (xs ++ x ∷ []) (ys ++ y ∷ [])
-each_pushed Has [] [] x y are has = (has, tt)
-each_pushed Has [] (b ∷ ys) x y are has = absurd are
-each_pushed Has (a ∷ xs) [] x y are has = absurd are
-each_pushed Has (a ∷ xs) (b ∷ ys) x y are has = (are.0, each_pushed Has xs ys x y are.1 has)
-
 module _ (segments : List (List ℕ)) where
   pub series_start : (made : List Series) (budget : ℕ) → made ≡ [] → SeriesSoFar segments [] made budget budget 0
   unfolding each_at list_of
@@ -136,7 +131,7 @@ module _ (segments : List (List ℕ)) where
         read = each_push (chunks_at segments) indexed far.parts one first far.read read;
         made_are = ap (λ (t : List Series). t ++ next ∷ []) far.made_are ∙ ap (λ (s : Series). list_of indexed far.parts ++ s ∷ []) next_is ∙ sym (list_of_more indexed far.parts one first many);
         spent = let s = far.spent in omega (arith, s, spent, summed (series_bytes segments) indexed one);
-        few = each_pushed (λ (one : IndexSeries) (made : Series). length made.samples ≤ 8 * series_bytes segments one) indexed made one next far.few has;
+        few = AllZip-push (λ (one : IndexSeries) (made : Series). length made.samples ≤ 8 * series_bytes segments one) indexed made one next far.few has;
         number = fitted_more (length indexed) series number far.number counted ∙ ap fitted (omega (arith, length-append indexed (one ∷ [])));
       })
 

@@ -2,7 +2,7 @@
 use Rattle.std.proofs.Common.{◌≡◌, ℕ, zero, suc, ◌-◌, List, [], ◌∷◌, ◌++◌, length, drop, Bool, true, false, Option, None, Some, Ok, Err, ℤ, refl, sym, ap, subst, ◌∙◌, append_assoc, ◌⊎◌, inl, inr}
 use Rattle.std.specs.Prelude.{slice_get, ◌≢◌, option_map}
 use Rattle.std.specs.List.{AllByRecursion}
-use Rattle.std.proofs.lemmas.Bool.{and_parts, true≢false, and_from}
+use Rattle.std.proofs.lemmas.Bool.{and_parts, true≢false, and_from, false_from_ne_true}
 use Rattle.std.proofs.lemmas.Bool.Decides.{Decides-int_eq}
 use Rattle.std.proofs.lemmas.Option.{slice_get-map}
 use Rattle.std.proofs.Math.Seq.{take-append_seam}
@@ -70,10 +70,6 @@ text_found content samples are e = found 8 content (Ok samples) are e
 
 -- ---- times
 
-pub otherwise : (b : Bool) → (b ≡ true → ⊥) → b ≡ false
-otherwise true never = absurd (never refl)
-otherwise false never = refl
-
 time_found : (sample : Option Sample) (time : ℤ) → is_time sample time ≡ true → option_map (λ s. s.time) sample ≡ Some time
 time_found None time e = absurd cc
 time_found (Some sample) time e = ap (λ (t : ℤ). Some t) ((Decides-int_eq sample.time time).0 e)
@@ -90,7 +86,7 @@ times_found place samples e =
       ends = slice_get-map _ samples (length samples - 1) ∙ time_found (slice_get samples (length samples - 1)) place.max parts.1;
     }
 
-times_again : (place : ChunkPlace) (samples : List Sample) → HaveTimesOf place samples → have_times_of place samples ≡ true
+pub times_again : (place : ChunkPlace) (samples : List Sample) → HaveTimesOf place samples → have_times_of place samples ≡ true
 times_again place samples is = and_from _ _
     (time_again (slice_get samples 0) place.min (sym (slice_get-map _ samples 0) ∙ is.begins))
     (time_again (slice_get samples (length samples - 1)) place.max (sym (slice_get-map _ samples (length samples - 1)) ∙ is.ends))
@@ -99,7 +95,7 @@ times_differ : (place : ChunkPlace) (samples : List Sample) → have_times_of pl
 times_differ place samples e is = true≢false (sym (times_again place samples is) ∙ e)
 
 times_are_others : (place : ChunkPlace) (samples : List Sample) → (HaveTimesOf place samples → ⊥) → have_times_of place samples ≡ false
-times_are_others place samples differ = otherwise (have_times_of place samples) (λ e. differ (times_found place samples e))
+times_are_others place samples differ = false_from_ne_true (have_times_of place samples) (λ e. differ (times_found place samples e))
 
 -- ---- how many
 
@@ -115,7 +111,7 @@ are_there : (samples : List Sample) → samples ≢ [] → are_some samples ≡ 
 are_there [] some = absurd (some refl)
 are_there (s ∷ ss) some = refl
 
-timed_are_there : (place : ChunkPlace) (samples : List Sample) → HaveTimesOf place samples → are_some samples ≡ true
+pub timed_are_there : (place : ChunkPlace) (samples : List Sample) → HaveTimesOf place samples → are_some samples ≡ true
 timed_are_there place [] is = let none = is.begins in absurd cc
 timed_are_there place (s ∷ ss) is = refl
 

@@ -2,7 +2,8 @@
 use Rattle.std.proofs.Common.{◌≡◌, ℕ, List, [], ◌∷◌, Bool, true, false, Option, None, Some, Ok, ℤ, refl, sym, ap, subst, ◌∙◌}
 use Rattle.std.specs.Prelude.{option_map, if◌then◌else◌}
 use Rattle.std.proofs.Math.Dec.{T}
-use Rattle.std.proofs.lemmas.Bool.{and_parts, true≢false, and_from}
+use Rattle.std.proofs.lemmas.Bool.{and_parts, true≢false, and_from, false_from_ne_true}
+use Rattle.std.proofs.lemmas.Float.{T_from_true}
 use Rattle.reading_core.specs.Grammar.{IsBytes}
 use Rattle.reading_core.proofs.Binds.{bind_ok}
 use Rattle.label_sets.specs.declared.sample.Sample.{Sample}
@@ -19,7 +20,7 @@ use Rattle.block_content.specs.Content.{BeginsAfter, IsApart, IsWithin, AreWithi
 use Rattle.block_content.specs.ContentReading.{is_within, outside_of, first_outside, begins_after, follow, repeated_in, index_at}
 use Rattle.block_content.specs.ContentRefusals.{IsOutside}
 use Rattle.reading_core.proofs.FirstLaws.{Finds, all_good, all_pass, first_found, first_again}
-use Rattle.block_content.proofs.ChunksRead.{otherwise}
+use Rattle.list_core.proofs.Options.{option_map-Some}
 
 -- ---- the index
 
@@ -39,16 +40,12 @@ index_again bytes list are is =
 
 -- ---- samples within the block's times
 
-truly : (b : Bool) → b ≡ true → T b
-truly true e = tt
-truly false e = absurd cc
-
-passes : (b : Bool) → T b → b ≡ true
+pub passes : (b : Bool) → T b → b ≡ true
 passes true t = refl
 passes false t = absurd t
 
 within_found : (meta : Meta) (sample : Sample) → is_within meta sample ≡ true → IsWithin meta sample
-within_found meta sample e = let p = and_parts _ _ e in (record { le = truly _ p.0 }, record { lt = truly _ p.1 })
+within_found meta sample e = let p = and_parts _ _ e in (record { le = T_from_true _ p.0 }, record { lt = T_from_true _ p.1 })
 
 within_again : (meta : Meta) (sample : Sample) → IsWithin meta sample → is_within meta sample ≡ true
 within_again meta sample is = and_from _ _ (passes _ is.0.le) (passes _ is.1.lt)
@@ -67,22 +64,18 @@ sample_finds meta = record {
   none = λ sample e. within_found meta sample (chosen_none _ _ e);
   passes = λ sample is. rw (within_again meta sample is) refl;
   some = λ sample time e. let c = chosen_some _ _ _ e in record { outside = λ is. true≢false (sym (within_again meta sample is) ∙ c.0); at = sym c.1 };
-  finds = λ sample time is. rw (otherwise (is_within meta sample) (λ e. is.outside (within_found meta sample e))) (ap (λ (t : ℤ). Some t) (sym is.at));
+  finds = λ sample time is. rw (false_from_ne_true (is_within meta sample) (λ e. is.outside (within_found meta sample e))) (ap (λ (t : ℤ). Some t) (sym is.at));
 }
 
 mapped_none : {X Y : Type 0} (f : X → Y) (o : Option X) → option_map f o ≡ None → o ≡ None
 mapped_none f None e = refl
 mapped_none f (Some x) e = absurd cc
 
-mapped_some : {X Y : Type 0} (f : X → Y) (o : Option X) (y : Y) → option_map f o ≡ Some y → (x : X) × (o ≡ Some x) × (f x ≡ y)
-mapped_some f None y e = absurd cc
-mapped_some f (Some x) y e = (x, refl, cc)
-
 pub times_find : (meta : Meta) → Finds (first_outside meta) (AreWithin meta) (λ series time. (place : ℕ) × IsFirstAt (IsWithin meta) (IsOutside meta time) series.samples place)
 times_find meta = record {
   none = λ series e. all_good _ _ _ (sample_finds meta) series.samples (mapped_none _ _ e);
   passes = λ series all. rw (all_pass _ _ _ (sample_finds meta) series.samples all) refl;
-  some = λ series time e. let r = mapped_some _ _ _ e in (r.0.0, subst (λ (t : ℤ). IsFirstAt (IsWithin meta) (IsOutside meta t) series.samples r.0.0) r.2 (first_found _ _ _ (sample_finds meta) series.samples r.0 r.1));
+  some = λ series time e. let r = option_map-Some _ _ _ e in (r.0.0, subst (λ (t : ℤ). IsFirstAt (IsWithin meta) (IsOutside meta t) series.samples r.0.0) r.2 (first_found _ _ _ (sample_finds meta) series.samples r.0 r.1));
   finds = λ series time is. rw (first_again _ _ _ (sample_finds meta) series.samples is.0 time is.1) refl;
 }
 
@@ -90,7 +83,7 @@ times_find meta = record {
 
 begins_found : (before : Option ChunkPlace) (chunk : ChunkPlace) → begins_after before chunk ≡ true → BeginsAfter before chunk
 begins_found None chunk e = tt
-begins_found (Some before) chunk e = record { lt = truly _ e }
+begins_found (Some before) chunk e = record { lt = T_from_true _ e }
 
 begins_again : (before : Option ChunkPlace) (chunk : ChunkPlace) → BeginsAfter before chunk → begins_after before chunk ≡ true
 begins_again None chunk is = refl
@@ -111,5 +104,5 @@ order_finds = record {
   none = λ one e. follow_found None one.chunks (chosen_none _ _ e);
   passes = λ one up. rw (follow_again None one.chunks up) refl;
   some = λ one u e. let c = chosen_some _ _ _ e in λ up. true≢false (sym (follow_again None one.chunks up) ∙ c.0);
-  finds = λ one u never. rw (otherwise (follow None one.chunks) (λ e. never (follow_found None one.chunks e))) refl;
+  finds = λ one u never. rw (false_from_ne_true (follow None one.chunks) (λ e. never (follow_found None one.chunks e))) refl;
 }

@@ -1,3 +1,4 @@
 pub mod NameText
 pub mod SixDigits
 pub mod KeyLaws
+pub mod LawfulKeys

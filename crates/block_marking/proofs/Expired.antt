@@ -3,7 +3,7 @@ use Rattle.std.proofs.Common.{◌≡◌, ℕ, ◌+◌, ◌<◌, Bool, true, fals
 use Rattle.std.specs.List.{filter}
 use Rattle.std.proofs.lemmas.List.{take_more, map-append}
 use Rattle.std.proofs.lemmas.List.Elements.{filter-append}
-use Rattle.list_core.proofs.StableSorts.{filter_hit, filter_miss}
+use Rattle.list_core.proofs.Lists.{filter_hit, filter_miss}
 use Rattle.sync_filters.specs.declared.found.Found.{Found}
 use Rattle.block_marking.specs.FoundNames.{names_of}
 

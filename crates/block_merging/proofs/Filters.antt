@@ -1,28 +1,13 @@
 -- A filter of a list that was put in order, and a part that is put back into the order in which it stood.
-use Rattle.std.proofs.Common.{◌≡◌, Bool, true, false, cond, not, ◌&&◌, List, [], ◌∷◌, map, refl, sym, ap, ◌∙◌}
+use Rattle.std.proofs.Common.{◌≡◌, Bool, true, false, cond, not, ◌&&◌, List, [], ◌∷◌, refl, sym, ap, ◌∙◌}
 use Rattle.std.specs.Cmp.{IsStrictWeakOrder}
 use Rattle.std.specs.List.{filter, AllByRecursion}
 use Rattle.std.specs.List.Sorted.{ties}
 use Rattle.std.proofs.lemmas.Bool.{true≢false}
 use Rattle.list_core.specs.Ordered.{placed, in_order}
 use Rattle.list_core.proofs.Bools.{by_bool}
-use Rattle.list_core.proofs.StableSorts.{NoneLess, Rises, Rises-in_order, filter-in_order, same_in_order, filter_hit, filter_miss}
-
-pub filter_twice : {A : Type 0} (p q : A → Bool) (xs : List A) → filter p (filter q xs) ≡ filter q (filter p xs)
-filter_twice p q [] = refl
-filter_twice p q (x ∷ xs) = by_bool (p x)
-    (λ t. by_bool (q x)
-    (λ u. ap (filter p) (filter_hit q x xs u) ∙ filter_hit p x (filter q xs) t ∙ ap (λ l. x ∷ l) (filter_twice p q xs) ∙ sym (ap (filter q) (filter_hit p x xs t) ∙ filter_hit q x (filter p xs) u))
-    (λ u. ap (filter p) (filter_miss q x xs u) ∙ filter_twice p q xs ∙ sym (ap (filter q) (filter_hit p x xs t) ∙ filter_miss q x (filter p xs) u)))
-    (λ t. by_bool (q x)
-    (λ u. ap (filter p) (filter_hit q x xs u) ∙ filter_miss p x (filter q xs) t ∙ filter_twice p q xs ∙ sym (ap (filter q) (filter_miss p x xs t)))
-    (λ u. ap (filter p) (filter_miss q x xs u) ∙ filter_twice p q xs ∙ sym (ap (filter q) (filter_miss p x xs t))))
-
-pub filter-map : {A B : Type 0} (p : B → Bool) (f : A → B) (xs : List A) → filter p (map f xs) ≡ map f (filter (λ x. p (f x)) xs)
-filter-map p f [] = refl
-filter-map p f (x ∷ xs) = by_bool (p (f x))
-    (λ t. filter_hit p (f x) (map f xs) t ∙ ap (λ l. f x ∷ l) (filter-map p f xs) ∙ sym (ap (map f) (filter_hit (λ y. p (f y)) x xs t)))
-    (λ t. filter_miss p (f x) (map f xs) t ∙ filter-map p f xs ∙ sym (ap (map f) (filter_miss (λ y. p (f y)) x xs t)))
+use Rattle.list_core.proofs.StableSorts.{NoneLess, Rises, Rises-in_order, filter-in_order, same_in_order}
+use Rattle.list_core.proofs.Lists.{filter_hit, filter_miss}
 
 module _ {A : Type 0} (less : A → A → Bool) (o : IsStrictWeakOrder less) where
   none-filter : (q : A → Bool) (x : A) (ys : List A) → NoneLess less x ys → NoneLess less x (filter q ys)

@@ -12,6 +12,7 @@ use Rattle.list_core.proofs.Bools.{by_bool}
 use Rattle.list_core.proofs.Lists.{filter_hit, filter_miss, filter_all, filter_none}
 use Rattle.list_core.proofs.Order.{sorted_nil, sorted_append}
 use Rattle.list_core.proofs.Membership.{no_member, contains_first, contains_later, each_member, all_members, any_of_member, member_of_any, into_filter, of_filter, of_map, into_map, of_flat_map, into_flat_map}
+use Rattle.list_core.proofs.Pairs.{AllZip-append}
 use Rattle.reading_core.specs.Grammar.{IsBytes}
 use Rattle.label_sets.specs.declared.label.Label.{Label}
 use Rattle.label_sets.specs.declared.sample.Sample.{Sample}
@@ -30,7 +31,6 @@ use Rattle.block_files.specs.declared.block_files.BlockFiles.{BlockFiles}
 use Rattle.block_content.specs.Content.{IsChunkOf, HoldsSeries, IsContent}
 use Rattle.block_writing.specs.Put.{PlanFields, PutChunk, PutSeries, IsStored}
 use Rattle.block_writing.specs.Writing.{chunk_in}
-use Rattle.block_writing.proofs.Placed.{each_append}
 use Rattle.block_laws.specs.PutContent.{IsSeriesOf, AreSeriesOf}
 use Rattle.block_merging.specs.Inputs.{AreTaken, taken}
 use Rattle.block_merging.specs.Steps.{StandsFor, joined}
@@ -39,12 +39,12 @@ use Rattle.block_merging.specs.MergedBlock.{has_labels, chunks_under, AreMerges}
 use Rattle.block_merging.specs.MergedContent.{reduced_triples, all_triples}
 use Rattle.block_merging.proofs.Grouping.{same_labels, are_same}
 use Rattle.block_merging.proofs.Merged.{some_inside}
-use Rattle.block_merging.proofs.OneMerged.{first_chunk}
 use Rattle.block_merging.proofs.OneMerge.{under, into_under, of_under}
 use Rattle.block_merging.proofs.Firsts.{find_filter}
 use Rattle.block_merging.proofs.StoredInputs.{index_once, data_there}
 use Rattle.block_merging.proofs.SameLists.{zip_back, zip_member}
 use Rattle.block_merging.proofs.FirstOfSeries.{series_first}
+use Rattle.block_merging.proofs.OneCut.{some_member}
 
 -- ---- what is given under labels
 
@@ -73,7 +73,7 @@ under_more labels s all g given is h =
     record {
       parts = is.parts ++ h.parts;
       read = subst (λ (l : List PutChunk). AllZip StandsFor l (is.parts ++ h.parts)) (sym (ap (flat_map (λ (x : PutSeries). x.chunks)) (filter_hit (has_labels labels) s all t)))
-          (each_append StandsFor s.chunks (chunks_under labels all) is.parts h.parts is.chunks_are h.read);
+          (AllZip-append StandsFor s.chunks (chunks_under labels all) is.parts h.parts is.chunks_are h.read);
       are = cut ∙ ap (λ (l : List Triple). l ++ filter (is_under labels) (triples_of given))
           (ap (λ (n : List Label). filter (is_under labels) (triples_under n g.samples)) named ∙ filter_all (is_under labels) (triples_under labels g.samples) (under_itself labels g.samples))
           ∙ ap (λ (l : List Triple). triples_under labels g.samples ++ l) h.are ∙ sym (triples_under-append labels g.samples (joined h.parts))
@@ -160,7 +160,7 @@ module _ (plan : PlanFields) (all : List PutSeries) (given : List Series) (store
   out_some o among none =
       let m = zip_back IsSeriesOf merged list o out among in
       let u = under_all (m.0).labels all given are in
-      let c = first_chunk (chunks_under (m.0).labels all) (each_member (λ s. chunks_under s.labels all ≢ []) merged m.0 is.some m.1) in
+      let c = some_member (chunks_under (m.0).labels all) (each_member (λ s. chunks_under s.labels all ≢ []) merged m.0 is.some m.1) in
       let s = some_inside plan (chunks_under (m.0).labels all) u.parts c.0 (under_stored (m.0).labels) u.read c.1 in
       let t = into_under (m.0).labels (joined u.parts) s.0 s.1 in
       let there : Contains (filter (is_under o.labels) (triples_of given)) (triple_of (m.0).labels s.0) =
@@ -246,6 +246,6 @@ given_of external replicas (block ∷ blocks) (c ∷ contents) all bytes held (i
     let same : held.0.indexed ≡ indexed = index_once block.index held.0.indexed indexed bytes.0 held.0.index_is index_is in
     let here : AreSeriesOf (map (taken external replicas block.segments) indexed) (map (under_reduced external replicas) c) = series_taken external replicas block.segments indexed c (subst (λ l. AllZip (HoldsSeries block.segments) l c) same held.0.series_are) in (
       map (under_reduced external replicas) c ++ w.0,
-      subst (λ l. AreSeriesOf l (map (under_reduced external replicas) c ++ w.0)) (sym is) (each_append IsSeriesOf (map (taken external replicas block.segments) indexed) others (map (under_reduced external replicas) c) w.0 here w.1),
+      subst (λ l. AreSeriesOf l (map (under_reduced external replicas) c ++ w.0)) (sym is) (AllZip-append IsSeriesOf (map (taken external replicas block.segments) indexed) others (map (under_reduced external replicas) c) w.0 here w.1),
       triples-append (map (under_reduced external replicas) c) w.0 ∙ ap (λ (l : List Triple). l ++ triples_of w.0) (triples_reduced external replicas c) ∙ ap (λ (l : List Triple). reduced_triples external replicas c ++ l) w.2,
     )

@@ -1,5 +1,5 @@
 -- What one merged series holds: the first pattern at each time of the chunks that were given.
-use Rattle.std.proofs.Common.{◌≡◌, ◌≢◌, Bool, true, false, ◌&&◌, List, [], ◌∷◌, ◌++◌, map, Some, refl, sym, ap, subst, ◌∙◌, arith, inl, inr, ◌⊎◌, ℤ, Less, append-nil}
+use Rattle.std.proofs.Common.{◌≡◌, ◌≢◌, true, false, ◌&&◌, List, [], ◌∷◌, ◌++◌, map, Some, refl, sym, ap, subst, ◌∙◌, arith, inl, inr, ◌⊎◌, ℤ, Less, append-nil}
 use Rattle.std.specs.Prelude.{Any, All, Contains, int_le, ◌≤ℤ◌, ◌<ℤ◌}
 use Rattle.std.specs.List.{AllByRecursion, AllZip, filter, find, list_any}
 use Rattle.std.specs.List.Sorted.{IsStrictlySortedBy}
@@ -7,7 +7,7 @@ use Rattle.std.specs.declared.cmp.Ordering.{Ordering}
 use Rattle.std.specs.Ordering.{int_cmp, ordering_then, is_eq}
 use Rattle.std.specs.Cmp.{IsEquivalence}
 use Rattle.std.proofs.lemmas.Int.{ints}
-use Rattle.std.proofs.lemmas.Bool.{true≢false, and_from}
+use Rattle.std.proofs.lemmas.Bool.{true≢false, and_from, and_left, and_right}
 use Rattle.std.proofs.lemmas.List.Elements.{All-from_recursion, All-contains, filter-append}
 use Rattle.std.proofs.lemmas.Grind.{flat_map-append}
 use Rattle.std.proofs.lemmas.Map.Keys.{sorted_head, sorted_tail}
@@ -15,6 +15,7 @@ use Rattle.list_core.proofs.Bools.{by_bool}
 use Rattle.list_core.proofs.Lists.{filter_hit, filter_miss, filter_all, filter_none}
 use Rattle.list_core.proofs.Order.{sorted_map, sorted_unmap}
 use Rattle.list_core.proofs.Membership.{no_member, contains_first, contains_later, member_cases, each_member, all_members, any_of_member, of_map, of_filter}
+use Rattle.list_core.proofs.Integers.{le_le}
 use Rattle.label_sets.specs.declared.label.Label.{Label}
 use Rattle.label_sets.specs.declared.sample.Sample.{Sample}
 use Rattle.label_sets.specs.declared.series.Series.{Series}
@@ -38,25 +39,9 @@ use Rattle.block_merging.proofs.OneCut.{lies, AreApart, of_two}
 use Rattle.block_merging.proofs.SameLists.{each_once, split_zip}
 use Rattle.block_merging.proofs.Rising.{text_ascends}
 use Rattle.block_merging.proofs.Firsts.{in_span, AreFirstOfEach, joined as joined_triples, first_joined}
+use Rattle.block_merging.proofs.Spans.{le_false, le_true}
 
 -- ---- a chunk in a span, and one outside it
-
-to_le : (a b : ℤ) → a ≤ℤ b → int_le a b ≡ true
-to_le a b h = grind (arith, ints)
-
-not_le : (a b : ℤ) → b <ℤ a → int_le a b ≡ false
-not_le a b h = grind (arith, ints)
-
-first_false : (a b : Bool) → a ≡ false → (a && b) ≡ false
-first_false true b e = absurd (true≢false e)
-first_false false b e = refl
-
-second_false : (a b : Bool) → b ≡ false → (a && b) ≡ false
-second_false true b e = e
-second_false false b e = refl
-
-le_le : (a b c : ℤ) → a ≤ℤ b → b ≤ℤ c → a ≤ℤ c
-le_le a b c h k = omega (arith, ints)
 
 lt_first : (a b c d : ℤ) → a ≤ℤ b → b ≤ℤ c → c <ℤ d → a <ℤ d
 lt_first a b c d h k l = omega (arith, ints)
@@ -67,16 +52,16 @@ lt_last a b c d h k l = omega (arith, ints)
 sample_in : (span : Span) (c : PutChunk) (labels : List Label) (s : Sample) → lies_in span c ≡ true → IsInside c s → in_span span (triple_of labels s) ≡ true
 sample_in span c labels s here inside =
     let l = lies span c here in
-    and_from (int_le span.begin s.time) (int_le s.time span.end) (to_le span.begin s.time (le_le span.begin c.min s.time l.0 inside.0)) (to_le s.time span.end (le_le s.time c.max span.end inside.1 l.1))
+    and_from (int_le span.begin s.time) (int_le s.time span.end) (le_true span.begin s.time (le_le span.begin c.min s.time l.0 inside.0)) (le_true s.time span.end (le_le s.time c.max span.end inside.1 l.1))
 
 -- a sample of a chunk in another span
 sample_before : (span other : Span) (c : PutChunk) (labels : List Label) (s : Sample) → other.end <ℤ span.begin → lies_in other c ≡ true → IsInside c s → in_span span (triple_of labels s) ≡ false
 sample_before span other c labels s apart there inside =
-    first_false (int_le span.begin s.time) (int_le s.time span.end) (not_le span.begin s.time (lt_first s.time c.max other.end span.begin inside.1 (lies other c there).1 apart))
+    and_left (int_le span.begin s.time) (int_le s.time span.end) (le_false span.begin s.time (lt_first s.time c.max other.end span.begin inside.1 (lies other c there).1 apart))
 
 sample_behind : (span other : Span) (c : PutChunk) (labels : List Label) (s : Sample) → span.end <ℤ other.begin → lies_in other c ≡ true → IsInside c s → in_span span (triple_of labels s) ≡ false
 sample_behind span other c labels s apart there inside =
-    second_false (int_le span.begin s.time) (int_le s.time span.end) (not_le s.time span.end (lt_last span.end other.begin c.min s.time apart (lies other c there).0 inside.0))
+    and_right (int_le span.begin s.time) (int_le s.time span.end) (le_false s.time span.end (lt_last span.end other.begin c.min s.time apart (lies other c there).0 inside.0))
 
 in_triples : (P : Triple → Type 0) (labels : List Label) (part : List Sample) → ((s : Sample) → Contains part s → P (triple_of labels s)) → All P (triples_under labels part)
 unfolding triples_under

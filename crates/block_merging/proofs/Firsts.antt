@@ -20,6 +20,7 @@ use Rattle.vertical_merge.proofs.Laws.{find_here, find_skip}
 use Rattle.block_merging.specs.Runs.{Span}
 use Rattle.block_merging.proofs.Chains.{any_of, member_of}
 use Rattle.block_merging.proofs.OneCut.{le_from, first_apart, others_apart}
+use Rattle.block_merging.proofs.Rising.{less_time}
 
 -- whether the triple's time lies in a span
 abbrev pub in_span : Span → Triple → Bool
@@ -63,9 +64,6 @@ AreFirstOfEach list [] [] = Unit {0}
 AreFirstOfEach list [] (k ∷ kepts) = ⊥
 AreFirstOfEach list (s ∷ spans) [] = ⊥
 AreFirstOfEach list (s ∷ spans) (k ∷ kepts) = AreFirst (filter (in_span s) list) k × AreFirstOfEach list spans kepts
-
-less_time : (a b : ℤ) → a <ℤ b → int_cmp a b ≡ Less
-less_time a b h = grind (arith, ints)
 
 between : (a b c d : ℤ) → a ≤ℤ b → b <ℤ c → c ≤ℤ d → a <ℤ d
 between a b c d h k e = omega (arith, ints)

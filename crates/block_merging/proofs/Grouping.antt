@@ -8,13 +8,13 @@ use Rattle.std.specs.Ordering.{is_eq}
 use Rattle.std.proofs.lemmas.Grind.{flat_map-append}
 use Rattle.std.proofs.lemmas.List.{map-append}
 use Rattle.std.proofs.lemmas.List.Elements.{filter-append, Contains-append_left, Contains-append_right}
-use Rattle.list_core.proofs.Bools.{by_bool}
+use Rattle.list_core.proofs.Bools.{by_bool, Equal-from_is_eq}
 use Rattle.list_core.proofs.Lists.{filter_hit, filter_miss, AllByRecursion-append, AllByRecursion-weaker}
 use Rattle.list_core.proofs.Membership.{no_member, contains_first, contains_later, only_member, each_member, all_members, of_map, into_flat_map}
 use Rattle.list_core.proofs.Order.{sorted_nil, sorted_cons, sorted_append}
 use Rattle.label_sets.specs.declared.label.Label.{Label}
 use Rattle.label_sets.specs.Labels.{compare_sets}
-use Rattle.vertical_merge.proofs.Orders.{same_set, set_itself, is_equal}
+use Rattle.vertical_merge.proofs.Orders.{same_set, set_itself}
 use Rattle.block_writing.specs.Put.{PutChunk, PutSeries}
 use Rattle.block_merging.specs.MergedSeries.{IsMergedSeries}
 use Rattle.block_merging.specs.MergedBlock.{has_labels, chunks_under, AreMerges}
@@ -23,7 +23,7 @@ use Rattle.block_merging.specs.Queues.{chunks_of}
 -- ---- labels
 
 pub same_labels : (one other : List Label) → is_eq (compare_sets one other) ≡ true → one ≡ other
-same_labels one other t = same_set one other (is_equal (compare_sets one other) t)
+same_labels one other t = same_set one other (Equal-from_is_eq (compare_sets one other) t)
 
 pub are_same : (one other : List Label) → one ≡ other → is_eq (compare_sets one other) ≡ true
 are_same one other e = subst (λ l. is_eq (compare_sets one l) ≡ true) e (ap is_eq (set_itself one))

@@ -12,10 +12,11 @@ use Rattle.std.proofs.lemmas.List.Sorted.{ranks_by}
 use Rattle.std.proofs.lemmas.List.Sums.{sum_by-append}
 use Rattle.std.proofs.lemmas.Grind.{flat_map-append}
 use Rattle.list_core.specs.Ordered.{placed, in_order}
-use Rattle.list_core.proofs.Bools.{by_bool}
+use Rattle.list_core.proofs.Bools.{by_bool, by_order}
 use Rattle.list_core.proofs.StableSorts.{NoneLess, Rises}
 use Rattle.list_core.proofs.Lists.{filter_miss, AllByRecursion-append, AllByRecursion-weaker}
 use Rattle.list_core.proofs.Membership.{no_member, each_member, all_members, member_passes, of_filter, into_filter, contains_place, of_flat_map, into_flat_map}
+use Rattle.list_core.proofs.Pairs.{AllZip-append}
 use Rattle.label_sets.specs.Counts.{sample_count}
 use Rattle.label_sets.specs.declared.label.Label.{Label}
 use Rattle.label_sets.specs.declared.series.Series.{Series}
@@ -23,7 +24,7 @@ use Rattle.label_sets.specs.Labels.{compare_sets}
 use Rattle.vertical_merge.proofs.Orders.{sets_total, same_set, set_itself}
 use Rattle.block_meta.specs.Lawful.{AreLawfulTimes}
 use Rattle.block_writing.specs.Put.{PutChunk, PutSeries, PlanFields, Put, IsStored, IsAfterSeries, nothing_put}
-use Rattle.block_writing.proofs.Placed.{each_append}
+use Rattle.block_writing.proofs.Builds.{one_sum}
 use Rattle.block_laws.specs.PutContent.{IsSeriesOf, AreSeriesOf}
 use Rattle.block_merging.specs.MergedSeries.{IsMergedSeries}
 use Rattle.block_merging.specs.MergedBlock.{has_labels, chunks_under, AreMerges}
@@ -42,11 +43,6 @@ reversed : (a b : Ordering) → a ≡ ordering_reverse b → (a ≡ Greater) →
 reversed a Less e g = refl
 reversed a Equal e g = absurd (let f : Greater ≡ Equal = sym g ∙ e in cc)
 reversed a Greater e g = absurd (let f : Greater ≡ Less = sym g ∙ e in cc)
-
-by_order : {P : Type 0} (a : Ordering) → (a ≡ Less → P) → (a ≡ Equal → P) → (a ≡ Greater → P) → P
-by_order Less f g h = f refl
-by_order Equal f g h = g refl
-by_order Greater f g h = h refl
 
 turned : (one other : List Label) → compare_sets one other ≡ Greater → compare_sets other one ≡ Less
 turned one other g = reversed (compare_sets one other) (compare_sets other one) (sets_total.antisymm one other) g
@@ -244,9 +240,6 @@ walk_begins lefts begin rise is = record {
   rise = rise;
 }
 
-one_sum : (one : Series) → sum_by (λ (s : Series). length s.samples) (one ∷ []) ≡ length one.samples
-one_sum one = let e : 0 + length one.samples ≡ length one.samples = omega arith in e
-
 -- a group more was put
 has_more : (plan : PlanFields) (done group : List PutSeries) (labels : List Label) (chunks : List PutChunk) (now new : Put) → chunks_of group ≡ chunks
     → AllByRecursion (λ s. s.labels ≡ labels) group → AllByRecursion (λ s. compare_sets s.labels labels ≡ Less) done → HasAll plan done now → HasGroup now labels chunks new → HasAll plan (done ++ group) new
@@ -267,7 +260,7 @@ has_more plan done group labels (c ∷ cs) now new all same later h is =
       plan_is = is.plan_is ∙ h.plan_is;
       nothing_left = is.nothing_left;
       list = h.list ++ is.series ∷ [];
-      list_is = subst (λ (l : List PutSeries). AreSeriesOf l (h.list ++ is.series ∷ [])) (sym is.series_are) (each_append IsSeriesOf now.series (is.put ∷ []) h.list (is.series ∷ []) h.list_is (is.series_is, tt));
+      list_is = subst (λ (l : List PutSeries). AreSeriesOf l (h.list ++ is.series ∷ [])) (sym is.series_are) (AllZip-append IsSeriesOf now.series (is.put ∷ []) h.list (is.series ∷ []) h.list_is (is.series_is, tt));
       samples_are = omega (arith, is.samples_are, h.samples_are, sum);
     }
 

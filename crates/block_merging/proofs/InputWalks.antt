@@ -21,7 +21,7 @@ use Rattle.block_content.specs.ContentRefusals.{RefusesContent}
 use Rattle.block_content.specs.declared.check_refusal.CheckRefusal.{CheckRefusal}
 use Rattle.block_content.specs.declared.check_refusal.CheckRefusal.TheVariants as check
 use Rattle.block_writing.specs.Put.{PutSeries}
-use Rattle.block_writing.proofs.Tested.{tested_all, refused_at}
+use Rattle.block_writing.proofs.Tested.{tested_all, refused_at, never, not_told}
 use Rattle.block_merging.specs.declared.merge_refusal.MergeRefusal.{MergeRefusal}
 use Rattle.block_merging.specs.declared.merge_refusal.MergeRefusal.TheVariants.{Input, NoMemory}
 use Rattle.block_merging.specs.Inputs.{LiesWithin, HasContent, IsFirstRefused, AreTaken, taken}
@@ -161,12 +161,6 @@ pub mapped_all : {A B C : Type 0} (f : A → C) (g : B → C) (base : List C) (m
 mapped_all {A} {B} {C} f g base made xs ys k same all was = was ∙ ap (λ (l : List B). base ++ map g l) (take_all k xs all ∙ same)
 
 -- ---- blocks that may be merged
-
-not_told : (b : Bool) (P : Type 0) → IsTrue b ↔ P → b ≡ false → P → ⊥
-not_told b P is e p = let holds : b ≡ true = is.1 p in absurd cc
-
-never : (P : Type 0) → (P → ⊥) → IsTrue false ↔ P
-never P none = (λ told. absurd cc, λ p. absurd (none p))
 
 pub one_refused : (plan : BlockPlan) (inputs : List BlockFiles) (k : ℕ) (block d : BlockFiles) (b : Bool) → k < length inputs → block ≡ get_or inputs k d → IsTrue b ↔ LiesWithin plan block → b ≡ false
     → IsTrue false ↔ AllByRecursion (LiesWithin plan) inputs

@@ -26,7 +26,7 @@ use Rattle.block_merging.proofs.StoredInputs.{taken_stored}
 use Rattle.block_merging.proofs.OneMerged.{all_series_once, puts_once}
 use Rattle.block_merging.proofs.FirstOfBlocks.{given_of, merges_first}
 
-indexes_bytes : (blocks : List BlockFiles) → AllByRecursion AreBytes blocks → AllByRecursion (λ block. IsBytes block.index) blocks
+pub indexes_bytes : (blocks : List BlockFiles) → AllByRecursion AreBytes blocks → AllByRecursion (λ block. IsBytes block.index) blocks
 indexes_bytes blocks bytes = AllByRecursion-weaker AreBytes (λ block. IsBytes block.index) (λ block are. are.index) blocks bytes
 
 pub merge_first : (plan : BlockPlan) (replicas : List (List ℕ)) (blocks : List BlockFiles) (block : BlockFiles) (contents : List (List Series)) (list : List Series) → AllByRecursion AreBytes blocks → AreBytes block → AllByRecursion (LiesWithin plan) blocks

@@ -8,6 +8,8 @@ use Rattle.std.proofs.lemmas.List.{length-map}
 use Rattle.block_laws.proofs.Content.{text_once}
 use Rattle.list_core.specs.Ordered.{in_order, placed}
 use Rattle.list_core.proofs.Membership.{no_member, contains_first, contains_later, each_member, all_members, of_in_order, into_in_order, of_map, into_map, contains_place}
+use Rattle.list_core.proofs.Integers.{lt_le}
+use Rattle.list_core.proofs.Lists.{some-length}
 use Rattle.label_sets.specs.declared.label.Label.{Label}
 use Rattle.label_sets.specs.declared.sample.Sample.{Sample}
 use Rattle.label_sets.specs.declared.series.Series.{Series}
@@ -24,12 +26,6 @@ use Rattle.block_merging.specs.Placed.{placed_chunk, stands_before}
 use Rattle.block_merging.specs.MergedSeries.{AreMerged, Becomes}
 use Rattle.block_merging.specs.Steps.{StandsFor, joined, run_in, HasParts, HasRun}
 use Rattle.block_merging.proofs.OneMerge.{first_labels, kept_ascend, kept_given}
-
-trans : (a b c : ℤ) → a ≤ℤ b → b ≤ℤ c → a ≤ℤ c
-trans a b c h k = omega (arith, ints)
-
-lt_le : (a b c : ℤ) → a <ℤ b → b ≤ℤ c → a <ℤ c
-lt_le a b c h k = omega (arith, ints)
 
 le_lt : (a b c : ℤ) → a ≤ℤ b → b <ℤ c → a <ℤ c
 le_lt a b c h k = omega (arith, ints)
@@ -54,12 +50,6 @@ pub chunk_sample : (plan : PlanFields) (chunk : PutChunk) (part : List Sample) �
 chunk_sample plan chunk part stored text =
     let t = timed chunk plan part stored (text_once chunk.content stored.samples part stored.text_is text) in
     let w = of_map (λ (s : Sample). s.time) part chunk.min (contains_place (map (λ (s : Sample). s.time) part) 0 chunk.min t.begins) in (w.0, w.1)
-
-pub is_timed : (plan : PlanFields) (chunk : PutChunk) → IsStored plan chunk → chunk.min ≤ℤ chunk.max
-is_timed plan chunk stored =
-    let s = chunk_sample plan chunk stored.samples stored stored.text_is in
-    let b = each_member (IsInside chunk) stored.samples s.0 (part_inside plan chunk stored.samples stored stored.text_is) s.1 in
-    trans chunk.min (s.0).time chunk.max b.0 b.1
 
 pub samples_inside : (plan : PlanFields) (chunks : List PutChunk) (parts : List (List Sample)) (s : Sample) → AllByRecursion (IsStored plan) chunks → AllZip StandsFor chunks parts → Contains (joined parts) s
     → (c : PutChunk) × Contains chunks c × IsInside c s × IsWithin plan s
@@ -130,14 +120,10 @@ kept_inside plan labels run samples kept s stored (parts, each, is) merged among
     let w = samples_inside plan (run_in run) parts g.0 (in_run (IsStored plan) run stored) each (subst (λ (l : List Sample). Contains l g.0) is g.1) in
     (w.0, w.1, subst (λ (t : ℤ). ((w.0).min ≤ℤ t) × (t ≤ℤ (w.0).max)) g.2 w.2, subst (λ (t : ℤ). (plan.min_time ≤ℤ t) × (t <ℤ plan.max_time)) g.2 w.3)
 
-some_length : {A : Type 0} (xs : List A) → xs ≢ [] → 0 < length xs
-some_length [] some = absurd (some refl)
-some_length (x ∷ xs) some = omega arith
-
 pub kept_of_block : (plan : PlanFields) (labels : List Label) (run : List PlacedChunk) (samples : List Sample) (kept : Series) → AllByRecursion (IsStored plan) (map placed_chunk run)
     → ((parts : List (List Sample)) × AllZip StandsFor (run_in run) parts × (samples ≡ joined parts)) → IsMerge (triples_under labels samples) (kept ∷ []) → AreOfBlock plan kept.samples
 kept_of_block plan labels run samples kept stored read merged = record {
-  some = some_length kept.samples (merged.inhabited 0 kept (omega arith));
+  some = some-length kept.samples (merged.inhabited 0 kept (omega arith));
   ascend = kept_ascend labels samples kept merged;
   within = all_members (IsWithin plan) kept.samples (λ s among. (kept_inside plan labels run samples kept s stored read merged among).3);
 }

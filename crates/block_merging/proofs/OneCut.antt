@@ -3,7 +3,7 @@ use Rattle.std.proofs.Common.{◌≡◌, ◌≢◌, suc, Bool, true, false, List
 use Rattle.std.specs.Prelude.{Any, All, Contains, not, int_le, ◌≤ℤ◌, ◌<ℤ◌}
 use Rattle.std.specs.List.{AllByRecursion, AllPairs, filter}
 use Rattle.std.proofs.lemmas.Int.{ints}
-use Rattle.std.proofs.lemmas.Bool.{and_parts, true≢false}
+use Rattle.std.proofs.lemmas.Bool.{and_parts, true≢false, not_from_false}
 use Rattle.std.proofs.lemmas.List.Elements.{All-contains}
 use Rattle.list_core.proofs.Bools.{by_bool}
 use Rattle.list_core.proofs.Membership.{no_member, contains_first, contains_later, member_cases, of_filter, into_filter, member_passes}
@@ -75,7 +75,7 @@ pub record IsCut (chunks : List PutChunk) (spans : List Span) : Type 0 where
   pub apart : AreApart spans
   pub connected : AllByRecursion AreConnected (map (run_in chunks) spans)
 
-some_member : (xs : List PutChunk) → xs ≢ [] → (x : PutChunk) × Contains xs x
+pub some_member : (xs : List PutChunk) → xs ≢ [] → (x : PutChunk) × Contains xs x
 some_member [] some = absurd (some refl)
 some_member (x ∷ xs) some = (x, contains_first x xs)
 
@@ -127,10 +127,6 @@ module _ (chunks : List PutChunk) where
 abbrev outside : Span → PutChunk → Bool
 outside s c = not (lies_in s c)
 
-not_true : (b : Bool) → b ≡ false → not b ≡ true
-not_true true e = absurd (true≢false e)
-not_true false e = refl
-
 not_false : (b : Bool) → not b ≡ true → b ≡ true → ⊥
 not_false true e t = absurd (true≢false (sym e))
 not_false false e t = absurd (true≢false (sym t))
@@ -138,7 +134,7 @@ not_false false e t = absurd (true≢false (sym t))
 -- what lies in a later span is left
 later_run : (chunks : List PutChunk) (s u : Span) (ss : List Span) → IsCut chunks (s ∷ ss) → Contains ss u → run_in (filter (outside s) chunks) u ≡ run_in chunks u
 later_run chunks s u ss cut among = filter_within (lies_in u) (outside s) chunks (λ x within here.
-    not_true (lies_in s x) (by_bool (lies_in s x) (λ t. absurd (not_both s u x (cut.timed x within) (before_later s u ss cut.apart among) t here)) (λ f. f)))
+    not_from_false (lies_in s x) (by_bool (lies_in s x) (λ t. absurd (not_both s u x (cut.timed x within) (before_later s u ss cut.apart among) t here)) (λ f. f)))
 
 later_runs : (chunks : List PutChunk) (s : Span) (ss more : List Span) → IsCut chunks (s ∷ ss) → ((u : Span) → Contains more u → Contains ss u) → map (run_in (filter (outside s) chunks)) more ≡ map (run_in chunks) more
 later_runs chunks s ss [] cut within = refl

@@ -5,7 +5,7 @@ use Rattle.std.specs.List.{AllByRecursion, AllZip, filter, flat_map}
 use Rattle.std.specs.declared.cmp.Ordering.{Ordering}
 use Rattle.list_core.proofs.Lists.{cons_parts}
 use Rattle.list_core.proofs.Order.{sorted_unmap}
-use Rattle.list_core.proofs.Membership.{no_member, contains_first, each_member, of_map, of_filter, member_passes, of_flat_map}
+use Rattle.list_core.proofs.Membership.{no_member, each_member, of_map, of_filter, member_passes, of_flat_map}
 use Rattle.reading_core.specs.Grammar.{IsBytes}
 use Rattle.label_sets.specs.declared.label.Label.{Label}
 use Rattle.label_sets.specs.declared.sample.Sample.{Sample}
@@ -23,6 +23,7 @@ use Rattle.block_writing.specs.Put.{PutChunk, PutSeries, Put}
 use Rattle.block_writing.specs.Writing.{plan_fields}
 use Rattle.block_writing.specs.Built.{IsPutAs}
 use Rattle.block_writing.proofs.OnePut.{put_once}
+use Rattle.block_writing.proofs.DataLaws.{data_rise}
 use Rattle.block_laws.specs.PutContent.{IsSeriesOf, AreSeriesOf}
 use Rattle.block_laws.proofs.Content.{text_once}
 use Rattle.block_merging.specs.Inputs.{LiesWithin, HasContent, AreTaken, taken}
@@ -30,8 +31,7 @@ use Rattle.block_merging.specs.MergedSeries.{AreMerged, Becomes, IsMergedSeries}
 use Rattle.block_merging.specs.MergedBlock.{has_labels, chunks_under, AreMerges, IsMergedPut}
 use Rattle.block_merging.proofs.Grouping.{same_labels}
 use Rattle.block_merging.proofs.OneMerge.{first_labels, one_triples}
-use Rattle.block_merging.proofs.Merged.{is_timed}
-use Rattle.block_merging.proofs.OneCut.{IsTimed, runs_once}
+use Rattle.block_merging.proofs.OneCut.{IsTimed, runs_once, some_member}
 use Rattle.block_merging.proofs.SameLists.{same_lists, each_once}
 use Rattle.block_merging.proofs.StoredInputs.{index_once, taken_stored}
 
@@ -94,13 +94,9 @@ compare_labels_of p q = compare_sets p.labels q.labels
 no_labels_turn : (p q : PutSeries) → compare_labels_of p q ≡ Less → compare_labels_of q p ≡ Less → ⊥
 no_labels_turn p q less more = let e : Less ≡ Equal = sym (sets_total.trans p.labels q.labels p.labels less more) ∙ set_itself p.labels in absurd cc
 
-pub first_chunk : (xs : List PutChunk) → xs ≢ [] → (x : PutChunk) × Contains xs x
-first_chunk [] some = absurd (some refl)
-first_chunk (x ∷ xs) some = (x, contains_first x xs)
-
 some_chunk : (labels : List Label) (all : List PutSeries) → chunks_under labels all ≢ [] → (s : PutSeries) × Contains all s × (s.labels ≡ labels) × (s.chunks ≢ [])
 some_chunk labels all some =
-    let c = first_chunk (chunks_under labels all) some in
+    let c = some_member (chunks_under labels all) some in
     let s = of_flat_map (λ (x : PutSeries). x.chunks) (filter (has_labels labels) all) c.0 c.1 in
     (s.0, of_filter (has_labels labels) all s.0 s.1, same_labels (s.0).labels labels (member_passes (has_labels labels) all s.0 s.1), λ none. no_member c.0 (subst (λ l. Contains l c.0) none s.2))
 
@@ -137,7 +133,7 @@ taken_once external replicas (block ∷ blocks) all other bytes (series, others,
 
 module _ (plan : BlockPlan) (replicas : List (List ℕ)) (blocks : List BlockFiles) (lie : AllByRecursion (LiesWithin plan) blocks) (bytes : AllByRecursion (λ block. IsBytes block.index) blocks) where
   pub all_timed : (all : List PutSeries) → AllByRecursion HasContent blocks → AreTaken plan.labels replicas blocks all → (s : PutSeries) (c : PutChunk) → Contains all s → Contains s.chunks c → IsTimed c
-  all_timed all held are s c among here = is_timed (plan_fields plan) c (taken_stored plan replicas blocks all s c lie held bytes are among here)
+  all_timed all held are s c among here = data_rise (plan_fields plan) c (taken_stored plan replicas blocks all s c lie held bytes are among here)
 
   pub puts_once : (put other : Put) → IsMergedPut plan replicas blocks put → IsMergedPut plan replicas blocks other → put.series ≡ other.series
   puts_once put other is too =

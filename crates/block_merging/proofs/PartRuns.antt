@@ -10,8 +10,9 @@ use Rattle.xor_chunks.specs.Written.{AreOfChunk}
 use Rattle.block_writing.specs.Put.{PutChunk, Put, IsWithin, IsAfterChunks, with_chunk}
 use Rattle.block_writing.specs.Built.{IsEncoded, AreOfBlock, BeginAfter}
 use Rattle.block_writing.proofs.Parts.{SoFar, none_yet, part_within, of_chunk, part_more, has_chunks}
-use Rattle.block_writing.proofs.Runs.{ends}
-use Rattle.list_core.proofs.Membership.{no_member, contains_first, contains_later, member_cases, each_member, contains_place, of_map, into_flat_map}
+use Rattle.list_core.proofs.Membership.{contains_first, each_member, contains_place, of_map, into_flat_map}
+use Rattle.list_core.proofs.Pairs.{AllZip-first}
+use Rattle.list_core.proofs.Lists.{last_or_none}
 use Rattle.block_writing.proofs.PutLaws.{after_last, behind_last}
 use Rattle.block_merging.specs.Steps.{joined, HasParts}
 
@@ -56,19 +57,10 @@ run_more begin samples left part after now new k h some few part_is after_is (ch
 
 -- ---- all parts were put
 
-pub each_back : {A B : Type 0} (R : A → B → Type 0) (xs : List A) (ys : List B) (y : B) → AllZip R xs ys → Contains ys y → (x : A) × Contains xs x × R x y
-each_back R [] [] y each among = absurd (no_member y among)
-each_back R [] (z ∷ ys) y each among = absurd each
-each_back R (x ∷ xs) [] y each among = absurd each
-each_back {A} {B} R (x ∷ xs) (z ∷ ys) y each among = elim (member_cases z y ys among) [
-  | inl is ↦ (x, contains_first x xs, subst (R x) is each.0)
-  | inr later ↦ let w = each_back R xs ys y each.1 later in (w.0, contains_later x w.0 xs w.1, w.2)
-]
-
 -- the chunk ends at the time of one of the samples
 ends_at : (parts : List (List Sample)) (made : List PutChunk) (chunk : PutChunk) → AllZip IsEncoded parts made → Contains made chunk → (s : Sample) × Contains (joined parts) s × (s.time ≡ chunk.max)
 ends_at parts made chunk each among =
-    let w = each_back IsEncoded parts made chunk each among in
+    let w = AllZip-first IsEncoded parts made chunk each among in
     let at = of_map (λ (s : Sample). s.time) w.0 chunk.max (contains_place (map (λ (s : Sample). s.time) w.0) (length w.0 - 1) chunk.max w.2.ends) in
     (at.0, into_flat_map (λ (p : List Sample). p) parts w.0 at.0 w.1 at.1, at.2)
 
@@ -86,7 +78,7 @@ run_done begin samples left now are h none =
       series_are = h.so_far.series_is;
       chunks_are = h.chunks_are;
       samples_are = omega (arith, h.so_far.samples_is, ap length whole);
-      behind = λ time all. elim (ends h.made) [
+      behind = λ time all. elim (last_or_none h.made) [
         | inl nothing ↦ absurd (has_chunks (with_only begin []) samples left (with_only now h.made) h.so_far none are nothing)
         | inr (front, last, e) ↦
             let at = ends_at h.so_far.parts h.made last h.so_far.chunks (subst (λ (l : List PutChunk). Contains l last) (sym e) (Contains-append_right front (last ∷ []) last (contains_first last []))) in

@@ -8,11 +8,11 @@ use Rattle.label_sets.specs.declared.label.Label.{Label}
 use Rattle.label_sets.specs.declared.sample.Sample.{Sample}
 use Rattle.xor_chunks.specs.Grammar.{IsText}
 use Rattle.block_writing.specs.Put.{PutChunk, Put, IsStored, IsAfterChunks, with_chunk}
-use Rattle.block_writing.proofs.Placed.{each_append}
 use Rattle.block_writing.proofs.PutLaws.{behind_last}
 use Rattle.block_merging.specs.declared.placed_chunk.PlacedChunk.{PlacedChunk}
 use Rattle.block_merging.specs.Placed.{placed_chunk}
 use Rattle.block_merging.specs.Steps.{StandsFor, joined, HasRun}
+use Rattle.list_core.proofs.Pairs.{AllZip-append}
 
 pub alone_put : {U E : Type 0} (r : Result U E) (old new : Put) (labels : List Label) (chunk : PutChunk) → IsStored old.plan chunk
     → ((samples : List Sample) → IsText 8 chunk.content samples → OnOk r (new ≡ with_chunk old chunk (length samples))) → OnOk r (HasRun old labels (chunk ∷ []) new)
@@ -52,6 +52,6 @@ read_more chunks k d samples new lt h (read, text, is) =
     let mapped : map placed_chunk (take (k + 1) chunks) ≡ map placed_chunk (take k chunks) ++ placed_chunk (get_or chunks k d) ∷ [] = ap (map placed_chunk) split ∙ map-append placed_chunk (take k chunks) (get_or chunks k d ∷ []) in
     record {
       parts = h.parts ++ read ∷ [];
-      are = subst (λ (l : List PutChunk). AllZip StandsFor l (h.parts ++ read ∷ [])) (sym mapped) (each_append StandsFor (map placed_chunk (take k chunks)) (placed_chunk (get_or chunks k d) ∷ []) h.parts (read ∷ []) h.are (text, tt));
+      are = subst (λ (l : List PutChunk). AllZip StandsFor l (h.parts ++ read ∷ [])) (sym mapped) (AllZip-append StandsFor (map placed_chunk (take k chunks)) (placed_chunk (get_or chunks k d) ∷ []) h.parts (read ∷ []) h.are (text, tt));
       whole = is ∙ ap (λ (l : List Sample). l ++ read) h.whole ∙ sym (flat_more h.parts read);
     }

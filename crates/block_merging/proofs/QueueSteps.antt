@@ -5,7 +5,7 @@ use Rattle.std.specs.Cmp.{IsStrictWeakOrder}
 use Rattle.std.specs.List.{AllByRecursion}
 use Rattle.std.specs.List.Sorted.{IsStrictlyIncreasing}
 use Rattle.std.specs.Ordering.{is_lt, is_eq}
-use Rattle.std.proofs.lemmas.Bool.{lt-ltb, le-ltb, cases_lt, true≢false}
+use Rattle.std.proofs.lemmas.Bool.{lt-ltb, le-ltb, cases_lt, true≢false, and_parts}
 use Rattle.std.proofs.lemmas.List.{map-append, take_more, take_all, drop_more, drop_all, length-map}
 use Rattle.std.proofs.lemmas.List.Sorted.{ranks_by}
 use Rattle.std.proofs.lemmas.Grind.{flat_map-append}
@@ -257,17 +257,12 @@ next_is_least external replicas queue labels same lt is rises =
 
 -- ---- taking from the front
 
-both_true : (a b : Bool) → (a && b) ≡ true → (a ≡ true) × (b ≡ true)
-both_true true true e = (refl, refl)
-both_true true false e = absurd (true≢false (sym e))
-both_true false b e = absurd (true≢false (sym e))
-
 lt_of : (a b : ℕ) → nat_lt a b ≡ true → a < b
 lt_of a b e = elim (cases_lt a b) [ inl lt ↦ lt | inr le ↦ absurd (true≢false (sym e ∙ le-ltb a b le)) ]
 
 pub has_next_told : (queue : SeriesQueue) (labels : List Label) (b : Bool) → head_is queue labels b → b ≡ true → (queue.taken < length queue.places.items) × (labels_in queue ≡ labels)
 has_next_told queue labels b is t =
-    let p = both_true (nat_lt queue.taken (length queue.places.items)) (is_eq (compare_sets (labels_in queue) labels)) (sym is ∙ t) in
+    let p = and_parts (nat_lt queue.taken (length queue.places.items)) (is_eq (compare_sets (labels_in queue) labels)) (sym is ∙ t) in
     (lt_of queue.taken (length queue.places.items) p.0, same_labels (labels_in queue) labels p.1)
 
 -- what was taken so far

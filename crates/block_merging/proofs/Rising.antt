@@ -18,7 +18,7 @@ times samples = map (λ (s : Sample). s.time) samples
 abbrev pub AllAfter : ℤ → List Sample → Type 0
 AllAfter time samples = AllByRecursion (λ t. int_cmp time t ≡ Less) (times samples)
 
-less_time : (a b : ℤ) → a <ℤ b → int_cmp a b ≡ Less
+pub less_time : (a b : ℤ) → a <ℤ b → int_cmp a b ≡ Less
 less_time a b h = grind (arith, ints)
 
 later : (a b : ℤ) (delta : ℕ) → Follows a b delta → int_cmp a b ≡ Less

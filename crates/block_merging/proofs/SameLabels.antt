@@ -7,8 +7,9 @@ use Rattle.std.specs.Cmp.Lexicographic.{texts_ties}
 use Rattle.std.specs.Str.{bytes_eq}
 use Rattle.std.proofs.lemmas.List.{take_more, take_all, length-map, length-take-le}
 use Rattle.list_core.proofs.Lists.{take_none}
+use Rattle.list_core.proofs.Bools.{Equal-from_is_eq}
 use Rattle.label_sets.specs.Labels.{compare_texts, compare_labels, compare_sets}
-use Rattle.vertical_merge.proofs.Orders.{same_set, is_equal}
+use Rattle.vertical_merge.proofs.Orders.{same_set}
 use Rattle.index_v2.specs.declared.lent_label.LentLabel.{LentLabel}
 use Rattle.index_v2.specs.LentLabels.{as_label}
 
@@ -104,4 +105,4 @@ untied true h = absurd (h refl)
 untied false h = refl
 
 pub not_as_many : (one other : List LentLabel) → length one ≢ length other → false ≡ are_tied one other
-not_as_many one other apart = untied (are_tied one other) (λ tied. apart (sym (length-map one as_label) ∙ ap length (same_set (map as_label one) (map as_label other) (is_equal (compare_sets (map as_label one) (map as_label other)) tied)) ∙ length-map other as_label))
+not_as_many one other apart = untied (are_tied one other) (λ tied. apart (sym (length-map one as_label) ∙ ap length (same_set (map as_label one) (map as_label other) (Equal-from_is_eq (compare_sets (map as_label one) (map as_label other)) tied)) ∙ length-map other as_label))

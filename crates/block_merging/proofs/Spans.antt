@@ -1,5 +1,5 @@
 -- Chunks in the order of their begins that fall into parts which lie apart: each part is a run.
-use Rattle.std.proofs.Common.{◌≡◌, ◌≢◌, Bool, true, false, ◌&&◌, List, [], ◌∷◌, ◌++◌, map, refl, sym, ap, ◌∙◌, subst, arith, inl, inr, ℤ, append_assoc}
+use Rattle.std.proofs.Common.{◌≡◌, ◌≢◌, Bool, true, false, List, [], ◌∷◌, ◌++◌, map, refl, sym, ap, ◌∙◌, subst, arith, inl, inr, ℤ, append_assoc}
 use Rattle.std.specs.Prelude.{Any, Contains, int_le, ◌≤ℤ◌, ◌<ℤ◌}
 use Rattle.std.specs.Cmp.{IsStrictWeakOrder}
 use Rattle.std.specs.List.{AllByRecursion, AllPairs, filter, flat_map}
@@ -7,16 +7,17 @@ use Rattle.std.proofs.lemmas.Int.{ints, by_lt_z}
 use Rattle.std.proofs.lemmas.List.{append-nil, map-append}
 use Rattle.std.proofs.lemmas.List.Elements.{All-from_recursion, filter-append, Contains-append_left, Contains-append_right, Contains-append_cases}
 use Rattle.std.proofs.lemmas.List.Kept.{AllPairs-cons}
-use Rattle.std.proofs.lemmas.Bool.{and_from}
+use Rattle.std.proofs.lemmas.Bool.{and_from, and_left, and_right}
 use Rattle.list_core.specs.Ordered.{in_order}
-use Rattle.list_core.proofs.Lists.{AllByRecursion-append, AllByRecursion-weaker}
-use Rattle.list_core.proofs.Membership.{no_member, contains_first, contains_later, each_member, all_members, of_in_order, into_in_order, of_map, into_map}
-use Rattle.list_core.proofs.StableSorts.{filter_hit, filter_miss}
+use Rattle.list_core.proofs.Lists.{AllByRecursion-append, AllByRecursion-weaker, filter-map, AllByRecursion-append_right}
+use Rattle.list_core.proofs.Membership.{no_member, contains_first, contains_later, each_member, all_members, of_in_order, into_in_order, of_map, into_map, filter_whole, filter_nothing}
+use Rattle.list_core.proofs.Integers.{le_itself}
 use Rattle.block_writing.specs.Put.{PutChunk}
 use Rattle.block_merging.specs.Runs.{AreConnected, Span, lies_in, AreRuns}
 use Rattle.block_merging.specs.Steps.{EndBefore}
-use Rattle.block_merging.proofs.Filters.{Ascends, filter-map, filter_in_order, ascends-filter, put_back}
+use Rattle.block_merging.proofs.Filters.{Ascends, filter_in_order, ascends-filter, put_back}
 use Rattle.block_merging.proofs.Chains.{any_of, member_of}
+use Rattle.block_merging.proofs.Sweeps.{weaken}
 
 -- it ends where it begins or later
 abbrev pub IsTimed : PutChunk → Type 0
@@ -46,27 +47,21 @@ record IsGreatestOf (chunks : List PutChunk) (end : ℤ) : Type 0 where
   last_in : Contains chunks last
   last_is : last.max ≡ end
 
-itself : (a : ℤ) → a ≤ℤ a
-itself a = omega (arith, ints)
-
 weaker_low : (a b : ℤ) → a ≤ℤ b → (x : PutChunk) → b ≤ℤ x.min → a ≤ℤ x.min
 weaker_low a b le x h = omega (arith, ints)
 
 weaker_high : (a b : ℤ) → a ≤ℤ b → (x : PutChunk) → x.max ≤ℤ a → x.max ≤ℤ b
 weaker_high a b le x h = omega (arith, ints)
 
-le_from_lt : (a b : ℤ) → a <ℤ b → a ≤ℤ b
-le_from_lt a b h = omega (arith, ints)
-
 least_of : (c : PutChunk) (cs : List PutChunk) → (begin : ℤ) × IsLeastOf (c ∷ cs) begin
-least_of c [] = (c.min, record { low = (itself c.min, tt); first = c; first_in = contains_first c []; first_is = refl })
+least_of c [] = (c.min, record { low = (le_itself c.min, tt); first = c; first_in = contains_first c []; first_is = refl })
 least_of c (d ∷ ds) =
     let others = least_of d ds in
     by_lt_z c.min others.0
     (λ lt. (
       c.min,
       record {
-        low = (itself c.min, AllByRecursion-weaker (λ (x : PutChunk). others.0 ≤ℤ x.min) (λ (x : PutChunk). c.min ≤ℤ x.min) (weaker_low c.min others.0 (le_from_lt c.min others.0 lt)) (d ∷ ds) others.1.low);
+        low = (le_itself c.min, AllByRecursion-weaker (λ (x : PutChunk). others.0 ≤ℤ x.min) (λ (x : PutChunk). c.min ≤ℤ x.min) (weaker_low c.min others.0 (weaken c.min others.0 lt)) (d ∷ ds) others.1.low);
         first = c;
         first_in = contains_first c (d ∷ ds);
         first_is = refl;
@@ -75,14 +70,14 @@ least_of c (d ∷ ds) =
     (λ le. (others.0, record { low = (le, others.1.low); first = others.1.first; first_in = contains_later c others.1.first (d ∷ ds) others.1.first_in; first_is = others.1.first_is }))
 
 greatest_of : (c : PutChunk) (cs : List PutChunk) → (end : ℤ) × IsGreatestOf (c ∷ cs) end
-greatest_of c [] = (c.max, record { high = (itself c.max, tt); last = c; last_in = contains_first c []; last_is = refl })
+greatest_of c [] = (c.max, record { high = (le_itself c.max, tt); last = c; last_in = contains_first c []; last_is = refl })
 greatest_of c (d ∷ ds) =
     let others = greatest_of d ds in
     by_lt_z others.0 c.max
     (λ lt. (
       c.max,
       record {
-        high = (itself c.max, AllByRecursion-weaker (λ (x : PutChunk). x.max ≤ℤ others.0) (λ (x : PutChunk). x.max ≤ℤ c.max) (weaker_high others.0 c.max (le_from_lt others.0 c.max lt)) (d ∷ ds) others.1.high);
+        high = (le_itself c.max, AllByRecursion-weaker (λ (x : PutChunk). x.max ≤ℤ others.0) (λ (x : PutChunk). x.max ≤ℤ c.max) (weaker_high others.0 c.max (weaken others.0 c.max lt)) (d ∷ ds) others.1.high);
         last = c;
         last_in = contains_first c (d ∷ ds);
         last_is = refl;
@@ -97,18 +92,11 @@ span_exists (c ∷ cs) some =
     let g = greatest_of c cs in
     (record { begin = l.0; end = g.0 }, record { low = l.1.low; high = g.1.high; first = l.1.first; first_in = l.1.first_in; first_is = l.1.first_is; last = g.1.last; last_in = g.1.last_in; last_is = g.1.last_is })
 
-le_true : (a b : ℤ) → a ≤ℤ b → int_le a b ≡ true
+pub le_true : (a b : ℤ) → a ≤ℤ b → int_le a b ≡ true
 le_true a b h = grind (arith, ints)
 
-le_false : (a b : ℤ) → b <ℤ a → int_le a b ≡ false
+pub le_false : (a b : ℤ) → b <ℤ a → int_le a b ≡ false
 le_false a b h = grind (arith, ints)
-
-and_first : (a b : Bool) → a ≡ false → (a && b) ≡ false
-and_first a b e = ap (λ x. x && b) e
-
-and_second : (a b : Bool) → b ≡ false → (a && b) ≡ false
-and_second true b e = e
-and_second false b e = refl
 
 lies : (chunks : List PutChunk) (span : Span) (x : PutChunk) → IsSpanOf chunks span → Contains chunks x → lies_in span x ≡ true
 lies chunks span x is among =
@@ -124,12 +112,12 @@ above_end a b c d e h k = omega (arith, ints)
 -- what ends before, and what begins behind
 earlier_out : (chunks : List PutChunk) (span : Span) (x : PutChunk) → IsSpanOf chunks span → IsTimed x → AllByRecursion (λ (y : PutChunk). x.max <ℤ y.min) chunks → lies_in span x ≡ false
 earlier_out chunks span x is timed before =
-    and_first (int_le span.begin x.min) (int_le x.max span.end) (le_false span.begin x.min
+    and_left (int_le span.begin x.min) (int_le x.max span.end) (le_false span.begin x.min
     (below_begin x.min x.max is.first.min span.begin timed (each_member (λ (y : PutChunk). x.max <ℤ y.min) chunks is.first before is.first_in) is.first_is))
 
 later_out : (chunks : List PutChunk) (span : Span) (x : PutChunk) → IsSpanOf chunks span → IsTimed x → ((y : PutChunk) → Contains chunks y → y.max <ℤ x.min) → lies_in span x ≡ false
 later_out chunks span x is timed behind =
-    and_second (int_le span.begin x.min) (int_le x.max span.end) (le_false x.max span.end
+    and_right (int_le span.begin x.min) (int_le x.max span.end) (le_false x.max span.end
     (above_end is.last.max span.end x.min x.max is.last_is (behind is.last is.last_in) timed))
 
 between_ends : (a b c d : ℤ) → a ≡ b → a <ℤ c → c ≡ d → b <ℤ d
@@ -137,20 +125,6 @@ between_ends a b c d e h f = omega (arith, ints)
 
 ends_begin : (chunks : List PutChunk) (span : Span) (x : PutChunk) (behind : Span) → IsSpanOf chunks span → x.min ≡ behind.begin → ((y : PutChunk) → Contains chunks y → y.max <ℤ x.min) → span.end <ℤ behind.begin
 ends_begin chunks span x behind is begin before = between_ends is.last.max span.end x.min behind.begin is.last_is (before is.last is.last_in) begin
-
--- ---- filters
-
-filter_whole : {A : Type 0} (p : A → Bool) (xs : List A) → ((x : A) → Contains xs x → p x ≡ true) → filter p xs ≡ xs
-filter_whole p [] all = refl
-filter_whole p (x ∷ xs) all = filter_hit p x xs (all x (contains_first x xs)) ∙ ap (λ l. x ∷ l) (filter_whole p xs (λ y m. all y (contains_later x y xs m)))
-
-filter_nothing : {A : Type 0} (p : A → Bool) (xs : List A) → ((x : A) → Contains xs x → p x ≡ false) → filter p xs ≡ []
-filter_nothing p [] all = refl
-filter_nothing p (x ∷ xs) all = filter_miss p x xs (all x (contains_first x xs)) ∙ filter_nothing p xs (λ y m. all y (contains_later x y xs m))
-
-all_behind : {A : Type 0} (P : A → Type 0) (xs ys : List A) → AllByRecursion P (xs ++ ys) → AllByRecursion P ys
-all_behind P [] ys all = all
-all_behind P (x ∷ xs) ys all = all_behind P xs ys all.1
 
 -- ---- parts that lie apart
 
@@ -228,7 +202,7 @@ module _ {A : Type 0} (of : A → PutChunk) (low : A → A → Bool) where
       let behind : EndBefore (map of part) (map of (joined parts)) = subst (λ l. EndBefore (map of part) (map of l)) (append-nil (joined parts)) swept.1 in
       let halves : EndBefore (map of front) (map of part ++ map of (joined parts)) = subst (EndBefore (map of front)) (map-append of part (joined parts)) before in
       let fronts : EndBefore (map of front) (map of (joined parts)) = AllByRecursion-weaker (λ (x : PutChunk). AllByRecursion (λ (y : PutChunk). x.max <ℤ y.min) (map of part ++ map of (joined parts))) (λ (x : PutChunk). AllByRecursion (λ (y : PutChunk). x.max <ℤ y.min) (map of (joined parts)))
-      (λ x all. all_behind (λ (y : PutChunk). x.max <ℤ y.min) (map of part) (map of (joined parts)) all) (map of front) halves in
+      (λ x all. AllByRecursion-append_right (λ (y : PutChunk). x.max <ℤ y.min) (map of part) (map of (joined parts)) all) (map of front) halves in
       let both : EndBefore (map of (front ++ part)) (map of (joined parts)) = subst (λ l. EndBefore l (map of (joined parts))) (sym (map-append of front part)) (end_before_both (map of front) (map of part) (map of (joined parts)) fronts behind) in
       let same : (front ++ part) ++ joined parts ≡ front ++ (part ++ joined parts) = append_assoc front part (joined parts) in
       let others = spans_of (front ++ part) parts (λ x m. timed x (subst (λ l. Contains l x) same m)) both swept.2 in

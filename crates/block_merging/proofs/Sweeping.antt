@@ -12,12 +12,14 @@ use Rattle.list_core.specs.Ordered.{in_order}
 use Rattle.list_core.proofs.Lists.{drop_none}
 use Rattle.list_core.proofs.Membership.{no_member, contains_first, contains_later, each_member, all_members, of_in_order, into_in_order, of_map, into_map}
 use Rattle.list_core.proofs.StableSorts.{NoneLess, Rises, Rises-in_order}
+use Rattle.list_core.proofs.Integers.{le_itself, lt_le}
+use Rattle.list_core.proofs.Pairs.{AllZip-append}
 use Rattle.label_sets.specs.declared.label.Label.{Label}
 use Rattle.label_sets.specs.declared.sample.Sample.{Sample}
 use Rattle.block_meta.specs.Lawful.{AreLawfulTimes}
 use Rattle.block_writing.specs.Put.{PlanFields, PutChunk, PutSeries, Put, IsStored, IsAfterChunks, IsAfterSeries, fitted, with_series}
 use Rattle.block_writing.specs.Built.{IsEncoded}
-use Rattle.block_writing.proofs.Placed.{each_append}
+use Rattle.block_writing.proofs.DataLaws.{data_rise}
 use Rattle.block_merging.specs.declared.input_chunk.InputChunk.{InputChunk}
 use Rattle.block_merging.specs.declared.placed_chunk.PlacedChunk.{PlacedChunk}
 use Rattle.block_merging.specs.Placed.{chunk_of, placed_chunk, placed_from, begins_before, stands_before, AreByBegin, IsFirstRun}
@@ -28,7 +30,6 @@ use Rattle.block_merging.proofs.Chains.{any_of, Chained, chained_crossed, connec
 use Rattle.block_merging.proofs.PlacedOrders.{begins_ranked, stands_ranked, places_ascend, chunks_placed}
 use Rattle.block_merging.proofs.Putting.{flat_more}
 use Rattle.block_merging.proofs.Spans.{Swept, swept_runs, joined_more}
-use Rattle.block_merging.proofs.Merged.{is_timed}
 
 get_same : (chunks : List PlacedChunk) (k : ℕ) (d e : PlacedChunk) → k < length chunks → get_or chunks k d ≡ get_or chunks k e
 get_same [] k d e lt = absurd (omega (arith, lt))
@@ -111,9 +112,6 @@ connected_front left n first =
       subst (λ (c : PlacedChunk). Meet (placed_chunk c) (placed_chunk (get_or (take n left) w.0 d))) (sym (get_or-take n left i d below))
           (subst (λ (c : PlacedChunk). Meet (placed_chunk (get_or left i d)) (placed_chunk c)) (sym (get_or-take n left w.0 d lower)) w.2),
     ))
-
-lt_le : (a b c : ℤ) → a <ℤ b → b ≤ℤ c → a <ℤ c
-lt_le a b c h k = omega (arith, ints)
 
 ended_one : (left : List PlacedChunk) (n : ℕ) (x y : PlacedChunk) → AreByBegin left → IsFirstRun left n → Contains (take n left) x → Contains (drop n left) y → x.chunk.max <ℤ y.chunk.min
 ended_one left n x y by first (k, k_lt, k_is) (j, j_lt, j_is) =
@@ -206,9 +204,9 @@ sweep_more begin now new labels sorted start n by h first has =
       whole = joined_more h.swept part (drop (start + n) sorted) ∙ ap (λ l. joined h.swept ++ l) split ∙ h.whole;
       apart = areswept_more h.swept part (drop (start + n) sorted) (subst (AreSwept h.swept) (sym split) h.apart) (connected_front left n first) ended;
       made = h.made ++ has.made ∷ [];
-      each = subst (λ (l : List (List PutChunk)). AllZip (Becomes labels) l (h.made ++ has.made ∷ [])) (sym (map-append run_in h.swept (part ∷ []))) (each_append (Becomes labels) (map run_in h.swept) (run_in part ∷ []) h.made (has.made ∷ []) h.each (has.becomes, tt));
+      each = subst (λ (l : List (List PutChunk)). AllZip (Becomes labels) l (h.made ++ has.made ∷ [])) (sym (map-append run_in h.swept (part ∷ []))) (AllZip-append (Becomes labels) (map run_in h.swept) (run_in part ∷ []) h.made (has.made ∷ []) h.each (has.becomes, tt));
       parts = h.parts ++ has.parts;
-      read = subst (λ (l : List PutChunk). AllZip StandsFor l (h.parts ++ has.parts)) (sym made_is) (each_append StandsFor (joined h.made) has.made h.parts has.parts h.read has.read);
+      read = subst (λ (l : List PutChunk). AllZip StandsFor l (h.parts ++ has.parts)) (sym made_is) (AllZip-append StandsFor (joined h.made) has.made h.parts has.parts h.read has.read);
       plan_is = has.plan_is ∙ h.plan_is;
       series_are = has.series_are ∙ h.series_are;
       chunks_are = has.chunks_are ∙ ap (λ (l : List PutChunk). l ++ has.made) h.chunks_are ∙ sym made_is;
@@ -261,9 +259,6 @@ none_at x [] k d none lt = absurd (omega (arith, lt))
 none_at x (y ∷ ys) zero d none lt = not_less y.chunk.min x.chunk.min none.0
 none_at x (y ∷ ys) (suc k) d none lt = none_at x ys k d none.1 (omega (arith, lt))
 
-le_itself : (a : ℤ) → a ≤ℤ a
-le_itself a = omega (arith, ints)
-
 rises_at : (xs : List PlacedChunk) (j k : ℕ) (d : PlacedChunk) → Rises begins_before xs → j ≤ k → k < length xs → (get_or xs j d).chunk.min ≤ℤ (get_or xs k d).chunk.min
 rises_at [] j k d rises le lt = absurd (omega (arith, lt))
 rises_at (x ∷ xs) zero zero d rises le lt = le_itself x.chunk.min
@@ -276,12 +271,12 @@ there xs k d lt = (k, lt, get_same xs k (get_or xs k d) d lt)
 
 pub sorted_by : (plan : PlanFields) (chunks : List InputChunk) (sorted : List PlacedChunk) → sorted ≡ in_order begins_before (placed_from 0 chunks) → AllByRecursion (IsStored plan) (map chunk_of chunks) → AreByBegin sorted
 sorted_by plan chunks sorted is stored = record {
-  timed = λ k d lt. is_timed plan (placed_chunk (get_or sorted k d)) (each_member (IsStored plan) (map placed_chunk sorted) (placed_chunk (get_or sorted k d)) (sorted_stored (IsStored plan) chunks sorted is stored) (into_map placed_chunk sorted (get_or sorted k d) (there sorted k d lt)));
+  timed = λ k d lt. data_rise plan (placed_chunk (get_or sorted k d)) (each_member (IsStored plan) (map placed_chunk sorted) (placed_chunk (get_or sorted k d)) (sorted_stored (IsStored plan) chunks sorted is stored) (into_map placed_chunk sorted (get_or sorted k d) (there sorted k d lt)));
   sorted = λ j k d le lt. rises_at sorted j k d (subst (Rises begins_before) (sym is) (Rises-in_order begins_before begins_ranked (placed_from 0 chunks))) le lt;
 }
 
 placed_stored : (plan : PlanFields) (chunks : List InputChunk) (x : PlacedChunk) → AllByRecursion (IsStored plan) (map chunk_of chunks) → Contains (placed_from 0 chunks) x → x.chunk.min ≤ℤ x.chunk.max
-placed_stored plan chunks x stored among = is_timed plan (placed_chunk x) (each_member (IsStored plan) (map placed_chunk (placed_from 0 chunks)) (placed_chunk x) (subst (AllByRecursion (IsStored plan)) (sym (chunks_placed 0 chunks)) stored) (into_map placed_chunk (placed_from 0 chunks) x among))
+placed_stored plan chunks x stored among = data_rise plan (placed_chunk x) (each_member (IsStored plan) (map placed_chunk (placed_from 0 chunks)) (placed_chunk x) (subst (AllByRecursion (IsStored plan)) (sym (chunks_placed 0 chunks)) stored) (into_map placed_chunk (placed_from 0 chunks) x among))
 
 all_runs : (old new : Put) (labels : List Label) (chunks : List InputChunk) (sorted : List PlacedChunk) → sorted ≡ in_order begins_before (placed_from 0 chunks) → AllByRecursion (IsStored old.plan) (map chunk_of chunks)
     → HasSwept old labels sorted new → HasRuns old labels (map chunk_of chunks) new

@@ -7,6 +7,7 @@ use borrow.Author.Count.{below_more}
 use Rattle.block_merging.specs.declared.placed_chunk.PlacedChunk.{PlacedChunk}
 use Rattle.block_merging.specs.Placed.{placed_chunk, AreByBegin}
 use Rattle.block_merging.specs.Runs.{Meet}
+use Rattle.list_core.proofs.Integers.{le_le}
 
 abbrev at : List PlacedChunk → ℕ → PlacedChunk → PlacedChunk
 at chunks k d = get_or chunks k d
@@ -20,9 +21,6 @@ pub record IsSwept (chunks : List PlacedChunk) (count : ℕ) (end : ℤ) : Type 
   pub last_before : 0 < count → last < count
   pub last_is : (d : PlacedChunk) → (at chunks last d).chunk.max ≡ end
 
-trans : (a b c : ℤ) → a ≤ℤ b → b ≤ℤ c → a ≤ℤ c
-trans a b c h k = omega (arith, ints)
-
 not_behind : (a b : ℤ) → int_lt a b ≡ false → b ≤ℤ a
 not_behind a b h = grind (arith, ints)
 
@@ -35,7 +33,7 @@ max_second a b new e lt = grind (arith, ints)
 le_itself : (a b : ℤ) → a ≡ b → a ≤ℤ b
 le_itself a b e = omega (arith, ints)
 
-weaken : (a b : ℤ) → a <ℤ b → a ≤ℤ b
+pub weaken : (a b : ℤ) → a <ℤ b → a ≤ℤ b
 weaken a b h = omega (arith, ints)
 
 get_same : (chunks : List PlacedChunk) (k : ℕ) (d e : PlacedChunk) → k < length chunks → at chunks k d ≡ at chunks k e
@@ -48,7 +46,7 @@ meets_last : (chunks : List PlacedChunk) (count : ℕ) (end : ℤ) (d : PlacedCh
     → Meet (placed_chunk (at chunks count d)) (placed_chunk (at chunks h.last d))
 meets_last chunks count end d h by within some before = (
   subst (λ (t : ℤ). (at chunks count d).chunk.min ≤ℤ t) (sym (h.last_is d)) before,
-  trans (at chunks h.last d).chunk.min (at chunks count d).chunk.min (at chunks count d).chunk.max (by.sorted h.last count d h.last_in within) (by.timed count d within),
+  le_le (at chunks h.last d).chunk.min (at chunks count d).chunk.min (at chunks count d).chunk.max (by.sorted h.last count d h.last_in within) (by.timed count d within),
 )
 
 pub swept_more : (chunks : List PlacedChunk) (count : ℕ) (end bits new told : ℤ) (d : PlacedChunk) (behind : Bool) → AreByBegin chunks → count < length chunks → IsSwept chunks count end → bits ≡ end
@@ -63,7 +61,7 @@ swept_more chunks count end bits new told d behind by within h same test near ne
     by_lt_z end (at chunks count d).chunk.max
     (λ lt. let now : told ≡ (at chunks count d).chunk.max = max_second end (at chunks count d).chunk.max told greater lt in record {
       chained = λ k e some below. chained k below e some;
-      below = λ k e below. below_more (λ k. (e : PlacedChunk) → (at chunks k e).chunk.max ≤ℤ told) count (λ k lower e. trans (at chunks k e).chunk.max end told (h.below k e lower) (subst (λ (t : ℤ). end ≤ℤ t) (sym now) (weaken end (at chunks count d).chunk.max lt)))
+      below = λ k e below. below_more (λ k. (e : PlacedChunk) → (at chunks k e).chunk.max ≤ℤ told) count (λ k lower e. le_le (at chunks k e).chunk.max end told (h.below k e lower) (subst (λ (t : ℤ). end ≤ℤ t) (sym now) (weaken end (at chunks count d).chunk.max lt)))
           (λ e. le_itself (at chunks count e).chunk.max told (ap (λ (c : PlacedChunk). c.chunk.max) (get_same chunks count e d within) ∙ sym now)) k below e;
       last = count;
       last_in = omega arith;

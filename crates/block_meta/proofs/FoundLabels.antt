@@ -11,7 +11,7 @@ use Rattle.label_sets.specs.declared.label.Label.{Label}
 use Rattle.label_sets.specs.declared.label_refusal.LabelRefusal.{LabelRefusal}
 use Rattle.label_sets.specs.Labels.{compare_texts, IsLabelSet, has_lesser_name, value_of, added}
 use Rattle.label_sets.specs.Ordered.{placed}
-use Rattle.label_sets.proofs.LabelValues.{compare_self, before_differs, by_ordering, same_text, value_hit, value_miss, value_nil, same_sets}
+use Rattle.label_sets.proofs.LabelValues.{compare_self, before_differs, same_text, value_hit, value_miss, value_nil, same_sets}
 use Rattle.label_sets.proofs.OrderedLabels.{value_of-placed, IsLabelSet-placed}
 use Rattle.serde_json.specs.Data.{Data, string, Members, no_members, member}
 use Rattle.serde_json.specs.Find.{get_member, as_object}
@@ -20,11 +20,12 @@ use Rattle.block_meta.specs.Members.{of_kind}
 use Rattle.block_meta.specs.MetaReading.{label_added, labels_from}
 use Rattle.block_meta.specs.MetaText.{NamesDiffer, AreLabels}
 use Rattle.block_meta.proofs.Found.{IsReadAs, text, members_found as object_members_found}
+use Rattle.list_core.proofs.Bools.{by_order}
 
 -- ---- members by name
 
 pub same_or_not : (a b : List ℕ) → (a ≡ b) ⊎ (a ≢ b)
-same_or_not a b = by_ordering _ (λ e. inr (before_differs a b e)) (λ e. inl (same_text a b e)) (λ e. inr (λ h. let f = subst (λ n. compare_texts a n ≡ Equal) h (compare_self a) in cc))
+same_or_not a b = by_order _ (λ e. inr (before_differs a b e)) (λ e. inl (same_text a b e)) (λ e. inr (λ h. let f = subst (λ n. compare_texts a n ≡ Equal) h (compare_self a) in cc))
 
 member_hit : (name : List ℕ) (value : Data) (others : Members) → get_member name (member name value others) ≡ Some value
 member_hit _ _ _ = rw compare_self refl

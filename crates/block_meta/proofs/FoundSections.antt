@@ -1,9 +1,9 @@
 -- What is read of a section stands in it, and what stands in it is read.
-use Rattle.std.proofs.Common.{◌≡◌, ℕ, ℤ, pos, ◌<◌, ◌^◌, List, [], Bool, true, false, ltb, Option, Some, Ok, inl, inr, refl, ap, arith, codes}
+use Rattle.std.proofs.Common.{◌≡◌, ℕ, ℤ, pos, ◌<◌, ◌^◌, List, [], true, ltb, Option, Some, Ok, inl, inr, refl, ap, arith, codes}
 use Rattle.std.specs.Option.{ok_or}
-use Rattle.std.proofs.Math.Dec.{T}
 use Rattle.std.proofs.lemmas.Bool.{and_parts}
 use Rattle.std.proofs.lemmas.Bool.Decides.{nat_tests}
+use Rattle.std.proofs.lemmas.Float.{T_from_true}
 use Rattle.reading_core.specs.Reading.{◌>>=◌}
 use Rattle.reading_core.proofs.Bound.{OfValue, of_ok, of_err, of_weaker, of_bind, of_then, of_unless}
 use Rattle.serde_json.specs.Data.{Data, null, boolean, number, string, array, object}
@@ -76,16 +76,12 @@ module _ {A : Type 0} {read : Data → Read A} {Is : Data → A → Type 0} (nam
 
 -- ---- times
 
-truly : (b : Bool) → b ≡ true → T b
-truly true e = tt
-truly false e = absurd cc
-
 lawful_found : (min max : ℤ) → are_lawful_times min max ≡ true → AreLawfulTimes min max
 unfolding are_lawful_times
 lawful_found _ _ e =
     let p = and_parts _ _ e in
     let q = and_parts _ _ p.0 in
-    record { early = record { le = truly _ q.0 }; ascend = record { lt = truly _ q.1 }; late = record { le = truly _ p.1 } }
+    record { early = record { le = T_from_true _ q.0 }; ascend = record { lt = T_from_true _ q.1 }; late = record { le = T_from_true _ p.1 } }
 
 -- the two times of a meta
 pub record HasTimes (value : Data) (times : Times) : Type 0 where

@@ -6,10 +6,10 @@ use Rattle.block_meta.specs.Lawful.{AreLawfulTimes}
 use Rattle.block_meta.specs.MetaFields.{MetaFields, fields_of}
 use Rattle.block_meta.specs.declared.meta.Meta.{Meta}
 
-times_prop : (min max : ℤ) → IsProp (AreLawfulTimes min max)
+pub times_prop : (min max : ℤ) → IsProp (AreLawfulTimes min max)
 times_prop _ _ = hlevel props
 
-distinct_prop : (sources : List ℕ) → IsProp (IsStrictlyIncreasing sources)
+pub distinct_prop : (sources : List ℕ) → IsProp (IsStrictlyIncreasing sources)
 distinct_prop _ = hlevel props
 
 abbrev meta_made : (f : MetaFields) → AreLawfulTimes f.min_time f.max_time → IsStrictlyIncreasing f.sources → Meta

@@ -8,6 +8,7 @@ use Rattle.std.proofs.lemmas.List.Sums.{sum_by-append}
 use Rattle.std.proofs.lemmas.Option.{slice_get-map, slice_get_within}
 use Rattle.list_core.proofs.Lists.{slice_get-take}
 use Rattle.list_core.proofs.Order.{Less-at_places}
+use Rattle.list_core.proofs.Pairs.{AllZip-append}
 use Rattle.label_sets.specs.Counts.{sample_count}
 use Rattle.label_sets.specs.Labels.{compare_sets}
 use Rattle.label_sets.specs.declared.label.Label.{Label}
@@ -20,14 +21,13 @@ use Rattle.block_files.specs.declared.build_refusal.BuildRefusal.{BuildRefusal}
 use Rattle.block_writing.specs.Writing.{plan_fields}
 use Rattle.block_writing.specs.WrittenMeta.{IsWritten}
 use Rattle.block_writing.specs.Built.{AreOfBlock, AreBuildable, IsPutAs, HasMore, IsPutOf, IsBuilt}
-use Rattle.block_writing.proofs.Placed.{each_append}
 
 -- ---- lists
 
 same_some : {B : Type 0} (z y : B) → ◌≡◌ {A = Option B} (Some z) (Some y) → z ≡ y
 same_some z y e = cc
 
-one_sum : (one : Series) → sum_by (λ (s : Series). length s.samples) (one ∷ []) ≡ length one.samples
+pub one_sum : (one : Series) → sum_by (λ (s : Series). length s.samples) (one ∷ []) ≡ length one.samples
 one_sum one = let e : 0 + length one.samples ≡ length one.samples = omega arith in e
 
 each_got : {A B : Type 0} (R : A → B → Type 0) (xs : List A) (ys : List B) (k : ℕ) (y : B) → AllZip R xs ys → slice_get ys k ≡ Some y → (x : A) × (slice_get xs k ≡ Some x) × R x y
@@ -92,7 +92,7 @@ pub one_more : (plan : PlanFields) (series : List Series) (k : ℕ) (one d : Ser
 unfolding sample_count
 one_more plan series k one d now new within at h more =
     let split : take (k + 1) series ≡ take k series ++ one ∷ [] = take_more series k d within ∙ ap (λ (s : Series). take k series ++ s ∷ []) (sym at) in
-    let are : AllZip IsPutAs (take k series ++ one ∷ []) (now.series ++ more.put ∷ []) = each_append IsPutAs (take k series) (one ∷ []) now.series (more.put ∷ []) h.series_are (more.put_is, tt) in
+    let are : AllZip IsPutAs (take k series ++ one ∷ []) (now.series ++ more.put ∷ []) = AllZip-append IsPutAs (take k series) (one ∷ []) now.series (more.put ∷ []) h.series_are (more.put_is, tt) in
     let sum : sum_by (λ (s : Series). length s.samples) (take (k + 1) series) ≡ sum_by (λ (s : Series). length s.samples) (take k series) + length one.samples =
     ap (sum_by (λ (s : Series). length s.samples)) split ∙ sum_by-append (λ (s : Series). length s.samples) (take k series) (one ∷ []) ∙ ap (λ (n : ℕ). sum_by (λ (s : Series). length s.samples) (take k series) + n) (one_sum one) in
     record {

@@ -74,7 +74,7 @@ data_fit plan chunk h =
 
 -- ---- times
 
-same_some : (s t : ℤ) → ◌≡◌ {A = Option ℤ} (Some s) (Some t) → s ≡ t
+pub same_some : (s t : ℤ) → ◌≡◌ {A = Option ℤ} (Some s) (Some t) → s ≡ t
 same_some s t e = cc
 
 abbrev times : List Sample → List ℤ

@@ -3,19 +3,15 @@ use Rattle.std.proofs.Common.{◌≡◌, ℕ, zero, suc, ◌+◌, ◌/◌, ◌%�
 use Rattle.std.specs.Str.{IsUtf8, IsAscii}
 use Rattle.std.proofs.lemmas.List.{take_more, length-take}
 use Rattle.std.proofs.lemmas.Str.{IsUtf8-from_ascii}
-use Rattle.std.proofs.lemmas.Str.Ascii.{IsAscii-nil}
+use Rattle.std.proofs.lemmas.Str.Ascii.{IsAscii-nil, IsAscii-cons}
 use Rattle.block_keys.specs.KeyText.{six_digits}
 use Rattle.block_keys.proofs.NameText.{six_digits-is}
 use Rattle.block_meta.specs.declared.file_size.FileSize.{FileSize}
 use Rattle.block_writing.specs.WrittenMeta.{segment_size, sizes_from, names_from}
 
-ascii_cons : (x : ℕ) (xs : List ℕ) → x < 128 → IsAscii xs → IsAscii (x ∷ xs)
-ascii_cons x xs low all zero = low
-ascii_cons x xs low all (suc i) = all i
-
 six_ascii : (a b c d e f : ℕ) → a < 128 → b < 128 → c < 128 → d < 128 → e < 128 → f < 128 → IsAscii (a ∷ b ∷ c ∷ d ∷ e ∷ f ∷ [])
 six_ascii a b c d e f la lb lc ld le lf =
-    ascii_cons a (b ∷ c ∷ d ∷ e ∷ f ∷ []) la (ascii_cons b (c ∷ d ∷ e ∷ f ∷ []) lb (ascii_cons c (d ∷ e ∷ f ∷ []) lc (ascii_cons d (e ∷ f ∷ []) ld (ascii_cons e (f ∷ []) le (ascii_cons f [] lf IsAscii-nil)))))
+    IsAscii-cons a (b ∷ c ∷ d ∷ e ∷ f ∷ []) la (IsAscii-cons b (c ∷ d ∷ e ∷ f ∷ []) lb (IsAscii-cons c (d ∷ e ∷ f ∷ []) lc (IsAscii-cons d (e ∷ f ∷ []) ld (IsAscii-cons e (f ∷ []) le (IsAscii-cons f [] lf IsAscii-nil)))))
 
 pub IsUtf8-six_digits : (number : ℕ) → IsUtf8 (six_digits number)
 IsUtf8-six_digits number =

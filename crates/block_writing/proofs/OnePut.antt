@@ -19,6 +19,7 @@ use Rattle.block_writing.specs.Files.{HaveNoIndex}
 use Rattle.block_writing.specs.Built.{IsPart, IsEncoded, IsPutAs, IsBuilt, HaveNoBlock}
 use Rattle.block_writing.proofs.OneText.{cut_once}
 use Rattle.block_writing.proofs.Finished.{refused_where}
+use Rattle.block_writing.proofs.DataLaws.{same_some}
 
 -- ---- parts
 
@@ -48,14 +49,11 @@ same_bytes (x ∷ xs) (y ∷ ys) are too e =
     let tails : bits_in xs ≡ bits_in ys = sym (drop_at (bits_of 8 x) (bits_in xs) 8 (length-bits_of 8 x)) ∙ ap (drop 8) e ∙ drop_at (bits_of 8 y) (bits_in ys) 8 (length-bits_of 8 y) in
     ap (λ (n : ℕ). n ∷ xs) (same_from_bits_of 8 x y (are 0) (too 0) heads) ∙ ap (λ (l : List ℕ). y ∷ l) (same_bytes xs ys (λ i. are (suc i)) (λ i. too (suc i)) tails)
 
-same_time : (s t : ℤ) → ◌≡◌ {A = Option ℤ} (Some s) (Some t) → s ≡ t
-same_time s t e = cc
-
 encoded_once : (part : List Sample) (c d : PutChunk) → IsEncoded part c → IsEncoded part d → c ≡ d
 encoded_once part c d is too =
     let content : c.content ≡ d.content = same_bytes c.content d.content is.bytes too.bytes (is.bits ∙ sym too.bits) in
-    let low : c.min ≡ d.min = same_time c.min d.min (sym is.begins ∙ too.begins) in
-    let high : c.max ≡ d.max = same_time c.max d.max (sym is.ends ∙ too.ends) in
+    let low : c.min ≡ d.min = same_some c.min d.min (sym is.begins ∙ too.begins) in
+    let high : c.max ≡ d.max = same_some c.max d.max (sym is.ends ∙ too.ends) in
     ap (λ (l : List ℕ). record { content = l; min = c.min; max = c.max }) content
     ∙ ap (λ (t : ℤ). record { content = d.content; min = t; max = c.max }) low
     ∙ ap (λ (t : ℤ). record { content = d.content; min = d.min; max = t }) high
@@ -71,7 +69,7 @@ module _ {A B : Type 0} (R : A → B → Type 0) (once : (x : A) (y z : B) → R
   each_once (x ∷ xs) (y ∷ ys) [] is too = absurd too
   each_once (x ∷ xs) (y ∷ ys) (z ∷ zs) is too = ap (λ (b : B). b ∷ ys) (once x y z is.0 too.0) ∙ ap (λ (l : List B). z ∷ l) (each_once xs ys zs is.1 too.1)
 
-series_once : (series : Series) (p q : PutSeries) → IsPutAs series p → IsPutAs series q → p ≡ q
+pub series_once : (series : Series) (p q : PutSeries) → IsPutAs series p → IsPutAs series q → p ≡ q
 series_once series p q is too =
     let parts : is.parts ≡ too.parts = cut_once IsPart AreFew some_part part_full None None is.parts too.parts is.cut too.cut (few_each None is.parts is.cut) (few_each None too.parts too.cut) (is.whole ∙ sym too.whole) in
     let chunks : p.chunks ≡ q.chunks = each_once IsEncoded encoded_once is.parts p.chunks q.chunks is.chunks (subst (λ (l : List (List Sample)). AllZip IsEncoded l q.chunks) (sym parts) too.chunks) in

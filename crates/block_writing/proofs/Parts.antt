@@ -11,8 +11,9 @@ use Rattle.std.proofs.lemmas.Grind.{flat_map-append}
 use Rattle.std.proofs.lemmas.List.{map-append, length-map, length-take, length-drop, append-nil}
 use Rattle.std.specs.List.{AllByRecursion}
 use Rattle.std.proofs.lemmas.List.Elements.{All-from_recursion}
-use Rattle.list_core.proofs.Lists.{AllByRecursion-weaker}
+use Rattle.list_core.proofs.Lists.{AllByRecursion-weaker, last_or_none, AllByRecursion-append_right}
 use Rattle.list_core.proofs.Order.{Less-at_places, sorted_left, sorted_right}
+use Rattle.list_core.proofs.Pairs.{AllZip-append}
 use Rattle.reading_core.specs.Grammar.{IsBytes}
 use Rattle.index_parts.specs.Turns.{InOrder}
 use Rattle.label_sets.specs.declared.sample.Sample.{Sample}
@@ -22,9 +23,8 @@ use Rattle.block_meta.specs.Lawful.{AreLawfulTimes}
 use Rattle.xor_chunks.specs.Written.{written, IsChunkTime, AreOfChunk}
 use Rattle.block_writing.specs.Put.{PlanFields, PutChunk, Put, IsWithin, IsStored, IsAfterChunks, fitted, with_chunk}
 use Rattle.block_writing.specs.Built.{IsPart, IsEncoded, AreOfBlock, BeginAfter}
-use Rattle.block_writing.proofs.Runs.{ends, some_last, order_more}
-use Rattle.block_writing.proofs.Placed.{each_append}
-use Rattle.block_writing.proofs.Lists.{pushed_parts, all_left, all_right}
+use Rattle.block_writing.proofs.Runs.{some_last, order_more}
+use Rattle.block_writing.proofs.Lists.{pushed_parts, all_left}
 use Rattle.block_writing.proofs.PutLaws.{behind_last}
 
 abbrev times : List Sample → List ℤ
@@ -140,7 +140,7 @@ ends_before part after chunk time some coded ascend at =
     int_ranked chunk.max time Less (sym (Less-at_places int_cmp (times part ++ times after) (length part - 1) (length (times part)) chunk.max time ascend within last next))
 
 cut_more : (parts : List (List Sample)) (part : List Sample) → InOrder IsPart parts → 0 < length part → length part ≤ 120 → ((front : List (List Sample)) (last : List Sample) → parts ≡ front ++ last ∷ [] → length last ≡ 120) → InOrder IsPart (parts ++ part ∷ [])
-cut_more parts part cut some few full = elim (ends parts) [
+cut_more parts part cut some few full = elim (last_or_none parts) [
   | inl none ↦ subst (λ (l : List (List Sample)). InOrder IsPart (l ++ part ∷ [])) (sym none) ((some, few), tt)
   | inr (front, last, e) ↦ subst (λ (l : List (List Sample)). InOrder IsPart (l ++ part ∷ [])) (sym e) (order_more IsPart front None last part (subst (InOrder IsPart) e cut) (full front last e, some, few))
 ]
@@ -163,13 +163,13 @@ part_more begin samples left part after now new k h some few part_is after_is (c
       whole = ap (λ (l : List Sample). l ++ after) (flat_more h.parts part) ∙ append_assoc (flat_map (λ p. p) h.parts) part after ∙ ap (λ (l : List Sample). flat_map (λ p. p) h.parts ++ l) whole ∙ h.whole;
       cut = cut_more h.parts part h.cut many most (λ front last e. h.full front last some e);
       full = λ front last more e. ap length (sym (pushed_parts h.parts front part last e).1) ∙ omega (arith, size, few, more, ap length after_is, length-drop k left);
-      chunks = subst (AllZip IsEncoded (h.parts ++ part ∷ [])) chunks_are (each_append IsEncoded h.parts (part ∷ []) now.chunks (chunk ∷ []) h.chunks (coded, tt));
+      chunks = subst (AllZip IsEncoded (h.parts ++ part ∷ [])) chunks_are (AllZip-append IsEncoded h.parts (part ∷ []) now.chunks (chunk ∷ []) h.chunks (coded, tt));
       behind = λ time at. subst (λ (l : List PutChunk). IsAfterChunks l time) chunks_are (behind_last now.chunks chunk time (ends_before part after chunk time many coded ascend at));
       plan_is = ap (λ (p : Put). p.plan) new_is ∙ h.plan_is;
       series_is = ap (λ (p : Put). p.series) new_is ∙ h.series_is;
       samples_is = omega (arith, ap (λ (p : Put). p.samples) new_is, h.samples_is, ap length (flat_more h.parts part), length-append (flat_map (λ p. p) h.parts) part);
       ascend = sorted_right int_cmp (times part) (times after) ascend;
-      within = all_right (IsWithin begin.plan) part after (subst (AllByRecursion (IsWithin begin.plan)) (sym whole) h.within);
+      within = AllByRecursion-append_right (IsWithin begin.plan) part after (subst (AllByRecursion (IsWithin begin.plan)) (sym whole) h.within);
     }
 
 -- ---- the series as a whole

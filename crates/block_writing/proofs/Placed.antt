@@ -14,7 +14,8 @@ use Rattle.chunk_files.proofs.ChunkLaws.{place_again}
 use Rattle.block_writing.specs.declared.segment_place.SegmentPlace.{SegmentPlace}
 use Rattle.block_writing.specs.Segments.{segment_text, offsets_behind, place_in, places_from, AreSegments}
 use Rattle.block_writing.specs.Standing.{content_at}
-use Rattle.block_writing.proofs.Sums.{crc_low}
+use Rattle.list_core.proofs.Pairs.{AllZip-append}
+use Rattle.index_writing.proofs.ListPlaces.{crc_fits}
 
 -- The segment that a place names is one of the block's, and these data stand in it at the place.
 pub record StandsAt (segments : List (List ℕ)) (place : SegmentPlace) (content : List ℕ) : Type 0 where
@@ -23,12 +24,6 @@ pub record StandsAt (segments : List (List ℕ)) (place : SegmentPlace) (content
   pub stands : IsPlace segment place.offset content
 
 -- ---- members of two lists, each to its own
-
-pub each_append : {A B : Type 0} (R : A → B → Type 0) (xs more : List A) (ys others : List B) → AllZip R xs ys → AllZip R more others → AllZip R (xs ++ more) (ys ++ others)
-each_append R [] more [] others one next = next
-each_append R [] more (y ∷ ys) others one next = absurd one
-each_append R (x ∷ xs) more [] others one next = absurd one
-each_append R (x ∷ xs) more (y ∷ ys) others one next = (one.0, each_append R xs more ys others one.1 next)
 
 pub each_map : {A B C : Type 0} (R : A → B → Type 0) (S : C → B → Type 0) (f : A → C) → ((x : A) (y : B) → R x y → S (f x) y) → (xs : List A) (ys : List B) → AllZip R xs ys → AllZip S (map f xs) ys
 each_map R S f turns [] [] each = tt
@@ -43,7 +38,7 @@ chunk_is content few = record {
   size = uvarint_text (length content);
   sum = to_be_bytes w32 (crc (xor ∷ content));
   size_is = uvarint_text_is (length content) few;
-  sum_is = record { digits = refl; fits = crc_low (xor ∷ content) };
+  sum_is = record { digits = refl; fits = crc_fits (xor ∷ content) };
   text_is = refl;
 }
 
@@ -106,7 +101,7 @@ in_runs before (run ∷ runs) fit =
     let later = in_runs (before ++ segment_text run ∷ []) runs fit.1 in
     let moved : AllZip (StandsAt (before ++ segment_text run ∷ map segment_text runs)) (places_from (length (before ++ segment_text run ∷ [])) runs) (flat_map (λ r. r) runs) =
     subst (λ (l : List (List ℕ)). AllZip (StandsAt l) (places_from (length (before ++ segment_text run ∷ [])) runs) (flat_map (λ r. r) runs)) split later in
-    each_append (StandsAt (before ++ segment_text run ∷ map segment_text runs)) (map (place_in (length before)) (offsets_behind header_size run)) (places_from (length before + 1) runs) run (flat_map (λ r. r) runs) own
+    AllZip-append (StandsAt (before ++ segment_text run ∷ map segment_text runs)) (map (place_in (length before)) (offsets_behind header_size run)) (places_from (length before + 1) runs) run (flat_map (λ r. r) runs) own
     (subst (λ (n : ℕ). AllZip (StandsAt (before ++ segment_text run ∷ map segment_text runs)) (places_from n runs) (flat_map (λ r. r) runs)) next moved)
 
 pub all_stand : (contents : List (List ℕ)) (places : List SegmentPlace) (segments : List (List ℕ)) → AreSegments contents places segments → AllZip (StandsAt segments) places contents

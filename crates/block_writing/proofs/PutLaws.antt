@@ -6,14 +6,14 @@ use Rattle.std.specs.Cmp.Lexicographic.{on_texts, lists_total}
 use Rattle.std.specs.List.Sorted.{IsStrictlySortedBy}
 use Rattle.std.proofs.lemmas.Cmp.{then_total}
 use Rattle.std.proofs.lemmas.List.{map-append}
-use Rattle.list_core.proofs.Lists.{AllByRecursion-push}
+use Rattle.list_core.proofs.Lists.{AllByRecursion-push, last_or_none}
 use Rattle.list_core.proofs.Order.{sorted_nil, sorted_cons, sorted_push}
 use Rattle.label_sets.specs.Labels.{compare_sets}
 use Rattle.label_sets.specs.declared.label.Label.{Label}
 use Rattle.label_sets.specs.declared.sample.Sample.{Sample}
 use Rattle.xor_chunks.specs.Grammar.{IsText}
 use Rattle.block_writing.specs.Put.{PutChunk, PutSeries, PlanFields, Put, IsStored, IsAfter, IsAfterChunks, AreApart, IsAfterSeries, AreOfSeries, IsEnded, IsPut, nothing_put, with_chunk, with_series}
-use Rattle.block_writing.proofs.Runs.{ends, order_more}
+use Rattle.block_writing.proofs.Runs.{order_more}
 use Rattle.block_writing.proofs.Lists.{last_at}
 
 -- ---- chunks
@@ -33,7 +33,7 @@ pub behind_last : (front : List PutChunk) (last : PutChunk) (time : ℤ) → IsA
 behind_last front last time after = subst (λ (o : Option PutChunk). IsAfter o time) (sym (last_at front last)) after
 
 apart_more : (chunks : List PutChunk) (chunk : PutChunk) → AreApart chunks → IsAfterChunks chunks chunk.min → AreApart (chunks ++ chunk ∷ [])
-apart_more chunks chunk apart after = elim (ends chunks) [
+apart_more chunks chunk apart after = elim (last_or_none chunks) [
   | inl none ↦ subst (λ (l : List PutChunk). AreApart (l ++ chunk ∷ [])) (sym none) (tt, tt)
   | inr (front, last, e) ↦
       let split : AreApart (front ++ last ∷ []) = subst AreApart e apart in
@@ -53,7 +53,7 @@ abbrev labels_of : List PutSeries → List (List Label)
 labels_of series = map (λ s. s.labels) series
 
 ascend_more : (series : List PutSeries) (one : PutSeries) → IsStrictlySortedBy compare_sets (labels_of series) → IsAfterSeries series one.labels → IsStrictlySortedBy compare_sets (labels_of (series ++ one ∷ []))
-ascend_more series one ascend after = elim (ends series) [
+ascend_more series one ascend after = elim (last_or_none series) [
   | inl none ↦ subst (λ (l : List PutSeries). IsStrictlySortedBy compare_sets (labels_of (l ++ one ∷ []))) (sym none) (sorted_cons compare_sets one.labels [] tt (sorted_nil compare_sets))
   | inr (front, last, e) ↦
       let less = after last (ap (λ (l : List PutSeries). slice_get l (length l - 1)) e ∙ last_at front last) in

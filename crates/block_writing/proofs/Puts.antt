@@ -5,7 +5,7 @@ use Rattle.std.specs.List.{flat_map, AllByRecursion}
 use Rattle.std.proofs.lemmas.Int.{ints}
 use Rattle.std.proofs.lemmas.Grind.{flat_map-append}
 use Rattle.std.proofs.lemmas.List.{map-append, length-map, append-nil}
-use Rattle.list_core.proofs.Lists.{cons_parts}
+use Rattle.list_core.proofs.Lists.{cons_parts, last_or_none, AllByRecursion-append_right}
 use Rattle.label_sets.specs.declared.label.Label.{Label}
 use Rattle.block_meta.specs.declared.block_plan.BlockPlan.{BlockPlan}
 use Rattle.index_parts.specs.declared.chunk_place.ChunkPlace.{ChunkPlace}
@@ -19,9 +19,9 @@ use Rattle.block_writing.specs.Segments.{AreSegments}
 use Rattle.block_writing.specs.Standing.{content_at}
 use Rattle.block_writing.specs.Put.{PutChunk, PutSeries, Put, IsStored, IsAfterChunks, IsAfterSeries, IsPut, fitted, with_chunk, with_series}
 use Rattle.block_writing.specs.Writing.{plan_fields, part_of, chunk_in, series_in, put_in, all_places, IsWriting}
-use Rattle.block_writing.proofs.Lists.{pushed_parts, all_left, all_right}
+use Rattle.block_writing.proofs.Lists.{pushed_parts, all_left}
 use Rattle.block_writing.proofs.PutLaws.{after_last, nothing_lawful, chunk_lawful, series_lawful}
-use Rattle.block_writing.proofs.Runs.{ends, order_more}
+use Rattle.block_writing.proofs.Runs.{order_more}
 use Rattle.block_writing.proofs.Placed.{read_all}
 use Rattle.block_writing.proofs.DataLaws.{data_rise}
 
@@ -42,7 +42,7 @@ series_agree : (old new : List (List ℕ)) (list : List IndexSeries) → AllByRe
 series_agree old new [] all = refl
 series_agree old new (s ∷ list) all =
     let own = chunks_agree old new s.chunks (all_left (λ p. content_at new (part_of p) ≡ content_at old (part_of p)) s.chunks (flat_map (λ one. one.chunks) list) all) in
-    let others = series_agree old new list (all_right (λ p. content_at new (part_of p) ≡ content_at old (part_of p)) s.chunks (flat_map (λ one. one.chunks) list) all) in
+    let others = series_agree old new list (AllByRecursion-append_right (λ p. content_at new (part_of p) ≡ content_at old (part_of p)) s.chunks (flat_map (λ one. one.chunks) list) all) in
     ap (λ (l : List PutChunk). record { labels = s.labels; chunks = l } ∷ map (series_in new) list) own ∙ ap (λ (l : List PutSeries). series_in old s ∷ l) others
 
 -- ---- nothing yet
@@ -73,7 +73,7 @@ last_starts [] before last order = starts_low before last order.0
 last_starts (x ∷ front) before last order = last_starts front (Some x) last order.1
 
 order_put : (segments : List (List ℕ)) (chunks : List ChunkPlace) (p : ChunkPlace) → InOrder StartsAfter chunks → IsAfterChunks (map (chunk_in segments) chunks) p.min → p.min ≤ℤ p.max → p.segment < 2 ^ 31 → InOrder StartsAfter (chunks ++ p ∷ [])
-order_put segments chunks p order after rises low = elim (ends chunks) [
+order_put segments chunks p order after rises low = elim (last_or_none chunks) [
   | inl none ↦ subst (λ (l : List ChunkPlace). InOrder StartsAfter (l ++ p ∷ [])) (sym none) ((rises, low), tt)
   | inr (front, last, e) ↦
       let split : map (chunk_in segments) chunks ≡ map (chunk_in segments) front ++ chunk_in segments last ∷ [] = ap (map (chunk_in segments)) e ∙ map-append (chunk_in segments) front (last ∷ []) in
@@ -111,7 +111,7 @@ chunk_put plan old new list chunks more counts after content min max segment off
     subst (λ (l : List (List ℕ)). AreSegments l (map part_of (all_places list (chunks ++ p ∷ []))) new) contents (subst (λ (l : List SegmentPlace). AreSegments (map (content_at old) (map part_of all) ++ content ∷ []) l new) places longer) in
     let series_same : map (series_in new) list ≡ map (series_in old) list = series_agree old new list (all_left (λ q. content_at new (part_of q) ≡ content_at old (part_of q)) (flat_map (λ s. s.chunks) list) chunks agree) in
     let chunks_same : map (chunk_in new) (chunks ++ p ∷ []) ≡ map (chunk_in old) chunks ++ record { content = content; min = min; max = max } ∷ [] =
-    map-append (chunk_in new) chunks (p ∷ []) ∙ ap (λ (l : List PutChunk). l ++ chunk_in new p ∷ []) (chunks_agree old new chunks (all_right (λ q. content_at new (part_of q) ≡ content_at old (part_of q)) (flat_map (λ s. s.chunks) list) chunks agree))
+    map-append (chunk_in new) chunks (p ∷ []) ∙ ap (λ (l : List PutChunk). l ++ chunk_in new p ∷ []) (chunks_agree old new chunks (AllByRecursion-append_right (λ q. content_at new (part_of q) ≡ content_at old (part_of q)) (flat_map (λ s. s.chunks) list) chunks agree))
     ∙ ap (λ (l : List ℕ). map (chunk_in old) chunks ++ record { content = l; min = min; max = max } ∷ []) parts.1 in
     let many : length (all_places list (chunks ++ p ∷ [])) ≡ length all + 1 = omega (arith, length-append (flat_map (λ s. s.chunks) list) (chunks ++ p ∷ []), length-append chunks (p ∷ []), length-append (flat_map (λ s. s.chunks) list) chunks) in
     let counted : fitted (counts.chunks + 1) ≡ fitted (length (all_places list (chunks ++ p ∷ []))) = omega (arith, many, h.chunks_counted) in

@@ -1,12 +1,12 @@
 -- One chunk more: the last run grows, or the next one begins.
-use Rattle.std.proofs.Common.{◌≡◌, ℕ, ◌+◌, ◌-◌, ◌<◌, ◌≤◌, List, [], ◌∷◌, ◌++◌, length, map, get_or, Option, None, Some, Result, Ok, Err, refl, sym, ap, subst, ◌∙◌, append_assoc, length-append, arith, ◌⊎◌, inl, inr}
+use Rattle.std.proofs.Common.{◌≡◌, ℕ, ◌+◌, ◌-◌, ◌<◌, ◌≤◌, List, [], ◌∷◌, ◌++◌, length, map, get_or, Option, None, Some, Result, Ok, Err, refl, sym, ap, subst, ◌∙◌, append_assoc, length-append, arith, inl, inr}
 use Rattle.std.specs.Prelude.{IfOk, OnOk}
 use Rattle.std.specs.List.{flat_map, AllByRecursion}
 use Rattle.std.proofs.Math.ListN.{set}
 use Rattle.std.proofs.Math.Seq.{set-append_seam, get_or-append_seam}
 use Rattle.std.proofs.lemmas.Grind.{flat_map-append}
 use Rattle.std.proofs.lemmas.List.{map-append, length-map, flat_map_more, append-nil}
-use Rattle.list_core.proofs.Lists.{AllByRecursion-push}
+use Rattle.list_core.proofs.Lists.{AllByRecursion-push, last_or_none}
 use Rattle.index_parts.specs.Turns.{InOrder, InOrderAfter}
 use Rattle.chunk_files.specs.Layout.{header_size, greatest}
 use Rattle.chunk_files.specs.Chunk.{header, frame_text}
@@ -16,13 +16,6 @@ use Rattle.block_writing.specs.declared.segment_place.SegmentPlace.{SegmentPlace
 use Rattle.block_writing.specs.Segments.{segment_text, Begins, AreRuns, offsets_behind, place_in, places_from, AreSegments}
 
 -- ---- the last member
-
-pub ends : {A : Type 0} (xs : List A) → (xs ≡ []) ⊎ ((front : List A) × (last : A) × (xs ≡ front ++ last ∷ []))
-ends [] = inl refl
-ends {A} (x ∷ xs) = elim (ends xs) [
-  | inl none ↦ inr ([], x, ap (λ (ys : List A). x ∷ ys) none)
-  | inr (front, last, e) ↦ inr (x ∷ front, last, ap (λ (ys : List A). x ∷ ys) e)
-]
 
 pub some_last : {A : Type 0} (front : List A) (last : A) → front ++ last ∷ [] ≡ [] → ⊥
 some_last [] last e = absurd cc
@@ -154,7 +147,7 @@ pub grow_put : (contents : List (List ℕ)) (places : List SegmentPlace) (old ne
     → ((front : List (List ℕ)) (last : List ℕ) → old ≡ front ++ last ∷ [] → (offset ≡ length last) × (new ≡ front ++ (last ++ frame_text content) ∷ []))
     → ((front : List (List ℕ)) (last : List ℕ) → old ≡ front ++ last ∷ [] → greatest < length last + length (frame_text content) → ⊥)
     → AreSegments (contents ++ content ∷ []) (places ++ place_in number offset ∷ []) new
-grow_put contents places old new content n number offset h many some number_is put room = elim (ends h.runs) [
+grow_put contents places old new content n number offset h many some number_is put room = elim (last_or_none h.runs) [
   | inl none ↦ absurd (omega (arith, many, some, ap length h.segments_are, ap length none, length-map h.runs segment_text))
   | inr (front, last, e) ↦
       let split : old ≡ map segment_text front ++ segment_text last ∷ [] = h.segments_are ∙ ap (map segment_text) e ∙ map-append segment_text front (last ∷ []) in
@@ -167,7 +160,7 @@ grow_put contents places old new content n number offset h many some number_is p
 
 -- the chunk began a segment
 order_new : (runs : List (List (List ℕ))) (content : List ℕ) → InOrder Begins runs → ((front : List (List (List ℕ))) (last : List (List ℕ)) → runs ≡ front ++ last ∷ [] → greatest < length (segment_text last) + length (frame_text content)) → InOrder Begins (runs ++ (content ∷ []) ∷ [])
-order_new runs content order due = elim (ends runs) [
+order_new runs content order due = elim (last_or_none runs) [
   | inl none ↦ subst (λ (l : List (List (List ℕ))). InOrder Begins (l ++ (content ∷ []) ∷ [])) (sym none) (tt, tt)
   | inr (front, last, e) ↦ subst (λ (l : List (List (List ℕ))). InOrder Begins (l ++ (content ∷ []) ∷ [])) (sym e) (order_more Begins front None last (content ∷ []) (subst (InOrder Begins) e order) (due front last e))
 ]

@@ -1,19 +1,16 @@
 -- A sum that a chunk keeps has 32 bits.
-use Rattle.std.proofs.Common.{ℕ, ◌/◌, ◌%◌, ◌^◌, ◌<◌, Bool, true, false, cond, List, [], ◌∷◌, arith}
+use Rattle.std.proofs.Common.{ℕ, ◌%◌, ◌^◌, ◌<◌, List, [], ◌∷◌, arith}
 use Rattle.std.specs.Prelude.{fold, bit_xor, ◌==◌}
 use Rattle.std.specs.Int.{bit_at}
 use Rattle.std.specs.List.{flat_map, AllByRecursion}
 use Rattle.std.proofs.lemmas.Nat.{xor_lt}
 use Rattle.std.proofs.lemmas.Nat.Bits.{bit_at-lt}
 use Rattle.list_core.proofs.Lists.{AllByRecursion-append}
-use Rattle.wire_bytes.specs.Crc.{castagnoli, with_bit, coefficients, ones, remainder, crc}
-
-times_low : (b : Bool) (r : ℕ) → r < 2 ^ 32 → cond b (bit_xor (r / 2) castagnoli) (r / 2) < 2 ^ 32
-times_low true r low = xor_lt 32 (r / 2) castagnoli (omega arith) (omega arith)
-times_low false r low = omega arith
+use Rattle.wire_bytes.specs.Crc.{with_bit, coefficients}
+use Rattle.index_writing.proofs.ListPlaces.{halved}
 
 with_low : (r bit : ℕ) → r < 2 ^ 32 → bit < 2 ^ 32 → with_bit r bit < 2 ^ 32
-with_low r bit low few = times_low (bit_xor r bit % 2 == 1) (bit_xor r bit) (xor_lt 32 r bit low few)
+with_low r bit low few = halved (bit_xor r bit % 2 == 1) (bit_xor r bit) (xor_lt 32 r bit low few)
 
 fold_low : (bits : List ℕ) (r : ℕ) → r < 2 ^ 32 → AllByRecursion (λ bit. bit < 2 ^ 32) bits → fold with_bit r bits < 2 ^ 32
 fold_low [] r low all = low
@@ -27,7 +24,3 @@ coefficients_low [] = tt
 coefficients_low (byte ∷ bytes) =
     AllByRecursion-append (λ bit. bit < 2 ^ 32) (coefficients byte) (flat_map coefficients bytes)
     (bit_low byte 0, (bit_low byte 1, (bit_low byte 2, (bit_low byte 3, (bit_low byte 4, (bit_low byte 5, (bit_low byte 6, (bit_low byte 7, tt)))))))) (coefficients_low bytes)
-
-pub crc_low : (bytes : List ℕ) → crc bytes < 2 ^ 32
-unfolding crc remainder
-crc_low bytes = xor_lt 32 (fold with_bit ones (flat_map coefficients bytes)) ones (fold_low (flat_map coefficients bytes) ones (omega arith) (coefficients_low bytes)) (omega arith)

@@ -30,10 +30,10 @@ module _ {A : Type 0} (P : A → Type 0) where
 pub told : (b : Bool) (P : Type 0) → IsTrue b ↔ P → b ≡ true → P
 told b P is e = is.0 e
 
-not_told : (b : Bool) (P : Type 0) → IsTrue b ↔ P → b ≡ false → P → ⊥
+pub not_told : (b : Bool) (P : Type 0) → IsTrue b ↔ P → b ≡ false → P → ⊥
 not_told b P is e p = let yes : b ≡ true = is.1 p in absurd cc
 
-never : (P : Type 0) → (P → ⊥) → IsTrue false ↔ P
+pub never : (P : Type 0) → (P → ⊥) → IsTrue false ↔ P
 never P none = (λ told. absurd cc, λ p. absurd (none p))
 
 -- ---- samples of a block

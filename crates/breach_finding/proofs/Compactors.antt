@@ -21,7 +21,7 @@ use Rattle.script_workers.specs.declared.work.Work.{Work}
 use Rattle.script_workers.specs.declared.work.Work.TheVariants as works
 use Rattle.script_workers.specs.declared.worker.Worker.{Worker}
 use Rattle.lifecycle_core.specs.Breaches.{IsCompactorSeat, IsOver, IsReading, Refuses, read_time}
-use Rattle.lifecycle_core.specs.Conducts.{of_seat}
+use Rattle.world_core.specs.Journals.{of_seat}
 use Rattle.lifecycle_core.specs.Setting.{FromShelf, Setting}
 use Rattle.breach_finding.specs.Tables.{AreCompactors, CompactsBefore, compacts_among, compacts_at, tasks_at}
 use Rattle.breach_finding.specs.Told.{IsTold}

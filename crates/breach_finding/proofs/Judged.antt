@@ -2,23 +2,14 @@
 use Rattle.std.proofs.Common.{◌≡◌, ◌⊎◌, inl, inr, ℕ, ◌+◌, ◌<◌, ◌≤◌, true, false, Option, Some, None, refl, sym, ap, subst, arith}
 use Rattle.std.specs.Prelude.{is_some}
 use Rattle.std.proofs.lemmas.Bool.{cases_lt}
-use Rattle.lifecycle_core.specs.Breaches.{Rule, honesty, mark_time, rank, read_time, sync_time, upload_time, view_time}
+use Rattle.lifecycle_core.specs.Breaches.{Rule, honesty, mark_time, rank, upload_time}
+use Rattle.lifecycle_core.proofs.journals.OneBreach.{same_rule}
 use Rattle.breach_finding.specs.Judging.{IsJudged, refusal_of}
 use Rattle.breach_finding.specs.Told.{IsTold}
 use Rattle.breach_finding.specs.Walks.{rule_of}
 use Rattle.breach_finding.specs.declared.found.BreachRule.{BreachRule}
 use Rattle.breach_finding.specs.declared.found.BreachRule.TheVariants as found
 use Rattle.breach_finding.specs.declared.found.Refusal.{Refusal}
-
--- rules of one rank are one
-pub same_rule : (one other : Rule) → rank one ≡ rank other → one ≡ other
-same_rule honesty honesty is = refl
-same_rule upload_time upload_time is = refl
-same_rule mark_time mark_time is = refl
-same_rule sync_time sync_time is = refl
-same_rule view_time view_time is = refl
-same_rule read_time read_time is = refl
-same_rule one other is = absurd (omega (arith, is))
 
 up_to : (n below : ℕ) → n < below + 1 → (n < below) ⊎ (n ≡ below)
 up_to n below less = elim (cases_lt n below) [ inl under ↦ inl under | inr over ↦ inr (omega (arith, less, over)) ]

@@ -10,11 +10,10 @@ use Rattle.meta_fetcher.specs.declared.sync_end.SyncEnd.{SyncEnd}
 use Rattle.meta_fetcher.specs.declared.sync_end.SyncEnd.TheVariants as ended
 use Rattle.script_core.specs.Lawful.{IsLawfulScript}
 use Rattle.lifecycle_core.specs.Breaches.{IsOver, IsSeatOf, IsSyncIn, Refuses, sync_time}
-use Rattle.lifecycle_core.specs.Conducts.{of_seat}
+use Rattle.world_core.specs.Journals.{of_seat}
 use Rattle.lifecycle_core.specs.Setting.{Setting}
 use Rattle.lifecycle_core.specs.SyncsAndCalls.{IsSyncBy}
 use Rattle.lifecycle_core.specs.Tasks.{sync_rules}
-use Rattle.lifecycle_core.proofs.journals.OneSync.{once_in}
 use Rattle.lifecycle_core.proofs.journals.Positions.{filtered, stands_in}
 use Rattle.lifecycle_core.proofs.journals.Told.{Rises}
 use Rattle.lifecycle_core.proofs.phases.OneSeat.{one_gateway}
@@ -28,6 +27,7 @@ use Rattle.breach_finding.specs.declared.watching.Came.TheVariants.{GoesOn, Noth
 use Rattle.breach_finding.specs.declared.watching.Told.{Told}
 use Rattle.lifecycle_core.proofs.views.Alone.{alone_here}
 use Rattle.lifecycle_core.proofs.views.OneOpening.{AllList}
+use Rattle.lifecycle_core.proofs.deeds.Orders.{one_place}
 use Rattle.breach_finding.proofs.SeatTurns.{last_split}
 
 left_list : (a b : List Entry) → AllList (a ++ b) → AllList a
@@ -79,7 +79,7 @@ module _ (setting : Setting) (lawful : IsLawfulScript setting.script) (journal b
       let seat : e.seat ≡ s.seat = seat_of s.seat (s.sync.before ++ made) s.sync.after around in
       let whose : other ≡ gateway = one_gateway setting lawful gateway other e.seat sits (subst (IsSeatOf setting other) (sym seat) s.sits) in
       let both : own ++ e ∷ behind ≡ (s.sync.before ++ made) ++ e ∷ s.sync.after = sym here ∙ ap (λ (n : ℕ). of_seat n journal) seat ∙ around in
-      let front : own ≡ s.sync.before ++ made = once_in own behind (s.sync.before ++ made) s.sync.after e (subst Rises here (rises_filter (λ (x : Entry). x.seat == e.seat) journal rises)) both in
+      let front : own ≡ s.sync.before ++ made = one_place own behind (s.sync.before ++ made) s.sync.after e (subst Rises here (rises_filter (λ (x : Entry). x.seat == e.seat) journal rises)) both in
       let back : e ∷ behind ≡ e ∷ s.sync.after = append_cancel_left own (e ∷ behind) (e ∷ s.sync.after) (both ∙ ap (λ (es : List Entry). es ++ e ∷ s.sync.after) (sym front)) in
       record {
         begins = s.sync.before;

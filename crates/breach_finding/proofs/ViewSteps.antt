@@ -10,7 +10,7 @@ use Rattle.meta_fetcher.specs.declared.sync_end.SyncEnd.TheVariants as ended
 use Rattle.meta_fetcher.specs.declared.view.View.{View}
 use Rattle.script_core.specs.Lawful.{IsLawfulScript}
 use Rattle.lifecycle_core.specs.Breaches.{IsSeatOf, IsSyncIn}
-use Rattle.lifecycle_core.specs.Conducts.{of_seat}
+use Rattle.world_core.specs.Journals.{of_seat}
 use Rattle.lifecycle_core.specs.Setting.{Setting}
 use Rattle.lifecycle_core.specs.Tasks.{sync_rules}
 use Rattle.lifecycle_core.proofs.journals.Positions.{stands_in}

@@ -18,12 +18,13 @@ use Rattle.script_core.specs.Lawful.{IsLawfulScript}
 use Rattle.lifecycle_core.specs.Breaches.{IsOver, IsSeatOf, IsSyncIn, IsViewAt, ReadsSamples, Refuses, view_time}
 use Rattle.lifecycle_core.specs.Setting.{Setting}
 use Rattle.lifecycle_core.specs.Tasks.{last_number, sync_rules}
-use Rattle.lifecycle_core.proofs.journals.OneViewAt.{one_entry, one_view}
+use Rattle.lifecycle_core.proofs.journals.OneViewAt.{one_view}
 use Rattle.lifecycle_core.proofs.journals.Positions.{stands_in}
 use Rattle.lifecycle_core.proofs.journals.Told.{Rises}
 use Rattle.lifecycle_core.proofs.journals.Unbroken.{ends_with}
 use Rattle.lifecycle_core.proofs.phases.OneSeat.{one_gateway}
 use Rattle.lifecycle_core.proofs.phases.TasksMade.{no_listing}
+use Rattle.lifecycle_core.proofs.deeds.Orders.{one_entry}
 use Rattle.breach_finding.specs.Told.{IsTold}
 use Rattle.breach_finding.specs.Views.{IsLastView, IsViewAnswer}
 

@@ -14,7 +14,7 @@ use Rattle.script_core.specs.Lawful.{IsLawfulScript}
 use Rattle.standing_objects.specs.Standings.{IsStanding}
 use Rattle.standing_objects.specs.declared.standing.Standing.{Standing}
 use Rattle.lifecycle_core.specs.Breaches.{HoldsSamples, IsBreach, IsKept, IsSeatOf, ReadsSamples, Refuses, Rule, honesty, mark_time, rank, read_key, read_time, sync_time, upload_time, view_time}
-use Rattle.lifecycle_core.specs.Conducts.{of_seat}
+use Rattle.world_core.specs.Journals.{of_seat}
 use Rattle.lifecycle_core.specs.Setting.{Setting}
 use Rattle.lifecycle_core.specs.Tasks.{sync_rules}
 use Rattle.lifecycle_core.proofs.journals.Positions.{stands_in}

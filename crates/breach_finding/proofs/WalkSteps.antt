@@ -5,10 +5,9 @@ use Rattle.std.specs.Ordering.{is_eq, nat_cmp}
 use Rattle.std.proofs.lemmas.Bool.{cases_Bool, eqb-true, eq-eqb}
 use Rattle.std.proofs.lemmas.List.Elements.{filter-append}
 use Rattle.list_core.proofs.Lists.{filter_hit, filter_miss}
-use Rattle.world_core.specs.Journals.{Each}
+use Rattle.world_core.specs.Journals.{Each, of_seat}
 use Rattle.world_core.specs.declared.entry.Entry.{Entry}
 use Rattle.lifecycle_core.specs.Breaches.{IsKept, IsSeatOf}
-use Rattle.lifecycle_core.specs.Conducts.{of_seat}
 use Rattle.lifecycle_core.specs.Setting.{Setting}
 use Rattle.lifecycle_core.specs.Tasks.{sync_rules}
 use Rattle.breach_finding.specs.Judging.{IsWatchTurn}

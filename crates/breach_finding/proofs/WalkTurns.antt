@@ -7,6 +7,7 @@ use Rattle.std.specs.List.{AllByRecursion}
 use Rattle.std.specs.Ordering.{nat_cmp}
 use Rattle.std.proofs.lemmas.Bool.{cases_lt}
 use Rattle.std.proofs.lemmas.List.Elements.{Contains-append_left, Contains-append_right}
+use Rattle.std.proofs.lemmas.Option.{slice_get_past}
 use Rattle.bucket_core.specs.Contents.{nothing}
 use Rattle.world_core.specs.Standing.{left_by, stands}
 use Rattle.world_core.specs.Worlds.{IsJournal, IsOfBytes}
@@ -55,15 +56,10 @@ front_more xs place e at = let more : suc place ≡ place + 1 = omega arith in s
 
 -- ---- seats
 
-past_end : {A : Type 0} (xs : List A) (place : ℕ) → length xs ≤ place → slice_get xs place ≡ None
-past_end [] place far = refl
-past_end (x ∷ xs) zero far = absurd (omega (arith, far))
-past_end (x ∷ xs) (suc place) far = past_end xs place (omega (arith, far))
-
 sits_before : (script : Script) (shelf : ℕ → FromShelf) (gateway seat : ℕ) → IsSeatOf (setting_with script shelf) gateway seat → SitsBefore script (length script.phases) gateway seat
 sits_before script shelf gateway seat (number, worker, among, whose, sits) = elim (cases_lt number (length script.phases)) [
   | inl below ↦ (number, below, worker, among, whose, sits)
-  | inr far ↦ (let none : workers_of script number ≡ [] = ap (workers_after script (seats_before script number)) (past_end script.phases number far) in
+  | inr far ↦ (let none : workers_of script number ≡ [] = ap (workers_after script (seats_before script number)) (slice_get_past script.phases number far) in
       absurd (no_member worker (subst (λ (ws : List Worker). Contains ws worker) none among)))
 ]
 

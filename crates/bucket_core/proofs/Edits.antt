@@ -9,7 +9,7 @@ use Rattle.std.proofs.lemmas.Bool.{and_parts, and_from, false_from_ne_true, case
 use Rattle.std.proofs.lemmas.Cmp.{tied_itself}
 use Rattle.std.proofs.lemmas.List.Folds.{list_all-append}
 use Rattle.std.proofs.lemmas.Slice.Eq.{bytes_eq-Decides}
-use Rattle.list_core.proofs.Bools.{Less-from_is_lt, bytes_eq-same}
+use Rattle.list_core.proofs.Bools.{Less-from_is_lt, bytes_eq-same, swap_tests}
 use Rattle.bucket_core.specs.Contents.{is_key}
 use Rattle.bucket_core.specs.declared.stored.Stored.{Stored}
 use Rattle.bucket_core.specs.Stored.{key_cmp, is_before, in_order, have_keys, object_in, updated, IsUpdated}
@@ -35,12 +35,6 @@ pub comes_after : (o : Stored) (key : List ℕ) → is_before key o ≡ false �
 comes_after o key before differs =
     ap is_lt (key_total.antisymm key o.key)
     ∙ greater_from _ before (λ equal. let e : bytes_eq o.key key ≡ true = (bytes_eq-Decides o.key key).1 (keys_equal _ _ equal) in cc)
-
-swap_tests : {A : Type 0} (a b : Bool) (x y z : A) → (a ≡ true → b ≡ true → ⊥) → cond a x (cond b y z) ≡ cond b y (cond a x z)
-swap_tests true true x y z apart = absurd (apart refl refl)
-swap_tests true false x y z apart = refl
-swap_tests false true x y z apart = refl
-swap_tests false false x y z apart = refl
 
 -- behind a front of other keys, an update of the back is an update of the whole
 pub updated_behind : (key : List ℕ) (w : Option (List ℕ)) (front back back' : List Stored) (q : List ℕ)

@@ -1,6 +1,6 @@
 -- What a call asked of its bucket, from its opening outwards to the whole call.
 use Rattle.std.proofs.Common.{◌≡◌, ◌≢◌, inl, inr, List, [], ◌∷◌, ◌++◌, refl, sym, ◌∙◌, ap, subst, append-nil}
-use Rattle.std.specs.Prelude.{Option, Some, None, IfSome, Result, Ok, Err, IfOk, IfErr}
+use Rattle.std.specs.Prelude.{Option, Some, None, IfSome, Result, Ok, Err, IfErr}
 use Rattle.bucket_core.specs.Asking.{Asks, AsksOnce, Call}
 use Rattle.bucket_core.specs.declared.site_refusal.SiteRefusal.{SiteRefusal}
 use Rattle.bucket_core.specs.declared.site_refusal.SiteRefusal.TheVariants as site
@@ -94,10 +94,6 @@ module _ {B : Type 0} (asked : B → Option (List Call)) where
   ended_asked old new v journal back none was all kept handed = asked_back v journal back new.journal new.bucket kept handed (asked_so v new.journal new.bucket (run_asked old new none was all))
 
 -- ---- what holds of an opening
-
-pub ok_map : {X E : Type 0} (r : Result X E) (P Q : X → Type 0) → ((x : X) → P x → Q x) → IfOk r P → IfOk r Q
-ok_map (Ok x) P Q f holds = f x holds
-ok_map (Err e) P Q f holds = tt
 
 pub err_map : {X E : Type 0} (r : Result X E) (P Q : E → Type 0) → ((e : E) → P e → Q e) → IfErr r P → IfErr r Q
 err_map (Ok x) P Q f holds = tt

@@ -1,5 +1,6 @@
 -- A journal tells the report: two whole runs of one script that leave one journal print the same.
 use Rattle.list_core.proofs.Membership.{any_of_member, contains_first, contains_later, each_member, member_cases, no_member}
+use Rattle.list_core.proofs.Pairs.{first_in_zip}
 use Rattle.std.proofs.Common.{◌≡◌, inl, inr, ℕ, ◌+◌, Bool, true, false, List, [], ◌∷◌, ◌++◌, Contains, Option, Some, None, refl, sym, ◌∙◌, ap, ap₂, subst, arith}
 use Rattle.std.specs.Prelude.{slice_get}
 use Rattle.std.specs.List.{AllZip, list_all, list_any, zip}
@@ -20,6 +21,7 @@ use Rattle.script_workers.specs.declared.task.Task.{Task}
 use Rattle.script_workers.specs.declared.work.Work.{Work}
 use Rattle.script_workers.specs.declared.work.Work.TheVariants as work
 use Rattle.script_workers.specs.declared.worker.Worker.{Worker}
+use Rattle.script_workers.proofs.HandLaws.{itself}
 use Rattle.script_workers.proofs.StaffLaws.{are_places}
 use Rattle.script_core.specs.Workers.{seats_before, workers_after, workers_of}
 use Rattle.script_core.specs.declared.script.Script.{Script}
@@ -27,7 +29,6 @@ use Rattle.report_lines.specs.lifecycle_core.specs.Conducts.{CameTo}
 use Rattle.report_lines.specs.lifecycle_core.specs.Setting.{Setting}
 use Rattle.report_lines.specs.lifecycle_core.specs.Tasks.{End, answered, cleaned, compacted, not_asked, refused, stopped, synced, uploaded, without_view}
 use Rattle.vertical_merge.proofs.OneMerge.{one_merge}
-use Rattle.report_lines.specs.lifecycle_core.proofs.phases.Duties.{same_self}
 use Rattle.report_lines.specs.lifecycle_core.proofs.phases.HandLists.{Apart, joins_from}
 use Rattle.report_lines.specs.lifecycle_core.proofs.phases.OneCut.{cut_is_unfinished, cuts_tell}
 use Rattle.report_lines.specs.lifecycle_core.proofs.phases.OneEnding.{ends_tell}
@@ -55,22 +56,13 @@ use Rattle.report_lines.specs.Telling.{report_of, tasks_of}
 not_less : (n : ℕ) → nat_cmp n n ≡ Less → ⊥
 not_less n less = grind (arith, nat_tests, less)
 
-zip_place : {A B : Type 0} (xs : List A) (ys : List B) (x : A) (y : B) → Contains (zip xs ys) (x, y) → Contains xs x
-zip_place {A = A} {B = B} [] ys x y among = absurd (no_member (x, y) among)
-zip_place {A = A} {B = B} (p ∷ xs) [] x y among = absurd (no_member (x, y) among)
-zip_place {A = A} {B = B} (p ∷ xs) (q ∷ ys) x y among =
-    elim (member_cases (p, q) (x, y) (zip xs ys) among) [
-      | inl same ↦ let first : p ≡ x = ap (λ (e : A × B). e.0) same in subst (Contains (p ∷ xs)) first (contains_first p xs)
-      | inr later ↦ contains_later p x xs (zip_place xs ys x y later)
-    ]
-
 zip_once : (places : List ℕ) (own : List End) (place : ℕ) (one other : End) → IsStrictlySortedBy nat_cmp places → Contains (zip places own) (place, one) → Contains (zip places own) (place, other) → one ≡ other
 unfolding IsStrictlySortedBy
 zip_once [] own place one other up a b = absurd (no_member (place, one) a)
 zip_once (p ∷ ps) [] place one other up a b = absurd (no_member (place, one) a)
 zip_once (p ∷ ps) (x ∷ own) place one other up a b =
     let apart : (e : End) → p ≡ place → Contains (zip ps own) (place, e) → ⊥ =
-    λ e same later. not_less place (subst (λ (n : ℕ). nat_cmp n place ≡ Less) same (each_member (λ (y : ℕ). nat_cmp p y ≡ Less) ps place up.0 (zip_place ps own place e later))) in
+    λ e same later. not_less place (subst (λ (n : ℕ). nat_cmp n place ≡ Less) same (each_member (λ (y : ℕ). nat_cmp p y ≡ Less) ps place up.0 (first_in_zip ps own place e later))) in
     elim (member_cases (p, x) (place, one) (zip ps own) a) [
       | inl first ↦ elim (member_cases (p, x) (place, other) (zip ps own) b) [ inl second ↦ sym (ap (λ (e : ℕ × End). e.1) first) ∙ ap (λ (e : ℕ × End). e.1) second | inr later ↦ absurd (apart other (ap (λ (e : ℕ × End). e.0) first) later) ]
       | inr early ↦ elim (member_cases (p, x) (place, other) (zip ps own) b) [ inl second ↦ absurd (apart one (ap (λ (e : ℕ × End). e.0) second) early) | inr later ↦ zip_once ps own place one other up.1 early later ]
@@ -121,9 +113,9 @@ module _ (gateways : ℕ) (tasks : List Task) where
       → Contains (zip (workers_from gateways before tasks hs) ends) (worker, own) → worker.gateway ≡ gateway_of h → Contains (zip worker.tasks own) (place, end) → ⊥
   apart_from before h hs ends worker own place end none here among of came =
       let by = hand_among before hs ends worker own among in
-      let there : Contains (places_from gateways by.hand 0 tasks) place = subst (λ (ps : List ℕ). Contains ps place) by.places (zip_place worker.tasks own place end came) in
+      let there : Contains (places_from gateways by.hand 0 tasks) place = subst (λ (ps : List ℕ). Contains ps place) by.places (first_in_zip worker.tasks own place end came) in
       let same : h ≡ by.hand = one_hand h by.hand place (sym of ∙ by.gateway) here there in
-      let found : list_any (same_hand h) hs ≡ true = any_of_member (same_hand h) hs by.hand by.among (subst (λ (x : Hand). same_hand h x ≡ true) same (same_self h)) in
+      let found : list_any (same_hand h) hs ≡ true = any_of_member (same_hand h) hs by.hand by.among (subst (λ (x : Hand). same_hand h x ≡ true) same (itself h)) in
       let clash : true ≡ false = sym found ∙ none in absurd (cc (clash))
 
   -- what a worker came to is what the same worker, written otherwise, came to
@@ -136,7 +128,7 @@ module _ (gateways : ℕ) (tasks : List Task) where
       → Contains (zip w.tasks own) (place, one) → Contains (zip v.tasks also) (place, other) → ⊥
   head_apart before h hs x ends gateway place one other head w v own also by none first later is so came went =
       let of : w.gateway ≡ gateway_of h = sym (ap (λ (p : Worker × List End). p.0.gateway) first) ∙ ap (λ (u : Worker). u.gateway) by in
-      let here : Contains head.tasks place = zip_place head.tasks x place one (came_at head w x own place one first came) in
+      let here : Contains head.tasks place = first_in_zip head.tasks x place one (came_at head w x own place one first came) in
       apart_from before h hs ends v also place other none (subst (λ (u : Worker). Contains u.tasks place) by here) later (so ∙ sym is ∙ of) went
 
   came_by : (before : ℕ) (hs : List Hand) (ends : List (List End)) (gateway : Option ℕ) (place : ℕ) (one other : End) → Apart hs → (w v : Worker) (own also : List End)

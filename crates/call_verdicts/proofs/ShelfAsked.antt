@@ -1,5 +1,5 @@
 -- What a call asked of its shelf, from the readings of a check outwards to the whole call.
-use Rattle.std.proofs.Common.{◌≡◌, inl, inr, ℕ, ◌<◌, List, [], refl, sym, ◌∙◌, ap, subst, arith}
+use Rattle.std.proofs.Common.{◌≡◌, inl, inr, ℕ, ◌<◌, List, [], sym, ◌∙◌, ap, subst, arith}
 use Rattle.std.specs.Prelude.{Option, Some, None, IfSome, is_some, Result}
 use Rattle.bucket_core.specs.Asking.{Asks}
 use Rattle.bucket_core.specs.Contents.{Contents}
@@ -19,11 +19,7 @@ use Rattle.call_verdicts.specs.declared.status.Status.{Status}
 use Rattle.call_verdicts.specs.declared.verdict.Verdict.{Verdict}
 use Rattle.call_verdicts.proofs.HandedBack.{if_map}
 use Rattle.call_verdicts.proofs.Verdicts.{if_told}
-
--- what holds of whatever is told holds, if something is
-if_any : {X : Type 0} (o : Option X) (P : X → Type 0) → ((x : X) → o ≡ Some x → P x) → IfSome o P
-if_any None P holds = tt
-if_any (Some x) P holds = holds x refl
+use Rattle.call_verdicts.proofs.ShelfReads.{if_any}
 
 -- ---- one shelf
 

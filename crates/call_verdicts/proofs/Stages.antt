@@ -26,13 +26,9 @@ use Rattle.call_verdicts.specs.declared.check_way.Stage.{Stage}
 use Rattle.call_verdicts.specs.declared.check_way.Stage.TheVariants as stage
 use Rattle.call_verdicts.specs.declared.verdict.Verdict.{Verdict}
 use Rattle.call_verdicts.proofs.ShelfReads.{found_of, if_any, ok_is}
-
-if_more : {X : Type 0} (o : Option X) (P Q : X → Type 0) → ((x : X) → P x → Q x) → IfSome o P → IfSome o Q
-if_more None P Q more holds = tt
-if_more (Some x) P Q more holds = more x holds
-
-if_told : {X : Type 0} (o : Option X) (x : X) (P : X → Type 0) → o ≡ Some x → IfSome o P → P x
-if_told o x P is holds = subst (λ p. IfSome p P) is holds
+use Rattle.call_verdicts.proofs.HandedBack.{if_map}
+use Rattle.call_verdicts.proofs.Unfailed.{if_some}
+use Rattle.list_core.proofs.Pairs.{AllZip-push, AllZip-weaker}
 
 -- ---- a block is loaded
 
@@ -64,32 +60,14 @@ next_aside told block old new other more = (stage.Aside, more, inl (other, refl)
 
 -- ---- lists of them
 
-zip_push : {A B : Type 0} (R : A → B → Type 0) (xs : List A) (ys : List B) (x : A) (y : B) → AllZip R xs ys → R x y → AllZip R (xs ++ x ∷ []) (ys ++ y ∷ [])
-zip_push R [] [] x y are one = (one, tt)
-zip_push R [] (b ∷ ys) x y are one = absurd are
-zip_push R (a ∷ xs) [] x y are one = absurd are
-zip_push R (a ∷ xs) (b ∷ ys) x y are one = (are.0, zip_push R xs ys x y are.1 one)
-
 pub zip_next : (told : Option Contents) (blocks : List Block) (block : Block) (old new : List Stage) → AllZip (IsLoadedFor told) blocks old → IsLoadedNext told block old new → AllZip (IsLoadedFor told) (blocks ++ block ∷ []) new
-zip_next told blocks block old new are (one, more, is) = subst (AllZip (IsLoadedFor told) (blocks ++ block ∷ [])) (sym more) (zip_push (IsLoadedFor told) blocks old block one are is)
-
-pub zip_many : {A B : Type 0} (R : A → B → Type 0) (xs : List A) (ys : List B) → AllZip R xs ys → length ys ≡ length xs
-zip_many R [] [] are = refl
-zip_many R [] (b ∷ ys) are = absurd are
-zip_many R (a ∷ xs) [] are = absurd are
-zip_many R (a ∷ xs) (b ∷ ys) are = ap suc (zip_many R xs ys are.1)
+zip_next told blocks block old new are (one, more, is) = subst (AllZip (IsLoadedFor told) (blocks ++ block ∷ [])) (sym more) (AllZip-push (IsLoadedFor told) blocks old block one are is)
 
 zip_at : {A B : Type 0} (R : A → B → Type 0) (xs : List A) (ys : List B) (i : ℕ) (d : A) (e : B) → AllZip R xs ys → i < length xs → R (slice_index_or xs i d) (slice_index_or ys i e)
 zip_at R [] ys i d e are lt = absurd (omega (arith, lt))
 zip_at R (a ∷ xs) [] i d e are lt = absurd are
 zip_at R (a ∷ xs) (b ∷ ys) zero d e are lt = are.0
 zip_at R (a ∷ xs) (b ∷ ys) (suc i) d e are lt = zip_at R xs ys i d e are.1 (omega (arith, lt))
-
-zip_as : {A B : Type 0} (R S : A → B → Type 0) → ((x : A) (y : B) → R x y → S x y) → (xs : List A) (ys : List B) → AllZip R xs ys → AllZip S xs ys
-zip_as R S leads [] [] are = tt
-zip_as R S leads [] (b ∷ ys) are = absurd are
-zip_as R S leads (a ∷ xs) [] are = absurd are
-zip_as R S leads (a ∷ xs) (b ∷ ys) are = (leads a b are.0, zip_as R S leads xs ys are.1)
 
 take_nil : {A : Type 0} (count : ℕ) → take {A = A} count [] ≡ []
 take_nil zero = refl
@@ -113,7 +91,7 @@ module _ (told : Option Contents) (ulid : ℕ) where
     of = ended_as ulid files (λ (f : BlockFiles). IfSome told (λ c. IsLoaded c ulid f)) of (Ok checked) ends;
   }
   end_by files (Err (load.Refused refusal)) within of ends =
-      if_more told (λ c. IsLoaded c ulid files) (λ c. RefusesOnShelf c ulid refusal) (λ c loaded. ended_refused c ulid files loaded refusal (Err (load.Refused refusal)) ends refl) of
+      if_map told (λ c. IsLoaded c ulid files) (λ c. RefusesOnShelf c ulid refusal) (λ c loaded. ended_refused c ulid files loaded refusal (Err (load.Refused refusal)) ends refl) of
   end_by files (Err load.ShelfFault) within of ends = let never : true ≡ false = ended_calm ulid files (Err load.ShelfFault) ends in absurd cc
   end_by files (Err load.NoMemory) within of ends = tt
 
@@ -155,7 +133,7 @@ untold_one told block now (inl aside) = inl aside
 untold_one told block now (inr (on, end, is, of)) = inr (on, end, is, end_untold told block.ulid end of)
 
 pub all_untold : (told : Option Contents) (blocks : List Block) (ends : List Stage) → AllZip (IsEndedFor told) blocks ends → AllZip (IsEndedFor None) blocks ends
-all_untold told blocks ends are = zip_as (IsEndedFor told) (IsEndedFor None) (untold_one told) blocks ends are
+all_untold told blocks ends are = AllZip-weaker (IsEndedFor told) (IsEndedFor None) (untold_one told) blocks ends are
 
 -- what stands at a place, which did not change so far, is the end of that block's check
 pub ended_at : (told : Option Contents) (blocks : List Block) (first now : List Stage) (place : ℕ) (block : Block) (own other : Stage) → AllZip (IsEndedFor told) blocks first → block ≡ slice_index_or blocks place block → own ≡ slice_index_or now place other
@@ -186,11 +164,11 @@ no_fault ulid checked of is = subst (IsEndOf None ulid) is of
 
 module _ (told : Option Contents) (ulid : ℕ) where
   loaded_by : (checked : Result Checked LoadRefusal) → IsEndOf told ulid checked → (files : Contents) → told ≡ Some files → IfOk checked (λ own. IsLoaded files ulid (checked_files own))
-  loaded_by (Ok own) of files is = if_told told files (λ c. IsLoaded c ulid (checked_files own)) is of.of
+  loaded_by (Ok own) of files is = if_some told files (λ c. IsLoaded c ulid (checked_files own)) is of.of
   loaded_by (Err e) of files is = tt
 
   refused_by : (checked : Result Checked LoadRefusal) → IsEndOf told ulid checked → (files : Contents) → told ≡ Some files → (other : CheckRefusal) → checked ≡ Err (load.Refused other) → RefusesOnShelf files ulid other
-  refused_by checked of files is other same = if_told told files (λ c. RefusesOnShelf c ulid other) is (subst (IsEndOf told ulid) same of)
+  refused_by checked of files is other same = if_some told files (λ c. RefusesOnShelf c ulid other) is (subst (IsEndOf told ulid) same of)
 
 pub kept_read : (told : Option Contents) (block : Block) (now : Stage) (checked : Result Checked LoadRefusal) (r : Result ShelfBlock Verdict) (one : ShelfBlock) (old new : List ShelfBlock) → now ≡ stage.Ended checked → IsEndedFor told block now
     → IfOk r (λ read. read.ulid ≡ block.ulid) → IfOk r (λ read. IsHeld block read.found) → IfOk r (λ read. IsReadBy checked (read_as block.ulid (Some read.found))) → r ≡ Ok one → new ≡ old ++ one ∷ [] → IsReadNext told block old new

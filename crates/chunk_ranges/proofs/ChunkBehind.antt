@@ -8,7 +8,7 @@ use Rattle.xor_chunks.specs.declared.refusal.XorRefusal.{XorRefusal}
 use Rattle.xor_chunks.specs.declared.refusal.XorRefusal.TheVariants as xor
 use Rattle.xor_chunks.specs.Data.{data_at, with_samples}
 use Rattle.chunk_files.specs.ChunkReading.{chunk_at}
-use Rattle.block_content.proofs.Appending.{parts_of_whole, part_behind}
+use Rattle.block_content.proofs.Appending.{parts_of_whole, part_behind, refused_alone}
 use Rattle.read_ranges.specs.Reads.{Block}
 use Rattle.chunk_ranges.specs.ChunkReads.{is_chunk_of, stored_at, chunk_samples_at}
 use Rattle.read_ranges.specs.Findings.{ReadsBehind}
@@ -21,10 +21,6 @@ pub data_behind : (front all : List Sample) (bytes content : List ℕ) → chunk
     → (more : List Sample) × (stored_at bytes ≡ Ok more) × (all ≡ front ++ more)
 data_behind front all bytes content is so =
     let p = parts_of_whole front all (data_at 8 content) so in (p.0, stored bytes content p.0 is p.1, p.2)
-
-refused_alone : {E : Type 0} (front : List Sample) (read : Result (List Sample) E) (d : E) → with_samples front read ≡ Err d → read ≡ Err d
-refused_alone front (Ok x) d e = absurd cc
-refused_alone front (Err c) d e = e
 
 wanting : (wants : Bool) → wants ≡ true → wants ≡ false → ⊥
 wanting wants t f = absurd (cc (t, f))

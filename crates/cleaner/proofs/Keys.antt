@@ -1,21 +1,21 @@
 -- Keys by the names of their objects, and lawful keys.
 use Rattle.std.proofs.Common.{Bor, ◌≡◌, ℕ, ◌+◌, true, Option, None, Some, Ok, List, [], ◌∷◌, ◌++◌, map, length, take, drop, refl, sym, ap, subst, ◌∙◌, codes, append_assoc, length-append, arith}
-use Rattle.std.specs.Prelude.{nat_le, IfSome, MatchOption}
+use Rattle.std.specs.Prelude.{IfSome, MatchOption}
 use Rattle.std.specs.Option.{option_copied}
 use Rattle.std.specs.Slice.{IsItemAt}
 use Rattle.std.specs.List.{before_first, after_first, position_or_len}
 use Rattle.std.specs.Int.Digits.{AllBelowBase}
 use Rattle.std.proofs.Math.Seq.{take-append_seam, drop-append_seam}
-use Rattle.std.proofs.lemmas.Bool.{and_from, and_parts, leb-true}
+use Rattle.std.proofs.lemmas.Bool.{and_from, and_parts}
 use Rattle.std.proofs.lemmas.List.{length-map}
 use Rattle.ulid_core.specs.UlidText.{IsUlidText, text_of, ulid_of, character}
 use Rattle.ulid_core.proofs.UlidLaws.{ulid_of-only}
-use Rattle.block_keys.specs.Keys.{IsLawfulKey}
+use Rattle.block_keys.specs.Keys.{IsLawfulKey, is_lawful_key}
 use Rattle.block_keys.specs.KeyText.{key_named, key_within, key_of, is_slash}
 use Rattle.block_keys.specs.declared.key.Key.{Key}
-use Rattle.block_keys.specs.declared.key.Key.TheVariants.{Meta, Index, Segment, Mark}
 use Rattle.block_keys.proofs.KeyLaws.{before_slash}
-use Rattle.cleaner.specs.Objects.{is_lawful_key, have_lawful_keys}
+use Rattle.block_keys.proofs.LawfulKeys.{lawful_key}
+use Rattle.cleaner.specs.Objects.{have_lawful_keys}
 
 -- ---- names
 
@@ -44,13 +44,6 @@ key_of_name ulid name block =
     ∙ ap (key_named ulid) parts.1
 
 -- ---- lawful keys
-
-lawful_key : (k : Key) → is_lawful_key k ≡ true → IsLawfulKey k
-lawful_key (Segment ulid number) e =
-    let parts : _ = and_parts (nat_le 1 number) (nat_le number 999_999) e in (leb-true 1 number parts.0, leb-true number 999_999 parts.1)
-lawful_key (Meta ulid) e = tt
-lawful_key (Index ulid) e = tt
-lawful_key (Mark ulid) e = tt
 
 -- with one more
 pub lawful_more : (keys : List Key) (k : Key) → have_lawful_keys keys ≡ true → is_lawful_key k ≡ true → have_lawful_keys (keys ++ k ∷ []) ≡ true

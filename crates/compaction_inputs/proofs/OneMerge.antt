@@ -1,8 +1,6 @@
 -- What blocks become that were read is one.
 use Rattle.std.proofs.Common.{◌≡◌, ℕ, ◌<◌, List, [], ◌∷◌, map, length, refl, sym, ap, subst, ◌∙◌, arith}
 use Rattle.std.specs.List.{AllByRecursion, AllZip}
-use Rattle.list_core.proofs.Lists.{AllByRecursion-weaker}
-use Rattle.reading_core.specs.Grammar.{IsBytes}
 use Rattle.label_sets.specs.declared.label.Label.{Label}
 use Rattle.block_meta.specs.MetaFields.{fields_of}
 use Rattle.block_meta.specs.declared.block_plan.BlockPlan.{BlockPlan}
@@ -18,7 +16,7 @@ use Rattle.block_merging.specs.Inputs.{LiesWithin}
 use Rattle.block_merging.specs.MergedBlock.{IsMergeOf, HaveNoMerge}
 use Rattle.block_merging.proofs.OneMerged.{puts_once}
 use Rattle.block_merging.proofs.PlansFit.{compacted_lie}
-use Rattle.block_merging.proofs.MergeLaws.{merge_once}
+use Rattle.block_merging.proofs.MergeLaws.{merge_once, indexes_bytes}
 use Rattle.compaction_inputs.specs.Inputs.{IsInput}
 use Rattle.compaction_inputs.specs.declared.input.Input.{Input}
 use Rattle.compaction_inputs.specs.Merges.{Given, IsRefused, IsMerging}
@@ -45,9 +43,6 @@ all_bytes [] (b ∷ bs) are = absurd are
 all_bytes (input ∷ inputs) [] are = absurd are
 all_bytes (input ∷ inputs) (b ∷ bs) are = (are.0.bytes, all_bytes inputs bs are.1)
 
-index_bytes : (blocks : List BlockFiles) → AllByRecursion AreBytes blocks → AllByRecursion (λ block. IsBytes block.index) blocks
-index_bytes blocks bytes = AllByRecursion-weaker AreBytes (λ (block : BlockFiles). IsBytes block.index) (λ block are. are.index) blocks bytes
-
 module _ (ulid : ℕ) (labels : List Label) (inputs : List Input) (g h : Given ulid labels inputs) where
   same_blocks : g.blocks ≡ h.blocks
   same_blocks = blocks_once inputs g.blocks h.blocks g.read h.read
@@ -72,7 +67,7 @@ module _ (replicas : List (List ℕ)) (ulid : ℕ) (labels : List Label) (inputs
   not_large : (g h : Given ulid labels inputs) (block : BlockFiles) → IsMergeOf g.plan replicas g.blocks block → HaveNoMerge h.plan replicas h.blocks → ⊥
   not_large g h block is none =
       let none' : HaveNoMerge g.plan replicas g.blocks = moved ulid labels inputs g h (λ p bs. HaveNoMerge p replicas bs) none in
-      let series : is.put.series ≡ none'.put.series = puts_once g.plan replicas g.blocks (lie g) (index_bytes g.blocks (bytes g)) is.put none'.put is.put_is none'.put_is in
+      let series : is.put.series ≡ none'.put.series = puts_once g.plan replicas g.blocks (lie g) (indexes_bytes g.blocks (bytes g)) is.put none'.put is.put_is none'.put_is in
       let files : AreFilesOf is.put.series none'.large.index none'.large.segments = subst (λ (l : List PutSeries). AreFilesOf l none'.large.index none'.large.segments) (sym series) none'.large.files in
       let same : block.index ≡ none'.large.index = one_index is.put.series block.index none'.large.index block.segments none'.large.segments is.block_is.files files in
       absurd (let more : greatest < length block.index = subst (λ (l : List ℕ). greatest < length l) (sym same) none'.large.large in let few = is.block_is.small in omega (arith, more, few))

@@ -8,13 +8,12 @@ use Rattle.label_sets.specs.declared.series.Series.{Series}
 use Rattle.index_parts.specs.declared.chunk_place.ChunkPlace.{ChunkPlace}
 use Rattle.index_file.specs.declared.index_series.IndexSeries.{IndexSeries}
 use Rattle.block_files.specs.declared.block_files.BlockFiles.{BlockFiles}
-use Rattle.reading_core.specs.Firsts.{IsFirstAt}
 use Rattle.block_content.specs.ContentReading.{content_at}
 use Rattle.block_content.specs.ContentRefusals.{RefusesContent, HasBadChunk, IsFirstBadChunk}
 use Rattle.block_content.specs.declared.chunk_cause.ChunkCause.{ChunkCause}
 use Rattle.block_content.specs.declared.check_refusal.CheckRefusal.{CheckRefusal}
 use Rattle.block_content.specs.declared.check_refusal.CheckRefusal.TheVariants.{BadChunk}
-use Rattle.reading_core.proofs.FirstLaws.{some_is}
+use Rattle.reading_core.proofs.FirstLaws.{some_is, bad_head, bad_tail, nothing_there}
 use Rattle.block_content.proofs.ContentLaws.{block_tells, content_again, content_refuses}
 use Rattle.block_laws.specs.PutContent.{AreBytes}
 use Rattle.block_merging.specs.Inputs.{HasContent, IsFirstRefused}
@@ -23,15 +22,6 @@ use Rattle.compaction_inputs.specs.declared.input.Input.{Input}
 use Rattle.compaction_inputs.specs.Merges.{WasReadAt, IsRefused}
 
 -- ---- the first block
-
-nothing_there : {A : Type 0} (k : ℕ) (x : A) → slice_get {X = A} [] k ≡ Some x → ⊥
-nothing_there k x e = absurd cc
-
-here : {A : Type 0} (Good Bad : A → Type 0) (x : A) (xs : List A) → IsFirstAt Good Bad (x ∷ xs) 0 → Bad x
-here Good Bad x xs is = subst Bad (sym (some_is x is.member is.stands)) is.bad
-
-behind : {A : Type 0} (Good Bad : A → Type 0) (x : A) (xs : List A) (k : ℕ) → IsFirstAt Good Bad (x ∷ xs) (suc k) → Good x × IsFirstAt Good Bad xs k
-behind Good Bad x xs k is = (is.before.0, record { member = is.member; stands = is.stands; bad = is.bad; before = is.before.1 })
 
 not_both : (block : BlockFiles) (cause : CheckRefusal) → AreBytes block → HasContent block → RefusesContent block cause → ⊥
 not_both block cause bytes (list, held) refused =
@@ -46,19 +36,19 @@ one_cause block c d bytes is so =
 pub first_once : (blocks : List BlockFiles) (p q : ℕ) (c d : CheckRefusal) → AllByRecursion AreBytes blocks → IsFirstRefused blocks p c → IsFirstRefused blocks q d → (p ≡ q) × (c ≡ d)
 first_once [] p q c d bytes is so = absurd (nothing_there p is.member is.stands)
 first_once (x ∷ xs) zero zero c d bytes is so =
-    (refl, one_cause x c d bytes.0 (here HasContent (λ b. RefusesContent b c) x xs is) (here HasContent (λ b. RefusesContent b d) x xs so))
+    (refl, one_cause x c d bytes.0 (bad_head HasContent (λ b. RefusesContent b c) x xs is) (bad_head HasContent (λ b. RefusesContent b d) x xs so))
 first_once (x ∷ xs) zero (suc q) c d bytes is so =
-    absurd (not_both x c bytes.0 (behind HasContent (λ b. RefusesContent b d) x xs q so).0 (here HasContent (λ b. RefusesContent b c) x xs is))
+    absurd (not_both x c bytes.0 (bad_tail HasContent (λ b. RefusesContent b d) x xs q so).0 (bad_head HasContent (λ b. RefusesContent b c) x xs is))
 first_once (x ∷ xs) (suc p) zero c d bytes is so =
-    absurd (not_both x d bytes.0 (behind HasContent (λ b. RefusesContent b c) x xs p is).0 (here HasContent (λ b. RefusesContent b d) x xs so))
+    absurd (not_both x d bytes.0 (bad_tail HasContent (λ b. RefusesContent b c) x xs p is).0 (bad_head HasContent (λ b. RefusesContent b d) x xs so))
 first_once (x ∷ xs) (suc p) (suc q) c d bytes is so =
-    let r = first_once xs p q c d bytes.1 (behind HasContent (λ b. RefusesContent b c) x xs p is).1 (behind HasContent (λ b. RefusesContent b d) x xs q so).1 in
+    let r = first_once xs p q c d bytes.1 (bad_tail HasContent (λ b. RefusesContent b c) x xs p is).1 (bad_tail HasContent (λ b. RefusesContent b d) x xs q so).1 in
     (ap (λ n. suc n) r.0, r.1)
 
 pub none_refused : (blocks : List BlockFiles) (p : ℕ) (c : CheckRefusal) → AllByRecursion AreBytes blocks → AllByRecursion HasContent blocks → IsFirstRefused blocks p c → ⊥
 none_refused [] p c bytes held is = nothing_there p is.member is.stands
-none_refused (x ∷ xs) zero c bytes held is = not_both x c bytes.0 held.0 (here HasContent (λ b. RefusesContent b c) x xs is)
-none_refused (x ∷ xs) (suc p) c bytes held is = none_refused xs p c bytes.1 held.1 (behind HasContent (λ b. RefusesContent b c) x xs p is).1
+none_refused (x ∷ xs) zero c bytes held is = not_both x c bytes.0 held.0 (bad_head HasContent (λ b. RefusesContent b c) x xs is)
+none_refused (x ∷ xs) (suc p) c bytes held is = none_refused xs p c bytes.1 held.1 (bad_tail HasContent (λ b. RefusesContent b c) x xs p is).1
 
 -- ---- the entry
 

@@ -1,7 +1,8 @@
 -- The files of blocks that were read, put together one after another.
-use Rattle.std.proofs.Common.{◌≡◌, ℕ, zero, suc, List, [], ◌∷◌, ◌++◌, ◌<◌, map, length, get_or, refl, sym, ap, subst, ◌∙◌, arith}
+use Rattle.std.proofs.Common.{◌≡◌, ℕ, List, [], ◌∷◌, ◌++◌, map, refl, sym, ap, subst, ◌∙◌}
 use Rattle.std.specs.List.{AllByRecursion, AllZip}
-use Rattle.list_core.proofs.Lists.{AllByRecursion-push}
+use Rattle.list_core.proofs.Lists.{AllByRecursion-push, map-push}
+use Rattle.list_core.proofs.Pairs.{AllZip-push}
 use Rattle.reading_core.specs.Grammar.{IsBytes}
 use Rattle.block_files.specs.declared.block_files.BlockFiles.{BlockFiles}
 use Rattle.compaction_inputs.specs.Inputs.{IsInput}
@@ -10,13 +11,9 @@ use Rattle.compaction_inputs.specs.declared.input.Input.{Input}
 use Rattle.compaction_inputs.specs.declared.input.Read.{Read}
 use Rattle.compaction_inputs.specs.declared.input_files.Numbers.{Numbers}
 
-map_more : {A B : Type 0} (f : A → B) (xs : List A) (x : A) → map f (xs ++ x ∷ []) ≡ map f xs ++ f x ∷ []
-map_more f [] x = refl
-map_more f (y ∷ ys) x = ap (λ l. f y ∷ l) (map_more f ys x)
-
 -- a list that is read member by member, one more
 more : {A B : Type 0} (f : A → B) (xs : List A) (x : A) (ys new : List B) → ys ≡ map f xs → new ≡ ys ++ f x ∷ [] → new ≡ map f (xs ++ x ∷ [])
-more f xs x ys new are is = is ∙ ap (λ l. l ++ f x ∷ []) are ∙ sym (map_more f xs x)
+more f xs x ys new are is = is ∙ ap (λ l. l ++ f x ∷ []) are ∙ sym (map-push f xs x)
 
 -- ---- segments
 
@@ -40,16 +37,10 @@ segments_all segments yielded files numbers all are = subst (λ l. AreSegments l
 
 -- ---- blocks
 
-zip_more : {A B : Type 0} (P : A → B → Type 0) (xs : List A) (ys : List B) (x : A) (y : B) → AllZip P xs ys → P x y → AllZip P (xs ++ x ∷ []) (ys ++ y ∷ [])
-zip_more P [] [] x y are is = (is, tt)
-zip_more P [] (b ∷ bs) x y are is = absurd are
-zip_more P (a ∷ xs) [] x y are is = absurd are
-zip_more P (a ∷ xs) (b ∷ ys) x y are is = (are.0, zip_more P xs ys x y are.1 is)
-
 pub files_more : (inputs : List Input) (blocks new_blocks : List BlockFiles) (numbers new_numbers : List Numbers) (input : Input) (block : BlockFiles) (read : Numbers) → IsInput input block → read ≡ numbers_of input
     → new_blocks ≡ blocks ++ block ∷ [] → new_numbers ≡ numbers ++ read ∷ [] → AreFiles inputs blocks numbers → AreFiles (inputs ++ input ∷ []) new_blocks new_numbers
 files_more inputs blocks new_blocks numbers new_numbers input block read is shown added numbered are = record {
-  read = subst (AllZip IsInput (inputs ++ input ∷ [])) (sym added) (zip_more IsInput inputs blocks input block are.read is);
+  read = subst (AllZip IsInput (inputs ++ input ∷ [])) (sym added) (AllZip-push IsInput inputs blocks input block are.read is);
   numbers_are = more numbers_of inputs input numbers new_numbers are.numbers_are (numbered ∙ ap (λ (r : Numbers). numbers ++ r ∷ []) shown);
 }
 
@@ -62,9 +53,3 @@ files_all inputs yielded blocks numbers all are = subst (λ l. AreFiles l blocks
     same_map : (xs : List Input) → map (λ (x : Input). x) xs ≡ xs
     same_map [] = refl
     same_map (x ∷ xs) = ap (λ l. x ∷ l) (same_map xs)
-
--- a member at a place has what all have
-at : {A : Type 0} (P : A → Type 0) (xs : List A) (k : ℕ) (d : A) → AllByRecursion P xs → k < length xs → P (get_or xs k d)
-at P [] k d are within = absurd (omega (arith, within))
-at P (x ∷ xs) zero d are within = are.0
-at P (x ∷ xs) (suc k) d are within = at P xs k d are.1 (omega (arith, within))

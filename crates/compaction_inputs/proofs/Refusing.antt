@@ -3,7 +3,6 @@ use Rattle.std.proofs.Common.{◌≡◌, ◌<◌, ℕ, zero, suc, List, [], ◌�
 use Rattle.std.specs.Prelude.{slice_get}
 use Rattle.std.specs.List.{AllZip}
 use Rattle.list_core.specs.declared.memory.NoMemory.{NoMemory as OutOfMemory}
-use Rattle.reading_core.specs.Reading.{refused_as}
 use Rattle.reading_core.proofs.Binds.{ok_is}
 use Rattle.reading_core.specs.Grammar.{IsBytes}
 use Rattle.index_file.specs.declared.index_series.IndexSeries.{IndexSeries}
@@ -84,11 +83,6 @@ pub refused_result : (r : Result ℕ OutOfMemory) (blocks : List BlockFiles) (nu
     → IfOk r (λ number. (inputs : List Input) → AllZip IsInput inputs blocks → numbers ≡ map numbers_of inputs → IsRefused inputs blocks number)
 refused_result (Ok number) blocks numbers place at cause block read less is first stands told shown = refused_so blocks numbers place at number cause block read less is first stands told shown
 refused_result (Err none) blocks numbers place at cause block read less is first stands told shown = tt
-
--- what is read without a refusal is read so whatever the refusal is called
-pub read_so : {A E F : Type 0} (f : E → F) (r : Result A E) (x : A) → refused_as f r ≡ Ok x → r ≡ Ok x
-read_so f (Ok y) x e = ap (λ a. Ok a) (ok_is y x e)
-read_so f (Err d) x e = absurd (cc (e))
 
 pub place_is : (bytes : List ℕ) (read : List IndexSeries) (series chunk : ℕ) (one : IndexSeries) (place : ChunkPlace) → IsBytes bytes → index_at bytes ≡ Ok read → series < 4294967295 → chunk < 4294967295
     → slice_get read series ≡ Some one → slice_get one.chunks chunk ≡ Some place → IsPlaceOf bytes series chunk place

@@ -1,16 +1,13 @@
 -- A plan that is not empty has two blocks at least.
-use Rattle.std.proofs.Common.{◌≡◌, ◌⊎◌, ◌≤◌, ◌&&◌, ◌==◌, Bool, true, false, nat_le, if◌then◌else◌, List, [], ◌∷◌, length, find, Option, Some, None, inl, inr, refl, sym, ap, subst, ◌∙◌, arith}
+use Rattle.std.proofs.Common.{◌≡◌, ◌⊎◌, ◌≤◌, ◌==◌, Bool, true, false, nat_le, if◌then◌else◌, List, [], ◌∷◌, length, find, Option, Some, None, inl, inr, refl, sym, ap, subst, ◌∙◌, arith}
 use Rattle.std.specs.Option.{option_map_or}
 use Rattle.std.proofs.lemmas.Bool.{leb-true}
 use Rattle.list_core.proofs.Lists.{find_passes, length-some, nil_not_cons}
+use Rattle.list_core.proofs.Bools.{and_first}
 use Rattle.block_meta.specs.declared.meta.Meta.{Meta}
 use Rattle.group_planner.specs.Overlaps.{IsOverlapPlan}
 use Rattle.group_planner.specs.Plans.{IsPlan, without_last}
 use Rattle.group_planner.specs.Selections.{IsSelection, Candidate, is_wanted, last_begin}
-
-left_of_both : (a b : Bool) → (a && b) ≡ true → a ≡ true
-left_of_both true b e = refl
-left_of_both false b e = e
 
 two_selected : (members selected : List Meta) → IsSelection members selected → (selected ≡ []) ⊎ (2 ≤ length selected)
 two_selected members selected is = by (find (is_wanted (last_begin members)) is.candidates) refl
@@ -19,7 +16,7 @@ two_selected members selected is = by (find (is_wanted (last_begin members)) is.
     by None e = inl (is.first ∙ ap (λ (o : Option Candidate). option_map_or (λ (c : Candidate). c.part) o []) e)
     by (Some c) e =
         let part : selected ≡ c.part = is.first ∙ ap (λ (o : Option Candidate). option_map_or (λ (c : Candidate). c.part) o []) e in
-        let test : nat_le 2 (length c.part) ≡ true = left_of_both (nat_le 2 (length c.part)) _ (find_passes (is_wanted (last_begin members)) is.candidates c e) in
+        let test : nat_le 2 (length c.part) ≡ true = and_first (nat_le 2 (length c.part)) _ (find_passes (is_wanted (last_begin members)) is.candidates c e) in
         inr (subst (λ (l : List Meta). 2 ≤ length l) (sym part) (leb-true 2 (length c.part) test))
 
 two_overlap : (members overlap : List Meta) → IsOverlapPlan members overlap → (overlap ≡ []) ⊎ (2 ≤ length overlap)

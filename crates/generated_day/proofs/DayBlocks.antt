@@ -8,7 +8,6 @@ use Rattle.std.proofs.lemmas.Int.{ints}
 use Rattle.std.proofs.lemmas.Nat.{mod_low}
 use Rattle.std.specs.Int.Digits.{AllBelowBase}
 use Rattle.std.proofs.lemmas.List.{length-append, same_from_push}
-use Rattle.std.proofs.lemmas.List.Folds.{list_any-append}
 use Rattle.std.proofs.lemmas.List.Sorted.{IsPermutation-refl}
 use Rattle.reading_core.specs.Decimal.{decimal_text, signed_text}
 use Rattle.reading_core.proofs.Decimals.{decimal_again, decimal_digits}
@@ -30,10 +29,12 @@ use Rattle.script_core.specs.declared.body.Body.TheVariants.{Inline}
 use Rattle.script_core.specs.declared.script.Script.{Script}
 use Rattle.script_core.proofs.LineTools.{no_end}
 use Rattle.script_core.proofs.SampleSigns.{all_joined, all_weaker}
+use Rattle.script_core.proofs.Kept.{declares-append}
 use Rattle.generated_day.specs.Day.{all_blocks_text, all_series_text, block_line, block_start, block_text, blocks_at, external_text, setup_text, times_text, ulid_of}
 use Rattle.generated_day.proofs.DayNumbers.{decimal_short, near_by}
 use Rattle.generated_day.proofs.DaySeries.{all_short, all_tell, first_series, two_named, with_first}
 use Rattle.generated_day.proofs.Tells.{Tells, digit_prints, in_range, is_print, speaks, tells_both, tells_line, tells_nothing}
+use Rattle.list_core.proofs.Bools.{or_true}
 
 -- ---- numbers
 
@@ -165,14 +166,6 @@ or_false true b = refl
 or_false false true = refl
 or_false false false = refl
 
-or_true : (a : Bool) → (a || true) ≡ true
-or_true true = refl
-or_true false = refl
-
-declares_more : (blocks : List Block) (new : Block) (ulid : ℕ) → declares (blocks ++ new ∷ []) ulid ≡ (declares blocks ulid || (new.ulid == ulid))
-declares_more blocks new ulid =
-    list_any-append (λ (block : Block). block.ulid == ulid) blocks (new ∷ []) ∙ or_false (declares blocks ulid) (new.ulid == ulid)
-
 -- a later block has a greater ULID
 greater : (block replica later other : ℕ) → 2 * block + replica < 2 * later + other → other < 2 → ulid_of block replica < ulid_of later other
 greater block replica later other before two = omega (arith, before, two)
@@ -186,12 +179,12 @@ same_pair block replica later other same one two =
 there_by : (blocks : List Block) (new : Block) (done block replica at other : ℕ) (b : Bool) → nat_lt (2 * at + other) done ≡ b → Ready blocks done → done ≡ 2 * block + replica → new.ulid ≡ ulid_of block replica → replica < 2 → 2 * at + other < done + 1 → other < 2 → declares (blocks ++ new ∷ []) (ulid_of at other) ≡ true
 there_by blocks new done block replica at other true test ready place ulid one below two =
     let old : declares blocks (ulid_of at other) ≡ true = ready.there at other (grind (arith, nat_tests)) two in
-    declares_more blocks new (ulid_of at other) ∙ ap (λ b. b || (new.ulid == ulid_of at other)) old
+    declares-append blocks new (ulid_of at other) ∙ ap (λ b. b || (new.ulid == ulid_of at other)) old
 there_by blocks new done block replica at other false test ready place ulid one below two =
     let last : 2 * block + replica ≡ 2 * at + other = grind (arith, nat_tests) in
     let same = ulid ∙ same_pair block replica at other last one two in
     let is : (new.ulid == ulid_of at other) ≡ true = grind (arith, nat_tests) in
-    declares_more blocks new (ulid_of at other) ∙ ap (λ b. declares blocks (ulid_of at other) || b) is ∙ or_true (declares blocks (ulid_of at other))
+    declares-append blocks new (ulid_of at other) ∙ ap (λ b. declares blocks (ulid_of at other) || b) is ∙ or_true (declares blocks (ulid_of at other))
 
 more_ready : (blocks : List Block) (new : Block) (done block replica : ℕ) → Ready blocks done → done ≡ 2 * block + replica → replica < 2 → new.ulid ≡ ulid_of block replica → HasSeries new.body → Ready (blocks ++ new ∷ []) (done + 1)
 more_ready blocks new done block replica ready place two ulid some = record {
@@ -201,7 +194,7 @@ more_ready blocks new done block replica ready place two ulid some = record {
   fresh = λ at other later few.
       let above = greater block replica at other (omega (arith, later, place)) few in
       let apart : (new.ulid == ulid_of at other) ≡ false = grind (arith, nat_tests) in
-      declares_more blocks new (ulid_of at other) ∙ (λ i. ready.fresh at other (omega (arith, later)) few i || apart i);
+      declares-append blocks new (ulid_of at other) ∙ (λ i. ready.fresh at other (omega (arith, later)) few i || apart i);
   there = λ at other before few. there_by blocks new done block replica at other (nat_lt (2 * at + other) done) refl ready place ulid two before few;
 }
 

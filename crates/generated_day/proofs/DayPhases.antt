@@ -38,6 +38,7 @@ use Rattle.generated_day.specs.Day.{at_line, ulid_of, upload_line}
 use Rattle.generated_day.proofs.DayNumbers.{decimal_short}
 use Rattle.generated_day.proofs.DayBlocks.{Ready, day_gateways, day_rules, decimal_field, digits_print, is_ulid, setup, time_text, ulid_prints}
 use Rattle.generated_day.proofs.Tells.{Tells, is_print, speaks, tells_line}
+use Rattle.list_core.proofs.Bools.{or_true}
 
 -- ---- moments
 
@@ -90,10 +91,6 @@ at_prints moment = all_joined is_print (codes "at ") (decimal_text moment) refl 
 upload_prints : (block replica : ℕ) → block < 12 → replica < 2 → list_all is_print (codes "upload " ++ text_of (ulid_of block replica)) ≡ true
 upload_prints block replica early two =
     all_joined is_print (codes "upload ") (text_of (ulid_of block replica)) refl (ulid_prints 0 block replica early two)
-
-or_true : (a : Bool) → (a || true) ≡ true
-or_true true = refl
-or_true false = refl
 
 -- ---- the times and the selector of the queries
 

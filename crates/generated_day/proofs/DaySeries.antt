@@ -1,16 +1,15 @@
 -- The series lines of a block of the generated day.
 use Rattle.std.proofs.Common.{◌≡◌, ◌≢◌, ℕ, zero, suc, ◌+◌, ◌*◌, ◌<◌, ◌≤◌, pos, Bool, true, false, ◌&&◌, List, [], ◌∷◌, ◌++◌, length, map, All, refl, sym, ap, ◌∙◌, subst, arith, codes, append-nil, append_assoc}
-use Rattle.std.specs.List.{list_all, flat_map, range_with_len, join_with_byte, AllByRecursion}
+use Rattle.std.specs.List.{list_all, flat_map, range_with_len, join_with_byte}
 use Rattle.std.specs.List.Sorted.{IsStrictlySortedBy}
 use Rattle.std.specs.Ordering.{is_lt}
 use Rattle.std.specs.Str.{bytes_eq}
-use Rattle.std.specs.declared.cmp.Ordering.{Ordering}
-use Rattle.std.specs.declared.cmp.Ordering.TheVariants.{Less, Equal, Greater}
+use Rattle.std.specs.declared.cmp.Ordering.TheVariants.{Less}
 use Rattle.std.proofs.lemmas.List.{length-append}
 use Rattle.std.proofs.lemmas.List.Elements.{All-cons, All-nil}
 use Rattle.std.proofs.lemmas.List.FromFn.{map-range_with_len_more}
 use Rattle.std.proofs.lemmas.List.Sorted.{IsPermutation-refl}
-use Rattle.list_core.proofs.Bools.{bytes_eq-same}
+use Rattle.list_core.proofs.Bools.{bytes_eq-same, Less-from_is_lt, and_first, and_second}
 use Rattle.label_sets.specs.Labels.{compare_sets}
 use Rattle.label_sets.specs.Notation.{is_name, quoted, quoted_byte, pair_text, comma_pair_text, pairs_text, set_text}
 use Rattle.label_sets.specs.SampleText.{sample_text, spaced_sample_text}
@@ -25,7 +24,7 @@ use Rattle.script_core.specs.Spelling as spelling
 use Rattle.script_core.specs.declared.block.Block.{Block}
 use Rattle.script_core.specs.declared.body.Body.TheVariants.{Inline}
 use Rattle.script_core.specs.declared.script.Script.{Script}
-use Rattle.script_core.proofs.LawfulParts.{sets_total}
+use Rattle.script_core.proofs.LawfulParts.{above_all}
 use Rattle.script_core.proofs.SampleSigns.{all_joined, is_sign, sample_fields, samples_all, sign_is_ascii, sign_not_newline}
 use Rattle.script_core.proofs.SpelledValues.{rise_spelled}
 use Rattle.generated_day.specs.Day.{block_start, labels_text, two_digits, series_line, all_series_text, samples_text}
@@ -53,21 +52,8 @@ all_ascend : list_all ascends (range_with_len 0 99) ≡ true
 unfolding two_digits
 all_ascend = refl
 
-is_less : (order : Ordering) → is_lt order ≡ true → order ≡ Less
-is_less Less is = refl
-is_less Equal is = absurd cc
-is_less Greater is = absurd cc
-
 one_written : (series : ℕ) → series < 100 → is_written series ≡ true
 one_written series few = in_range is_written 0 100 series all_written (omega arith) (omega (arith, few))
-
-and_first : (a b : Bool) → (a && b) ≡ true → a ≡ true
-and_first true b is = refl
-and_first false b is = absurd cc
-
-and_second : (a b : Bool) → (a && b) ≡ true → b ≡ true
-and_second true b is = is
-and_second false b is = absurd cc
 
 abbrev IsNamed : Label → Type 0
 IsNamed label = is_name label.name ≡ true
@@ -93,18 +79,13 @@ labels_print series few =
 
 -- ---- series in order
 
-above_all : (labels : List (List Label)) (one other : List Label) → compare_sets one other ≡ Less → AllByRecursion (λ y. compare_sets other y ≡ Less) labels → AllByRecursion (λ y. compare_sets one y ≡ Less) labels
-above_all [] one other below all = tt
-above_all (first ∷ labels) one other below all =
-    (sets_total.trans one other first below all.0, above_all labels one other below all.1)
-
 sorted_from : (from count : ℕ) → from + count ≤ 100 → IsStrictlySortedBy compare_sets (map labels_at (range_with_len from count))
 unfolding IsStrictlySortedBy
 sorted_from from zero few = tt
 sorted_from from (suc zero) few = (tt, tt)
 sorted_from from (suc (suc count)) few =
     let rest = sorted_from (from + 1) (suc count) (omega (arith, few)) in
-    let below : compare_sets (labels_at from) (labels_at (from + 1)) ≡ Less = is_less (compare_sets (labels_at from) (labels_at (from + 1))) (in_range ascends 0 99 from all_ascend (omega arith) (omega (arith, few))) in
+    let below : compare_sets (labels_at from) (labels_at (from + 1)) ≡ Less = Less-from_is_lt (compare_sets (labels_at from) (labels_at (from + 1))) (in_range ascends 0 99 from all_ascend (omega arith) (omega (arith, few))) in
     ((below, above_all (map labels_at (range_with_len (from + 1 + 1) count)) (labels_at from) (labels_at (from + 1)) below rest.0), rest)
 
 -- ---- a line

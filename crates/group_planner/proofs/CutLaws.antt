@@ -6,7 +6,7 @@ use Rattle.std.specs.List.Sorted.{IsStrictlySortedBy, IsSortedBy}
 use Rattle.std.proofs.lemmas.List.{get_or-take, get_or_default, nil_from_length}
 use Rattle.std.proofs.lemmas.List.Sorted.{sorted_far}
 use Rattle.std.specs.Ordering.{int_eq, is_eq, is_lt}
-use Rattle.list_core.proofs.Lists.{AllByRecursion-append}
+use Rattle.list_core.proofs.Lists.{AllByRecursion-append, flat_map-push}
 use Rattle.list_core.proofs.Membership.{each_member, all_members, contains_first, into_map}
 use Rattle.list_core.proofs.Order.{sorted_nil, sorted_cons, sorted_push}
 use Rattle.std.proofs.lemmas.List.Elements.{Contains-append_right}
@@ -36,15 +36,8 @@ pub map_append : {A B : Type 0} (f : A → B) (xs ys : List A) → map f (xs ++ 
 map_append f [] ys = refl
 map_append f (x ∷ xs) ys = ap (λ l. f x ∷ l) (map_append f xs ys)
 
-pub flat_append : {A B : Type 0} (f : A → List B) (xs ys : List A) → flat_map f (xs ++ ys) ≡ flat_map f xs ++ flat_map f ys
-flat_append f [] ys = refl
-flat_append f (x ∷ xs) ys = ap (λ l. f x ++ l) (flat_append f xs ys) ∙ sym (append_assoc (f x) (flat_map f xs) (flat_map f ys))
-
 flat_one : {A B : Type 0} (f : A → List B) (x : A) → flat_map f (x ∷ []) ≡ f x
 flat_one f x = append-nil (f x)
-
-flat_push : {A B : Type 0} (f : A → List B) (xs : List A) (x : A) → flat_map f (xs ++ x ∷ []) ≡ flat_map f xs ++ f x
-flat_push f xs x = flat_append f xs (x ∷ []) ∙ ap (λ l. flat_map f xs ++ l) (flat_one f x)
 
 some_more : {A : Type 0} (xs : List A) (x : A) → xs ++ x ∷ [] ≢ []
 some_more [] x e = absurd cc
@@ -95,10 +88,10 @@ cut_same old new front last made next was same is e listed cut goes =
     let all : new ≡ front ++ longer last next.meta ∷ [] = e ∙ ap (λ (g : Group). front ++ g ∷ []) is in
     let here : IsCut listed (front ++ last ∷ []) = subst (IsCut listed) was cut in
     subst (IsCut (listed ++ next ∷ [])) (sym all) (record {
-      flat = flat_push keyed_of front (longer last next.meta)
+      flat = flat_map-push keyed_of front (longer last next.meta)
           ∙ ap (λ (l : List Keyed). flat_map keyed_of front ++ l) (keyed_longer last next key)
           ∙ sym (append_assoc (flat_map keyed_of front) (keyed_of last) (next ∷ []))
-          ∙ ap (λ (l : List Keyed). l ++ next ∷ []) (sym (flat_push keyed_of front last) ∙ here.flat);
+          ∙ ap (λ (l : List Keyed). l ++ next ∷ []) (sym (flat_map-push keyed_of front last) ∙ here.flat);
       ascending = subst (IsStrictlySortedBy compare_keys)
           (map_append key_of_group front (last ∷ []) ∙ sym (map_append key_of_group front (longer last next.meta ∷ []))) here.ascending;
       inhabited = AllByRecursion-append (λ (group : Group). group.members ≢ []) front (longer last next.meta ∷ [])
@@ -113,7 +106,7 @@ last_of : (front : List Group) (last : Group) (members : List Meta) → members 
 last_of front last [] some e = absurd (some refl)
 last_of front last (m ∷ ms) some e = (
   record { resolution = last.resolution; labels = last.labels; meta = m },
-  subst (λ (l : List Keyed). Contains l (record { resolution = last.resolution; labels = last.labels; meta = m })) (sym (flat_push keyed_of front last))
+  subst (λ (l : List Keyed). Contains l (record { resolution = last.resolution; labels = last.labels; meta = m })) (sym (flat_map-push keyed_of front last))
       (Contains-append_right (flat_map keyed_of front) (keyed_of last) (record { resolution = last.resolution; labels = last.labels; meta = m })
       (into_map (λ (meta : Meta). record { resolution = last.resolution; labels = last.labels; meta = meta }) last.members m
       (subst (λ (l : List Meta). Contains l m) (sym e) (contains_first m ms)))),
@@ -139,7 +132,7 @@ cut_next old middle new front last made next was apart is between e listed cut g
     let keys : map key_of_group ((front ++ last ∷ []) ++ one ∷ []) ≡ (map key_of_group front ++ key_of_group last ∷ []) ++ key_of_group one ∷ [] =
     map_append key_of_group (front ++ last ∷ []) (one ∷ []) ∙ ap (λ (l : List Key). l ++ key_of_group one ∷ []) (map_append key_of_group front (last ∷ [])) in
     subst (IsCut (listed ++ next ∷ [])) (sym all) (record {
-      flat = flat_push keyed_of (front ++ last ∷ []) one ∙ ap (λ (l : List Keyed). l ++ next ∷ []) here.flat;
+      flat = flat_map-push keyed_of (front ++ last ∷ []) one ∙ ap (λ (l : List Keyed). l ++ next ∷ []) here.flat;
       ascending = subst (IsStrictlySortedBy compare_keys) (sym keys)
           (sorted_push compare_keys keys_total (map key_of_group front) (key_of_group last) (key_of_group one)
           (subst (IsStrictlySortedBy compare_keys) (map_append key_of_group front (last ∷ [])) here.ascending)

@@ -12,8 +12,8 @@ use Rattle.std.proofs.lemmas.Map.Keys.{sorted_head, sorted_tail}
 use Rattle.std.proofs.lemmas.List.Sorted.{IsPermutation-sym, Contains-permutation}
 use Rattle.list_core.specs.Ordered.{in_order}
 use Rattle.list_core.specs.declared.memory.NoMemory.{NoMemory}
-use Rattle.list_core.proofs.Lists.{cons_same, filter_hit, filter_miss}
-use Rattle.list_core.proofs.Membership.{each_member, member_cases, contains_first, contains_later, no_member, into_map, of_map, into_flat_map, of_flat_map, of_in_order, into_in_order}
+use Rattle.list_core.proofs.Lists.{cons_same, filter-map}
+use Rattle.list_core.proofs.Membership.{each_member, member_cases, contains_first, contains_later, no_member, into_map, of_map, into_flat_map, of_flat_map, of_in_order, into_in_order, filter_whole, filter_nothing}
 use Rattle.block_meta.specs.declared.meta.Meta.{Meta}
 use Rattle.group_planner.specs.Groups.{Key, compare_keys, key_of, has_key, group_of, comes_before, AreGroups}
 use Rattle.group_planner.specs.Cuts.{key_of_group, key_of_keyed, keyed_of, with_key, has_lesser_key, IsCut}
@@ -71,21 +71,6 @@ filter_append p (x ∷ xs) ys = elim (p x) as (λ b. cond b (x ∷ filter p (xs 
   | false ↦ filter_append p xs ys
 ]
 
-filter_mapped : {A B : Type 0} (p : B → Bool) (f : A → B) (xs : List A) → filter p (map f xs) ≡ map f (filter (λ x. p (f x)) xs)
-filter_mapped p f [] = refl
-filter_mapped p f (x ∷ xs) = elim (p (f x)) as (λ b. cond b (f x ∷ filter p (map f xs)) (filter p (map f xs)) ≡ map f (cond b (x ∷ filter (λ x. p (f x)) xs) (filter (λ x. p (f x)) xs))) [
-  | true ↦ ap (λ l. f x ∷ l) (filter_mapped p f xs)
-  | false ↦ filter_mapped p f xs
-]
-
-keep_all : {A : Type 0} (p : A → Bool) (xs : List A) → ((x : A) → Contains xs x → p x ≡ true) → filter p xs ≡ xs
-keep_all p [] each = refl
-keep_all p (x ∷ xs) each = filter_hit p x xs (each x (contains_first x xs)) ∙ ap (λ l. x ∷ l) (keep_all p xs (λ y among. each y (contains_later x y xs among)))
-
-keep_none : {A : Type 0} (p : A → Bool) (xs : List A) → ((x : A) → Contains xs x → p x ≡ false) → filter p xs ≡ []
-keep_none p [] each = refl
-keep_none p (x ∷ xs) each = filter_miss p x xs (each x (contains_first x xs)) ∙ keep_none p xs (λ y among. each y (contains_later x y xs among))
-
 unmapped : {A B : Type 0} (f : A → B) (g : B → A) → ((x : A) → g (f x) ≡ x) → (xs : List A) → map g (map f xs) ≡ xs
 unmapped f g back [] = refl
 unmapped f g back (x ∷ xs) = cons_same (g (f x)) x (map g (map f xs)) xs (back x) (unmapped f g back xs)
@@ -104,11 +89,11 @@ its_key group one among =
     ap key_of_keyed (sym m.2)
 
 own_pass : (group : Group) → filter (λ one. is_eq (compare_keys (key_of_keyed one) (key_of_group group))) (keyed_of group) ≡ keyed_of group
-own_pass group = keep_all (λ one. is_eq (compare_keys (key_of_keyed one) (key_of_group group))) (keyed_of group)
+own_pass group = filter_whole (λ one. is_eq (compare_keys (key_of_keyed one) (key_of_group group))) (keyed_of group)
     (λ one among. ap (λ k. is_eq (compare_keys k (key_of_group group))) (its_key group one among) ∙ ap is_eq (key_itself (key_of_group group)))
 
 others_fail : (key : Key) (group : Group) → is_eq (compare_keys (key_of_group group) key) ≡ false → filter (λ one. is_eq (compare_keys (key_of_keyed one) key)) (keyed_of group) ≡ []
-others_fail key group apart = keep_none (λ one. is_eq (compare_keys (key_of_keyed one) key)) (keyed_of group)
+others_fail key group apart = filter_nothing (λ one. is_eq (compare_keys (key_of_keyed one) key)) (keyed_of group)
     (λ one among. ap (λ k. is_eq (compare_keys k key)) (its_key group one among) ∙ apart)
 
 lesser_apart : (one other : Key) → compare_keys one other ≡ Less → is_eq (compare_keys one other) ≡ false
@@ -167,7 +152,7 @@ module _ (replicas : List (List ℕ)) (metas members : List Meta) (keyed listed 
       let whole : keyed_of group ≡ filter test listed = sym (own_blocks groups group cut.ascending among) ∙ ap (filter test) cut.flat in
       let before : filter test listed ≡ filter test keyed = sym (as_ties listed) ∙ stable one ∙ as_ties keyed in
       let kept : filter test keyed ≡ map (with_key replicas) (filter (has_key replicas key) members) =
-      ap (filter test) with_keys ∙ filter_mapped test (with_key replicas) members in
+      ap (filter test) with_keys ∙ filter-map test (with_key replicas) members in
       sym (unmapped (λ (meta : Meta). record { resolution = group.resolution; labels = group.labels; meta = meta }) (λ (x : Keyed). x.meta) (λ m. refl) group.members)
       ∙ ap (map (λ (x : Keyed). x.meta)) (whole ∙ before ∙ kept)
       ∙ unmapped (with_key replicas) (λ (x : Keyed). x.meta) (λ m. refl) (filter (has_key replicas key) members)

@@ -1,10 +1,11 @@
 -- A filter of a list that is put in order.
-use Rattle.std.proofs.Common.{◌≡◌, Bool, true, false, List, [], ◌∷◌, refl, sym, ap, ◌∙◌, cond}
+use Rattle.std.proofs.Common.{◌≡◌, Bool, true, false, List, [], ◌∷◌, sym, ap, ◌∙◌, cond}
 use Rattle.std.specs.Cmp.{IsStrictWeakOrder}
 use Rattle.std.specs.List.{filter}
 use Rattle.std.specs.List.Sorted.{ties}
 use Rattle.list_core.specs.Ordered.{in_order}
 use Rattle.list_core.proofs.StableSorts.{NoneLess, Rises, Rises-in_order, filter-in_order, same_in_order}
+use Rattle.list_core.proofs.Lists.{filter_twice}
 
 none_less_kept : {A : Type 0} (less : A → A → Bool) (keeps : A → Bool) (x : A) (ys : List A) → NoneLess less x ys → NoneLess less x (filter keeps ys)
 none_less_kept less keeps x [] none = tt
@@ -28,13 +29,9 @@ both_ways p q true false y ys e f same = same ∙ sym (ap (λ c. cond c (y ∷ f
 both_ways p q false true y ys e f same = ap (λ c. cond c (y ∷ filter p (filter q ys)) (filter p (filter q ys))) e ∙ same
 both_ways p q false false y ys e f same = same
 
-filter_swap : {A : Type 0} (p q : A → Bool) (xs : List A) → filter p (filter q xs) ≡ filter q (filter p xs)
-filter_swap p q [] = refl
-filter_swap p q (x ∷ xs) = both_ways p q (p x) (q x) x xs refl refl (filter_swap p q xs)
-
 -- what is kept of a list in order is what is kept, in order
 pub kept_in_order : {A : Type 0} (less : A → A → Bool) (o : IsStrictWeakOrder less) (keeps : A → Bool) (xs : List A) → filter keeps (in_order less xs) ≡ in_order less (filter keeps xs)
 kept_in_order less o keeps xs = same_in_order less o (filter keeps (in_order less xs)) (in_order less (filter keeps xs))
     (rises_kept less keeps (in_order less xs) (Rises-in_order less o xs)) (Rises-in_order less o (filter keeps xs))
-    (λ x. filter_swap (ties less x) keeps (in_order less xs) ∙ ap (filter keeps) (filter-in_order less o x xs)
-    ∙ filter_swap keeps (ties less x) xs ∙ sym (filter-in_order less o x (filter keeps xs)))
+    (λ x. filter_twice (ties less x) keeps (in_order less xs) ∙ ap (filter keeps) (filter-in_order less o x xs)
+    ∙ filter_twice keeps (ties less x) xs ∙ sym (filter-in_order less o x (filter keeps xs)))

@@ -8,11 +8,12 @@ use Rattle.std.proofs.lemmas.Bool.{true≢false, and_parts}
 use Rattle.std.proofs.lemmas.Bool.Decides.{Decides-int_eq}
 use Rattle.std.proofs.lemmas.Cmp.{nat_list_cmp_total, nat_cmp_total, lists_total, then_total, on_total, int_cmp_total, tied_itself, int_ranked, by_ranked}
 use Rattle.std.proofs.lemmas.List.Sorted.{ranks_by}
-use Rattle.list_core.proofs.Bools.{Equal-from_then}
+use Rattle.list_core.proofs.Bools.{Equal-from_then, Equal-from_is_eq}
 use Rattle.label_sets.specs.declared.label.Label.{Label}
 use Rattle.label_sets.specs.Labels.{compare_texts, compare_labels, compare_sets}
-use Rattle.label_sets.specs.Finals.{is_among, without, reduced_of}
+use Rattle.label_sets.specs.Finals.{without, reduced_of}
 use Rattle.label_sets.proofs.LabelValues.{same_text}
+use Rattle.label_sets.proofs.FinalLabels.{without_nothing}
 use Rattle.block_meta.specs.declared.meta.Meta.{Meta}
 use Rattle.group_planner.specs.Groups.{Key, compare_keys, compare_members, comes_before}
 use Rattle.group_planner.specs.Cuts.{key_of_keyed, has_lesser_key}
@@ -58,17 +59,12 @@ same_number one other e = by_ranked _ _ _ (int_cmp one other) (int_ranked one ot
 pub key_itself : (key : Key) → compare_keys key key ≡ Equal
 key_itself key = tied_itself keys_total key
 
-is_equal : (o : Ordering) → is_eq o ≡ true → o ≡ Equal
-is_equal Equal e = refl
-is_equal Less e = absurd (let f : false ≡ true = e in cc)
-is_equal Greater e = absurd (let f : false ≡ true = e in cc)
-
 -- keys whose resolutions and labels are tested to be equal
 pub same_key : (one other : Key) → (int_eq one.resolution other.resolution && is_eq (compare_sets one.labels other.labels)) ≡ true → one ≡ other
 same_key one other e =
     let parts = and_parts (int_eq one.resolution other.resolution) (is_eq (compare_sets one.labels other.labels)) e in
     let resolution : one.resolution ≡ other.resolution = (Decides-int_eq one.resolution other.resolution).0 parts.0 in
-    let labels : one.labels ≡ other.labels = same_set one.labels other.labels (is_equal (compare_sets one.labels other.labels) parts.1) in
+    let labels : one.labels ≡ other.labels = same_set one.labels other.labels (Equal-from_is_eq (compare_sets one.labels other.labels) parts.1) in
     λ i. record { resolution = resolution i; labels = labels i }
 
 both_hold : (a b : Bool) → a ≡ true → b ≡ true → (a && b) ≡ false → ⊥
@@ -99,11 +95,6 @@ tied_key one other = tied (compare_keys one other) (compare_keys other one) (key
 
 -- ---- the labels of a key
 
-without_none : (labels : List Label) → without [] labels ≡ labels
-unfolding without is_among
-without_none [] = refl
-without_none (l ∷ ls) = ap (λ t. l ∷ t) (without_none ls)
-
 pub reduced_none : (made labels external : List Label) (replicas : List (List ℕ)) → external ≡ [] → made ≡ reduced_of labels external replicas → made ≡ without replicas labels
 unfolding reduced_of
-reduced_none made labels external replicas none is = is ∙ ap (λ x. reduced_of labels x replicas) none ∙ ap (without replicas) (without_none labels)
+reduced_none made labels external replicas none is = is ∙ ap (λ x. reduced_of labels x replicas) none ∙ ap (without replicas) (without_nothing labels)

@@ -1,13 +1,12 @@
 -- Blocks always have groups: their keys can be put in ascending order, each once.
 use Rattle.std.proofs.Common.{◌≡◌, ◌⊎◌, inl, inr, ℕ, List, [], ◌∷◌, map, refl, sym, ap, subst, ◌∙◌}
 use Rattle.std.specs.Prelude.{Contains, IfOk, Result, Ok, Err, ◌↔◌}
-use Rattle.std.specs.declared.cmp.Ordering.{Ordering}
-use Rattle.std.specs.declared.cmp.Ordering.TheVariants.{Less, Equal, Greater}
+use Rattle.std.specs.declared.cmp.Ordering.TheVariants.{Less, Equal}
 use Rattle.std.specs.List.Sorted.{IsStrictlySortedBy}
 use Rattle.std.specs.Ordering.{int_cmp, ordering_reverse}
 use Rattle.std.specs.Result.{IsErrAnd}
 use Rattle.std.proofs.lemmas.Map.Keys.{sorted_head, sorted_tail}
-use Rattle.list_core.proofs.Bools.{Equal-from_then}
+use Rattle.list_core.proofs.Bools.{Equal-from_then, by_order}
 use Rattle.list_core.proofs.Membership.{member_cases, only_member, contains_first, contains_later, no_member, all_members, each_member}
 use Rattle.list_core.proofs.Order.{sorted_nil, sorted_cons}
 use Rattle.label_sets.specs.Labels.{compare_sets}
@@ -27,11 +26,6 @@ equal_keys one other e =
     let resolution = same_number one.resolution other.resolution parts.0 in
     let labels = same_set one.labels other.labels parts.1 in
     λ i. record { resolution = resolution i; labels = labels i }
-
-by_order : {P : Type 0} (a : Ordering) → (a ≡ Less → P) → (a ≡ Equal → P) → (a ≡ Greater → P) → P
-by_order Less f g h = f refl
-by_order Equal f g h = g refl
-by_order Greater f g h = h refl
 
 placed_key : (key : Key) (keys : List Key) → IsStrictlySortedBy compare_keys keys → (more : List Key) × IsPlaced key keys more
 placed_key key [] up = (

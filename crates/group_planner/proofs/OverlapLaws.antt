@@ -88,7 +88,7 @@ pub record Run (wanted : Bool) (metas : List Meta) (count : ℕ) (begin end : �
   pub longest : (before : List Meta) → IsEndOf before begin → IsLongestRun (overlaps_as wanted) before (take count metas) (drop count metas)
   pub end_is : (before : List Meta) → IsEndOf before begin → IsEndOf (before ++ take count metas) end
 
-nothing_behind : {A : Type 0} (test : List A → A → Bool) (before members : List A) → Stops test before (drop (length members) members)
+pub nothing_behind : {A : Type 0} (test : List A → A → Bool) (before members : List A) → Stops test before (drop (length members) members)
 nothing_behind test before [] = tt
 nothing_behind test before (x ∷ members) = nothing_behind test before members
 

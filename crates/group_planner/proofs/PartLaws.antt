@@ -2,15 +2,16 @@
 use Rattle.std.proofs.Common.{◌≡◌, ◌≢◌, ℕ, zero, suc, ◌+◌, ◌<◌, ◌≤◌, Bool, true, false, not, List, [], ◌∷◌, ◌++◌, length, get_or, take, drop, append_assoc, append-nil, length-append, map, refl, sym, ap, ◌∙◌, subst, arith, inl, inr}
 use Rattle.std.specs.Prelude.{◌⊎◌, ℤ, Result, Ok, Err, IfOk}
 use Rattle.std.specs.Ordering.{int_eq}
-use Rattle.std.proofs.lemmas.Bool.{true≢false, and_from, and_parts}
+use Rattle.std.proofs.lemmas.Bool.{and_from, and_parts, not-false}
 use Rattle.std.proofs.lemmas.Int.{ints}
 use Rattle.std.proofs.lemmas.List.{take-append-drop, drop_more, map-append}
 use Rattle.block_meta.specs.declared.meta.Meta.{Meta}
-use Rattle.list_core.proofs.Lists.{cons_parts, nil_not_cons}
+use Rattle.list_core.proofs.Lists.{cons_parts, nil_not_cons, some-length}
 use Rattle.group_planner.specs.Members.{ulids_of}
-use Rattle.group_planner.specs.Runs.{EachPasses, Stops, IsLongestRun}
+use Rattle.group_planner.specs.Runs.{EachPasses, IsLongestRun}
 use Rattle.group_planner.specs.Parts.{start_of, fits, fits_at, NoneFits, IsNextPart, AreParts}
 use Rattle.group_planner.proofs.LongestRuns.{Cut, cut_of, one_run, all_or_cut, stops_first, each_more, stops_at}
+use Rattle.group_planner.proofs.OverlapLaws.{nothing_behind}
 
 -- ---- tests
 
@@ -86,14 +87,10 @@ part_some : (range start : ℤ) (one : Meta) (left part behind : List Meta) → 
 part_some range start one left [] behind e longest are some = stops_first (fits_there range start) [] behind one left longest.ends (sym are) e
 part_some range start one left (x ∷ part) behind e longest are some = nil_not_cons x part (sym some)
 
-not_not : (b : Bool) → not b ≡ false → b ≡ true
-not_not true e = refl
-not_not false e = absurd (true≢false e)
-
 next_from : (range : ℤ) (members passed left : List Meta) → members ≡ passed ++ left → IsLongestRun (is_unfit range) [] passed left → NoneFits range members ⊎ Next range members
 next_from range members passed [] are longest = inl (subst (NoneFits range) (sym (are ∙ append-nil passed)) longest.each)
 next_from range members passed (one ∷ left) are longest =
-    let fit : fits_at range (start_of range one.min_time) one ≡ true = fits_own range one (not_not (fits range one) longest.ends) in
+    let fit : fits_at range (start_of range one.min_time) one ≡ true = fits_own range one (not-false (fits range one) longest.ends) in
     let cut : Cut (fits_there range (start_of range one.min_time)) [] (one ∷ left) = cut_of (fits_there range (start_of range one.min_time)) [] (one ∷ left) in
     inr (record {
       part = cut.run;
@@ -111,13 +108,9 @@ next_from range members passed (one ∷ left) are longest =
 next_of : (range : ℤ) (members : List Meta) → NoneFits range members ⊎ Next range members
 next_of range members = let cut : Cut (is_unfit range) [] members = cut_of (is_unfit range) [] members in next_from range members cut.run cut.behind cut.are cut.longest
 
-some_length : {A : Type 0} (xs : List A) → xs ≢ [] → 0 < length xs
-some_length [] some = absurd (some refl)
-some_length (x ∷ xs) some = omega arith
-
 pub behind_shorter : (range : ℤ) (members part behind : List Meta) → IsNextPart range members part behind → length behind < length members
 behind_shorter range members part behind next =
-    let some : 0 < length part = some_length part next.some in
+    let some : 0 < length part = some-length part next.some in
     let sizes : length members ≡ length next.passed + (length part + length behind) =
     ap length next.are ∙ length-append next.passed (part ++ behind) ∙ ap (λ n. length next.passed + n) (length-append part behind) in
     omega arith
@@ -188,10 +181,6 @@ part_stops range start r s metas place one same also within at fails each =
 pub part_more : (r s : ℤ) (metas : List Meta) (place : ℕ) (one : Meta) → place < length metas → one ≡ get_or metas place one
     → true ≡ fits_at r s one → EachPasses (λ before meta. fits_at r s meta) [] (take place metas) → EachPasses (λ before meta. fits_at r s meta) [] (take (place + 1) metas)
 part_more r s metas place one within at passes each = each_more (fits_there r s) [] metas place one within at each (sym passes)
-
-nothing_behind : {A : Type 0} (test : List A → A → Bool) (before members : List A) → Stops test before (drop (length members) members)
-nothing_behind test before [] = tt
-nothing_behind test before (x ∷ members) = nothing_behind test before members
 
 pub part_ends : (range start r s : ℤ) (metas : List Meta) (place : ℕ) → r ≡ range → s ≡ start → place ≡ length metas
     → EachPasses (λ before meta. fits_at r s meta) [] (take place metas)

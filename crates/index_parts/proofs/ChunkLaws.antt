@@ -101,7 +101,7 @@ split r = omega arith
 
 -- ---- a chunk
 
-regroup : (a b c after : List ℕ) → (a ++ b ++ c) ++ after ≡ a ++ (b ++ (c ++ after))
+pub regroup : (a b c after : List ℕ) → (a ++ b ++ c) ++ after ≡ a ++ (b ++ (c ++ after))
 regroup a b c after = append_assoc (a ++ b) c after ∙ append_assoc a b (c ++ after)
 
 found : (before : Option ChunkPlace) (p : Position) (x : ChunkPlace) (t : Option ChunkPlace × Position) → IsBytes (left p) → chunk_at (before, p) ≡ Ok (x, t) → HasFront (IsNextChunk before) (left p) x (left t.1) × (t.0 ≡ Some x)

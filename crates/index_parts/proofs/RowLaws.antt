@@ -1,6 +1,6 @@
 -- Postings tables against their grammar.
 use Rattle.list_core.proofs.Bools.{Less-from_is_lt, is_lt-from_Less}
-use Rattle.std.proofs.Common.{◌≡◌, ℕ, ◌≤◌, true, List, [], ◌∷◌, ◌++◌, length, Option, Some, None, Ok, refl, sym, ap, ◌∙◌, append_assoc, length-append, arith}
+use Rattle.std.proofs.Common.{◌≡◌, ℕ, ◌≤◌, true, List, [], ◌∷◌, ◌++◌, length, Option, Some, None, Ok, refl, sym, ap, ◌∙◌, length-append, arith}
 use Rattle.std.specs.Prelude.{◌==◌}
 use Rattle.std.specs.Int.{w8, to_be_bytes}
 use Rattle.std.specs.Str.{is_utf8}
@@ -22,6 +22,7 @@ use Rattle.index_parts.proofs.FieldLaws.{fixed_field, uvarint_field, long_field}
 use Rattle.index_parts.proofs.TurnLaws.{turn_found}
 use Rattle.index_parts.proofs.ListLaws.{IsTurnOf}
 use Rattle.index_parts.proofs.SymbolLaws.{text_is, long_is, text_size, uvarint_size}
+use Rattle.index_parts.proofs.ChunkLaws.{regroup}
 
 after_found : (before : Option PostingsRow) (row : PostingsRow) → may_come_after before row ≡ true → MayComeAfter before row
 after_found None row e =
@@ -49,9 +50,6 @@ told_parts _ _ _ _ _ _ e =
     let name = unless_ok _ _ _ _ order.1 in
     let value = unless_ok _ _ _ _ name.1 in
     record { ordered = order.0; name_utf8 = name.0; value_utf8 = value.0; same = ok_is {E = PartRefusal} _ _ value.1 }
-
-regroup : (name value offset after : List ℕ) → (name ++ value ++ offset) ++ after ≡ name ++ (value ++ (offset ++ after))
-regroup name value offset after = append_assoc (name ++ value) offset after ∙ append_assoc name value (offset ++ after)
 
 found : (before : Option PostingsRow) (p : Position) (x : PostingsRow) (t : Option PostingsRow × Position) → IsBytes (left p) → row_at (before, p) ≡ Ok (x, t) → HasFront (IsNextRow before) (left p) x (left t.1) × (t.0 ≡ Some x)
 unfolding row_at

@@ -1,24 +1,18 @@
 -- Where the rows of a name begin.
-use Rattle.std.proofs.Common.{◌≡◌, ◌≢◌, ℕ, List, [], ◌∷◌, Some, refl, sym, ap, ◌∙◌, arith, ◌⊎◌, inl, inr}
+use Rattle.std.proofs.Common.{◌≡◌, ◌≢◌, ℕ, List, [], ◌∷◌, Some, refl, sym, ap, ◌∙◌, arith, inl, inr}
 use Rattle.std.specs.Prelude.{slice_get}
 use Rattle.std.specs.List.Sorted.{IsStrictlySortedBy}
-use Rattle.std.specs.declared.cmp.Ordering.{Ordering}
-use Rattle.std.specs.declared.cmp.Ordering.TheVariants.{Less, Equal, Greater}
+use Rattle.std.specs.declared.cmp.Ordering.TheVariants.{Less, Greater}
 use Rattle.std.specs.Ordering.{ordering_then}
 use Rattle.std.proofs.lemmas.Bool.{cases_lt}
 use Rattle.std.proofs.lemmas.Option.{same_Some, slice_get_within}
 use Rattle.list_core.proofs.Order.{Less-at_places}
+use Rattle.list_core.proofs.Bools.{Less-from_then}
 use Rattle.label_sets.specs.Labels.{compare_texts}
 use Rattle.label_sets.proofs.LabelValues.{compare_self, before_trans, same_text}
 use Rattle.index_parts.specs.declared.postings_row.PostingsRow.{PostingsRow}
 use Rattle.index_parts.specs.Rows.{compare_rows}
 use Rattle.index_parts.specs.RowOrder.{compare_row, IsRowAt, StandsAt, BeginsAt}
-
--- a row before another of two has no greater name
-pub name_le : (a b : Ordering) → ordering_then a b ≡ Less → (a ≡ Less) ⊎ ((a ≡ Equal) × (b ≡ Less))
-name_le Less b e = inl refl
-name_le Equal b e = inr (refl, e)
-name_le Greater b e = absurd cc
 
 nothing_below : (value : List ℕ) → compare_texts value [] ≢ Less
 nothing_below [] e = cc
@@ -26,7 +20,7 @@ nothing_below (v ∷ value) e = cc
 
 less_name : (row : PostingsRow) (name : List ℕ) → compare_row row name [] ≡ Less → compare_texts row.name name ≡ Less
 less_name _ _ e =
-    elim (name_le _ _ e) [
+    elim (Less-from_then _ _ e) [
       | inl less ↦ less
       | inr p ↦ absurd (nothing_below _ p.1)
     ]
@@ -44,7 +38,7 @@ begins_missing _ name _ stands = record {
 -- what stands behind a row of a name has no lesser name
 not_less : (one other : PostingsRow) (name : List ℕ) → compare_rows one other ≡ Less → compare_texts one.name name ≢ Less → compare_texts other.name name ≢ Less
 not_less one other name less not_here lesser =
-    elim (name_le _ (compare_texts one.value other.value) less) [
+    elim (Less-from_then _ (compare_texts one.value other.value) less) [
       | inl before ↦ not_here (before_trans one.name _ _ before lesser)
       | inr p ↦ let same = same_text _ _ p.0 in not_here (ap (λ n. compare_texts n name) same ∙ lesser)
     ]

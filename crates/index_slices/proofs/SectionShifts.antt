@@ -6,7 +6,7 @@ use Rattle.std.specs.Int.{w8, w32}
 use Rattle.std.proofs.Math.Seq.{take-append-add}
 use Rattle.std.proofs.lemmas.List.{length-take}
 use Rattle.reading_core.specs.Reading.{refused_as}
-use Rattle.reading_core.proofs.Binds.{bind_ok, ok_is, refused_as_ok, cond_ok}
+use Rattle.reading_core.proofs.Binds.{ok_is, cond_ok}
 use Rattle.wire_bytes.specs.declared.refusal.WireRefusal.{WireRefusal}
 use Rattle.wire_bytes.specs.declared.refusal.WireRefusal.TheVariants as wire
 use Rattle.wire_bytes.specs.Crc.{crc}
@@ -22,6 +22,7 @@ use Rattle.index_parts.specs.SymbolsReading.{may_follow, symbol_at}
 use Rattle.index_parts.specs.PostingsReading.{rises, posting_at}
 use Rattle.index_parts.specs.Rows.{row_kind}
 use Rattle.index_parts.specs.RowsReading.{may_come_after, row_told, row_at}
+use Rattle.index_parts.proofs.Texts.{text_within}
 use Rattle.index_slices.specs.Shifting.{shifted}
 use Rattle.index_slices.proofs.Shifts.{IsWithin, IsMoved, IsSame, IsStep, same_value, same_refusal, same_bind, same_step, same_unless, same_members}
 use Rattle.index_slices.proofs.FieldShifts.{StepBy, IsField, bytes_field, number_field, uvarint_field, same_field, same_text}
@@ -33,12 +34,6 @@ bytes_long count p q text e =
     let read = cond_ok (nat_lt (length (left p)) count) wire.Short (Ok (take count (left p), further count p)) (text, q) e in
     let same : (take count (left p), further count p) ≡ (text, q) = ok_is {E = WireRefusal} _ _ read.1 in
     omega (arith, ap (λ (x : List ℕ × Position). length x.0) same, ap (λ (x : List ℕ × Position). x.1.place) same, length-take count (left p))
-
-text_long : (p q : Position) (text : List ℕ) → text_at p ≡ Ok (text, q) → length text ≤ q.place
-unfolding text_at
-text_long p q text e =
-    let size = bind_ok (field uvarint_at p) _ _ e in
-    bytes_long size.0.0 size.0.1 q text (refused_as_ok _ (bytes_at size.0.0 size.0.1) (text, q) size.2)
 
 module _ (front : List ℕ) (most : ℕ) where
   abbrev Moved : Position → Position → Type 0
@@ -125,7 +120,7 @@ module _ (front : List ℕ) (most : ℕ) where
   symbol_turned before p q m =
       same_step front most Moved (IsStep front most IsTurn) (text_at p) (text_at q) _ _ (same_text front most p q m)
       (λ text a b e h. same_unless front most (IsStep front most IsTurn) (may_follow before text) (Unordered p.place) (Unordered q.place) _ _ (unordered p q m) m.within
-      (λ _. same_unless front most (IsStep front most IsTurn) (is_utf8 text) (NotText (a.place - length text)) (NotText (b.place - length text)) _ _ (not_text text a b (text_long p a text e) h) (before_text text a b h)
+      (λ _. same_unless front most (IsStep front most IsTurn) (is_utf8 text) (NotText (a.place - length text)) (NotText (b.place - length text)) _ _ (not_text text a b (text_within p a text e) h) (before_text text a b h)
       (λ _. turned text a b h)))
 
   pub posting_turned : Turned posting_at
@@ -153,5 +148,5 @@ module _ (front : List ℕ) (most : ℕ) where
       (λ offset a3 b3 e3 h3.
       let row : PostingsRow = record { name = name; value = value; offset = offset } in
       same_bind front most (λ x y. x ≡ y) (IsStep front most IsTurn) (row_told before p.place a1.place a2.place row) (row_told before q.place b1.place b2.place row) _ _
-      (told_same before p q a1 b1 a2 b2 row m h1 h2 (text_long a a1 name e1) (text_long a1 a2 value e2))
+      (told_same before p q a1 b1 a2 b2 row m h1 h2 (text_within a a1 name e1) (text_within a1 a2 value e2))
       (λ x y e4 same. subst (λ (z : PostingsRow). IsSame front most (IsStep front most IsTurn) (Ok (x, (Some x, a3))) (Ok (z, (Some z, b3)))) same (turned x a3 b3 h3)))))))

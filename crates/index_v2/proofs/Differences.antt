@@ -1,6 +1,6 @@
 -- The search for the least place at which postings lists are not exactly those of the series.
 use Rattle.std.proofs.Common.{◌≡◌, ◌≢◌, ℕ, zero, suc, ◌+◌, ◌<◌, ◌≤◌, Bool, true, false, cond, List, [], ◌∷◌, length, zip, drop, get_or, min, Option, Some, None, Result, Ok, Err, refl, sym, ap, subst, ◌∙◌, arith, add-one, drop-cons, eqb, inl, inr}
-use Rattle.std.specs.Prelude.{slice_get, is_ok, IfSome, ◌&&◌, ◌||◌}
+use Rattle.std.specs.Prelude.{slice_get, is_ok, IfSome, ◌&&◌}
 use Rattle.std.specs.List.{list_any, list_all}
 use Rattle.std.specs.List.Sorted.{IsBinarySearchResult, IsStrictlyIncreasing, IsStrictlySortedBy}
 use Rattle.std.specs.Ordering.{nat_cmp}
@@ -19,6 +19,7 @@ use Rattle.index_parts.specs.RowOrder.{compare_row, IsRowAt, StandsAt}
 use Rattle.index_v2.specs.WholeReading.{belongs, is_of_row, stray_from, gap_from, gap_of, gap_among, earlier, by_order}
 use Rattle.std.proofs.lemmas.Cmp.{tied_itself}
 use Rattle.list_core.proofs.Order.{Less-at_places}
+use Rattle.list_core.proofs.Bools.{or_true, or_false}
 use Rattle.index_parts.proofs.RowPlaces.{rows_total, stands_behind}
 use Rattle.index_parts.proofs.RowsBegin.{same_compare}
 use Rattle.index_v2.proofs.WholeLoops.{drop_at}
@@ -61,17 +62,13 @@ none_of _ P [] _ none = refl
 none_of _ P (n ∷ numbers) [] none = refl
 none_of number P (n ∷ numbers) (s ∷ series) none = rw (ne_eqb n number (none 0 (omega arith))) (none_of _ P numbers series (λ k lt. none (suc k) (omega arith)))
 
-last_false : (b : Bool) → (b || false) ≡ b
-last_false true = refl
-last_false false = refl
-
 one_of : (number : ℕ) (P : IndexSeries → Bool) (numbers : List ℕ) (series : List IndexSeries) (place : ℕ) (d : IndexSeries) → length numbers ≡ length series → place < length numbers → get_or numbers place 0 ≡ number → ((k : ℕ) → k < length numbers → k ≢ place → get_or numbers k 0 ≢ number)
     → list_any (λ (one : ℕ × IndexSeries). eqb one.0 number && P one.1) (zip numbers series) ≡ P (get_or series place d)
 one_of _ P [] _ _ d many lt is others = absurd (omega arith)
 one_of _ P (n ∷ numbers) [] place d many lt is others = absurd (omega arith)
 one_of number P (n ∷ numbers) (s ∷ series) zero d many lt is others =
     let rest = none_of _ P _ series (λ k less. others (suc k) (omega arith) (omega arith)) in
-    rw (eq-eqb n number is, rest) (last_false (P s))
+    rw (eq-eqb n number is, rest) (or_false (P s))
 one_of number P (n ∷ numbers) (s ∷ series) (suc place) d many lt is others =
     rw (ne_eqb n number (others 0 (omega arith) (omega arith))) (one_of number P numbers _ _ d (omega arith) (omega arith) is (λ k less other. others (suc k) (omega arith) (omega arith)))
 
@@ -82,10 +79,6 @@ of_row _ _ row _ _ _ many is at = ap (belongs row.name row.value) at ∙ sym (on
 pub of_no_row : (numbers : List ℕ) (series : List IndexSeries) (row : PostingsRow) (number place : ℕ) → Among numbers number (Err place) → false ≡ is_of_row (zip numbers series) row number
 of_no_row _ _ _ _ _ none = sym (none_of _ _ _ _ none)
 
-any_true : (b : Bool) → (b || true) ≡ true
-any_true true = refl
-any_true false = refl
-
 -- a number in one list
 lacks : (number : ℕ) (list : List ℕ) → ((k : ℕ) → k < length list → get_or list k 0 ≢ number) → list_any (λ n. eqb n number) list ≡ false
 lacks _ [] none = refl
@@ -94,7 +87,7 @@ lacks number (n ∷ list) none = rw (ne_eqb n number (none 0 (omega arith))) (la
 has : (number : ℕ) (list : List ℕ) (place : ℕ) → place < length list → get_or list place 0 ≡ number → list_any (λ n. eqb n number) list ≡ true
 has _ [] _ lt is = absurd (omega arith)
 has number (n ∷ list) zero lt is = rw (eq-eqb n number is) refl
-has number (n ∷ list) (suc place) lt is = rw (has number list place (omega arith) is) (any_true _)
+has number (n ∷ list) (suc place) lt is = rw (has number list place (omega arith) is) (or_true _)
 
 pub has_number_is : (number : ℕ) (list : List ℕ) (r : Result ℕ ℕ) (found : Bool) → IsStrictlyIncreasing list → IsBinarySearchResult (λ y. nat_cmp y number) list r → found ≡ is_ok r → found ≡ list_any (λ n. eqb n number) list
 has_number_is number list (Ok place) found rising is e = let a = among list _ (Ok place) rising is in e ∙ sym (has number list place a.0 a.1)

@@ -40,6 +40,7 @@ use Rattle.index_v2.specs.WholeReading.{present_at, behind_at, all_at, lists_at,
 use Rattle.index_v2.proofs.PostingsLaws.{row_found}
 use Rattle.index_v2.proofs.SeriesSlices.{number_absent}
 use Rattle.index_v2.proofs.OpeningLaws.{opened_found, opened_again}
+use Rattle.index_v2.proofs.WholeLoops.{nothing_left}
 
 -- ---- of a whole file
 
@@ -124,14 +125,10 @@ lists_same _ _ is [] lie = refl
 lists_same here index is (row ∷ rows) lie =
     rw (list_of_index here index row.offset is (lie row (contains_first _ _)), lists_same here index is rows (λ one has. lie one (contains_later _ _ _ has))) refl
 
-nothing_read : (index : List ℕ) (symbols : List (List ℕ)) (before : Option IndexSeries) → all_at index symbols before [] ≡ Ok []
-unfolding all_at
-nothing_read _ _ _ = refl
-
 -- where no series is to be read
 none_listed : (held : Held) → postings_of held [] [] ≡ Ok [] → whole_at held ≡ (lists_at held.lists held.rows >>= λ lists. unless_differ (difference held.rows lists []) >> Ok [])
 unfolding whole_at present_at
-none_listed _ none = rw (none, nothing_read) refl
+none_listed _ none = rw (none, nothing_left) refl
 
 none_same : (held : Held) (opened : Opened) → IsHeldOf held opened → ((row : PostingsRow) → Contains held.rows row → HoldsSection held.lists row.offset) → postings_of held [] [] ≡ Ok [] → whole_at held ≡ whole_at (whole_file opened)
 none_same held opened is lie none =

@@ -3,6 +3,7 @@ use Rattle.std.proofs.Common.{◌≡◌, ◌≢◌, ℕ, ◌+◌, ◌*◌, ◌<�
 use Rattle.std.specs.Prelude.{slice_get}
 use Rattle.std.proofs.lemmas.Bool.{lt-ltb}
 use Rattle.list_core.proofs.Bools.{is_lt-from_Less}
+use Rattle.list_core.proofs.Lists.{cons_same}
 use Rattle.reading_core.specs.Grammar.{IsBytes}
 use Rattle.reading_core.proofs.Binds.{bind_ok, refused_as_ok, ok_is}
 use Rattle.label_sets.specs.declared.label.Label.{Label}
@@ -28,7 +29,7 @@ abbrev pub AreChained : List ℕ → List Label → Type 0
 AreChained before [] = Unit {0}
 AreChained before (l ∷ ls) = ComesBefore before l.name × (0 < length l.value) × AreChained l.name ls
 
-above_nothing : (before name : List ℕ) → ComesBefore before name → name ≢ []
+pub above_nothing : (before name : List ℕ) → ComesBefore before name → name ≢ []
 above_nothing [] [] h e = cc
 above_nothing (b ∷ before) [] h e = cc
 above_nothing _ (n ∷ name) h e = cc
@@ -73,9 +74,6 @@ no_labels : (symbols : List (List ℕ)) (before : List ℕ) (place : ℕ) (value
 unfolding labels_of
 no_labels _ _ _ _ _ e = ok_is {A = List Label} {E = LabelFault} _ _ e
 
-cons_same : {A : Type 0} (x y : A) (xs ys : List A) → x ≡ y → xs ≡ ys → x ∷ xs ≡ y ∷ ys
-cons_same x y _ _ e f = cc
-
 pub labels_found : (symbols : List (List ℕ)) (before : List ℕ) (place : ℕ) (names values : List ℕ) (labels : List Label) → length names ≡ length values → labels_of symbols before place names values ≡ Ok labels
     → StandFor symbols names (map (λ (l : Label). l.name) labels) × StandFor symbols values (map (λ (l : Label). l.value) labels) × AreChained before labels
 labels_found symbols before _ [] [] _ many e = subst (λ ls. StandFor symbols [] (map (λ l. l.name) ls) × StandFor symbols [] (map (λ l. l.value) ls) × AreChained before ls) (no_labels _ _ _ _ _ e) (refl, refl, tt)
@@ -105,7 +103,7 @@ labels_joined : (symbols : List (List ℕ)) (before : List ℕ) (place name valu
 unfolding labels_of
 labels_joined _ _ _ _ _ _ _ _ _ e f = rw (e, f) refl
 
-labels_none : (symbols : List (List ℕ)) (before : List ℕ) (place : ℕ) (values : List ℕ) → labels_of symbols before place [] values ≡ Ok []
+pub labels_none : (symbols : List (List ℕ)) (before : List ℕ) (place : ℕ) (values : List ℕ) → labels_of symbols before place [] values ≡ Ok []
 unfolding labels_of
 labels_none _ _ _ _ = refl
 

@@ -1,12 +1,11 @@
 -- A series' labels, read one after another.
-use Rattle.std.proofs.Common.{◌≡◌, ℕ, ◌+◌, ◌<◌, List, [], ◌∷◌, ◌++◌, length, Option, Some, None, Result, Ok, Err, refl, sym, ap, ◌∙◌, append_assoc, ◌⊎◌, inl, inr}
+use Rattle.std.proofs.Common.{◌≡◌, ℕ, ◌+◌, ◌<◌, List, [], ◌∷◌, ◌++◌, length, Some, Result, Ok, Err, refl, sym, ap, ◌∙◌, append_assoc, ◌⊎◌, inl, inr}
 use Rattle.std.specs.Prelude.{slice_get}
-use Rattle.std.specs.Option.{ok_or}
 use Rattle.std.proofs.lemmas.Bool.{ltb-true}
 use Rattle.std.specs.Prelude.{IsErrAnd}
 use Rattle.list_core.proofs.Bools.{Less-from_is_lt}
 use Rattle.reading_core.specs.Reading.{◌>>=◌, Answers, Gives}
-use Rattle.reading_core.proofs.Binds.{bind_ok, unless_ok, ok_is}
+use Rattle.reading_core.proofs.Binds.{bind_ok, unless_ok, ok_is, ok_or_ok}
 use Rattle.label_sets.specs.declared.label.Label.{Label}
 use Rattle.label_sets.specs.Labels.{compare_texts, ComesBefore}
 use Rattle.index_v2.specs.declared.label_fault.LabelFault.{LabelFault}
@@ -19,10 +18,6 @@ pub record IsLabelOf (symbols : List (List ℕ)) (before : List ℕ) (name value
   pub value_is : slice_get symbols value ≡ Some label.value
   pub ascends : ComesBefore before label.name
   pub some : 0 < length label.value
-
-ok_or_ok : {A E : Type 0} (o : Option A) (e : E) (x : A) → ok_or o e ≡ Ok x → o ≡ Some x
-ok_or_ok None e x h = absurd cc
-ok_or_ok (Some y) e x h = cc
 
 pub label_parts : (symbols : List (List ℕ)) (before : List ℕ) (place name value : ℕ) (label : Label) → label_of symbols before place name value ≡ Ok label → IsLabelOf symbols before name value label
 unfolding label_of

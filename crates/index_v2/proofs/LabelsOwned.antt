@@ -20,11 +20,11 @@ abbrev pub AllBefore : List ℕ → List Label → Type 0
 AllBefore name [] = Unit {0}
 AllBefore name (l ∷ ls) = ComesBefore l.name name × AllBefore name ls
 
-no_value : (ls : List Label) (name : List ℕ) → AllBefore name ls → value_of ls name ≡ None
+pub no_value : (ls : List Label) (name : List ℕ) → AllBefore name ls → value_of ls name ≡ None
 no_value [] _ all = value_nil _
 no_value (l ∷ ls) _ all = value_miss l _ _ (before_differs _ _ all.0) ∙ no_value _ _ all.1
 
-placed_last : (ls : List Label) (l : Label) → AllBefore l.name ls → placed has_lesser_name l ls ≡ ls ++ l ∷ []
+pub placed_last : (ls : List Label) (l : Label) → AllBefore l.name ls → placed has_lesser_name l ls ≡ ls ++ l ∷ []
 unfolding placed
 placed_last [] l all = refl
 placed_last (m ∷ ls) l all = rw (is_lt-from_Less (compare_texts m.name l.name) all.0, placed_last ls l all.1) refl

@@ -7,8 +7,10 @@ use Rattle.std.specs.Str.{bytes_eq}
 use Rattle.std.proofs.lemmas.Bool.{true≢false}
 use Rattle.std.proofs.lemmas.List.{take_more, drop_more, drop_all, length-map}
 use Rattle.list_core.proofs.Lists.{drop_none}
+use Rattle.list_core.proofs.Bools.{Equal-from_is_eq}
 use Rattle.label_sets.specs.declared.label.Label.{Label}
 use Rattle.label_sets.specs.Labels.{compare_labels, compare_sets, value_of}
+use Rattle.label_sets.proofs.LabelValues.{value_nil}
 use Rattle.index_parts.specs.declared.postings_row.PostingsRow.{PostingsRow}
 use Rattle.index_file.specs.declared.index_series.IndexSeries.{IndexSeries}
 use Rattle.index_v2.specs.declared.lent_label.LentLabel.{LentLabel}
@@ -34,18 +36,13 @@ next_pair : (one other : List LentLabel) (place : ℕ) (d e : LentLabel) → pla
     → compared one other ≡ ordering_then (compare_labels (as_label (get_or one place d)) (as_label (get_or other place e))) (compared (drop (place + 1) one) (drop (place + 1) other))
 next_pair one other place d e lt less h = h.rest ∙ ap (λ l. compared l (drop place other)) (drop_more one place d lt) ∙ ap (compared (get_or one place d ∷ drop (place + 1) one)) (drop_more other place e less)
 
-is_equal : (o : Ordering) → is_eq o ≡ true → o ≡ Equal
-is_equal Equal t = refl
-is_equal Less t = absurd (true≢false (sym t))
-is_equal Greater t = absurd (true≢false (sym t))
-
 pub same_more : (one other : List LentLabel) (place : ℕ) (x y d e : LentLabel) (o : Ordering) → place < length one → place < length other → x ≡ get_or one place d → y ≡ get_or other place e → SameSoFar one other place → o ≡ compare_labels (as_label x) (as_label y) → is_eq o ≡ true → SameSoFar one other (place + 1)
 same_more one other place x y d e o lt less at there h is equal = record {
   short = omega arith;
   within = omega arith;
   rest = next_pair _ _ _ d e lt less h
       ∙ ap (λ r. ordering_then r (compared (drop (place + 1) one) (drop (place + 1) other)))
-      (ap (λ l. compare_labels (as_label l) (as_label (get_or other place e))) (sym at) ∙ ap (λ l. compare_labels (as_label x) (as_label l)) (sym there) ∙ sym is ∙ is_equal o equal);
+      (ap (λ l. compare_labels (as_label l) (as_label (get_or other place e))) (sym at) ∙ ap (λ l. compare_labels (as_label x) (as_label l)) (sym there) ∙ sym is ∙ Equal-from_is_eq o equal);
 }
 
 told_by_first : (o r : Ordering) → is_eq o ≡ false → ordering_then o r ≡ o
@@ -95,10 +92,6 @@ named_otherwise : (label : Label) (labels : List Label) (name : List ℕ) → by
 unfolding value_of
 named_otherwise _ _ _ is = rw is refl
 
-no_value : (name : List ℕ) → value_of [] name ≡ None
-unfolding value_of
-no_value _ = refl
-
 next_label : (labels : List LentLabel) (name : List ℕ) (place : ℕ) (d : LentLabel) → place < length labels → NoneNamed labels name place → value_of (map as_label labels) name ≡ value_of (as_label (get_or labels place d) ∷ map as_label (drop (place + 1) labels)) name
 next_label labels name place d lt h = h.rest ∙ ap (λ l. value_of (map as_label l) name) (drop_more labels place d lt)
 
@@ -114,7 +107,7 @@ value_further labels name place x d b lt at h told is = record {
 }
 
 pub value_nowhere : (labels : List LentLabel) (name : List ℕ) (place : ℕ) → length labels ≤ place → NoneNamed labels name place → None ≡ value_of (map as_label labels) name
-value_nowhere _ name _ all h = sym (h.rest ∙ ap (λ l. value_of (map as_label l) name) (drop_all _ _ all) ∙ no_value _)
+value_nowhere _ name _ all h = sym (h.rest ∙ ap (λ l. value_of (map as_label l) name) (drop_all _ _ all) ∙ value_nil _)
 
 -- ---- the walk over the labels of a series
 

@@ -10,7 +10,7 @@ use Rattle.std.proofs.lemmas.List.Elements.{filter_passes, recursion_from_All}
 use Rattle.std.proofs.lemmas.List.Kept.{IsStrictlySortedBy-filter}
 use Rattle.std.proofs.lemmas.Option.{same_Some}
 use Rattle.list_core.proofs.Membership.{place_of_member, of_filter, into_filter, member_passes, of_map, into_map}
-use Rattle.list_core.proofs.Bools.{bytes_eq-itself}
+use Rattle.list_core.proofs.Bools.{bytes_eq-itself, Less-from_then}
 use Rattle.label_sets.specs.declared.label.Label.{Label}
 use Rattle.label_sets.specs.Labels.{compare_texts, IsLabelSet}
 use Rattle.label_sets.proofs.LabelValues.{by_bool}
@@ -21,7 +21,7 @@ use Rattle.index_file.specs.IndexFile.{HasRow, IsIndex, AreValuesOf}
 use Rattle.index_v2.specs.PostingsLists.{values_of}
 use Rattle.index_v2.proofs.LabelsOwned.{some_bytes}
 use Rattle.index_v2.proofs.RowsHeld.{held_ascends}
-use Rattle.index_parts.proofs.RowsBegin.{name_le, equal_not_less}
+use Rattle.index_parts.proofs.RowsBegin.{equal_not_less}
 use Rattle.index_v2.proofs.ValuesListed.{is_named, value_in, no_values}
 
 -- ---- rows of a name
@@ -54,7 +54,7 @@ value_each rows name value some has =
     subst (λ l. Contains l value) (sym (values_named _ _ some)) (subst (Contains (named_values rows name)) has.3 (into_map _ _ _ row))
 
 same_names : (one other : PostingsRow) → one.name ≡ other.name → compare_rows one other ≡ Less → compare_texts one.value other.value ≡ Less
-same_names _ other same less = elim (name_le _ _ less) [
+same_names _ other same less = elim (Less-from_then _ _ less) [
   | inl before ↦ absurd (equal_not_less other.name (ap (λ n. compare_texts n other.name) (sym same) ∙ before))
   | inr p ↦ p.1
 ]

@@ -1,31 +1,28 @@
 -- The values of the rows of a name.
-use Rattle.std.proofs.Common.{◌≡◌, ◌≢◌, ℕ, zero, suc, ◌+◌, ◌<◌, ◌≤◌, Bool, true, false, List, [], ◌∷◌, ◌++◌, length, map, drop, Some, None, refl, sym, ap, ◌∙◌, append_assoc, add-one, drop-cons, arith, inl, inr}
+use Rattle.std.proofs.Common.{◌≡◌, ◌≢◌, ℕ, zero, suc, ◌+◌, ◌<◌, ◌≤◌, Bool, true, false, List, [], ◌∷◌, ◌++◌, length, map, drop, Some, None, refl, sym, ap, ◌∙◌, append_assoc, arith, inl, inr}
 use Rattle.std.specs.Prelude.{slice_get, ◌==◌, not}
 use Rattle.std.specs.List.Sorted.{IsStrictlySortedBy}
 use Rattle.std.specs.Cmp.Lexicographic.{bytes_decides}
 use Rattle.std.specs.List.{filter}
 use Rattle.std.specs.Str.{bytes_eq}
 use Rattle.std.specs.declared.cmp.Ordering.TheVariants.{Less}
-use Rattle.std.proofs.lemmas.Bool.{cases_lt}
+use Rattle.std.proofs.lemmas.Bool.{cases_lt, not-false}
 use Rattle.std.proofs.lemmas.List.{append-nil}
-use Rattle.std.proofs.lemmas.Option.{slice_get_within, get_or_from_slice_get, slice_get_cases}
+use Rattle.std.proofs.lemmas.Option.{slice_get_cases}
 use Rattle.list_core.proofs.Order.{Less-at_places}
-use Rattle.list_core.proofs.Bools.{bytes_eq-itself}
+use Rattle.list_core.proofs.Bools.{bytes_eq-itself, Less-from_then}
 use Rattle.label_sets.specs.Labels.{compare_texts}
 use Rattle.label_sets.proofs.LabelValues.{bytes_eq_differs, same_text}
 use Rattle.index_parts.specs.declared.postings_row.PostingsRow.{PostingsRow}
 use Rattle.index_parts.specs.Rows.{compare_rows}
 use Rattle.index_parts.specs.RowOrder.{BeginsAt}
-use Rattle.index_parts.proofs.RowsBegin.{name_le, equal_not_less, same_row}
+use Rattle.index_parts.proofs.RowsBegin.{equal_not_less, same_row}
 use Rattle.index_v2.specs.PostingsLists.{values_of}
+use Rattle.index_v2.proofs.WholeLoops.{drop_at}
 
 not_both : (b : Bool) → not b ≡ true → b ≡ true → ⊥
 not_both true e f = cc
 not_both false e f = cc
-
-not_not : (b : Bool) → not b ≡ false → b ≡ true
-not_not true e = refl
-not_not false e = absurd cc
 
 -- ---- filters
 
@@ -55,7 +52,7 @@ pub record AreListed (rows : List PostingsRow) (name : List ℕ) (first place : 
   pub from : first ≤ place
   pub whole : values_of rows name ≡ values ++ map value_in (filter (is_named name) (drop place rows))
 
-differs : (one other : List ℕ) → compare_texts one other ≡ Less → one ≢ other
+pub differs : (one other : List ℕ) → compare_texts one other ≡ Less → one ≢ other
 differs _ other less same = equal_not_less other (ap (λ n. compare_texts n other) (sym same) ∙ less)
 
 pub listed_start : (rows : List PostingsRow) (name : List ℕ) (first : ℕ) (values : List (List ℕ)) → values ≡ [] → (length name == 0) ≡ false → BeginsAt rows name first → AreListed rows name first first values
@@ -64,9 +61,6 @@ listed_start rows name first _ none some begins = rw none (record {
   from = omega arith;
   whole = rw some (ap (map value_in) (passed _ _ _ (λ k row lt at. differs row.name name (begins.below k row lt at))));
 })
-
-drop_at : (rows : List PostingsRow) (place : ℕ) (row : PostingsRow) → slice_get rows place ≡ Some row → drop place rows ≡ row ∷ drop (place + 1) rows
-drop_at rows place row at = rw (add-one, ← get_or_from_slice_get rows place row row at) (drop-cons rows _ _ (slice_get_within _ _ _ at))
 
 pub listed_more : (rows : List PostingsRow) (name : List ℕ) (first place : ℕ) (values new : List (List ℕ)) (row : PostingsRow) (value : List ℕ) → AreListed rows name first place values → slice_get rows place ≡ Some row → row.name ≡ name → value ≡ row.value → new ≡ values ++ value ∷ [] → AreListed rows name first (place + 1) new
 listed_more rows name first place values _ row value listed at named v e =
@@ -78,10 +72,10 @@ listed_more rows name first place values _ row value listed at named v e =
       whole = listed.whole ∙ ap (λ xs. values ++ xs) step ∙ sym (append_assoc values (row.value ∷ []) (map value_in (filter (is_named name) (drop (place + 1) rows))));
     })
 
-behind : (rows : List PostingsRow) (name : List ℕ) (place k : ℕ) (first row : PostingsRow) → IsStrictlySortedBy compare_rows rows → slice_get rows place ≡ Some first → compare_texts first.name name ≢ Less → first.name ≢ name → place ≤ k → slice_get rows k ≡ Some row → row.name ≢ name
+pub behind : (rows : List PostingsRow) (name : List ℕ) (place k : ℕ) (first row : PostingsRow) → IsStrictlySortedBy compare_rows rows → slice_get rows place ≡ Some first → compare_texts first.name name ≢ Less → first.name ≢ name → place ≤ k → slice_get rows k ≡ Some row → row.name ≢ name
 behind _ name place k first _ ascend at not_below other le there same =
     elim (cases_lt place k) [
-      | inl lt ↦ elim (name_le _ _ (Less-at_places compare_rows _ _ k _ _ ascend lt at there)) [
+      | inl lt ↦ elim (Less-from_then _ _ (Less-at_places compare_rows _ _ k _ _ ascend lt at there)) [
         | inl less ↦ not_below (ap (λ n. compare_texts first.name n) (sym same) ∙ less)
         | inr p ↦ other (same_text _ _ p.0 ∙ same)
       ]
@@ -107,4 +101,4 @@ pub other_name : (x : Bool) (one other : List ℕ) → x ≡ not (bytes_eq one o
 other_name x one other e differ same = let equal : bytes_eq one other ≡ true = rw same (bytes_eq-itself other) in not_both _ (sym e ∙ differ) equal
 
 pub same_name : (x : Bool) (one other : List ℕ) → x ≡ not (bytes_eq one other) → x ≡ false → one ≡ other
-same_name x one other e equal = (bytes_decides one other).0 (not_not _ (sym e ∙ equal))
+same_name x one other e equal = (bytes_decides one other).0 (not-false _ (sym e ∙ equal))

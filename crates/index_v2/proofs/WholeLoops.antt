@@ -47,7 +47,7 @@ none_more : (index : List ℕ) (symbols : List (List ℕ)) (before : Option Inde
 unfolding all_at
 none_more _ _ _ _ _ _ e = rw e refl
 
-nothing_left : (index : List ℕ) (symbols : List (List ℕ)) (before : Option IndexSeries) → all_at index symbols before [] ≡ Ok []
+pub nothing_left : (index : List ℕ) (symbols : List (List ℕ)) (before : Option IndexSeries) → all_at index symbols before [] ≡ Ok []
 unfolding all_at
 nothing_left _ _ _ = refl
 

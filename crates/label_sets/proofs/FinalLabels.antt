@@ -144,7 +144,7 @@ without-append names (x ∷ xs) ys = elim (is_among names x.name) as (λ b. cond
   | false ↦ ap (λ ws. x ∷ ws) (without-append names xs _)
 ]
 
-without_nothing : (xs : List Label) → without [] xs ≡ xs
+pub without_nothing : (xs : List Label) → without [] xs ≡ xs
 unfolding without is_among
 without_nothing [] = refl
 without_nothing (x ∷ xs) = ap (λ ws. x ∷ ws) (without_nothing _)

@@ -1,5 +1,5 @@
 -- Where a name stands in a label set.
-use Rattle.std.proofs.Common.{◌≡◌, ◌≢◌, ◌⊎◌, ℕ, zero, suc, ◌+◌, ◌<◌, ◌≤◌, Bool, true, false, cond, List, [], ◌∷◌, length, get_or, Some, None, is_some, Result, Ok, Err, IfOk, IfErr, refl, sym, ap, ◌∙◌, subst, arith, inl, inr}
+use Rattle.std.proofs.Common.{◌≡◌, ◌≢◌, ℕ, zero, suc, ◌+◌, ◌<◌, ◌≤◌, Bool, true, false, cond, List, [], ◌∷◌, length, get_or, Some, None, is_some, Result, Ok, Err, IfOk, IfErr, refl, sym, ap, ◌∙◌, subst, arith, inl, inr}
 use Rattle.std.specs.declared.cmp.Ordering.{Ordering}
 use Rattle.std.specs.declared.cmp.Ordering.TheVariants.{Less, Equal, Greater}
 use Rattle.std.specs.Ordering.{ordering_reverse, is_lt}
@@ -12,7 +12,7 @@ use Rattle.label_sets.specs.Labels.{compare_texts, ComesBefore, StandsBefore, Is
 use Rattle.label_sets.specs.declared.label_refusal.LabelRefusal.TheVariants.{EmptyName, EmptyValue, Repeated}
 use Rattle.label_sets.specs.Ordered.{placed}
 use Rattle.std.specs.Bool.{◌==◌}
-use Rattle.std.proofs.lemmas.Bool.{true≢false}
+use Rattle.std.proofs.lemmas.Bool.{true≢false, cases_lt}
 use Rattle.label_sets.proofs.OrderedLabels.{IsLabelSet-placed}
 use Rattle.label_sets.proofs.LabelValues.{value_hit, value_miss, value_nil, same_text, before_differs, compare_self}
 
@@ -47,12 +47,6 @@ value_nowhere (x ∷ xs) _ h = value_miss x _ _ (h 0 x (omega arith)) ∙ value_
 order_apart : (one other : List ℕ) (r : Ordering) → compare_texts one other ≡ r → (r ≡ Equal → ⊥) → one ≢ other
 order_apart one _ r e n s = n (sym e ∙ subst (λ t. compare_texts one t ≡ Equal) s (compare_self one))
 
-at_or_after : (k i : ℕ) → (k < i) ⊎ (i ≤ k)
-at_or_after zero zero = inr (omega arith)
-at_or_after zero (suc i) = inl (omega arith)
-at_or_after (suc k) zero = inr (omega arith)
-at_or_after (suc k) (suc i) = elim (at_or_after k i) [ inl a ↦ inl (omega arith) | inr b ↦ inr (omega arith) ]
-
 insert_is_placed : (xs : List Label) (i : ℕ) (l : Label) → i ≤ length xs
     → ((k : ℕ) (d : Label) → k < i → compare_texts (get_or xs k d).name l.name ≡ Less)
     → ((k : ℕ) (d : Label) → i ≤ k → k < length xs → compare_texts (get_or xs k d).name l.name ≡ Greater)
@@ -78,7 +72,7 @@ absent_place (Ok i) xs _ h l is = tt
 absent_place (Err i) xs name h l is =
     let at = is (searchable_from_sorted nat_list_cmp_total (λ (x : Label). x.name) xs name (label_names_rise _ h)) in (
       l,
-      value_nowhere _ _ (λ k d b. elim (at_or_after k i) [
+      value_nowhere _ _ (λ k d b. elim (cases_lt k i) [
         | inl a ↦ order_apart _ _ _ (at.0 k d (omega arith) a) (λ e. cc)
         | inr a ↦ order_apart _ _ _ (at.1 k d a b) (λ e. cc)
       ]),

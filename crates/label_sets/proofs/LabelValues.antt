@@ -1,23 +1,20 @@
 -- What `value_of` finds in a list of labels, and that a label set is determined by it.
-use Rattle.std.proofs.Common.{◌≡◌, ◌≢◌, ℕ, Bool, true, false, cond, List, [], ◌∷◌, Some, None, refl, sym, ap, ◌∙◌, subst}
+use Rattle.std.proofs.Common.{◌≡◌, ◌≢◌, ℕ, false, cond, List, [], ◌∷◌, Some, None, refl, sym, ap, ◌∙◌, subst}
 pub use Rattle.list_core.proofs.Bools.{by_bool}
 pub use Rattle.list_core.proofs.Options.{one_value, some_not_none}
 use Rattle.std.specs.declared.cmp.Ordering.{Ordering}
-use Rattle.std.specs.declared.cmp.Ordering.TheVariants.{Less, Equal, Greater}
+use Rattle.std.specs.declared.cmp.Ordering.TheVariants.{Less, Equal}
 use Rattle.std.specs.Ordering.{ordering_reverse, is_eq}
 use Rattle.std.specs.Cmp.Lexicographic.{nat_list_cmp_total, bytes_decides, texts_ties}
 use Rattle.std.specs.Str.{bytes_eq}
 use Rattle.std.proofs.lemmas.Cmp.{tied_itself}
-use Rattle.std.proofs.lemmas.Bool.{true≢false}
+use Rattle.std.proofs.lemmas.Bool.{true≢false, false_from_ne_true}
 use Rattle.label_sets.specs.declared.label.Label.{Label}
 use Rattle.label_sets.specs.Labels.{compare_texts, ComesBefore, StandsBefore, IsLabelSet, value_of}
+use Rattle.list_core.proofs.Bools.{by_order}
 
 lesser_equal : (r : Ordering) → r ≡ Less → r ≡ Equal → ⊥
 lesser_equal r p q = cc
-
-untrue : (b : Bool) → (b ≡ true → ⊥) → b ≡ false
-untrue true h = absurd (h refl)
-untrue false h = refl
 
 pub compare_self : (name : List ℕ) → compare_texts name name ≡ Equal
 compare_self name = tied_itself nat_list_cmp_total name
@@ -29,15 +26,10 @@ pub before_trans : (a b c : List ℕ) → ComesBefore a b → ComesBefore b c �
 before_trans a b c p q = nat_list_cmp_total.trans a b c p q
 
 pub bytes_eq_differs : (one other : List ℕ) → one ≢ other → bytes_eq one other ≡ false
-bytes_eq_differs one other n = untrue _ (λ t. n ((bytes_decides one other).0 t))
+bytes_eq_differs one other n = false_from_ne_true _ (λ t. n ((bytes_decides one other).0 t))
 
 pub same_text : (one other : List ℕ) → compare_texts one other ≡ Equal → one ≡ other
 same_text one other e = (bytes_decides one other).0 (texts_ties one other ∙ ap is_eq e)
-
-pub by_ordering : {P : Type 0} (r : Ordering) → (r ≡ Less → P) → (r ≡ Equal → P) → (r ≡ Greater → P) → P
-by_ordering Less f g h = f refl
-by_ordering Equal f g h = g refl
-by_ordering Greater f g h = h refl
 
 pub value_hit : (l : Label) (ls : List Label) (name : List ℕ) → l.name ≡ name → value_of (l ∷ ls) name ≡ Some l.value
 unfolding value_of
@@ -78,7 +70,7 @@ pub same_sets : (xs ys : List Label) → IsLabelSet xs → IsLabelSet ys → ((n
 same_sets [] [] p q same = refl
 same_sets [] (y ∷ ys) p q same = absurd (some_not_none _ _ (value_hit y _ _ refl) (sym (same y.name) ∙ value_nil _))
 same_sets (x ∷ xs) [] p q same = absurd (some_not_none _ _ (value_hit x _ _ refl) (same x.name ∙ value_nil _))
-same_sets (x ∷ xs) (y ∷ ys) p q same = by_ordering _
+same_sets (x ∷ xs) (y ∷ ys) p q same = by_order _
     (λ b. absurd (head_not_before x y _ _ q.2 (same x.name) b))
     (λ t. let e = same_text _ _ t in
     let v = one_value _ _ _ (value_hit x _ _ refl) (same x.name ∙ value_hit y _ _ (sym e)) in

@@ -1,6 +1,6 @@
 -- Labels put in the order of their names make a set with the same values.
 use Rattle.std.proofs.Common.{◌≡◌, ◌≢◌, ◌⊎◌, ℕ, true, false, cond, List, [], ◌∷◌, ◌++◌, Some, None, refl, sym, ap, ◌∙◌, subst, inl, inr}
-use Rattle.list_core.proofs.Bools.{Less-from_is_lt, swap_tests}
+use Rattle.list_core.proofs.Bools.{Less-from_is_lt, swap_tests, by_order}
 use Rattle.std.specs.declared.cmp.Ordering.{Ordering}
 use Rattle.std.specs.declared.cmp.Ordering.TheVariants.{Less}
 use Rattle.std.specs.Ordering.{ordering_reverse, is_lt}
@@ -11,7 +11,7 @@ use Rattle.std.proofs.lemmas.Bool.{true≢false}
 use Rattle.label_sets.specs.declared.label.Label.{Label}
 use Rattle.label_sets.specs.Labels.{ComesBefore, StandsBefore, IsLabelSet, MakeASet, value_of, has_lesser_name}
 use Rattle.label_sets.specs.Ordered.{placed, in_order}
-use Rattle.label_sets.proofs.LabelValues.{by_bool, by_ordering, before_differs, same_text, value_hit, value_miss, value_of-below, StandsBefore-trans, some_not_none}
+use Rattle.label_sets.proofs.LabelValues.{by_bool, before_differs, same_text, value_hit, value_miss, value_of-below, StandsBefore-trans, some_not_none}
 
 not_less_from : (r : Ordering) → is_lt r ≡ false → r ≡ Less → ⊥
 not_less_from r h e = true≢false (ap is_lt (sym e) ∙ h)
@@ -42,7 +42,7 @@ StandsBefore-placed name l (m ∷ ms) b h = elim (has_lesser_name m l) as (λ t.
 ]
 
 goes_first : (l m : Label) (ms : List Label) → has_lesser_name m l ≡ false → value_of (m ∷ ms) l.name ≡ None → ComesBefore l.name m.name
-goes_first l m ms f none = by_ordering _
+goes_first l m ms f none = by_order _
     (λ e. absurd (not_less_from _ f e))
     (λ e. absurd (some_not_none m.value (value_of (m ∷ ms) l.name) (value_hit m _ _ (same_text _ _ e)) none))
     (λ e. nat_list_cmp_total.antisymm l.name m.name ∙ ap ordering_reverse e)

@@ -1,8 +1,7 @@
 -- What the readers of values and pairs have read is in the notation.
 use Rattle.std.proofs.Common.{◌≡◌, ℕ, ◌<◌, Bool, true, false, ◌||◌, List, [], ◌∷◌, ◌++◌, length, take, drop, Result, Ok, Err, refl, sym, ap, ◌∙◌, subst, arith, append_assoc, eqb, inl, inr}
 use Rattle.reading_core.proofs.Binds.{one_answer, ok_is}
-use Rattle.std.proofs.lemmas.Bool.{cases_Bool}
-use Rattle.std.proofs.lemmas.Bool.Decides.{Decides-eqb}
+use Rattle.std.proofs.lemmas.Bool.{cases_Bool, eqb-true}
 use Rattle.std.proofs.lemmas.List.{take-append-drop, length-append}
 use Rattle.std.specs.Str.{IsUtf8}
 use Rattle.label_sets.specs.declared.label_refusal.LabelRefusal.{LabelRefusal}
@@ -16,14 +15,11 @@ not_err e x h = cc
 same_pair : (x : List ℕ × List ℕ) (w after : List ℕ) (r : Result (List ℕ × List ℕ) LabelRefusal) → r ≡ Ok x → r ≡ Ok (w, after) → (x.0 ≡ w) × (x.1 ≡ after)
 same_pair x w _ r h k = let e = one_answer x _ r h k in (ap (λ p. p.0) e, ap (λ p. p.1) e)
 
-pub is_byte : (byte n : ℕ) → eqb byte n ≡ true → byte ≡ n
-is_byte byte n t = (Decides-eqb byte n).0 t
-
 pub past-only : (byte : ℕ) (text rest : List ℕ) → past byte text ≡ Ok rest → text ≡ byte ∷ rest
 unfolding past
 past-only _ [] _ e = absurd (not_err _ _ e)
 past-only byte (first ∷ text) _ e = elim (cases_Bool _) [
-  | inl t ↦ let h = ok_is _ _ (rw t at e) in λ i. is_byte first byte t i ∷ h i
+  | inl t ↦ let h = ok_is _ _ (rw t at e) in λ i. eqb-true first byte t i ∷ h i
   | inr f ↦ absurd (not_err _ _ (rw f at e))
 ]
 
@@ -38,8 +34,8 @@ with_byte-ok _ (Err refusal) _ _ e = absurd (not_err _ _ e)
 pub escaped_sign : (byte : ℕ) → (eqb byte 92 || eqb byte 34) ≡ true → quoted_byte byte ≡ 92 ∷ byte ∷ []
 unfolding quoted_byte
 escaped_sign byte t = elim (cases_Bool _) [
-  | inl a ↦ rw (is_byte byte 92 a)
-  | inr a ↦ rw (is_byte byte 34 (rw a at t))
+  | inl a ↦ rw (eqb-true byte 92 a)
+  | inr a ↦ rw (eqb-true byte 34 (rw a at t))
 ]
 
 pub plain_byte : (byte : ℕ) → eqb byte 34 ≡ false → eqb byte 10 ≡ false → eqb byte 92 ≡ false → quoted_byte byte ≡ byte ∷ []
@@ -68,7 +64,7 @@ value-only false [] _ _ e = absurd (not_err _ _ e)
 value-only true (byte ∷ text) value rest e = elim (cases_Bool _) [
   | inl t ↦
       let w = with_byte-ok _ _ _ _ (rw t at e) in
-      ap (λ n. 92 ∷ n ∷ text) (is_byte _ _ t) ∙ one_more [] _ _ value w.0 rest 10 newline w.2 (value-only false text w.0 rest w.1)
+      ap (λ n. 92 ∷ n ∷ text) (eqb-true _ _ t) ∙ one_more [] _ _ value w.0 rest 10 newline w.2 (value-only false text w.0 rest w.1)
   | inr t ↦ elim (cases_Bool _) [
     | inl s ↦
         let w = with_byte-ok _ _ _ _ (rw (t, s) at e) in
@@ -79,11 +75,11 @@ value-only true (byte ∷ text) value rest e = elim (cases_Bool _) [
 value-only false (byte ∷ text) value rest e = elim (cases_Bool _) [
   | inl q ↦
       let p = same_pair ([], text) value rest (Ok (value, rest)) (sym (rw q at e)) refl in
-      (λ i. is_byte byte 34 q i ∷ p.1 i) ∙ ap (λ v. quoted v ++ 34 ∷ rest) p.0
+      (λ i. eqb-true byte 34 q i ∷ p.1 i) ∙ ap (λ v. quoted v ++ 34 ∷ rest) p.0
   | inr q ↦ elim (cases_Bool (eqb byte 10)) [
     | inl n ↦ absurd (not_err (BadText (length (byte ∷ text))) (value, rest) (rw (q, n) at e))
     | inr n ↦ elim (cases_Bool (eqb byte 92)) [
-      | inl b ↦ ap (λ n. n ∷ text) (is_byte byte 92 b) ∙ value-only true text value rest (rw (q, n, b) at e)
+      | inl b ↦ ap (λ n. n ∷ text) (eqb-true byte 92 b) ∙ value-only true text value rest (rw (q, n, b) at e)
       | inr b ↦
           let w = with_byte-ok byte (value_at false text) value rest (rw (q, n, b) at e) in
           one_more [] (byte ∷ []) text value w.0 rest byte (plain_byte byte q n b) w.2 (value-only false text w.0 rest w.1)

@@ -40,7 +40,7 @@ repeats_at (x ∷ y ∷ ys) zero d l e = rw (nat_list_eq_equiv.symm y.name x.nam
 repeats_at (x ∷ y ∷ ys) (suc k) d l e = rw (repeats_at (y ∷ ys) k d (omega arith) e, or-true)
 
 -- of two texts that are not less than one another
-tied : (o : Ordering) → is_lt o ≡ false → is_lt (ordering_reverse o) ≡ false → is_eq o ≡ true
+pub tied : (o : Ordering) → is_lt o ≡ false → is_lt (ordering_reverse o) ≡ false → is_eq o ≡ true
 tied Less f g = sym f
 tied Equal f g = refl
 tied Greater f g = sym g

@@ -46,7 +46,7 @@ longer_set (l ∷ ls) =
 take_front : (text : List ℕ) (labels : List Label) (after : List ℕ) (taken : ℕ) → text ≡ set_text labels ++ after → taken ≡ length (set_text labels) → take taken text ≡ set_text labels
 take_front _ _ _ _ whole is = (λ i. take (is i) (whole i)) ∙ take_at _ _ _ refl
 
-longer_text : (text : List ℕ) (set : List Label) → IsSetText text set → members_in set ≤ length text
+pub longer_text : (text : List ℕ) (set : List Label) → IsSetText text set → members_in set ≤ length text
 longer_text text set is = omega (arith, longer_set is.listed, ap length is.written, sum_by-IsPermutation members_of is.listed set is.arranged)
 
 -- so what is read has no more members than the bytes that it takes

@@ -43,7 +43,7 @@ prefix_all p (x ∷ xs) = by_bool (p x)
     (λ t. ap (λ b. list_all p (take (cond b (1 + prefix_len p xs) 0) (x ∷ xs))) t ∙ ap (λ n. list_all p (take n (x ∷ xs))) (one_more_is _) ∙ (λ i. t i && prefix_all p xs i))
     (λ f. ap (λ b. list_all p (take (cond b (1 + prefix_len p xs) 0) (x ∷ xs))) f)
 
-start_is_byte : (x : ℕ) → is_name_start x ≡ true → is_name_byte x ≡ true
+pub start_is_byte : (x : ℕ) → is_name_start x ≡ true → is_name_byte x ≡ true
 start_is_byte x t = ap (λ b. b || is_ascii_digit x) t
 
 -- the longest name at the front of a text has the form of a name

@@ -1,9 +1,9 @@
 -- A text that is cut at an ASCII byte, and the text for which a quoted one stands.
-use Rattle.std.proofs.Common.{◌≡◌, ℕ, zero, suc, ◌+◌, ◌<◌, true, cond, List, [], ◌∷◌, ◌++◌, length, get_or, drop, refl, sym, ap, ◌∙◌, subst, arith, append_assoc, take_at, eqb}
+use Rattle.std.proofs.Common.{◌≡◌, ℕ, zero, suc, ◌+◌, ◌<◌, cond, List, [], ◌∷◌, ◌++◌, length, get_or, drop, refl, sym, ap, ◌∙◌, subst, arith, append_assoc, take_at, eqb}
 use Rattle.std.proofs.lemmas.List.{length-append, get_or_at, drop_at}
-use Rattle.std.proofs.lemmas.Bool.Decides.{Decides-eqb}
 use Rattle.std.proofs.lemmas.Str.{IsUtf8-append, IsUtf8-take, IsUtf8-drop, IsUtf8-from_ascii, IsCharBoundary-before_ascii, IsCharBoundary-after_ascii}
 use Rattle.std.specs.Str.{IsUtf8}
+use Rattle.std.proofs.lemmas.Bool.{eqb-true}
 use Rattle.label_sets.specs.Notation.{quoted, quoted_byte}
 use Rattle.label_sets.proofs.LabelValues.{by_bool}
 
@@ -40,20 +40,17 @@ quoted-cons _ _ = refl
 escape_parts : (a rest : List ℕ) (c : ℕ) → c < 128 → IsUtf8 (a ++ 92 ∷ c ∷ rest) → IsUtf8 a × IsUtf8 rest
 escape_parts a _ c l u = (cut_front a _ _ (omega arith) u, cut_rest [] _ c l (cut_rest a _ _ (omega arith) u))
 
-is_byte : (byte n : ℕ) → eqb byte n ≡ true → byte ≡ n
-is_byte byte n t = (Decides-eqb byte n).0 t
-
 -- the byte is a backslash, a quote or a newline, or stands for itself
 by_byte : {P : Type 0} (byte : ℕ)
     → (byte ≡ 92 → quoted_byte byte ≡ 92 ∷ 92 ∷ [] → P) → (byte ≡ 34 → quoted_byte byte ≡ 92 ∷ 34 ∷ [] → P)
     → (byte ≡ 10 → quoted_byte byte ≡ 92 ∷ 110 ∷ [] → P) → (quoted_byte byte ≡ byte ∷ [] → P) → P
 unfolding quoted_byte
 by_byte byte f g h k = by_bool (eqb byte 92)
-    (λ t. f (is_byte _ _ t) (ap (λ b. cond b (92 ∷ 92 ∷ []) (cond (eqb byte 34) (92 ∷ 34 ∷ []) (cond (eqb byte 10) (92 ∷ 110 ∷ []) (byte ∷ [])))) t))
+    (λ t. f (eqb-true _ _ t) (ap (λ b. cond b (92 ∷ 92 ∷ []) (cond (eqb byte 34) (92 ∷ 34 ∷ []) (cond (eqb byte 10) (92 ∷ 110 ∷ []) (byte ∷ [])))) t))
     (λ n. by_bool (eqb byte 34)
-    (λ t. g (is_byte _ _ t) (λ i. cond (n i) (92 ∷ 92 ∷ []) (cond (t i) (92 ∷ 34 ∷ []) (cond (eqb byte 10) (92 ∷ 110 ∷ []) (byte ∷ [])))))
+    (λ t. g (eqb-true _ _ t) (λ i. cond (n i) (92 ∷ 92 ∷ []) (cond (t i) (92 ∷ 34 ∷ []) (cond (eqb byte 10) (92 ∷ 110 ∷ []) (byte ∷ [])))))
     (λ m. by_bool (eqb byte 10)
-    (λ t. h (is_byte _ _ t) (λ i. cond (n i) (92 ∷ 92 ∷ []) (cond (m i) (92 ∷ 34 ∷ []) (cond (t i) (92 ∷ 110 ∷ []) (byte ∷ [])))))
+    (λ t. h (eqb-true _ _ t) (λ i. cond (n i) (92 ∷ 92 ∷ []) (cond (m i) (92 ∷ 34 ∷ []) (cond (t i) (92 ∷ 110 ∷ []) (byte ∷ [])))))
     (λ o. k (λ i. cond (n i) (92 ∷ 92 ∷ []) (cond (m i) (92 ∷ 34 ∷ []) (cond (o i) (92 ∷ 110 ∷ []) (byte ∷ [])))))))
 
 -- with what stands before it, a value is a text where its quoted form is one

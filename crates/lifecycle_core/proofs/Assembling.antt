@@ -1,5 +1,6 @@
 -- All that is guaranteed of a run, from what its entries tell, its views and its answers.
 use Rattle.list_core.proofs.Membership.{all_members, contains_place}
+use Rattle.list_core.proofs.Pairs.{AllZip-weaker_where}
 use Rattle.std.proofs.Common.{◌≡◌, ◌≢◌, ◌⊎◌, inl, inr, ℕ, Bool, List, [], ◌∷◌, ◌++◌, length, All, Contains, Option, Some, None, refl, sym, ◌∙◌, ap, subst, arith}
 use Rattle.std.specs.Prelude.{option_map, count_by}
 use Rattle.std.specs.List.{AllZip, filter, flat_map}
@@ -67,7 +68,6 @@ use Rattle.lifecycle_core.proofs.phases.TasksMade.{ends_are_made}
 use Rattle.lifecycle_core.proofs.journals.Rising.{journal_rises}
 use Rattle.lifecycle_core.proofs.journals.UnbrokenHonest.{unbroken_is_honest}
 use Rattle.lifecycle_core.proofs.journals.Told.{Rises}
-use Rattle.lifecycle_core.proofs.phases.PhaseRuns.{all_zip}
 use Rattle.lifecycle_core.proofs.phases.GatewayParts.{part_ends, query_is}
 use Rattle.lifecycle_core.proofs.phases.ShipEnds.{ship_end, stopped_end}
 use Rattle.vertical_merge.specs.Merged.{IsDeduplication}
@@ -339,7 +339,7 @@ module _ (setting : Setting) (journal : List Entry) (ends : List (List (List End
 
     all_exact : AllZip (λ n series. IsDeduplication (triples_of series) (asked_of setting query.selector n)) query.named given.parts
     all_exact =
-        all_zip (Contains query.named) Its (λ n series. IsDeduplication (triples_of series) (asked_of setting query.selector n)) part_exact query.named given.parts
+        AllZip-weaker_where (Contains query.named) Its (λ n series. IsDeduplication (triples_of series) (asked_of setting query.selector n)) part_exact query.named given.parts
         (all_members (Contains query.named) query.named (λ n among. among)) given.given
 
     exact : IsExact setting query

@@ -8,7 +8,7 @@ use Rattle.std.proofs.lemmas.Bool.Decides.{nat_tests}
 use Rattle.std.proofs.lemmas.List.{append-nil, drop_all, length-map}
 use Rattle.std.proofs.lemmas.List.FromFn.{length-map-range_with_len}
 use Rattle.std.proofs.lemmas.Option.{slice_get_within}
-use Rattle.list_core.proofs.Lists.{drop_none, drop_place}
+use Rattle.list_core.proofs.Lists.{drop_none, drop_place, slice_get-set_other}
 use Rattle.world_core.specs.Operations.{entry_of}
 use Rattle.world_core.specs.declared.entry.Entry.{Entry}
 use Rattle.script_core.specs.Lawful.{IsLawfulScript, IsLawfulWork}
@@ -75,13 +75,6 @@ get_same [] i a x at = absurd (cc (at))
 get_same (y ∷ ys) zero a x at = cc (at)
 get_same (y ∷ ys) (suc i) a x at = get_same ys i a x at
 
-get_other : {X : Type 0} (xs : List X) (i j : ℕ) (a : X) → j ≢ i → slice_get (set xs i a) j ≡ slice_get xs j
-get_other [] i j a differ = refl
-get_other (y ∷ ys) zero zero a differ = absurd (differ refl)
-get_other (y ∷ ys) zero (suc j) a differ = refl
-get_other (y ∷ ys) (suc i) zero a differ = refl
-get_other (y ∷ ys) (suc i) (suc j) a differ = get_other ys i j a (λ e. differ (ap suc e))
-
 shows_at : (views : Holdings) (number : ℕ) (held : Holding) (gateways : List Sight) (gateway : Sight) (place : ℕ) (x : Sight) (b : Bool) → (place == number) ≡ b → Shows views gateways
     → Sees held gateway → slice_get (set gateways number gateway) place ≡ Some x → Sees (with_holding views (Some number) held place) x
 shows_at views number held gateways gateway place x true e shows is at =
@@ -90,7 +83,7 @@ shows_at views number held gateways gateway place x true e shows is at =
     rw e (subst (Sees held) own is)
 shows_at views number held gateways gateway place x false e shows is at =
     let differ : place ≢ number = λ q. absurd (grind (arith, nat_tests, q, e)) in
-    rw e (shows place x (sym (get_other gateways number place gateway differ) ∙ at))
+    rw e (shows place x (sym (slice_get-set_other gateways number place gateway differ) ∙ at))
 
 -- a gateway that sees by this from now on
 set_shows : (views : Holdings) (number : ℕ) (held : Holding) (gateways : List Sight) (gateway : Sight) → Shows views gateways → Sees held gateway → Shows (with_holding views (Some number) held) (set gateways number gateway)

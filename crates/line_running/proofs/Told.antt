@@ -25,6 +25,7 @@ use Rattle.std.proofs.lemmas.List.Elements.{All-drop}
 use Rattle.report_lines.specs.script_running.specs.Outcomes.{IsOutcome, TasksCame}
 use Rattle.report_lines.specs.script_running.specs.declared.sight.Sight.{Sight}
 use Rattle.line_running.specs.Progress.{IsDueInLine, Shows, TaskStep, TasksBroken, TasksDone, TasksTold, duties_at}
+use Rattle.line_running.proofs.Steps.{duties_long}
 use Rattle.report_lines.specs.script_running.specs.declared.came.Broken.{Broken}
 use Rattle.report_lines.specs.script_running.specs.declared.came.Broken.TheVariants as broken
 use Rattle.report_lines.specs.script_running.specs.declared.outcome.Outcome.{Outcome}
@@ -64,12 +65,6 @@ told_outcomes setting place (t ∷ tasks) ends outcomes told = ap (length {A = O
 abbrev duties_by : ℕ → Task → List Hand → List Duty
 duties_by place task hs = map (λ hand. record { place = place; hand = hand; task = task }) hs
 
-first_length : (setting : Setting) (place : ℕ) (task : Task) → length (duties_at setting place (task ∷ [])) ≡ length (hands_of_task (gateway_count setting.script.gateways) place task.work)
-unfolding duties_from
-first_length setting place task =
-    let hs = hands_of_task (gateway_count setting.script.gateways) place task.work in
-    ap (length {A = Duty}) (append-nil (duties_by place task hs)) ∙ length-map hs (λ hand. record { place = place; hand = hand; task = task })
-
 pub told_length : (setting : Setting) (place : ℕ) (tasks : List Task) (ends : List End) (outcomes : List Outcome) → TasksTold setting place tasks ends outcomes → length ends ≡ length (duties_at setting place tasks)
 unfolding duties_from
 told_length setting place [] ends outcomes told = ap (length {A = End}) told.0
@@ -82,7 +77,7 @@ told_length setting place (task ∷ tasks) ends outcomes told =
       ap (length {A = End}) told.4,
       length-append told.0 told.1,
       told.5,
-      first_length setting place task,
+      duties_long setting place task,
       n,
       rest,
       length-append (duties_by place task hs) (duties_from (gateway_count setting.script.gateways) (place + 1) tasks),
@@ -237,7 +232,7 @@ tasks_came setting workers all place (task ∷ tasks) ends outcomes told zipped 
     let hs = hands_of_task (gateway_count setting.script.gateways) place task.work in
     let rest = duties_from (gateway_count setting.script.gateways) (place + 1) tasks in
     let zipped' = subst (λ (l : List End). AllZip (λ d e. CameTo workers all (gateway_of d.hand) d.place e) (duties_by place task hs ++ rest) l) told.4 zipped in
-    let same : length told.0 ≡ length (duties_by place task hs) = told.5 ∙ first_length setting place task ∙ sym (length-map hs (λ hand. record { place = place; hand = hand; task = task })) in
+    let same : length told.0 ≡ length (duties_by place task hs) = told.5 ∙ duties_long setting place task ∙ sym (length-map hs (λ hand. record { place = place; hand = hand; task = task })) in
     let parts = zip_parts (λ d e. CameTo workers all (gateway_of d.hand) d.place e) (duties_by place task hs) rest told.0 told.1 same zipped' in
     subst (λ (os : List Outcome). TasksCame setting.script workers all place (task ∷ tasks) os) (sym told.7) (
       record { own = told.0; came = by_hands workers all place task hs told.0 parts.0; is = told.6 },

@@ -1,9 +1,10 @@
 -- Booleans and orderings, where the standard library has no lemma.
-use Rattle.std.proofs.Common.{◌≡◌, ℕ, ◌<◌, Bool, true, false, cond, ◌||◌, List, refl, arith}
+use Rattle.std.proofs.Common.{◌≡◌, ◌⊎◌, inl, inr, ℕ, ◌<◌, Bool, true, false, cond, ◌&&◌, ◌||◌, List, refl, arith}
 use Rattle.std.specs.declared.cmp.Ordering.{Ordering}
 use Rattle.std.specs.declared.cmp.Ordering.TheVariants.{Less, Equal, Greater}
-use Rattle.std.specs.Ordering.{is_lt, nat_cmp, ordering_then}
+use Rattle.std.specs.Ordering.{is_eq, is_lt, nat_cmp, ordering_then}
 use Rattle.std.specs.Str.{bytes_eq}
+use Rattle.std.proofs.lemmas.Bool.{and_parts}
 use Rattle.std.proofs.lemmas.Bool.Decides.{nat_tests}
 use Rattle.std.proofs.lemmas.Slice.Eq.{bytes_eq-Decides}
 
@@ -12,6 +13,20 @@ use Rattle.std.proofs.lemmas.Slice.Eq.{bytes_eq-Decides}
 pub by_bool : {P : Type 0} (b : Bool) → (b ≡ true → P) → (b ≡ false → P) → P
 by_bool true f g = f refl
 by_bool false f g = g refl
+
+pub and_first : (a b : Bool) → (a && b) ≡ true → a ≡ true
+and_first a b e = (and_parts a b e).0
+
+pub and_second : (a b : Bool) → (a && b) ≡ true → b ≡ true
+and_second a b e = (and_parts a b e).1
+
+pub or_true : (a : Bool) → (a || true) ≡ true
+or_true true = refl
+or_true false = refl
+
+pub or_false : (a : Bool) → (a || false) ≡ a
+or_false true = refl
+or_false false = refl
 
 pub or_swap : (a b c : Bool) → (a || (b || c)) ≡ (b || (a || c))
 or_swap true true c = refl
@@ -26,6 +41,11 @@ swap_tests false b x y z apart = refl
 
 -- ---- orderings
 
+pub by_order : {P : Type 0} (o : Ordering) → (o ≡ Less → P) → (o ≡ Equal → P) → (o ≡ Greater → P) → P
+by_order Less f g h = f refl
+by_order Equal f g h = g refl
+by_order Greater f g h = h refl
+
 pub Less-from_is_lt : (o : Ordering) → is_lt o ≡ true → o ≡ Less
 Less-from_is_lt Less e = refl
 Less-from_is_lt Equal e = absurd cc
@@ -33,6 +53,16 @@ Less-from_is_lt Greater e = absurd cc
 
 pub is_lt-from_Less : (o : Ordering) → o ≡ Less → is_lt o ≡ true
 is_lt-from_Less o e = rw e refl
+
+pub Equal-from_is_eq : (o : Ordering) → is_eq o ≡ true → o ≡ Equal
+Equal-from_is_eq Less e = absurd cc
+Equal-from_is_eq Equal e = refl
+Equal-from_is_eq Greater e = absurd cc
+
+pub Less-from_then : (a b : Ordering) → ordering_then a b ≡ Less → (a ≡ Less) ⊎ ((a ≡ Equal) × (b ≡ Less))
+Less-from_then Less b e = inl refl
+Less-from_then Equal b e = inr (refl, e)
+Less-from_then Greater b e = absurd cc
 
 pub Equal-from_then : (a b : Ordering) → ordering_then a b ≡ Equal → (a ≡ Equal) × (b ≡ Equal)
 Equal-from_then Less b e = absurd cc

@@ -1,7 +1,9 @@
 pub mod Bools
+pub mod Integers
 pub mod Options
 pub mod Lists
 pub mod Membership
+pub mod Pairs
 pub mod Order
 pub mod StableSorts
 pub mod Ascending

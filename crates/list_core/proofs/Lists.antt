@@ -1,11 +1,12 @@
 -- Lists, where the standard library has no lemma: parts at a place, filters, pairs, and what holds of each member.
-use Rattle.std.proofs.Common.{◌≡◌, ◌≢◌, ℕ, zero, suc, ◌+◌, Bool, true, false, cond, List, [], ◌∷◌, ◌++◌, length, take, drop, map, zip, Some, refl, ap, ◌∙◌, subst, arith}
+use Rattle.std.proofs.Common.{◌≡◌, ◌≢◌, ◌⊎◌, inl, inr, ℕ, zero, suc, ◌+◌, ◌<◌, Bool, true, false, cond, List, [], ◌∷◌, ◌++◌, length, take, drop, map, zip, set, get_or, Some, refl, sym, ap, ◌∙◌, subst, arith, append_assoc, append-nil}
 use Rattle.std.specs.Prelude.{slice_get, ◌==◌}
-use Rattle.std.specs.List.{All, AllByRecursion, filter, find}
+use Rattle.std.specs.List.{All, AllByRecursion, filter, find, flat_map}
 use Rattle.std.proofs.lemmas.Bool.{eqb-false, ne_eqb}
 use Rattle.std.proofs.lemmas.List.{drop_more, take_more, nil_from_length}
 use Rattle.std.proofs.lemmas.List.Elements.{All-head, All-tail}
 use Rattle.std.proofs.lemmas.Option.{slice_get_within, get_or_from_slice_get}
+use Rattle.list_core.proofs.Bools.{by_bool}
 
 -- ---- the first member and the others
 
@@ -22,9 +23,26 @@ pub nil_not_middle : {A : Type 0} (x : A) (xs ys : List A) → [] ≡ xs ++ x �
 nil_not_middle x [] ys e = absurd cc
 nil_not_middle x (y ∷ xs) ys e = absurd cc
 
+pub middle_not_nil : {A : Type 0} (xs : List A) (y : A) (ys : List A) → xs ++ y ∷ ys ≡ [] → ⊥
+middle_not_nil [] y ys e = absurd cc
+middle_not_nil (x ∷ xs) y ys e = absurd cc
+
+-- a list is empty, or has a last member
+pub last_or_none : {A : Type 0} (xs : List A) → (xs ≡ []) ⊎ ((others : List A) × (last : A) × (xs ≡ others ++ last ∷ []))
+last_or_none [] = inl refl
+last_or_none (x ∷ xs) =
+    elim (last_or_none xs) [
+      | inl none ↦ inr ([], x, ap (λ l. x ∷ l) none)
+      | inr more ↦ inr (x ∷ more.0, more.1, ap (λ l. x ∷ l) more.2)
+    ]
+
 -- that a list is empty, by its length
 pub some-from_length : {A : Type 0} (xs : List A) → (length xs == 0) ≡ false → xs ≢ []
 some-from_length xs e none = eqb-false (length xs) 0 e (ap length none)
+
+pub some-length : {A : Type 0} (xs : List A) → xs ≢ [] → 0 < length xs
+some-length [] some = absurd (some refl)
+some-length (x ∷ xs) some = omega arith
 
 pub length-some : {A : Type 0} (xs : List A) → xs ≢ [] → (length xs == 0) ≡ false
 length-some xs some = ne_eqb (length xs) 0 (λ e. some (nil_from_length xs e))
@@ -61,6 +79,22 @@ slice_get-drop xs zero place = let e : 0 + place ≡ place = omega arith in rw (
 slice_get-drop [] (suc count) place = refl
 slice_get-drop (x ∷ xs) (suc count) place = let e : suc count + place ≡ suc (count + place) = omega arith in rw e (slice_get-drop xs count place)
 
+-- what is put at a place changes no other
+pub slice_get-set_other : {A : Type 0} (xs : List A) (i j : ℕ) (x : A) → j ≢ i → slice_get (set xs i x) j ≡ slice_get xs j
+slice_get-set_other [] i j x differ = refl
+slice_get-set_other (y ∷ ys) zero zero x differ = absurd (differ refl)
+slice_get-set_other (y ∷ ys) zero (suc j) x differ = refl
+slice_get-set_other (y ∷ ys) (suc i) zero x differ = refl
+slice_get-set_other (y ∷ ys) (suc i) (suc j) x differ = slice_get-set_other ys i j x (λ e. differ (ap suc e))
+
+pub map-push : {A B : Type 0} (f : A → B) (xs : List A) (x : A) → map f (xs ++ x ∷ []) ≡ map f xs ++ f x ∷ []
+map-push f [] x = refl
+map-push f (y ∷ xs) x = ap (λ l. f y ∷ l) (map-push f xs x)
+
+pub flat_map-push : {A B : Type 0} (f : A → List B) (xs : List A) (x : A) → flat_map f (xs ++ x ∷ []) ≡ flat_map f xs ++ f x
+flat_map-push f [] x = append-nil (f x)
+flat_map-push f (y ∷ xs) x = ap (λ l. f y ++ l) (flat_map-push f xs x) ∙ sym (append_assoc (f y) (flat_map f xs) (f x))
+
 -- ---- filters and finds
 
 pub filter_hit : {A : Type 0} (p : A → Bool) (x : A) (xs : List A) → p x ≡ true → filter p (x ∷ xs) ≡ x ∷ filter p xs
@@ -68,6 +102,22 @@ filter_hit p x xs h = ap (λ b. cond b (x ∷ filter p xs) (filter p xs)) h
 
 pub filter_miss : {A : Type 0} (p : A → Bool) (x : A) (xs : List A) → p x ≡ false → filter p (x ∷ xs) ≡ filter p xs
 filter_miss p x xs h = ap (λ b. cond b (x ∷ filter p xs) (filter p xs)) h
+
+pub filter-map : {A B : Type 0} (p : B → Bool) (f : A → B) (xs : List A) → filter p (map f xs) ≡ map f (filter (λ x. p (f x)) xs)
+filter-map p f [] = refl
+filter-map p f (x ∷ xs) = by_bool (p (f x))
+    (λ t. filter_hit p (f x) (map f xs) t ∙ ap (λ l. f x ∷ l) (filter-map p f xs) ∙ sym (ap (map f) (filter_hit (λ y. p (f y)) x xs t)))
+    (λ t. filter_miss p (f x) (map f xs) t ∙ filter-map p f xs ∙ sym (ap (map f) (filter_miss (λ y. p (f y)) x xs t)))
+
+pub filter_twice : {A : Type 0} (p q : A → Bool) (xs : List A) → filter p (filter q xs) ≡ filter q (filter p xs)
+filter_twice p q [] = refl
+filter_twice p q (x ∷ xs) = by_bool (p x)
+    (λ t. by_bool (q x)
+    (λ u. ap (filter p) (filter_hit q x xs u) ∙ filter_hit p x (filter q xs) t ∙ ap (λ l. x ∷ l) (filter_twice p q xs) ∙ sym (ap (filter q) (filter_hit p x xs t) ∙ filter_hit q x (filter p xs) u))
+    (λ u. ap (filter p) (filter_miss q x xs u) ∙ filter_twice p q xs ∙ sym (ap (filter q) (filter_hit p x xs t) ∙ filter_miss q x (filter p xs) u)))
+    (λ t. by_bool (q x)
+    (λ u. ap (filter p) (filter_hit q x xs u) ∙ filter_miss p x (filter q xs) t ∙ filter_twice p q xs ∙ sym (ap (filter q) (filter_miss p x xs t)))
+    (λ u. ap (filter p) (filter_miss q x xs u) ∙ filter_twice p q xs ∙ sym (ap (filter q) (filter_miss p x xs t))))
 
 -- where every member passes, and where none does
 pub filter_all : {A : Type 0} (p : A → Bool) (xs : List A) → All (λ x. p x ≡ true) xs → filter p xs ≡ xs
@@ -123,6 +173,15 @@ AllByRecursion-append P (x ∷ xs) ys all more = (all.0, AllByRecursion-append P
 
 pub AllByRecursion-push : {A : Type 0} (P : A → Type 0) (xs : List A) (x : A) → AllByRecursion P xs → P x → AllByRecursion P (xs ++ x ∷ [])
 AllByRecursion-push P xs x all one = AllByRecursion-append P xs (x ∷ []) all (one, tt)
+
+pub AllByRecursion-append_right : {A : Type 0} (P : A → Type 0) (xs ys : List A) → AllByRecursion P (xs ++ ys) → AllByRecursion P ys
+AllByRecursion-append_right P [] ys all = all
+AllByRecursion-append_right P (x ∷ xs) ys all = AllByRecursion-append_right P xs ys all.1
+
+pub AllByRecursion-at : {A : Type 0} (P : A → Type 0) (xs : List A) (k : ℕ) (d : A) → AllByRecursion P xs → k < length xs → P (get_or xs k d)
+AllByRecursion-at P [] k d all lt = absurd (omega arith)
+AllByRecursion-at P (x ∷ xs) zero d all lt = all.0
+AllByRecursion-at P (x ∷ xs) (suc k) d all lt = AllByRecursion-at P xs k d all.1 (omega arith)
 
 pub AllByRecursion-weaker : {A : Type 0} (P Q : A → Type 0) → ((x : A) → P x → Q x) → (xs : List A) → AllByRecursion P xs → AllByRecursion Q xs
 AllByRecursion-weaker P Q each [] all = tt

@@ -1,5 +1,5 @@
 -- Members of lists that were joined, mapped, flattened, filtered and put in order, and tests of members.
-use Rattle.std.proofs.Common.{◌≡◌, ◌⊎◌, inl, inr, ℕ, zero, suc, Bool, true, List, [], ◌∷◌, map, Some, refl, sym, ap, ◌∙◌, subst, arith}
+use Rattle.std.proofs.Common.{◌≡◌, ◌⊎◌, inl, inr, ℕ, zero, suc, Bool, true, false, List, [], ◌∷◌, map, Some, refl, sym, ap, ◌∙◌, subst, arith}
 use Rattle.std.specs.Prelude.{slice_get}
 use Rattle.std.specs.List.{Contains, AllByRecursion, filter, flat_map, list_any, list_all}
 use Rattle.std.proofs.lemmas.Bool.{cases_Bool, and_parts}
@@ -34,6 +34,15 @@ contains_place xs place x at = (place, slice_get_within xs place x at, get_or_fr
 
 pub place_of_member : {A : Type 0} (xs : List A) (x : A) → Contains xs x → (place : ℕ) × (slice_get xs place ≡ Some x)
 place_of_member xs x (place, below, at) = (place, slice_get-get_or xs place x below ∙ ap Some at)
+
+-- where every member passes, and where none does
+pub filter_whole : {A : Type 0} (p : A → Bool) (xs : List A) → ((x : A) → Contains xs x → p x ≡ true) → filter p xs ≡ xs
+filter_whole p [] all = refl
+filter_whole p (x ∷ xs) all = filter_hit p x xs (all x (contains_first x xs)) ∙ ap (λ l. x ∷ l) (filter_whole p xs (λ y m. all y (contains_later x y xs m)))
+
+pub filter_nothing : {A : Type 0} (p : A → Bool) (xs : List A) → ((x : A) → Contains xs x → p x ≡ false) → filter p xs ≡ []
+filter_nothing p [] all = refl
+filter_nothing p (x ∷ xs) all = filter_miss p x xs (all x (contains_first x xs)) ∙ filter_nothing p xs (λ y m. all y (contains_later x y xs m))
 
 -- ---- what holds of each member
 

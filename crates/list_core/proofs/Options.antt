@@ -1,6 +1,6 @@
 -- Options, where the standard library has no lemma.
 use Rattle.std.proofs.Common.{◌≡◌, Bool, true, false, cond, Option, Some, None, refl}
-use Rattle.std.specs.Prelude.{is_some}
+use Rattle.std.specs.Prelude.{is_some, option_map}
 
 -- what an option has is one value
 pub one_value : {A : Type 0} (x y : A) (o : Option A) → o ≡ Some x → o ≡ Some y → x ≡ y
@@ -17,3 +17,8 @@ None-from_is_some (Some x) e = absurd cc
 pub tested_some : {A : Type 0} (b : Bool) (o : Option A) (x : A) → cond b o None ≡ Some x → (b ≡ true) × (o ≡ Some x)
 tested_some true o x e = (refl, e)
 tested_some false o x e = absurd cc
+
+-- what is mapped to a value was there
+pub option_map-Some : {A B : Type 0} (f : A → B) (o : Option A) (y : B) → option_map f o ≡ Some y → (x : A) × (o ≡ Some x) × (f x ≡ y)
+option_map-Some f None y e = absurd cc
+option_map-Some f (Some x) y e = (x, refl, cc)

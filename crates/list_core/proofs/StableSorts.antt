@@ -7,12 +7,7 @@ use Rattle.std.proofs.lemmas.List.Sorted.{sorted_far}
 use Rattle.std.proofs.lemmas.Bool.{true≢false}
 use Rattle.list_core.specs.Ordered.{placed, in_order}
 use Rattle.list_core.proofs.Bools.{by_bool}
-
-pub filter_hit : {A : Type 0} (p : A → Bool) (x : A) (xs : List A) → p x ≡ true → filter p (x ∷ xs) ≡ x ∷ filter p xs
-filter_hit p x xs h = ap (λ b. cond b (x ∷ filter p xs) (filter p xs)) h
-
-pub filter_miss : {A : Type 0} (p : A → Bool) (x : A) (xs : List A) → p x ≡ false → filter p (x ∷ xs) ≡ filter p xs
-filter_miss p x xs h = ap (λ b. cond b (x ∷ filter p xs) (filter p xs)) h
+use Rattle.list_core.proofs.Lists.{cons_parts, filter_hit, filter_miss}
 
 no_cycle : (b : Bool) → (b ≡ true → b ≡ false) → b ≡ false
 no_cycle true h = h refl
@@ -43,9 +38,6 @@ not_both false false h = (refl, refl)
 
 both_not : (p q : Bool) → p ≡ false → q ≡ false → (not p && not q) ≡ true
 both_not p q a b = ap (λ c. not c && not q) a ∙ ap not b
-
-cons_parts : {A : Type 0} (x y : A) (xs ys : List A) → x ∷ xs ≡ y ∷ ys → (x ≡ y) × (xs ≡ ys)
-cons_parts x y xs ys h = (cc, cc)
 
 cons_nil : {A : Type 0} (x : A) (xs : List A) → x ∷ xs ≡ [] → ⊥
 cons_nil x xs h = cc

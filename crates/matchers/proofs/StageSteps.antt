@@ -5,7 +5,7 @@ use Rattle.std.proofs.lemmas.List.{length-append}
 use Rattle.std.proofs.lemmas.List.Concat.{flat_map-append}
 use Rattle.std.proofs.lemmas.List.Folds.{list_all-append}
 use Rattle.std.proofs.lemmas.List.Elements.{All-push, All-nil}
-use Rattle.std.proofs.lemmas.Bool.Decides.{Decides-eqb}
+use Rattle.std.proofs.lemmas.Bool.{eqb-true}
 use Rattle.reading_core.proofs.Binds.{ok_is}
 use Rattle.label_sets.specs.Notation.{is_name, is_name_start, is_name_byte, quoted, quoted_byte}
 use Rattle.label_sets.proofs.ReadPairs.{escaped_sign, plain_byte, newline}
@@ -34,9 +34,6 @@ leads_nowhere e text next h = absurd cc
 by_test : (b : Bool) (r s : Next) (text : List ℕ) → (b ≡ true → Leads r text) → (b ≡ false → Leads s text) → Leads (cond b r s) text
 by_test true r s text f g = f refl
 by_test false r s text f g = g refl
-
-is_byte : (byte n : ℕ) → eqb byte n ≡ true → byte ≡ n
-is_byte byte n t = (Decides-eqb byte n).0 t
 
 -- ---- names
 
@@ -89,7 +86,7 @@ start_leads : (d : Draft) (text : List ℕ) (place byte : ℕ) → Reached Start
 unfolding after_start
 start_leads d text place byte r =
     by_test (eqb byte 123) _ _ _
-    (λ t. leads (record d { stage = Comma }) _ (opens d.metric d.listed text byte (inl r.1) (r.0 ∙ sym r.1) r.2 (is_byte byte 123 t), r.3))
+    (λ t. leads (record d { stage = Comma }) _ (opens d.metric d.listed text byte (inl r.1) (r.0 ∙ sym r.1) r.2 (eqb-true byte 123 t), r.3))
     (λ f. by_test (is_metric_start byte) _ _ _
     (λ t. leads (record d { stage = Metric; metric = d.metric ++ byte ∷ [] }) _
     (ap (λ x. x ++ byte ∷ []) (r.0 ∙ sym r.1), ap (λ m. is_metric_name (m ++ byte ∷ [])) r.1 ∙ metric_begins byte t, r.2, r.3))
@@ -99,7 +96,7 @@ metric_leads : (d : Draft) (text : List ℕ) (place byte : ℕ) → Reached Metr
 unfolding after_metric
 metric_leads d text place byte r =
     by_test (eqb byte 123) _ _ _
-    (λ t. leads (record d { stage = Comma }) _ (opens d.metric d.listed text byte (inr r.1) r.0 r.2 (is_byte byte 123 t), r.3))
+    (λ t. leads (record d { stage = Comma }) _ (opens d.metric d.listed text byte (inr r.1) r.0 r.2 (eqb-true byte 123 t), r.3))
     (λ f. by_test (is_metric_byte byte) _ _ _
     (λ t. leads (record d { stage = Metric; metric = d.metric ++ byte ∷ [] }) _
     (ap (λ x. x ++ byte ∷ []) r.0, metric_goes_on d.metric byte r.1 t, r.2, r.3))
@@ -112,7 +109,7 @@ comma_leads d text place byte r =
     (λ t. leads (record d { stage = End }) _ (record {
       read = r.0.read;
       inside = whole_text d.listed;
-      text_is = (λ i. (r.0.text_is ∙ append-nil (before_text d.metric d.listed)) i ++ is_byte byte 125 t i ∷ []) ∙ append_assoc d.metric (123 ∷ whole_text d.listed) (125 ∷ []);
+      text_is = (λ i. (r.0.text_is ∙ append-nil (before_text d.metric d.listed)) i ++ eqb-true byte 125 t i ∷ []) ∙ append_assoc d.metric (123 ∷ whole_text d.listed) (125 ∷ []);
       lists = inl refl;
     }))
     (λ f. by_test (is_name_start byte) _ _ _
@@ -127,13 +124,13 @@ unfolding after_name
 name_leads d text place byte r =
     by_test (eqb byte 61) _ _ _
     (λ t. leads (record d { stage = Equals; asked = record d.asked { operator = Equal } }) _ (
-      further d.metric d.listed text d.asked.name _ byte r.0 (ap (λ b. d.asked.name ++ b ∷ []) (is_byte byte 61 t)),
+      further d.metric d.listed text d.asked.name _ byte r.0 (ap (λ b. d.asked.name ++ b ∷ []) (eqb-true byte 61 t)),
       record { named = r.1.named; no_value = r.1.no_value },
       refl,
     ))
     (λ f. by_test (eqb byte 33) _ _ _
     (λ t. leads (record d { stage = Exclamation }) _ (
-      further d.metric d.listed text d.asked.name _ byte r.0 (ap (λ b. d.asked.name ++ b ∷ []) (is_byte byte 33 t)),
+      further d.metric d.listed text d.asked.name _ byte r.0 (ap (λ b. d.asked.name ++ b ∷ []) (eqb-true byte 33 t)),
       r.1,
     ))
     (λ g. by_test (is_name_byte byte) _ _ _
@@ -157,9 +154,9 @@ exclamation_leads : (d : Draft) (text : List ℕ) (place byte : ℕ) → Reached
 unfolding after_exclamation
 exclamation_leads d text place byte r =
     by_test (eqb byte 61) _ _ _
-    (λ t. signed d text 33 byte 61 NotEqual r.0 r.1 (is_byte byte 61 t) refl)
+    (λ t. signed d text 33 byte 61 NotEqual r.0 r.1 (eqb-true byte 61 t) refl)
     (λ f. by_test (eqb byte 126) _ _ _
-    (λ t. signed d text 33 byte 126 MatchesNot r.0 r.1 (is_byte byte 126 t) refl)
+    (λ t. signed d text 33 byte 126 MatchesNot r.0 r.1 (eqb-true byte 126 t) refl)
     (λ g. leads_nowhere _ _))
 
 -- the opening quote
@@ -176,16 +173,16 @@ equals_leads : (d : Draft) (text : List ℕ) (place byte : ℕ) → place ≡ le
 unfolding after_equals
 equals_leads d text place byte at r =
     by_test (eqb byte 34) _ _ _
-    (λ t. quote_leads d text place byte at (subst (IsInside d.metric d.listed text) (ap (λ o. d.asked.name ++ sign o) (sym r.2)) r.0) r.1 (is_byte byte 34 t))
+    (λ t. quote_leads d text place byte at (subst (IsInside d.metric d.listed text) (ap (λ o. d.asked.name ++ sign o) (sym r.2)) r.0) r.1 (eqb-true byte 34 t))
     (λ f. by_test (eqb byte 126) _ _ _
-    (λ t. signed d text 61 byte 126 Matches r.0 r.1 (is_byte byte 126 t) refl)
+    (λ t. signed d text 61 byte 126 Matches r.0 r.1 (eqb-true byte 126 t) refl)
     (λ g. leads_nowhere _ _))
 
 sign_leads : (d : Draft) (text : List ℕ) (place byte : ℕ) → place ≡ length text → Reached Sign d text → Leads (after_sign d place byte) (text ++ byte ∷ [])
 unfolding after_sign
 sign_leads d text place byte at r =
     by_test (eqb byte 34) _ _ _
-    (λ t. quote_leads d text place byte at r.0 r.1 (is_byte byte 34 t))
+    (λ t. quote_leads d text place byte at r.0 r.1 (eqb-true byte 34 t))
     (λ f. leads_nowhere _ _)
 
 -- ---- values
@@ -215,9 +212,9 @@ in_value_leads : (d : Draft) (text : List ℕ) (place byte : ℕ) → Reached Va
 unfolding in_value
 in_value_leads d text place byte r =
     by_test (eqb byte 34) _ _ _
-    (λ t. leads (record d { stage = Quote }) _ (value_ends d text byte 34 r (is_byte byte 34 t), r.1))
+    (λ t. leads (record d { stage = Quote }) _ (value_ends d text byte 34 r (eqb-true byte 34 t), r.1))
     (λ q. by_test (eqb byte 92) _ _ _
-    (λ t. leads (record d { stage = Backslash }) _ (value_ends d text byte 92 r (is_byte byte 92 t), r.1))
+    (λ t. leads (record d { stage = Backslash }) _ (value_ends d text byte 92 r (eqb-true byte 92 t), r.1))
     (λ b. by_test (eqb byte 10) _ _ _
     (λ t. leads_nowhere _ _)
     (λ n. value_leads d text [] byte byte (subst (λ v. IsInside d.metric d.listed text (opening d.asked ++ 34 ∷ v)) (sym (append-nil (quoted d.asked.value))) r.0) r.1 (plain_byte byte q n b))))
@@ -226,7 +223,7 @@ backslash_leads : (d : Draft) (text : List ℕ) (place byte : ℕ) → Reached B
 unfolding after_backslash
 backslash_leads d text place byte r =
     by_test (eqb byte 110) _ _ _
-    (λ t. value_leads d text (92 ∷ []) byte 10 r.0 r.1 (newline ∙ ap (λ b. 92 ∷ b ∷ []) (sym (is_byte byte 110 t))))
+    (λ t. value_leads d text (92 ∷ []) byte 10 r.0 r.1 (newline ∙ ap (λ b. 92 ∷ b ∷ []) (sym (eqb-true byte 110 t))))
     (λ f. by_test (eqb byte 92 || eqb byte 34) _ _ _
     (λ t. value_leads d text (92 ∷ []) byte byte r.0 r.1 (escaped_sign byte t))
     (λ g. leads_nowhere _ _))
@@ -260,7 +257,7 @@ after_quote_leads d text place byte r =
     (λ t. leads (record d { stage = Comma; listed = all; asked = nothing_asked }) _ (
       record {
         read = read;
-        text_is = (λ i. up i ++ is_byte byte 44 t i ∷ []) ∙ append_assoc d.metric (123 ∷ (whole_text d.listed ++ matcher_text (matcher_of d.asked))) (44 ∷ [])
+        text_is = (λ i. up i ++ eqb-true byte 44 t i ∷ []) ∙ append_assoc d.metric (123 ∷ (whole_text d.listed ++ matcher_text (matcher_of d.asked))) (44 ∷ [])
             ∙ ap (λ t. d.metric ++ 123 ∷ t) (with_comma d.listed d.asked) ∙ sym (append-nil (before_text d.metric all));
       },
       refl,
@@ -269,7 +266,7 @@ after_quote_leads d text place byte r =
     (λ t. leads (record d { stage = End; listed = all; asked = nothing_asked }) _ (record {
       read = read;
       inside = whole_text d.listed ++ matcher_text (matcher_of d.asked);
-      text_is = (λ i. up i ++ is_byte byte 125 t i ∷ []) ∙ append_assoc d.metric (123 ∷ (whole_text d.listed ++ matcher_text (matcher_of d.asked))) (125 ∷ []);
+      text_is = (λ i. up i ++ eqb-true byte 125 t i ∷ []) ∙ append_assoc d.metric (123 ∷ (whole_text d.listed ++ matcher_text (matcher_of d.asked))) (125 ∷ []);
       lists = inr (with_comma d.listed d.asked);
     }))
     (λ g. leads_nowhere _ _))

@@ -15,7 +15,7 @@ pub front_full : (v : View) (op : Op) (acted : Acted) (w : View) → Acts v op a
 front_full v op acted w a full = subst IsFull (sym (a.front ∙ ap (front_after v a.journal op) full)) (a.full.0 full)
 
 -- a journal of which a front is full is full
-full_more : (front journal : List Entry) → IsPrefix front journal → IsFull front → IsFull journal
+pub full_more : (front journal : List Entry) → IsPrefix front journal → IsFull front → IsFull journal
 full_more front journal p (inl many) = inl (omega (arith, many, sym (ap length p.1) ∙ length-append front p.0))
 full_more front journal p (inr much) = inr (omega (arith, much, sym (ap kept_bytes p.1) ∙ sum_by-append (λ e. bytes_put e.op + bytes_told e.reply) front p.0))
 

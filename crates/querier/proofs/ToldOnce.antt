@@ -9,6 +9,7 @@ use Rattle.std.proofs.lemmas.List.Folds.{find-append}
 use Rattle.std.proofs.lemmas.List.Concat.{flat_map-append, flat_map-cons}
 use Rattle.std.proofs.lemmas.List.{append-nil}
 use Rattle.list_core.proofs.Membership.{member_cases, no_member}
+use Rattle.list_core.proofs.Bools.{Equal-from_is_eq}
 use Rattle.label_sets.specs.declared.label.Label.{Label}
 use Rattle.label_sets.specs.declared.sample.Sample.{Sample}
 use Rattle.label_sets.specs.declared.series.Series.{Series}
@@ -16,7 +17,7 @@ use Rattle.label_sets.specs.Labels.{compare_sets}
 use Rattle.label_sets.specs.Triples.{Triple, has_same_key, triples_of, IsDeduplication}
 use Rattle.vertical_merge.specs.Merged.{IsMerge}
 use Rattle.vertical_merge.proofs.Laws.{deduplicates}
-use Rattle.vertical_merge.proofs.Orders.{same_set, is_equal}
+use Rattle.vertical_merge.proofs.Orders.{same_set}
 use Rattle.querier.specs.declared.answer.Answer.{Answer}
 use Rattle.querier.specs.Gathered.{gathered_samples, TellTheSame}
 
@@ -108,5 +109,5 @@ with_both labels samples = record { labels = labels; samples = samples }
 
 pub same_series : (one other : Series) → is_eq (compare_sets one.labels other.labels) ≡ true → one.samples ≡ other.samples → one ≡ other
 same_series one other labels samples =
-    ap (λ (l : List Label). with_both l one.samples) (same_set one.labels other.labels (is_equal (compare_sets one.labels other.labels) labels))
+    ap (λ (l : List Label). with_both l one.samples) (same_set one.labels other.labels (Equal-from_is_eq (compare_sets one.labels other.labels) labels))
     ∙ ap (λ (s : List Sample). with_both other.labels s) samples

@@ -4,18 +4,17 @@ use Rattle.std.specs.Prelude.{sum_by}
 use Rattle.std.specs.Result.{result_ok}
 use Rattle.std.proofs.lemmas.List.{drop_more, drop_all}
 use Rattle.std.proofs.lemmas.List.Sums.{sum_by-append, sum_by-cons}
-use Rattle.list_core.proofs.Bools.{is_lt-from_Less}
 use Rattle.reading_core.specs.Reading.{◌>>=◌}
 use Rattle.reading_core.proofs.Binds.{ok_is}
 use Rattle.label_sets.specs.declared.label.Label.{Label}
 use Rattle.label_sets.specs.declared.label_refusal.LabelRefusal.{LabelRefusal}
-use Rattle.label_sets.specs.Ordered.{placed}
-use Rattle.label_sets.specs.Labels.{compare_texts, ComesBefore, value_of, has_lesser_name, added}
-use Rattle.label_sets.proofs.LabelValues.{before_differs, before_trans, value_miss, value_nil}
+use Rattle.label_sets.specs.Labels.{ComesBefore, added}
+use Rattle.label_sets.proofs.LabelValues.{before_trans}
 use Rattle.index_v2.specs.Budget.{label_bytes}
 use Rattle.index_v2.specs.SeriesLabels.{label_of, labels_of}
 use Rattle.index_v2.proofs.LabelReading.{label_parts, again, moved, one_more, none_more}
-use Rattle.index_v2.proofs.LabelsOwned.{AllBefore, some_bytes}
+use Rattle.index_v2.proofs.LabelsOwned.{AllBefore, some_bytes, no_value, placed_last}
+use Rattle.index_v2.proofs.LabelLaws.{above_nothing, labels_none}
 
 -- ---- a label behind those of a set
 
@@ -33,20 +32,6 @@ up_to : (name : List ℕ) (ls : List Label) (l : Label) → l.name ≡ name → 
 up_to name [] l is all = (inl is, tt)
 up_to name (m ∷ ls) l is all = (inr all.0, up_to name ls l is all.1)
 
-no_value : (ls : List Label) (name : List ℕ) → AllBefore name ls → value_of ls name ≡ None
-no_value [] name all = value_nil name
-no_value (l ∷ ls) name all = value_miss l ls name (before_differs l.name name all.0) ∙ no_value ls name all.1
-
-placed_last : (ls : List Label) (l : Label) → AllBefore l.name ls → placed has_lesser_name l ls ≡ ls ++ l ∷ []
-unfolding placed
-placed_last [] l all = refl
-placed_last (m ∷ ls) l all = rw (is_lt-from_Less (compare_texts m.name l.name) all.0, placed_last ls l all.1) refl
-
-above_nothing : (before name : List ℕ) → ComesBefore before name → name ≢ []
-above_nothing [] [] h e = cc
-above_nothing (b ∷ before) [] h e = cc
-above_nothing before (n ∷ name) h e = cc
-
 long_value : (value : List ℕ) → 0 < length value → value ≢ []
 long_value [] h e = absurd (omega arith)
 long_value (v ∷ value) h e = cc
@@ -56,10 +41,6 @@ unfolding added
 added_last ls l new all named valued e =
     let whole : added ls l.name l.value ≡ Ok (ls ++ l ∷ []) = rw (some_bytes l.name named, some_bytes l.value valued, no_value ls l.name all, placed_last ls l all) refl in
     ok_is {E = LabelRefusal} _ _ (sym e ∙ whole)
-
-none_labelled : (symbols : List (List ℕ)) (before : List ℕ) (place : ℕ) (values : List ℕ) → labels_of symbols before place [] values ≡ Ok []
-unfolding labels_of
-none_labelled symbols before place values = refl
 
 -- ---- the loop over symbol numbers
 
@@ -88,7 +69,7 @@ module _ (symbols : List (List ℕ)) (names values : List ℕ) where
     named_all : length names ≤ place → labels_of symbols [] 0 names values ≡ Ok labels
     named_all le =
         far.whole ∙ ap (behind labels)
-        (ap (λ (l : List ℕ). labels_of symbols before place l (drop place values)) (drop_all place names le) ∙ none_labelled symbols before place (drop place values)) ∙ ap Ok (append-nil labels)
+        (ap (λ (l : List ℕ). labels_of symbols before place l (drop place values)) (drop_all place names le) ∙ labels_none symbols before place (drop place values)) ∙ ap Ok (append-nil labels)
 
     pub named_end : length names ≤ place → Some labels ≡ result_ok (labels_of symbols [] 0 names values)
     named_end le = sym (ap result_ok (named_all le))

@@ -1,6 +1,6 @@
 -- Decimal texts: the text of a number is digits that have its value, and such digits are the text of their value.
-use Rattle.std.proofs.Common.{◌≡◌, ℕ, zero, suc, ◌+◌, ◌*◌, ◌/◌, ◌%◌, ◌<◌, Bool, true, false, ltb, eqb, List, [], ◌∷◌, ◌++◌, length, get_or, map, refl, sym, ap, ◌∙◌, arith, rules, tests, ◌≢◌, append_assoc, ◌⊎◌, inl, inr}
-use Rattle.std.specs.Prelude.{not, ◌||◌, ◌&&◌}
+use Rattle.std.proofs.Common.{◌≡◌, ℕ, zero, suc, ◌+◌, ◌*◌, ◌/◌, ◌%◌, ◌<◌, true, false, ltb, eqb, List, [], ◌∷◌, ◌++◌, length, get_or, map, refl, sym, ap, ◌∙◌, arith, rules, tests, ◌≢◌, append_assoc, ◌⊎◌, inl, inr}
+use Rattle.std.specs.Prelude.{not, ◌||◌}
 use Rattle.std.specs.Char.{digit_value, is_ascii_digit}
 use Rattle.std.specs.Int.{IsInRange}
 use Rattle.std.specs.List.{list_all}
@@ -9,7 +9,7 @@ use Rattle.std.specs.Str.Parse.{digits_value}
 use Rattle.std.proofs.lemmas.Int.Digits.{digits_of_step, digits_value_is, number_digits_of, all_below_base_digits_of, first_digits_of, number_after_ge}
 use Rattle.std.proofs.lemmas.Nat.{div-mul-add, mod-mul-add}
 use Rattle.std.proofs.lemmas.List.{append-nil, nil_from_length}
-use Rattle.std.proofs.lemmas.Bool.{cases_eq, eqb-true, ne_eqb, lt-ltb}
+use Rattle.std.proofs.lemmas.Bool.{cases_eq, eqb-true, ne_eqb, lt-ltb, and_parts}
 use Rattle.std.proofs.lemmas.Str.{digit_value_digit}
 use Rattle.std.proofs.lemmas.Str.Parse.{IsDigitsTest, IsNumeralModel, numerals_by_value}
 use Rattle.reading_core.specs.Decimal.{decimal_text, is_decimal}
@@ -43,10 +43,6 @@ digits_back d ds some low =
     let one : digits_of 10 d ≡ d ∷ [] = digits_of_step _ d (omega arith) some ∙ rw (small_quotient d low.0, small_rest d low.0) refl in
     rw e (digits_after d _ some low.1 ∙ ap (λ front. front ++ ds) one)
 
-pub both : (a b : Bool) → (a && b) ≡ true → (a ≡ true) × (b ≡ true)
-both true b e = (refl, e)
-both false b e = absurd cc
-
 in_range : (c : ℕ) → is_ascii_digit c ≡ true → IsInRange 48 57 c
 in_range c e = search (rules, tests)
 
@@ -59,14 +55,14 @@ value_below c e = let r = in_range c e in let v = value_is c e in omega arith
 values_below : (text : List ℕ) → AreDigits text → AllBelowBase 10 (map digit_value text)
 values_below [] are = tt
 values_below (c ∷ cs) are =
-    let p = both _ _ are in
+    let p = and_parts _ _ are in
     (value_below c p.0, values_below cs p.1)
 
 -- the characters of the values of digits are the digits
 characters : (text : List ℕ) → AreDigits text → map (λ digit. 48 + digit) (map digit_value text) ≡ text
 characters [] are = refl
 characters (c ∷ cs) are =
-    let p = both _ _ are in
+    let p = and_parts _ _ are in
     let e : 48 + digit_value c ≡ c = omega (arith, value_is c p.0) in
     rw e (ap (λ text. c ∷ text) (characters _ p.1))
 
@@ -81,7 +77,7 @@ number_positive d ds some = omega (arith, number_after_ge 10 (0 * 10 + d) ds (om
 -- digits that don't begin with `0` are the text of their value
 text_back : (c : ℕ) (cs : List ℕ) → AreDigits (c ∷ cs) → c ≢ 48 → (0 < digits_value 10 (c ∷ cs)) × (decimal_text (digits_value 10 (c ∷ cs)) ≡ c ∷ cs)
 text_back c cs are other =
-    let first = (both _ _ are).0 in
+    let first = (and_parts _ _ are).0 in
     let low = values_below (c ∷ cs) are in
     let some : 0 < digit_value c = omega (arith, value_is c first, other, in_range c first) in
     let value : digits_value 10 (c ∷ cs) ≡ number_from_digits 10 (map digit_value (c ∷ cs)) = digits_value_is 10 (c ∷ cs) in
@@ -100,8 +96,8 @@ alone c cs e test =
 decimal_parts : (c : ℕ) (cs : List ℕ) → is_decimal (c ∷ cs) ≡ true → AreDigits (c ∷ cs) × ((c ≢ 48) ⊎ ((c ≡ 48) × (cs ≡ [])))
 unfolding is_decimal
 decimal_parts c _ e =
-    let p = both _ _ e in
-    let front = both _ _ p.0 in (
+    let p = and_parts _ _ e in
+    let front = and_parts _ _ p.0 in (
       p.1,
       elim (cases_eq c _) [
         | inl zero_first ↦ inr (zero_first, alone c _ zero_first front.1)
@@ -164,7 +160,7 @@ decimal_again (suc n) =
 -- the first character of a decimal text is a digit
 pub decimal_first : (text : List ℕ) → is_decimal text ≡ true → IsInRange 48 57 (get_or text 0 0)
 decimal_first [] e = absurd (nothing_read e)
-decimal_first (c ∷ cs) e = in_range c (both _ _ (decimal_parts c _ e).0).0
+decimal_first (c ∷ cs) e = in_range c (and_parts _ _ (decimal_parts c _ e).0).0
 
 leads : (ds : List ℕ) → 0 < get_or ds 0 0 → 48 < get_or (map (λ digit. 48 + digit) ds) 0 0
 leads [] some = absurd (omega arith)

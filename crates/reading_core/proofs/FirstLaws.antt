@@ -10,7 +10,7 @@ use Rattle.reading_core.specs.Firsts.{IsFirstAt, each_at, or_else, first_at}
 pub some_is : {A : Type 0} (x y : A) → ◌≡◌ {A = Option A} (Some x) (Some y) → x ≡ y
 some_is x y e = cc
 
-nothing_there : {A : Type 0} (k : ℕ) (x : A) → slice_get {X = A} [] k ≡ Some x → ⊥
+pub nothing_there : {A : Type 0} (k : ℕ) (x : A) → slice_get {X = A} [] k ≡ Some x → ⊥
 nothing_there k x e = absurd cc
 
 first_bad : {A : Type 0} (Good Bad : A → Type 0) (x : A) (xs : List A) → Bad x → IsFirstAt Good Bad (x ∷ xs) 0
@@ -19,10 +19,10 @@ first_bad Good Bad x _ bad = record { member = x; stands = refl; bad = bad; befo
 later_bad : {A : Type 0} (Good Bad : A → Type 0) (x : A) (xs : List A) (k : ℕ) → Good x → IsFirstAt Good Bad xs k → IsFirstAt Good Bad (x ∷ xs) (suc k)
 later_bad Good Bad x _ k good is = record { member = is.member; stands = is.stands; bad = is.bad; before = (good, is.before) }
 
-bad_head : {A : Type 0} (Good Bad : A → Type 0) (x : A) (xs : List A) → IsFirstAt Good Bad (x ∷ xs) 0 → Bad x
+pub bad_head : {A : Type 0} (Good Bad : A → Type 0) (x : A) (xs : List A) → IsFirstAt Good Bad (x ∷ xs) 0 → Bad x
 bad_head Good Bad x _ is = subst Bad (sym (some_is x _ is.stands)) is.bad
 
-bad_tail : {A : Type 0} (Good Bad : A → Type 0) (x : A) (xs : List A) (k : ℕ) → IsFirstAt Good Bad (x ∷ xs) (suc k) → Good x × IsFirstAt Good Bad xs k
+pub bad_tail : {A : Type 0} (Good Bad : A → Type 0) (x : A) (xs : List A) (k : ℕ) → IsFirstAt Good Bad (x ∷ xs) (suc k) → Good x × IsFirstAt Good Bad xs k
 bad_tail Good Bad x _ k is = (is.before.0, record { member = is.member; stands = is.stands; bad = is.bad; before = is.before.1 })
 
 -- ---- reading

@@ -1,19 +1,15 @@
 -- What `parse` gives at a decimal text is what reading gives, and reading gives each number at its text alone.
-use Rattle.std.proofs.Common.{◌≡◌, ◌≢◌, ℕ, ◌^◌, ◌<◌, ◌≤◌, Bool, true, false, List, length, Result, Ok, Err, refl, sym, ap, ◌∙◌, arith, ◌⊎◌, inl, inr}
+use Rattle.std.proofs.Common.{◌≡◌, ◌≢◌, ℕ, ◌^◌, ◌<◌, ◌≤◌, true, false, List, length, Result, Ok, Err, refl, sym, ap, ◌∙◌, arith, ◌⊎◌, inl, inr}
 use Rattle.std.specs.Prelude.{IfOk}
 use Rattle.std.specs.Result.{OkIff, result_or}
 use Rattle.std.specs.Str.Parse.{digits_value, ParsesUnsigned}
 use Rattle.std.specs.declared.num.ParseIntError.{ParseIntError}
-use Rattle.std.proofs.lemmas.Bool.{cases_lt, lt-ltb, le-ltb}
+use Rattle.std.proofs.lemmas.Bool.{cases_lt, lt-ltb, le-ltb, cases_Bool}
 use Rattle.std.proofs.lemmas.Str.Parse.{parse_digits}
 use Rattle.reading_core.specs.declared.refusal.NumberRefusal.{NumberRefusal}
 use Rattle.reading_core.specs.declared.refusal.NumberRefusal.TheVariants.{NotANumber, TooLarge}
 use Rattle.reading_core.specs.Decimal.{decimal_text, is_decimal, unsigned_of}
 use Rattle.reading_core.proofs.Decimals.{digits_are_numerals, decimal_digits, decimal_found, decimal_again}
-
-pub true_or_false : (b : Bool) → (b ≡ true) ⊎ (b ≡ false)
-true_or_false true = inl refl
-true_or_false false = inr refl
 
 -- ---- numbers from zero on
 
@@ -59,7 +55,7 @@ no_text _ e n is = let a = decimal_again n in let same = ap is_decimal is ∙ a.
 
 unsigned_outcome : (text : List ℕ) → UnsignedOutcome text
 unsigned_outcome text =
-    elim (true_or_false (is_decimal text)) [
+    elim (cases_Bool (is_decimal text)) [
       | inl e ↦ elim (cases_lt (digits_value 10 text) (2 ^ 64)) [
         | inl small ↦ inl (digits_value 10 text, sym (decimal_found _ e), small)
         | inr large ↦ inr (inl (digits_value 10 text, large, sym (decimal_found _ e)))

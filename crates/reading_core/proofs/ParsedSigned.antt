@@ -6,17 +6,16 @@ use Rattle.std.specs.Int.{w64}
 use Rattle.std.specs.Int.RustNames.{FitsSigned}
 use Rattle.std.specs.Str.Parse.{signed_digits_value, ParsesSigned}
 use Rattle.std.specs.declared.num.ParseIntError.{ParseIntError}
-use Rattle.std.proofs.lemmas.Bool.{false_from_ne_true}
+use Rattle.std.proofs.lemmas.Bool.{false_from_ne_true, cases_Bool}
 use Rattle.reading_core.specs.declared.refusal.NumberRefusal.{NumberRefusal}
 use Rattle.reading_core.specs.declared.refusal.NumberRefusal.TheVariants.{NotANumber, TooLarge}
 use Rattle.reading_core.specs.Decimal.{signed_text, is_signed_decimal, signed_of}
-use Rattle.reading_core.proofs.Parsed.{true_or_false}
 use Rattle.reading_core.proofs.SignedRanges.{fits_from_test, test_from_fits}
 use Rattle.reading_core.proofs.SignedDecimals.{signed_text_of_value, signed_texts, signed_numeral}
 
 fits_or_not : (n : ℤ) → (FitsSigned w64 n) ⊎ (¬ FitsSigned w64 n)
 fits_or_not n =
-    elim (true_or_false _) [
+    elim (cases_Bool _) [
       | inl e ↦ inl (fits_from_test n e)
       | inr e ↦ inr (λ fits. let test = test_from_fits n fits in cc)
     ]
@@ -56,7 +55,7 @@ no_text _ e n is = let a = signed_texts n in let same = ap is_signed_decimal is 
 
 signed_outcome : (text : List ℕ) → SignedOutcome text
 signed_outcome text =
-    elim (true_or_false (is_signed_decimal text)) [
+    elim (cases_Bool (is_signed_decimal text)) [
       | inl e ↦ elim (fits_or_not _) [
         | inl small ↦ inl (signed_digits_value 10 text, sym (signed_text_of_value _ e), small)
         | inr large ↦ inr (inl (signed_digits_value 10 text, large, sym (signed_text_of_value _ e)))

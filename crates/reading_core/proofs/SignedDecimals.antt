@@ -1,10 +1,9 @@
 -- The same for numbers on either side of zero.
-use Rattle.std.proofs.Common.{◌≡◌, ◌≢◌, ℕ, zero, suc, Bool, true, false, List, [], ◌∷◌, get_or, refl, sym, ap, ◌∙◌, arith, ◌⊎◌, inl, inr, ℤ, pos, negsuc, neg_ℤ}
-use Rattle.std.specs.Prelude.{not}
+use Rattle.std.proofs.Common.{◌≡◌, ◌≢◌, ℕ, zero, suc, true, List, [], ◌∷◌, get_or, refl, sym, ap, ◌∙◌, arith, ◌⊎◌, inl, inr, ℤ, pos, negsuc, neg_ℤ}
 use Rattle.std.specs.Str.Parse.{digits_value, signed_digits_value, IsNumeral, without_leading_sign}
-use Rattle.std.proofs.lemmas.Bool.{cases_eq, ne_eqb, eqb-false}
+use Rattle.std.proofs.lemmas.Bool.{cases_eq, ne_eqb, eqb-false, and_parts, not-true}
 use Rattle.reading_core.specs.Decimal.{decimal_text, signed_text, is_decimal, is_signed_decimal}
-use Rattle.reading_core.proofs.Decimals.{both, nothing_read, decimal_found, decimal_again, decimal_first, decimal_leads, decimal_digits, digits_are_numerals}
+use Rattle.reading_core.proofs.Decimals.{nothing_read, decimal_found, decimal_again, decimal_first, decimal_leads, decimal_digits, digits_are_numerals}
 
 -- the value of a text without a sign
 plain_value : (text : List ℕ) → get_or text 0 0 ≢ 45 → get_or text 0 0 ≢ 43 → signed_digits_value 10 text ≡ pos (digits_value 10 text)
@@ -12,10 +11,6 @@ plain_value _ minus plus = rw (ne_eqb _ _ minus, ne_eqb _ _ plus) refl
 
 plain_first : (text : List ℕ) → is_decimal text ≡ true → (get_or text 0 0 ≢ 45) × (get_or text 0 0 ≢ 43)
 plain_first _ e = let r = decimal_first _ e in (omega arith, omega arith)
-
-not_false : (b : Bool) → not b ≡ true → b ≡ false
-not_false true e = absurd cc
-not_false false e = refl
 
 below_zero : (v : ℕ) (cs : List ℕ) → v ≢ 0 → decimal_text v ≡ cs → signed_text (neg_ℤ (pos v)) ≡ 45 ∷ cs
 unfolding signed_text
@@ -34,8 +29,8 @@ unfolding is_signed_decimal
 signed_parts c _ e =
     elim (cases_eq c _) [
       | inl minus ↦
-          let p = both _ _ (rw minus at e) in
-          inl (minus, eqb-false _ _ (not_false _ p.0), p.1)
+          let p = and_parts _ _ (rw minus at e) in
+          inl (minus, eqb-false _ _ (not-true _ p.0), p.1)
       | inr other ↦ inr (rw (ne_eqb c 45 other) at e)
     ]
 

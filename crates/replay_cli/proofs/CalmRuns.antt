@@ -1,6 +1,6 @@
 -- Where every task has ended well, every outcome is as asked.
-use Rattle.std.proofs.Common.{◌≡◌, inl, inr, ℕ, zero, suc, ◌+◌, Bool, true, List, [], ◌∷◌, Contains, Option, refl, ◌∙◌, ap, subst, arith, None, map, sym}
-use Rattle.std.specs.List.{AllZip, list_all, zip, AllByRecursion}
+use Rattle.std.proofs.Common.{◌≡◌, inl, inr, ℕ, ◌+◌, Bool, true, List, [], ◌∷◌, Contains, Option, refl, ◌∙◌, ap, subst, None, map, sym}
+use Rattle.std.specs.List.{AllZip, list_all, AllByRecursion}
 use Rattle.std.proofs.lemmas.List.Folds.{list_all-append}
 use Rattle.std.proofs.lemmas.Bool.{and_from}
 use Rattle.world_core.specs.Worlds.{failed_count}
@@ -31,6 +31,7 @@ use Rattle.call_verdicts.specs.lifecycle_core.specs.Setting.{Setting}
 use Rattle.call_verdicts.specs.lifecycle_core.specs.Tasks.{End, answered, cleaned, compacted, not_asked, refused, stopped, synced, uploaded, without_view}
 use Rattle.call_verdicts.specs.lifecycle_core.proofs.phases.Turns.{finished_in_turn}
 use Rattle.list_core.proofs.Membership.{contains_first, contains_later, member_cases, no_member}
+use Rattle.list_core.proofs.Pairs.{second_in_zip}
 use Rattle.call_verdicts.specs.script_running.specs.Outcomes.{IsOutcome, IsOutcomeOf, IsPart, IsQueryOutcome, PhasesCame, TasksCame, call_part, clean_outcome, compact_outcome, first_none, sync_outcome, upload_outcome, why_none}
 use Rattle.call_verdicts.specs.script_running.specs.Outcomes.{is_as_asked}
 use Rattle.call_verdicts.specs.Shippable.{IsTooGreat, RefusesNone, StaysWithin}
@@ -145,14 +146,8 @@ outcome_asked w own o well (parts, zipped, of) = of_asked w parts o (parts_fine 
 
 -- ---- the ends of workers
 
-of_zip : {X Y : Type 0} (xs : List X) (ys : List Y) (x : X) (y : Y) → Contains (zip xs ys) (x, y) → Contains ys y
-of_zip [] ys x y (k, below, at) = absurd (omega (arith, below))
-of_zip (a ∷ xs) [] x y (k, below, at) = absurd (omega (arith, below))
-of_zip {X} {Y} (a ∷ xs) (b ∷ ys) x y (zero, below, at) = let same : b ≡ y = ap (λ (p : X × Y). p.1) at in subst (Contains (b ∷ ys)) same (contains_first b ys)
-of_zip (a ∷ xs) (b ∷ ys) x y (suc k, below, at) = contains_later b y ys (of_zip xs ys x y (k, omega (arith, below), at))
-
 pub end_came : (workers : List Worker) (ends : List (List End)) (gateway : Option ℕ) (place : ℕ) (end : End) → CameTo workers ends gateway place end → (own : List End) × Contains ends own × Contains own end
-end_came workers ends gateway place end c = (c.own, of_zip workers ends c.worker c.own c.among, of_zip (c.worker).tasks c.own place end c.came)
+end_came workers ends gateway place end c = (c.own, second_in_zip workers ends c.worker c.own c.among, second_in_zip (c.worker).tasks c.own place end c.came)
 
 module _ (workers : List Worker) (ends : List (List End)) (well : (own : List End) (end : End) → Contains ends own → Contains own end → Calm end) where
   hands_well : (place : ℕ) (hs : List Hand) (own : List End) → AllZip (λ hand end. CameTo workers ends (gateway_of hand) place end) hs own → AreWell own

@@ -121,7 +121,7 @@ abbrev query_part : Option Several.Part → QueryPart
 query_part None = given.NotAsked
 query_part (Some p) = given.Answer (whole_answer p.series p.sources)
 
-inner : (own other : QueryPart) → part.Query own ≡ part.Query other → own ≡ other
+pub inner : (own other : QueryPart) → part.Query own ≡ part.Query other → own ≡ other
 inner own other is = cc (is)
 
 by_call : (used : Use) (end : SeriesEnd) (own : QueryPart) → own ≡ call_part end → why_none own ≡ None → (p : Option Several.Part) × (answered used end ≡ end_of p) × (own ≡ query_part p)

@@ -39,6 +39,7 @@ use Rattle.call_verdicts.specs.script_running.specs.declared.part.QueryPart.{Que
 use Rattle.call_verdicts.specs.script_running.specs.declared.part.QueryPart.TheVariants as given
 use Rattle.std.proofs.lemmas.Option.{same_Some}
 use Rattle.replay_cli.proofs.CalmRuns.{end_came}
+use Rattle.replay_cli.proofs.ToldAnswers.{inner}
 
 -- a line that tells of a missing object
 abbrev missing : ℕ → ℕ → Outcome
@@ -55,9 +56,6 @@ call_missed number used (called.Missing m) is =
     (used, subst (λ (k : ℕ). Contains (answered used (called.Missing m) ∷ []) (answered used (called.Missing k))) (sym same) (contains_first (answered used (called.Missing m)) []))
 call_missed number used (called.Damaged m) is = absurd (cc (is))
 call_missed number used (called.Fault m) is = absurd (cc (is))
-
-inner : (own other : QueryPart) → part.Query own ≡ part.Query other → own ≡ other
-inner own other is = cc (is)
 
 part_missed : (low high : ℤ) (n number : ℕ) (end : End) → IsPart (work.Query low high n) end (part.Query (given.NoAnswer (none.Missing number))) → Missed (end ∷ []) number
 part_missed low high n number (answered used e) is = call_missed number used e (inner (given.NoAnswer (none.Missing number)) (call_part e) is)

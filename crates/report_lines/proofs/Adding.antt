@@ -62,7 +62,7 @@ one_amiss : (script : Script) (task : Task) (o : Outcome) → amiss_of script (t
 unfolding amiss_of
 one_amiss script task o = append-nil (amiss_line script task.work o)
 
-last_flag : (b : Bool) → b && true ≡ b
+pub last_flag : (b : Bool) → b && true ≡ b
 last_flag true = refl
 last_flag false = refl
 

@@ -6,8 +6,9 @@ use Rattle.std.specs.Ordering.{is_eq}
 use Rattle.std.proofs.lemmas.List.Folds.{list_any-append}
 use Rattle.label_sets.specs.Labels.{compare_sets}
 use Rattle.label_sets.specs.declared.label.Label.{Label}
-use Rattle.vertical_merge.proofs.Orders.{is_equal, same_set, set_itself}
+use Rattle.vertical_merge.proofs.Orders.{same_set, set_itself}
 use Rattle.report_lines.specs.Summed.{HasEach, each_once}
+use Rattle.list_core.proofs.Bools.{Equal-from_is_eq}
 
 abbrev is_same : List Label → List Label → Bool
 is_same one other = is_eq (compare_sets one other)
@@ -19,10 +20,10 @@ same_by : (one other : List Label) (there back : Bool) → is_same one other ≡
 same_by one other true true first second = refl
 same_by one other false false first second = refl
 same_by one other true false first second =
-    let equal = same_set one other (is_equal (compare_sets one other) first) in
+    let equal = same_set one other (Equal-from_is_eq (compare_sets one other) first) in
     let itself : is_same other one ≡ true = ap (λ (l : List Label). is_same other l) equal ∙ ap is_eq (set_itself other) in absurd cc
 same_by one other false true first second =
-    let equal = same_set other one (is_equal (compare_sets other one) second) in
+    let equal = same_set other one (Equal-from_is_eq (compare_sets other one) second) in
     let itself : is_same one other ≡ true = ap (λ (l : List Label). is_same one l) equal ∙ ap is_eq (set_itself one) in absurd cc
 
 -- it does not matter which is first
@@ -56,7 +57,7 @@ once_more (first ∷ sets) new =
     let once = each_once sets in
     let more = each_once (sets ++ new ∷ []) in
     ap (λ (b : Bool). length (if b then more else first ∷ more)) (among_more first new sets)
-    ∙ step first once more (among first sets) (is_same first new) (among new sets) (λ is. ap (λ (s : List Label). among s sets) (same_set first new (is_equal (compare_sets first new) is))) (once_more sets new)
+    ∙ step first once more (among first sets) (is_same first new) (among new sets) (λ is. ap (λ (s : List Label). among s sets) (same_set first new (Equal-from_is_eq (compare_sets first new) is))) (once_more sets new)
     ∙ ap (λ (b : Bool). length (if among first sets then once else first ∷ once) + (if b || among new sets then 0 else 1)) (same_back first new)
 
 count_by : (seen added : Bool) (new old once more : ℕ) → added ≡ not seen → new ≡ old + (if added then 1 else 0) → old ≡ once → more ≡ once + (if seen then 0 else 1) → new ≡ more

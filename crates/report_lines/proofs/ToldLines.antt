@@ -1,5 +1,5 @@
 -- Lines to which one task is added after another.
-use Rattle.std.proofs.Common.{◌≡◌, ◌&&◌, Bool, true, false, List, [], ◌∷◌, ◌++◌, refl, sym, ◌∙◌, ap, ap₂, arith, append-nil}
+use Rattle.std.proofs.Common.{◌≡◌, ◌&&◌, true, List, [], ◌∷◌, ◌++◌, refl, sym, ◌∙◌, ap, ap₂, arith, append-nil}
 use Rattle.std.specs.Prelude.{Ok, Err, OnErr, OnOk, Result}
 use Rattle.std.specs.List.{list_all}
 use Rattle.std.proofs.lemmas.List.{length-append}
@@ -12,6 +12,7 @@ use Rattle.report_lines.specs.Telling.{AreLinesOf}
 use Rattle.report_lines.specs.Telling.{report_of}
 use Rattle.report_lines.specs.declared.lines.Lines.{Lines}
 use Rattle.report_lines.proofs.ReportLists.{all_append, report_append}
+use Rattle.report_lines.proofs.Adding.{last_flag}
 
 -- without an outcome no line is told
 pub told_none : (script : Script) (tasks : List Task) → report_of script tasks [] ≡ []
@@ -26,10 +27,6 @@ no_lines lines script none = record { each = refl; text = none.0 ∙ sym (told_n
 one_line : (script : Script) (task : Task) (o : Outcome) → report_of script (task ∷ []) (o ∷ []) ≡ activity_text script task.work o
 unfolding report_of
 one_line script task o = append-nil (activity_text script task.work o)
-
-last_flag : (b : Bool) → b && true ≡ b
-last_flag true = refl
-last_flag false = refl
 
 -- one task more
 more_lines : (old new : Lines) (script : Script) (task : Task) (o : Outcome) (tasks : List Task) (outcomes : List Outcome) → AreLinesOf old script tasks outcomes

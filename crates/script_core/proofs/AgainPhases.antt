@@ -1,8 +1,7 @@
 -- What a line of a phase spells is read of it.
-use Rattle.std.proofs.Common.{◌≡◌, ℕ, zero, suc, ◌+◌, ◌%◌, ◌^◌, ◌<◌, ◌≤◌, ℤ, ◌≤ℤ◌, Bool, true, false, not, nat_lt, nat_le, int_lt, List, [], ◌∷◌, ◌++◌, length, Option, Some, None, is_some, Ok, refl, sym, ap, ◌∙◌, subst, arith, inl, inr, codes}
+use Rattle.std.proofs.Common.{◌≡◌, ℕ, zero, suc, ◌+◌, ◌%◌, ◌^◌, ◌<◌, ◌≤◌, Bool, true, false, not, nat_lt, nat_le, int_lt, List, [], ◌∷◌, ◌++◌, length, Option, Some, None, is_some, Ok, refl, sym, ap, ◌∙◌, subst, arith, inl, inr, codes}
 use Rattle.std.specs.List.{list_all, range_with_len}
 use Rattle.std.proofs.lemmas.Bool.Decides.{nat_tests}
-use Rattle.std.proofs.lemmas.Int.{ints}
 use Rattle.list_core.proofs.Lists.{nil_not_middle}
 use Rattle.matchers.specs.SelectorText.{IsSelectorText}
 use Rattle.matchers.specs.Selectors.{is_metric_name}
@@ -27,7 +26,7 @@ use Rattle.script_core.proofs.Kept.{Kept, at, so_far_of, hands_of-append}
 use Rattle.script_core.proofs.LineTools.{is_some_field, only_again, last_phase, word_free}
 use Rattle.script_core.proofs.FoundSetup.{closed}
 use Rattle.script_core.proofs.AgainSetup.{IsRead, starts_again}
-use Rattle.script_core.proofs.SpelledValues.{near_tested, free_tested, agree_tested}
+use Rattle.script_core.proofs.SpelledValues.{near_tested, free_tested, agree_tested, not_before}
 use Rattle.script_core.proofs.ReadSelectors.{selector_again}
 use Rattle.script_workers.proofs.HandLaws.{few_counted}
 use Rattle.script_workers.specs.Limits.{most_workers}
@@ -92,9 +91,6 @@ range_passes p first (suc count) each =
     let one = each first (omega arith) (omega arith) in
     let others = range_passes p (first + 1) count (λ n low high. each n (omega arith) (omega arith)) in
     rw one others
-
-in_order : (low high : ℤ) → low ≤ℤ high → int_lt high low ≡ false
-in_order low high order = grind (arith, ints)
 
 -- ---- lines
 
@@ -228,7 +224,7 @@ module _ (st : State) (number : ℕ) (line : List ℕ) (next : SoFar) (kept : Ke
       let selector : selector_field st.rules.replicas says.selector_text ≡ Ok says.selector = selector_again st.rules.replicas says.selector_text says.selector says.is_selector in
       let read_low = time_again says.low_text says.low low.written (near_tested says.low low.near) in
       let read_high = time_again says.high_text says.high high.written (near_tested says.high high.near) in
-      let times : int_lt says.high says.low ≡ false = in_order says.low says.high says.times in
+      let times : int_lt says.high says.low ≡ false = not_before says.low says.high says.times in
       let synced : are_all_synced (closed st) ≡ true = range_passes (is_synced st.synced) 0 (length st.gateways) (λ gateway from below. kept.tasks.are_synced gateway ∙ says.synced gateway (omega arith)) in
       let task = task_again (closed st) number (works.Query says.low says.high (length st.selectors)) says.script kept_closed says.task in
       let begun : is_some st.phase ≡ true = task.begun in

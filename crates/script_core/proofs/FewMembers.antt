@@ -7,14 +7,10 @@ use Rattle.std.specs.List.{sum_by, join_with_byte}
 use Rattle.std.proofs.lemmas.List.{length-append}
 use Rattle.std.proofs.lemmas.List.Concat.{flat_map-cons}
 use Rattle.std.proofs.lemmas.List.Sums.{sum_by-append, sum_by-cons}
-use Rattle.std.proofs.lemmas.List.Sorted.{sum_by-IsPermutation}
 use Rattle.std.proofs.lemmas.List.Splits.{join_with_byte-slice_split}
-use Rattle.label_sets.specs.Counts.{members_of, members_in}
-use Rattle.label_sets.specs.SetText.{IsSetText}
-use Rattle.label_sets.specs.declared.label.Label.{Label}
 use Rattle.label_sets.specs.declared.sample.Sample.{Sample}
 use Rattle.label_sets.specs.declared.series.Series.{Series}
-use Rattle.label_sets.proofs.SetSizes.{longer_set}
+use Rattle.label_sets.proofs.SetSizes.{longer_text}
 use Rattle.matchers.specs.declared.matcher.Matcher.{Matcher}
 use Rattle.matchers.specs.SelectorText.{IsSelectorText, AreListed, comma_text, commas_text, matcher_text, metric_part}
 use Rattle.script_workers.specs.declared.work.Work.{Work}
@@ -54,9 +50,6 @@ samples_fit (text ∷ texts) [] are = absurd are
 samples_fit (text ∷ []) (s ∷ []) are = some_field text are.0.field
 samples_fit (text ∷ []) (s ∷ t ∷ ss) are = absurd are.1
 samples_fit (text ∷ next ∷ texts) (s ∷ ss) are = omega (arith, longer_field text next texts, samples_fit (next ∷ texts) ss are.1)
-
-set_fits : (text : List ℕ) (set : List Label) → IsSetText text set → members_in set ≤ length text
-set_fits text set is = omega (arith, longer_set is.listed, ap length is.written, sum_by-IsPermutation members_of is.listed set is.arranged)
 
 -- each matcher in braces has its comma, and the last one the byte that closes them
 commas_fit : (matchers : List Matcher) → length matchers ≤ length (commas_text matchers)
@@ -137,7 +130,7 @@ block_adds before after line is =
       arith,
       ap size_of is.adds,
       ap length is.spelled,
-      set_fits is.labels_text is.labels is.are_labels,
+      longer_text is.labels_text is.labels is.are_labels,
       longer_field (codes "block") is.ulid_text (is.min_text ∷ is.max_text ∷ is.labels_text ∷ []),
       longer_field is.ulid_text is.min_text (is.max_text ∷ is.labels_text ∷ []),
       three_fields is.min_text is.max_text is.labels_text,
@@ -150,7 +143,7 @@ shelf_adds before after line is =
       arith,
       ap size_of is.adds,
       ap length is.spelled,
-      set_fits is.labels_text is.labels is.are_labels,
+      longer_text is.labels_text is.labels is.are_labels,
       three_fields (codes "shelf") is.ulid_text is.labels_text,
       one_more members_of_block before.script.blocks (record { ulid = is.ulid; labels = is.labels; body = OnShelf }),
     )
@@ -164,7 +157,7 @@ series_adds before after line is =
       arith,
       ap size_of is.adds,
       ap length is.spelled,
-      set_fits is.labels_text is.labels is.are_labels,
+      longer_text is.labels_text is.labels is.are_labels,
       samples_fit is.texts is.samples is.are_samples,
       three_fields (codes "series") is.labels_text (spaced is.texts),
       at_end members_of_block before.script.blocks is.others old is.last,

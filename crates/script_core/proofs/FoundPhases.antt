@@ -6,8 +6,7 @@ use Rattle.std.proofs.lemmas.Bool.Decides.{nat_tests}
 use Rattle.std.proofs.lemmas.Option.{same_Some}
 use Rattle.std.proofs.Math.Bool.{or-false}
 use Rattle.reading_core.proofs.Binds.{bind_ok, unless_ok, ok_is, refused_as_ok, unless_is, then_ok, ok_or_ok}
-use Rattle.std.proofs.lemmas.Bool.{and_parts, not-true}
-use Rattle.reading_core.proofs.Parsed.{true_or_false}
+use Rattle.std.proofs.lemmas.Bool.{and_parts, not-true, cases_Bool}
 use Rattle.list_core.proofs.Bools.{bytes_eq-same}
 use Rattle.moment_core.specs.declared.moment.Moment.{Moment}
 use Rattle.moment_core.specs.declared.rules.Rules.{Rules}
@@ -97,7 +96,7 @@ pub all_in_range : (p : ℕ → Bool) (first count : ℕ) → list_all p (range_
 all_in_range p first zero h n low high = absurd (omega arith)
 all_in_range p first (suc count) h n low high =
     let parts = and_parts (p first) (list_all p (range_with_len (first + 1) count)) h in
-    elim (true_or_false (first == n)) [
+    elim (cases_Bool (first == n)) [
       | inl same ↦ let e : first ≡ n = grind (arith, nat_tests) in ap p (sym e) ∙ parts.0
       | inr other ↦ let later : first + 1 ≤ n = grind (arith, nat_tests) in all_in_range p (first + 1) count parts.1 n later (omega arith)
     ]

@@ -1,12 +1,12 @@
 -- The parts of a lawful script stay lawful as lines are added.
-use Rattle.std.proofs.Common.{◌≡◌, ℕ, zero, suc, ◌+◌, ◌^◌, ◌<◌, ◌≤◌, ℤ, pos, negsuc, neg_ℤ, ◌≤ℤ◌, Bool, true, false, ◌==◌, ◌||◌, nat_eq, List, [], ◌∷◌, ◌++◌, length, map, get_or, refl, sym, ap, ◌∙◌, subst, arith, ◌⊎◌, inl, inr}
+use Rattle.std.proofs.Common.{◌≡◌, ℕ, zero, suc, ◌+◌, ◌^◌, ◌<◌, ◌≤◌, ℤ, pos, negsuc, neg_ℤ, ◌≤ℤ◌, Bool, true, false, ◌==◌, ◌||◌, nat_eq, List, [], ◌∷◌, ◌++◌, length, map, get_or, refl, sym, ap, ◌∙◌, subst, arith, inl, inr}
 use Rattle.std.specs.List.{All, AllByRecursion, IsDistinct, list_any}
 use Rattle.std.specs.List.Sorted.{IsStrictlySortedBy, IsNonDecreasingBy}
 use Rattle.std.specs.Cmp.{IsTotalOrder}
 use Rattle.std.specs.Ordering.{match_ordering, ordering_reverse}
 use Rattle.std.specs.declared.cmp.Ordering.{Ordering}
 use Rattle.std.specs.declared.cmp.Ordering.TheVariants.{Less, Equal, Greater}
-use Rattle.std.proofs.lemmas.Bool.{cases_lt}
+use Rattle.std.proofs.lemmas.Bool.{cases_lt, or_parts}
 use Rattle.std.proofs.lemmas.Bool.Decides.{nat_tests}
 use Rattle.std.proofs.lemmas.Cmp.{lists_total, nat_eq_equiv, then_total, on_total, nat_list_cmp_total}
 use Rattle.std.proofs.lemmas.Int.{ints}
@@ -23,17 +23,9 @@ use Rattle.script_workers.specs.declared.task.Task.{Task}
 use Rattle.script_fields.specs.Values.{is_time}
 use Rattle.script_core.specs.State.{insert_series}
 use Rattle.script_core.specs.Blocks.{declares}
+use Rattle.list_core.proofs.Lists.{last_or_none}
 
 -- ---- ends of lists
-
--- a list is empty or has a last member
-pub ends : {A : Type 0} (xs : List A) → (xs ≡ []) ⊎ ((others : List A) × (last : A) × (xs ≡ others ++ last ∷ []))
-ends [] = inl refl
-ends (x ∷ xs) =
-    elim (ends xs) [
-      | inl none ↦ inr ([], x, ap (λ l. x ∷ l) none)
-      | inr more ↦ inr (x ∷ more.0, more.1, ap (λ l. x ∷ l) more.2)
-    ]
 
 pub All-front : {A : Type 0} (P : A → Type 0) (xs : List A) (x : A) → All P (xs ++ x ∷ []) → All P xs
 All-front P xs x all k d below =
@@ -61,7 +53,7 @@ labels_of series = map (λ (one : Series). one.labels) series
 pub sets_total : IsTotalOrder compare_sets
 sets_total = lists_total (then_total (on_total (λ (l : Label). l.name) nat_list_cmp_total) (on_total (λ (l : Label). l.value) nat_list_cmp_total))
 
-above_all : (labels : List (List Label)) (one other : List Label) → compare_sets one other ≡ Less → AllByRecursion (λ y. compare_sets other y ≡ Less) labels → AllByRecursion (λ y. compare_sets one y ≡ Less) labels
+pub above_all : (labels : List (List Label)) (one other : List Label) → compare_sets one other ≡ Less → AllByRecursion (λ y. compare_sets other y ≡ Less) labels → AllByRecursion (λ y. compare_sets one y ≡ Less) labels
 above_all [] one other below all = tt
 above_all (first ∷ labels) one other below all =
     (sets_total.trans one other first below all.0, above_all labels one other below all.1)
@@ -120,7 +112,7 @@ Moments phases = IsNonDecreasingBy (λ (phase : Phase). phase.moment.ms) phases
 -- no phase is later than the new one
 to_new : (phases : List Phase) (new : Phase) → Moments phases → ((others : List Phase) (last : Phase) → phases ≡ others ++ last ∷ [] → last.moment.ms ≤ new.moment.ms) → (i : ℕ) (d : Phase) → i < length phases → (get_or phases i d).moment.ms ≤ new.moment.ms
 to_new phases new moments later i d inside =
-    elim (ends phases) [
+    elim (last_or_none phases) [
       | inl none ↦ absurd (omega (arith, ap length none))
       | inr more ↦
           let size : length phases ≡ length more.0 + 1 = ap length more.2 ∙ length-append more.0 (more.1 ∷ []) in
@@ -157,16 +149,12 @@ moments_push phases new moments later i j d below inside =
 
 -- ---- compactions
 
-none_of : (a b : Bool) → (a || b) ≡ false → (a ≡ false) × (b ≡ false)
-none_of true b h = absurd cc
-none_of false b h = (refl, h)
-
 -- where no task is a compaction, none of them is
 each_other : (tasks : List Task) → has_compaction tasks ≡ false → (k : ℕ) (d : Task) → k < length tasks → is_compaction (get_or tasks k d).work ≡ false
 each_other [] none k d inside = absurd (omega (arith, inside))
-each_other (task ∷ tasks) none zero d inside = (none_of (is_compaction task.work) (has_compaction tasks) none).0
+each_other (task ∷ tasks) none zero d inside = (or_parts (is_compaction task.work) (has_compaction tasks) none).0
 each_other (task ∷ tasks) none (suc k) d inside =
-    each_other tasks (none_of (is_compaction task.work) (has_compaction tasks) none).1 k d (omega (arith, inside))
+    each_other tasks (or_parts (is_compaction task.work) (has_compaction tasks) none).1 k d (omega (arith, inside))
 
 -- another compaction would be the second one
 not_second : (one other : Bool) → (other ≡ true → one ≡ false) → one ≡ true → other ≡ false

@@ -18,6 +18,7 @@ use Rattle.moment_core.specs.declared.partition.Partition.{Partition}
 use Rattle.moment_core.specs.declared.rules.Rules.{Rules}
 use Rattle.moment_core.specs.declared.span.Span.{Span}
 use Rattle.list_core.proofs.Order.{sorted_nil}
+use Rattle.list_core.proofs.Lists.{last_or_none}
 use Rattle.script_core.specs.declared.block.Block.{Block}
 use Rattle.script_core.specs.declared.body.Body.TheVariants.{Inline, OnShelf}
 use Rattle.script_workers.specs.declared.phase.Phase.{Phase}
@@ -38,7 +39,7 @@ use Rattle.script_core.specs.Spelling.{SoFar, HasEnded, IsValueText, AreSampleFi
 use Rattle.script_core.proofs.Kept.{works_of-append, works_of-more}
 use Rattle.script_core.proofs.LineTools.{no_end}
 use Rattle.script_core.proofs.LawfulLabels.{block_labels, shelf_labels, series_labels, small_patterns}
-use Rattle.script_core.proofs.LawfulParts.{compacts_push, compacts_nil, ends, All-front, All-last, once_push, same_ulids, ulids_of, moments_push}
+use Rattle.script_core.proofs.LawfulParts.{compacts_push, compacts_nil, All-front, All-last, once_push, same_ulids, ulids_of, moments_push}
 use Rattle.script_core.proofs.SpelledValues.{free_tested, agree_tested, within_tested}
 use Rattle.script_core.proofs.SpelledSeries.{each_placed}
 use Rattle.script_workers.proofs.HandLaws.{few_counted}
@@ -95,7 +96,7 @@ lawful_rule names.PageLimit text value rules is lawful = record { consistency = 
 -- with the last block complete, all blocks are
 all_full : (blocks : List Block) → ((others : List Block) (block : Block) → blocks ≡ others ++ block ∷ [] → All (λ (b : Block). HasSeries b.body) others) → HasEnded blocks → All (λ (b : Block). HasSeries b.body) blocks
 all_full blocks full ended =
-    elim (ends blocks) [
+    elim (last_or_none blocks) [
       | inl none ↦ subst (All (λ (b : Block). HasSeries b.body)) (sym none) (All-nil (λ (b : Block). HasSeries b.body))
       | inr more ↦ subst (All (λ (b : Block). HasSeries b.body)) (sym more.2) (All-push (λ (b : Block). HasSeries b.body) more.0 more.1 (full more.0 more.1 more.2) (ended more.0 more.1 more.2))
     ]
@@ -332,7 +333,7 @@ same_moments others one other same moments i j d below inside =
 -- a query among the tasks with one more
 sync_by : (gateways : ℕ) (works : List Work) (work : Work) → ((before after : List Work) (low high : ℤ) (selector gateway : ℕ) → works ≡ before ++ Query low high selector ∷ after → gateway < gateways → has_sync before gateway ≡ true) → ((low high : ℤ) (selector gateway : ℕ) → work ≡ Query low high selector → gateway < gateways → has_sync works gateway ≡ true) → (before after : List Work) (low high : ℤ) (selector gateway : ℕ) → works ++ work ∷ [] ≡ before ++ Query low high selector ∷ after → gateway < gateways → has_sync before gateway ≡ true
 sync_by gateways works work old new before after low high selector gateway is inside =
-    elim (ends after) [
+    elim (last_or_none after) [
       | inl none ↦
           let p = same_from_push works before work (Query low high selector) (is ∙ ap (λ rest. before ++ Query low high selector ∷ rest) none) in
           subst (λ (ws : List Work). has_sync ws gateway ≡ true) p.0 (new low high selector gateway p.1 inside)

@@ -11,7 +11,7 @@ use Rattle.std.specs.Map.{lookup}
 use Rattle.reading_core.proofs.Binds.{unless_ok, ok_is, unless_is}
 use Rattle.std.proofs.lemmas.Bool.{and_parts, not-true, not_from_false}
 use Rattle.list_core.proofs.Bools.{bytes_eq-same}
-use Rattle.list_core.proofs.Lists.{nil_not_middle, some-from_length, length-some}
+use Rattle.list_core.proofs.Lists.{nil_not_middle, some-from_length, length-some, last_or_none}
 use Rattle.script_core.specs.declared.block.Block.{Block}
 use Rattle.script_core.specs.declared.body.Body.TheVariants.{OnShelf}
 use Rattle.script_fields.specs.declared.cause.LineCause.TheVariants.{BadShape}
@@ -27,7 +27,7 @@ use Rattle.script_core.specs.State.{Last, block_of, with_last, all_blocks, all_p
 use Rattle.script_core.specs.Lawful.{HasSeries}
 use Rattle.script_core.specs.Spelling.{IsField, rule_word, HasEnded}
 use Rattle.script_fields.proofs.FieldLaws.{no_space, Cut, cut_nothing, cut_whole, cut_front, cut_found, cut_last}
-use Rattle.script_core.proofs.LawfulParts.{ends, All-last}
+use Rattle.script_core.proofs.LawfulParts.{All-last}
 use Rattle.script_core.proofs.ValueLaws.{is_none_is}
 
 -- ---- steps
@@ -201,7 +201,7 @@ shelf_ended front more others last block is all =
     subst HasSeries (sym is ∙ ap (λ (b : Block). b.body) same) tt
 
 pub ended_found : (blocks : List Block) (last : Option Last) (shelved : List Block) → (last ≡ None → blocks ≡ []) → OnShelves shelved → has_ended last ≡ Ok tt → HasEnded (all_blocks blocks last shelved)
-ended_found blocks last shelved first on_shelf h = elim (ends shelved) [
+ended_found blocks last shelved first on_shelf h = elim (last_or_none shelved) [
   | inl none ↦ subst HasEnded (sym (append-nil (with_last blocks last)) ∙ ap (λ bs. with_last blocks last ++ bs) (sym none)) (last_found blocks last first h)
   | inr more ↦ λ others block is.
       let one : (more.1).body ≡ OnShelf = All-last (λ (b : Block). b.body ≡ OnShelf) more.0 more.1 (subst OnShelves more.2 on_shelf) in

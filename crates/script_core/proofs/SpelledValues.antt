@@ -88,7 +88,7 @@ within_spelled first last (sample ∷ samples) h =
     let parts = and_parts (is_within first last sample) (are_within first last samples) h in
     All-cons (IsWithin first last) sample samples (one_within first last sample parts.0) (within_spelled first last samples parts.1)
 
-not_before : (first time : ℤ) → first ≤ℤ time → int_lt time first ≡ false
+pub not_before : (first time : ℤ) → first ≤ℤ time → int_lt time first ≡ false
 not_before first time from = grind (arith, ints)
 
 one_tested : (first last : ℤ) (sample : Sample) → IsWithin first last sample → is_within first last sample ≡ true

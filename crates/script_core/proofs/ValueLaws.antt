@@ -1,5 +1,5 @@
 -- The values of fields are read from their texts, and from no others.
-use Rattle.std.proofs.Common.{◌≡◌, ℕ, ◌^◌, ◌<◌, ◌≤◌, ℤ, pos, negsuc, leb-true, true, ◌&&◌, nat_le, List, Option, Some, None, is_none, option_map, Ok, refl, sym, ap, ◌∙◌, subst, arith}
+use Rattle.std.proofs.Common.{◌≡◌, ℕ, ◌^◌, ◌<◌, ◌≤◌, ℤ, pos, negsuc, leb-true, true, ◌&&◌, nat_le, List, Option, Some, None, is_none, Ok, refl, sym, ap, ◌∙◌, subst, arith}
 use Rattle.std.specs.Int.{w64}
 use Rattle.std.specs.Int.RustNames.{FitsSigned}
 use Rattle.std.proofs.lemmas.Bool.Decides.{nat_tests}
@@ -23,14 +23,11 @@ use Rattle.script_fields.specs.Values.{is_time, time_field, page_limit_field, st
 use Rattle.script_core.specs.Spelling.{IsValueText}
 use Rattle.moment_core.specs.Limits.{longest_tick}
 use Rattle.script_fields.specs.Limits.{latest_stop}
+use Rattle.list_core.proofs.Options.{option_map-Some}
 
 pub is_none_is : {A : Type 0} (o : Option A) → is_none o ≡ true → o ≡ None
 is_none_is None h = refl
 is_none_is (Some x) h = absurd cc
-
-some_from : {A B : Type 0} (f : A → B) (o : Option A) (y : B) → option_map f o ≡ Some y → (x : A) × (o ≡ Some x) × (f x ≡ y)
-some_from f None y h = absurd cc
-some_from f (Some x) y h = (x, refl, cc)
 
 -- ---- times
 
@@ -57,7 +54,7 @@ time_again text time written near =
 pub span_found : (text : List ℕ) (span : Span) → span_field text ≡ Ok span → IsSpanText text span.ms
 unfolding span_field
 span_found text span h =
-    let some = some_from span_from (span_of text) span (ok_or_ok _ _ _ h) in
+    let some = option_map-Some span_from (span_of text) span (ok_or_ok _ _ _ h) in
     subst (λ (s : Span). IsSpanText text s.ms) some.2 (span_of-found text some.0 some.1)
 
 pub span_again : (text : List ℕ) (span : Span) → IsSpanText text span.ms → span_field text ≡ Ok span
@@ -121,7 +118,7 @@ stop_count_again text count written low high =
 pub moment_found : (text : List ℕ) (moment : Moment) → moment_field text ≡ Ok moment → IsMomentText text moment.ms
 unfolding moment_field
 moment_found text moment h =
-    let some = some_from moment_from (moment_of text) moment (ok_or_ok _ _ _ h) in
+    let some = option_map-Some moment_from (moment_of text) moment (ok_or_ok _ _ _ h) in
     subst (λ (m : Moment). IsMomentText text m.ms) some.2 (moment_of-found text some.0 some.1)
 
 pub moment_again : (text : List ℕ) (ms : ℕ) → IsMomentText text ms → moment_field text ≡ Ok (moment_from ms)

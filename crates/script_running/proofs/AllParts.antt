@@ -1,5 +1,5 @@
 -- The parts of all who do a task, by their ends.
-use Rattle.std.proofs.Common.{◌≡◌, ℕ, ℤ, Option, suc, ◌≤◌, List, [], ◌∷◌, length, map, refl, ◌∙◌, ap, arith}
+use Rattle.std.proofs.Common.{◌≡◌, ℕ, ℤ, Option, ◌≤◌, List, [], ◌∷◌, length, map, refl, ◌∙◌, ap, arith}
 use Rattle.std.specs.List.{AllZip}
 use Rattle.std.proofs.lemmas.List.FromFn.{length-map-range_with_len}
 use Rattle.script_workers.specs.Hands.{hands_of_task}
@@ -106,9 +106,3 @@ few_parts (work.Sync gateway) gateways place few = omega arith
 few_parts (work.Compact stop) gateways place few = omega arith
 few_parts (work.Clean stop) gateways place few = omega arith
 few_parts (work.Query low high selector) gateways place few = let count = length-map-range_with_len hands.Gateway 0 gateways in omega (arith, few, count)
-
-pub zip_long : {A B : Type 0} (R : A → B → Type 0) (xs : List A) (ys : List B) → AllZip R xs ys → length ys ≡ length xs
-zip_long R [] [] all = refl
-zip_long R [] (y ∷ ys) all = absurd all
-zip_long R (x ∷ xs) [] all = absurd all
-zip_long R (x ∷ xs) (y ∷ ys) all = ap suc (zip_long R xs ys all.1)

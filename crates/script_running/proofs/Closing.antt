@@ -1,16 +1,14 @@
 -- A run beside whose world came out again is a run of the script.
 use Rattle.std.proofs.Common.{◌≡◌, inl, inr, ℕ, ◌+◌, ◌<◌, List, [], ◌∷◌, ◌++◌, length, map, Contains, Some, refl, sym, ◌∙◌, ap, subst, append_assoc, append-nil, arith}
 use Rattle.std.specs.Prelude.{Ok, Err, slice_get}
-use Rattle.std.proofs.lemmas.List.Sums.{sum_by-append}
 use mathlib.Core.List.{IsPrefix}
 use Rattle.list_core.proofs.Lists.{cons_parts}
 use Rattle.list_core.proofs.Membership.{member_cases, no_member}
-use Rattle.world_core.specs.Keeping.{IsFull, bytes_put, bytes_told, kept_bytes}
+use Rattle.world_core.specs.Keeping.{IsFull}
 use Rattle.world_core.specs.Worlds.{IsJournal}
 use Rattle.world_core.specs.declared.entry.Entry.{Entry}
 use Rattle.world_turn.specs.Closing.{AllJoined, Closes}
 use Rattle.world_turn.specs.declared.view.View.{View as Known}
-use Rattle.world_turn.proofs.Fronts.{front_length}
 use Rattle.script_core.specs.Lawful.{IsLawfulScript}
 use Rattle.script_core.specs.Workers.{workers_of}
 use Rattle.script_workers.specs.declared.phase.Phase.{Phase}
@@ -41,14 +39,7 @@ use Rattle.script_running.proofs.Cutting.{parts}
 use Rattle.script_running.proofs.Due.{is_due}
 use Rattle.script_running.proofs.Gathered.{tasks_long}
 use Rattle.script_running.proofs.Ending.{was_begun, was_idle, were_kept}
-
--- ---- a full front
-
-full_more : (seen journal : List Entry) → IsPrefix seen journal → IsFull seen → IsFull journal
-full_more seen journal begins (inl long) = let more = front_length seen journal begins in inl (omega (arith, long, more))
-full_more seen journal begins (inr large) =
-    let both : kept_bytes journal ≡ kept_bytes seen + kept_bytes begins.0 = ap kept_bytes (sym begins.1) ∙ sum_by-append (λ (e : Entry). bytes_put e.op + bytes_told e.reply) seen begins.0 in
-    inr (omega (arith, large, both))
+use Rattle.phase_runner.proofs.Refused.{full_more}
 
 -- ---- a worker that was broken off has not come to all its ends
 

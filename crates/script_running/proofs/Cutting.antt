@@ -1,17 +1,17 @@
 -- A journal that came out of a shared world is the phases that its root knows, one after another.
 use Rattle.std.proofs.Common.{◌≡◌, inl, inr, ℕ, ◌+◌, ◌<◌, ◌≤◌, ◌==◌, true, false, List, [], ◌∷◌, ◌++◌, length, map, Contains, refl, sym, ◌∙◌, ap, subst, append_assoc, append-nil, arith}
 use Rattle.std.specs.List.{All, AllByRecursion}
-use Rattle.std.proofs.lemmas.Bool.{cases_Bool}
+use Rattle.std.proofs.lemmas.Bool.{cases_Bool, eq-eqb}
 use Rattle.std.proofs.lemmas.Bool.Decides.{nat_tests}
 use Rattle.std.proofs.lemmas.List.{length-append}
 use Rattle.std.proofs.lemmas.List.Elements.{All-contains, Contains-append_left, Contains-append_right, filter-append, All-from_recursion}
 use Rattle.list_core.proofs.Lists.{cons_parts, filter_hit, filter_miss, nil_not_cons}
 use Rattle.list_core.proofs.Membership.{all_members, contains_first, contains_later, each_member, into_filter, into_flat_map, into_map, member_cases, member_passes, no_member, of_filter, of_flat_map, of_map}
 use Rattle.std.specs.Prelude.{nat_lt, Some}
-use Rattle.world_core.specs.Journals.{IsNumbered, entry_at}
+use Rattle.world_core.specs.Journals.{IsNumbered, entry_at, of_seat}
 use Rattle.world_core.specs.declared.entry.Entry.{Entry}
 use Rattle.world_turn.specs.Closing.{AllJoined, Closes}
-use Rattle.world_turn.specs.Seats.{Stand, of_seat}
+use Rattle.world_turn.specs.Seats.{Stand}
 use Rattle.world_turn.specs.declared.view.View.{View as Known}
 use Rattle.script_running.specs.Cutting.{AreApart, AreParts, KnowsPhases, Passed}
 
@@ -63,9 +63,6 @@ nobody : {X : Type 0} (xs : List X) → ((x : X) → Contains xs x → ⊥) → 
 nobody [] none = refl
 nobody (x ∷ xs) none = absurd (none x (contains_first x xs))
 
-hit : (a b : ℕ) → a ≡ b → (a == b) ≡ true
-hit a b same = grind (arith, nat_tests)
-
 miss : (a b : ℕ) → a ≡ 0 → 0 < b → (a == b) ≡ false
 miss a b none some = grind (arith, nat_tests)
 
@@ -76,7 +73,7 @@ is_zero : (a : ℕ) → (a == 0) ≡ true → a ≡ 0
 is_zero a test = grind (arith, nat_tests)
 
 seated : (seat : ℕ) (entries : List Entry) (e : Entry) → Contains entries e → e.seat ≡ seat → Contains (of_seat seat entries) e
-seated seat entries e among is = into_filter (λ (x : Entry). x.seat == seat) entries e among (hit e.seat seat is)
+seated seat entries e among is = into_filter (λ (x : Entry). x.seat == seat) entries e among (eq-eqb e.seat seat is)
 
 inside : (seat : ℕ) (entries : List Entry) (e : Entry) → Contains (of_seat seat entries) e → Contains entries e
 inside seat entries e among = of_filter (λ (x : Entry). x.seat == seat) entries e among
@@ -164,9 +161,9 @@ never_first e entries passed l some =
 before_next : (others : List Entry) (passed : List Passed) → BeginsAtZero others → Climbs others → map (λ (p : Passed). p.clock) passed ≡ of_seat 0 others → (e : Entry) → Contains others e
     → ((later : Passed) → Contains passed later → e.seq < later.clock.seq) → ⊥
 before_next [] passed next climbs clocks e among below = no_member e among
-before_next (c ∷ others) [] next climbs clocks e among below = nil_not_cons c (of_seat 0 others) (clocks ∙ filter_hit (λ (x : Entry). x.seat == 0) c others (hit c.seat 0 next))
+before_next (c ∷ others) [] next climbs clocks e among below = nil_not_cons c (of_seat 0 others) (clocks ∙ filter_hit (λ (x : Entry). x.seat == 0) c others (eq-eqb c.seat 0 next))
 before_next (c ∷ others) (p ∷ passed) next climbs clocks e among below =
-    let same = (cons_parts p.clock c (map (λ (p : Passed). p.clock) passed) (of_seat 0 others) (clocks ∙ filter_hit (λ (x : Entry). x.seat == 0) c others (hit c.seat 0 next))).0 in
+    let same = (cons_parts p.clock c (map (λ (p : Passed). p.clock) passed) (of_seat 0 others) (clocks ∙ filter_hit (λ (x : Entry). x.seat == 0) c others (eq-eqb c.seat 0 next))).0 in
     let q : p.clock.seq ≡ c.seq = ap (λ (x : Entry). x.seq) same in
     let less = below p (contains_first p passed) in
     elim (member_cases c e others among) [
@@ -197,7 +194,7 @@ module _ (clock : Entry) (made others : List Entry) (one : Passed) (passed : Lis
 
   clocks_first : of_seat 0 all ≡ clock ∷ of_seat 0 others
   clocks_first =
-      filter_hit (λ (e : Entry). e.seat == 0) clock (made ++ others) (hit clock.seat 0 zeroth)
+      filter_hit (λ (e : Entry). e.seat == 0) clock (made ++ others) (eq-eqb clock.seat 0 zeroth)
       ∙ ap (λ (es : List Entry). clock ∷ es) (both_seats 0 made others ∙ ap (λ (es : List Entry). es ++ of_seat 0 others) (nobody (of_seat 0 made) no_zero_made))
 
   same_clock : one.clock ≡ clock

@@ -9,7 +9,7 @@ use Rattle.world_core.specs.declared.entry.Entry.{Entry}
 use Rattle.world_core.specs.declared.op.Op.{Op}
 use Rattle.world_core.specs.declared.seen.Seen.{Seen}
 use Rattle.world_turn.proofs.Fronts.{of_seat-other, of_seat-own}
-use Rattle.world_turn.specs.Seats.{of_seat}
+use Rattle.world_core.specs.Journals.{of_seat}
 use Rattle.script_core.specs.Workers.{workers_of}
 use Rattle.script_workers.specs.declared.phase.Phase.{Phase}
 use Rattle.script_workers.specs.declared.task.Task.{Task}

@@ -4,8 +4,10 @@ use Rattle.std.specs.Prelude.{Ok, Result, slice_get}
 use Rattle.std.specs.List.{All, AllByRecursion, AllZip, flat_map, range_with_len, zip}
 use Rattle.std.proofs.lemmas.List.Elements.{All-contains, All-head, All-tail}
 use Rattle.std.proofs.lemmas.Option.{slice_get_within}
+use Rattle.std.proofs.lemmas.Slice.Zip.{AllZip-long}
 use Rattle.list_core.proofs.Lists.{cons_same}
 use Rattle.list_core.proofs.Membership.{contains_first, contains_later, contains_place, member_cases, no_member, place_of_member}
+use Rattle.list_core.proofs.Pairs.{second_in_zip}
 use Rattle.script_workers.specs.Hands.{gateway_count, gateway_of, hands_of, hands_of_task}
 use Rattle.script_workers.specs.Staff.{AreSeated, IsStaff, IsWorkerOf}
 use Rattle.script_workers.specs.Whose.{IsFor, IsTaskOf, asks, cleans, compacts, ships, syncs}
@@ -26,7 +28,7 @@ use Rattle.script_running.specs.Beside.{AreSeen}
 use Rattle.script_running.specs.Ended.{HasEnded, HaveEnded}
 use Rattle.script_running.specs.Gathering.{AreSeenBeside, AreTakenIn, AreTold, IsFilled, IsToldBy, laid_in, parts_at, slot_at}
 use Rattle.script_running.specs.Outcomes.{IsPart, TaskCame, TasksCame}
-use Rattle.script_running.proofs.AllParts.{all_parts, zip_long}
+use Rattle.script_running.proofs.AllParts.{all_parts}
 use Rattle.script_running.specs.Sights.{Sees}
 use Rattle.script_running.specs.Tasks.{WhenDone}
 use Rattle.script_running.specs.declared.came.Broken.{Broken}
@@ -38,14 +40,6 @@ use Rattle.script_running.specs.declared.sight.Sight.{Sight}
 use Rattle.script_running.specs.declared.worker.WorkerEnd.{WorkerEnd}
 
 -- ---- lists beside each other
-
-zip_first : {A B : Type 0} (xs : List A) (ys : List B) (x : A) (y : B) → Contains (zip xs ys) (x, y) → Contains xs x
-zip_first [] ys x y among = absurd (no_member (x, y) among)
-zip_first (a ∷ xs) [] x y among = absurd (no_member (x, y) among)
-zip_first {A} {B} (a ∷ xs) (b ∷ ys) x y among = elim (member_cases (a, b) (x, y) (zip xs ys) among) [
-  | inl same ↦ subst (Contains (a ∷ xs)) (ap (λ (r : A × B). r.0) same) (contains_first a xs)
-  | inr later ↦ contains_later a x xs (zip_first xs ys x y later)
-]
 
 zip_partner : {A B : Type 0} (xs : List A) (ys : List B) (x : A) → length xs ≡ length ys → Contains xs x → (y : B) × Contains (zip xs ys) (x, y)
 zip_partner [] ys x long among = absurd (no_member x among)
@@ -189,14 +183,6 @@ all_fors gateways place (works.Query low high selector) = asked_fors gateways pl
 
 -- ---- all tasks
 
-zip_second : {A B : Type 0} (xs : List A) (ys : List B) (x : A) (y : B) → Contains (zip xs ys) (x, y) → Contains ys y
-zip_second [] ys x y among = absurd (no_member (x, y) among)
-zip_second (a ∷ xs) [] x y among = absurd (no_member (x, y) among)
-zip_second {A} {B} (a ∷ xs) (b ∷ ys) x y among = elim (member_cases (a, b) (x, y) (zip xs ys) among) [
-  | inl same ↦ subst (Contains (b ∷ ys)) (ap (λ (r : A × B). r.1) same) (contains_first b ys)
-  | inr later ↦ contains_later b y ys (zip_second xs ys x y later)
-]
-
 -- a worker that was not broken off sees by what it holds
 seen_by : (last : Holding) (end : WorkerEnd) → end.came ≡ Ok tt → WhenDone end.came (Sees last end.sight) → Sees last end.sight
 seen_by last end done sees = subst (λ (r : Result (Unit {0}) Broken). WhenDone r (Sees last end.sight)) done sees
@@ -244,7 +230,7 @@ module _ (setting : Setting) (number : ℕ) (phase : Phase) (taken : ℕ)
       let of = seated.each k.0 h w.0 k.1 w.1 in
       let e = zip_partner workers others w.0 done.1 (contains_place workers k.0 w.0 w.1) in
       let c = comes setting phase.tasks before front after workers kept others ends lasts w.0 e.0 have left.own e.1 in
-      let whole = one_done setting phase.tasks before front after w.0 c.kept e.0 c.own c.last c.has (All-contains (λ (x : WorkerEnd). x.came ≡ Ok tt) others e.0 all (zip_second workers others w.0 e.0 e.1)) in
+      let whole = one_done setting phase.tasks before front after w.0 c.kept e.0 c.own c.last c.has (All-contains (λ (x : WorkerEnd). x.came ≡ Ok tt) others e.0 all (second_in_zip workers others w.0 e.0 e.1)) in
       let o = zip_partner (w.0).tasks (e.0).parts.items place whole.1 ((of.places).each place t) in
       subst (λ (g : Option ℕ). IsFilled new g place) of.gateway (taken_in.laid w.0 e.0 place o.0 e.1 o.1)
 
@@ -267,7 +253,7 @@ module _ (setting : Setting) (number : ℕ) (phase : Phase) (taken : ℕ)
       }
 
   hands_long : (place : ℕ) (hs : List Hand) (own : List End) → AllZip (λ hand end. CameTo workers ends (gateway_of hand) place end) hs own → length own ≡ length hs
-  hands_long place hs own came = zip_long (λ hand end. CameTo workers ends (gateway_of hand) place end) hs own came
+  hands_long place hs own came = AllZip-long (λ hand end. CameTo workers ends (gateway_of hand) place end) hs own came
 
   task_came : (place : ℕ) (task : Task) (o : Outcome) → slice_get phase.tasks place ≡ Some task → IsToldBy task.work (parts_at new place task.work) o → TaskCame setting.script workers ends place task o
   task_came place task o at told =
@@ -294,7 +280,7 @@ module _ (setting : Setting) (number : ℕ) (phase : Phase) (taken : ℕ)
   sees beside place sight is = elim (taken_in.sights_are place sight is) [
     | inl (w, e, among, gateway, same) ↦
         let c = comes setting phase.tasks before front after workers kept others ends lasts w e have left.own among in
-        subst (λ (held : Holding). Sees held sight) (sym (c.left place gateway)) (subst (Sees c.last) same (seen_by c.last e (All-contains (λ (x : WorkerEnd). x.came ≡ Ok tt) others e all (zip_second workers others w e among)) (c.has).sees))
+        subst (λ (held : Holding). Sees held sight) (sym (c.left place gateway)) (subst (Sees c.last) same (seen_by c.last e (All-contains (λ (x : WorkerEnd). x.came ≡ Ok tt) others e all (second_in_zip workers others w e among)) (c.has).sees))
     | inr (older, none) ↦ subst (λ (held : Holding). Sees held sight) (sym (left.others place none)) (beside place sight older none)
   ]
 

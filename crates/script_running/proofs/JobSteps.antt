@@ -20,6 +20,7 @@ use Rattle.script_running.specs.Workers.{HasWorked, IsAtWork, MayWork, Post}
 use Rattle.script_running.specs.declared.came.Broken.TheVariants as broken
 use Rattle.script_running.specs.declared.sight.Sight.{Sight}
 use Rattle.script_running.specs.declared.worker.WorkerEnd.{WorkerEnd}
+use Rattle.list_core.proofs.Options.{one_value}
 
 rest : {X : Type 0} (xs ys : List X) → drop (length xs) (xs ++ ys) ≡ ys
 rest [] ys = refl
@@ -60,15 +61,12 @@ alone setting tasks who places before seat old new end h = record {
 gains : (setting : Setting) (tasks : List Task) (who : Who) (places : List ℕ) (before : Holding) (seat : ℕ) (old new : List Entry) (end : WorkerEnd) → HasWorked setting tasks who places before seat old new end → new ≡ old ++ drop (length old) new
 gains setting tasks who places before seat old new end h = h.entries ∙ ap (λ (l : List Entry). old ++ l) (sym (ap (drop (length old)) h.entries ∙ rest old h.made))
 
-pub some_same : {X : Type 0} (x y : X) (o : Option X) → o ≡ Some x → o ≡ Some y → x ≡ y
-some_same x y o one other = cc (one, other)
-
 module _ (post : Post) (phase : Phase) (at : slice_get post.loan.script.phases post.phase ≡ Some phase) where
   -- whatever phase has its place, it is this one
   at_place : (held : Holding) (seat : ℕ) (made : List Entry) (end : WorkerEnd) → HasWorked (setting_in post.loan) phase.tasks (who_of post.worker) post.worker.tasks held seat [] made end
       → (one : Phase) → slice_get post.loan.script.phases post.phase ≡ Some one → HasWorked (setting_in post.loan) one.tasks (who_of post.worker) post.worker.tasks held seat [] made end
   at_place held seat made end h one found =
-      subst (λ (p : Phase). HasWorked (setting_in post.loan) p.tasks (who_of post.worker) post.worker.tasks held seat [] made end) (some_same phase one (slice_get post.loan.script.phases post.phase) at found) h
+      subst (λ (p : Phase). HasWorked (setting_in post.loan) p.tasks (who_of post.worker) post.worker.tasks held seat [] made end) (one_value phase one (slice_get post.loan.script.phases post.phase) at found) h
 
   pub may_work : (seat : ℕ) (old new : List Entry) (front : Option (List Entry)) (end : WorkerEnd)
       → ((who : Who) (held : Holding) → who.gateway ≡ post.worker.gateway → Sees held post.sight → HasWorked (setting_in post.loan) phase.tasks who post.worker.tasks held seat old new end) → (end.came ≡ Err broken.Full → IfSome front IsFull)

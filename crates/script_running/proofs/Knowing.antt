@@ -1,11 +1,10 @@
 -- What a root knows of one phase more: it set the clock, and took in its workers.
-use Rattle.std.proofs.Common.{◌≡◌, ℕ, ◌+◌, ◌-◌, ◌<◌, ◌≤◌, Bool, if◌then◌else◌, ne_eqb, List, [], ◌∷◌, ◌++◌, length, map, None, Some, refl, sym, ◌∙◌, ap, subst, append_assoc, append-nil, arith, le_refl}
-use Rattle.std.specs.Prelude.{slice_get}
-use Rattle.std.specs.List.{All, AllByRecursion, flat_map}
+use Rattle.std.proofs.Common.{◌≡◌, ℕ, ◌+◌, ◌-◌, ◌<◌, ◌≤◌, List, [], ◌∷◌, ◌++◌, length, Some, refl, sym, ◌∙◌, ap, subst, arith, le_refl}
+use Rattle.std.specs.List.{All, AllByRecursion}
 use Rattle.std.proofs.lemmas.List.Elements.{All-from_recursion, All-nil, All-push}
 use Rattle.std.proofs.lemmas.Option.{slice_get_within}
 use mathlib.Core.List.{IsPrefix}
-use Rattle.list_core.proofs.Lists.{AllByRecursion-weaker}
+use Rattle.list_core.proofs.Lists.{AllByRecursion-weaker, map-push, flat_map-push}
 use Rattle.world_core.specs.Journals.{entry_at}
 use Rattle.world_core.specs.Operations.{entry_of}
 use Rattle.world_core.specs.declared.acted.Acted.TheVariants.{Done}
@@ -13,7 +12,7 @@ use Rattle.world_core.specs.declared.entry.Entry.{Entry}
 use Rattle.world_core.specs.declared.op.Op.{Op}
 use Rattle.world_core.specs.declared.seen.Seen.{Seen}
 use Rattle.world_turn.proofs.Fronts.{front_length, front_more}
-use Rattle.world_turn.proofs.Later.{stand_more}
+use Rattle.world_turn.proofs.Later.{stand_more, entry_there}
 use Rattle.world_turn.specs.Passes.{view_of}
 use Rattle.world_turn.specs.Seats.{Stand}
 use Rattle.world_turn.specs.Turns.{Acts}
@@ -26,25 +25,14 @@ use Rattle.script_running.specs.Cutting.{AreApart, KnowsPhases, Passed}
 abbrev Kept : Type 0
 Kept = ℕ × List Entry
 
-map_more : {A B : Type 0} (f : A → B) (xs : List A) (x : A) → map f (xs ++ x ∷ []) ≡ map f xs ++ f x ∷ []
-map_more f [] x = refl
-map_more f (y ∷ xs) x = ap (λ l. f y ∷ l) (map_more f xs x)
-
-flat_more : {A B : Type 0} (f : A → List B) (xs : List A) (x : A) → flat_map f (xs ++ x ∷ []) ≡ flat_map f xs ++ f x
-flat_more f [] x = append-nil (f x)
-flat_more f (y ∷ xs) x = ap (λ l. f y ++ l) (flat_more f xs x) ∙ sym (append_assoc (f y) (flat_map f xs) (f x))
-
 -- ---- where entries stand
-
-there : (front : List Entry) (number : ℕ) → 0 < number → entry_at front number ≡ slice_get front (number - 1)
-there front number some = ap (λ (b : Bool). if b then None else slice_get front (number - 1)) (ne_eqb number 0 (λ z. absurd (omega (arith, z, some))))
 
 -- an entry that stands in a front has no greater number than the front is long
 within_front : (low : ℕ) (front : List Entry) (e : Entry) → (low < e.seq) × (entry_at front e.seq ≡ Some e) → e.seq ≤ length front
 within_front low front e at =
     let above = at.0 in
     let some : 0 < e.seq = omega (arith, above) in
-    let below = slice_get_within front (e.seq - 1) e (sym (there front e.seq some) ∙ at.1) in
+    let below = slice_get_within front (e.seq - 1) e (sym (entry_there front e.seq some) ∙ at.1) in
     omega (arith, some, below)
 
 all_within : (low limit : ℕ) (entries front : List Entry) → Stand low entries front → length front < limit → All (λ e. e.seq < limit) entries
@@ -54,15 +42,12 @@ all_within low limit entries front stand less =
 
 -- ---- apart
 
-all_more : {A : Type 0} (P : A → Type 0) (xs : List A) (x : A) → All P xs → P x → All P (xs ++ x ∷ [])
-all_more P xs x all is = All-push P xs x all is
-
 apart_more : (front longer : List Entry) (passed : List Passed) (one : Passed) → IsPrefix front longer → length front < one.clock.seq → AreApart front passed
     → AllByRecursion (λ (kept : Kept). Stand one.clock.seq kept.1 longer) one.kept → AreApart longer (passed ++ one ∷ [])
 apart_more front longer [] one begins less apart stand = (stand, All-nil (λ (later : Passed). AllByRecursion (λ (kept : Kept). All (λ e. e.seq < later.clock.seq) kept.1) one.kept), tt)
 apart_more front longer (p ∷ passed) one begins less apart stand = (
   AllByRecursion-weaker (λ (kept : Kept). Stand p.clock.seq kept.1 front) (λ (kept : Kept). Stand p.clock.seq kept.1 longer) (λ kept s. stand_more p.clock.seq p.clock.seq kept.1 front longer (le_refl p.clock.seq) s begins) p.kept apart.0,
-  all_more (λ (later : Passed). AllByRecursion (λ (kept : Kept). All (λ e. e.seq < later.clock.seq) kept.1) p.kept) passed one apart.1
+  All-push (λ (later : Passed). AllByRecursion (λ (kept : Kept). All (λ e. e.seq < later.clock.seq) kept.1) p.kept) passed one apart.1
       (AllByRecursion-weaker (λ (kept : Kept). Stand p.clock.seq kept.1 front) (λ (kept : Kept). All (λ e. e.seq < one.clock.seq) kept.1) (λ kept s. all_within p.clock.seq one.clock.seq kept.1 front s less) p.kept apart.0),
   apart_more front longer passed one begins less apart.2 stand,
 )
@@ -107,9 +92,9 @@ knows_more may before set after op seen count kept seat jobs ends passed knows a
     let stands = kept_stand may (view_of set).known (view_of after).front seat jobs ends kept some runs in
     let begins : IsPrefix (view_of before).front (view_of set).front = subst (IsPrefix (view_of before).front) (sym acts.front) (front_more (view_of before).front acts.journal (acts.journal ++ one.clock ∷ []) acts.finds.front (one.clock ∷ [], refl)) in
     record {
-      own = run.own ∙ (acts.own ∙ (ap (λ l. l ++ one.clock ∷ []) knows.own ∙ sym (map_more (λ (p : Passed). p.clock) passed one)));
-      joined = run.joined ∙ (ap (λ l. l ++ kept) (acts.same.joined ∙ knows.joined) ∙ sym (flat_more (λ (p : Passed). p.kept) passed one));
-      seats = all_more (λ (p : Passed). All (λ (k : Kept). 0 < k.0) p.kept) passed one knows.seats (All-from_recursion (λ (k : Kept). 0 < k.0) kept stands.1);
+      own = run.own ∙ (acts.own ∙ (ap (λ l. l ++ one.clock ∷ []) knows.own ∙ sym (map-push (λ (p : Passed). p.clock) passed one)));
+      joined = run.joined ∙ (ap (λ l. l ++ kept) (acts.same.joined ∙ knows.joined) ∙ sym (flat_map-push (λ (p : Passed). p.kept) passed one));
+      seats = All-push (λ (p : Passed). All (λ (k : Kept). 0 < k.0) p.kept) passed one knows.seats (All-from_recursion (λ (k : Kept). 0 < k.0) kept stands.1);
       apart = apart_more (view_of before).front (view_of after).front passed one (front_more (view_of before).front (view_of set).front (view_of after).front begins run.front) (omega (arith, found, number)) knows.apart
           (subst (λ (n : ℕ). AllByRecursion (λ (k : Kept). Stand n k.1 (view_of after).front) kept) same stands.0);
     }

@@ -4,6 +4,7 @@ use Rattle.std.specs.Prelude.{Ok, Err, Result}
 use Rattle.std.specs.List.{list_any}
 use Rattle.std.proofs.lemmas.List.Elements.{All-head, All-tail, All-weaker}
 use Rattle.list_core.proofs.Membership.{any_of_member}
+use Rattle.list_core.proofs.Bools.{or_false}
 use Rattle.world_turn.specs.declared.view.View.{View as Known}
 use Rattle.script_workers.specs.declared.phase.Phase.{Phase}
 use Rattle.script_running.specs.Gathering.{HaveCome}
@@ -16,10 +17,6 @@ use Rattle.script_running.specs.declared.worker.WorkerEnd.{WorkerEnd}
 
 abbrev Came : Type 0
 Came = Result (Unit {0}) Broken
-
-pub or_none : (b : Bool) → (b || false) ≡ b
-or_none true = refl
-or_none false = refl
 
 not_full : (came : Came) → came ≢ Err broken.Full → is_full_came came ≡ false
 not_full (Ok done) never = refl
@@ -60,20 +57,20 @@ clock_tells phase before after (Err broken.NoMemory) set = set.refused
 
 -- the workers behind it
 pub phase_tells : (first clock last any : Bool) (came : Came) → clock ≡ (first || false) → last ≡ (clock || any) → any ≡ is_full_came came → last ≡ (first || is_full_came came)
-phase_tells first clock last any came set is told = is ∙ ap (λ (b : Bool). b || any) (set ∙ or_none first) ∙ ap (λ (b : Bool). first || b) told
+phase_tells first clock last any came set is told = is ∙ ap (λ (b : Bool). b || any) (set ∙ or_false first) ∙ ap (λ (b : Bool). first || b) told
 
 pub clock_done : (phase : Phase) (before after : Known) (came : Came) → came ≡ Ok tt → IsClockSet phase before after came → after.refused ≡ (before.refused || false)
 clock_done phase before after came is set = clock_tells phase before after came set ∙ ap (λ (c : Came). before.refused || is_full_came c) is
 
 -- a phase that came to its end met nothing
 pub on_tells : (first mid last : Bool) (came : Came) → mid ≡ first → last ≡ (mid || is_full_came came) → came ≡ Ok tt → last ≡ first
-on_tells first mid last came same is done = is ∙ ap (λ (c : Came). mid || is_full_came c) done ∙ or_none mid ∙ same
+on_tells first mid last came same is done = is ∙ ap (λ (c : Came). mid || is_full_came c) done ∙ or_false mid ∙ same
 
 pub off_tells : (first mid last : Bool) (came : Came) (why : Broken) → mid ≡ first → last ≡ (mid || is_full_came came) → came ≡ Err why → last ≡ (first || is_full_came {X = Unit {0}} (Err why))
 off_tells first mid last came why same is off = is ∙ ap (λ (c : Came). mid || is_full_came c) off ∙ ap (λ (b : Bool). b || is_full_came {X = Unit {0}} (Err why)) same
 
 pub all_tell : (first last : Bool) → last ≡ first → last ≡ (first || false)
-all_tell first last same = same ∙ sym (or_none first)
+all_tell first last same = same ∙ sym (or_false first)
 
 -- ---- want of memory
 
@@ -92,7 +89,7 @@ come_unwanted ends (Ok done) all is = none_short ends all
 come_unwanted ends (Err why) all is = absurd (cc is)
 
 pub clock_unwanted : (phase : Phase) (before after : Known) (came : Came) → IsClockSet phase before after came → came ≡ Ok tt → before.wanted ≡ false → after.wanted ≡ false
-clock_unwanted phase before after (Ok done) set is none = (set.1).wanted ∙ or_none before.wanted ∙ none
+clock_unwanted phase before after (Ok done) set is none = (set.1).wanted ∙ or_false before.wanted ∙ none
 clock_unwanted phase before after (Err why) set is none = absurd (cc is)
 
 pub phase_unwanted : (last clock any : Bool) → clock ≡ false → any ≡ false → (IsTrue last → IsTrue clock ⊎ IsTrue any) → last ≡ false

@@ -5,6 +5,7 @@ use Rattle.std.specs.List.{All, AllZip}
 use Rattle.std.proofs.lemmas.List.Elements.{All-cons, All-contains, All-head, All-nil}
 use Rattle.list_core.proofs.Lists.{All-append_left, All-append_right, take_none, take_place}
 use Rattle.list_core.proofs.Membership.{contains_place}
+use Rattle.list_core.proofs.Pairs.{AllZip-push}
 use Rattle.script_workers.specs.declared.worker.Worker.{Worker}
 use Rattle.lifecycle_core.specs.Holdings.{Holdings, holding_of, nothing_held}
 use Rattle.script_running.specs.Beside.{AreSeen}
@@ -25,12 +26,6 @@ apart_before (x ∷ workers) zero w gateway apart at is = subst (All (NotOf gate
 apart_before (x ∷ workers) (suc k) w gateway apart at is =
     All-cons (NotOf gateway) x (take k workers) (λ same. All-contains (NotOf gateway) workers w (apart.0 gateway same) (contains_place workers k w at) is) (apart_before workers k w gateway apart.1 at is)
 
-pub zip_more : {A B : Type 0} (R : A → B → Type 0) (xs : List A) (ys : List B) (x : A) (y : B) → AllZip R xs ys → R x y → AllZip R (xs ++ x ∷ []) (ys ++ y ∷ [])
-zip_more R [] [] x y all is = (is, tt)
-zip_more R [] (b ∷ ys) x y all is = absurd all
-zip_more R (a ∷ xs) [] x y all is = absurd all
-zip_more R (a ∷ xs) (b ∷ ys) x y all is = (all.0, zip_more R xs ys x y all.1 is)
-
 -- so many workers were sent, and what the other gateways see by is there
 pub record AreSent (loan : Loan) (number : ℕ) (workers : List Worker) (before sights : List Sight) (posts : List Post) : Type 0 where
   pub sent : (held : Holdings) → AreSeen held before → AllZip (IsPostOf loan number held) workers posts
@@ -45,7 +40,7 @@ pub one_sent : (loan : Loan) (number k : ℕ) (workers : List Worker) (w : Worke
 one_sent loan number k workers w before sights next posts more post apart at s its phase worker taken is =
     subst (λ (ws : List Worker). AreSent loan number ws before next more) (sym (take_place workers k w at))
     (subst (λ (ps : List Post). AreSent loan number (take k workers ++ w ∷ []) before next ps) (sym is) (record {
-      sent = λ held seen. zip_more (IsPostOf loan number held) (take k workers) posts w post (s.sent held seen) (record {
+      sent = λ held seen. AllZip-push (IsPostOf loan number held) (take k workers) posts w post (s.sent held seen) (record {
         loan_is = its;
         phase_is = phase;
         worker_is = worker;

@@ -6,7 +6,7 @@ use Rattle.std.proofs.Math.ListN.{set, length-set}
 use Rattle.std.proofs.lemmas.List.Elements.{All-cons, All-contains, All-nil, All-push, All-weaker, Contains-append_left, Contains-append_right}
 use Rattle.std.proofs.lemmas.List.{drop_all}
 use Rattle.std.proofs.lemmas.Option.{slice_get-get_or, slice_get_within}
-use Rattle.list_core.proofs.Lists.{drop_none, drop_place}
+use Rattle.list_core.proofs.Lists.{drop_none, drop_place, slice_get-set_other}
 use Rattle.list_core.proofs.Membership.{contains_first, contains_later, contains_place, member_cases, no_member}
 use Rattle.script_workers.specs.declared.worker.Worker.{Worker}
 use Rattle.script_running.specs.declared.gathering.Column.{Column}
@@ -24,13 +24,6 @@ pub set_here : {X : Type 0} (xs : List X) (i : ℕ) (y : X) → i < length xs �
 set_here [] i y less = absurd (omega (arith, less))
 set_here (x ∷ xs) zero y less = refl
 set_here (x ∷ xs) (suc i) y less = set_here xs i y (omega (arith, less))
-
-pub set_other : {X : Type 0} (xs : List X) (i j : ℕ) (y : X) → j ≢ i → slice_get (set xs i y) j ≡ slice_get xs j
-set_other [] i j y apart = refl
-set_other (x ∷ xs) zero zero y apart = absurd (apart refl)
-set_other (x ∷ xs) zero (suc j) y apart = refl
-set_other (x ∷ xs) (suc i) zero y apart = refl
-set_other (x ∷ xs) (suc i) (suc j) y apart = set_other xs i j y (λ same. apart (ap suc same))
 
 -- a place is the one that was written, or it is another
 pub same_or : (i j : ℕ) → (j ≡ i) ⊎ (j ≢ i)
@@ -78,7 +71,7 @@ lays_nowhere parts slots = record {
 set_filled : (slots : List (Option Part)) (p : ℕ) (x : Part) (q : ℕ) → p < length slots → HasPart slots q → HasPart (set slots p (Some x)) q
 set_filled slots p x q within filled = elim (same_or p q) [
   | inl same ↦ (x, ap (slice_get (set slots p (Some x))) same ∙ set_here slots p (Some x) within)
-  | inr apart ↦ (filled.0, set_other slots p q (Some x) apart ∙ filled.1)
+  | inr apart ↦ (filled.0, slice_get-set_other slots p q (Some x) apart ∙ filled.1)
 ]
 
 same_inside : (x o : Part) (at : Option (Option Part)) → at ≡ Some (Some x) → at ≡ Some (Some o) → x ≡ o
@@ -96,7 +89,7 @@ lays_one p places x parts old new within l = record {
       | inl same ↦
           let value : x ≡ o = same_inside x o (slice_get (set old p (Some x)) place) (ap (slice_get (set old p (Some x))) same ∙ set_here old p (Some x) within) here in
           inr (subst (λ (r : ℕ × Part). Contains ((p, x) ∷ zip places parts) r) (ap (λ (n : ℕ). (n, x)) (sym same) ∙ ap (λ (y : Part). (place, y)) value) (contains_first (p, x) (zip places parts)))
-      | inr apart ↦ inl (sym (set_other old p place (Some x) apart) ∙ here)
+      | inr apart ↦ inl (sym (slice_get-set_other old p place (Some x) apart) ∙ here)
     ]
   ];
   kept = λ place filled. l.kept place (set_filled old p x place within filled);
@@ -146,7 +139,7 @@ laid_gateway gateway places parts old new before after uploads is at l = record 
     here = ap (λ (cs : List Column). slice_get cs gateway) is ∙ set_here old.gateways.items gateway after within
 
     there : (other : ℕ) → other ≢ gateway → slice_get new.gateways.items other ≡ slice_get old.gateways.items other
-    there other apart = ap (λ (cs : List Column). slice_get cs other) is ∙ set_other old.gateways.items gateway other after apart
+    there other apart = ap (λ (cs : List Column). slice_get cs other) is ∙ slice_get-set_other old.gateways.items gateway other after apart
 
     -- what holds of the other columns, and of this one
     each : (other : Option ℕ) (place : ℕ) → HasSlot old other place → HasSlot new other place

@@ -1,11 +1,12 @@
 -- The slots of a phase's tasks, emptied one task after another.
-use Rattle.std.proofs.Common.{◌≡◌, ◌≢◌, ◌⊎◌, inl, inr, ℕ, ℤ, zero, suc, ◌+◌, ◌<◌, ◌≤◌, List, [], ◌∷◌, ◌++◌, length, length-append, length-take, get_or, take, map, Option, Some, None, refl, sym, ◌∙◌, ap, subst, arith, append-nil, append_assoc}
+use Rattle.std.proofs.Common.{◌≡◌, ◌≢◌, ◌⊎◌, inl, inr, ℕ, ℤ, suc, ◌+◌, ◌<◌, ◌≤◌, List, [], ◌∷◌, ◌++◌, length, length-append, length-take, get_or, take, map, Option, Some, None, refl, sym, ◌∙◌, ap, subst, arith, append-nil, append_assoc}
 use Rattle.std.specs.Prelude.{OnOk, Result, slice_get}
 use Rattle.std.specs.List.{flat_map, range_with_len}
 use Rattle.std.proofs.Math.ListN.{set, length-set}
 use Rattle.std.proofs.lemmas.List.{flat_map_more, map-id}
 use Rattle.std.proofs.lemmas.List.FromFn.{map-range_with_len_more}
-use Rattle.list_core.proofs.Lists.{take_place}
+use Rattle.std.proofs.lemmas.Option.{slice_get_past}
+use Rattle.list_core.proofs.Lists.{take_place, slice_get-set_other}
 use Rattle.script_workers.specs.Hands.{gateway_of, hands_of_task}
 use Rattle.script_workers.specs.declared.hand.Hand.{Hand}
 use Rattle.script_workers.specs.declared.hand.Hand.TheVariants as hands
@@ -18,7 +19,7 @@ use Rattle.script_running.specs.declared.gathering.Slots.{Slots}
 use Rattle.script_running.specs.declared.outcome.Outcome.{Outcome}
 use Rattle.script_running.specs.declared.part.Part.{Part}
 use Rattle.script_running.proofs.AllParts.{few_parts}
-use Rattle.script_running.proofs.Taking.{found, same_or, set_here, set_other}
+use Rattle.script_running.proofs.Taking.{found, same_or, set_here}
 
 -- ---- one slot
 
@@ -42,26 +43,21 @@ gateway_taken place gateway old new before after uploads is at now others = reco
     each None other apart = ap (λ (c : Column). slice_get c.slots.items other) uploads
     each (Some own) other apart = elim (same_or gateway own) [
       | inl same ↦ by own other apart same
-      | inr differ ↦ ap (λ (cs : List Column). slot_in (slice_get cs own) other) is ∙ ap (λ (c : Option Column). slot_in c other) (set_other old.gateways.items gateway own after differ)
+      | inr differ ↦ ap (λ (cs : List Column). slot_in (slice_get cs own) other) is ∙ ap (λ (c : Option Column). slot_in c other) (slice_get-set_other old.gateways.items gateway own after differ)
     ]
 
 -- ---- what lies in a slot
-
-past_none : {X : Type 0} (xs : List X) (place : ℕ) → length xs ≤ place → slice_get xs place ≡ None
-past_none [] place past = refl
-past_none (x ∷ xs) zero past = absurd (omega (arith, past))
-past_none (x ∷ xs) (suc place) past = past_none xs place (omega (arith, past))
 
 none_laid : (parts : List Part) (slot : Option (Option Part)) → laid_in slot ≡ [] → parts ≡ parts ++ laid_in slot
 none_laid parts slot is = sym (append-nil parts) ∙ ap (λ (l : List Part). parts ++ l) (sym is)
 
 -- there is no such slot
 pub past_laid : (parts : List Part) (slots : List (Option Part)) (place : ℕ) → length slots ≤ place → parts ≡ parts ++ laid_in (slice_get slots place)
-past_laid parts slots place past = none_laid parts (slice_get slots place) (ap laid_in (past_none slots place past))
+past_laid parts slots place past = none_laid parts (slice_get slots place) (ap laid_in (slice_get_past slots place past))
 
 pub past_columns : (parts : List Part) (columns : List Column) (gateway place : ℕ) → length columns ≤ gateway → parts ≡ parts ++ laid_in (slot_in (slice_get columns gateway) place)
 past_columns parts columns gateway place past =
-    none_laid parts (slot_in (slice_get columns gateway) place) (ap (λ (c : Option Column). laid_in (slot_in c place)) (past_none columns gateway past))
+    none_laid parts (slot_in (slice_get columns gateway) place) (ap (λ (c : Option Column). laid_in (slot_in c place)) (slice_get_past columns gateway past))
 
 slot_is : (slots : List (Option Part)) (place : ℕ) (slot inside : Option Part) → place < length slots → slot ≡ get_or slots place slot → slot ≡ inside → slice_get slots place ≡ Some inside
 slot_is slots place slot inside within value is = found slots place place slot refl within value ∙ ap (λ (s : Option Part). Some s) is
@@ -90,7 +86,7 @@ column_taken place gateway old new before after uploads put within value others 
 
 -- the other columns are as they were
 pub column_apart : (columns : List Column) (gateway other place : ℕ) (after : Column) → other ≢ gateway → slot_in (slice_get (set columns gateway after) other) place ≡ slot_in (slice_get columns other) place
-column_apart columns gateway other place after apart = ap (λ (c : Option Column). slot_in c place) (set_other columns gateway other after apart)
+column_apart columns gateway other place after apart = ap (λ (c : Option Column). slot_in c place) (slice_get-set_other columns gateway other after apart)
 
 -- ---- one task after another
 

@@ -4,16 +4,16 @@ use Rattle.std.specs.Prelude.{Some, Result, Ok, Err, IfOk, slice_get}
 use Rattle.std.specs.List.{AllZip}
 use Rattle.std.proofs.lemmas.List.{take_all}
 use Rattle.std.proofs.lemmas.List.Elements.{All-contains}
+use Rattle.std.proofs.lemmas.Slice.Zip.{AllZip-long}
 use Rattle.list_core.proofs.Lists.{take_place}
 use Rattle.list_core.proofs.Membership.{contains_place}
+use Rattle.list_core.proofs.Pairs.{AllZip-push}
 use Rattle.matchers.specs.SelectorRefusals.{IsReadable}
 use Rattle.matchers.specs.SelectorText.{IsSelectorText}
 use Rattle.matchers.specs.declared.matcher.Matcher.{Matcher}
 use Rattle.script_core.specs.Lawful.{IsLawfulScript, IsLawfulSelector}
 use Rattle.script_core.specs.declared.script.Script.{Script}
 use Rattle.script_running.specs.Lending.{AreTextsOf}
-use Rattle.script_running.proofs.AllParts.{zip_long}
-use Rattle.script_running.proofs.Sending.{zip_more}
 use Rattle.script_running.proofs.Taking.{found}
 use Rattle.script_running.proofs.WorkerSteps.{got}
 
@@ -30,7 +30,7 @@ pub one_kept : (selectors : List (List Matcher)) (number : ℕ) (selector : List
 one_kept selectors number selector texts more text own below is spelled same are kept =
     let at = found selectors number number selector refl below is in
     subst (λ (l : List (List Matcher)). AreTextsOf l more) (sym (take_place selectors number selector at))
-    (subst (AreTextsOf (take number selectors ++ selector ∷ [])) (sym are) (zip_more IsTextOf (take number selectors) texts selector own kept (subst (λ (t : List ℕ). IsSelectorText t selector) (sym same) spelled)))
+    (subst (AreTextsOf (take number selectors ++ selector ∷ [])) (sym are) (AllZip-push IsTextOf (take number selectors) texts selector own kept (subst (λ (t : List ℕ). IsSelectorText t selector) (sym same) spelled)))
 
 pub all_kept : (selectors : List (List Matcher)) (number : ℕ) (texts : List (List ℕ)) → length selectors ≤ number → AreTextsOf (take number selectors) texts → AreTextsOf selectors texts
 all_kept selectors number texts all kept = subst (λ (l : List (List Matcher)). AreTextsOf l texts) (take_all number selectors all) kept
@@ -51,7 +51,7 @@ read_so selectors number selector (Ok read) at same = at ∙ ap (λ s. Some s) (
 read_so selectors number selector (Err e) at same = tt
 
 pub texts_long : (selectors : List (List Matcher)) (texts : List (List ℕ)) → AreTextsOf selectors texts → length texts ≡ length selectors
-texts_long selectors texts kept = zip_long IsTextOf selectors texts kept
+texts_long selectors texts kept = AllZip-long IsTextOf selectors texts kept
 
 -- what is read from the text at a place is the selector there
 pub read_again : {E : Type 0} (script : Script) (texts replicas : List (List ℕ)) (number : ℕ) (r : Result (List Matcher) E) → IsLawfulScript script → replicas ≡ script.rules.replicas → AreTextsOf script.selectors texts → number < length script.selectors

@@ -26,6 +26,7 @@ use Rattle.script_running.specs.declared.came.Broken.TheVariants as broken
 use Rattle.script_running.specs.declared.part.Part.{Part}
 use Rattle.script_running.specs.declared.sight.Sight.{Sight}
 use Rattle.script_running.specs.declared.worker.WorkerEnd.{WorkerEnd}
+use Rattle.list_core.proofs.Bools.{or_false}
 
 -- ---- the tasks at places
 
@@ -73,10 +74,6 @@ parts_on (a ∷ own) more (e ∷ ends) [] are = absurd are
 parts_on (a ∷ own) more (e ∷ ends) (o ∷ parts) are = (are.0, parts_on own more ends parts are.1)
 
 -- ---- what was refused
-
-or_false : (b : Bool) → (b || false) ≡ b
-or_false true = refl
-or_false false = refl
 
 -- a task that came to its end was refused nothing
 pub refused_none : (first mid new : Bool) (came : Came) (o : Part) → new ≡ (mid || is_full_came came) → came ≡ Ok o → mid ≡ first → new ≡ first

@@ -29,11 +29,11 @@ hands_equal (Alone one) (Gateway other) e = absurd cc
 hands_equal (Gateway one) (Alone other) e = absurd cc
 hands_equal (Gateway one) (Gateway other) e = let same : one ≡ other = grind (arith, nat_tests) in ap Gateway same
 
-itself : (hand : Hand) → same_hand hand hand ≡ true
+pub itself : (hand : Hand) → same_hand hand hand ≡ true
 itself (Alone place) = grind (arith, nat_tests)
 itself (Gateway gateway) = grind (arith, nat_tests)
 
-swapped : (one other : Hand) → same_hand one other ≡ same_hand other one
+pub swapped : (one other : Hand) → same_hand one other ≡ same_hand other one
 swapped (Alone one) (Alone other) = grind (arith, nat_tests)
 swapped (Alone one) (Gateway other) = refl
 swapped (Gateway one) (Alone other) = refl

@@ -6,10 +6,10 @@ use Rattle.std.specs.List.Sorted.{IsStrictlySortedBy}
 use Rattle.std.specs.Ordering.{nat_cmp}
 use Rattle.std.specs.declared.cmp.Ordering.TheVariants.{Less}
 use Rattle.std.proofs.lemmas.Bool.{cond_both, false_from_ne_true}
-use Rattle.std.proofs.lemmas.Bool.Decides.{nat_tests}
 use Rattle.std.proofs.lemmas.List.Elements.{All-nil, All-cons, All-head, All-tail, All-push, All-weaker, All-from_recursion, All-contains_itself, Contains-append_left}
 use Rattle.std.proofs.lemmas.List.Quantifiers.{all_pairs_push}
 use Rattle.list_core.proofs.Membership.{contains_first, contains_later}
+use Rattle.list_core.proofs.Bools.{nat_cmp-Less}
 use Rattle.script_workers.specs.declared.hand.Hand.{Hand}
 use Rattle.script_workers.specs.declared.hand.Hand.TheVariants.{Alone, Gateway}
 use Rattle.script_workers.specs.declared.task.Task.{Task}
@@ -51,14 +51,11 @@ each_from gateways hand base (first ∷ tasks) (suc k) place task is at does_it 
     let held = each_from gateways hand (base + 1) tasks k place task is (omega (arith, at)) does_it in
     cond_both (does gateways hand base first.work) (base ∷ later) later (λ places. Contains places place) (λ _. contains_later base place later held) (λ _. held)
 
-less : (one other : ℕ) → one < other → nat_cmp one other ≡ Less
-less one other below = grind (arith, nat_tests)
-
 above_from : (gateways : ℕ) (hand : Hand) (x base : ℕ) (tasks : List Task) → x < base → AllByRecursion (λ y. nat_cmp x y ≡ Less) (places_from gateways hand base tasks)
 unfolding places_from
 above_from gateways hand x base [] below = tt
 above_from gateways hand x base (task ∷ tasks) below =
-    all_cond (λ y. nat_cmp x y ≡ Less) base (places_from gateways hand (base + 1) tasks) (does gateways hand base task.work) (λ _. less x base below)
+    all_cond (λ y. nat_cmp x y ≡ Less) base (places_from gateways hand (base + 1) tasks) (does gateways hand base task.work) (λ _. nat_cmp-Less x base below)
     (above_from gateways hand x (base + 1) tasks (omega (arith, below)))
 
 ascend_from : (gateways : ℕ) (hand : Hand) (base : ℕ) (tasks : List Task) → IsStrictlySortedBy nat_cmp (places_from gateways hand base tasks)

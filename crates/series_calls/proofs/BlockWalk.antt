@@ -5,6 +5,8 @@ use Rattle.std.specs.List.{AllByRecursion, AllZip, flat_map}
 use Rattle.std.specs.List.Sorted.{IsStrictlyIncreasing}
 use Rattle.std.specs.Map.{lookup}
 use Rattle.list_core.proofs.Membership.{all_members}
+use Rattle.list_core.proofs.Lists.{AllByRecursion-push}
+use Rattle.list_core.proofs.Pairs.{AllZip-weaker_where, AllZip-append}
 use Rattle.std.proofs.lemmas.Bool.{eqb-true}
 use Rattle.std.proofs.lemmas.List.{map-append}
 use Rattle.block_keys.specs.declared.key.Key.{Key}
@@ -43,7 +45,7 @@ use Rattle.read_ranges.specs.Stretches.{Stretch, members}
 use Rattle.chunk_ranges.specs.BlockReads.{reads_block, shown, taken}
 use Rattle.read_ranges.specs.Reads.{Block, Break, Cache, Query, Reached, by_cache, damaged, fault, if_read, kept, missing, range_of, reads, sized, takes, used}
 use Rattle.series_calls.proofs.BlockFindings.{AreChunksRead, AreSeries, AreTables, AreTaken, IsChunkRead, IsFull, IsReadFull, IsSeriesRead, IsSoughtOf, IsSpoilt, IsWithin, LackLists, LacksChunks, SticksOut, no_chunk, no_index, no_key, no_list, no_series}
-use Rattle.series_calls.proofs.ReadLists.{each_read, hold_runs, lists_some, near_groups, none_behind, numbers_of, ok_read, one_more, shown_is, sought_groups, symbols_some, table_some, zip_append, zip_with}
+use Rattle.series_calls.proofs.ReadLists.{each_read, hold_runs, lists_some, near_groups, none_behind, numbers_of, ok_read, shown_is, sought_groups, symbols_some, table_some}
 
 -- `Fine` holds of the cache as it is, `Given` of the entries, and `Asks` of what is asked for. `Known` holds of the bytes of a range that
 -- was read or kept, and `Whole` of those of an object that was read.
@@ -158,8 +160,8 @@ module _ {E : Type 0} (breaks : Break → Cache → E) (Holds : List Entry → P
         (λ made reach bytes full fine. if_holds made (each_at (numbered_at (known (part_at run.piece bytes)) symbols) run.numbers) _ (falls_back breaks query block next reach)
         (λ more read_so. runs_hold symbols next on runs made reach (series ++ more) hold.1
         (λ rest later. subst Series (sym (append_assoc series more rest))
-        (so (more ++ rest) (zip_append (ReadSo symbols) run.numbers (flat_map (λ (r : Run). r.numbers) runs) more rest
-        (zip_with (λ number. run.piece.from ≤ 16 * number) (λ number one. numbered_at (known (part_at run.piece bytes)) symbols number ≡ Ok one) (ReadSo symbols)
+        (so (more ++ rest) (AllZip-append (ReadSo symbols) run.numbers (flat_map (λ (r : Run). r.numbers) runs) more rest
+        (AllZip-weaker_where (λ number. run.piece.from ≤ 16 * number) (λ number one. numbered_at (known (part_at run.piece bytes)) symbols number ≡ Ok one) (ReadSo symbols)
         (λ number one begins reads_as. record { piece = run.piece; begins = begins; read_so = record { bytes = bytes; full = full; reads_as = reads_as } })
         run.numbers more hold.0.1 (each_read (numbered_at (known (part_at run.piece bytes)) symbols) run.numbers more read_so)) later))) fine)
         (λ err. falls_hold next on made reach fine)) made fine
@@ -260,7 +262,7 @@ module _ {E : Type 0} (breaks : Break → Cache → E) (Holds : List Entry → P
     out_holds stretch next ((reference, shows samples) ∷ chunks) done fit on made all are same =
         out_holds stretch next chunks (done ++ reference ∷ []) fit.1
         (subst (AfterReads next) (sym (append_assoc done (reference ∷ []) (map (λ (chunk : ℕ × Glimpse). chunk.0) chunks))) on)
-        made (all ++ read reference samples ∷ []) (one_more (IsChunkRead Known Whole ulid tests) all (read reference samples) are fit.0)
+        made (all ++ read reference samples ∷ []) (AllByRecursion-push (IsChunkRead Known Whole ulid tests) all (read reference samples) are fit.0)
         (map-append (λ (one : Read). one.reference) all (read reference samples ∷ []) ∙ ap (λ l. l ++ reference ∷ []) same)
     out_holds stretch next ((reference, sticks_out len) ∷ chunks) done fit on made all are same =
         read_holds made (GetRange (Segment ulid (segment_of stretch.first)) (offset_of reference) len) cache _
@@ -269,7 +271,7 @@ module _ {E : Type 0} (breaks : Break → Cache → E) (Holds : List Entry → P
         (λ samples reads_as. out_holds stretch next chunks (done ++ reference ∷ []) fit.1
         (subst (AfterReads next) (sym (append_assoc done (reference ∷ []) (map (λ (chunk : ℕ × Glimpse). chunk.0) chunks))) on)
         (made ++ e ∷ []) (all ++ read reference samples ∷ [])
-        (one_more (IsChunkRead Known Whole ulid tests) all (read reference samples) are
+        (AllByRecursion-push (IsChunkRead Known Whole ulid tests) all (read reference samples) are
         (alone reference len samples bytes (there reference len fit.0 e bytes is_op given so) reads_as))
         (map-append (λ (one : Read). one.reference) all (read reference samples ∷ []) ∙ ap (λ l. l ++ reference ∷ []) same))
         (λ err. no_chunks (made ++ e ∷ []) e.seq stretch (inr (reference, len, fit.0, bytes, there reference len fit.0 e bytes is_op given so, err))))

@@ -6,6 +6,7 @@ use Rattle.std.specs.List.Sorted.{IsStrictlyIncreasing}
 use Rattle.std.proofs.lemmas.Bool.{ltb-true, ne_eqb}
 use Rattle.list_core.proofs.Lists.{filter_hit, filter_miss}
 use Rattle.list_core.proofs.Membership.{contains_first, contains_later, into_filter, into_map, member_passes, of_filter, of_map}
+use Rattle.list_core.proofs.Pairs.{AllZip-weaker}
 use Rattle.reading_core.specs.Grammar.{IsBytes}
 use Rattle.reading_core.proofs.Binds.{ok_is}
 use Rattle.reading_core.proofs.Fronts.{IsBytes-drop, IsBytes-take}
@@ -50,7 +51,7 @@ use Rattle.block_keys.specs.declared.key.Key.TheVariants.{Index}
 use Rattle.series_calls.proofs.BlockFindings.{AreOfRanges, AreOfWhole, AreSeries, AreTaken, IsFull, IsSeriesRead}
 use Rattle.series_calls.proofs.ExactSelection.{selection_stands}
 use Rattle.series_calls.proofs.PartLaws.{is_part, list_in_index, one_series, series_in_index, toc_in_index}
-use Rattle.series_calls.proofs.ReadLists.{symbols_there, table_there, zip_weaker}
+use Rattle.series_calls.proofs.ReadLists.{symbols_there, table_there}
 
 -- ---- sections
 
@@ -169,7 +170,7 @@ module _ (query : Query) (block : Block) (index : List ℕ) (indexed : List Inde
         record {
           numbers = read.numbers;
           selection = selection_stands (file I) I block.external is.opened.rows query.selector read.numbers (file_is I) are taken.lists_read taken.taken;
-          stand = zip_weaker (λ number one. numbered_at I is.opened.symbols number ≡ Ok one) (IsSeriesOf I is.opened.symbols)
+          stand = AllZip-weaker (λ number one. numbered_at I is.opened.symbols number ≡ Ok one) (IsSeriesOf I is.opened.symbols)
               (λ number one so. numbered_found I is.opened.symbols number one are so) read.numbers series reads;
         }
 
@@ -199,7 +200,7 @@ module _ (query : Query) (block : Block) (index : List ℕ) (indexed : List Inde
         selection_stands lists I block.external read.rows query.selector read.numbers (piece_part (section_piece read.toc read.size read.toc.postings) read.lists read.lists_full)
         (piece_bytes (section_piece read.toc read.size read.toc.postings) read.lists read.lists_full.known_so) read.taken.lists_read read.taken.taken in
         let stand : AllZip (IsSeriesOf I read.symbols) read.numbers series =
-        zip_weaker (IsSeriesRead Known Whole query block read.symbols) (IsSeriesOf I read.symbols)
+        AllZip-weaker (IsSeriesRead Known Whole query block read.symbols) (IsSeriesOf I read.symbols)
         (λ number one so. series_in_index (part_at so.piece so.read_so.bytes) I read.symbols number one (piece_part so.piece so.read_so.bytes so.read_so.full) so.begins
         (piece_bytes so.piece so.read_so.bytes so.read_so.full.known_so) so.read_so.reads_as) read.numbers series read.read_so in
         record {

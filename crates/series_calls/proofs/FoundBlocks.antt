@@ -2,14 +2,15 @@
 use Rattle.std.proofs.Common.{◌≡◌, ◌≢◌, ℕ, ℤ, ◌+◌, ◌-◌, ◌/◌, ◌%◌, ◌^◌, ◌<◌, ◌≤◌, ◌≤ℤ◌, ◌<ℤ◌, Bool, true, List, [], ◌∷◌, ◌++◌, take, drop, length, Option, Some, None, Ok, refl, sym, ap, subst, ◌∙◌, inl, inr, append-nil, arith}
 use Rattle.std.specs.Prelude.{Contains, IsErr, IfSome, int_le, int_lt, nat_le, nat_lt, option_map, slice_get, ◌&&◌, ◌==◌}
 use Rattle.std.specs.List.{AllByRecursion, AllZip, flat_map}
-use Rattle.std.proofs.lemmas.Bool.{and_from, eqb-true, true≢false}
+use Rattle.std.proofs.lemmas.Bool.{eqb-true, true≢false}
 use Rattle.std.proofs.lemmas.Bool.Decides.{Decides-int_eq}
 use Rattle.std.proofs.lemmas.Int.{ints}
 use Rattle.std.proofs.lemmas.List.{drop-drop, drop-take, length-append, length-drop}
 use Rattle.std.proofs.lemmas.List.Elements.{recursion_from_All}
-use Rattle.std.proofs.lemmas.Option.{slice_get_within, slice_get-map}
+use Rattle.std.proofs.lemmas.Option.{slice_get_within}
 use Rattle.std.proofs.Math.Seq.{take-append_seam}
-use Rattle.list_core.proofs.Membership.{all_of_members, contains_first, contains_later, contains_place, each_member, into_flat_map, member_cases, member_passes, no_member, of_filter, of_flat_map, of_map}
+use Rattle.list_core.proofs.Membership.{all_of_members, contains_place, each_member, into_flat_map, member_passes, of_filter, of_flat_map, of_map}
+use Rattle.list_core.proofs.Pairs.{AllZip-second}
 use Rattle.reading_core.specs.Grammar.{IsBytes}
 use Rattle.reading_core.proofs.Binds.{ok_is}
 use Rattle.label_sets.specs.Triples.{Triple}
@@ -36,6 +37,7 @@ use Rattle.index_cache.specs.Caches.{same_range}
 use Rattle.index_cache.specs.declared.range.Range.{Range}
 use Rattle.block_content.specs.Content.{HaveTimesOf, HoldsSeries, IsChunkOf, times_of}
 use Rattle.block_content.specs.ContentReading.{are_some, have_times_of, is_time}
+use Rattle.block_content.proofs.ChunksRead.{times_again, timed_are_there}
 use Rattle.reading_core.proofs.FirstLaws.{some_is}
 use Rattle.reading_core.specs.Firsts.{each_at}
 use Rattle.world_core.specs.Plans.{Runs, ends}
@@ -74,25 +76,7 @@ time_again : (sample : Option Sample) (time : ℤ) → option_map (λ (s : Sampl
 time_again None time e = absurd (cc (e))
 time_again (Some sample) time e = (Decides-int_eq sample.time time).1 (some_is sample.time time e)
 
-times_again : (place : ChunkPlace) (samples : List Sample) → HaveTimesOf place samples → have_times_of place samples ≡ true
-times_again place samples is = and_from _ _
-    (time_again (slice_get samples 0) place.min (sym (slice_get-map _ samples 0) ∙ is.begins))
-    (time_again (slice_get samples (length samples - 1)) place.max (sym (slice_get-map _ samples (length samples - 1)) ∙ is.ends))
-
-timed_are_there : (place : ChunkPlace) (samples : List Sample) → HaveTimesOf place samples → are_some samples ≡ true
-timed_are_there place [] is = absurd (let none = is.begins in cc (none))
-timed_are_there place (s ∷ samples) is = refl
-
 -- ---- lists
-
-zip_member : {A B : Type 0} (R : A → B → Type 0) (xs : List A) (ys : List B) (x : A) → AllZip R xs ys → Contains xs x → (y : B) × Contains ys y × R x y
-zip_member R [] [] x all has = absurd (no_member x has)
-zip_member R [] (z ∷ ys) x all has = absurd all
-zip_member R (z ∷ xs) [] x all has = absurd all
-zip_member R (z ∷ xs) (y ∷ ys) x all has = elim (member_cases z x xs has) [
-  | inl same ↦ (y, contains_first y ys, subst (λ w. R w y) same all.0)
-  | inr later ↦ let rest = zip_member R xs ys x all.1 later in (rest.0, contains_later y rest.0 ys rest.1, rest.2)
-]
 
 five : (a b c d e : Bool) → a ≡ true → b ≡ true → c ≡ true → d ≡ true → e ≡ true → (a && b && c && d && e) ≡ true
 five a b c d e p q r s t = rw (p, q, r, s, t) refl
@@ -136,8 +120,8 @@ module _ (contents : Contents) (query : Query) (block : Block) (list : List Seri
 
   there : (one : IndexSeries) → Contains holds.indexed one → (place : ChunkPlace) → Contains one.chunks place → IsThere place
   there one among place has =
-      let s = zip_member (HoldsSeries holds.segments) holds.indexed list one holds.series_are among in
-      let p = zip_member (IsChunkOf holds.segments) one.chunks s.2.parts place s.2.chunks_are has in
+      let s = AllZip-second (HoldsSeries holds.segments) holds.indexed list one holds.series_are among in
+      let p = AllZip-second (IsChunkOf holds.segments) one.chunks s.2.parts place s.2.chunks_are has in
       let part : List Sample = p.0 in
       let timed : HaveTimesOf place part = p.2.timed in
       let inside : (x : Sample) → Contains part x → (block.min_time ≤ℤ x.time) × (x.time <ℤ block.max_time) = λ x own.

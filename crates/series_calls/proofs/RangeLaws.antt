@@ -8,6 +8,7 @@ use Rattle.label_sets.specs.Finals.{final_of}
 use Rattle.label_sets.specs.Triples.{Triple, has_same_key, triples_of, triples_under}
 use Rattle.matchers.specs.Selected.{is_between}
 use Rattle.vertical_merge.specs.Merged.{IsMerge}
+use Rattle.vertical_merge.proofs.Laws.{found_contains}
 use Rattle.world_core.specs.Plans.{Runs, ends}
 use Rattle.world_core.specs.declared.entry.Entry.{Entry}
 use Rattle.world_core.proofs.PlanLaws.{EndsAre, end_is, nothing_given}
@@ -20,7 +21,6 @@ use Rattle.chunk_ranges.specs.BlockReads.{BlockEnd, gives, breaks_off, block_cal
 use Rattle.series_calls.specs.SeriesCalls.{Called, took, broke, CallEnd, Gives, SeriesRun, after_block, reading, sources_of, to_read}
 use Rattle.series_calls.specs.declared.series_end.SeriesEnd.TheVariants as ended
 use Rattle.series_calls.proofs.BlockWalk.{block_holds}
-use Rattle.vertical_merge.proofs.OneMerge.{found_contains}
 
 abbrev IsIn : Query → Triple → Type 0
 IsIn query t = is_between query.low query.high t.time ≡ true

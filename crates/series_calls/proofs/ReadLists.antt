@@ -1,6 +1,6 @@
 -- Lists of what is read: members read one by one, groups of references, runs of series.
 use Rattle.std.proofs.Common.{◌≡◌, ℕ, ◌+◌, ◌-◌, ◌<◌, ◌≤◌, ◌*◌, Bool, true, false, List, [], ◌∷◌, ◌++◌, map, drop, Result, Ok, Err, refl, sym, ap, subst, ◌∙◌, arith}
-use Rattle.std.specs.Prelude.{IsOk, nat_le, nat_lt, ◌&&◌}
+use Rattle.std.specs.Prelude.{IsOk, nat_le, nat_lt}
 use Rattle.std.specs.List.{AllByRecursion, AllZip, flat_map, list_all}
 use Rattle.std.specs.List.Sorted.{IsStrictlyIncreasing}
 use Rattle.std.proofs.lemmas.Bool.{and_parts}
@@ -15,6 +15,7 @@ use Rattle.chunk_ranges.specs.ChunkReads.{Tests, chunk_len_at, glimpse, glimpse_
 use Rattle.read_ranges.specs.IndexRanges.{AreRuns, Run, has_bytes, has_sections, run_of, section_piece}
 use Rattle.read_ranges.specs.Stretches.{AreJoined, IsJoined, Stretch, last_behind, last_of, members}
 use Rattle.series_calls.proofs.BlockFindings.{IsWithin}
+use Rattle.list_core.proofs.Bools.{and_first, and_second}
 
 -- ---- members
 
@@ -25,28 +26,6 @@ ok_read (Err e) x is = absurd (cc (is))
 pub each_read : {A B R : Type 0} (read : A → Result B R) (xs : List A) (ys : List B) → each_at read xs ≡ Ok ys → AllZip (λ x y. read x ≡ Ok y) xs ys
 each_read read xs ys is =
     each_found read (λ x y. read x ≡ Ok y) (λ x e. read x ≡ Err e) (record { found = λ x y so. so; again = λ x y so. so; refused = λ x e so. so; refuses = λ x e so. so }) xs ys is
-
-pub zip_append : {A B : Type 0} (R : A → B → Type 0) (xs others : List A) (ys more : List B) → AllZip R xs ys → AllZip R others more → AllZip R (xs ++ others) (ys ++ more)
-zip_append R [] others [] more first later = later
-zip_append R [] others (y ∷ ys) more first later = absurd first
-zip_append R (x ∷ xs) others [] more first later = absurd first
-zip_append R (x ∷ xs) others (y ∷ ys) more first later = (first.0, zip_append R xs others ys more first.1 later)
-
-pub zip_weaker : {A B : Type 0} (R S : A → B → Type 0) → ((x : A) (y : B) → R x y → S x y) → (xs : List A) (ys : List B) → AllZip R xs ys → AllZip S xs ys
-zip_weaker R S so [] [] all = tt
-zip_weaker R S so [] (y ∷ ys) all = absurd all
-zip_weaker R S so (x ∷ xs) [] all = absurd all
-zip_weaker R S so (x ∷ xs) (y ∷ ys) all = (so x y all.0, zip_weaker R S so xs ys all.1)
-
-pub zip_with : {A B : Type 0} (P : A → Type 0) (R S : A → B → Type 0) → ((x : A) (y : B) → P x → R x y → S x y) → (xs : List A) (ys : List B) → AllByRecursion P xs → AllZip R xs ys → AllZip S xs ys
-zip_with P R S both [] [] each all = tt
-zip_with P R S both [] (y ∷ ys) each all = absurd all
-zip_with P R S both (x ∷ xs) [] each all = absurd all
-zip_with P R S both (x ∷ xs) (y ∷ ys) each all = (both x y each.0 all.0, zip_with P R S both xs ys each.1 all.1)
-
-pub one_more : {A : Type 0} (P : A → Type 0) (xs : List A) (x : A) → AllByRecursion P xs → P x → AllByRecursion P (xs ++ x ∷ [])
-one_more P [] x all is = (is, tt)
-one_more P (y ∷ xs) x all is = (all.0, one_more P xs x all.1 is)
 
 -- ---- numbers that ascend
 
@@ -100,27 +79,20 @@ hold_runs toc size all numbers runs rises cut have = each runs (subst Rises (sym
 
 -- ---- sections
 
--- of tests that all hold, joined from the left
-front_true : (a b : Bool) → (a && b) ≡ true → a ≡ true
-front_true a b is = (and_parts a b is).0
-
-last_true : (a b : Bool) → (a && b) ≡ true → b ≡ true
-last_true a b is = (and_parts a b is).1
-
 pub symbols_there : (toc : Toc) (size : ℕ) → has_sections toc size ≡ true → nat_lt 0 toc.symbols ≡ true
-symbols_there toc size has = front_true _ _ (front_true _ _ (front_true _ _ (front_true _ _ (front_true _ _ (front_true _ _ has)))))
+symbols_there toc size has = and_first _ _ (and_first _ _ (and_first _ _ (and_first _ _ (and_first _ _ (and_first _ _ has)))))
 
 pub table_there : (toc : Toc) (size : ℕ) → has_sections toc size ≡ true → nat_lt 0 toc.postings_table ≡ true
-table_there toc size has = last_true _ _ (front_true _ _ (front_true _ _ (front_true _ _ has)))
+table_there toc size has = and_second _ _ (and_first _ _ (and_first _ _ (and_first _ _ has)))
 
 pub symbols_some : (toc : Toc) (size : ℕ) → has_sections toc size ≡ true → has_bytes (section_piece toc size toc.symbols) ≡ true
-symbols_some toc size has = last_true _ _ (front_true _ _ (front_true _ _ has))
+symbols_some toc size has = and_second _ _ (and_first _ _ (and_first _ _ has))
 
 pub table_some : (toc : Toc) (size : ℕ) → has_sections toc size ≡ true → has_bytes (section_piece toc size toc.postings_table) ≡ true
-table_some toc size has = last_true _ _ (front_true _ _ has)
+table_some toc size has = and_second _ _ (and_first _ _ has)
 
 pub lists_some : (toc : Toc) (size : ℕ) → has_sections toc size ≡ true → has_bytes (section_piece toc size toc.postings) ≡ true
-lists_some toc size has = last_true _ _ has
+lists_some toc size has = and_second _ _ has
 
 -- ---- groups of references
 

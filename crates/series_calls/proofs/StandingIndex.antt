@@ -1,14 +1,12 @@
 -- The whole index of a block that stands is read: it opens, and the lists and the series that a selector needs are in it.
-use Rattle.std.proofs.Common.{◌≡◌, ℕ, Bool, true, false, List, [], ◌∷◌, take, Some, Result, Ok, Err, refl, sym, ap, subst, ◌∙◌, inl, inr}
-use Rattle.std.specs.Prelude.{Contains, IsErr, IsOk, is_some, slice_get, if◌then◌else◌}
-use Rattle.std.specs.List.{AllZip, filter, flat_map}
-use Rattle.list_core.proofs.Membership.{contains_first, contains_later, into_map, member_cases, no_member, of_filter, of_flat_map}
-use Rattle.std.proofs.lemmas.List.Elements.{Contains-append_cases}
+use Rattle.std.proofs.Common.{◌≡◌, ℕ, Bool, true, false, List, [], ◌∷◌, Some, Result, Ok, Err, refl, sym, ap, subst, ◌∙◌, inl, inr}
+use Rattle.std.specs.Prelude.{Contains, IsErr, IsOk, slice_get, if◌then◌else◌}
+use Rattle.std.specs.List.{AllZip, filter}
+use Rattle.list_core.proofs.Membership.{contains_first, contains_later, into_map, member_cases, no_member, of_filter}
 use Rattle.reading_core.specs.Grammar.{IsBytes}
 use Rattle.reading_core.specs.Reading.{refused_as}
 use Rattle.reading_core.proofs.Binds.{ok_is}
 use Rattle.label_sets.specs.declared.label.Label.{Label}
-use Rattle.label_sets.specs.Labels.{value_of}
 use Rattle.matchers.specs.declared.matcher.Matcher.{Matcher}
 use Rattle.index_parts.specs.declared.postings_row.PostingsRow.{PostingsRow}
 use Rattle.index_parts.specs.Postings.{IsNextPosting, IsPostings}
@@ -28,8 +26,9 @@ use Rattle.index_v2.proofs.HeldLaws.{file_is}
 use Rattle.index_v2.proofs.LabelLaws.{numbered_again}
 use Rattle.index_v2.proofs.OpeningLaws.{opened_again}
 use Rattle.index_v2.proofs.WholeParts.{lists_again}
-use Rattle.series_selection.specs.Selections.{IsListed, IsSelection, deciding, decides, rows_read}
+use Rattle.series_selection.specs.Selections.{IsListed, IsSelection, decides, rows_read}
 use Rattle.series_selection.proofs.Matching.{one_list}
+use Rattle.series_selection.proofs.Answered.{read_rows}
 use Rattle.reading_core.specs.Firsts.{each_at}
 use Rattle.reading_core.proofs.FirstLaws.{each_again}
 use Rattle.read_ranges.specs.IndexReads.{tables_of}
@@ -60,23 +59,9 @@ each_read_so read xs each err =
 
 -- ---- rows that are read
 
-row_among : (xs : List PostingsRow) (row : PostingsRow) → Contains (take 1 xs) row → Contains xs row
-row_among [] row has = has
-row_among (x ∷ xs) row has = elim (member_cases x row [] has) [
-  | inl same ↦ subst (Contains (x ∷ xs)) same (contains_first x xs)
-  | inr none ↦ absurd (no_member row none)
-]
-
 decided_among : (external : List Label) (rows : List PostingsRow) (m : Matcher) (b : Bool) (row : PostingsRow) → Contains (if b then [] else filter (decides m) rows) row → Contains rows row
 decided_among external rows m true row has = absurd (no_member row has)
 decided_among external rows m false row has = of_filter (decides m) rows row has
-
-read_among : (external : List Label) (rows : List PostingsRow) (selector : List Matcher) (row : PostingsRow) → Contains (rows_read external rows selector) row → Contains rows row
-unfolding rows_read
-read_among external rows selector row has = elim (Contains-append_cases (take 1 rows) (flat_map (deciding external rows) selector) row has) [
-  | inl first ↦ row_among rows row first
-  | inr later ↦ let m = of_flat_map (deciding external rows) selector row later in decided_among external rows m.0 (is_some (value_of external (m.0).name)) row m.2
-]
 
 module _ (query : Query) (block : Block) (index : List ℕ) (indexed : List IndexSeries) (is : IsIndex index indexed) (are : IsBytes is.opened.bytes) where
   abbrev I : List ℕ
@@ -104,7 +89,7 @@ module _ (query : Query) (block : Block) (index : List ℕ) (indexed : List Inde
   pub lacks_none : LackLists query block (tables_of is.opened) → ⊥
   lacks_none (inl err) = first_list is.opened.rows (λ row among. among) err
   lacks_none (inr err) =
-      let lists = lists_again I (rows_read block.external is.opened.rows query.selector) (λ row has. list_there row (read_among block.external is.opened.rows query.selector row has)) in
+      let lists = lists_again I (rows_read block.external is.opened.rows query.selector) (λ row has. list_there row (read_rows block.external is.opened.rows query.selector row has)) in
       not_refused (lists_at (file I) (rows_read block.external is.opened.rows query.selector)) lists.0 lists.1 err
 
   -- ---- its series are read

@@ -58,7 +58,7 @@ unfolding rows_read
 all_stand held external selector matchers (Ok x) same first others = stand_append held (take 1 held.rows) (flat_map (deciding external held.rows) selector) first (stand_same held _ _ (ap (flat_map (deciding external held.rows)) same) others)
 all_stand held external selector matchers (Err e) same first others = tt
 
-first_row : (rows : List PostingsRow) (row : PostingsRow) → Contains (take 1 rows) row → Contains rows row
+pub first_row : (rows : List PostingsRow) (row : PostingsRow) → Contains (take 1 rows) row → Contains rows row
 first_row [] row among = among
 first_row (first ∷ rows) row among = subst (Contains (first ∷ rows)) (only_member first row among) (contains_first first rows)
 
@@ -66,7 +66,7 @@ deciding_row : (b : Bool) (m : Matcher) (rows : List PostingsRow) (row : Posting
 deciding_row true m rows row among = absurd (no_member row among)
 deciding_row false m rows row among = of_filter (decides m) rows row among
 
-read_rows : (external : List Label) (rows : List PostingsRow) (selector : List Matcher) (row : PostingsRow) → Contains (rows_read external rows selector) row → Contains rows row
+pub read_rows : (external : List Label) (rows : List PostingsRow) (selector : List Matcher) (row : PostingsRow) → Contains (rows_read external rows selector) row → Contains rows row
 unfolding rows_read
 read_rows external rows selector row among = elim (Contains-append_cases (take 1 rows) (flat_map (deciding external rows) selector) row among) [
   | inl first ↦ first_row rows row first

@@ -4,9 +4,6 @@ use Rattle.std.specs.Prelude.{is_some, if◌then◌else◌}
 use Rattle.std.specs.List.{Contains, filter}
 use Rattle.std.specs.List.Sorted.{IsStrictlyIncreasing, IsStrictlySortedBy}
 use Rattle.std.specs.declared.cmp.Ordering.TheVariants.{Less, Equal}
-use Rattle.std.specs.Str.{bytes_eq}
-use Rattle.std.specs.Cmp.Lexicographic.{bytes_decides}
-use Rattle.std.proofs.lemmas.Bool.{and_parts}
 use Rattle.std.proofs.lemmas.Cmp.{tied_itself}
 use Rattle.std.proofs.lemmas.Map.Keys.{sorted_tail}
 use Rattle.std.proofs.lemmas.List.{length-append, length-map}
@@ -39,6 +36,7 @@ use Rattle.series_selection.specs.SelectionSteps.{numbers_at}
 use Rattle.series_selection.proofs.NumbersRead.{first_read, numbers_none, of_numbers}
 use Rattle.series_selection.proofs.Walk.{ok_same}
 use Rattle.series_selection.proofs.Matching.{Stands, first_of, rest_rises, above_first, row_has, row_value}
+use Rattle.series_selection.proofs.Taking.{decides_name}
 
 -- ---- numbers of which none stands twice
 
@@ -105,9 +103,6 @@ first_below row rows other ascend among =
     let at = place_of_member rows other among in
     Less-at_places compare_rows (row ∷ rows) 0 (suc at.0) row other ascend (omega arith) refl at.1
 
-own_name : (m : Matcher) (row : PostingsRow) → decides m row ≡ true → row.name ≡ m.name
-own_name m row it = (bytes_decides row.name m.name).0 ((and_parts (bytes_eq row.name m.name) _ it).0)
-
 module _ (bytes : List ℕ) (list : List IndexSeries) (is : IsIndex bytes list) (m : Matcher) where
   numbered : (row : PostingsRow) (read : List ℕ) (number : ℕ) → Contains is.opened.rows row → list_of (file is.opened.bytes) (Some row) ≡ Ok read → Contains read number → HasNumber (Stands is.opened.bytes) row number
   numbered row read number among one has =
@@ -154,7 +149,7 @@ module _ (bytes : List ℕ) (list : List IndexSeries) (is : IsIndex bytes list) 
   by_choice true numbers e = let none = ok_is {E = IndexRefusal} _ _ (sym (numbers_none (file is.opened.bytes)) ∙ e) in omega (arith, ap length none)
   by_choice false numbers e =
       by_rows (filter (decides m) is.opened.rows) (IsStrictlySortedBy-filter compare_rows (decides m) is.opened.rows (held_ascends is.opened.bytes is.opened.toc.postings_table is.opened.rows is.is_opened.rows_are))
-      (λ row has. of_filter (decides m) is.opened.rows row has) (λ row has. own_name m row (member_passes (decides m) is.opened.rows row has)) numbers e
+      (λ row has. of_filter (decides m) is.opened.rows row has) (λ row has. decides_name m row (member_passes (decides m) is.opened.rows row has)) numbers e
 
   pub no_more_than_all : (external : List Label) (numbers : List ℕ) → numbers_at (file is.opened.bytes) (deciding external is.opened.rows m) ≡ Ok numbers → length numbers ≤ length is.listed
   no_more_than_all external numbers e = by_choice (is_some (value_of external m.name)) numbers e

@@ -5,7 +5,7 @@ use Rattle.std.specs.List.{All, Contains, filter, flat_map}
 use Rattle.std.specs.List.Sorted.{IsStrictlyIncreasing}
 use Rattle.std.specs.Str.{bytes_eq}
 use Rattle.std.specs.Cmp.Lexicographic.{bytes_decides}
-use Rattle.std.proofs.lemmas.Bool.{and_parts}
+use Rattle.std.proofs.lemmas.Bool.{and_parts, not-true, not_from_false, eqb-true}
 use Rattle.std.proofs.lemmas.Bool.Decides.{nat_tests}
 use Rattle.std.proofs.lemmas.List.Elements.{All-nil, All-cons, All-head, All-tail, Contains-append_left, Contains-append_right}
 use Rattle.list_core.proofs.Membership.{contains_first, no_member, member_of_any, any_of_member, member_passes, of_filter, into_filter}
@@ -27,26 +27,16 @@ use Rattle.series_selection.proofs.Walk.{own_name}
 
 -- ---- cases of a Bool
 
-is_not : (b : Bool) → not b ≡ true → b ≡ false
-is_not true e = absurd cc
-is_not false e = refl
-
-not_is : (b : Bool) → b ≡ false → not b ≡ true
-not_is b e = rw e refl
-
 pub differ : (b : Bool) → b ≡ true → b ≡ false → ⊥
 differ b e f = cc
 
 -- ---- numbers among others
 
-same_number : (n m : ℕ) → (n == m) ≡ true → n ≡ m
-same_number n m e = grind (arith, nat_tests)
-
 number_itself : (n : ℕ) → (n == n) ≡ true
 number_itself n = grind (arith, nat_tests)
 
 one_of : (numbers : List ℕ) (number : ℕ) → is_one_of numbers number ≡ true → Contains numbers number
-one_of numbers number e = let m = member_of_any (λ n. n == number) numbers e in subst (Contains numbers) (same_number m.0 number m.2) m.1
+one_of numbers number e = let m = member_of_any (λ n. n == number) numbers e in subst (Contains numbers) (eqb-true m.0 number m.2) m.1
 
 is_one : (numbers : List ℕ) (number : ℕ) → Contains numbers number → is_one_of numbers number ≡ true
 is_one numbers number has = any_of_member (λ n. n == number) numbers number has (number_itself number)
@@ -66,18 +56,18 @@ kept_apart : (wanted : Bool) (others numbers : List ℕ) (number : ℕ) → want
 kept_apart true others numbers number w has = absurd cc
 kept_apart false others numbers number w has = (
   of_filter (λ n. not (is_one_of others n)) numbers number has,
-  λ among. differ (is_one_of others number) (is_one others number among) (is_not (is_one_of others number) (member_passes (λ n. not (is_one_of others n)) numbers number has)),
+  λ among. differ (is_one_of others number) (is_one others number among) (not-true (is_one_of others number) (member_passes (λ n. not (is_one_of others n)) numbers number has)),
 )
 
 keep_apart : (wanted : Bool) (others numbers : List ℕ) (number : ℕ) → wanted ≡ false → Contains numbers number → (Contains others number → ⊥) → Contains (kept wanted others numbers) number
 keep_apart true others numbers number w has out = absurd cc
 keep_apart false others numbers number w has out = into_filter (λ n. not (is_one_of others n)) numbers number has
-    (not_is (is_one_of others number) (by_bool (is_one_of others number) (λ yes. absurd (out (one_of others number yes))) (λ other. other)))
+    (not_from_false (is_one_of others number) (by_bool (is_one_of others number) (λ yes. absurd (out (one_of others number yes))) (λ other. other)))
 
 -- ---- rows that decide
 
 -- a row that decides has the matcher's name
-decides_name : (m : Matcher) (row : PostingsRow) → decides m row ≡ true → row.name ≡ m.name
+pub decides_name : (m : Matcher) (row : PostingsRow) → decides m row ≡ true → row.name ≡ m.name
 decides_name m row e = (bytes_decides row.name m.name).0 (and_parts (bytes_eq row.name m.name) (if is_accepted m.condition [] then not (is_accepted m.condition row.value) else is_accepted m.condition row.value) e).0
 
 chosen_true : (b x y : Bool) → b ≡ true → (if b then x else y) ≡ x
@@ -88,13 +78,13 @@ chosen_false b x y e = rw e refl
 
 -- where the empty value is accepted it decides by a value that is refused, and else by one that is accepted
 decides_refused : (m : Matcher) (row : PostingsRow) → is_accepted m.condition [] ≡ true → decides m row ≡ true → is_accepted m.condition row.value ≡ false
-decides_refused m row empty e = is_not (is_accepted m.condition row.value) (sym (chosen_true (is_accepted m.condition []) (not (is_accepted m.condition row.value)) (is_accepted m.condition row.value) empty) ∙ sym (own_name m row (decides_name m row e)) ∙ e)
+decides_refused m row empty e = not-true (is_accepted m.condition row.value) (sym (chosen_true (is_accepted m.condition []) (not (is_accepted m.condition row.value)) (is_accepted m.condition row.value) empty) ∙ sym (own_name m row (decides_name m row e)) ∙ e)
 
 decides_accepted : (m : Matcher) (row : PostingsRow) → is_accepted m.condition [] ≡ false → decides m row ≡ true → is_accepted m.condition row.value ≡ true
 decides_accepted m row empty e = sym (chosen_false (is_accepted m.condition []) (not (is_accepted m.condition row.value)) (is_accepted m.condition row.value) empty) ∙ sym (own_name m row (decides_name m row e)) ∙ e
 
 refused_decides : (m : Matcher) (row : PostingsRow) → is_accepted m.condition [] ≡ true → row.name ≡ m.name → is_accepted m.condition row.value ≡ false → decides m row ≡ true
-refused_decides m row empty name e = own_name m row name ∙ chosen_true (is_accepted m.condition []) (not (is_accepted m.condition row.value)) (is_accepted m.condition row.value) empty ∙ not_is (is_accepted m.condition row.value) e
+refused_decides m row empty name e = own_name m row name ∙ chosen_true (is_accepted m.condition []) (not (is_accepted m.condition row.value)) (is_accepted m.condition row.value) empty ∙ not_from_false (is_accepted m.condition row.value) e
 
 accepted_decides : (m : Matcher) (row : PostingsRow) → is_accepted m.condition [] ≡ false → row.name ≡ m.name → is_accepted m.condition row.value ≡ true → decides m row ≡ true
 accepted_decides m row empty name e = own_name m row name ∙ chosen_false (is_accepted m.condition []) (not (is_accepted m.condition row.value)) (is_accepted m.condition row.value) empty ∙ e

@@ -5,15 +5,12 @@ use Rattle.std.specs.Prelude.{slice_get, not, if◌then◌else◌, OnOk, IfOk}
 use Rattle.reading_core.specs.Reading.{Gives}
 use Rattle.std.specs.List.{filter}
 use Rattle.std.specs.List.Sorted.{IsStrictlyIncreasing, IsStrictlySortedBy}
-use Rattle.std.specs.declared.cmp.Ordering.TheVariants.{Less}
-use Rattle.std.proofs.lemmas.Bool.{cases_lt}
 use Rattle.std.proofs.lemmas.List.{append-nil, length-append, take-append-drop}
 use Rattle.std.proofs.lemmas.List.Sums.{sum_by-append, sum_by-cons}
 use Rattle.std.proofs.lemmas.List.Elements.{filter-append, Contains-append_cases}
-use Rattle.std.proofs.lemmas.Option.{same_Some, slice_get_within}
+use Rattle.std.proofs.lemmas.Option.{slice_get_within}
 use Rattle.list_core.proofs.Membership.{no_member, only_member}
-use Rattle.label_sets.specs.Labels.{compare_texts}
-use Rattle.label_sets.proofs.LabelValues.{bytes_eq_differs, same_text}
+use Rattle.label_sets.proofs.LabelValues.{bytes_eq_differs}
 use Rattle.matchers.specs.declared.condition.Condition.{Condition}
 use Rattle.matchers.specs.declared.matcher.Matcher.{Matcher}
 use Rattle.matchers.specs.Selectors.{is_accepted}
@@ -21,7 +18,6 @@ use Rattle.index_parts.specs.declared.postings_row.PostingsRow.{PostingsRow}
 use Rattle.index_parts.specs.Postings.{IsPostings}
 use Rattle.index_parts.specs.Rows.{compare_rows}
 use Rattle.index_file.specs.Opened.{Opened}
-use Rattle.list_core.proofs.Order.{Less-at_places}
 use Rattle.list_core.proofs.Bools.{bytes_eq-itself}
 use Rattle.index_v2.specs.declared.refusal.IndexRefusal.{IndexRefusal}
 use Rattle.index_v2.specs.declared.refusal.IndexRefusal.TheVariants.{NoMemory}
@@ -30,8 +26,8 @@ use Rattle.index_v2.specs.PostingsLists.{list_of}
 use Rattle.index_parts.specs.RowOrder.{BeginsAt}
 use Rattle.index_v2.specs.Budget.{list_bytes}
 use Rattle.index_v2.proofs.ListNumbers.{none_rise}
-use Rattle.index_parts.proofs.RowsBegin.{name_le, equal_not_less}
 use Rattle.index_v2.proofs.WholeLoops.{drop_at, front_more}
+use Rattle.index_v2.proofs.ValuesListed.{differs, behind}
 use Rattle.series_selection.specs.Selections.{decides}
 use Rattle.series_selection.specs.SelectionSteps.{numbers_at, ListsStand, IsWithinBudget, IsReadOn}
 use Rattle.series_selection.proofs.NumbersRead.{numbers_none, numbers_push, numbers_refused}
@@ -55,21 +51,6 @@ pub decides_when : (m : Matcher) (row : PostingsRow) (accepted wanted r : Bool) 
 decides_when m row accepted wanted r asked same name a w e =
     let a' : accepted ≡ is_accepted m.condition row.value = a ∙ ap (λ (c : Condition). is_accepted c row.value) same in
     own_name m row name ∙ chosen_is (is_accepted m.condition []) (is_accepted m.condition row.value) r ((λ i. beq (sym a' i) (sym w i)) ∙ e)
-
-differs : (one other : List ℕ) → compare_texts one other ≡ Less → one ≢ other
-differs one other less same = equal_not_less other (ap (λ (n : List ℕ). compare_texts n other) (sym same) ∙ less)
-
--- behind a row of another name that does not stand before the name there is none of it
-behind : (rows : List PostingsRow) (name : List ℕ) (place k : ℕ) (first row : PostingsRow) → IsStrictlySortedBy compare_rows rows → slice_get rows place ≡ Some first → compare_texts first.name name ≢ Less → first.name ≢ name → place ≤ k → slice_get rows k ≡ Some row → row.name ≢ name
-behind rows name place k first row ascend at not_below other le there same =
-    elim (cases_lt place k) [
-      | inl lt ↦ elim (name_le (compare_texts first.name row.name) (compare_texts first.value row.value) (Less-at_places compare_rows rows place k first row ascend lt at there)) [
-        | inl less ↦ not_below (ap (λ (n : List ℕ). compare_texts first.name n) (sym same) ∙ less)
-        | inr p ↦ other (same_text first.name row.name p.0 ∙ same)
-      ]
-      | inr ge ↦ let here : k ≡ place = omega arith in
-          other (ap (λ (r : PostingsRow). r.name) (same_Some first row (sym at ∙ ap (λ (i : ℕ). slice_get rows i) (sym here) ∙ there)) ∙ same)
-    ]
 
 -- ---- filters of the front of a list
 

@@ -3,12 +3,12 @@ use Rattle.std.proofs.Common.{◌≡◌, ℕ, ◌≤◌, ◌<◌, ◌+◌, suc, 
 use Rattle.std.specs.Prelude.{nat_le, All}
 use Rattle.std.proofs.lemmas.Bool.{and_from, le-leb}
 use Rattle.std.proofs.lemmas.List.Folds.{list_all-append}
-use Rattle.block_keys.specs.Keys.{key_ulid}
+use Rattle.block_keys.specs.Keys.{key_ulid, is_lawful_key}
 use Rattle.block_keys.specs.declared.key.Key.{Key}
 use Rattle.block_keys.specs.declared.key.Key.TheVariants as key
 use Rattle.block_keys.specs.declared.object.Object.{Object}
 use Rattle.block_keys.specs.Blocks.{IsBlock, IsSegmentOf}
-use Rattle.shipper.specs.Limits.{is_lawful_key, have_lawful_keys}
+use Rattle.shipper.specs.Limits.{have_lawful_keys}
 
 segment_lawful : (ulid : ℕ) (k : Key) → IsSegmentOf ulid k → is_lawful_key k ≡ true
 segment_lawful ulid (key.Segment owner number) is =

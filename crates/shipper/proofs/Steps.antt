@@ -1,13 +1,14 @@
 -- An upload's steps are those of its plan.
 use Rattle.std.proofs.Common.{◌≡◌, ℕ, ◌<◌, ◌+◌, ◌-◌, zero, suc, ◌==◌, Bool, true, false, List, [], ◌∷◌, length, drop, refl, sym, ◌∙◌, ap, subst, inr, arith, Some, None, Ok}
-use Rattle.std.specs.Prelude.{IsSomeAnd, nat_le}
-use Rattle.std.proofs.lemmas.Bool.{and_parts, leb-true, eqb-true}
-use Rattle.shipper.specs.Limits.{is_lawful_key, have_lawful_keys, begun}
+use Rattle.std.specs.Prelude.{IsSomeAnd}
+use Rattle.std.proofs.lemmas.Bool.{and_parts, eqb-true}
+use Rattle.shipper.specs.Limits.{have_lawful_keys, begun}
 use Rattle.std.proofs.lemmas.List.{drop_all, length-drop}
-use Rattle.block_keys.specs.Keys.{IsLawfulKey}
+use Rattle.block_keys.specs.Keys.{IsLawfulKey, is_lawful_key}
 use Rattle.block_keys.specs.declared.key.Key.{Key}
 use Rattle.block_keys.specs.declared.key.Key.TheVariants as key
 use Rattle.block_keys.specs.declared.object.Object.{Object}
+use Rattle.block_keys.proofs.LawfulKeys.{lawful_key}
 use Rattle.world_core.proofs.LeadSteps.{on_entry, opens_by, steps_by}
 use Rattle.world_core.proofs.PlanLaws.{answered, breaks_off}
 use Rattle.world_core.proofs.Replies.{answer_of}
@@ -30,13 +31,6 @@ use Rattle.shipper.specs.declared.stage.Stage.TheVariants.{Looking, Putting}
 use Rattle.shipper.specs.declared.upload.Upload.{Upload}
 use Rattle.shipper.specs.declared.upload_end.UploadEnd.{UploadEnd}
 use Rattle.shipper.specs.declared.upload_end.UploadEnd.TheVariants.{Done, Already, Fault}
-
-lawful_key : (k : Key) → is_lawful_key k ≡ true → IsLawfulKey k
-lawful_key (key.Segment ulid number) e =
-    let parts : _ = and_parts (nat_le 1 number) (nat_le number 999_999) e in (leb-true 1 number parts.0, leb-true number 999_999 parts.1)
-lawful_key (key.Meta ulid) e = tt
-lawful_key (key.Index ulid) e = tt
-lawful_key (key.Mark ulid) e = tt
 
 -- the object at a place, with what is left behind it
 record ObjectAt (objects : List Object) (place : ℕ) : Type 0 where

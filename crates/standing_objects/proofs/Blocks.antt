@@ -6,7 +6,7 @@ use Rattle.std.specs.List.{before_first}
 use Rattle.std.specs.Ordering.{nat_cmp, is_gt, ordering_then}
 use Rattle.std.specs.declared.cmp.Ordering.{Ordering}
 use Rattle.std.proofs.lemmas.Bool.{cases_lt}
-use Rattle.list_core.proofs.Bools.{lt-from_Less, nat_cmp-Greater, nat_cmp-Less}
+use Rattle.list_core.proofs.Bools.{lt-from_Less, nat_cmp-Greater, nat_cmp-Less, Less-from_then}
 use Rattle.std.specs.Cmp.Lexicographic.{slice_cmp}
 use Rattle.std.specs.declared.cmp.Ordering.TheVariants.{Less, Equal, Greater}
 use Rattle.std.proofs.Math.Seq.{take-append_seam}
@@ -88,13 +88,8 @@ module _ (entries : List Entry) (places : Places) (contents : Contents) (holds :
 
 -- ---- the keys behind the greatest one of a block
 
-then_less : (a b : Ordering) → ordering_then a b ≡ Less → (a ≡ Less) ⊎ ((a ≡ Equal) × (b ≡ Less))
-then_less Less b is = inl refl
-then_less Equal b is = inr (refl, is)
-then_less Greater b is = cc (is)
-
 behind_at : (u v : ℕ) (o : Ordering) → (o ≡ Less → ⊥) → ordering_then (nat_cmp u v) o ≡ Less → u < v
-behind_at u v o none is = elim (then_less (nat_cmp u v) o is) [ inl less ↦ lt-from_Less u v less | inr (same, less) ↦ absurd (none less) ]
+behind_at u v o none is = elim (Less-from_then (nat_cmp u v) o is) [ inl less ↦ lt-from_Less u v less | inr (same, less) ↦ absurd (none less) ]
 
 behind_of : (u : ℕ) (key : Key) → key_cmp (Meta u) key ≡ Less → u < key_ulid key
 behind_of u (Meta v) is = behind_at u v Equal (λ less. cc (less)) is

@@ -1,5 +1,5 @@
 -- Of two lists, one of which has all members of the other, that one has all bits of the other.
-use Rattle.std.proofs.Common.{◌≡◌, ℕ, zero, suc, ltb, ◌*◌, ◌%◌, ◌^◌, ◌+◌, ◌<◌, ◌≤◌, Bool, true, false, ◌&&◌, ◌||◌, eqb, List, [], ◌∷◌, length, map, take, get_or, Option, Some, None, refl, sym, ap, subst, ◌∙◌, arith, inl, inr}
+use Rattle.std.proofs.Common.{◌≡◌, ℕ, zero, suc, ltb, ◌*◌, ◌%◌, ◌^◌, ◌+◌, ◌<◌, ◌≤◌, Bool, true, false, ◌&&◌, ◌||◌, List, [], ◌∷◌, length, map, take, get_or, Option, Some, None, refl, sym, ap, subst, ◌∙◌, arith, inl, inr}
 use Rattle.std.specs.Prelude.{fold, slice_get, Contains, max, pos, option_map}
 use Rattle.std.specs.Option.{option_map_or}
 use Rattle.std.specs.Ordering.{int_eq}
@@ -62,15 +62,12 @@ all_bits many (x ∷ few) all =
     ap (λ n. bit_or n (fold with_bit 0 many)) (first_bit x few) ∙ or_thrice (one_bit x) (fold with_bit 0 few) (fold with_bit 0 many)
     ∙ ap (bit_or (one_bit x)) (all_bits many few (λ y among. all y (contains_later x y few among))) ∙ member_bit x many (all x (contains_first x few))
 
-itself : (n m : ℕ) → n ≡ m → eqb n m ≡ true
-itself n m e = eq-eqb n m e
-
 -- a block has the bits of one that it covers
 better_bits : (one other : Found) → is_better one.meta other.meta ≡ true → has_bits (mark_at one) (mark_at other) ≡ true
 unfolding mark_of
 better_bits one other e =
     let last = and_parts (int_eq one.meta.resolution (pos 0) && int_eq other.meta.resolution (pos 0) && has_more one.meta other.meta) (has_all one.meta.sources other.meta.sources) e in
-    itself (bit_or (fold with_bit 0 other.meta.sources) (fold with_bit 0 one.meta.sources)) (fold with_bit 0 one.meta.sources)
+    eq-eqb (bit_or (fold with_bit 0 other.meta.sources) (fold with_bit 0 one.meta.sources)) (fold with_bit 0 one.meta.sources)
     (all_bits one.meta.sources other.meta.sources (λ x among. has_source one.meta.sources other.meta.sources x last.1 among))
 
 and_none : (x : Bool) → (x && false) ≡ false

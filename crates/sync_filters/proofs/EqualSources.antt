@@ -7,7 +7,7 @@ use Rattle.list_core.proofs.Bools.{lt-from_Less}
 use Rattle.list_core.proofs.Lists.{cons_same}
 use Rattle.list_core.proofs.Membership.{each_member, member_cases, contains_first, contains_later}
 
-above : (x y : ℕ) (xs : List ℕ) → IsStrictlySortedBy nat_cmp (x ∷ xs) → Contains xs y → x < y
+pub above : (x y : ℕ) (xs : List ℕ) → IsStrictlySortedBy nat_cmp (x ∷ xs) → Contains xs y → x < y
 above x y xs up among = lt-from_Less x y (each_member (λ z. nat_cmp x z ≡ Less) xs y (sorted_head nat_cmp x xs up) among)
 
 -- what is above the first member of one list is behind the first member of the other

@@ -5,7 +5,7 @@ use Rattle.std.specs.List.{list_any}
 use Rattle.std.specs.List.Sorted.{IsPermutation}
 use Rattle.std.specs.Option.{option_map_or}
 use Rattle.std.specs.Ordering.{int_eq}
-use Rattle.std.proofs.lemmas.Bool.{true≢false, cases_lt, cases_Bool, and_parts}
+use Rattle.std.proofs.lemmas.Bool.{true≢false, cases_lt, cases_Bool, and_parts, or_cases, or_left, or_right, eqb-true}
 use Rattle.std.proofs.lemmas.Bool.Decides.{nat_tests, Decides-int_eq}
 use Rattle.std.proofs.lemmas.Option.{slice_get_within}
 use Rattle.std.proofs.lemmas.List.Elements.{Contains-append_left, Contains-append_right}
@@ -25,30 +25,15 @@ same_bool true b f g = sym (f refl)
 same_bool false true f g = g refl
 same_bool false false f g = refl
 
-either : (a b : Bool) → (a || b) ≡ true → (a ≡ true) ⊎ (b ≡ true)
-either true b e = inl refl
-either false b e = inr e
-
-or_left : (a b : Bool) → a ≡ true → (a || b) ≡ true
-or_left true b e = refl
-or_left false b e = absurd (true≢false (sym e))
-
-or_right : (a b : Bool) → b ≡ true → (a || b) ≡ true
-or_right true b e = refl
-or_right false b e = e
-
 passes : {A : Type 0} (test : A → Bool) (o : Option A) → option_map_or test o false ≡ true → (x : A) × (o ≡ Some x) × (test x ≡ true)
 passes test None e = absurd (true≢false (sym e))
 passes test (Some x) e = (x, refl, e)
 
-same_number : (x y : ℕ) → eqb x y ≡ true → x ≡ y
-same_number x y e = grind (arith, nat_tests)
-
 -- it has more sources, or as many
 more_or_same : (one other : Meta) → has_more one other ≡ true → (length other.sources < length one.sources) ⊎ (length one.sources ≡ length other.sources)
-more_or_same one other e = elim (either (nat_lt (length other.sources) (length one.sources)) _ e) [
+more_or_same one other e = elim (or_cases (nat_lt (length other.sources) (length one.sources)) _ e) [
   | inl more ↦ inl (grind (arith, nat_tests))
-  | inr same ↦ inr (same_number (length one.sources) (length other.sources) (and_parts (eqb (length one.sources) (length other.sources)) (nat_lt one.ulid other.ulid) same).0)
+  | inr same ↦ inr (eqb-true (length one.sources) (length other.sources) (and_parts (eqb (length one.sources) (length other.sources)) (nat_lt one.ulid other.ulid) same).0)
 ]
 
 -- what a better block is
@@ -61,7 +46,7 @@ pub has_source : (many few : List ℕ) (source : ℕ) → has_all many few ≡ t
 has_source many few source all among =
     let some : list_any (λ other. eqb other source) many ≡ true = all_at_member (λ ulid. list_any (λ other. eqb other ulid) many) few source all among in
     let found : (x : ℕ) × Contains many x × (eqb x source ≡ true) = member_of_any (λ other. eqb other source) many some in
-    subst (Contains many) (same_number found.0 source found.2) found.1
+    subst (Contains many) (eqb-true found.0 source found.2) found.1
 
 better : (one other : Meta) → is_better one other ≡ true → Better one other
 better one other e =
@@ -125,7 +110,7 @@ module _ (listed : List Found) (equals holders same larger : List Holder) (block
 
   pub covered_by_few : (list_any (λ one. covers_at listed block one.place) same || list_any (λ one. covers_at listed block one.place) larger) ≡ is_covered listed block
   covered_by_few = same_bool _ _
-      (λ e. elim (either _ _ e) [ inl left ↦ better_found listed same block left | inr right ↦ better_found listed larger block right ])
+      (λ e. elim (or_cases _ _ e) [ inl left ↦ better_found listed same block left | inr right ↦ better_found listed larger block right ])
       found_better
 
 -- a block of which samples were dropped is not covered

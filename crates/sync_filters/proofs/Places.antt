@@ -1,5 +1,5 @@
 -- Searches among ascending ULIDs, and what a split is made of.
-use Rattle.std.proofs.Common.{◌≡◌, ℕ, ◌+◌, ◌-◌, ◌<◌, ◌≤◌, zero, suc, eqb, List, [], ◌∷◌, length, get_or, refl, sym, ◌∙◌, ap, subst, arith, inl, inr, Result, Ok, Err}
+use Rattle.std.proofs.Common.{◌≡◌, ℕ, ◌+◌, ◌-◌, ◌<◌, ◌≤◌, zero, suc, eqb, List, length, get_or, sym, ◌∙◌, ap, subst, arith, inl, inr, Result, Ok, Err}
 use Rattle.std.specs.Prelude.{not, is_ok, IfOk}
 use Rattle.std.specs.List.{list_any, filter}
 use Rattle.std.specs.List.Sorted.{IsStrictlyIncreasing, IsBinarySearchResult, IsPermutation, IsNonDecreasingBy}
@@ -10,6 +10,7 @@ use Rattle.sync_filters.specs.declared.found.Found.{Found}
 use Rattle.std.proofs.lemmas.Bool.{ne_eqb, eq-eqb, cases_lt}
 use Rattle.std.proofs.lemmas.List.Folds.{list_any_at, list_any_none}
 use Rattle.std.proofs.lemmas.List.Sorted.{searched}
+use Rattle.std.proofs.lemmas.Grind.{get_or_default_zero}
 
 rises_by : (xs : List ℕ) → IsStrictlyIncreasing xs → (n i : ℕ) → i + n < length xs → get_or xs i 0 ≤ get_or xs (i + n) 0
 rises_by xs increase zero i lt = let here : i + 0 ≡ i = omega arith in let same : get_or xs (i + 0) 0 ≡ get_or xs i 0 = ap (λ k. get_or xs k 0) here in omega (arith, same)
@@ -25,11 +26,6 @@ rises xs increase i j le lt =
     let sum : i + (j - i) ≡ j = omega arith in
     subst (λ k. get_or xs i 0 ≤ get_or xs k 0) sum (rises_by xs increase (j - i) i (omega arith))
 
-default_zero : (xs : List ℕ) (k d : ℕ) → k < length xs → get_or xs k d ≡ get_or xs k 0
-default_zero [] k d lt = absurd (omega arith)
-default_zero (x ∷ xs) zero d lt = refl
-default_zero (x ∷ xs) (suc k) d lt = default_zero xs k d (omega arith)
-
 differs : (xs : List ℕ) (x i k : ℕ) → ((k : ℕ) → k < i → get_or xs k 0 < x) → ((k : ℕ) → i ≤ k → k < length xs → x < get_or xs k 0) → k < length xs → get_or xs k 0 ≡ x → ⊥
 differs xs x i k below above lt is =
     elim (cases_lt k i) [ inl before ↦ omega (arith, below k before, is) | inr behind ↦ omega (arith, above k behind lt, is) ]
@@ -43,7 +39,7 @@ found_by xs x (Ok i) increase result =
 found_by xs x (Err i) increase result =
     let past : (i ≤ length xs) × ((k : ℕ) → k < i → get_or xs k 0 < x) × ((k : ℕ) → i ≤ k → k < length xs → x < get_or xs k 0) = searched xs x (Err i) result (rises xs increase) in
     sym (list_any_none (λ other. eqb other x) xs
-    (λ k d lt. ne_eqb (get_or xs k d) x (λ is. differs xs x i k past.1 past.2 lt (sym (default_zero xs k d lt) ∙ is))))
+    (λ k d lt. ne_eqb (get_or xs k d) x (λ is. differs xs x i k past.1 past.2 lt (sym (get_or_default_zero xs k d lt) ∙ is))))
 
 pub splits : (r : Result (List Found × List Found) NoMemory) (found listed : List Found) → IsPermutation found listed → IsNonDecreasingBy (λ block. block.ulid) listed
     → IfOk r (λ split. split.0 ≡ filter (λ block. not (is_covered listed block)) listed) → IfOk r (λ split. split.1 ≡ filter (is_covered listed) listed)

@@ -18,7 +18,8 @@ use Rattle.script_workers.specs.declared.task.Task.{Task}
 use Rattle.script_workers.specs.declared.work.Work.TheVariants as works
 use Rattle.script_workers.specs.declared.worker.Worker.{Worker}
 use Rattle.lifecycle_core.specs.Completed.{IsCompletedAt, PutsMeta}
-use Rattle.lifecycle_core.specs.Conducts.{AreDone, PhaseRun, TasksRun, of_seat, who_of}
+use Rattle.world_core.specs.Journals.{of_seat}
+use Rattle.lifecycle_core.specs.Conducts.{AreDone, PhaseRun, TasksRun, who_of}
 use Rattle.lifecycle_core.specs.Holdings.{none_held, nothing_held}
 use Rattle.lifecycle_core.specs.Phases.{IsFinished, IsRunOf, by_script, by_workers}
 use Rattle.lifecycle_core.specs.Tasks.{End, UploadTask, uploaded}

@@ -15,7 +15,7 @@ use Rattle.script_workers.specs.Hands.{hands_of_task, with_hands, hands_from, pl
 use Rattle.script_core.specs.Workers.{workers_of}
 use Rattle.script_workers.specs.declared.worker.Worker.{Worker}
 use Rattle.lifecycle_core.specs.Breaches.{IsSyncIn}
-use Rattle.lifecycle_core.specs.Conducts.{of_seat}
+use Rattle.world_core.specs.Journals.{of_seat}
 use Rattle.lifecycle_core.specs.SyncsAndCalls.{IsSyncBy}
 use Rattle.lifecycle_core.specs.Tasks.{sync_rules}
 use Rattle.lifecycle_core.proofs.journals.Positions.{stands_in}

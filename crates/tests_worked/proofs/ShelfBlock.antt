@@ -29,7 +29,8 @@ use Rattle.script_workers.specs.declared.task.Task.{Task}
 use Rattle.script_workers.specs.declared.work.Work.TheVariants as works
 use Rattle.script_workers.specs.declared.worker.Worker.{Worker}
 use Rattle.lifecycle_core.specs.Causes.{AreWell, IsWell}
-use Rattle.lifecycle_core.specs.Conducts.{Assigned, PhaseRun, TasksRun, of_seat, who_of}
+use Rattle.world_core.specs.Journals.{of_seat}
+use Rattle.lifecycle_core.specs.Conducts.{Assigned, PhaseRun, TasksRun, who_of}
 use Rattle.lifecycle_core.specs.Guarantees.{IsExact}
 use Rattle.lifecycle_core.specs.Held.{held, held_by}
 use Rattle.lifecycle_core.specs.Holdings.{Use, none_held, nothing_held}

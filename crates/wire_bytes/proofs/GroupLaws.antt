@@ -34,9 +34,9 @@ tenth_passes : (group : ℕ) (groups : List ℕ) → 2 ≤ group → groups_of 0
 unfolding groups_of
 tenth_passes _ _ large = rw (le-ltb _ _ large) refl
 
-ends : (more : ℕ) → groups_of more [] ≡ Err Short
+pub groups-nil : (more : ℕ) → groups_of more [] ≡ Err Short
 unfolding groups_of
-ends _ = refl
+groups-nil _ = refl
 
 -- ---- what is read is a text
 
@@ -75,7 +75,7 @@ two_or_more zero = omega arith
 two_or_more (suc more) = omega (arith, two_or_more more)
 
 pub groups_found : (more : ℕ) (bytes : List ℕ) (n count : ℕ) → IsBytes bytes → groups_of more bytes ≡ Ok (n, count) → Reads more bytes n count
-groups_found more [] n count are e = let no = ends more in absurd cc
+groups_found more [] n count are e = let no = groups-nil more in absurd cc
 groups_found zero (group ∷ groups) n count are e =
     elim (cases_lt group 2) [
       | inl small ↦ reads_last 0 group groups n count (omega arith) small (ok_is {E = WireRefusal} _ _ (sym (tenth_bit group groups small) ∙ e))
@@ -132,7 +132,7 @@ groups_short (suc more) (group ∷ groups) e =
     ]
 
 pub groups_short_again : (more : ℕ) (bytes : List ℕ) → AllByRecursion (λ byte. 128 ≤ byte) bytes → length bytes ≤ more → groups_of more bytes ≡ Err Short
-groups_short_again _ [] follow few = ends _
+groups_short_again _ [] follow few = groups-nil _
 groups_short_again zero (group ∷ groups) follow few = absurd (omega arith)
 groups_short_again (suc more) (group ∷ groups) follow few = step_refused _ _ _ _ follow.0 (groups_short_again _ _ follow.1 (omega arith))
 
@@ -142,7 +142,7 @@ pub record Passes (more : ℕ) (bytes : List ℕ) : Type 0 where
   pub large : 1 < get_or bytes more 0
 
 pub groups_over : (more : ℕ) (bytes : List ℕ) → groups_of more bytes ≡ Err Overlong → Passes more bytes
-groups_over more [] e = let no = ends more in absurd cc
+groups_over more [] e = let no = groups-nil more in absurd cc
 groups_over zero (group ∷ groups) e =
     elim (cases_lt group 2) [
       | inl small ↦ let no = tenth_bit group groups small in absurd cc

@@ -9,6 +9,7 @@ use Rattle.reading_core.specs.Reading.{◌>>=◌}
 use Rattle.wire_bytes.specs.declared.refusal.WireRefusal.{WireRefusal}
 use Rattle.wire_bytes.specs.declared.refusal.WireRefusal.TheVariants.{Short}
 use Rattle.wire_bytes.specs.Fields.{groups_of}
+use Rattle.wire_bytes.proofs.GroupLaws.{groups-nil}
 
 -- i low groups that make n, before what the others give
 abbrev pub with_low : ℕ → ℕ → Result (ℕ × ℕ) WireRefusal → Result (ℕ × ℕ) WireRefusal
@@ -40,10 +41,6 @@ split i bytes lt = rw (add-one, drop-cons bytes i 0) refl
 
 ended : (i : ℕ) (bytes : List ℕ) → length bytes ≤ i → drop i bytes ≡ []
 ended i bytes le = nil_from_length _ (omega (arith, length-drop i bytes))
-
-groups-nil : (more : ℕ) → groups_of more [] ≡ Err Short
-unfolding groups_of
-groups-nil _ = refl
 
 pub low_short : (n i : ℕ) (bytes : List ℕ) → length bytes ≤ i → with_low n i (groups_of (9 - i) (drop i bytes)) ≡ Err Short
 low_short n i _ le = rw (ended, groups-nil) refl

@@ -37,7 +37,7 @@ Each-push P entries e each last before after x is =
     elim (split_push entries e before after x is) [ inl h ↦ subst (λ b. P b x) (sym h.0) (subst (λ y. P entries y) (sym h.1) last) | inr h ↦ each before h.0 x h.1 ]
 
 -- the numbers of a list with one more entry
-last_more : (entries : List Entry) (e : Entry) → last_moment (entries ++ e ∷ []) ≡ e.moment.ms
+pub last_more : (entries : List Entry) (e : Entry) → last_moment (entries ++ e ∷ []) ≡ e.moment.ms
 last_more entries e = fold-append (λ last x. x.moment.ms) 0 entries (e ∷ [])
 
 kept_more : (entries : List Entry) (e : Entry) → kept_bytes (entries ++ e ∷ []) ≡ kept_bytes entries + (bytes_put e.op + bytes_told e.reply)

@@ -4,10 +4,7 @@ use Rattle.std.specs.List.{AllByRecursion}
 use Rattle.world_core.specs.Plans.{Plan, ends, never, asks, finds, Runs, ComesTo, Keeps, asked}
 use Rattle.world_core.specs.declared.op.Op.{Op}
 use Rattle.world_core.specs.declared.entry.Entry.{Entry}
-
-not_nil : {X : Type 0} (xs : List X) (y : X) (rest : List X) → xs ++ y ∷ rest ≡ [] → ⊥
-not_nil [] y rest is = cc (is)
-not_nil (x ∷ xs) y rest is = cc (is)
+use Rattle.list_core.proofs.Lists.{middle_not_nil}
 
 -- ---- runs and their fronts
 
@@ -29,21 +26,21 @@ untold (finds Is one next) entries end (inr (found, is, run)) = inr (found, is, 
 
 -- what was cut off before its last entries is a run without an end
 pub front : {E : Type 0} (plan : Plan E) (xs : List Entry) (y : Entry) (rest : List Entry) (end : Option E) → Runs plan (xs ++ y ∷ rest) end → Runs plan xs None
-front (ends last) xs y rest end run = absurd (not_nil xs y rest run.0)
-front never xs y rest end run = absurd (not_nil xs y rest run.0)
+front (ends last) xs y rest end run = absurd (middle_not_nil xs y rest run.0)
+front never xs y rest end run = absurd (middle_not_nil xs y rest run.0)
 front (asks op next) [] y rest end run = refl
 front (asks op next) (e ∷ xs) y rest end run = (run.0, front (next e) xs y rest end run.1)
-front (finds Is one next) xs y rest end (inl none) = absurd (not_nil xs y rest none.0)
+front (finds Is one next) xs y rest end (inl none) = absurd (middle_not_nil xs y rest none.0)
 front (finds Is one next) xs y rest end (inr (found, is, run)) = inr (found, is, front (next found) xs y rest end run)
 
 -- a run that came to an end is no front of a longer run
 pub once : {E : Type 0} (plan : Plan E) (xs : List Entry) (last : E) (y : Entry) (rest : List Entry) (end : Option E) → Runs plan xs (Some last) → Runs plan (xs ++ y ∷ rest) end → ⊥
-once (ends last') xs last y rest end run more = not_nil xs y rest more.0
-once never xs last y rest end run more = not_nil xs y rest more.0
+once (ends last') xs last y rest end run more = middle_not_nil xs y rest more.0
+once never xs last y rest end run more = middle_not_nil xs y rest more.0
 once (asks op next) [] last y rest end run more = cc (run)
 once (asks op next) (e ∷ xs) last y rest end run more = once (next e) xs last y rest end run.1 more.1
 once (finds Is one next) xs last y rest end (inl none) more = cc (none.1)
-once (finds Is one next) xs last y rest end (inr run) (inl none) = not_nil xs y rest none.0
+once (finds Is one next) xs last y rest end (inr run) (inl none) = middle_not_nil xs y rest none.0
 once (finds Is one next) xs last y rest end (inr (found, is, run)) (inr (other, so, more)) =
     once (next found) xs last y rest end run (subst (λ a. Runs (next a) (xs ++ y ∷ rest) end) (one other found so is) more)
 
@@ -62,12 +59,12 @@ one_end (finds Is one next) entries last other (inr (found, is, run)) (inr (foun
 
 -- after the same entries, two runs ask for the same operation
 pub same_op : {E : Type 0} (plan : Plan E) (xs : List Entry) (y z : Entry) (rest others : List Entry) (end other : Option E) → Runs plan (xs ++ y ∷ rest) end → Runs plan (xs ++ z ∷ others) other → y.op ≡ z.op
-same_op (ends last) xs y z rest others end other run two = absurd (not_nil xs y rest run.0)
-same_op never xs y z rest others end other run two = absurd (not_nil xs y rest run.0)
+same_op (ends last) xs y z rest others end other run two = absurd (middle_not_nil xs y rest run.0)
+same_op never xs y z rest others end other run two = absurd (middle_not_nil xs y rest run.0)
 same_op (asks op next) [] y z rest others end other run two = cc (run.0, two.0)
 same_op (asks op next) (e ∷ xs) y z rest others end other run two = same_op (next e) xs y z rest others end other run.1 two.1
-same_op (finds Is one next) xs y z rest others end other (inl none) two = absurd (not_nil xs y rest none.0)
-same_op (finds Is one next) xs y z rest others end other (inr run) (inl none) = absurd (not_nil xs z others none.0)
+same_op (finds Is one next) xs y z rest others end other (inl none) two = absurd (middle_not_nil xs y rest none.0)
+same_op (finds Is one next) xs y z rest others end other (inr run) (inl none) = absurd (middle_not_nil xs z others none.0)
 same_op (finds Is one next) xs y z rest others end other (inr (found, is, run)) (inr (found', so, two)) =
     same_op (next found) xs y z rest others end other run (subst (λ a. Runs (next a) (xs ++ z ∷ others) other) (one found' found so is) two)
 

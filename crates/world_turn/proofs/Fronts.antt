@@ -3,7 +3,7 @@ use Rattle.std.proofs.Common.{◌≡◌, ◌≢◌, ◌⊎◌, ℕ, zero, suc, �
 use Rattle.std.proofs.lemmas.List.Elements.{filter-append}
 use mathlib.Core.List.{IsPrefix}
 use Rattle.world_core.specs.declared.entry.Entry.{Entry}
-use Rattle.world_turn.specs.Seats.{of_seat}
+use Rattle.world_core.specs.Journals.{of_seat}
 use Rattle.world_turn.specs.Steps.{longer}
 
 -- an entry of the seat is one more

@@ -1,5 +1,5 @@
 -- Each step keeps the rule.
-use Rattle.std.proofs.Common.{◌≡◌, ◌≢◌, ◌⊎◌, ℕ, zero, suc, ◌+◌, ◌%◌, ◌^◌, ◌<◌, ◌≤◌, eqb, eq-eqb, ne_eqb, List, [], ◌∷◌, ◌++◌, length, set, max, Bool, true, false, true≢false, ◌||◌, Option, Some, None, refl, sym, ap, ap₂, ◌∙◌, subst, inl, inr, length-set, ⊎_elim, arith, length-append, mod-eq_of_lt}
+use Rattle.std.proofs.Common.{◌≡◌, ◌≢◌, ◌⊎◌, ℕ, zero, suc, ◌+◌, ◌%◌, ◌^◌, ◌<◌, ◌≤◌, eqb, eq-eqb, ne_eqb, List, [], ◌∷◌, ◌++◌, length, set, max, Bool, true, false, true≢false, Option, Some, None, refl, sym, ap, ap₂, ◌∙◌, subst, inl, inr, length-set, ⊎_elim, arith, length-append, mod-eq_of_lt}
 use mathlib.Core.Logic.{dite}
 use mathlib.Core.Option.{some, none, some-injective, some-ne-none}
 use native.Mathlib.Decide.{ℕ_discrete}
@@ -14,17 +14,15 @@ use Rattle.bucket_core.specs.Asking.{Call}
 use Rattle.atomic_table.proofs.Lists.{at_last, at_set, set_again, set_here, set_else, at_longer}
 use Rattle.std.proofs.lemmas.List.{map-append}
 use Rattle.std.proofs.lemmas.List.Elements.{Contains-append_left, Contains-push}
+use Rattle.std.proofs.lemmas.Bool.{or_left, or_right, false_from_ne_true}
 use Rattle.world_core.specs.declared.entry.Entry.{Entry}
 use Rattle.world_turn.specs.declared.view.View.{View}
-use Rattle.world_turn.specs.Seats.{of_seat}
+use Rattle.world_core.specs.Journals.{of_seat}
 use Rattle.world_turn.specs.Rule.{Fits, HasSeat, IsAsked, IsFrom, IsKept, IsSeen, IsToldWanted, Opened, Rule, SomeView, opened_of, root, spent}
 use Rattle.world_turn.specs.Closing.{AllJoined, Closes}
 use Rattle.world_turn.specs.Steps.{holding, adding, leaving, leaving_full, leaving_short, looking, one_more, next_seat, joining, comparing, Lies, Takes, Appends, Gives, GivesFull, GivesShort, Counts, Compares}
 use Rattle.world_turn.proofs.Fronts.{of_seat-own, of_seat-other, front_whole, front_none, front_more, front_length, no_front, one_last, longer_front, longer_first, longer_second, longer_whole}
-
-pub each_of : {A : Type 0} (P Q : A → Type 0) → ((x : A) → P x → Q x) → (xs : List A) → AllByRecursion P xs → AllByRecursion Q xs
-each_of P Q f [] e = tt
-each_of P Q f (x ∷ xs) e = (f x e.0, each_of P Q f xs e.1)
+use Rattle.list_core.proofs.Lists.{AllByRecursion-weaker, AllByRecursion-push}
 
 at_lt : {A : Type 0} (l : List A) (i : ℕ) (a : A) → get_elem? l i ≡ some a → i < length l
 at_lt [] i a e = absurd (some-ne-none a (sym e))
@@ -40,21 +38,6 @@ snoc_at [] a b zero e = inr (some-injective a b e, refl)
 snoc_at [] a b (suc j) e = absurd (some-ne-none b (sym e))
 snoc_at (x ∷ xs) a b zero e = inl e
 snoc_at (x ∷ xs) a b (suc j) e = ⊎_elim (λ h. inl h) (λ (h : (a ≡ b) × (j ≡ length xs)). inr (h.0, ap suc h.1)) (snoc_at xs a b j e)
-
-pub each_snoc : {A : Type 0} (P : A → Type 0) (xs : List A) (y : A) → AllByRecursion P xs → P y → AllByRecursion P (xs ++ y ∷ [])
-each_snoc P [] y e p = (p, tt)
-each_snoc P (x ∷ xs) y e p = (e.0, each_snoc P xs y e.1 p)
-
-or_left : (a b : Bool) → a ≡ true → (a || b) ≡ true
-or_left a b is = ap (λ (x : Bool). x || b) is
-
-or_right : (a b : Bool) → b ≡ true → (a || b) ≡ true
-or_right true b is = refl
-or_right false b is = is
-
-never_true : (b : Bool) → (b ≡ true → ⊥) → b ≡ false
-never_true true not = absurd (not refl)
-never_true false not = refl
 
 -- what holds of some view still does, if a view that changes keeps it
 some_still : (P : View → Type 0) (views : List View) (id : ℕ) (v w : View) → get_elem? views id ≡ some v → (P v → P w) → SomeView P views → SomeView P (set views id w)
@@ -162,7 +145,7 @@ module _ {W : Type 0} (journal : W → List Entry) (ticks faults : W → ℕ) (a
             others_fit r.turn r.holder turn holder r.wanted wanted r.log log r.seats r.joined r.place j u grown
             (λ l. same u.seat (λ e'. t.0 (sym ((f.seated l).1) ∙ (ap r.place e' ∙ own_seat.1)))) (λ h. held j u t.0 t.1 h) f)
             (at_set s.views id j w u e);
-        kept = each_of (IsKept r.log s.views r.seats) (IsKept log (set s.views id w) r.seats) (λ k i. record {
+        kept = AllByRecursion-weaker (IsKept r.log s.views r.seats) (IsKept log (set s.views id w) r.seats) (λ k i. record {
           own = i.own ∙ same k.0 (λ e. i.gone id v at live (sym e));
           seated = i.seated;
           gone = λ j u e l. ⊎_elim
@@ -445,7 +428,7 @@ module _ {W : Type 0} (journal : W → List Entry) (ticks faults : W → ℕ) (a
               holds = λ h. absurd (true≢false (sym h));
             })
             (snoc_at views right u j e);
-        kept = each_of (IsKept r.log s.views r.seats) (IsKept r.log (views ++ right ∷ []) (r.seats + 1)) (λ k i. let m = i.seated in record {
+        kept = AllByRecursion-weaker (IsKept r.log s.views r.seats) (IsKept r.log (views ++ right ∷ []) (r.seats + 1)) (λ k i. let m = i.seated in record {
           own = i.own;
           seated = omega arith;
           gone = λ j u e l. ⊎_elim
@@ -511,8 +494,8 @@ module _ {W : Type 0} (journal : W → List Entry) (ticks faults : W → ℕ) (a
             }
             (λ j u a b e. let h = r.each j u e in record { front = h.front; known = h.known; comes = h.comes; own = h.own; seated = h.seated; beside = h.beside; rooted = λ z. absurd (a (z ∙ sym root)); holds = h.holds })
             record { front = front_none r.log; known = omega arith; comes = λ l. absurd (true≢false (sym l)); own = λ l. absurd (true≢false (sym l)); seated = λ l. absurd (true≢false (sym l)); beside = front_none r.log; rooted = λ z. absurd (apart (z ∙ sym root)); holds = λ h. absurd (true≢false (sym h)) };
-        kept = each_snoc (IsKept r.log last r.seats) r.joined (w.seat, w.own)
-            (each_of (IsKept r.log s.views r.seats) (IsKept r.log last r.seats) (λ k i. record {
+        kept = AllByRecursion-push (IsKept r.log last r.seats) r.joined (w.seat, w.own)
+            (AllByRecursion-weaker (IsKept r.log s.views r.seats) (IsKept r.log last r.seats) (λ k i. record {
               own = i.own;
               seated = i.seated;
               gone = who (λ j u. u.live ≡ true → u.seat ≢ k.0) (λ l. i.gone id v at live) (λ j u a b e l. i.gone j u e l) (λ l. absurd (true≢false (sym l)));
@@ -595,7 +578,7 @@ module _ {W : Type 0} (journal : W → List Entry) (ticks faults : W → ℕ) (a
   -- once every other seat was joined, the root says whether memory was wanted
   unwanted : (s : St) (r : R s) (id : ℕ) (v : View) → get_elem? s.views id ≡ some v → id ≡ 0 → v.live ≡ true → v.seat ≡ 0 → AllJoined v → v.wanted ≡ false → r.wanted ≡ false
   unwanted s r id v at first live seat all never =
-      never_true r.wanted (λ so.
+      false_from_ne_true r.wanted (λ so.
       let t = r.told so in
       off_wanted v t.1 (last_live s r id v at first live seat all t.0 t.1 t.2 t.3.0) never t.3.1)
 
@@ -624,7 +607,7 @@ module _ {W : Type 0} (journal : W → List Entry) (ticks faults : W → ℕ) (a
           front = saw_all s r id v at root live seat bare all ∙ sym h.2;
           known = subst (λ (es : List Entry). v.known ≤ length es) (sym h.2) f.known;
           own = f.own live ∙ ap₂ of_seat seat (sym h.2);
-          joined = subst (λ (j : List (ℕ × List Entry)). AllByRecursion (λ k. k.1 ≡ of_seat k.0 (journal h.0)) j) (sym x.1) (each_of (IsKept r.log s.views r.seats) (λ k. k.1 ≡ of_seat k.0 (journal h.0)) (λ k i. i.own ∙ ap (of_seat k.0) (sym h.2)) r.joined r.kept);
+          joined = subst (λ (j : List (ℕ × List Entry)). AllByRecursion (λ k. k.1 ≡ of_seat k.0 (journal h.0)) j) (sym x.1) (AllByRecursion-weaker (IsKept r.log s.views r.seats) (λ k. k.1 ≡ of_seat k.0 (journal h.0)) (λ k i. i.own ∙ ap (of_seat k.0) (sym h.2)) r.joined r.kept);
           nobody = λ n le. ap (of_seat n) h.2 ∙ (let m = x.0 in r.nobody n (omega arith));
         },
         h.3,

@@ -20,7 +20,7 @@ get_last : (xs : List Entry) (e : Entry) → slice_get (xs ++ e ∷ []) (length 
 get_last [] e = refl
 get_last (x ∷ xs) e = get_last xs e
 
-entry_there : (xs : List Entry) (number : ℕ) → 0 < number → entry_at xs number ≡ slice_get xs (number - 1)
+pub entry_there : (xs : List Entry) (number : ℕ) → 0 < number → entry_at xs number ≡ slice_get xs (number - 1)
 entry_there xs number some = ap (λ (b : Bool). if b then None else slice_get xs (number - 1)) (ne_eqb number 0 (λ z. absurd (omega arith)))
 
 -- an entry of a front has the same number in the whole

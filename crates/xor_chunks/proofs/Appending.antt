@@ -1,8 +1,8 @@
 -- Samples that are put behind others.
-use Rattle.std.proofs.Common.{◌≡◌, ℕ, zero, suc, ◌+◌, ◌-◌, ◌*◌, ◌≤◌, Bool, true, false, List, [], ◌∷◌, ◌++◌, length, Result, Ok, Err, refl, sym, ap, subst, ◌∙◌, append_assoc, length-append, arith, ◌⊎◌, inl, inr}
+use Rattle.std.proofs.Common.{◌≡◌, ℕ, zero, suc, ◌+◌, ◌-◌, ◌*◌, ◌≤◌, Bool, true, false, List, [], ◌∷◌, ◌++◌, length, Result, Ok, Err, refl, sym, ap, subst, ◌∙◌, length-append, arith, ◌⊎◌, inl, inr}
 use Rattle.std.specs.Prelude.{IfOk, IsOkAnd, IsErrAnd}
 use Rattle.std.proofs.lemmas.List.{append-nil}
-use Rattle.reading_core.specs.Reading.{◌>>=◌, Gives}
+use Rattle.reading_core.specs.Reading.{Gives}
 use Rattle.reading_core.specs.Grammar.{IsBytes}
 use Rattle.reading_core.proofs.Binds.{ok_is}
 use Rattle.label_sets.specs.declared.sample.Sample.{Sample}
@@ -13,6 +13,7 @@ use Rattle.xor_chunks.specs.Samples.{begun}
 use Rattle.xor_chunks.specs.Data.{count_at, first_at, rest_at, samples_at, is_filling, data_at, with_front, with_samples}
 use Rattle.xor_chunks.specs.Grammar.{IsText}
 use Rattle.xor_chunks.proofs.TextsRead.{data_again, found, text_few}
+use Rattle.xor_chunks.proofs.Loops.{regroup}
 
 -- ---- a call that stopped with a refusal
 
@@ -21,10 +22,6 @@ gives_stop _ _ (Ok x) e is why = absurd is
 gives_stop _ read (Err d) e is why = subst (λ c. (c ≡ NoMemory) ⊎ (read ≡ Err c)) (sym is) why
 
 -- ---- the samples behind a count
-
-regroup : (front : List Sample) (s : Sample) (read : Result (List Sample × List Bool) XorRefusal) → with_front (front ++ s ∷ []) read ≡ with_front front (read >>= λ x. Ok (s ∷ x.0, x.1))
-regroup front s (Ok x) = ap (λ ss. Ok (ss, x.1)) (append_assoc front (s ∷ []) x.0)
-regroup _ s (Err e) = refl
 
 pub no_samples : (front : List Sample) (count : ℕ) (bytes : List ℕ) (bits : List Bool) → count ≡ 0 → bits ≡ bits_in bytes → with_front front (samples_at count bytes) ≡ Ok (front, bits)
 unfolding samples_at

@@ -46,7 +46,7 @@ pub ends : (front samples : List Sample) (i count : ℕ) (second last : State) (
 unfolding others_at
 ends _ _ i _ _ _ _ _ h all = rw (← all, h.read, h.so_far) refl
 
-regroup : (front : List Sample) (s : Sample) (read : Result (List Sample × List Bool) XorRefusal) → with_front (front ++ s ∷ []) read ≡ with_front front (read >>= λ x. Ok (s ∷ x.0, x.1))
+pub regroup : (front : List Sample) (s : Sample) (read : Result (List Sample × List Bool) XorRefusal) → with_front (front ++ s ∷ []) read ≡ with_front front (read >>= λ x. Ok (s ∷ x.0, x.1))
 regroup front s (Ok x) = ap (λ ss. Ok (ss, x.1)) (append_assoc front (s ∷ []) x.0)
 regroup _ s (Err e) = refl
 

@@ -2,18 +2,17 @@
 -- query asks for.
 use Rattle.list_core.proofs.Lists.{cons_same}
 use Rattle.list_core.proofs.Membership.{any_of_member, each_member, into_filter, into_flat_map, member_cases, member_of_any, member_passes, of_filter, of_flat_map, of_map}
-use Rattle.std.proofs.Common.{◌≡◌, inl, inr, ℕ, ℤ, ◌≤ℤ◌, ◌<ℤ◌, Bool, true, false, ◌&&◌, List, [], ◌∷◌, map, Contains, refl, sym, ◌∙◌, ap, subst, arith}
+use Rattle.std.proofs.Common.{◌≡◌, inl, inr, ℕ, ℤ, ◌≤ℤ◌, ◌<ℤ◌, true, ◌&&◌, List, [], ◌∷◌, map, Contains, refl, sym, ◌∙◌, ap, subst, arith}
 use Rattle.std.specs.Cmp.{IsEquivalence}
 use Rattle.std.specs.List.{All, AllByRecursion, AllZip, filter, list_any}
 use Rattle.std.specs.Option.{option_map_or}
-use Rattle.std.specs.Ordering.{int_cmp, is_eq, ordering_then}
 use Rattle.std.specs.Prelude.{int_le, int_lt}
 use Rattle.std.proofs.lemmas.Cmp.{eq_by_cmp_equiv}
 use Rattle.std.proofs.lemmas.Int.{ints}
 use Rattle.std.proofs.lemmas.List.Elements.{All-contains, All-from_recursion, Contains-append_cases, Contains-append_left, Contains-append_right}
 use Rattle.list_core.proofs.Membership.{all_members}
+use Rattle.list_core.proofs.Bools.{and_second}
 use Rattle.label_sets.specs.Finals.{final_of}
-use Rattle.label_sets.specs.Labels.{compare_sets}
 use Rattle.label_sets.specs.declared.label.Label.{Label}
 use Rattle.label_sets.specs.declared.sample.Sample.{Sample}
 use Rattle.label_sets.specs.declared.series.Series.{Series}
@@ -32,6 +31,7 @@ use Rattle.series_calls.specs.SeriesCalls.{asking, meets, sources_of, to_read}
 use Rattle.sync_filters.specs.declared.found.Found.{Found}
 use Rattle.world_core.specs.declared.entry.Entry.{Entry}
 use Rattle.activity_laws.specs.MergedLabels.{seen_as}
+use Rattle.activity_laws.proofs.MergedBlocks.{are_same}
 use Rattle.lifecycle_core.specs.Held.{declared, held, held_by}
 use Rattle.lifecycle_core.specs.Setting.{Setting}
 use Rattle.lifecycle_core.proofs.blocks.Contents.{IsHeldWhole}
@@ -40,11 +40,6 @@ use Rattle.lifecycle_core.proofs.blocks.Contents.{IsHeldWhole}
 
 alike : IsEquivalence has_same_key
 alike = eq_by_cmp_equiv keys_total
-
-are_same : (one other : Triple) → one.labels ≡ other.labels → one.time ≡ other.time → has_same_key one other ≡ true
-are_same one other labels times =
-    subst (λ t. is_eq (ordering_then (compare_sets one.labels other.labels) (int_cmp one.time t)) ≡ true) times
-    (subst (λ l. is_eq (ordering_then (compare_sets one.labels l) (int_cmp one.time one.time)) ≡ true) labels (alike.refl one))
 
 -- what is asked for is told by the key
 asked_too : (selector : List Matcher) (low high : ℤ) (t x : Triple) → has_same_key t x ≡ true → is_selected selector low high t ≡ true → is_selected selector low high x ≡ true
@@ -71,13 +66,9 @@ timed labels replicas list first last t within among =
     let time : sample.time ≡ t.time = ap (λ (x : Triple). x.time) s.2 in
     (subst (λ z. first ≤ℤ z) time times.0, subst (λ z. z <ℤ last) time times.1)
 
-right_holds : (a b : Bool) → (a && b) ≡ true → b ≡ true
-right_holds true b both = both
-right_holds false b both = absurd (cc (both))
-
 range_holds : (selector : List Matcher) (low high : ℤ) (t : Triple) → is_selected selector low high t ≡ true → is_between low high t.time ≡ true
 unfolding is_selected
-range_holds selector low high t passes = right_holds (is_match selector t.labels) (is_between low high t.time) passes
+range_holds selector low high t passes = and_second (is_match selector t.labels) (is_between low high t.time) passes
 
 -- a block meets the range where a sample of it is within both
 meets_range : (low high first last time : ℤ) → is_between low high time ≡ true → first ≤ℤ time → time <ℤ last → (int_le first high && int_lt low last) ≡ true

@@ -1,5 +1,6 @@
 -- What gateways gave to an answered query of a run: each part is the answer of a call in the journal, over the view of a sync in it.
 use Rattle.list_core.proofs.Membership.{into_map}
+use Rattle.list_core.proofs.Pairs.{AllZip-second}
 use Rattle.std.proofs.Common.{◌≡◌, ℕ, List, Contains, Option, Some, refl, sym, ◌∙◌, ap, subst}
 use Rattle.std.specs.Prelude.{get_or}
 use Rattle.std.specs.List.{All}
@@ -18,7 +19,6 @@ use Rattle.lifecycle_core.specs.Setting.{Setting}
 use Rattle.lifecycle_core.specs.SyncsAndCalls.{IsCallIn, IsViewOf}
 use Rattle.lifecycle_core.specs.Tasks.{End, answered, ask_to, asks_in, sync_rules}
 use Rattle.lifecycle_core.proofs.answers.EndsAreCalls.{Called, called_in, task_called, view_of}
-use Rattle.lifecycle_core.proofs.journals.Positions.{zip_right}
 use Rattle.lifecycle_core.proofs.journals.Rising.{journal_rises}
 use Rattle.lifecycle_core.proofs.journals.Told.{IsMade, IsOrigin}
 use Rattle.lifecycle_core.proofs.phases.GatewayParts.{one_ask}
@@ -67,5 +67,5 @@ module _ (setting : Setting) (journal : List Entry) (ends : List (List (List End
   of_parts P each = λ k d below.
       let named = get_or query.named k d in
       let among = All-contains_itself query.named k d below in
-      let part = zip_right Part query.named given.parts named given.given among in
+      let part = AllZip-second Part query.named given.parts named given.given among in
       each named part.0 among part.2

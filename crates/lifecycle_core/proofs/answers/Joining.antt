@@ -1,5 +1,6 @@
 -- The answers of several gateways, merged, are exact for all that they name.
 use Rattle.list_core.proofs.Membership.{any_of_member, into_flat_map, member_of_any, of_flat_map}
+use Rattle.list_core.proofs.Pairs.{AllZip-first, AllZip-second}
 use Rattle.std.proofs.Common.{◌≡◌, ◌≢◌, ℤ, true, List, [], Contains, Some, refl, ◌∙◌, ap}
 use Rattle.std.specs.Prelude.{find}
 use Rattle.std.specs.List.{AllZip, flat_map, list_any}
@@ -13,7 +14,6 @@ use Rattle.label_sets.specs.declared.series.Series.{Series}
 use Rattle.vertical_merge.specs.Merged.{IsDeduplication, IsMerge}
 use Rattle.vertical_merge.proofs.Laws.{deduplicates}
 use Rattle.vertical_merge.proofs.Orders.{same_key}
-use Rattle.lifecycle_core.proofs.journals.Positions.{zip_left, zip_right}
 
 -- the same key
 same_as : (one other third : Triple) → has_same_key one other ≡ true → has_same_key other third ≡ true → has_same_key one third ≡ true
@@ -33,13 +33,13 @@ module _ {N : Type 0} (wanted : N → List Triple) (named : List N) (parts : Lis
   taken_one t among =
       let inside = All-contains (Contains (flat_map triples_of parts)) (triples_of series) t dedup.one_to_one.taken among in
       let part = of_flat_map triples_of parts t inside in
-      let who = zip_left Exact named parts part.0 each part.1 in
+      let who = AllZip-first Exact named parts part.0 each part.1 in
       into_flat_map wanted named who.0 t who.1 (All-contains (Contains (wanted who.0)) (triples_of part.0) t who.2.one_to_one.taken part.2)
 
   complete_one : (t : Triple) → Contains (flat_map wanted named) t → list_any (has_same_key t) (triples_of series) ≡ true
   complete_one t among =
       let of = of_flat_map wanted named t among in
-      let part = zip_right Exact named parts of.0 each of.1 in
+      let part = AllZip-second Exact named parts of.0 each of.1 in
       let near = member_of_any (has_same_key t) (triples_of part.0) (All-contains (λ (x : Triple). list_any (has_same_key x) (triples_of part.0) ≡ true) (wanted of.0) t part.2.one_to_one.complete of.2) in
       let inside = into_flat_map triples_of parts part.0 near.0 part.1 near.1 in
       let last = member_of_any (has_same_key near.0) (triples_of series) (All-contains (λ (x : Triple). list_any (has_same_key x) (triples_of series) ≡ true) (flat_map triples_of parts) near.0 dedup.one_to_one.complete inside) in

@@ -10,7 +10,7 @@ use Rattle.meta_fetcher.specs.declared.sync_end.SyncEnd.TheVariants as fetched
 use Rattle.script_core.specs.Lawful.{IsLawfulScript}
 use Rattle.script_workers.specs.declared.task.Task.{Task}
 use Rattle.lifecycle_core.specs.Breaches.{IsSyncIn, IsViewAt, NoViewBetween}
-use Rattle.lifecycle_core.specs.Conducts.{of_seat}
+use Rattle.world_core.specs.Journals.{of_seat}
 use Rattle.lifecycle_core.specs.Holdings.{Use}
 use Rattle.lifecycle_core.specs.Phases.{IsRunOf}
 use Rattle.lifecycle_core.specs.Setting.{Setting}
@@ -20,11 +20,12 @@ use Rattle.lifecycle_core.proofs.deeds.Orders.{lower_is_in_front}
 use Rattle.lifecycle_core.proofs.journals.Rising.{journal_rises}
 use Rattle.lifecycle_core.proofs.journals.Standing.{parted}
 use Rattle.lifecycle_core.proofs.journals.Told.{IsMade, IsOrigin, Rises}
-use Rattle.lifecycle_core.proofs.phases.OwnSyncs.{IsLatestAt, before_all, upto_last}
+use Rattle.lifecycle_core.proofs.phases.OwnSyncs.{IsLatestAt, upto_last}
 use Rattle.lifecycle_core.proofs.phases.Stretches.{no_listing, rises_filter, rises_left, rises_right}
 use Rattle.lifecycle_core.proofs.views.Alone.{alone_here}
 use Rattle.lifecycle_core.proofs.views.Named.{tells_names}
 use Rattle.lifecycle_core.proofs.views.OneOpening.{ListsNames}
+use Rattle.lifecycle_core.proofs.deeds.ActingDeeds.{rises_apart}
 
 module _ (setting : Setting) (journal : List Entry) {task : Task} {end : End} (m : IsMade setting journal task end) (used : Use) (is : m.held.used ≡ Some used) (gateway : ℕ) (by : m.who.gateway ≡ Some gateway) where
   -- no sync that gave a view came between
@@ -63,7 +64,7 @@ module _ (setting : Setting) (journal : List Entry) {task : Task} {end : End} (m
         let own : Rises (before ++ (first ∷ others)) = rises_left (before ++ (first ∷ others)) after up in
         let last = upto_last (sync_rules setting gateway) (first ∷ others) used.view run (rises_right before (first ∷ others) own) first (contains_first first others) in
         let earlier : (x : Entry) → Contains before x → ListsNames x.reply = λ x inside.
-        let lower = before_all before (first ∷ others) own x first inside (contains_first first others) in
+        let lower = rises_apart before (first ∷ others) own x first inside (contains_first first others) in
         let seat : Contains (of_seat origin.seat journal) x = subst (λ (es : List Entry). Contains es x) (sym parts) (Contains-append_left (before ++ (first ∷ others)) after x (Contains-append_left before (first ∷ others) x inside)) in
         named x (of_filter (λ (z : Entry). z.seat == origin.seat) journal x seat) (omega (arith, lower, last, less)) in record {
           seat = origin.seat;

@@ -24,7 +24,7 @@ use Rattle.script_core.specs.Lawful.{IsLawfulScript}
 use Rattle.activity_laws.specs.Sights.{IsSight}
 use Rattle.activity_laws.proofs.SyncSights.{sync_sight}
 use Rattle.lifecycle_core.specs.Breaches.{read_key, watched_call}
-use Rattle.lifecycle_core.specs.Conducts.{of_seat}
+use Rattle.world_core.specs.Journals.{of_seat}
 use Rattle.lifecycle_core.specs.Guarantees.{IsSoundCall}
 use Rattle.lifecycle_core.specs.Held.{held}
 use Rattle.lifecycle_core.specs.Holdings.{Use}

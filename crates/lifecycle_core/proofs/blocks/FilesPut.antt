@@ -1,6 +1,7 @@
 -- The files with which a block was put before its meta, and that no put of the block has others.
 use Rattle.list_core.proofs.Lists.{nil_not_middle}
 use Rattle.list_core.proofs.Membership.{contains_later, member_cases, no_member}
+use Rattle.list_core.proofs.Pairs.{AllZip-first}
 use Rattle.std.proofs.Common.{◌≡◌, ◌≢◌, ◌⊎◌, inl, inr, ℕ, ◌+◌, List, [], ◌∷◌, ◌++◌, Contains, Some, refl, sym, ◌∙◌, ap, subst, append_assoc, arith}
 use Rattle.std.specs.Prelude.{slice_get}
 use Rattle.std.proofs.lemmas.List.Elements.{Contains-append_cases, Contains-append_left, Contains-append_right}
@@ -15,7 +16,7 @@ use Rattle.world_core.specs.declared.entry.Entry.{Entry}
 use Rattle.script_core.specs.Lawful.{IsLawfulScript}
 use Rattle.script_core.specs.declared.block.Block.{Block as Declared}
 use Rattle.activity_laws.specs.CompactionOps.{IsObjectMade, Stores}
-use Rattle.lifecycle_core.specs.Conducts.{of_seat}
+use Rattle.world_core.specs.Journals.{of_seat}
 use Rattle.lifecycle_core.specs.PutBlocks.{WasPutBefore}
 use Rattle.lifecycle_core.specs.Setting.{Setting}
 use Rattle.lifecycle_core.specs.Shipped.{IsShipped}
@@ -27,7 +28,7 @@ use Rattle.lifecycle_core.proofs.blocks.Whole.{IsWholeBlock}
 use Rattle.lifecycle_core.proofs.deeds.Orders.{front_is_earlier, in_seat, ordered}
 use Rattle.lifecycle_core.proofs.deeds.Sources.{IsShipping, IsSource, by_compaction, by_upload, object_source}
 use Rattle.lifecycle_core.proofs.deeds.Words.{AreDeeds}
-use Rattle.lifecycle_core.proofs.journals.Positions.{split, stands_in, zip_left}
+use Rattle.lifecycle_core.proofs.journals.Positions.{split, stands_in}
 use Rattle.lifecycle_core.proofs.journals.Rising.{journal_rises}
 use Rattle.lifecycle_core.proofs.journals.Standing.{parted}
 use Rattle.lifecycle_core.proofs.journals.Told.{Rises}
@@ -172,7 +173,7 @@ module _ (setting : Setting) (journal : List Entry) (lawful : IsLawfulScript set
     new_stored : AllStored front back x at ulid bytes puts (m.block).segments (m.block).index text
     new_stored o among other =
         let done = others_done ulid (m.block).segments (m.block).index text m.done m.left ulid bytes (objects_made ∙ m.objects) o among other in
-        let e = zip_left Stores m.puts m.done o m.stored done in
+        let e = AllZip-first Stores m.puts m.done o m.stored done in
         let own : Contains (of_seat x.seat front) e.0 = subst (λ es. Contains es e.0) (sym m.parts) (in_puts m.read m.look m.puts e.0 e.1) in
         stored_before front back x at o e.0 own e.2
       where

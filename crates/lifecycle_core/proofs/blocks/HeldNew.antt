@@ -22,6 +22,7 @@ use Rattle.block_laws.specs.PutContent.{AreBytes}
 use Rattle.block_writing.specs.Segments.{segment_text}
 use Rattle.block_writing.specs.WrittenMeta.{meta_with}
 use Rattle.list_core.proofs.Lists.{AllByRecursion-map}
+use Rattle.list_core.proofs.Pairs.{AllZip-first}
 use Rattle.world_core.specs.Operations.{IsLawful, PutsBytes}
 use Rattle.world_core.specs.Standing.{IsHonest}
 use Rattle.world_core.specs.Worlds.{IsOfBytes}
@@ -38,7 +39,7 @@ use Rattle.script_core.specs.Lawful.{IsLawfulScript}
 use Rattle.activity_laws.specs.CompactionOps.{HasMerged, IsObjectMade, ReadsObject, WasRead}
 use Rattle.activity_laws.specs.MergedLabels.{AreMergedAs, Holds, seen_as}
 use Rattle.activity_laws.specs.Sights.{IsSeen}
-use Rattle.lifecycle_core.specs.Conducts.{of_seat}
+use Rattle.world_core.specs.Journals.{of_seat}
 use Rattle.lifecycle_core.specs.Held.{declared, held, held_by}
 use Rattle.lifecycle_core.specs.PutBlocks.{WasPutBefore}
 use Rattle.lifecycle_core.specs.Setting.{Setting}
@@ -46,20 +47,21 @@ use Rattle.lifecycle_core.proofs.blocks.FilesPut.{AreFilesPut, new_files}
 use Rattle.lifecycle_core.proofs.blocks.HeldPuts.{IsHeldPut, not_declared, seen_in, shipped_holds}
 use Rattle.lifecycle_core.proofs.blocks.InlineBlocks.{index_told}
 use Rattle.activity_laws.proofs.MergedBlocks.{HoldsThese, merge_joins}
+use Rattle.activity_laws.proofs.CompactionGroups.{plan_among, named_is}
 use Rattle.lifecycle_core.proofs.blocks.Known.{IsSoundPut, WasMetaPut, merged_again, read_put, sound_put}
 use Rattle.lifecycle_core.proofs.blocks.NamedContent.{named_content}
 use Rattle.lifecycle_core.proofs.blocks.NewMetas.{given, input_labels, merge, metas_are, source_in, source_of}
-use Rattle.lifecycle_core.proofs.blocks.PlanMembers.{member_within, plan_within}
+use Rattle.lifecycle_core.proofs.blocks.PlanMembers.{member_within}
 use Rattle.lifecycle_core.proofs.blocks.Whole.{told_size}
 use Rattle.lifecycle_core.proofs.deeds.Orders.{front_is_earlier, in_seat}
 use Rattle.lifecycle_core.proofs.deeds.Sources.{IsSource, by_compaction, by_upload, object_source}
 use Rattle.lifecycle_core.proofs.deeds.Stood.{LandsPut, found_stands, stood}
 use Rattle.lifecycle_core.proofs.deeds.Words.{AreDeeds}
-use Rattle.lifecycle_core.proofs.journals.Positions.{stands_in, zip_left}
+use Rattle.lifecycle_core.proofs.journals.Positions.{stands_in}
 use Rattle.lifecycle_core.proofs.journals.Rising.{journal_rises}
 use Rattle.lifecycle_core.proofs.journals.Standing.{parted}
 use Rattle.lifecycle_core.proofs.journals.Told.{Rises}
-use Rattle.lifecycle_core.proofs.marks.Reasons.{kept_seen, named_is}
+use Rattle.lifecycle_core.proofs.marks.Reasons.{kept_seen}
 
 -- ---- lists
 
@@ -145,9 +147,9 @@ module _ (setting : Setting) (journal : List Entry) (lawful : IsLawfulScript set
 
     input_of : (b : BlockFiles) → Contains blocks b → InputOf b
     input_of b among =
-        let i = zip_left IsInput merged.inputs blocks b (given setting.script.rules m.view m.read m.ulid m.block merged).read among in
-        let t = zip_left (WasRead m.read) merged.metas merged.inputs i.0 merged.read i.1 in
-        let member = plan_within (merged.group).members merged.metas merged.planned t.0 t.1 in
+        let i = AllZip-first IsInput merged.inputs blocks b (given setting.script.rules m.view m.read m.ulid m.block merged).read among in
+        let t = AllZip-first (WasRead m.read) merged.metas merged.inputs i.0 merged.read i.1 in
+        let member = plan_among (merged.group).members merged.metas merged.planned t.0 t.1 in
         let own = member_within setting.script.rules.replicas (metas_of m.view.kept) merged.groups merged.grouped merged.group merged.among t.0 member in
         let f = of_map (λ (g : Found). g.meta) m.view.kept t.0 own in
         record {

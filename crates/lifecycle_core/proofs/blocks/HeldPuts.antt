@@ -1,6 +1,6 @@
 -- What a block holds whose meta was put.
 use Rattle.list_core.proofs.Membership.{any_of_member}
-use Rattle.std.proofs.Common.{◌≡◌, ℕ, ◌≤◌, true, is_some, List, [], ◌∷◌, ◌++◌, length, All, Contains, Option, Some, None, refl, sym, ◌∙◌, ap, subst, append-nil, arith}
+use Rattle.std.proofs.Common.{◌≡◌, ℕ, ◌≤◌, true, is_some, List, [], ◌∷◌, ◌++◌, length, All, Contains, Option, Some, None, refl, sym, ◌∙◌, ap, subst, append-nil}
 use Rattle.std.specs.Prelude.{IfSome, IsSome}
 use Rattle.std.specs.List.{AllByRecursion, IsDistinct, list_any}
 use Rattle.std.specs.List.Sorted.{IsStrictlyIncreasing}
@@ -28,12 +28,12 @@ use Rattle.world_core.specs.declared.entry.Entry.{Entry}
 use Rattle.script_core.specs.Lawful.{IsLawfulScript}
 use Rattle.activity_laws.specs.CompactionOps.{IsObjectMade}
 use Rattle.activity_laws.specs.MergedLabels.{seen_as}
-use Rattle.lifecycle_core.specs.Conducts.{of_seat}
+use Rattle.world_core.specs.Journals.{of_seat}
 use Rattle.lifecycle_core.specs.Held.{declared, given, held, held_by}
 use Rattle.lifecycle_core.specs.Setting.{Setting}
 use Rattle.lifecycle_core.proofs.blocks.Declared.{declared_ulid}
 use Rattle.lifecycle_core.proofs.blocks.FilesPut.{AreFilesPut, new_files, shipped_files, shipped_whole}
-use Rattle.lifecycle_core.proofs.blocks.Known.{merged_again}
+use Rattle.lifecycle_core.proofs.blocks.Known.{merged_again, alone}
 use Rattle.lifecycle_core.proofs.blocks.NewMetas.{meta_is_read, named_again}
 use Rattle.lifecycle_core.proofs.blocks.Objects.{object, object_is}
 use Rattle.lifecycle_core.proofs.blocks.OneKey.{new_is_not_declared}
@@ -83,9 +83,6 @@ meta_made m times distinct = record {
 
 own_key : (t : Triple) → has_same_key t t ≡ true
 own_key t = ap is_eq (tied_itself keys_total t)
-
-alone : (u : ℕ) → IsStrictlyIncreasing (u ∷ [])
-alone u k below = absurd (omega (arith, below))
 
 -- what is the same list holds the same
 all_same : (one other : List Triple) → one ≡ other → All (Contains other) one × All (λ t. list_any (has_same_key t) one ≡ true) other

@@ -1,11 +1,11 @@
 -- What the meta of a complete block says.
-use Rattle.std.proofs.Common.{◌≡◌, ◌≢◌, ◌⊎◌, inl, inr, ℕ, ℤ, zero, suc, ◌<◌, ◌^◌, ◌≤ℤ◌, true, is_some, List, [], ◌∷◌, ◌++◌, Contains, Some, sym, ◌∙◌, ap, subst, append_assoc, arith}
+use Rattle.std.proofs.Common.{◌≡◌, ◌≢◌, ◌⊎◌, inl, inr, ℕ, zero, suc, ◌<◌, ◌^◌, true, is_some, List, [], ◌∷◌, ◌++◌, Contains, Some, sym, ◌∙◌, ap, subst, append_assoc, arith}
 use Rattle.std.specs.Prelude.{pos}
 use Rattle.std.specs.List.{All}
 use Rattle.std.specs.List.Sorted.{IsStrictlyIncreasing}
-use Rattle.std.proofs.lemmas.Int.{ints}
 use Rattle.std.proofs.lemmas.List.Elements.{All-cons, All-contains, All-from_recursion, All-nil}
 use Rattle.list_core.proofs.Membership.{all_members, of_map}
+use Rattle.list_core.proofs.Integers.{le_le, le_itself}
 use Rattle.block_keys.specs.declared.key.Key.TheVariants as key
 use Rattle.block_meta.specs.MetaFields.{MetaFields, fields_of}
 use Rattle.block_meta.specs.MetaReading.{meta_of_text}
@@ -24,8 +24,9 @@ use Rattle.compactor.specs.Compactions.{metas_of}
 use Rattle.script_core.specs.Lawful.{AreLawfulLabels, IsLawfulScript}
 use Rattle.activity_laws.specs.CompactionOps.{HasMerged, IsObjectMade}
 use Rattle.activity_laws.specs.Sights.{IsSeen}
+use Rattle.activity_laws.proofs.CompactionGroups.{plan_among, named_is}
 use Rattle.lifecycle_core.specs.Completed.{IsCompletedAt}
-use Rattle.lifecycle_core.specs.Conducts.{of_seat}
+use Rattle.world_core.specs.Journals.{of_seat}
 use Rattle.lifecycle_core.specs.PutBlocks.{LiesWithin, WasPutBefore}
 use Rattle.lifecycle_core.specs.Setting.{Setting}
 use Rattle.lifecycle_core.proofs.blocks.Declared.{declared_lawful}
@@ -33,7 +34,7 @@ use Rattle.lifecycle_core.proofs.blocks.FirstPuts.{FirstPut, complete_from, firs
 use Rattle.lifecycle_core.proofs.blocks.NewMetas.{IsSound, input_times, meta_is_read, named_again, new_read, new_sound, new_source, new_ulid_is, source_of}
 use Rattle.lifecycle_core.proofs.blocks.Objects.{object, object_is}
 use Rattle.lifecycle_core.proofs.blocks.OneKey.{one_text}
-use Rattle.lifecycle_core.proofs.blocks.PlanMembers.{member_within, plan_within}
+use Rattle.lifecycle_core.proofs.blocks.PlanMembers.{member_within}
 use Rattle.lifecycle_core.proofs.blocks.Readable.{is_readable}
 use Rattle.lifecycle_core.proofs.deeds.Orders.{front_is_earlier, stands_whole}
 use Rattle.lifecycle_core.proofs.deeds.Sources.{IsSource, by_compaction, by_upload, object_source, put_is_small}
@@ -42,7 +43,7 @@ use Rattle.lifecycle_core.proofs.deeds.Words.{AreDeeds}
 use Rattle.lifecycle_core.proofs.journals.Positions.{stands_in}
 use Rattle.lifecycle_core.proofs.journals.Rising.{journal_rises}
 use Rattle.lifecycle_core.proofs.journals.Told.{IsShippedObject, Rises}
-use Rattle.lifecycle_core.proofs.marks.Reasons.{kept_seen, named_is}
+use Rattle.lifecycle_core.proofs.marks.Reasons.{kept_seen}
 use Rattle.lifecycle_core.proofs.views.Metas.{meta_found}
 
 pub record IsKnown (setting : Setting) (journal : List Entry) (ulid seq : ℕ) (meta : MetaFields) : Type 0 where
@@ -59,16 +60,10 @@ pub record IsKnown (setting : Setting) (journal : List Entry) (ulid seq : ℕ) (
 
 -- ---- times and texts
 
-itself : (z : ℤ) → z ≤ℤ z
-itself z = omega (arith, ints)
-
-in_turn : (a b c : ℤ) → a ≤ℤ b → b ≤ℤ c → a ≤ℤ c
-in_turn a b c low high = omega (arith, ints, low, high)
-
 pub one_meta : (bytes : List ℕ) (one other : MetaFields) → IsMetaText bytes one → IsMetaText bytes other → one ≡ other
 one_meta bytes one other is so = let both = sym (meta_text_only bytes one is) ∙ meta_text_only bytes other so in cc (both)
 
-alone : (u : ℕ) → IsStrictlyIncreasing (u ∷ [])
+pub alone : (u : ℕ) → IsStrictlyIncreasing (u ∷ [])
 alone u k below = absurd (omega (arith, below))
 
 -- ---- puts of metas
@@ -139,8 +134,8 @@ module _ (setting : Setting) (journal : List Entry) (lawful : IsLawfulScript set
         let complete : IsCompletedAt journal ulid first.entry.seq meta = complete_from journal ulid x first meta (subst (λ b. IsMetaText b meta) (sym same) text) in
         let lies : LiesWithin setting journal x.seq meta ulid = record {
           uploaded = record { is_declared = ap is_some is.is; seq = first.entry.seq; meta = meta; completed = complete; earlier = omega (arith, first.upto) };
-          from = itself meta.min_time;
-          upto = itself meta.max_time;
+          from = le_itself meta.min_time;
+          upto = le_itself meta.max_time;
         } in
         record {
           meta = meta;
@@ -171,7 +166,7 @@ module _ (setting : Setting) (journal : List Entry) (lawful : IsLawfulScript set
 
       input_seen : (meta : Meta) → Contains merged.metas meta → (f : Found) × IsSeen m.read f × (f.meta ≡ meta)
       input_seen meta among =
-          let member = plan_within (merged.group).members merged.metas merged.planned meta among in
+          let member = plan_among (merged.group).members merged.metas merged.planned meta among in
           let own = member_within setting.script.rules.replicas (metas_of m.view.kept) merged.groups merged.grouped merged.group merged.among meta member in
           let f = of_map (λ (b : Found). b.meta) m.view.kept meta own in
           (f.0, kept_seen setting.script.rules m.read m.view merged.synced f.0 f.1, f.2)
@@ -208,8 +203,8 @@ module _ (setting : Setting) (journal : List Entry) (lawful : IsLawfulScript set
               completed = l.uploaded.completed;
               earlier = omega (arith, l.uploaded.earlier, i.earlier);
             };
-            from = in_turn (m.block).meta.min_time (o.0).min_time l.uploaded.meta.min_time t.0 l.from;
-            upto = in_turn l.uploaded.meta.max_time (o.0).max_time (m.block).meta.max_time l.upto t.1;
+            from = le_le (m.block).meta.min_time (o.0).min_time l.uploaded.meta.min_time t.0 l.from;
+            upto = le_le l.uploaded.meta.max_time (o.0).max_time (m.block).meta.max_time l.upto t.1;
           }
 
       tiny : m.ulid < 2 ^ 128

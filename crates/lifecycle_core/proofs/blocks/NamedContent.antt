@@ -19,23 +19,23 @@ use Rattle.compaction_inputs.specs.Named.{if_few, last_named, named_by, named_se
 
 -- ---- the greatest of numbers
 
-grows : (numbers : List ℕ) (before : ℕ) → before ≤ fold max before numbers
+pub grows : (numbers : List ℕ) (before : ℕ) → before ≤ fold max before numbers
 grows [] before = omega arith
 grows (n ∷ numbers) before = let up = grows numbers (max before n) in omega (arith, up)
 
-reached : (numbers : List ℕ) (before n : ℕ) → Contains numbers n → n ≤ fold max before numbers
+pub reached : (numbers : List ℕ) (before n : ℕ) → Contains numbers n → n ≤ fold max before numbers
 reached [] before n among = absurd (no_member n among)
 reached (m ∷ numbers) before n among = elim (member_cases m n numbers among) [
   | inl same ↦ let up = grows numbers (max before m) in omega (arith, up, same)
   | inr later ↦ reached numbers (max before m) n later
 ]
 
-few_is : (b : Bool) (n count : ℕ) → if_few b n ≡ Some count → n ≡ count
+pub few_is : (b : Bool) (n count : ℕ) → if_few b n ≡ Some count → n ≡ count
 few_is true n count is = cc (is)
 few_is false n count is = absurd (cc (is))
 
 -- each chunk of an index stands in a segment that it names
-chunk_named : (indexed : List IndexSeries) (one : IndexSeries) (place : ChunkPlace) → Contains indexed one → Contains one.chunks place → place.segment < last_named indexed
+pub chunk_named : (indexed : List IndexSeries) (one : IndexSeries) (place : ChunkPlace) → Contains indexed one → Contains one.chunks place → place.segment < last_named indexed
 chunk_named indexed one place among inside =
     let places : List ChunkPlace = flat_map (λ (s : IndexSeries). s.chunks) indexed in
     let up = reached (map segment_number places) 0 (segment_number place) (into_map segment_number places place (into_flat_map (λ (s : IndexSeries). s.chunks) indexed one place among inside)) in

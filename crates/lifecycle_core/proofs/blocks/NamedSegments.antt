@@ -1,5 +1,5 @@
 -- The index of a block with content names segments, and none that the block has not.
-use Rattle.std.proofs.Common.{◌≡◌, ℕ, ◌<◌, ◌≤◌, Bool, true, false, max, fold, List, [], ◌∷◌, ◌++◌, length, map, Some, Ok, sym, ◌∙◌, ap, subst, arith}
+use Rattle.std.proofs.Common.{◌≡◌, ℕ, ◌<◌, ◌≤◌, true, max, fold, List, [], ◌∷◌, ◌++◌, length, map, Some, Ok, sym, ◌∙◌, ap, subst, arith}
 use Rattle.std.specs.Prelude.{nat_le}
 use Rattle.std.specs.List.{AllZip, flat_map}
 use Rattle.std.proofs.lemmas.Bool.{le-leb}
@@ -16,6 +16,7 @@ use Rattle.index_parts.specs.declared.chunk_place.ChunkPlace.{ChunkPlace}
 use Rattle.label_sets.specs.declared.sample.Sample.{Sample}
 use Rattle.label_sets.specs.declared.series.Series.{Series}
 use Rattle.compaction_inputs.specs.Named.{if_few, last_named, named_by, named_segments, segment_number}
+use Rattle.lifecycle_core.proofs.blocks.NamedContent.{few_is}
 
 chunks_within : (segments : List (List ℕ)) (chunks : List ChunkPlace) (parts : List (List Sample)) → AllZip (IsChunkOf segments) chunks parts → (before : ℕ) → before ≤ length segments → fold max before (map segment_number chunks) ≤ length segments
 chunks_within segments [] [] all before low = low
@@ -44,15 +45,11 @@ named_some files list content bytes few =
     let test : nat_le (last_named content.indexed) 999_999 ≡ true = le-leb (last_named content.indexed) 999_999 (omega (arith, low, few)) in
     (last_named content.indexed, ap named_by read ∙ ap (λ b. if_few b (last_named content.indexed)) test)
 
-count_is : (b : Bool) (n count : ℕ) → if_few b n ≡ Some count → n ≡ count
-count_is true n count is = cc (is)
-count_is false n count is = absurd (cc (is))
-
 -- no more than the block has
 pub named_within : (files : BlockFiles) (list : List Series) → IsContent files list → AreBytes files → (count : ℕ) → named_segments files.index ≡ Some count → count ≤ length files.segments
 named_within files list content bytes count is =
     let read : index_at files.index ≡ Ok content.indexed = index_again files.index content.indexed bytes.index content.index_is in
     let told : named_by (Ok content.indexed) ≡ Some count = ap named_by (sym read) ∙ is in
-    let same = count_is (nat_le (last_named content.indexed) 999_999) (last_named content.indexed) count told in
+    let same = few_is (nat_le (last_named content.indexed) 999_999) (last_named content.indexed) count told in
     let low = all_within files.segments content.indexed list content.series_are 0 (omega arith) in
     omega (arith, low, same)

@@ -1,14 +1,13 @@
 -- What the meta of a block says that was compacted from others, and that its text is read again.
-use Rattle.list_core.proofs.Bools.{Equal-from_then}
+use Rattle.list_core.proofs.Bools.{Equal-from_then, Equal-from_is_eq}
 use Rattle.list_core.proofs.Lists.{AllByRecursion-map, cons_same}
 use Rattle.list_core.proofs.Membership.{all_members, contains_first, into_flat_map, member_passes, no_member, of_filter, of_flat_map, of_in_order, of_map}
 use Rattle.std.proofs.Common.{◌≡◌, ◌≢◌, ℕ, ℤ, ◌+◌, ◌<◌, ◌≤ℤ◌, ◌^◌, Bool, true, false, cond, pos, min, eqb, List, [], ◌∷◌, map, flat_map, filter, not, All, Contains, Some, None, Result, Ok, Err, IsUtf8, IsTrue, codes, rules, refl, sym, ◌∙◌, ap, subst, arith}
-use Rattle.std.specs.declared.cmp.Ordering.{Ordering}
-use Rattle.std.specs.declared.cmp.Ordering.TheVariants.{Less, Equal, Greater}
+use Rattle.std.specs.declared.cmp.Ordering.TheVariants.{Equal}
 use Rattle.std.specs.List.{AllByRecursion, AllZip}
 use Rattle.std.specs.List.Sorted.{IsStrictlyIncreasing}
-use Rattle.std.specs.Ordering.{int_cmp, is_eq}
-use Rattle.std.proofs.lemmas.Bool.{cond-true, eq-eqb, true≢false}
+use Rattle.std.specs.Ordering.{int_cmp}
+use Rattle.std.proofs.lemmas.Bool.{cond-true, eq-eqb}
 use Rattle.std.proofs.lemmas.List.Elements.{All-contains, All-from_recursion}
 use Rattle.label_sets.specs.declared.label.Label.{Label}
 use Rattle.label_sets.specs.Finals.{is_among, without}
@@ -43,10 +42,10 @@ use Rattle.compaction_inputs.specs.declared.input.Input.{Input}
 use Rattle.compactor.specs.Compactions.{metas_of}
 use Rattle.script_core.specs.Lawful.{AreLawfulLabels}
 use Rattle.activity_laws.specs.CompactionOps.{HasMerged, WasRead}
+use Rattle.activity_laws.proofs.CompactionGroups.{plan_among}
 use Rattle.lifecycle_core.specs.Shipped.{FitsParent}
 use Rattle.lifecycle_core.proofs.blocks.InlineBlocks.{all_fit, count_fits, names_fit, samples_fit}
 use Rattle.lifecycle_core.proofs.blocks.MetasAgain.{IsReadAgain, lawful_fits, meta_read_again}
-use Rattle.lifecycle_core.proofs.blocks.PlanMembers.{plan_within}
 
 -- ---- texts
 
@@ -91,11 +90,6 @@ without_lawful names ls lawful = record {
         All-from_recursion P (filter (λ l. not (is_among names l.name)) ls)
         (all_members P (filter (λ l. not (is_among names l.name)) ls) (λ l among. All-contains P ls l all (of_filter (λ (x : Label). not (is_among names x.name)) ls l among)))
 
-equal_from : (o : Ordering) → is_eq o ≡ true → o ≡ Equal
-equal_from Equal e = refl
-equal_from Less e = absurd (true≢false (sym e))
-equal_from Greater e = absurd (true≢false (sym e))
-
 -- the labels of a group are those of each of its members, less the replica labels
 pub group_labels : (replicas : List (List ℕ)) (metas : List Meta) (groups : List Group) → AreGroups replicas metas groups → (group : Group) → Contains groups group → (m : Meta) → Contains group.members m
     → without replicas m.labels ≡ group.labels
@@ -103,7 +97,7 @@ group_labels replicas metas groups are group among m inside =
     let k = of_map (group_of replicas metas) are.keys group (subst (λ (gs : List Group). Contains gs group) are.are among) in
     let own : Contains (group_of replicas metas k.0).members m = subst (λ (g : Group). Contains g.members m) (sym k.2) inside in
     let passes : has_key replicas k.0 m ≡ true = member_passes (has_key replicas k.0) metas m (of_in_order comes_before m (filter (has_key replicas k.0) metas) own) in
-    let equal : compare_keys (key_of replicas m) k.0 ≡ Equal = equal_from (compare_keys (key_of replicas m) k.0) passes in
+    let equal : compare_keys (key_of replicas m) k.0 ≡ Equal = Equal-from_is_eq (compare_keys (key_of replicas m) k.0) passes in
     let parts = Equal-from_then (int_cmp m.resolution (k.0).resolution) (compare_sets (without replicas m.labels) (k.0).labels) equal in
     same_set (without replicas m.labels) (k.0).labels parts.1 ∙ ap (λ (g : Group). g.labels) k.2
 
@@ -186,7 +180,7 @@ module _ (rules : Rules) (view : View) (own : List Entry) (ulid : ℕ) (block : 
   -- an input's labels, less the replica labels, are the new block's
   pub input_labels : (meta : Meta) → Contains merged.metas meta → without rules.replicas meta.labels ≡ (merged.group).labels
   input_labels meta among =
-      group_labels rules.replicas (metas_of view.kept) merged.groups merged.grouped merged.group merged.among meta (plan_within (merged.group).members merged.metas merged.planned meta among)
+      group_labels rules.replicas (metas_of view.kept) merged.groups merged.grouped merged.group merged.among meta (plan_among (merged.group).members merged.metas merged.planned meta among)
 
   module _ (small : ulid < 2 ^ 128) (inputs : (meta : Meta) → Contains merged.metas meta → IsSound (fields_of meta)) where
     first_of : (metas : List Meta) → metas ≢ [] → (meta : Meta) × Contains metas meta

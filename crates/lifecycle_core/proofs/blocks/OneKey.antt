@@ -1,5 +1,6 @@
 -- All puts under one key, marks aside, have the same bytes.
 use Rattle.list_core.proofs.Membership.{into_filter, member_cases, no_member}
+use Rattle.list_core.proofs.Pairs.{AllZip-second}
 use Rattle.std.proofs.Common.{◌≡◌, inl, inr, ℕ, ◌+◌, ◌-◌, ◌*◌, ◌%◌, ◌<◌, ◌≤◌, ◌^◌, ◌==◌, true, List, [], ◌∷◌, ◌++◌, length, Contains, Some, refl, sym, ◌∙◌, ap, subst, append_assoc, arith}
 use Rattle.std.proofs.lemmas.Bool.Decides.{nat_tests}
 use Rattle.std.proofs.lemmas.Bool.{le-leb}
@@ -18,7 +19,7 @@ use Rattle.script_fields.specs.Values.{is_reserved}
 use Rattle.script_core.specs.declared.block.Block.{Block as Declared}
 use Rattle.compactor.specs.NewBlocks.{new_ulid}
 use Rattle.activity_laws.specs.CompactionOps.{IsObjectMade, Stores}
-use Rattle.lifecycle_core.specs.Conducts.{of_seat}
+use Rattle.world_core.specs.Journals.{of_seat}
 use Rattle.lifecycle_core.specs.Held.{declared}
 use Rattle.lifecycle_core.specs.Setting.{Setting}
 use Rattle.lifecycle_core.specs.Shipped.{IsShipped}
@@ -30,7 +31,7 @@ use Rattle.lifecycle_core.proofs.blocks.Whole.{IsWholeBlock}
 use Rattle.lifecycle_core.proofs.deeds.Orders.{IsEarlier, front_is_earlier, in_seat, lower_is_in_front, one_entry, ordered, stands_whole}
 use Rattle.lifecycle_core.proofs.deeds.Sources.{IsSource, by_compaction, by_upload, object_source}
 use Rattle.lifecycle_core.proofs.deeds.Words.{AreDeeds}
-use Rattle.lifecycle_core.proofs.journals.Positions.{stands_in, zip_right}
+use Rattle.lifecycle_core.proofs.journals.Positions.{stands_in}
 use Rattle.lifecycle_core.proofs.journals.Rising.{journal_rises}
 use Rattle.lifecycle_core.proofs.journals.Standing.{parted}
 use Rattle.lifecycle_core.proofs.journals.Told.{IsReadable, IsShippedObject, Rises}
@@ -50,11 +51,11 @@ same_shipped setting readable k one other first second =
 
 -- ---- new blocks
 
-reserved_new : (number moment : ℕ) → is_reserved (new_ulid number (record { ms = moment })) ≡ true
+pub reserved_new : (number moment : ℕ) → is_reserved (new_ulid number (record { ms = moment })) ≡ true
 reserved_new number moment = le-leb (2 ^ 80 - 2 ^ 20) (new_ulid number (record { ms = moment }) % 2 ^ 80) (omega arith)
 
 -- the number of an entry is told by a new block's ULID
-same_number : (n m : ℕ) (t u : ℕ) → 1 ≤ n → n ≤ 2 ^ 20 → 1 ≤ m → m ≤ 2 ^ 20 → t * 2 ^ 80 + (2 ^ 80 - 2 ^ 20 + n % 2 ^ 20) ≡ u * 2 ^ 80 + (2 ^ 80 - 2 ^ 20 + m % 2 ^ 20) → n ≡ m
+pub same_number : (n m : ℕ) (t u : ℕ) → 1 ≤ n → n ≤ 2 ^ 20 → 1 ≤ m → m ≤ 2 ^ 20 → t * 2 ^ 80 + (2 ^ 80 - 2 ^ 20 + n % 2 ^ 20) ≡ u * 2 ^ 80 + (2 ^ 80 - 2 ^ 20 + m % 2 ^ 20) → n ≡ m
 same_number n m t u low high little great same = omega (arith, low, high, little, great, same)
 
 module _ (setting : Setting) (journal : List Entry) (lawful : IsLawfulScript setting.script) (deeds : AreDeeds setting journal) where
@@ -171,7 +172,7 @@ module _ (setting : Setting) (journal : List Entry) (lawful : IsLawfulScript set
     -- so what the earlier one put is one of the objects that the block's puts before the later one stored
     pub in_done : Contains m.done (object other also)
     in_done =
-        let o = zip_right Stores m.puts m.done x m.stored among_puts in
+        let o = AllZip-second Stores m.puts m.done x m.stored among_puts in
         let put_is : op.Put (o.0).key (o.0).bytes ≡ op.Put other also = sym (o.2).0 ∙ puts in
         let keys : (o.0).key ≡ other = cc (put_is) in
         let texts : (o.0).bytes ≡ also = cc (put_is) in

@@ -1,7 +1,6 @@
 -- What is planned of a group are members of it, which are blocks that the view keeps.
 use Rattle.list_core.proofs.Membership.{contains_first, contains_later, member_cases, no_member, of_filter, of_in_order, of_map}
-use Rattle.std.proofs.Common.{◌≡◌, inl, inr, ℕ, ℤ, ◌-◌, ◌==◌, Bool, true, false, cond, List, [], ◌∷◌, ◌++◌, map, length, drop, Contains, Option, Some, None, sym, subst}
-use Rattle.std.proofs.lemmas.List.{take-append-drop}
+use Rattle.std.proofs.Common.{◌≡◌, inl, inr, ℕ, ℤ, ◌-◌, Bool, true, false, cond, List, [], ◌∷◌, ◌++◌, map, Contains, Option, Some, None, sym, subst}
 use Rattle.std.specs.Prelude.{find}
 use Rattle.std.specs.List.{filter}
 use Rattle.std.specs.Option.{option_map_or}
@@ -11,7 +10,6 @@ use Rattle.block_meta.specs.declared.meta.Meta.{Meta}
 use Rattle.group_planner.specs.Groups.{AreGroups, comes_before, group_of, has_key}
 use Rattle.group_planner.specs.Overlaps.{IsOverlapPlan}
 use Rattle.group_planner.specs.Parts.{AreParts}
-use Rattle.group_planner.specs.Plans.{IsPlan, without_last}
 use Rattle.group_planner.specs.Selections.{AreCandidates, Candidate, IsSelection, is_wanted, last_begin, ranges}
 use Rattle.group_planner.specs.declared.group.Group.{Group}
 
@@ -61,15 +59,6 @@ chosen_within members candidates are (Some c) is m among = candidate_within rang
 selection_within : (members selected : List Meta) → IsSelection members selected → (m : Meta) → Contains selected m → Contains members m
 selection_within members selected is m among =
     chosen_within members is.candidates is.listed (find (is_wanted (last_begin members)) is.candidates) (λ i. find (is_wanted (last_begin members)) is.candidates) m (subst (λ ms. Contains ms m) is.first among)
-
-pub plan_within : (members plan : List Meta) → IsPlan members plan → (m : Meta) → Contains plan m → Contains members m
-plan_within members plan is m among = by (length is.overlap == 0) (subst (λ ms. Contains ms m) is.first among)
-  where
-    by : (b : Bool) → Contains (cond b is.selected is.overlap) m → Contains members m
-    by false inside = overlap_within members is.overlap is.is_overlap m inside
-    by true inside =
-        let own = selection_within (without_last members) is.selected is.is_selection m inside in
-        subst (λ ms. Contains ms m) (take-append-drop (length members - 1) members) (Contains-append_left (without_last members) (drop (length members - 1) members) m own)
 
 -- ---- a group
 

@@ -33,7 +33,8 @@ use Rattle.group_planner.specs.Selections.{AreCandidates, Candidate, IsSelection
 use Rattle.group_planner.specs.declared.group.Group.{Group}
 use Rattle.compactor.specs.Compactions.{metas_of, sync_rules}
 use Rattle.activity_laws.specs.CompactionOps.{HasMerged, HasSynced}
-use Rattle.lifecycle_core.proofs.marks.Reasons.{kept_seen, named_is}
+use Rattle.activity_laws.proofs.CompactionGroups.{named_is}
+use Rattle.lifecycle_core.proofs.marks.Reasons.{kept_seen}
 
 -- ---- blocks of different ULIDs
 

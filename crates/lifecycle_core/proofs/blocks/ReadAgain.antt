@@ -1,8 +1,8 @@
 -- A block as it was read, with the segments that its index names, holds what the block holds.
-use Rattle.list_core.proofs.Membership.{contains_first, contains_later, into_flat_map, into_map, member_cases, no_member}
-use Rattle.std.proofs.Common.{◌≡◌, inl, inr, ℕ, ◌<◌, ◌≤◌, Bool, true, false, max, fold, List, [], ◌∷◌, map, Contains, Some, Ok, sym, ◌∙◌, ap, subst, arith}
+use Rattle.list_core.proofs.Membership.{contains_first, contains_later}
+use Rattle.std.proofs.Common.{◌≡◌, ℕ, ◌<◌, List, [], ◌∷◌, Contains, Some, Ok, sym, ◌∙◌, ap, subst}
 use Rattle.std.specs.Prelude.{nat_le, slice_get}
-use Rattle.std.specs.List.{AllByRecursion, AllZip, flat_map}
+use Rattle.std.specs.List.{AllByRecursion, AllZip}
 use Rattle.block_meta.specs.MetaFields.{fields_of}
 use Rattle.block_meta.specs.declared.meta.Meta.{Meta}
 use Rattle.block_meta.proofs.SameMetas.{same_meta}
@@ -16,38 +16,17 @@ use Rattle.index_file.specs.declared.index_series.IndexSeries.{IndexSeries}
 use Rattle.index_parts.specs.declared.chunk_place.ChunkPlace.{ChunkPlace}
 use Rattle.label_sets.specs.declared.sample.Sample.{Sample}
 use Rattle.label_sets.specs.declared.series.Series.{Series}
-use Rattle.compaction_inputs.specs.Named.{if_few, last_named, named_by, named_segments, segment_number}
+use Rattle.compaction_inputs.specs.Named.{last_named, named_by, named_segments}
+use Rattle.lifecycle_core.proofs.blocks.NamedContent.{few_is, chunk_named}
 
 -- ---- the segments that an index names
-
-fold_grows : (xs : List ℕ) (b : ℕ) → b ≤ fold max b xs
-fold_grows [] b = omega arith
-fold_grows (x ∷ xs) b = let rest : max b x ≤ fold max (max b x) xs = fold_grows xs (max b x) in omega (arith, rest)
-
-fold_bounds : (xs : List ℕ) (b x : ℕ) → Contains xs x → x ≤ fold max b xs
-fold_bounds [] b x among = absurd (no_member x among)
-fold_bounds (y ∷ xs) b x among = elim (member_cases y x xs among) [
-  | inl same ↦ let rest : max b y ≤ fold max (max b y) xs = fold_grows xs (max b y) in omega (arith, rest, same)
-  | inr later ↦ fold_bounds xs (max b y) x later
-]
-
-all_low : (indexed : List IndexSeries) (s : IndexSeries) (c : ChunkPlace) → Contains indexed s → Contains s.chunks c → c.segment < last_named indexed
-all_low indexed s c among own =
-    let places : List ChunkPlace = flat_map (λ (one : IndexSeries). one.chunks) indexed in
-    let inside : Contains places c = into_flat_map (λ (one : IndexSeries). one.chunks) indexed s c among own in
-    let bound = fold_bounds (map segment_number places) 0 (segment_number c) (into_map segment_number places c inside) in
-    omega (arith, bound)
-
-count_is : (b : Bool) (n count : ℕ) → if_few b n ≡ Some count → n ≡ count
-count_is true n count is = cc (is)
-count_is false n count is = absurd (cc (is))
 
 -- where an index names so many segments, its chunks stand in these
 pub named_last : (files : BlockFiles) (list : List Series) (content : IsContent files list) → AreBytes files → (count : ℕ) → named_segments files.index ≡ Some count → last_named content.indexed ≡ count
 named_last files list content bytes count is =
     let read : index_at files.index ≡ Ok content.indexed = index_again files.index content.indexed bytes.index content.index_is in
     let told : named_by (Ok content.indexed) ≡ Some count = ap named_by (sym read) ∙ is in
-    count_is (nat_le (last_named content.indexed) 999_999) (last_named content.indexed) count told
+    few_is (nat_le (last_named content.indexed) 999_999) (last_named content.indexed) count told
 
 -- ---- the content
 
@@ -89,7 +68,7 @@ pub read_content : (files block : BlockFiles) (list : List Series) (content : Is
 read_content files block list content fields index there = record {
   indexed = content.indexed;
   index_is = subst (λ (i : List ℕ). IsIndex i content.indexed) (sym index) content.index_is;
-  series_are = series_again files.segments block.segments (last_named content.indexed) there content.indexed list (all_low content.indexed) content.series_are;
+  series_are = series_again files.segments block.segments (last_named content.indexed) there content.indexed list (chunk_named content.indexed) content.series_are;
   within = subst (λ (m : Meta). AllByRecursion (AreWithin m) list) (sym (same_meta block.meta files.meta fields)) content.within;
   apart = content.apart;
 }

@@ -8,8 +8,10 @@ use Rattle.std.proofs.lemmas.Bool.Decides.{nat_tests}
 use Rattle.std.proofs.lemmas.List.Elements.{All-contains, All-contains_itself, All-nil, All-weaker, Contains-append_right, filter-append}
 use Rattle.std.proofs.lemmas.Map.Keys.{below_from_sorted}
 use Rattle.std.proofs.lemmas.Option.{get_or_from_slice_get, slice_get_within}
+use Rattle.std.proofs.lemmas.Bool.{eq-eqb}
 use Rattle.list_core.proofs.Lists.{filter_none}
 use Rattle.list_core.proofs.Membership.{contains_first, contains_later, contains_place, each_member, into_filter, into_flat_map, into_map, member_cases, member_passes, no_member, of_filter, of_map, only_member, place_of_member}
+use Rattle.list_core.proofs.Pairs.{AllZip-second}
 use Rattle.world_core.specs.declared.op.Op.{Op}
 use Rattle.world_core.specs.declared.op.Op.TheVariants as op
 use Rattle.world_core.specs.declared.entry.Entry.{Entry}
@@ -39,7 +41,8 @@ use Rattle.script_core.specs.Workers.{workers_before, workers_of}
 use Rattle.script_core.specs.declared.block.Block.{Block}
 use Rattle.lifecycle_core.specs.Acting.{IsActing, IsCompactorAt, IsReading, acting, actors}
 use Rattle.lifecycle_core.specs.Breaches.{IsCompactorSeat}
-use Rattle.lifecycle_core.specs.Conducts.{Assigned, Conduct, PhaseRun, TasksAt, TasksRun, Who, WorkerRun, of_seat, who_of, working}
+use Rattle.world_core.specs.Journals.{of_seat}
+use Rattle.lifecycle_core.specs.Conducts.{Assigned, Conduct, PhaseRun, TasksAt, TasksRun, Who, WorkerRun, who_of, working}
 use Rattle.lifecycle_core.specs.Held.{declared}
 use Rattle.lifecycle_core.specs.Holdings.{Holding, Holdings, none_held, nothing_held}
 use Rattle.lifecycle_core.specs.Quiet.{CompactsNothing, DeletesNothing}
@@ -48,12 +51,13 @@ use Rattle.lifecycle_core.specs.Tasks.{End, ShipTask, TaskRun}
 use Rattle.lifecycle_core.specs.Ways.{BeginsPhase, PhasesRun}
 use Rattle.lifecycle_core.proofs.blocks.Declared.{declared_ulid}
 use Rattle.lifecycle_core.proofs.deeds.Words.{AreBefore, AreDeeds, Cleans, Compacts, Deed, IsClock, ships as ships_deed, compacts as compacts_deed, cleans as cleans_deed, reads as reads_deed, clocks as clocks_deed}
-use Rattle.lifecycle_core.proofs.journals.Positions.{zip_right}
 use Rattle.lifecycle_core.proofs.journals.Rising.{journal_rises}
 use Rattle.lifecycle_core.proofs.journals.Told.{Rises}
 use Rattle.lifecycle_core.proofs.phases.EachEntry.{phases_each}
 use Rattle.lifecycle_core.proofs.phases.OneSeat.{one_phase, one_worker}
 use Rattle.lifecycle_core.proofs.phases.TaskRuns.{got}
+use Rattle.lifecycle_core.proofs.phases.Stretches.{rises_right}
+use Rattle.lifecycle_core.proofs.phases.ActingRuns.{no_gateway}
 
 -- ---- lists
 
@@ -66,17 +70,17 @@ one_at_most place (q ∷ r ∷ places) same ascend =
     absurd (omega (arith, less, same q (contains_first q (r ∷ places)), same r (contains_later q r (r ∷ places) (contains_first r places))))
 
 -- none has this seat, so none is its
-none_of_seat : (seat : ℕ) (entries : List Entry) → ((e : Entry) → Contains entries e → e.seat ≢ seat) → of_seat seat entries ≡ []
+pub none_of_seat : (seat : ℕ) (entries : List Entry) → ((e : Entry) → Contains entries e → e.seat ≢ seat) → of_seat seat entries ≡ []
 none_of_seat seat entries others =
     filter_none (λ (x : Entry). x.seat == seat) entries
     (All-weaker (Contains entries) (λ (x : Entry). (x.seat == seat) ≡ false) (λ x among. let other = others x among in grind (arith, nat_tests, other)) entries (All-contains_itself entries))
 
-other_first : (seat : ℕ) (e : Entry) (entries : List Entry) → e.seat ≢ seat → of_seat seat (e ∷ entries) ≡ of_seat seat entries
+pub other_first : (seat : ℕ) (e : Entry) (entries : List Entry) → e.seat ≢ seat → of_seat seat (e ∷ entries) ≡ of_seat seat entries
 other_first seat e entries other =
     let test : (e.seat == seat) ≡ false = grind (arith, nat_tests, other) in rw test refl
 
 -- each of those that rise is before each behind it
-rises_apart : (front back : List Entry) → Rises (front ++ back) → (x y : Entry) → Contains front x → Contains back y → x.seq < y.seq
+pub rises_apart : (front back : List Entry) → Rises (front ++ back) → (x y : Entry) → Contains front x → Contains back y → x.seq < y.seq
 rises_apart [] back rises x y one other = absurd (no_member x one)
 rises_apart (e ∷ front) back rises x y one other = elim (member_cases e x front one) [
   | inl same ↦
@@ -84,10 +88,6 @@ rises_apart (e ∷ front) back rises x y one other = elim (member_cases e x fron
       subst (λ (z : Entry). z.seq < y.seq) same follows.0
   | inr later ↦ rises_apart front back rises.1 x y later other
 ]
-
-rises_behind : (front back : List Entry) → Rises (front ++ back) → Rises back
-rises_behind [] back rises = rises
-rises_behind (e ∷ front) back rises = rises_behind front back rises.1
 
 -- where a member of a list without repeats stands is one place
 distinct_place : {X : Type 0} (same : X → X → Bool) (xs : List X) (x : X) (i j : ℕ) → same x x ≡ true → IsDistinct same xs → slice_get xs i ≡ Some x → slice_get xs j ≡ Some x → i ≡ j
@@ -104,7 +104,7 @@ distinct_place same (y ∷ ys) x (suc i) zero self apart one two =
     absurd (cc (is, differ, self))
 distinct_place same (y ∷ ys) x (suc i) (suc j) self apart one two = ap suc (distinct_place same ys x i j self apart.1 one two)
 
-trichotomy : (n m : ℕ) → (n < m) ⊎ ((m < n) ⊎ (n ≡ m))
+pub trichotomy : (n m : ℕ) → (n < m) ⊎ ((m < n) ⊎ (n ≡ m))
 trichotomy zero zero = inr (inr refl)
 trichotomy zero (suc m) = inl (omega arith)
 trichotomy (suc n) zero = inr (inl (omega arith))
@@ -116,17 +116,10 @@ trichotomy (suc n) (suc m) = elim (trichotomy n m) [
   ]
 ]
 
-own_place : (one other : ℕ) → one ≡ other → (one == other) ≡ true
-own_place one other is = grind (arith, nat_tests, is)
-
 same_hand_itself : (place : ℕ) → same_hand (hands.Alone place) (hands.Alone place) ≡ true
-same_hand_itself place = own_place place place refl
+same_hand_itself place = eq-eqb place place refl
 
 -- ---- hands and their works
-
-no_gateway : (o : Option ℕ) → is_none o ≡ true → o ≡ None
-no_gateway None is = refl
-no_gateway (Some g) is = absurd (cc (is))
 
 alone_hand : (hand : Hand) → gateway_of hand ≡ None → (place : ℕ) × (hand ≡ hands.Alone place)
 alone_hand (hands.Alone place) is = (place, refl)
@@ -469,7 +462,7 @@ module _ (setting : Setting) (journal : List Entry) (lawful : IsLawfulScript set
     seat_here number before phase clock made others entries first more phases after at low true test parts zero_seat run go rest =
         let same : number ≡ n = grind (arith, nat_tests, test) in
         let here : Contains (actors setting numbering number) a = subst (λ (k : ℕ). Contains (actors setting numbering k) a) (sym same) inside in
-        let own = zip_right (WorkerRun acting_way phase.tasks before made after) (actors setting numbering number) first a run.runs here in
+        let own = AllZip-second (WorkerRun acting_way phase.tasks before made after) (actors setting numbering number) first a run.runs here in
         let nothing : of_seat a.seat others ≡ [] = quiet_phases (number + 1) after phases others more (omega (arith, same)) go in
         let all : of_seat a.seat entries ≡ of_seat a.seat made =
         parted a.seat clock made others entries parts (clock_apart n a clock inside zero_seat) ∙ ap (λ (l : List Entry). of_seat a.seat made ++ l) nothing ∙ append-nil (of_seat a.seat made) in
@@ -727,7 +720,7 @@ module _ (setting : Setting) (journal : List Entry) (lawful : IsLawfulScript set
     before_later n m a b in_n in_m less number before (phase ∷ phases) entries ends low (inl none) rises = none_before a b entries none.0
     before_later n m a b in_n in_m less number before (phase ∷ phases) entries ends low (inr (clock, made, others, first, more, after, parts, begins, run, are, go)) rises =
         before_here number before phase clock made others entries first more phases after n m a b in_n in_m less low (number == n) refl parts begins.seat run go rises
-        (λ lower. before_later n m a b in_n in_m less (number + 1) after phases others more lower go (rises_behind (clock ∷ made) others (subst Rises parts rises)))
+        (λ lower. before_later n m a b in_n in_m less (number + 1) after phases others more lower go (rises_right (clock ∷ made) others (subst Rises parts rises)))
 
     whole_before : (n m : ℕ) (a b : Worker) → Contains (actors setting numbering n) a → Contains (actors setting numbering m) b → n < m → AreBefore (of_seat a.seat journal) (of_seat b.seat journal)
     whole_before n m a b in_n in_m less = before_later n m a b in_n in_m less 0 none_held setting.script.phases journal acts.ends (omega arith) acts.phases (journal_rises setting.script.rules.tick.ms journal acts.kept)

@@ -3,7 +3,7 @@ use Rattle.std.proofs.Common.{◌≡◌, ◌≢◌, inl, inr, ℕ, ◌+◌, ◌<
 use Rattle.std.specs.List.{All}
 use Rattle.std.proofs.lemmas.Bool.Decides.{nat_tests}
 use Rattle.std.proofs.lemmas.List.{length-append}
-use Rattle.std.proofs.lemmas.List.Elements.{All-contains, All-contains_itself, All-weaker, Contains-append_left, filter-append}
+use Rattle.std.proofs.lemmas.List.Elements.{All-contains, Contains-append_left, filter-append}
 use Rattle.world_core.specs.Moments.{last_moment, moment_after}
 use Rattle.world_core.specs.Operations.{IsLawful, IsReplyTo}
 use Rattle.world_core.specs.Plans.{Plan, Runs}
@@ -15,10 +15,11 @@ use Rattle.shipper.specs.Uploads.{upload}
 use Rattle.compactor.specs.Compactions.{compaction}
 use Rattle.cleaner.specs.Cleanings.{cleaning as clean_plan}
 use Rattle.lifecycle_core.specs.Acting.{IsReading}
-use Rattle.lifecycle_core.specs.Conducts.{of_seat}
+use Rattle.world_core.specs.Journals.{of_seat}
 use Rattle.lifecycle_core.specs.Setting.{Setting}
 use Rattle.lifecycle_core.proofs.deeds.Words.{AreDeeds, Compacts, Deed, Done, IsClock, cleaning, cleans, clocking, clocks, compacting, compacts, reading, reads, shipping, ships}
 use Rattle.lifecycle_core.proofs.journals.Positions.{filtered, stands_in}
+use Rattle.lifecycle_core.proofs.phases.Stretches.{all_left}
 
 -- ---- runs
 
@@ -26,17 +27,14 @@ cut_run : {E : Type 0} (plan : Plan E) (xs ys : List Entry) (end : Option E) →
 cut_run plan xs [] end run = subst (λ es. Runs plan es None) (append-nil xs) (untold plan (xs ++ []) end run)
 cut_run plan xs (y ∷ ys) end run = run_front plan xs y ys end run
 
-cut_all : (P : Entry → Type 0) (xs ys : List Entry) → All P (xs ++ ys) → All P xs
-cut_all P xs ys all = All-weaker (Contains xs) P (λ x among. All-contains P (xs ++ ys) x all (Contains-append_left xs ys x among)) xs (All-contains_itself xs)
-
 -- ---- deeds
 
 cut_deed : (setting : Setting) (whole xs ys : List Entry) → whole ≡ xs ++ ys → Deed setting whole → Deed setting xs
 cut_deed setting whole xs ys is (ships ulid block objects end known shipped run) = ships ulid block objects None known shipped (cut_run (upload ulid objects) xs ys end (subst (λ es. Runs (upload ulid objects) es end) is run))
 cut_deed setting whole xs ys is (compacts end run) = compacts None (cut_run (compaction setting.script.rules) xs ys end (subst (λ es. Runs (compaction setting.script.rules) es end) is run))
 cut_deed setting whole xs ys is (cleans end run) = cleans None (cut_run (clean_plan setting.script.rules) xs ys end (subst (λ es. Runs (clean_plan setting.script.rules) es end) is run))
-cut_deed setting whole xs ys is (reads all) = reads (cut_all (λ (e : Entry). IsReading e.op) xs ys (subst (All (λ (e : Entry). IsReading e.op)) is all))
-cut_deed setting whole xs ys is (clocks all) = clocks (cut_all (λ (e : Entry). IsClock e.op) xs ys (subst (All (λ (e : Entry). IsClock e.op)) is all))
+cut_deed setting whole xs ys is (reads all) = reads (all_left (λ (e : Entry). IsReading e.op) xs ys (subst (All (λ (e : Entry). IsReading e.op)) is all))
+cut_deed setting whole xs ys is (clocks all) = clocks (all_left (λ (e : Entry). IsClock e.op) xs ys (subst (All (λ (e : Entry). IsClock e.op)) is all))
 
 cut_compacts : (setting : Setting) (whole xs ys : List Entry) (is : whole ≡ xs ++ ys) (deed : Deed setting whole) → Compacts (cut_deed setting whole xs ys is deed) → Compacts deed
 unfolding cut_deed

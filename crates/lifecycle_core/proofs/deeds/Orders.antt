@@ -2,9 +2,9 @@
 use Rattle.list_core.proofs.Membership.{member_cases, member_passes, no_member, of_filter}
 use Rattle.std.proofs.Common.{◌≡◌, ◌⊎◌, inl, inr, ℕ, ◌<◌, ◌≤◌, ◌==◌, true, List, [], ◌∷◌, ◌++◌, Contains, refl, sym, ◌∙◌, ap, subst, arith}
 use Rattle.std.proofs.lemmas.Bool.Decides.{nat_tests}
-use Rattle.std.proofs.lemmas.List.Elements.{All-contains, All-contains_itself, All-weaker, Contains-append_cases, Contains-append_left}
+use Rattle.std.proofs.lemmas.List.Elements.{All-contains, Contains-append_cases}
 use Rattle.world_core.specs.declared.entry.Entry.{Entry}
-use Rattle.lifecycle_core.specs.Conducts.{of_seat}
+use Rattle.world_core.specs.Journals.{of_seat}
 use Rattle.lifecycle_core.proofs.journals.Positions.{stands_in, unfilter}
 use Rattle.lifecycle_core.proofs.journals.Told.{Rises}
 
@@ -42,12 +42,6 @@ higher_is_in_back front back e x rises among higher = elim (Contains-append_case
     | inr later ↦ later
   ]
 ]
-
--- a front rises
-pub rises_front : (front back : List Entry) → Rises (front ++ back) → Rises front
-rises_front [] back rises = tt
-rises_front (e ∷ front) back rises =
-    (All-weaker (Contains front) (IsEarlier e) (λ x among. All-contains (IsEarlier e) (front ++ back) x rises.0 (Contains-append_left front back x among)) front (All-contains_itself front), rises_front front back rises.1)
 
 -- an entry is told by its number
 pub one_entry : (entries : List Entry) → Rises entries → (x y : Entry) → Contains entries x → Contains entries y → x.seq ≡ y.seq → x ≡ y

@@ -26,7 +26,7 @@ use Rattle.activity_laws.specs.CleaningOps.{IsCleanOp, IsDeleting}
 use Rattle.activity_laws.specs.CompactionOps.{IsCompactOp, IsMarkMade, IsObjectMade, Stores}
 use Rattle.activity_laws.proofs.CleaningAsks.{cleaning_op, each_at}
 use Rattle.lifecycle_core.specs.Acting.{IsReading}
-use Rattle.lifecycle_core.specs.Conducts.{of_seat}
+use Rattle.world_core.specs.Journals.{of_seat}
 use Rattle.lifecycle_core.specs.Held.{declared}
 use Rattle.lifecycle_core.specs.Setting.{Setting}
 use Rattle.lifecycle_core.specs.Shipped.{IsShipped}

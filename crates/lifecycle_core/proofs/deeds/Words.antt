@@ -15,7 +15,7 @@ use Rattle.cleaner.specs.declared.clean_end.CleanEnd.{CleanEnd}
 use Rattle.script_fields.specs.Values.{agree}
 use Rattle.script_core.specs.declared.block.Block.{Block}
 use Rattle.lifecycle_core.specs.Acting.{IsReading}
-use Rattle.lifecycle_core.specs.Conducts.{of_seat}
+use Rattle.world_core.specs.Journals.{of_seat}
 use Rattle.lifecycle_core.specs.Held.{declared}
 use Rattle.lifecycle_core.specs.Setting.{Setting}
 use Rattle.lifecycle_core.specs.Shipped.{IsShipped}

@@ -26,11 +26,9 @@ use Rattle.world_core.specs.declared.reply.Reply.{Reply}
 use Rattle.world_core.specs.declared.reply.Reply.TheVariants.{Clocked, Stored, Found, Absent, Deleted, Names, Failed}
 use Rattle.lifecycle_core.specs.Breaches.{FirstDiffer, IsLie, next_byte, shown_by}
 use Rattle.lifecycle_core.proofs.journals.Positions.{stands_in}
+use Rattle.lifecycle_core.proofs.journals.OwedPages.{not_itself}
 
 -- ---- the order of names
-
-not_itself : (x : List ℕ) → ¬ Before x x
-not_itself x less = let turned : slice_cmp nat_cmp x x ≡ ordering_reverse (slice_cmp nat_cmp x x) = nat_list_cmp_total.antisymm x x in absurd (cc (less, turned))
 
 before_more : (x y z : List ℕ) → Before x y → Before y z → Before x z
 before_more x y z one other = nat_list_cmp_total.trans x y z one other

@@ -54,7 +54,7 @@ module _ (setting : Setting) (journal : List Entry) (none : (rule : Rule) (numbe
 
 -- ---- one breach
 
-same_rule : (one other : Rule) → rank one ≡ rank other → one ≡ other
+pub same_rule : (one other : Rule) → rank one ≡ rank other → one ≡ other
 same_rule honesty honesty is = refl
 same_rule upload_time upload_time is = refl
 same_rule mark_time mark_time is = refl

@@ -1,5 +1,5 @@
 -- Two syncs of a journal whose last reads are one entry are one sync.
-use Rattle.std.proofs.Common.{◌≡◌, ℕ, ◌+◌, ◌<◌, ◌≤◌, ◌==◌, List, [], ◌∷◌, ◌++◌, length, Contains, Option, inl, inr, sym, ◌∙◌, ap, subst, append_assoc, append-nil, arith}
+use Rattle.std.proofs.Common.{◌≡◌, ℕ, ◌+◌, ◌<◌, ◌≤◌, ◌==◌, List, [], ◌∷◌, ◌++◌, length, Contains, Option, sym, ◌∙◌, ap, subst, append_assoc, append-nil, arith}
 use Rattle.std.specs.List.{All}
 use Rattle.std.proofs.lemmas.List.{length-append}
 use Rattle.std.proofs.lemmas.List.Elements.{All-contains}
@@ -7,13 +7,14 @@ use Rattle.world_core.specs.declared.entry.Entry.{Entry}
 use Rattle.meta_fetcher.specs.Syncs.{SyncRun}
 use Rattle.meta_fetcher.specs.declared.sync_end.SyncEnd.{SyncEnd}
 use Rattle.lifecycle_core.specs.Breaches.{IsSyncIn}
-use Rattle.lifecycle_core.specs.Conducts.{of_seat}
+use Rattle.world_core.specs.Journals.{of_seat}
 use Rattle.lifecycle_core.specs.Setting.{Setting}
 use Rattle.lifecycle_core.specs.SyncsAndCalls.{IsSyncBy}
 use Rattle.lifecycle_core.specs.Tasks.{sync_rules}
-use Rattle.lifecycle_core.proofs.journals.Positions.{split, stands_in}
+use Rattle.lifecycle_core.proofs.journals.Positions.{stands_in}
 use Rattle.lifecycle_core.proofs.journals.Told.{Rises}
 use Rattle.lifecycle_core.proofs.phases.Stretches.{all_of_seat, rises_filter, rises_right}
+use Rattle.lifecycle_core.proofs.deeds.Orders.{one_place}
 
 -- ---- an entry stands once
 
@@ -25,14 +26,6 @@ no_second front back also behind [] e rises begins goes = sym (begins ∙ append
 no_second front back also behind (x ∷ more) e rises begins goes =
     let rest : back ≡ more ++ e ∷ behind = cc (goes) in
     absurd (not_behind_itself e back (rises_right front (e ∷ back) rises).0 (subst (λ (es : List Entry). Contains es e) (sym rest) (stands_in more behind e)))
-
-pub once_in : (front back also behind : List Entry) (e : Entry) → Rises (front ++ e ∷ back) → front ++ e ∷ back ≡ also ++ e ∷ behind → front ≡ also
-once_in front back also behind e rises is = elim (split front (e ∷ back) also behind e is) [
-  | inl (rest, begins, goes) ↦
-      let up : Rises (also ++ (e ∷ rest ++ e ∷ back)) = subst Rises (ap (λ (es : List Entry). es ++ e ∷ back) begins ∙ append_assoc also (e ∷ rest) (e ∷ back)) rises in
-      absurd (not_behind_itself e (rest ++ e ∷ back) (rises_right also (e ∷ rest ++ e ∷ back) up).0 (stands_in rest back e))
-  | inr (more, begins, goes) ↦ no_second front back also behind more e rises begins goes
-]
 
 -- lists that begin as long are parted alike
 same_fronts : (one other rest more : List Entry) → length one ≡ length other → one ++ rest ≡ other ++ more → rest ≡ more
@@ -63,7 +56,7 @@ module _ (setting : Setting) (journal : List Entry) (rises : Rises journal) (e :
     same_seat = sym (seat_is s.seat (s.sync.before ++ front) s.sync.after first_parts) ∙ seat_is t.seat (t.sync.before ++ begin) t.sync.after second_parts
 
     same_front : s.sync.before ++ front ≡ t.sync.before ++ begin
-    same_front = once_in (s.sync.before ++ front) s.sync.after (t.sync.before ++ begin) t.sync.after e
+    same_front = one_place (s.sync.before ++ front) s.sync.after (t.sync.before ++ begin) t.sync.after e
         (subst Rises first_parts (rises_filter (λ (x : Entry). x.seat == s.seat) journal rises))
         (sym first_parts ∙ ap (λ (n : ℕ). of_seat n journal) same_seat ∙ second_parts)
 

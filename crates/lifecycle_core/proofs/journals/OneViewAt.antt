@@ -1,7 +1,6 @@
 -- At each entry of a journal a gateway has one view at most.
-use Rattle.list_core.proofs.Membership.{member_cases}
-use Rattle.std.proofs.Common.{◌≡◌, inl, inr, ℕ, ◌<◌, ◌≤◌, ◌==◌, List, [], ◌∷◌, ◌++◌, Contains, Some, refl, sym, ◌∙◌, ap, subst, arith}
-use Rattle.std.proofs.lemmas.List.Elements.{All-contains, Contains-append_left, Contains-append_right}
+use Rattle.std.proofs.Common.{◌≡◌, ℕ, ◌==◌, List, [], ◌∷◌, ◌++◌, Contains, Some, refl, sym, ◌∙◌, ap, subst, arith}
+use Rattle.std.proofs.lemmas.List.Elements.{Contains-append_left, Contains-append_right}
 use Rattle.std.proofs.lemmas.List.Sums.{fold-append}
 use Rattle.list_core.proofs.Membership.{of_filter}
 use Rattle.world_core.specs.declared.entry.Entry.{Entry}
@@ -18,24 +17,7 @@ use Rattle.lifecycle_core.proofs.journals.Told.{Rises}
 use Rattle.lifecycle_core.proofs.journals.Unbroken.{ends_with}
 use Rattle.lifecycle_core.proofs.phases.Stretches.{no_listing}
 use Rattle.lifecycle_core.proofs.views.SyncEnds.{sync_tells}
-
--- a number is that of one entry
-pub one_entry : (journal : List Entry) → Rises journal → (e x : Entry) → Contains journal e → Contains journal x → e.seq ≡ x.seq → e ≡ x
-one_entry [] rises e x (k, below, is) other same = absurd (omega (arith, below))
-one_entry (y ∷ ys) rises e x one other same = elim (member_cases y e ys one) [
-  | inl first ↦ elim (member_cases y x ys other) [
-    | inl also ↦ sym first ∙ also
-    | inr later ↦
-        let follows = All-contains (λ (z : Entry). (y.seq < z.seq) × (y.moment.ms ≤ z.moment.ms)) ys x rises.0 later in
-        absurd (omega (arith, follows.0, same, ap (λ (z : Entry). z.seq) first))
-  ]
-  | inr inside ↦ elim (member_cases y x ys other) [
-    | inl also ↦
-        let follows = All-contains (λ (z : Entry). (y.seq < z.seq) × (y.moment.ms ≤ z.moment.ms)) ys e rises.0 inside in
-        absurd (omega (arith, follows.0, same, ap (λ (z : Entry). z.seq) also))
-    | inr later ↦ one_entry ys rises.1 e x inside later same
-  ]
-]
+use Rattle.lifecycle_core.proofs.deeds.Orders.{one_entry}
 
 -- the last entry of a sync that gave a view
 pub record HasLast (entries : List Entry) : Type 0 where

@@ -1,5 +1,6 @@
 -- Of what stands under finitely many keys there is each page.
 use Rattle.list_core.proofs.Membership.{contains_first, contains_later, member_cases, no_member}
+use Rattle.list_core.proofs.Lists.{AllByRecursion-weaker}
 use Rattle.std.proofs.Common.{◌≡◌, ◌⊎◌, inl, inr, ℕ, zero, suc, ◌≤◌, List, [], ◌∷◌, ◌++◌, length, Contains, Option, Some, None, refl, sym, ◌∙◌, ap, subst, arith}
 use Rattle.std.specs.Prelude.{IsSome, is_some, ◌==◌}
 use Rattle.std.specs.List.{AllByRecursion, before_first}
@@ -18,10 +19,6 @@ use Rattle.bucket_core.specs.Pages.{Ascends, Before, IsName, IsPage, Lists}
 
 -- ---- the least names of a list
 
-all_more : {X : Type 0} (P Q : X → Type 0) → ((x : X) → P x → Q x) → (xs : List X) → AllByRecursion P xs → AllByRecursion Q xs
-all_more P Q more [] all = tt
-all_more P Q more (x ∷ xs) all = (more x all.0, all_more P Q more xs all.1)
-
 -- of two texts the one is the other or less, or the other is less
 ordered_by : (x y : List ℕ) (o : Ordering) → slice_cmp nat_cmp x y ≡ o → ((x ≡ y) ⊎ Before x y) ⊎ Before y x
 ordered_by x y Less is = inl (inr is)
@@ -31,7 +28,7 @@ ordered_by x y Greater is = inr (nat_list_cmp_total.antisymm y x ∙ ap ordering
 ordered : (x y : List ℕ) → ((x ≡ y) ⊎ Before x y) ⊎ Before y x
 ordered x y = ordered_by x y (slice_cmp nat_cmp x y) refl
 
-not_itself : (x : List ℕ) → ¬ Before x x
+pub not_itself : (x : List ℕ) → ¬ Before x x
 not_itself x less = let turned : slice_cmp nat_cmp x x ≡ ordering_reverse (slice_cmp nat_cmp x x) = nat_list_cmp_total.antisymm x x in absurd (cc (less, turned))
 
 not_both : (x y : List ℕ) → (x ≡ y) ⊎ Before x y → ¬ Before y x
@@ -205,7 +202,7 @@ module _ (contents : Contents) (within : List ℕ) where
         record {
           ascend = is.ascend;
           few = is.few;
-          stand = All-from_recursion (IsName contents within) first.0 (all_more (Contains names.0) (IsName contents within) are.stand first.0 is.own);
+          stand = All-from_recursion (IsName contents within) first.0 (AllByRecursion-weaker (Contains names.0) (IsName contents within) are.stand first.0 is.own);
           whole = λ name named due. elim (is.whole name (are.all named.0 name (all named.0 named.1) named.1 named.2) due) [
             | inl there ↦ inl there
             | inr full ↦ inr (full.0, All-from_recursion (λ listed. Before listed name) first.0 full.1)

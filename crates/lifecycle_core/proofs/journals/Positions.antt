@@ -1,5 +1,5 @@
 -- Where the entries of a list and of the lists that it is made of stand.
-use Rattle.list_core.proofs.Membership.{contains_first, contains_later}
+use Rattle.list_core.proofs.Membership.{contains_first}
 use Rattle.std.proofs.Common.{◌≡◌, ◌⊎◌, inl, inr, suc, zero, Bool, true, false, List, [], ◌∷◌, ◌++◌, Contains, refl, ◌∙◌, ap, subst, arith}
 use Rattle.std.specs.List.{AllZip, filter, zip}
 use Rattle.std.proofs.lemmas.List.Elements.{filter-append, Contains-append_right}
@@ -45,21 +45,6 @@ pub filtered : {X : Type 0} (p : X → Bool) (front back : List X) (x : X) → p
 filtered {X} p front back x test =
     let one : filter p (x ∷ back) ≡ x ∷ filter p back = rw test refl in
     filter-append p front (x ∷ back) ∙ ap (λ (l : List X). filter p front ++ l) one
-
--- the other half of a pair
-pub zip_left : {A B : Type 0} (R : A → B → Type 0) (xs : List A) (ys : List B) (y : B) → AllZip R xs ys → Contains ys y → (x : A) × Contains xs x × R x y
-zip_left R [] [] y all (k, below, at) = absurd (omega (arith, below))
-zip_left R [] (z ∷ ys) y all among = absurd all
-zip_left R (x ∷ xs) [] y all among = absurd all
-zip_left R (x ∷ xs) (z ∷ ys) y all (zero, below, at) = (x, contains_first x xs, subst (R x) at all.0)
-zip_left R (x ∷ xs) (z ∷ ys) y all (suc k, below, at) = let rest = zip_left R xs ys y all.1 (k, omega (arith, below), at) in (rest.0, contains_later x rest.0 xs rest.1, rest.2)
-
-pub zip_right : {A B : Type 0} (R : A → B → Type 0) (xs : List A) (ys : List B) (x : A) → AllZip R xs ys → Contains xs x → (y : B) × Contains ys y × R x y
-zip_right R [] [] x all (k, below, at) = absurd (omega (arith, below))
-zip_right R [] (z ∷ ys) x all among = absurd all
-zip_right R (w ∷ xs) [] x all among = absurd all
-zip_right R (w ∷ xs) (z ∷ ys) x all (zero, below, at) = (z, contains_first z ys, subst (λ v. R v z) at all.0)
-zip_right R (w ∷ xs) (z ∷ ys) x all (suc k, below, at) = let rest = zip_right R xs ys x all.1 (k, omega (arith, below), at) in (rest.0, contains_later z rest.0 ys rest.1, rest.2)
 
 -- what holds of two lists place by place holds of a pair of theirs
 pub zipped : {A B : Type 0} (R : A → B → Type 0) (xs : List A) (ys : List B) (x : A) (y : B) → AllZip R xs ys → Contains (zip xs ys) (x, y) → R x y

@@ -18,8 +18,9 @@ use Rattle.world_core.specs.Journals.{IsNumbered}
 use Rattle.world_core.specs.Moments.{HasMoments, last_moment, moment_after}
 use Rattle.world_core.specs.Worlds.{IsJournal}
 use Rattle.world_core.specs.declared.entry.Entry.{Entry}
+use Rattle.world_core.proofs.Growing.{last_more}
 use Rattle.lifecycle_core.proofs.journals.Told.{Rises}
-use Rattle.lifecycle_core.proofs.journals.Unbroken.{after_more, last_is}
+use Rattle.lifecycle_core.proofs.journals.Unbroken.{after_more}
 
 -- ---- numbers and moments
 
@@ -42,7 +43,7 @@ rises_from tick before (e ∷ entries) numbered moments =
     let moment : e.moment.ms ≡ moment_after tick (last_moment before) e.op = moments before entries e refl in
     let count : length (before ++ e ∷ []) ≡ e.seq = length-append before (e ∷ []) ∙ sym number in
     rises_on (length before) (last_moment before) e entries (omega (arith, number)) (omega (arith, moment, after_more tick (last_moment before) e.op))
-    (subst (λ m. All (IsLater e.seq m) entries) (last_is before e) (subst (λ n. All (IsLater n (last_moment (before ++ e ∷ []))) entries) count rest.0), rest.1)
+    (subst (λ m. All (IsLater e.seq m) entries) (last_more before e) (subst (λ n. All (IsLater n (last_moment (before ++ e ∷ []))) entries) count rest.0), rest.1)
 
 -- numbers rise along a journal, and moments do not fall
 pub journal_rises : (tick : ℕ) (journal : List Entry) → IsJournal tick journal → Rises journal

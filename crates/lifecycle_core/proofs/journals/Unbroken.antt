@@ -3,19 +3,18 @@ use Rattle.list_core.proofs.Membership.{of_filter}
 use Rattle.std.proofs.Common.{◌≡◌, ◌<◌, ◌≤◌, ◌+◌, ◌*◌, ◌/◌, ◌==◌, ℕ, zero, suc, List, [], ◌∷◌, ◌++◌, Contains, Option, inl, inr, refl, sym, ◌∙◌, ap, subst, append-nil, append_assoc, arith}
 use Rattle.std.specs.List.{All}
 use Rattle.std.proofs.lemmas.List.Elements.{All-cons, All-nil, Contains-append_cases, Contains-append_right}
-use Rattle.std.proofs.lemmas.List.Sums.{fold-append}
 use Rattle.ulid_core.specs.Times.{time_of}
-use Rattle.world_core.specs.Journals.{Each}
+use Rattle.world_core.specs.Journals.{Each, of_seat}
 use Rattle.world_core.specs.Moments.{HasMoments, last_moment, moment_after}
 use Rattle.world_core.specs.declared.entry.Entry.{Entry}
 use Rattle.world_core.specs.declared.op.Op.{Op}
 use Rattle.world_core.specs.declared.op.Op.TheVariants as op
+use Rattle.world_core.proofs.Growing.{last_more}
 use Rattle.meta_fetcher.specs.declared.sync_end.SyncEnd.{SyncEnd}
 use Rattle.meta_fetcher.specs.declared.view.View.{View}
 use Rattle.moment_core.specs.declared.moment.Moment.{Moment}
 use Rattle.lifecycle_core.specs.Breaches.{IsBreach, IsCallRead, IsCompactorSeat, IsKept, IsReadSince, IsSyncIn, IsUnbroken, IsViewAt, Rule, mark_time, read_time, sync_time, upload_time, view_time}
 use Rattle.lifecycle_core.specs.Causes.{IsExplained}
-use Rattle.lifecycle_core.specs.Conducts.{of_seat}
 use Rattle.lifecycle_core.specs.Setting.{Setting}
 use Rattle.lifecycle_core.specs.TimeRules.{IsCompactionReadInTime, IsMarkedInTime, IsReadInTime, IsSyncedInTime, IsUploadedInTime, PutsMark, PutsObject}
 use Rattle.lifecycle_core.proofs.journals.Positions.{unfilter}
@@ -46,9 +45,6 @@ after_more tick last (op.Delete key) = omega arith
 after_more tick last (op.RootPage after limit) = omega arith
 after_more tick last (op.BlockPage ulid after limit) = omega arith
 
-pub last_is : (entries : List Entry) (e : Entry) → last_moment (entries ++ e ∷ []) ≡ e.moment.ms
-last_is entries e = fold-append (λ (last : ℕ) (x : Entry). x.moment.ms) 0 entries (e ∷ [])
-
 only : (y x : Entry) → Contains (y ∷ []) x → y ≡ x
 only y x (zero, below, is) = is
 only y x (suc k, below, is) = absurd (omega (arith, below))
@@ -62,8 +58,8 @@ module _ (tick : ℕ) (journal : List Entry) (moments : HasMoments tick journal)
 
   one_more : (done rest : List Entry) (e : Entry) → journal ≡ done ++ e ∷ rest → AreBelow done → AreBelow (done ++ e ∷ [])
   one_more done rest e is below x among = elim (Contains-append_cases done (e ∷ []) x among) [
-    | inl there ↦ omega (arith, own_rises done rest e is below x there, last_is done e)
-    | inr here ↦ omega (arith, ap (λ (y : Entry). y.moment.ms) (only e x here), last_is done e)
+    | inl there ↦ omega (arith, own_rises done rest e is below x there, last_more done e)
+    | inr here ↦ omega (arith, ap (λ (y : Entry). y.moment.ms) (only e x here), last_more done e)
   ]
 
   rises : (done rest : List Entry) → journal ≡ done ++ rest → AreBelow done → (front back : List Entry) (e : Entry) → rest ≡ front ++ e ∷ back → (x : Entry) → Contains (done ++ front) x → x.moment.ms ≤ e.moment.ms

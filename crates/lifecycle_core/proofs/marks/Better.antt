@@ -1,7 +1,7 @@
 -- Of two blocks that a view keeps neither has all sources of the other.
 use Rattle.list_core.proofs.Bools.{lt-from_Less}
 use Rattle.list_core.proofs.Lists.{cons_same}
-use Rattle.list_core.proofs.Membership.{all_of_members, any_of_member, contains_first, contains_later, each_member, member_cases, member_passes, no_member, of_filter}
+use Rattle.list_core.proofs.Membership.{all_at_member, all_of_members, any_of_member, contains_first, contains_later, each_member, member_cases, member_of_any, member_passes, no_member, of_filter}
 use Rattle.std.proofs.Common.{◌≡◌, ◌≢◌, ◌⊎◌, inl, inr, ℕ, ◌<◌, ◌==◌, Bool, true, false, ◌&&◌, not, List, [], ◌∷◌, filter, length, Contains, refl, sym, ap, subst, arith, Less, nat_cmp}
 use Rattle.std.specs.Prelude.{nat_lt, pos}
 use Rattle.std.specs.Ordering.{int_eq}
@@ -55,6 +55,13 @@ pub fewer_or_same : (few many : List ℕ) → IsStrictlyIncreasing few → IsStr
 fewer_or_same few many up rise among = sorted_within few many (sorted_from_strictly_increasing few up) (sorted_from_strictly_increasing many rise) among
 
 -- ---- better blocks
+
+pub has_source : (many few : List ℕ) (source : ℕ) → has_all many few ≡ true → Contains few source → Contains many source
+has_source many few source all among =
+    let some : list_any (λ other. other == source) many ≡ true = all_at_member (λ ulid. list_any (λ other. other == ulid) many) few source all among in
+    let f = member_of_any (λ other. other == source) many some in
+    let same = f.2 in
+    subst (Contains many) (grind (arith, nat_tests, same)) f.1
 
 less_test : (a b : ℕ) → a < b → nat_lt a b ≡ true
 less_test a b less = grind (arith, nat_tests, less)

@@ -1,10 +1,9 @@
 -- Why the marks of a journal were put.
-use Rattle.list_core.proofs.Membership.{all_at_member, contains_first, member_of_any, member_passes, of_filter, of_map, only_member}
+use Rattle.list_core.proofs.Membership.{contains_first, member_of_any, member_passes, of_filter, of_map, only_member}
 use Rattle.std.proofs.Common.{◌≡◌, ◌⊎◌, inl, inr, ℕ, ◌<◌, ◌≤◌, ◌^◌, ◌==◌, ℤ, true, ◌&&◌, List, [], ◌∷◌, ◌++◌, length, Contains, Option, Some, None, refl, sym, ◌∙◌, ap, subst, append_assoc, arith}
 use Rattle.std.specs.Prelude.{int_lt, nat_lt, pos, ◌+ℤ◌, ◌<ℤ◌}
 use Rattle.std.specs.Ordering.{int_eq}
 use Rattle.std.specs.Bool.{IsTrue}
-use Rattle.std.specs.List.{list_any}
 use Rattle.std.proofs.lemmas.Bool.{and_parts, or_cases}
 use Rattle.std.proofs.lemmas.Bool.Decides.{Decides-int_eq, nat_tests}
 use Rattle.std.proofs.lemmas.Int.{ints}
@@ -27,9 +26,10 @@ use Rattle.meta_fetcher.specs.Sightings.{passed_by}
 use Rattle.compactor.specs.Compactions.{metas_of, sync_rules}
 use Rattle.activity_laws.specs.CompactionOps.{HasMerged, IsMarkMade, IsObjectMade, IsReason, WasCompacted, compacted, covered, expired}
 use Rattle.activity_laws.specs.Sights.{IsSeen, IsSight}
+use Rattle.activity_laws.proofs.CompactionGroups.{plan_among, named_is}
 use Rattle.script_core.specs.Lawful.{IsLawfulScript}
 use Rattle.lifecycle_core.specs.Completed.{IsCompletedAt, IsExpired}
-use Rattle.lifecycle_core.specs.Conducts.{of_seat}
+use Rattle.world_core.specs.Journals.{of_seat}
 use Rattle.lifecycle_core.specs.Marked.{HasBetterBefore, IsBetter, IsMarkedFor}
 use Rattle.lifecycle_core.specs.PutBlocks.{WasPutBefore}
 use Rattle.lifecycle_core.specs.Setting.{Setting}
@@ -37,7 +37,7 @@ use Rattle.lifecycle_core.specs.TimeRules.{PutsMark}
 use Rattle.lifecycle_core.proofs.blocks.Known.{put_is_complete, read_put as meta_put, sound_put}
 use Rattle.lifecycle_core.proofs.blocks.NewMetas.{IsSound, named_again, new_read, new_ulid_is, new_whole, source_in}
 use Rattle.lifecycle_core.proofs.blocks.Objects.{object, object_is}
-use Rattle.lifecycle_core.proofs.blocks.PlanMembers.{member_within, plan_within}
+use Rattle.lifecycle_core.proofs.blocks.PlanMembers.{member_within}
 use Rattle.lifecycle_core.proofs.blocks.PlanPairs.{merged_other}
 use Rattle.lifecycle_core.proofs.deeds.Orders.{IsEarlier, front_is_earlier, in_seat}
 use Rattle.lifecycle_core.proofs.deeds.Sources.{put_is_small}
@@ -47,18 +47,11 @@ use Rattle.lifecycle_core.proofs.journals.Positions.{stands_in}
 use Rattle.lifecycle_core.proofs.journals.Rising.{journal_rises}
 use Rattle.lifecycle_core.proofs.journals.Standing.{parted}
 use Rattle.lifecycle_core.proofs.journals.Told.{Rises}
-use Rattle.lifecycle_core.proofs.marks.Better.{fewer_or_same, none_within}
+use Rattle.lifecycle_core.proofs.marks.Better.{fewer_or_same, has_source, none_within}
 use Rattle.lifecycle_core.proofs.marks.Looks.{WasLookedAt, looked_at}
-use Rattle.lifecycle_core.proofs.marks.Reasons.{kept_seen, named_is, seen_by_more, sight}
+use Rattle.lifecycle_core.proofs.marks.Reasons.{kept_seen, seen_by_more, sight}
 
 -- ---- what a better block is
-
-has_source : (many few : List ℕ) (source : ℕ) → has_all many few ≡ true → Contains few source → Contains many source
-has_source many few source all among =
-    let some : list_any (λ other. other == source) many ≡ true = all_at_member (λ ulid. list_any (λ other. other == ulid) many) few source all among in
-    let f = member_of_any (λ other. other == source) many some in
-    let same = f.2 in
-    subst (Contains many) (grind (arith, nat_tests, same)) f.1
 
 more_of : (one other : Meta) → has_more one other ≡ true → (length other.sources < length one.sources) ⊎ ((length other.sources ≡ length one.sources) × (one.ulid < other.ulid))
 more_of one other is = elim (or_cases (nat_lt (length other.sources) (length one.sources)) _ is) [
@@ -249,7 +242,7 @@ module _ (setting : Setting) (journal : List Entry) (lawful : IsLawfulScript set
 
     kept_of : (m : Meta) → Contains merged.metas m → (f : Found) × Contains (new.view).kept f × (f.meta ≡ m)
     kept_of m among =
-        let member = plan_within (merged.group).members merged.metas merged.planned m among in
+        let member = plan_among (merged.group).members merged.metas merged.planned m among in
         let own_meta = member_within setting.script.rules.replicas (metas_of (new.view).kept) merged.groups merged.grouped merged.group merged.among m member in
         of_map (λ (b : Found). b.meta) (new.view).kept m own_meta
 

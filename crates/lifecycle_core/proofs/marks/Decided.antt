@@ -1,5 +1,5 @@
 -- Decisions to delete a block: how late they come, and what precedes them.
-use Rattle.std.proofs.Common.{◌≡◌, inl, inr, ℕ, zero, suc, ◌+◌, ◌*◌, ◌<◌, ◌≤◌, ◌^◌, List, [], ◌∷◌, ◌++◌, length, Contains, refl, sym, ◌∙◌, ap, subst, append_assoc, arith}
+use Rattle.std.proofs.Common.{◌≡◌, inl, inr, ℕ, zero, suc, ◌+◌, ◌*◌, ◌<◌, ◌≤◌, ◌^◌, List, ◌∷◌, ◌++◌, length, Contains, refl, sym, ◌∙◌, ap, subst, append_assoc, arith}
 use Rattle.std.specs.Prelude.{◌&&◌, nat_le}
 use Rattle.std.proofs.lemmas.Bool.{and_parts, leb-true, ltb-true}
 use Rattle.std.proofs.lemmas.List.{length-append}
@@ -25,10 +25,7 @@ use Rattle.lifecycle_core.proofs.journals.Positions.{stands_in}
 use Rattle.lifecycle_core.proofs.journals.Rising.{journal_rises}
 use Rattle.lifecycle_core.proofs.journals.Told.{Rises}
 use Rattle.lifecycle_core.proofs.marks.Looks.{looked_at, mark_is_read}
-
-not_nil : {X : Type 0} (xs : List X) (x : X) (ys : List X) → xs ++ x ∷ ys ≡ [] → ⊥
-not_nil [] x ys is = cc (is)
-not_nil (y ∷ xs) x ys is = cc (is)
+use Rattle.list_core.proofs.Lists.{middle_not_nil}
 
 -- a decision among entries
 pub record HasDecision (setting : Setting) (ulid : ℕ) (entries : List Entry) : Type 0 where
@@ -50,7 +47,7 @@ module _ (setting : Setting) (journal : List Entry) (lawful : IsLawfulScript set
 
   pub delays_agree : (before after : List Entry) (e : Entry) → journal ≡ before ++ e ∷ after → AreAgreed
   delays_agree before after e parts =
-      let agreed = deeds.agreed (λ nil. not_nil before e after (sym parts ∙ nil)) in
+      let agreed = deeds.agreed (λ nil. middle_not_nil before e after (sym parts ∙ nil)) in
       let first = and_parts (nat_le setting.script.rules.upload.ms setting.script.rules.partial.ms && nat_le (setting.script.rules.upload.ms + 1000) setting.script.rules.delete.ms)
       (nat_le setting.script.rules.ignore.ms setting.script.rules.delete.ms) agreed in
       let two = and_parts (nat_le setting.script.rules.upload.ms setting.script.rules.partial.ms) (nat_le (setting.script.rules.upload.ms + 1000) setting.script.rules.delete.ms) first.0 in

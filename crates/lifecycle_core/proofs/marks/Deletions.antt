@@ -18,13 +18,14 @@ use Rattle.world_core.specs.declared.op.Op.TheVariants as op
 use Rattle.world_core.specs.declared.entry.Entry.{Entry}
 use Rattle.script_core.specs.Lawful.{IsLawfulScript}
 use Rattle.activity_laws.specs.CleaningOps.{IsDecision}
+use Rattle.activity_laws.proofs.MarkTexts.{one_mark}
 use Rattle.lifecycle_core.specs.Completed.{IsCompletedAt, PutsMeta}
-use Rattle.lifecycle_core.specs.Conducts.{of_seat}
+use Rattle.world_core.specs.Journals.{of_seat}
 use Rattle.lifecycle_core.specs.Decisions.{DecidesToDelete}
 use Rattle.lifecycle_core.specs.Marked.{IsFirstMark, LandsDelete, PutsSomeMark}
 use Rattle.lifecycle_core.specs.Setting.{Setting}
 use Rattle.lifecycle_core.specs.TimeRules.{IsUploadedInTime, PutsMark, PutsObject}
-use Rattle.lifecycle_core.proofs.deeds.Orders.{back_is_later, higher_is_in_back, in_seat, one_place, ordered, rises_front}
+use Rattle.lifecycle_core.proofs.deeds.Orders.{back_is_later, higher_is_in_back, in_seat, one_place, ordered}
 use Rattle.lifecycle_core.proofs.deeds.Sources.{delete_source, mark_source, put_is_small}
 use Rattle.lifecycle_core.proofs.deeds.Stood.{LandsPut, WasPutLast, absent_stands, deleted_since, stands_last, stood}
 use Rattle.lifecycle_core.proofs.deeds.Words.{AreDeeds, Compacts}
@@ -32,7 +33,8 @@ use Rattle.lifecycle_core.proofs.journals.Positions.{stands_in}
 use Rattle.lifecycle_core.proofs.journals.Standing.{parted}
 use Rattle.lifecycle_core.proofs.journals.Told.{Rises}
 use Rattle.lifecycle_core.proofs.marks.Decided.{HasDecision, deeper, earlier, earlier_decision, in_journal, is_before, mark_before, meta_before_mark, none_put_later, old_mark, put_in, rising, shorter, was_decided}
-use Rattle.lifecycle_core.proofs.marks.Looks.{WasLookedAt, looked_at, mark_text_of, one_mark}
+use Rattle.lifecycle_core.proofs.marks.Looks.{WasLookedAt, looked_at, mark_text_of}
+use Rattle.lifecycle_core.proofs.phases.Stretches.{rises_left}
 
 -- The block's first mark was put among these entries, and tells this second.
 pub record WasMarkedFirst (entries : List Entry) (ulid second : ℕ) : Type 0 where
@@ -307,7 +309,7 @@ module _ (setting : Setting) (journal : List Entry) (lawful : IsLawfulScript set
           where
             back_part : (last : WasPutLast before (key.Meta ulid) bytes) (d : Entry) → Contains before d → last.put.seq < d.seq → Contains last.back d
             back_part last d among more =
-                let front_rises : Rises (last.front ++ last.put ∷ last.back) = rises_front (last.front ++ last.put ∷ last.back) after (subst Rises (parts ∙ ap (λ es. es ++ after) last.parts) rises) in
+                let front_rises : Rises (last.front ++ last.put ∷ last.back) = rises_left (last.front ++ last.put ∷ last.back) after (subst Rises (parts ∙ ap (λ es. es ++ after) last.parts) rises) in
                 higher_is_in_back last.front last.back last.put d front_rises (subst (λ es. Contains es d) last.parts among) more
 
     -- a block that is complete had its meta put
@@ -357,7 +359,7 @@ module _ (setting : Setting) (journal : List Entry) (lawful : IsLawfulScript set
         -- what is behind the mark, and before an entry of the middle, is in the middle
         behind : (one two : List Entry) (e x : Entry) → middle ≡ one ++ e ∷ two → Contains (front ++ mark ∷ one) x → mark.seq < x.seq → Contains middle x
         behind one two e x is among more =
-            let rising_one : Rises (front ++ mark ∷ one) = rises_front (front ++ mark ∷ one) (e ∷ (two ++ after)) (subst Rises (at_middle e one two is) rises) in
+            let rising_one : Rises (front ++ mark ∷ one) = rises_left (front ++ mark ∷ one) (e ∷ (two ++ after)) (subst Rises (at_middle e one two is) rises) in
             subst (λ es. Contains es x) (sym is) (Contains-append_left one (e ∷ two) x (higher_is_in_back front one mark x rising_one among more))
 
         meta : (p : Entry) × Contains journal p × PutsMeta ulid p

@@ -5,10 +5,9 @@ use Rattle.block_keys.specs.declared.key.Key.TheVariants as key
 use Rattle.block_meta.specs.MetaFields.{MarkFields}
 use Rattle.block_meta.specs.MetaReading.{mark_of_text}
 use Rattle.block_meta.specs.MetaText.{IsMarkText}
-use Rattle.block_meta.specs.MetaValue.{mark_text}
 use Rattle.block_meta.specs.OfBlocks.{block_mark, named_mark}
 use Rattle.block_meta.specs.declared.refusal.MetaRefusal.{MetaRefusal}
-use Rattle.block_meta.proofs.FoundTexts.{mark_text_found, mark_text_only}
+use Rattle.block_meta.proofs.FoundTexts.{mark_text_found}
 use Rattle.block_marking.specs.Marking.{details_of}
 use Rattle.block_marking.specs.NewMarks.{new_mark}
 use Rattle.block_marking.specs.declared.reason.Reason.{Reason}
@@ -19,15 +18,16 @@ use Rattle.script_core.specs.Lawful.{IsLawfulScript}
 use Rattle.sync_filters.specs.declared.found.Found.{Found}
 use Rattle.activity_laws.specs.CompactionOps.{IsMarkMade}
 use Rattle.activity_laws.specs.Sights.{IsSeen}
-use Rattle.lifecycle_core.specs.Conducts.{of_seat}
+use Rattle.world_core.specs.Journals.{of_seat}
 use Rattle.lifecycle_core.specs.Setting.{Setting}
 use Rattle.lifecycle_core.specs.TimeRules.{PutsMark}
-use Rattle.activity_laws.proofs.MarkTexts.{own_mark}
+use Rattle.activity_laws.proofs.MarkTexts.{mark_text_is, one_mark}
 use Rattle.lifecycle_core.proofs.deeds.Orders.{StandsWhole, stands_whole}
 use Rattle.lifecycle_core.proofs.deeds.Sources.{mark_source, put_is_small}
 use Rattle.lifecycle_core.proofs.deeds.Words.{AreDeeds, Compacts}
 use Rattle.lifecycle_core.proofs.journals.Positions.{split}
 use Rattle.lifecycle_core.proofs.marks.Reasons.{reason_seen}
+use Rattle.list_core.proofs.Lists.{middle_not_nil}
 
 -- ---- the text of a mark
 
@@ -35,7 +35,7 @@ some_test : (m mark : MarkFields) (b : Bool) → cond b (Some m) None ≡ Some m
 some_test m mark true same = ap Ok (cc (same))
 some_test m mark false same = absurd (cc (same))
 
-marked : (ulid : ℕ) (r : Result MarkFields MetaRefusal) (mark : MarkFields) → named_mark ulid r ≡ Some mark → r ≡ Ok mark
+pub marked : (ulid : ℕ) (r : Result MarkFields MetaRefusal) (mark : MarkFields) → named_mark ulid r ≡ Some mark → r ≡ Ok mark
 marked ulid (Ok m) mark is = some_test m mark (m.id == ulid) is
 marked ulid (Err e) mark is = absurd (cc (is))
 
@@ -43,22 +43,12 @@ marked ulid (Err e) mark is = absurd (cc (is))
 pub mark_is_read : (ulid : ℕ) (bytes : List ℕ) (mark : MarkFields) → block_mark ulid bytes ≡ Some mark → IsMarkText bytes mark
 mark_is_read ulid bytes mark is = (mark_text_found bytes).holds mark (marked ulid (mark_of_text bytes) mark is)
 
-pub one_mark : (bytes : List ℕ) (one other : MarkFields) → IsMarkText bytes one → IsMarkText bytes other → one ≡ other
-one_mark bytes one other is so = let both = sym (mark_text_only bytes one is) ∙ mark_text_only bytes other so in cc (both)
-
-mark_is_text : (mark : MarkFields) → mark.id < 2 ^ 128 → mark.deletion_time < 2 ^ 46 → IsUtf8 mark.details → IsMarkText (mark_text mark) mark
-mark_is_text mark small early text = mark_is_read mark.id (mark_text mark) mark (own_mark mark small early text)
-
-not_nil : {X : Type 0} (xs : List X) (x : X) (ys : List X) → xs ++ x ∷ ys ≡ [] → ⊥
-not_nil [] x ys is = cc (is)
-not_nil (y ∷ xs) x ys is = cc (is)
-
-details_text : (why : Reason) → IsUtf8 (details_of why)
+pub details_text : (why : Reason) → IsUtf8 (details_of why)
 details_text reason_is.Covered = search rules
 details_text reason_is.Compacted = search rules
 details_text reason_is.Expired = search rules
 
-second_below : (moment : ℕ) → moment < 2 ^ 48 → moment / 1000 < 2 ^ 46
+pub second_below : (moment : ℕ) → moment < 2 ^ 48 → moment / 1000 < 2 ^ 46
 second_below moment small = omega (arith, small)
 
 -- ---- the look
@@ -87,7 +77,7 @@ read_in_front front look first back read ulid own is asks reads = elim (split fr
   | inr ([], here, two) ↦
       let same : look ≡ read = cc (two) in
       let e : op.Get (key.Mark ulid) ≡ op.Get (key.Meta own) = sym asks ∙ ap (λ (x : Entry). x.op) same ∙ reads in absurd (cc (e))
-  | inr (x ∷ more, here, two) ↦ absurd (not_nil more read back (sym (cc (two))))
+  | inr (x ∷ more, here, two) ↦ absurd (middle_not_nil more read back (sym (cc (two))))
 ]
 
 module _ (setting : Setting) (journal : List Entry) (lawful : IsLawfulScript setting.script) (deeds : AreDeeds setting journal) (before after : List Entry) (e : Entry) (parts : journal ≡ before ++ e ∷ after) (ulid : ℕ) (bytes : List ℕ) (puts : e.op ≡ op.Put (key.Mark ulid) bytes) where
@@ -115,7 +105,7 @@ module _ (setting : Setting) (journal : List Entry) (lawful : IsLawfulScript set
   made_text : IsMarkText bytes made_mark
   made_text =
       let small = put_is_small setting journal deeds before after e parts lawful (key.Mark ulid) bytes puts in
-      subst (λ b. IsMarkText b made_mark) (sym is_made.text) (mark_is_text made_mark small (second_below (is_made.look).moment.ms look_small) (details_text is_made.why))
+      subst (λ b. IsMarkText b made_mark) (sym is_made.text) (mark_text_is made_mark small (second_below (is_made.look).moment.ms look_small) (details_text is_made.why))
 
   pub mark_text_of : (mark : MarkFields) × IsMarkText bytes mark
   mark_text_of = (made_mark, made_text)

@@ -1,36 +1,31 @@
 -- What a compaction had seen of a block that it marks.
 use Rattle.list_core.proofs.Membership.{of_filter, of_map}
-use Rattle.std.proofs.Common.{◌≡◌, ℕ, ◌==◌, Bool, true, false, cond, List, ◌∷◌, ◌++◌, Contains, Some, None, Result, Ok, Err, refl, sym, ◌∙◌, ap, subst, append_assoc, arith}
+use Rattle.std.proofs.Common.{◌≡◌, ℕ, ◌==◌, Bool, true, false, cond, List, ◌∷◌, ◌++◌, Contains, Some, None, sym, ◌∙◌, ap, subst, append_assoc, arith}
 use Rattle.std.proofs.lemmas.Bool.Decides.{nat_tests}
 use Rattle.std.proofs.lemmas.List.Elements.{All-contains}
 use Rattle.block_meta.specs.MetaFields.{MetaFields, fields_of}
 use Rattle.block_meta.specs.MetaReading.{meta_of_text}
-use Rattle.block_meta.specs.OfBlocks.{named_meta}
 use Rattle.block_meta.specs.declared.meta.Meta.{Meta}
-use Rattle.block_meta.specs.declared.refusal.MetaRefusal.{MetaRefusal}
 use Rattle.moment_core.specs.declared.rules.Rules.{Rules}
 use Rattle.world_core.specs.declared.entry.Entry.{Entry}
 use Rattle.sync_filters.specs.declared.found.Found.{Found}
-use Rattle.meta_fetcher.specs.Sightings.{covered_by, kept_by, passed_by}
+use Rattle.meta_fetcher.specs.Sightings.{covered_by, passed_by}
 use Rattle.meta_fetcher.specs.declared.rules.SyncRules.{SyncRules}
 use Rattle.meta_fetcher.specs.declared.view.View.{View}
 use Rattle.compactor.specs.Compactions.{metas_of, sync_rules}
 use Rattle.activity_laws.specs.CompactionOps.{HasSynced, IsKept, IsReason, WasCompacted, compacted, covered, expired}
 use Rattle.activity_laws.specs.Sights.{IsSeen, IsSight}
 use Rattle.activity_laws.proofs.SyncSights.{sync_sight}
-use Rattle.lifecycle_core.proofs.blocks.PlanMembers.{member_within, plan_within}
+use Rattle.activity_laws.proofs.CompactionGroups.{plan_among, named_is, of_passed}
+use Rattle.lifecycle_core.proofs.blocks.PlanMembers.{member_within}
 
 -- ---- what a view's sync saw
-
--- the blocks that a view keeps, or covers, are among those that were found
-kept_found : (rules : SyncRules) (found : List Found) (f : Found) → Contains (kept_by rules found) f → Contains found f
-kept_found rules found f among = of_filter _ found f (of_filter _ _ f (of_filter _ _ f (of_filter _ (passed_by rules found) f among)))
 
 covered_found : (rules : SyncRules) (found : List Found) (f : Found) → Contains (covered_by rules found) f → Contains found f
 covered_found rules found f among = of_filter _ found f (of_filter _ _ f (of_filter _ _ f (of_filter _ (passed_by rules found) f among)))
 
 pub kept_is_seen : (rules : SyncRules) (entries : List Entry) (view : View) → IsSight rules entries view → (f : Found) → Contains view.kept f → IsSeen entries f
-kept_is_seen rules entries view sight f among = All-contains (IsSeen entries) sight.found f sight.seen (kept_found rules sight.found f (subst (λ fs. Contains fs f) sight.kept among))
+kept_is_seen rules entries view sight f among = All-contains (IsSeen entries) sight.found f sight.seen (of_passed rules sight.found f (subst (λ fs. Contains fs f) sight.kept among))
 
 pub covered_is_seen : (rules : SyncRules) (entries : List Entry) (view : View) → IsSight rules entries view → (f : Found) → Contains view.covered f → IsSeen entries f
 covered_is_seen rules entries view sight f among = All-contains (IsSeen entries) sight.found f sight.seen (covered_found rules sight.found f (subst (λ fs. Contains fs f) sight.covered among))
@@ -72,17 +67,13 @@ named_test : (ulid : ℕ) (m meta : MetaFields) (b : Bool) → (m.ulid == ulid) 
 named_test ulid m meta true test is = let same : m ≡ meta = cc (is) in ap (λ (x : MetaFields). x.ulid) (sym same) ∙ grind (arith, nat_tests, test)
 named_test ulid m meta false test is = absurd (cc (is))
 
-pub named_is : (ulid : ℕ) (r : Result MetaFields MetaRefusal) (meta : MetaFields) → named_meta ulid r ≡ Some meta → meta.ulid ≡ ulid
-named_is ulid (Ok m) meta is = named_test ulid m meta (m.ulid == ulid) refl is
-named_is ulid (Err e) meta is = absurd (cc (is))
-
 -- an input of a block that was compacted is one that the view keeps
 pub input_is_kept : (rules : Rules) (own : List Entry) (view : View) (ulid : ℕ) → HasSynced rules own view → WasCompacted rules own view ulid → (f : Found) × IsKept view ulid f
 input_is_kept rules own view ulid synced was =
     let merged = (was.made).merged in
     let same = was.same in
     let m = was.input.0 in
-    let member = plan_within (merged.group).members merged.metas merged.planned m was.input.1 in
+    let member = plan_among (merged.group).members merged.metas merged.planned m was.input.1 in
     let meta = member_within rules.replicas (metas_of (was.made).view.kept) merged.groups merged.grouped merged.group merged.among m member in
     let f = of_map (λ (b : Found). b.meta) (was.made).view.kept m meta in
     let among : Contains view.kept f.0 = subst (λ (v : View). Contains v.kept f.0) same f.1 in

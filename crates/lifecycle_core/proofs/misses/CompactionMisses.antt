@@ -25,7 +25,7 @@ use Rattle.activity_laws.proofs.CompactionAsks.{compaction_op}
 use Rattle.lifecycle_core.specs.Acting.{IsReading}
 use Rattle.lifecycle_core.specs.Breaches.{Rule, Watch, honesty, read_key, read_time, upload_time, watched_compaction}
 use Rattle.lifecycle_core.specs.Causes.{IsBlamedInCompaction, IsExplainedBy}
-use Rattle.lifecycle_core.specs.Conducts.{of_seat}
+use Rattle.world_core.specs.Journals.{of_seat}
 use Rattle.lifecycle_core.specs.PutBlocks.{WasPutBefore}
 use Rattle.lifecycle_core.specs.Setting.{Setting}
 use Rattle.lifecycle_core.specs.TimeRules.{IsBlockObject, PutsObject}

@@ -32,7 +32,7 @@ use Rattle.world_core.specs.Plans.{Runs}
 use Rattle.lifecycle_core.specs.Acting.{IsReading}
 use Rattle.lifecycle_core.specs.Breaches.{read_key}
 use Rattle.lifecycle_core.specs.Completed.{IsCompletedAt}
-use Rattle.lifecycle_core.specs.Conducts.{of_seat}
+use Rattle.world_core.specs.Journals.{of_seat}
 use Rattle.lifecycle_core.specs.Marked.{IsFirstMark}
 use Rattle.lifecycle_core.specs.PutBlocks.{WasPutBefore}
 use Rattle.lifecycle_core.specs.Setting.{Setting}
@@ -42,6 +42,7 @@ use Rattle.activity_laws.specs.CompactionOps.{IsCompactOp, IsInputRead}
 use Rattle.activity_laws.specs.Sights.{IsSeen, IsSight, TellsMark}
 use Rattle.activity_laws.proofs.SyncSights.{sync_sight}
 use Rattle.activity_laws.proofs.CompactionAsks.{compaction_op}
+use Rattle.activity_laws.proofs.MarkTexts.{one_mark}
 use Rattle.lifecycle_core.proofs.blocks.Contents.{IsPutWhole, complete_put}
 use Rattle.lifecycle_core.proofs.blocks.Known.{put_is_complete}
 use Rattle.lifecycle_core.proofs.deeds.Fronts.{at_seat}
@@ -54,7 +55,7 @@ use Rattle.lifecycle_core.proofs.journals.Rising.{journal_rises}
 use Rattle.lifecycle_core.proofs.journals.Standing.{parted}
 use Rattle.lifecycle_core.proofs.journals.Told.{IsPart, Rises}
 use Rattle.lifecycle_core.proofs.marks.Deletions.{WasMarkedFirst, deletions_are_late, first_mark_stands, nothing_deleted}
-use Rattle.lifecycle_core.proofs.marks.Looks.{mark_is_read, one_mark}
+use Rattle.lifecycle_core.proofs.marks.Looks.{mark_is_read}
 use Rattle.lifecycle_core.proofs.marks.Reasons.{kept_is_seen}
 use Rattle.lifecycle_core.proofs.phases.TasksMade.{part_filter, part_middle, part_whole}
 

@@ -1,6 +1,7 @@
 -- Why a read of a block that a view keeps finds nothing.
 use Rattle.list_core.proofs.Membership.{contains_later, member_cases, no_member}
-use Rattle.std.proofs.Common.{◌≡◌, ◌≢◌, ◌⊎◌, inl, inr, ℕ, ◌+◌, ◌<◌, ◌≤◌, ◌==◌, List, [], ◌∷◌, ◌++◌, Contains, Some, IsTrue, refl, sym, ◌∙◌, ap, subst, append_assoc, arith}
+use Rattle.list_core.proofs.Lists.{middle_not_nil}
+use Rattle.std.proofs.Common.{◌≡◌, ◌⊎◌, inl, inr, ℕ, ◌+◌, ◌<◌, ◌≤◌, ◌==◌, List, [], ◌∷◌, ◌++◌, Contains, Some, IsTrue, refl, sym, ◌∙◌, ap, subst, append_assoc, arith}
 use Rattle.std.proofs.lemmas.List.Elements.{Contains-append_cases, Contains-append_left, Contains-append_right}
 use Rattle.block_keys.specs.Keys.{key_ulid}
 use Rattle.block_keys.specs.declared.key.Key.{Key}
@@ -18,7 +19,7 @@ use Rattle.activity_laws.specs.Sights.{IsSeen, IsSight}
 use Rattle.activity_laws.proofs.SyncSights.{sync_sight}
 use Rattle.lifecycle_core.specs.Breaches.{HoldsSamples, Rule, Watch, honesty, mark_time, read_key, upload_time, view_time}
 use Rattle.lifecycle_core.specs.Causes.{IsBlamed, IsExplainedUnder}
-use Rattle.lifecycle_core.specs.Conducts.{of_seat}
+use Rattle.world_core.specs.Journals.{of_seat}
 use Rattle.lifecycle_core.specs.Holdings.{Use}
 use Rattle.lifecycle_core.specs.PutBlocks.{WasPutBefore}
 use Rattle.lifecycle_core.specs.Setting.{Setting}
@@ -53,10 +54,6 @@ is_object (key.Index ulid) holds = tt
 is_object (key.Segment ulid number) holds = tt
 is_object (key.Mark ulid) holds = absurd holds
 
-not_nil : {X : Type 0} (xs : List X) (x : X) (ys : List X) → xs ++ x ∷ ys ≢ []
-not_nil [] x ys is = cc (is)
-not_nil (y ∷ xs) x ys is = cc (is)
-
 -- what is shipped and holds samples is put before the meta
 before_the_meta : (ulid : ℕ) (objects : List Object) → EndsWithMeta ulid objects → (done left : List Object) (bytes : List ℕ) → objects ≡ done ++ record { key = key.Meta ulid; bytes = bytes } ∷ left
     → (o : Object) → HoldsSamples o.key → Contains objects o → Contains done o
@@ -74,7 +71,7 @@ before_the_meta ulid objects ends done left bytes parts o holds among =
               | inr later ↦ absurd (no_member o (subst (λ (os : List Object). Contains os o) rest later))
             ]
           ]
-      | inr (x ∷ more, here, two) ↦ absurd (not_nil more (record { key = key.Meta ulid; bytes = bytes }) left (sym (cc (two))))
+      | inr (x ∷ more, here, two) ↦ absurd (middle_not_nil more (record { key = key.Meta ulid; bytes = bytes }) left (sym (cc (two))))
     ]
 
 module _ (setting : Setting) (journal : List Entry) (lawful : IsLawfulScript setting.script) (deeds : AreDeeds setting journal) (gateway : ℕ) (used : Use) (sync : List Entry)

@@ -25,6 +25,7 @@ use Rattle.lifecycle_core.specs.TimeRules.{IsBlockObject, IsMarkedInTime, IsUplo
 use Rattle.lifecycle_core.proofs.journals.Positions.{split}
 use Rattle.lifecycle_core.proofs.journals.Standing.{parted}
 use Rattle.lifecycle_core.proofs.journals.UnbrokenHonest.{tells_or_lies}
+use Rattle.list_core.proofs.Lists.{middle_not_nil}
 
 -- an entry that the rule refuses
 pub record HasRefused (setting : Setting) (watch : Watch) (journal : List Entry) (rule : Rule) (Is : Entry → Type 0) : Type 0 where
@@ -39,10 +40,6 @@ pub record HasRefused (setting : Setting) (watch : Watch) (journal : List Entry)
 
 -- ---- the first entry of which something holds
 
-not_nil : {X : Type 0} (xs : List X) (x : X) (ys : List X) → xs ++ x ∷ ys ≢ []
-not_nil [] x ys is = cc (is)
-not_nil (y ∷ xs) x ys is = cc (is)
-
 abbrev Some_at : (List Entry → Entry → Type 0) → List Entry → Type 0
 Some_at Q entries = (before : List Entry) × (e : Entry) × (after : List Entry) × (entries ≡ before ++ e ∷ after) × Q before e
 
@@ -54,7 +51,7 @@ module _ (P Q : List Entry → Entry → Type 0) where
         let same : e ≡ x = cc (two) in
         let front_is : before ≡ front = own ∙ append-nil front in
         subst (λ (es : List Entry). P es x) (sym front_is) (subst (P front) same here)
-    | inr (y ∷ more, own, two) ↦ absurd (not_nil more x after (sym (cc (two))))
+    | inr (y ∷ more, own, two) ↦ absurd (middle_not_nil more x after (sym (cc (two))))
   ]
 
   all_or_some : (front back : List Entry) → Each (λ before e. P before e ⊎ Q before e) (front ++ back) → Each P front → Each P (front ++ back) ⊎ Some_at Q (front ++ back)
@@ -67,7 +64,7 @@ module _ (P Q : List Entry → Entry → Type 0) where
   ]
 
   each_or : (entries : List Entry) → Each (λ before e. P before e ⊎ Q before e) entries → Each P entries ⊎ Some_at Q entries
-  each_or entries each = all_or_some [] entries each (λ before after e is. absurd (not_nil before e after (sym is)))
+  each_or entries each = all_or_some [] entries each (λ before after e is. absurd (middle_not_nil before e after (sym is)))
 
 all_of : (P : Entry → Type 0) (entries : List Entry) → Each (λ before e. P e) entries → All P entries
 all_of P entries each = All-weaker (Contains entries) P (λ e among. let at = parted entries e among in each at.0 at.1 e at.2) entries (All-contains_itself entries)

@@ -41,8 +41,9 @@ use Rattle.compactor.specs.NewBlocks.{block_objects, new_ulid}
 use Rattle.compactor.specs.declared.compact_end.CompactEnd.{CompactEnd}
 use Rattle.compactor.specs.declared.compact_end.CompactEnd.TheVariants as compact
 use Rattle.activity_laws.specs.CompactionOps.{HasSynced, ReadsObject, WasRead}
-use Rattle.activity_laws.proofs.CompactionSoFar.{AreRead, inputs_more, object_more, object_now, segments_and, synced_more, zip_push}
+use Rattle.activity_laws.proofs.CompactionSoFar.{AreRead, inputs_more, object_more, object_now, segments_and, synced_more}
 use Rattle.list_core.proofs.Membership.{contains_first, contains_later}
+use Rattle.list_core.proofs.Pairs.{AllZip-push}
 use Rattle.lifecycle_core.proofs.misses.RoundEnds.{EndsIn, both_are, by_rounds, by_sync, ends_in, noting_are}
 
 -- ---- what is shown
@@ -156,7 +157,7 @@ module _ (rules : Rules) (view : View) where
     blocks_end [] done inputs last made are w at = rest made inputs last w.0 (subst (λ (ms : List Meta). AllZip (WasRead made) ms inputs) (sym (append-nil done) ∙ are) w.1) at
     blocks_end (meta ∷ metas) done inputs last made are w at =
         block_end meta (With done inputs) (λ made e w. (synced_more rules view made e w.0, inputs_more made e done inputs w.1)) (λ input e. reads_blocks read_ends (inputs ++ input ∷ []) e metas next)
-        (λ now input later w was at. blocks_end metas (done ++ meta ∷ []) (inputs ++ input ∷ []) later now (append_assoc done (meta ∷ []) metas ∙ are) (w.0, zip_push (WasRead now) done inputs meta input w.1 was) at)
+        (λ now input later w was at. blocks_end metas (done ++ meta ∷ []) (inputs ++ input ∷ []) later now (append_assoc done (meta ∷ []) metas ∙ are) (w.0, AllZip-push (WasRead now) done inputs meta input w.1 was) at)
         made w
 
   -- ---- the upload

@@ -21,7 +21,7 @@ use Rattle.activity_laws.specs.Sights.{IsSeen}
 use Rattle.activity_laws.proofs.CompactionAsks.{compaction_op}
 use Rattle.lifecycle_core.specs.Breaches.{IsCompactorSeat, RefusesUnder, Rule, honesty, mark_time, read_time, sync_time, upload_time, view_time, watched, watched_compaction}
 use Rattle.lifecycle_core.specs.Causes.{IsBlamedInCompaction, IsExplainedBy}
-use Rattle.lifecycle_core.specs.Conducts.{of_seat}
+use Rattle.world_core.specs.Journals.{of_seat}
 use Rattle.lifecycle_core.specs.PutBlocks.{WasPutBefore}
 use Rattle.lifecycle_core.specs.Setting.{Setting}
 use Rattle.lifecycle_core.proofs.blocks.Contents.{IsHeldWhole, complete_holds}

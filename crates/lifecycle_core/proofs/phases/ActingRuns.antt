@@ -6,7 +6,8 @@ use Rattle.std.proofs.lemmas.Bool.Decides.{nat_tests}
 use Rattle.std.proofs.lemmas.List.{length-append}
 use Rattle.std.proofs.lemmas.List.Elements.{All-append, All-contains, All-contains_itself, All-from_recursion, All-nil, All-weaker, recursion_from_All}
 use Rattle.std.proofs.lemmas.Option.{slice_get_within}
-use Rattle.list_core.proofs.Membership.{into_filter, into_map, member_passes, of_filter, of_map}
+use Rattle.list_core.proofs.Membership.{into_filter, into_map, member_passes, of_filter, of_map, place_of_member}
+use Rattle.list_core.proofs.Pairs.{AllZip-second}
 use Rattle.world_core.specs.declared.entry.Entry.{Entry}
 use Rattle.read_ranges.specs.Reads.{Query as Question}
 use Rattle.script_core.proofs.SeatLaws.{are_seated}
@@ -24,23 +25,18 @@ use Rattle.script_workers.specs.declared.work.Work.{Work}
 use Rattle.script_workers.specs.declared.work.Work.TheVariants.{Upload, Sync, Compact, Clean, Query}
 use Rattle.script_workers.specs.declared.worker.Worker.{Worker}
 use Rattle.lifecycle_core.specs.Acting.{IsActing, IsReading, acting, actors}
-use Rattle.lifecycle_core.specs.Conducts.{Assigned, Conduct, PhaseRun, TasksAt, TasksRun, Who, WorkerRun, of_seat, who_of, working}
+use Rattle.world_core.specs.Journals.{of_seat}
+use Rattle.lifecycle_core.specs.Conducts.{Assigned, Conduct, PhaseRun, TasksAt, TasksRun, Who, WorkerRun, who_of, working}
 use Rattle.lifecycle_core.specs.Holdings.{Holding, Holdings, Use, holding_of, none_held, nothing_held}
 use Rattle.lifecycle_core.specs.Phases.{IsRunOf, by_script, by_workers}
 use Rattle.lifecycle_core.specs.Setting.{Setting}
 use Rattle.lifecycle_core.specs.Tasks.{End, QueryTask, TaskRun, ask_to, sync_rules}
 use Rattle.lifecycle_core.proofs.phases.GatewayParts.{part_entries, query_is}
 use Rattle.lifecycle_core.specs.Ways.{PhasesRun}
-use Rattle.lifecycle_core.proofs.journals.Positions.{zip_right}
 use Rattle.lifecycle_core.proofs.misses.GatewayEntries.{call_reads, sync_reads}
 use Rattle.lifecycle_core.proofs.phases.TaskRuns.{got}
 
 -- ---- seats
-
-contains_at : {X : Type 0} (xs : List X) (x : X) → Contains xs x → (k : ℕ) × (slice_get xs k ≡ Some x)
-contains_at [] x (k, below, is) = absurd (omega (arith, below))
-contains_at (y ∷ ys) x (zero, below, is) = (zero, ap (λ z. Some z) is)
-contains_at (y ∷ ys) x (suc k, below, is) = let rest = contains_at ys x (k, omega (arith, below), is) in (suc rest.0, rest.1)
 
 -- where a worker of a phase stands, and which hand's it is
 record Stands (script : Script) (number : ℕ) (worker : Worker) : Type 0 where
@@ -59,7 +55,7 @@ stands_by script number worker lawful among None is =
     let lost : Contains [] worker = subst (λ ws. Contains ws worker) none among in
     absurd (omega (arith, lost.1))
 stands_by script number worker lawful among (Some phase) is =
-    let at = contains_at (workers_of script number) worker among in
+    let at = place_of_member (workers_of script number) worker among in
     let within = slice_get_within (workers_of script number) at.0 worker at.1 in
     let seated = are_seated script number phase lawful is in
     let hand = got (hands_of (gateway_count script.gateways) phase.tasks) at.0 (omega (arith, within, seated.count)) in
@@ -108,7 +104,7 @@ one_worker script n m one other a b same =
 
 -- ---- a gateway's worker reads
 
-is_gateway : (hand : Hand) (gateway : ℕ) → gateway_of hand ≡ Some gateway → hand ≡ hands.Gateway gateway
+pub is_gateway : (hand : Hand) (gateway : ℕ) → gateway_of hand ≡ Some gateway → hand ≡ hands.Gateway gateway
 is_gateway (hands.Alone place) gateway is = absurd (cc (is))
 is_gateway (hands.Gateway own) gateway is = ap hands.Gateway (cc (is))
 
@@ -182,7 +178,7 @@ shipped_by [] ends = []
 shipped_by (w ∷ ws) [] = []
 shipped_by (w ∷ ws) (own ∷ ends) = cond (is_none w.gateway) (own ∷ shipped_by ws ends) (shipped_by ws ends)
 
-no_gateway : (o : Option ℕ) → is_none o ≡ true → o ≡ None
+pub no_gateway : (o : Option ℕ) → is_none o ≡ true → o ≡ None
 no_gateway None is = refl
 no_gateway (Some g) is = absurd (cc (is))
 
@@ -272,7 +268,7 @@ module _ (setting : Setting) (lawful : IsLawfulScript setting.script) (number : 
   one_sits e inside = elim (All-contains (λ (x : Entry). Contains (map (λ (w : Worker). w.seat) (workers_of setting.script number)) x.seat ⊎ ⊥) made e run.seats inside) [
     | inl sits ↦
         let who = of_map (λ (w : Worker). w.seat) (workers_of setting.script number) e.seat sits in
-        let own = zip_right (WorkerRun (by_script setting) phase.tasks views made after) (workers_of setting.script number) ends who.0 run.runs who.1 in
+        let own = AllZip-second (WorkerRun (by_script setting) phase.tasks views made after) (workers_of setting.script number) ends who.0 run.runs who.1 in
         sits_by e who.0 own.0 (is_none (who.0).gateway) inside who.1 who.2 refl own.2
     | inr none ↦ absurd none
   ]

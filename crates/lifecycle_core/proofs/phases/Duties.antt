@@ -1,22 +1,11 @@
 -- The duties of one hand among those of a phase, and the ends to which they came.
-use Rattle.std.proofs.Common.{◌≡◌, true, false, cond, List, [], ◌∷◌, map, refl, ap, arith}
-use Rattle.std.proofs.lemmas.Bool.Decides.{nat_tests}
+use Rattle.std.proofs.Common.{◌≡◌, true, false, cond, List, [], ◌∷◌, map, refl}
 use Rattle.script_workers.specs.Hands.{same_hand}
 use Rattle.script_workers.specs.declared.hand.Hand.{Hand}
 use Rattle.script_workers.specs.declared.hand.Hand.TheVariants as hands
 use Rattle.lifecycle_core.specs.Conducts.{Assigned}
 use Rattle.lifecycle_core.specs.InLine.{Duty}
 use Rattle.lifecycle_core.specs.Tasks.{End}
-
-pub same_is : (one other : Hand) → same_hand one other ≡ true → one ≡ other
-same_is (hands.Alone a) (hands.Alone b) e = let s : a ≡ b = grind (arith, nat_tests) in ap hands.Alone s
-same_is (hands.Alone a) (hands.Gateway b) e = absurd (cc (e))
-same_is (hands.Gateway a) (hands.Alone b) e = absurd (cc (e))
-same_is (hands.Gateway a) (hands.Gateway b) e = let s : a ≡ b = grind (arith, nat_tests) in ap hands.Gateway s
-
-pub same_self : (hand : Hand) → same_hand hand hand ≡ true
-same_self (hands.Alone a) = grind (arith, nat_tests)
-same_self (hands.Gateway a) = grind (arith, nat_tests)
 
 -- the duties of a hand, in their order
 unfoldable pub part : Hand → List Duty → List Duty

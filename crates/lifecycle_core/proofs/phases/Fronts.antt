@@ -1,25 +1,22 @@
 -- Fronts of lawful journals are lawful.
 use Rattle.list_core.proofs.Membership.{of_filter}
+use Rattle.list_core.proofs.Lists.{All-append_right, All-append_left}
 use Rattle.std.proofs.lemmas.Bool.{or_parts}
 use Rattle.std.proofs.Common.{◌≡◌, ◌≢◌, ◌⊎◌, inl, inr, ℕ, suc, ◌+◌, ◌==◌, true, false, List, [], ◌∷◌, ◌++◌, length, map, Contains, Option, Some, None, refl, sym, ◌∙◌, ap, subst, arith, append-nil}
-use Rattle.std.specs.Prelude.{get_or, slice_get, ◌<◌, ◌^◌}
-use Rattle.std.proofs.lemmas.List.{length-append}
+use Rattle.std.specs.Prelude.{get_or, slice_get}
 use Rattle.std.specs.List.{All, AllZip, list_any}
 use Rattle.std.proofs.lemmas.Bool.Decides.{nat_tests}
-use Rattle.std.proofs.lemmas.List.Elements.{All-cons, All-contains, All-contains_itself, All-head, All-nil, All-tail, Contains-append_left, Contains-append_right, filter-append}
-use Rattle.world_core.specs.Moments.{moment_after, last_moment}
-use Rattle.world_core.specs.Operations.{IsLawful, IsReplyTo}
-use Rattle.world_core.specs.Worlds.{IsJournal}
+use Rattle.std.proofs.lemmas.List.Elements.{All-cons, All-contains_itself, All-head, All-nil, All-tail, filter-append}
 use Rattle.world_core.specs.declared.entry.Entry.{Entry}
-use Rattle.world_core.proofs.LastLanded.{Each-front}
-use Rattle.script_workers.specs.Hands.{gateway_count, gateway_of, hands_of, same_hand, seats_after, worker_of, workers_from}
+use Rattle.script_workers.specs.Hands.{gateway_count, hands_of, same_hand, seats_after, worker_of, workers_from}
 use Rattle.script_core.specs.Workers.{seats_before, workers_after, workers_of}
 use Rattle.script_workers.specs.declared.hand.Hand.{Hand}
 use Rattle.script_workers.specs.declared.hand.Hand.TheVariants as hands
 use Rattle.script_workers.specs.declared.phase.Phase.{Phase}
 use Rattle.script_workers.specs.declared.task.Task.{Task}
 use Rattle.script_workers.specs.declared.worker.Worker.{Worker}
-use Rattle.lifecycle_core.specs.Conducts.{Assigned, Conduct, PhaseRun, TasksAt, TasksRun, Who, WorkerRun, of_seat, who_of}
+use Rattle.world_core.specs.Journals.{of_seat}
+use Rattle.lifecycle_core.specs.Conducts.{Assigned, Conduct, PhaseRun, TasksAt, TasksRun, Who, WorkerRun, who_of}
 use Rattle.lifecycle_core.specs.Holdings.{Holding, Holdings, none_held, with_holding}
 use Rattle.lifecycle_core.specs.Phases.{IsLawfulJournal, by_script, by_workers}
 use Rattle.lifecycle_core.specs.Setting.{Setting}
@@ -28,6 +25,8 @@ use Rattle.lifecycle_core.proofs.phases.HandLists.{Apart, joins_from}
 use Rattle.script_workers.specs.declared.work.Work.{Work}
 use Rattle.lifecycle_core.proofs.phases.FirstPhases.{no_phase}
 use Rattle.lifecycle_core.proofs.phases.RunFronts.{task_cut}
+use Rattle.lifecycle_core.proofs.deeds.Fronts.{journal_front}
+use Rattle.lifecycle_core.proofs.phases.ActingRuns.{is_gateway}
 
 -- ---- two ways to part a list
 
@@ -46,12 +45,6 @@ aligned (x ∷ xs) ys (m ∷ made) others is =
 nil_front : {X : Type 0} (xs ys : List X) → xs ++ ys ≡ [] → xs ≡ []
 nil_front [] ys is = refl
 nil_front (x ∷ xs) ys is = absurd (cc (is))
-
-all_back : {X : Type 0} (P : X → Type 0) (xs ys : List X) → All P (xs ++ ys) → All P ys
-all_back P xs ys all = λ k d below. All-contains P (xs ++ ys) (get_or ys k d) all (Contains-append_right xs ys (get_or ys k d) (All-contains_itself ys k d below))
-
-all_front : {X : Type 0} (P : X → Type 0) (xs ys : List X) → All P (xs ++ ys) → All P xs
-all_front P xs ys all = λ k d below. All-contains P (xs ++ ys) (get_or xs k d) all (Contains-append_left xs ys (get_or xs k d) (All-contains_itself xs k d below))
 
 seat_parts : (seat : ℕ) (xs ys : List Entry) → of_seat seat (xs ++ ys) ≡ of_seat seat xs ++ of_seat seat ys
 seat_parts seat xs ys = filter-append (λ (e : Entry). e.seat == seat) xs ys
@@ -91,8 +84,8 @@ module _ {State E : Type 0} (conduct : Conduct State E) (well : IsCutWell conduc
       elim (aligned xs ys made others parts) [
         | inl (zs, one, two) ↦
             let both : All (Contains front) (made ++ zs) = subst (All (Contains front)) one inside in
-            let tail = tasks_front who front back next tasks zs ys later last (all_back (Contains front) made zs both) (subst (λ es. TasksRun conduct who (front ++ back) next tasks es later last) two rest) in
-            (end ∷ tail.0, tail.1, inl (made, zs, end, tail.0, next, one, well.whole who own.place own.task.work front back before next made (Some end) (all_front (Contains front) made zs both) run, refl, tail.2))
+            let tail = tasks_front who front back next tasks zs ys later last (All-append_right (Contains front) made zs both) (subst (λ es. TasksRun conduct who (front ++ back) next tasks es later last) two rest) in
+            (end ∷ tail.0, tail.1, inl (made, zs, end, tail.0, next, one, well.whole who own.place own.task.work front back before next made (Some end) (All-append_left (Contains front) made zs both) run, refl, tail.2))
         | inr (y, zs, one) ↦
             unended who front before own tasks xs (well.cut who own.place own.task.work front back before next xs y zs (Some end) inside (subst (λ es. conduct.does who own.place own.task.work (front ++ back) before es (Some end) next) one run))
       ]
@@ -145,7 +138,7 @@ module _ {State E : Type 0} (conduct : Conduct State E) (well : IsCutWell conduc
         cut.0,
         left.0,
         record {
-          seats = all_front (λ (e : Entry). Contains (map (λ (w : Worker). w.seat) (conduct.workers number)) e.seat ⊎ conduct.bystands e) xs ys run.seats;
+          seats = All-append_left (λ (e : Entry). Contains (map (λ (w : Worker). w.seat) (conduct.workers number)) e.seat ⊎ conduct.bystands e) xs ys run.seats;
           runs = with_left phase.tasks before xs left.0 (conduct.workers number) cut.0 cut.1 cut.3 left.1;
           kept = left.2;
         },
@@ -183,10 +176,6 @@ abbrev pub AreApart : List Worker → Type 0
 AreApart [] = Unit {0}
 AreApart (w ∷ ws) = ((gateway : ℕ) → w.gateway ≡ Some gateway → All (λ (x : Worker). x.gateway ≢ Some gateway) ws) × AreApart ws
 
-gateway_is : (hand : Hand) (gateway : ℕ) → gateway_of hand ≡ Some gateway → hand ≡ hands.Gateway gateway
-gateway_is (hands.Alone place) gateway is = absurd (cc (is))
-gateway_is (hands.Gateway own) gateway is = ap hands.Gateway (cc (is))
-
 same_gateways : (gateway : ℕ) (hand : Hand) → hand ≡ hands.Gateway gateway → same_hand (hands.Gateway gateway) hand ≡ true
 same_gateways gateway hand is = subst (λ (h : Hand). same_hand (hands.Gateway gateway) h ≡ true) (sym is) (grind (arith, nat_tests))
 
@@ -196,13 +185,13 @@ others_apart gateways before gateway tasks [] none = All-nil (λ (x : Worker). x
 others_apart gateways before gateway tasks (hand ∷ hs) none =
     let parts = or_parts (same_hand (hands.Gateway gateway) hand) (list_any (same_hand (hands.Gateway gateway)) hs) none in
     All-cons (λ (x : Worker). x.gateway ≢ Some gateway) (worker_of gateways (seats_after before 1) hand tasks) (workers_from gateways (seats_after before 1) tasks hs)
-    (λ is. let same = same_gateways gateway hand (gateway_is hand gateway is) in cc (same, parts.0)) (others_apart gateways (seats_after before 1) gateway tasks hs parts.1)
+    (λ is. let same = same_gateways gateway hand (is_gateway hand gateway is) in cc (same, parts.0)) (others_apart gateways (seats_after before 1) gateway tasks hs parts.1)
 
 workers_apart : (gateways before : ℕ) (tasks : List Task) (hs : List Hand) → Apart hs → AreApart (workers_from gateways before tasks hs)
 unfolding workers_from
 workers_apart gateways before tasks [] apart = tt
 workers_apart gateways before tasks (hand ∷ hs) apart = (
-  λ gateway is. others_apart gateways (seats_after before 1) gateway tasks hs (subst (λ (h : Hand). list_any (same_hand h) hs ≡ false) (gateway_is hand gateway is) apart.0),
+  λ gateway is. others_apart gateways (seats_after before 1) gateway tasks hs (subst (λ (h : Hand). list_any (same_hand h) hs ≡ false) (is_gateway hand gateway is) apart.0),
   workers_apart gateways (seats_after before 1) tasks hs apart.1,
 )
 
@@ -276,16 +265,6 @@ script_is_cut_well setting = record {
 }
 
 -- ---- journals
-
-journal_front : (tick : ℕ) (front others : List Entry) → IsJournal tick (front ++ others) → IsJournal tick front
-journal_front tick front others is = record {
-  few = omega (arith, is.few, length-append front others);
-  numbered = Each-front (λ before e. e.seq ≡ length before + 1) front others is.numbered;
-  lawful = Each-front (λ before e. IsLawful e.op) front others is.lawful;
-  kinds = Each-front (λ before e. IsReplyTo e.op e.reply) front others is.kinds;
-  moments = Each-front (λ before e. e.moment.ms ≡ moment_after tick (last_moment before) e.op) front others is.moments;
-  small = Each-front (λ before e. e.moment.ms < 2 ^ 48) front others is.small;
-}
 
 pub front_is_lawful : (setting : Setting) (front others : List Entry) → IsLawfulJournal setting (front ++ others) → IsLawfulJournal setting front
 front_is_lawful setting front others (ends, run) =

@@ -13,14 +13,8 @@ use Rattle.script_workers.specs.declared.hand.Hand.TheVariants as hands
 use Rattle.script_workers.specs.declared.work.Work.{Work}
 use Rattle.script_workers.specs.declared.work.Work.TheVariants as works
 use Rattle.script_workers.specs.declared.task.Task.{Task}
+use Rattle.script_workers.proofs.HandLaws.{hands_equal, swapped}
 use Rattle.lifecycle_core.specs.InLine.{Duty, duties_from}
-use Rattle.lifecycle_core.proofs.phases.Duties.{same_is}
-
-pub same_turned : (a b : Hand) → same_hand a b ≡ same_hand b a
-same_turned (hands.Alone a) (hands.Alone b) = grind (arith, nat_tests)
-same_turned (hands.Alone a) (hands.Gateway b) = refl
-same_turned (hands.Gateway a) (hands.Alone b) = refl
-same_turned (hands.Gateway a) (hands.Gateway b) = grind (arith, nat_tests)
 
 -- each hand once
 abbrev pub Apart : List Hand → Type 0
@@ -31,7 +25,7 @@ apart_more : (others : List Hand) (hand : Hand) → Apart others → list_any (s
 apart_more [] hand apart none = (refl, tt)
 apart_more (x ∷ xs) hand apart none =
     let parts = or_parts (same_hand hand x) (list_any (same_hand hand) xs) none in (
-      list_any-append (same_hand x) xs (hand ∷ []) ∙ or_from (list_any (same_hand x) xs) (same_hand x hand || false) apart.0 (or_from (same_hand x hand) false (same_turned x hand ∙ parts.0) refl),
+      list_any-append (same_hand x) xs (hand ∷ []) ∙ or_from (list_any (same_hand x) xs) (same_hand x hand || false) apart.0 (or_from (same_hand x hand) false (swapped x hand ∙ parts.0) refl),
       apart_more xs hand apart.1 parts.1,
     )
 
@@ -97,7 +91,7 @@ joins_fold : (P : Hand → Type 0) (others more : List Hand) → JoinsAll P othe
 joins_fold P others [] = joins_none P others
 joins_fold P others (hand ∷ more) =
     joins_first P others (with_hand others hand) (fold with_hand (with_hand others hand) more) more hand
-    (joins_by P others hand (λ x s. same_is x hand s) (list_any (same_hand hand) others) refl) (joins_fold P (with_hand others hand) more)
+    (joins_by P others hand (λ x s. hands_equal x hand s) (list_any (same_hand hand) others) refl) (joins_fold P (with_hand others hand) more)
 
 all_parts : (P : Hand → Type 0) (one other : List Hand) → AllByRecursion P (one ++ other) → AllByRecursion P one × AllByRecursion P other
 all_parts P [] other all = (tt, all)

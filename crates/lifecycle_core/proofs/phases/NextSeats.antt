@@ -1,23 +1,12 @@
 -- How many seats are taken behind a phase: those before it, and its workers'.
-use Rattle.std.proofs.Common.{◌≡◌, ℕ, zero, suc, ◌+◌, List, [], ◌∷◌, ◌++◌, length, take, Option, Some, refl, sym, ◌∙◌, ap, arith}
+use Rattle.std.proofs.Common.{◌≡◌, ℕ, zero, suc, ◌+◌, List, [], ◌∷◌, ◌++◌, length, take, Option, Some, sym, ◌∙◌, ap, arith}
 use Rattle.std.specs.Prelude.{slice_get}
 use Rattle.script_core.specs.Workers.{seats_before, workers_after, workers_of}
 use Rattle.script_core.specs.declared.script.Script.{Script}
-use Rattle.script_workers.specs.Hands.{gateway_count, hands_of, seats_after, seats_from, workers_from}
-use Rattle.script_workers.specs.declared.hand.Hand.{Hand}
+use Rattle.script_workers.specs.Hands.{gateway_count, hands_of, seats_after, seats_from}
 use Rattle.script_workers.specs.declared.phase.Phase.{Phase}
-use Rattle.script_workers.specs.declared.task.Task.{Task}
 use Rattle.script_workers.specs.declared.worker.Worker.{Worker}
-
-workers_length : (gateways before : ℕ) (tasks : List Task) (hands : List Hand) → length (workers_from gateways before tasks hands) ≡ length hands
-unfolding workers_from
-workers_length gateways before tasks [] = refl
-workers_length gateways before tasks (hand ∷ hands) = ap suc (workers_length gateways (seats_after before 1) tasks hands)
-
-seats_append : (gateways before : ℕ) (front : List Phase) (phase : Phase) → seats_from gateways before (front ++ phase ∷ []) ≡ seats_after (seats_from gateways before front) (length (hands_of gateways phase.tasks))
-unfolding seats_from
-seats_append gateways before [] phase = refl
-seats_append gateways before (p ∷ front) phase = seats_append gateways (seats_after before (length (hands_of gateways p.tasks))) front phase
+use Rattle.script_workers.proofs.PhaseCounts.{workers_count, seats_from-push}
 
 by_place : (phases : List Phase) (place : ℕ) (phase : Phase) → slice_get phases place ≡ Some phase → take (suc place) phases ≡ take place phases ++ phase ∷ []
 by_place [] place phase is = cc (is)
@@ -31,9 +20,9 @@ upto phases place phase at = let more : suc place ≡ place + 1 = omega arith in
 workers_counted : (script : Script) (place : ℕ) (phase : Phase) → slice_get script.phases place ≡ Some phase → length (workers_of script place) ≡ length (hands_of (gateway_count script.gateways) phase.tasks)
 workers_counted script place phase at =
     let gateways = gateway_count script.gateways in
-    ap (λ (o : Option Phase). length {A = Worker} (workers_after script (seats_before script place) o)) at ∙ workers_length gateways (seats_before script place) phase.tasks (hands_of gateways phase.tasks)
+    ap (λ (o : Option Phase). length {A = Worker} (workers_after script (seats_before script place) o)) at ∙ workers_count gateways (seats_before script place) phase.tasks (hands_of gateways phase.tasks)
 
 pub seats_behind : (script : Script) (place : ℕ) (phase : Phase) → slice_get script.phases place ≡ Some phase → seats_before script (place + 1) ≡ seats_after (seats_before script place) (length (workers_of script place))
 seats_behind script place phase at =
     let gateways = gateway_count script.gateways in
-    ap (seats_from gateways 0) (upto script.phases place phase at) ∙ seats_append gateways 0 (take place script.phases) phase ∙ ap (seats_after (seats_before script place)) (sym (workers_counted script place phase at))
+    ap (seats_from gateways 0) (upto script.phases place phase at) ∙ seats_from-push gateways 0 (take place script.phases) phase ∙ ap (seats_after (seats_before script place)) (sym (workers_counted script place phase at))

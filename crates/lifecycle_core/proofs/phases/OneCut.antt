@@ -1,5 +1,6 @@
 -- A journal tells which phases were done: so two runs over one journal that were broken off while an operation was due, and such a run is no finished one.
 use Rattle.list_core.proofs.Membership.{member_cases, no_member}
+use Rattle.list_core.proofs.Lists.{middle_not_nil}
 use Rattle.std.proofs.Common.{◌≡◌, ◌≢◌, ◌⊎◌, inl, inr, ℕ, ◌+◌, ◌==◌, Bool, true, false, List, [], ◌∷◌, ◌++◌, length, map, All, Contains, Option, Some, None, refl, sym, ◌∙◌, ap, subst, arith, append_assoc, append-nil}
 use Rattle.std.specs.List.{AllZip}
 use Rattle.std.proofs.lemmas.Bool.Decides.{nat_tests}
@@ -15,7 +16,8 @@ use Rattle.script_core.specs.Workers.{workers_of}
 use Rattle.script_workers.specs.declared.phase.Phase.{Phase}
 use Rattle.script_workers.specs.declared.task.Task.{Task}
 use Rattle.script_workers.specs.declared.worker.Worker.{Worker}
-use Rattle.lifecycle_core.specs.Conducts.{AreDone, Assigned, PhaseRun, TasksRun, Who, WorkerRun, of_seat, who_of}
+use Rattle.world_core.specs.Journals.{of_seat}
+use Rattle.lifecycle_core.specs.Conducts.{AreDone, Assigned, PhaseRun, TasksRun, Who, WorkerRun, who_of}
 use Rattle.lifecycle_core.specs.Cuts.{IsCutBehind}
 use Rattle.lifecycle_core.specs.Holdings.{Holding, Holdings, holding_of, none_held}
 use Rattle.lifecycle_core.specs.Phases.{IsFinished, IsRunOf, by_script, by_workers}
@@ -23,7 +25,6 @@ use Rattle.lifecycle_core.specs.Setting.{Setting}
 use Rattle.lifecycle_core.specs.Tasks.{End, TaskRun}
 use Rattle.lifecycle_core.specs.Ways.{AreFinished, IsOperationDue, PhasesRun}
 use Rattle.lifecycle_core.proofs.phases.OneEnding.{alike, first_longer, second_longer, at_length, at_tells, begun_tell, made_above, no_further, parted, phase_tells, starts, task_once, task_tells, within}
-use Rattle.lifecycle_core.proofs.phases.RunFronts.{not_nil}
 
 -- ---- an answer to an operation
 
@@ -78,7 +79,7 @@ module _ (setting : Setting) where
   -- a worker whose tasks have come to their ends makes no entry more
   tasks_once : (who : Who) (all all' : List Entry) (held : Holding) (tasks : List Assigned) (entries : List Entry) (y : Entry) (rest : List Entry) (one other : List End) (last also : Holding)
       → Did who all held tasks entries one last → Did who all' held tasks (entries ++ y ∷ rest) other also → length one ≡ length tasks → ⊥
-  tasks_once who all all' held [] entries y rest one other last also run more full = not_nil entries y rest more.0
+  tasks_once who all all' held [] entries y rest one other last also run more full = middle_not_nil entries y rest more.0
   tasks_once who all all' held (own ∷ tasks) entries y rest one other last also (inr (run, none)) more full = absurd (omega (arith, full, ap (λ (l : List End). length l) none))
   tasks_once who all all' held (own ∷ tasks) entries y rest one other last also (inl (made, others, end, later, next, parts, run, is, go)) (inr (more, none)) full =
       let first = some_first others y rest in

@@ -1,5 +1,6 @@
 -- A journal tells the ends of what is done: two runs of a script over one journal came to the same ends.
 use Rattle.list_core.proofs.Membership.{contains_first}
+use Rattle.list_core.proofs.Lists.{middle_not_nil}
 use Rattle.std.proofs.Common.{◌≡◌, ◌≢◌, ◌⊎◌, inl, inr, ℕ, suc, ◌+◌, ◌<◌, ◌==◌, Bool, true, false, List, [], ◌∷◌, ◌++◌, length, map, All, Contains, Option, Some, None, refl, sym, ◌∙◌, ap, subst, arith, append-nil}
 use Rattle.std.specs.Prelude.{option_map, slice_get}
 use Rattle.std.specs.List.{AllZip}
@@ -29,7 +30,8 @@ use Rattle.script_workers.specs.declared.work.Work.TheVariants.{Upload, Sync, Co
 use Rattle.script_workers.specs.declared.worker.Worker.{Worker}
 use Rattle.script_core.specs.Workers.{seats_before, workers_after, workers_of}
 use Rattle.script_core.specs.declared.block.Block.{Block}
-use Rattle.lifecycle_core.specs.Conducts.{AreDone, Assigned, PhaseRun, TasksAt, TasksRun, Who, WorkerRun, of_seat, who_of}
+use Rattle.world_core.specs.Journals.{of_seat}
+use Rattle.lifecycle_core.specs.Conducts.{AreDone, Assigned, PhaseRun, TasksAt, TasksRun, Who, WorkerRun, who_of}
 use Rattle.lifecycle_core.specs.Holdings.{Holding, Holdings, Use, holding_of, none_held}
 use Rattle.lifecycle_core.specs.Phases.{IsFinished, IsRunOf, by_script, by_workers}
 use Rattle.lifecycle_core.specs.Setting.{Setting}
@@ -38,7 +40,6 @@ use Rattle.lifecycle_core.specs.Shipped.{IsShipped}
 use Rattle.lifecycle_core.specs.Tasks.{End, IsStop, PartTask, QueryTask, ShipTask, TaskRun, answered, ask_to, called_with, cleaned, compacted, question_of, refused, sync_rules, synced, synced_with, uploaded}
 use Rattle.lifecycle_core.specs.Ways.{AreFinished, PhasesRun}
 use Rattle.lifecycle_core.proofs.blocks.OneShipped.{not_refused, one_cause, one_shipped}
-use Rattle.lifecycle_core.proofs.phases.RunFronts.{not_nil}
 use Rattle.lifecycle_core.proofs.views.SyncEnds.{sync_tells}
 
 -- ---- lists and options
@@ -115,8 +116,8 @@ ship_once setting block stop xs y rest last end (inl (objects, own, ships, run, 
     stopped_once (upload block.ulid objects) uploaded stop xs y rest last end own also run how (same_upload setting block block objects others (xs ++ y ∷ rest) also refl ships also_ships more) on
 ship_once setting block stop xs y rest last end (inr (inl (cause, none, (nil, how)))) (inl (others, also, ships, more, on)) = not_refused setting block block.body others cause ships none
 ship_once setting block stop xs y rest last end (inr (inr (nil, off))) more = absurd (cc (off))
-ship_once setting block stop xs y rest last end run (inr (inl (cause, none, (nil, how)))) = not_nil xs y rest nil
-ship_once setting block stop xs y rest last end run (inr (inr (nil, off))) = not_nil xs y rest nil
+ship_once setting block stop xs y rest last end run (inr (inl (cause, none, (nil, how)))) = middle_not_nil xs y rest nil
+ship_once setting block stop xs y rest last end run (inr (inr (nil, off))) = middle_not_nil xs y rest nil
 
 refused_is : (cause : ℕ) (one : End) → (Some one ≡ None) ⊎ (Some one ≡ Some (refused cause)) → one ≡ refused cause
 refused_is cause one (inl off) = absurd (cc (off))
@@ -136,7 +137,7 @@ ship_tells setting block stop xs one other run (inr (inr (nil, off))) = absurd (
 
 query_once : (used : Option Use) (asked : Option Question) (before after later : Holding) (xs : List Entry) (y : Entry) (rest : List Entry) (last : End) (end : Option End)
     → QueryTask used asked before xs (Some last) after → QueryTask used asked before (xs ++ y ∷ rest) end later → ⊥
-query_once None asked before after later xs y rest last end run ((nil, how), same) = not_nil xs y rest nil
+query_once None asked before after later xs y rest last end run ((nil, how), same) = middle_not_nil xs y rest nil
 query_once (Some used) None before after later xs y rest last end run more = run
 query_once (Some used) (Some asked) before after later xs y rest last end (own, run, is, left) (also, more, so, right) =
     let made = some_of (λ (call : CallEnd). answered used call.end) own last is in
@@ -158,7 +159,7 @@ query_tells (Some used) (Some asked) before after later xs one other (own, run, 
 
 part_once : (setting : Setting) (selector : ℕ) (ask : Option Ask) (before after later : Holding) (xs : List Entry) (y : Entry) (rest : List Entry) (last : End) (end : Option End)
     → PartTask setting selector ask before xs (Some last) after → PartTask setting selector ask before (xs ++ y ∷ rest) end later → ⊥
-part_once setting selector None before after later xs y rest last end run ((nil, how), same) = not_nil xs y rest nil
+part_once setting selector None before after later xs y rest last end run ((nil, how), same) = middle_not_nil xs y rest nil
 part_once setting selector (Some ask) before after later xs y rest last end run more = query_once before.used (question_of setting selector ask) before after later xs y rest last end run more
 
 part_tells : (setting : Setting) (selector : ℕ) (ask : Option Ask) (before after later : Holding) (xs : List Entry) (one other : End)

@@ -27,7 +27,8 @@ use Rattle.script_workers.specs.declared.work.Work.{Work}
 use Rattle.script_workers.specs.declared.work.Work.TheVariants.{Upload, Sync, Compact, Clean, Query}
 use Rattle.script_workers.specs.declared.worker.Worker.{Worker}
 use Rattle.lifecycle_core.specs.Breaches.{IsSeatOf, IsSyncIn}
-use Rattle.lifecycle_core.specs.Conducts.{PhaseRun, Who, of_seat}
+use Rattle.world_core.specs.Journals.{of_seat}
+use Rattle.lifecycle_core.specs.Conducts.{PhaseRun, Who}
 use Rattle.lifecycle_core.specs.Holdings.{Holding, Holdings, Use}
 use Rattle.lifecycle_core.specs.Phases.{by_script}
 use Rattle.lifecycle_core.specs.Setting.{Setting}
@@ -42,10 +43,11 @@ use Rattle.lifecycle_core.proofs.phases.GatewayParts.{part_entries, query_is}
 use Rattle.lifecycle_core.proofs.phases.OneSeat.{one_worker, seat_above}
 use Rattle.lifecycle_core.proofs.phases.Stretches.{Follows, all_left, all_of_seat, all_right, no_listing, rises_filter, rises_left}
 use Rattle.lifecycle_core.proofs.phases.TaskRuns.{task_leaves}
-use Rattle.lifecycle_core.proofs.phases.WholeSeats.{clock_apart, other_first, quiet_phase}
+use Rattle.lifecycle_core.proofs.phases.WholeSeats.{clock_apart, quiet_phase}
 use Rattle.lifecycle_core.proofs.views.Alone.{cut_front}
 use Rattle.lifecycle_core.proofs.views.OneOpening.{sync_begins}
 use Rattle.lifecycle_core.proofs.views.SyncEnds.{sync_tells}
+use Rattle.lifecycle_core.proofs.deeds.ActingDeeds.{rises_apart, other_first}
 
 -- a worker of this gateway may have the task: a sync is its gateway's, and a query is any gateway's
 abbrev pub IsFitFor : Option ℕ → Work → Type 0
@@ -87,17 +89,8 @@ some_of (x ∷ m) some = (x, m, refl)
 
 -- ---- numbers
 
-pub before_all : (a b : List Entry) → Rises (a ++ b) → (x e : Entry) → Contains a x → Contains b e → x.seq < e.seq
-before_all [] b rises x e among behind = absurd (no_member x among)
-before_all (y ∷ a) b rises x e among behind = elim (member_cases y x a among) [
-  | inl same ↦
-      let follows = All-contains (Follows y) (a ++ b) e rises.0 (Contains-append_right a b e behind) in
-      subst (λ (z : Entry). z.seq < e.seq) same follows.0
-  | inr later ↦ before_all a b rises.1 x e later behind
-]
-
 member_below : (a b : List Entry) → Rises (a ++ b) → (x : Entry) → Contains a x → All (λ (e : Entry). x.seq < e.seq) b
-member_below a b rises x among = All-weaker (Contains b) (λ (e : Entry). x.seq < e.seq) (λ e behind. before_all a b rises x e among behind) b (All-contains_itself b)
+member_below a b rises x among = All-weaker (Contains b) (λ (e : Entry). x.seq < e.seq) (λ e behind. rises_apart a b rises x e among behind) b (All-contains_itself b)
 
 -- a number is below those of entries that rise, or the first is not above it
 below_or : (es : List Entry) → Rises es → (n : ℕ) → All (λ (e : Entry). n < e.seq) es ⊎ ((e : Entry) × (back : List Entry) × (es ≡ e ∷ back) × (e.seq ≤ n))
@@ -437,7 +430,7 @@ module _ (setting : Setting) (lawful : IsLawfulScript setting.script) where
     its_worker journal front beyond rises is own x inside (n, w, there, owns, sits) e held low upto =
         elim (Contains-append_cases front (made ++ beyond) x (subst (λ (es : List Entry). Contains es x) is inside)) [
           | inl first ↦
-              let less = before_all front (made ++ beyond) (subst Rises is rises) x e first (Contains-append_left made beyond e held) in
+              let less = rises_apart front (made ++ beyond) (subst Rises is rises) x e first (Contains-append_left made beyond e held) in
               absurd (omega (arith, less, low))
           | inr rest ↦ elim (Contains-append_cases made beyond x rest) [
             | inr late ↦ let more = All-contains (λ (y : Entry). x.seq < y.seq) beyond x upto late in absurd (omega (arith, more))

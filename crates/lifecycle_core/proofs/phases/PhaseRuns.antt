@@ -1,5 +1,6 @@
 -- A phase whose tasks are done in line is a run of the phase.
 use Rattle.list_core.proofs.Membership.{contains_first, contains_later}
+use Rattle.list_core.proofs.Pairs.{AllZip-weaker}
 use Rattle.std.proofs.lemmas.Bool.{or_left, or_right}
 use Rattle.std.proofs.Common.{◌≡◌, ◌≢◌, ◌⊎◌, ℕ, suc, ◌+◌, ◌<◌, ◌≤◌, Bool, true, false, ◌||◌, cond, List, [], ◌∷◌, length, map, refl, sym, ◌∙◌, ap, subst, inl, inr, arith}
 use Rattle.std.specs.Prelude.{◌==◌, Option, Some, slice_get}
@@ -14,30 +15,20 @@ use Rattle.script_workers.specs.declared.hand.Hand.{Hand}
 use Rattle.script_workers.specs.declared.hand.Hand.TheVariants as hands
 use Rattle.script_workers.specs.declared.task.Task.{Task}
 use Rattle.script_workers.specs.declared.worker.Worker.{Worker}
-use Rattle.lifecycle_core.specs.Conducts.{AreDone, CameTo, PhaseRun, TasksAt, TasksRun, WorkerRun, of_seat}
+use Rattle.script_workers.proofs.HandLaws.{hands_equal, itself}
+use Rattle.world_core.specs.Journals.{of_seat}
+use Rattle.lifecycle_core.specs.Conducts.{AreDone, CameTo, PhaseRun, TasksAt, TasksRun, WorkerRun}
 use Rattle.lifecycle_core.specs.Holdings.{Holding, Holdings, holding_of, with_holding}
 use Rattle.lifecycle_core.specs.InLine.{Duty, InLine, duties_from, seat_of}
 use Rattle.lifecycle_core.specs.Phases.{by_script}
 use Rattle.lifecycle_core.specs.Setting.{Setting}
 use Rattle.lifecycle_core.specs.Tasks.{End}
-use Rattle.lifecycle_core.proofs.phases.Duties.{same_is, same_self, part, ends_by, tasks_of}
+use Rattle.lifecycle_core.proofs.phases.Duties.{part, ends_by, tasks_of}
 use Rattle.lifecycle_core.proofs.phases.HandLists.{JoinsAll, joins_from, hands_in}
 use Rattle.lifecycle_core.proofs.phases.Places.{IsDuty, all_duties, places_are, places_in, tasks_at, alone_place}
 use Rattle.lifecycle_core.proofs.phases.Workers.{IsPlaced, IsWorkerOf, each_worker, seat_among}
 use Rattle.lifecycle_core.proofs.phases.TaskRuns.{MayBegin}
 use Rattle.lifecycle_core.proofs.phases.WorkerRuns.{Fits, did}
-
-pub zip_weaken : {A B : Type 0} (R S : A → B → Type 0) → ((a : A) (b : B) → R a b → S a b) → (xs : List A) (ys : List B) → AllZip R xs ys → AllZip S xs ys
-zip_weaken R S f [] [] all = tt
-zip_weaken R S f [] (y ∷ ys) all = absurd all
-zip_weaken R S f (x ∷ xs) [] all = absurd all
-zip_weaken R S f (x ∷ xs) (y ∷ ys) all = (f x y all.0, zip_weaken R S f xs ys all.1)
-
-pub all_zip : {A B : Type 0} (P : A → Type 0) (R S : A → B → Type 0) → ((a : A) (b : B) → P a → R a b → S a b) → (xs : List A) (ys : List B) → AllByRecursion P xs → AllZip R xs ys → AllZip S xs ys
-all_zip P R S f [] [] each all = tt
-all_zip P R S f [] (y ∷ ys) each all = absurd all
-all_zip P R S f (x ∷ xs) [] each all = absurd all
-all_zip P R S f (x ∷ xs) (y ∷ ys) each all = (f x y each.0 all.0, all_zip P R S f xs ys each.1 all.1)
 
 -- ---- what holds of every duty
 
@@ -45,7 +36,7 @@ among_all : (ds : List Duty) (hs : List Hand) → ((x : Hand) → list_any (same
     → AllByRecursion (λ d. list_any (same_hand d.hand) hs ≡ true) ds
 among_all [] hs f = tt
 among_all (d ∷ ds) hs f = (
-  f d.hand (or_left (same_hand d.hand d.hand) (list_any (same_hand d.hand) (hands_in ds)) (same_self d.hand)),
+  f d.hand (or_left (same_hand d.hand d.hand) (list_any (same_hand d.hand) (hands_in ds)) (itself d.hand)),
   among_all ds hs (λ x k. f x (or_right (same_hand x d.hand) (list_any (same_hand x) (hands_in ds)) k)),
 )
 
@@ -101,7 +92,7 @@ kept_view setting seat gateway views (d ∷ ds) entries ends after each (inr r) 
 no_first : (gateways before gateway : ℕ) (tasks : List Task) (all : List Worker) (h : Hand) (w : Worker) (b c : Bool) → same_hand (hands.Gateway gateway) h ≡ b → IsWorkerOf gateways tasks before all h w
     → w.gateway ≢ Some gateway → (c ≡ true → ⊥) → (same_hand (hands.Gateway gateway) h || c) ≡ true → ⊥
 no_first gateways before gateway tasks all h w true c is worker none later found =
-    none (worker.gateway ∙ ap gateway_of (sym (same_is (hands.Gateway gateway) h is)))
+    none (worker.gateway ∙ ap gateway_of (sym (hands_equal (hands.Gateway gateway) h is)))
 no_first gateways before gateway tasks all h w false c is worker none later found = later (rw is at found)
 
 no_worker : (gateways before gateway : ℕ) (tasks : List Task) (all : List Worker) (hs : List Hand) (workers : List Worker) → AllZip (IsWorkerOf gateways tasks before all) hs workers
@@ -159,7 +150,7 @@ beside hand (d ∷ ds) (e ∷ es) same =
     let ps = places_in (part hand ds) in
     let own = ends_by hand ds es in
     subst (λ (l : List ℕ). AllZip (Beside hand l (cond b (e ∷ own) own)) (d ∷ ds) (e ∷ es)) (places_cond d (part hand ds) b)
-    (beside_first hand d e ps own b refl, zip_weaken (Beside hand ps own) (Beside hand (cond b (d.place ∷ ps) ps) (cond b (e ∷ own) own)) (λ x y k. beside_later hand d e ps own b x y k) ds es (beside hand ds es (omega (arith, same))))
+    (beside_first hand d e ps own b refl, AllZip-weaker (Beside hand ps own) (Beside hand (cond b (d.place ∷ ps) ps) (cond b (e ∷ own) own)) (λ x y k. beside_later hand d e ps own b x y k) ds es (beside hand ds es (omega (arith, same))))
 
 abbrev pub ends_of : List Duty → List End → List Hand → List (List End)
 ends_of ds ends hs = map (λ hand. ends_by hand ds ends) hs
@@ -184,7 +175,7 @@ served_first : (gateways before : ℕ) (tasks : List Task) (all : List Worker) (
     → IsWorkerOf gateways tasks before all h w → (list_any (same_hand x) hs ≡ true → Served gateways tasks ws (ends_of ds ends hs) ds ends x) → list_any (same_hand x) (h ∷ hs) ≡ true
     → Served gateways tasks (w ∷ ws) (ends_of ds ends (h ∷ hs)) ds ends x
 served_first gateways before tasks all h w hs ws ds ends x true is worker later found =
-    let e : x ≡ h = same_is x h is in
+    let e : x ≡ h = hands_equal x h is in
     subst (Served gateways tasks (w ∷ ws) (ends_of ds ends (h ∷ hs)) ds ends) (sym e)
     (record { worker = w; gateway = worker.gateway; places = worker.places; among = contains_first (w, ends_by h ds ends) (zip ws (ends_of ds ends hs)) })
 served_first gateways before tasks all h w hs ws ds ends x false is worker later found =
@@ -217,7 +208,7 @@ short_first hand d e ds es false less = less
 
 short_own : (d : Duty) (ds : List Duty) (b : Bool) → same_hand d.hand d.hand ≡ b → length {A = End} [] < length (cond b (d ∷ part d.hand ds) (part d.hand ds))
 short_own d ds true is = omega arith
-short_own d ds false is = absurd (cc (is, same_self d.hand))
+short_own d ds false is = absurd (cc (is, itself d.hand))
 
 short_hand : (hs : List Hand) (ds : List Duty) (ends : List End) → length ends < length ds → AllByRecursion (λ d. list_any (same_hand d.hand) hs ≡ true) ds
     → (hand : Hand) × (list_any (same_hand hand) hs ≡ true) × (length (ends_by hand ds ends) < length (part hand ds))
@@ -231,7 +222,7 @@ short_hand hs (d ∷ ds) (e ∷ es) less among =
 undone_first : (gateways before : ℕ) (tasks : List Task) (all : List Worker) (hand h : Hand) (w : Worker) (ds : List Duty) (ends : List End) (b c : Bool) → ds ≡ duties_from gateways 0 tasks
     → length (ends_by hand ds ends) < length (part hand ds) → IsWorkerOf gateways tasks before all h w → same_hand hand h ≡ b → length w.tasks ≡ length (ends_by h ds ends) → (c ≡ true → ⊥) → (same_hand hand h || c) ≡ true → ⊥
 undone_first gateways before tasks all hand h w ds ends true c are less worker is first later found =
-    let same : hand ≡ h = same_is hand h is in
+    let same : hand ≡ h = hands_equal hand h is in
     let less' : length (ends_by h ds ends) < length (part h ds) = subst (λ (x : Hand). length (ends_by x ds ends) < length (part x ds)) same less in
     let n : length w.tasks ≡ length (part h ds) =
     ap length (worker.places ∙ places_are gateways h 0 tasks ∙ ap (λ (l : List Duty). places_in (part h l)) (sym are)) ∙ length-map (part h ds) (λ (d : Duty). d.place) in
@@ -313,7 +304,7 @@ module _ (setting : Setting) (gateways before : ℕ) (tasks : List Task) (views 
         own = ends_by d.hand own_duties ends;
         among = s.among;
         is = s.gateway;
-        came = subst (λ (ps : List ℕ). Contains (zip ps (ends_by d.hand own_duties ends)) (d.place, e)) places (near d.hand (same_self d.hand));
+        came = subst (λ (ps : List ℕ). Contains (zip ps (ends_by d.hand own_duties ends)) (d.place, e)) places (near d.hand (itself d.hand));
       }
 
   came_all : before + length own_hands ≤ greatest → (ds : List Duty) (es : List End) → AllByRecursion (λ d. list_any (same_hand d.hand) own_hands ≡ true) ds

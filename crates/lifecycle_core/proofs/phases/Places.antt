@@ -10,9 +10,10 @@ use Rattle.script_workers.specs.declared.work.Work.{Work}
 use Rattle.script_workers.specs.declared.work.Work.TheVariants as works
 use Rattle.script_workers.specs.declared.task.Task.{Task}
 use Rattle.script_workers.proofs.HandLists.{none_alone_among}
+use Rattle.script_workers.proofs.HandLaws.{hands_equal}
 use Rattle.lifecycle_core.specs.Conducts.{TasksAt}
 use Rattle.lifecycle_core.specs.InLine.{Duty, duties_from}
-use Rattle.lifecycle_core.proofs.phases.Duties.{part, same_is, tasks_of}
+use Rattle.lifecycle_core.proofs.phases.Duties.{part, tasks_of}
 use Rattle.lifecycle_core.proofs.phases.HandLists.{Apart, task_apart}
 use Rattle.lifecycle_core.proofs.phases.TaskRuns.{IsAlone}
 
@@ -27,7 +28,7 @@ place_first : (hand x : Hand) (place : ℕ) (task : Task) (hs : List Hand) (ps :
     → cond (same_hand hand x || list_any (same_hand hand) hs) (place ∷ ps) ps ≡ places_in (part hand (record { place = place; hand = x; task = task } ∷ duties_at place task hs ++ rest))
 unfolding part
 place_first hand x place task hs ps rest true is none later =
-    let others : list_any (same_hand hand) hs ≡ false = subst (λ (h : Hand). list_any (same_hand h) hs ≡ false) (sym (same_is hand x is)) none in
+    let others : list_any (same_hand hand) hs ≡ false = subst (λ (h : Hand). list_any (same_hand h) hs ≡ false) (sym (hands_equal hand x is)) none in
     let tail : ps ≡ places_in (part hand (duties_at place task hs ++ rest)) = ap (λ (c : Bool). cond c (place ∷ ps) ps) (sym others) ∙ later in
     rw is (ap (λ l. place ∷ l) tail)
 place_first hand x place task hs ps rest false is none later = rw is later

@@ -1,5 +1,5 @@
 -- Fronts of runs: what was cut off before its last entry is a run without an end.
-use Rattle.std.proofs.Common.{◌≡◌, ◌⊎◌, inl, inr, ℕ, List, [], ◌∷◌, ◌++◌, Option, Some, None, refl, arith}
+use Rattle.std.proofs.Common.{◌≡◌, ◌⊎◌, inl, inr, ℕ, List, ◌∷◌, ◌++◌, Option, Some, None, refl, arith}
 use Rattle.std.proofs.lemmas.List.{length-append}
 use Rattle.world_core.specs.Plans.{Plan}
 use Rattle.world_core.specs.Stops.{IsBefore}
@@ -21,10 +21,7 @@ use Rattle.lifecycle_core.specs.Holdings.{Holding, Use}
 use Rattle.lifecycle_core.specs.Setting.{Setting}
 use Rattle.querier.specs.declared.ask.Ask.{Ask}
 use Rattle.lifecycle_core.specs.Tasks.{End, IsStop, PartTask, QueryTask, ShipTask, StoppedRun, TaskRun, ask_to, cleaned, compacted, question_of, sync_rules}
-
-pub not_nil : {X : Type 0} (xs : List X) (y : X) (rest : List X) → xs ++ y ∷ rest ≡ [] → ⊥
-not_nil [] y rest is = cc (is)
-not_nil (x ∷ xs) y rest is = cc (is)
+use Rattle.list_core.proofs.Lists.{middle_not_nil}
 
 -- ---- syncs
 
@@ -40,21 +37,21 @@ before_stop stop xs y rest own end (inr (n, (is, above, count), same)) = λ m ot
     let equal : n ≡ m = cc (is, other) in omega (arith, equal, count, length-append xs (y ∷ rest))
 
 query_cut : (used : Option Use) (asked : Option Question) (before after : Holding) (xs : List Entry) (y : Entry) (rest : List Entry) (end : Option End) → QueryTask used asked before (xs ++ y ∷ rest) end after → QueryTask used asked before xs None before
-query_cut None asked before after xs y rest end ((nil, how), same) = absurd (not_nil xs y rest nil)
+query_cut None asked before after xs y rest end ((nil, how), same) = absurd (middle_not_nil xs y rest nil)
 query_cut (Some used) None before after xs y rest end run = run
 query_cut (Some used) (Some asked) before after xs y rest end (own, run, is, same) =
     (None, comes_front (series_call used.view asked before.cache) (Gives (sources_of used.view.kept)) xs y rest own run, refl, refl)
 
 part_cut : (setting : Setting) (selector : ℕ) (ask : Option Ask) (before after : Holding) (xs : List Entry) (y : Entry) (rest : List Entry) (end : Option End)
     → PartTask setting selector ask before (xs ++ y ∷ rest) end after → PartTask setting selector ask before xs None before
-part_cut setting selector None before after xs y rest end ((nil, how), same) = absurd (not_nil xs y rest nil)
+part_cut setting selector None before after xs y rest end ((nil, how), same) = absurd (middle_not_nil xs y rest nil)
 part_cut setting selector (Some ask) before after xs y rest end run = query_cut before.used (question_of setting selector ask) before after xs y rest end run
 
 ship_cut : (setting : Setting) (block : Block) (stop : Option ℕ) (xs : List Entry) (y : Entry) (rest : List Entry) (end : Option End) → ShipTask setting block stop (xs ++ y ∷ rest) end → ShipTask setting block stop xs None
 ship_cut setting block stop xs y rest end (inl (objects, own, ships, run, how)) =
     inl (objects, None, ships, front (upload block.ulid objects) xs y rest own run, inl (refl, before_stop stop xs y rest _ end how))
-ship_cut setting block stop xs y rest end (inr (inl (cause, none, (nil, how)))) = absurd (not_nil xs y rest nil)
-ship_cut setting block stop xs y rest end (inr (inr (nil, off))) = absurd (not_nil xs y rest nil)
+ship_cut setting block stop xs y rest end (inr (inl (cause, none, (nil, how)))) = absurd (middle_not_nil xs y rest nil)
+ship_cut setting block stop xs y rest end (inr (inr (nil, off))) = absurd (middle_not_nil xs y rest nil)
 
 stopped_cut : {E : Type 0} (plan : Plan E) (gives : E → End) (stop : Option ℕ) (xs : List Entry) (y : Entry) (rest : List Entry) (end : Option End) → StoppedRun plan gives stop (xs ++ y ∷ rest) end → StoppedRun plan gives stop xs None
 stopped_cut plan gives stop xs y rest end (own, run, how) = (None, front plan xs y rest own run, inl (refl, before_stop stop xs y rest _ end how))

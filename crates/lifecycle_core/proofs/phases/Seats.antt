@@ -5,8 +5,9 @@ use Rattle.std.proofs.Common.{◌≡◌, ◌≢◌, ℕ, Bool, true, false, List
 use Rattle.std.specs.Prelude.{◌==◌}
 use Rattle.std.specs.List.{All, filter}
 use Rattle.std.proofs.lemmas.Bool.Decides.{nat_tests}
+use Rattle.std.proofs.lemmas.Bool.{eq-eqb}
 use Rattle.world_core.specs.declared.entry.Entry.{Entry}
-use Rattle.lifecycle_core.specs.Conducts.{of_seat}
+use Rattle.world_core.specs.Journals.{of_seat}
 
 filter_front : {X : Type 0} (p : X → Bool) (xs ys : List X) → All (λ x. p x ≡ true) xs → filter p (xs ++ ys) ≡ xs ++ filter p ys
 filter_front p xs ys all = filter-append p xs ys ∙ ap (λ l. l ++ filter p ys) (filter_all p xs all)
@@ -14,14 +15,11 @@ filter_front p xs ys all = filter-append p xs ys ∙ ap (λ l. l ++ filter p ys)
 filter_back : {X : Type 0} (p : X → Bool) (xs ys : List X) → All (λ x. p x ≡ false) xs → filter p (xs ++ ys) ≡ filter p ys
 filter_back p xs ys all = filter-append p xs ys ∙ ap (λ l. l ++ filter p ys) (filter_none p xs all)
 
-is_own : (a s : ℕ) → a ≡ s → (a == s) ≡ true
-is_own a s e = grind (arith, nat_tests)
-
 is_other : (a s : ℕ) → a ≢ s → (a == s) ≡ false
 is_other a s e = grind (arith, nat_tests)
 
 made_own : (s t : ℕ) (made : List Entry) → All (λ e. e.seat ≡ t) made → t ≡ s → All (λ e. (e.seat == s) ≡ true) made
-made_own s t made all e = λ k d below. is_own (get_or made k d).seat s (all k d below ∙ e)
+made_own s t made all e = λ k d below. eq-eqb (get_or made k d).seat s (all k d below ∙ e)
 
 made_other : (s t : ℕ) (made : List Entry) → All (λ e. e.seat ≡ t) made → t ≢ s → All (λ e. (e.seat == s) ≡ false) made
 made_other s t made all e = λ k d below. is_other (get_or made k d).seat s (λ q. e (sym (all k d below) ∙ q))

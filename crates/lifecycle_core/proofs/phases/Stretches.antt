@@ -1,17 +1,17 @@
 -- Parts of a journal, in their order, and the stretches of a seat.
 use Rattle.list_core.proofs.Membership.{of_filter}
-use Rattle.std.proofs.Common.{◌≡◌, ℕ, suc, ◌<◌, ◌≤◌, ◌==◌, Bool, true, false, List, [], ◌∷◌, ◌++◌, Contains, Option, Some, None, refl, sym, ◌∙◌, ap, append_assoc, arith}
+use Rattle.std.proofs.Common.{◌≡◌, ℕ, suc, ◌<◌, ◌≤◌, ◌==◌, Bool, true, false, List, [], ◌∷◌, ◌++◌, Contains, Option, Some, None, refl, sym, ◌∙◌, ap, append_assoc}
 use Rattle.std.specs.Prelude.{fold}
 use Rattle.std.specs.List.{All, filter}
-use Rattle.std.proofs.lemmas.Bool.Decides.{nat_tests}
 use Rattle.std.proofs.lemmas.List.Elements.{All-append, All-contains, All-contains_itself, All-filter, All-weaker, Contains-append_left, Contains-append_right, filter-append, filter_passes}
+use Rattle.std.proofs.lemmas.Bool.{eqb-true}
 use Rattle.world_core.specs.declared.entry.Entry.{Entry}
 use Rattle.world_core.specs.Plans.{Runs, noting}
 use Rattle.meta_fetcher.specs.Syncs.{Course, SyncRun, Synced, listing, with_entry}
 use Rattle.meta_fetcher.specs.declared.rules.SyncRules.{SyncRules}
 use Rattle.meta_fetcher.specs.declared.view.View.{View}
 use Rattle.meta_fetcher.specs.declared.sync_end.SyncEnd.TheVariants as fetched
-use Rattle.lifecycle_core.specs.Conducts.{of_seat}
+use Rattle.world_core.specs.Journals.{of_seat}
 use Rattle.lifecycle_core.specs.Tasks.{last_number}
 use Rattle.lifecycle_core.proofs.journals.Told.{IsPart, Rises}
 
@@ -99,9 +99,6 @@ lies_within journal seat front made back is =
     let p : Entry → Bool = λ x. x.seat == seat in
     ap (of_seat seat) is ∙ filter-append p front (made ++ back) ∙ ap (λ (l : List Entry). of_seat seat front ++ l) (filter-append p made back) ∙ sym (append_assoc (of_seat seat front) (of_seat seat made) (of_seat seat back))
 
-is_seat : (one other : ℕ) → (one == other) ≡ true → one ≡ other
-is_seat one other test = grind (arith, nat_tests, test)
-
 -- the entries of a seat are made there
 pub all_of_seat : (seat : ℕ) (es : List Entry) → All (λ (e : Entry). e.seat ≡ seat) (of_seat seat es)
-all_of_seat seat es = All-weaker (λ (e : Entry). (e.seat == seat) ≡ true) (λ (e : Entry). e.seat ≡ seat) (λ e test. is_seat e.seat seat test) (of_seat seat es) (filter_passes (λ (e : Entry). e.seat == seat) es)
+all_of_seat seat es = All-weaker (λ (e : Entry). (e.seat == seat) ≡ true) (λ (e : Entry). e.seat ≡ seat) (λ e test. eqb-true e.seat seat test) (of_seat seat es) (filter_passes (λ (e : Entry). e.seat == seat) es)

@@ -1,5 +1,6 @@
 -- Whence the ends of a run come: each from a task's run, whose entries are part of the journal, with a view that such a run gave.
 use Rattle.list_core.proofs.Membership.{all_members, contains_first, contains_later, member_cases, no_member}
+use Rattle.list_core.proofs.Pairs.{AllZip-weaker_where, AllZip-first}
 use Rattle.std.proofs.Common.{◌≡◌, ◌≢◌, inl, inr, ℕ, zero, suc, ◌+◌, ◌<◌, ◌≤◌, ◌==◌, Bool, List, [], ◌∷◌, ◌++◌, length, map, Contains, Option, Some, None, refl, sym, ◌∙◌, ap, subst, append_assoc, arith}
 use Rattle.std.specs.Prelude.{slice_get}
 use Rattle.std.specs.List.{All, AllByRecursion, AllZip, zip}
@@ -23,7 +24,8 @@ use Rattle.script_workers.specs.declared.work.Work.TheVariants.{Sync}
 use Rattle.script_workers.specs.declared.worker.Worker.{Worker}
 use Rattle.lifecycle_core.specs.Breaches.{IsSeatOf}
 use Rattle.lifecycle_core.specs.Causes.{SomeCame}
-use Rattle.lifecycle_core.specs.Conducts.{AreDone, Assigned, CameTo, PhaseRun, TasksAt, TasksRun, Who, WorkerRun, of_seat, who_of}
+use Rattle.world_core.specs.Journals.{of_seat}
+use Rattle.lifecycle_core.specs.Conducts.{AreDone, Assigned, CameTo, PhaseRun, TasksAt, TasksRun, Who, WorkerRun, who_of}
 use Rattle.index_cache.specs.declared.range.Range.{Range}
 use Rattle.read_ranges.specs.Reads.{Cache, Query as Question}
 use Rattle.series_calls.specs.KeptRanges.{IsOfReads, IsReadIn}
@@ -35,10 +37,9 @@ use Rattle.lifecycle_core.specs.Phases.{IsInTurn, IsRunOf, by_script, by_workers
 use Rattle.lifecycle_core.specs.Setting.{Setting}
 use Rattle.lifecycle_core.specs.Tasks.{End, TaskRun, last_number, sync_rules}
 use Rattle.lifecycle_core.specs.Ways.{AreInTurn, PhasesRun}
-use Rattle.lifecycle_core.proofs.phases.PhaseRuns.{all_zip}
 use Rattle.lifecycle_core.proofs.phases.OwnSyncs.{AreQuiet, IsFitFor, IsLatest, IsLatestAt, IsLone, NoneOver, ReadsABlock, latest_at, latest_behind, latest_in, latest_none, latest_past, latest_stays, lone_in, none_over, quiet_clock, quiet_next}
 use Rattle.lifecycle_core.proofs.phases.PhaseViews.{views_left}
-use Rattle.lifecycle_core.proofs.journals.Positions.{zip_left, zipped}
+use Rattle.lifecycle_core.proofs.journals.Positions.{zipped}
 pub use Rattle.lifecycle_core.proofs.phases.Stretches.{all_of_seat, no_listing, part_filter, part_left, part_middle, part_right, part_whole, rises_filter, rises_left, rises_right}
 use Rattle.lifecycle_core.proofs.phases.Stretches.{after_last, all_before, all_left, all_right, lies_within, regroup, regroup_on, rises_before}
 use Rattle.lifecycle_core.proofs.phases.TaskRuns.{task_leaves}
@@ -386,7 +387,7 @@ module _ (setting : Setting) (journal : List Entry) (rising : Rises journal) (Tu
 
     phase_made : PhaseMade tasks workers ends
     phase_made =
-        all_zip (Contains workers) (WorkerRun (by_script setting) tasks views made after) (WorkerMade tasks) (λ worker own among w. (w.own, w.are, (worker_made worker own w among).0)) workers ends
+        AllZip-weaker_where (Contains workers) (WorkerRun (by_script setting) tasks views made after) (WorkerMade tasks) (λ worker own among w. (w.own, w.are, (worker_made worker own w among).0)) workers ends
         (all_members (Contains workers) workers (λ worker among. among)) run.runs
 
     after_phase : (gateway : Option ℕ) → IsKnown beyond gateway (holding_of after gateway)
@@ -516,7 +517,7 @@ module _ (setting : Setting) (journal : List Entry) (ends : List (List (List End
   pub ends_are_last : (end : End) → SomeCame ends end → (who : Who) × (task : Task) × IsMadeLast setting journal Turned who task end
   ends_are_last end (told, own, one, two, three) =
       let phase = some_phase setting journal rises Turned (λ t. t.0) 0 setting.script.phases ends told all_made one in
-      let worker = zip_left (Made phase.0) phase.1 told own phase.2 two in
+      let worker = AllZip-first (Made phase.0) phase.1 told own phase.2 two in
       let its = some_task setting journal rises Turned (λ t. t.0) (who_of worker.0) (worker.2).0 own end (worker.2).2 three in
       (who_of worker.0, its.0, its.1)
 

@@ -1,10 +1,9 @@
 -- A compaction is all that its seat did.
-use Rattle.list_core.proofs.Lists.{filter_none}
 use Rattle.list_core.proofs.Membership.{contains_first, contains_later, member_cases, no_member, of_map, only_member}
-use Rattle.std.proofs.Common.{◌≡◌, ◌≢◌, ◌⊎◌, inl, inr, ℕ, suc, ◌+◌, ◌<◌, ◌≤◌, ◌==◌, false, List, [], ◌∷◌, ◌++◌, map, Contains, Option, Some, None, refl, sym, ◌∙◌, ap, subst, append-nil, arith}
+use Rattle.list_core.proofs.Pairs.{AllZip-first}
+use Rattle.std.proofs.Common.{◌≡◌, ◌≢◌, ◌⊎◌, inl, inr, ℕ, suc, ◌+◌, ◌<◌, ◌≤◌, ◌==◌, List, [], ◌∷◌, ◌++◌, map, Contains, Option, Some, None, refl, sym, ◌∙◌, ap, subst, append-nil, arith}
 use Rattle.std.specs.Prelude.{option_map, slice_get}
-use Rattle.std.proofs.lemmas.Bool.Decides.{nat_tests}
-use Rattle.std.proofs.lemmas.List.Elements.{All-contains, All-contains_itself, All-weaker, filter-append}
+use Rattle.std.proofs.lemmas.List.Elements.{All-contains, filter-append}
 use Rattle.world_core.specs.declared.entry.Entry.{Entry}
 use Rattle.meta_fetcher.specs.declared.sync_end.SyncEnd.{SyncEnd}
 use Rattle.compactor.specs.Compactions.{CompactRun, compaction}
@@ -20,15 +19,15 @@ use Rattle.script_workers.specs.declared.work.Work.TheVariants.{Upload, Sync, Co
 use Rattle.script_workers.specs.declared.worker.Worker.{Worker}
 use Rattle.lifecycle_core.specs.Breaches.{IsCompactorSeat}
 use Rattle.lifecycle_core.specs.Causes.{SomeCame}
-use Rattle.lifecycle_core.specs.Conducts.{Assigned, PhaseRun, TasksAt, TasksRun, Who, WorkerRun, of_seat, who_of}
+use Rattle.world_core.specs.Journals.{of_seat}
+use Rattle.lifecycle_core.specs.Conducts.{Assigned, PhaseRun, TasksAt, TasksRun, Who, WorkerRun, who_of}
 use Rattle.lifecycle_core.specs.Holdings.{Holding, Holdings, Use, none_held}
 use Rattle.lifecycle_core.specs.Phases.{IsRunOf, by_script, by_workers}
 use Rattle.lifecycle_core.specs.Setting.{Setting}
 use Rattle.lifecycle_core.specs.Tasks.{End, TaskRun, answered, ask_to, cleaned, compacted, question_of, synced}
 use Rattle.lifecycle_core.specs.Ways.{PhasesRun}
-use Rattle.lifecycle_core.proofs.deeds.ActingDeeds.{acting_deeds, alone, compactor_alone}
+use Rattle.lifecycle_core.proofs.deeds.ActingDeeds.{acting_deeds, alone, compactor_alone, none_of_seat, other_first}
 use Rattle.lifecycle_core.proofs.deeds.Words.{Compacts}
-use Rattle.lifecycle_core.proofs.journals.Positions.{zip_left}
 use Rattle.lifecycle_core.proofs.phases.ActingRuns.{runs_act, seats_stay}
 use Rattle.lifecycle_core.proofs.phases.GatewayParts.{part_ends, query_is}
 use Rattle.lifecycle_core.proofs.phases.OneSeat.{one_phase, seat_above}
@@ -117,15 +116,6 @@ one_assigned tasks place [] at = absurd at
 one_assigned tasks place (x ∷ found) at = (x, ap (λ (l : List Assigned). x ∷ l) at.1)
 
 -- ---- the entries of a seat
-
-none_of_seat : (seat : ℕ) (entries : List Entry) → ((e : Entry) → Contains entries e → e.seat ≢ seat) → of_seat seat entries ≡ []
-none_of_seat seat entries others =
-    filter_none (λ (x : Entry). x.seat == seat) entries
-    (All-weaker (Contains entries) (λ (x : Entry). (x.seat == seat) ≡ false) (λ x among. let other = others x among in grind (arith, nat_tests, other)) entries (All-contains_itself entries))
-
-pub other_first : (seat : ℕ) (e : Entry) (entries : List Entry) → e.seat ≢ seat → of_seat seat (e ∷ entries) ≡ of_seat seat entries
-other_first seat e entries other =
-    let test : (e.seat == seat) ≡ false = grind (arith, nat_tests, other) in rw test refl
 
 parted : (seat : ℕ) (clock : Entry) (made others entries : List Entry) → entries ≡ clock ∷ made ++ others → clock.seat ≢ seat → of_seat seat entries ≡ of_seat seat made ++ of_seat seat others
 parted seat clock made others entries parts other =
@@ -258,7 +248,7 @@ module _ (setting : Setting) (journal : List Entry) (lawful : IsLawfulScript set
 pub compaction_came : (setting : Setting) (journal : List Entry) (ends : List (List (List End))) → IsLawfulScript setting.script → IsRunOf setting journal ends → (own : CompactEnd) → SomeCame ends (compacted own) → IsWholeCompaction setting journal own
 compaction_came setting journal ends lawful run own (told, mine, one, two, three) =
     let t = there setting lawful 0 none_held setting.script.phases journal ends (λ k p is. ap (slice_get setting.script.phases) (omega arith) ∙ is) run.phases told one in
-    let w = zip_left (WorkerRun (by_script setting) t.phase.tasks t.before t.made t.after) (workers_of setting.script t.n) told mine t.run.runs two in
+    let w = AllZip-first (WorkerRun (by_script setting) t.phase.tasks t.before t.made t.after) (workers_of setting.script t.n) told mine t.run.runs two in
     whole_compaction setting journal lawful own t.n t.phase t.at t.before t.made t.after w.0 w.1 mine w.2 three (t.whole w.0 w.1)
 
 -- and its seat's deed is a compaction

@@ -7,13 +7,15 @@ use Rattle.world_core.specs.declared.entry.Entry.{Entry}
 use Rattle.script_workers.specs.Hands.{same_hand, gateway_of}
 use Rattle.script_workers.specs.declared.hand.Hand.{Hand}
 use Rattle.script_workers.specs.declared.hand.Hand.TheVariants as hands
-use Rattle.lifecycle_core.specs.Conducts.{TasksRun, Who, of_seat}
+use Rattle.script_workers.proofs.HandLaws.{hands_equal}
+use Rattle.world_core.specs.Journals.{of_seat}
+use Rattle.lifecycle_core.specs.Conducts.{TasksRun, Who}
 use Rattle.lifecycle_core.specs.Holdings.{Holding, Holdings, holding_of, nothing_held, with_holding}
 use Rattle.lifecycle_core.specs.InLine.{Duty, InLine, who_does}
 use Rattle.lifecycle_core.specs.Phases.{by_script}
 use Rattle.lifecycle_core.specs.Setting.{Setting}
 use Rattle.lifecycle_core.specs.Tasks.{End, TaskRun}
-use Rattle.lifecycle_core.proofs.phases.Duties.{same_is, part, part_own, part_other, ends_by, ends_own, ends_other, ends_none, tasks_of}
+use Rattle.lifecycle_core.proofs.phases.Duties.{part, part_own, part_other, ends_by, ends_own, ends_other, ends_none, tasks_of}
 use Rattle.lifecycle_core.proofs.phases.Seats.{own_first, others_first}
 use Rattle.lifecycle_core.proofs.phases.TaskRuns.{IsAlone, MayBegin, alone_keeps}
 use Rattle.std.proofs.lemmas.List.{append-nil}
@@ -72,7 +74,7 @@ module _ (setting : Setting) (seat : Hand → ℕ) (hand : Hand) (own : ℕ) (al
       → TaskRun setting (who_does seat duty.hand) duty.place duty.task.work (holding_of views (gateway_of duty.hand)) made end held
       → TaskRun setting who duty.place duty.task.work (holding_of views (gateway_of hand)) made end held
   own_run views duty made end held fits is run =
-      let h : duty.hand ≡ hand = sym (same_is hand duty.hand is) in
+      let h : duty.hand ≡ hand = sym (hands_equal hand duty.hand is) in
       let by_hand = subst (λ (x : Hand). TaskRun setting (record { seat = seat duty.hand; gateway = gateway_of x }) duty.place duty.task.work (holding_of views (gateway_of x)) made end held) h run in
       subst (λ (n : ℕ). TaskRun setting (record { seat = n; gateway = gateway_of hand }) duty.place duty.task.work (holding_of views (gateway_of hand)) made end held) (fits.same is) by_hand
 
@@ -80,7 +82,7 @@ module _ (setting : Setting) (seat : Hand → ℕ) (hand : Hand) (own : ℕ) (al
       → TaskRun setting (who_does seat duty.hand) duty.place duty.task.work (holding_of views (gateway_of duty.hand)) made end held
       → holding_of (with_holding views (gateway_of duty.hand) held) (gateway_of hand) ≡ held
   own_held views duty made end held fits is run =
-      let h : duty.hand ≡ hand = sym (same_is hand duty.hand is) in
+      let h : duty.hand ≡ hand = sym (hands_equal hand duty.hand is) in
       subst (λ (x : Hand). holding_of (with_holding views (gateway_of x) held) (gateway_of hand) ≡ held) (sym h)
       (held_own setting seat hand own views duty who made end held hand h fits (own_run views duty made end held fits is run))
 

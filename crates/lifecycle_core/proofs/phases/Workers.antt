@@ -9,9 +9,9 @@ use Rattle.script_workers.specs.declared.hand.Hand.{Hand}
 use Rattle.script_workers.specs.declared.hand.Hand.TheVariants as hands
 use Rattle.script_workers.specs.declared.task.Task.{Task}
 use Rattle.script_workers.specs.declared.worker.Worker.{Worker}
+use Rattle.script_workers.proofs.HandLaws.{hands_equal, swapped}
 use Rattle.lifecycle_core.specs.InLine.{seat_of, serves}
-use Rattle.lifecycle_core.proofs.phases.Duties.{same_is}
-use Rattle.lifecycle_core.proofs.phases.HandLists.{Apart, same_turned}
+use Rattle.lifecycle_core.proofs.phases.HandLists.{Apart}
 
 module _ (gateways : ℕ) (tasks : List Task) where
   -- the hand of one task alone has the one place
@@ -84,7 +84,7 @@ module _ (gateways : ℕ) (tasks : List Task) where
     gateway = is.gateway;
     places = is.places;
     above = omega (arith, few, is.above);
-    same = λ x s. seat_first before hand x hs false placed (subst (λ (y : Hand). same_hand hand y ≡ false) (same_is own x s) differ) ∙ is.same x s;
+    same = λ x s. seat_first before hand x hs false placed (subst (λ (y : Hand). same_hand hand y ≡ false) (hands_equal own x s) differ) ∙ is.same x s;
     other = λ x s. later_other before hand x own hs worker (same_hand hand x) placed few refl is s;
   }
 
@@ -116,7 +116,7 @@ module _ (gateways : ℕ) (tasks : List Task) where
       subst (Contains (seats_after before 1 ∷ map (λ (w : Worker). w.seat) (workers_from gateways (seats_after before 1) tasks hs))) (sym (seat_first before hand x hs true placed is))
       (contains_first (seats_after before 1) (map (λ (w : Worker). w.seat) (workers_from gateways (seats_after before 1) tasks hs)))
   among_first before hand hs x false placed is found later =
-      let turned : same_hand x hand ≡ false = same_turned x hand ∙ is in
+      let turned : same_hand x hand ≡ false = swapped x hand ∙ is in
       let rest : list_any (same_hand x) hs ≡ true = rw turned at found in
       subst (Contains (seats_after before 1 ∷ map (λ (w : Worker). w.seat) (workers_from gateways (seats_after before 1) tasks hs))) (sym (seat_first before hand x hs false placed is))
       (contains_later (seats_after before 1) (seat_of (workers_from gateways (seats_after before 1) tasks hs) x) (map (λ (w : Worker). w.seat) (workers_from gateways (seats_after before 1) tasks hs)) (later rest))

@@ -52,7 +52,8 @@ use Rattle.activity_laws.specs.CompactionOps.{IsCompactOp, IsObjectMade}
 use Rattle.activity_laws.proofs.CleaningAsks.{cleaning_op, each_at}
 use Rattle.lifecycle_core.specs.Acting.{IsReading}
 use Rattle.lifecycle_core.specs.Causes.{SomeCame}
-use Rattle.lifecycle_core.specs.Conducts.{Who, of_seat}
+use Rattle.world_core.specs.Journals.{of_seat}
+use Rattle.lifecycle_core.specs.Conducts.{Who}
 use Rattle.lifecycle_core.specs.Held.{declared}
 use Rattle.lifecycle_core.specs.Holdings.{Holding, Use}
 use Rattle.lifecycle_core.specs.Phases.{IsRunOf}

@@ -1,8 +1,8 @@
 -- No compaction of an honest journal finds bytes or names that are not of the form.
 use Rattle.list_core.proofs.Membership.{contains_later, contains_place, into_filter, member_cases, no_member, of_map}
+use Rattle.list_core.proofs.Pairs.{AllZip-first}
 use Rattle.std.proofs.Common.{◌≡◌, inl, inr, ℕ, zero, suc, ◌+◌, ◌-◌, ◌*◌, ◌%◌, ◌<◌, ◌≤◌, ◌^◌, ◌==◌, true, List, [], ◌∷◌, ◌++◌, length, map, Contains, Some, None, sym, ◌∙◌, ap, subst, append_assoc, arith}
 use Rattle.std.specs.Prelude.{slice_get}
-use Rattle.std.proofs.lemmas.Bool.{le-leb}
 use Rattle.std.proofs.lemmas.Bool.Decides.{nat_tests}
 use Rattle.std.proofs.lemmas.List.{length-append}
 use Rattle.std.proofs.lemmas.List.Elements.{Contains-append_cases, Contains-append_left, Contains-append_right}
@@ -39,7 +39,8 @@ use Rattle.script_fields.specs.Values.{is_reserved}
 use Rattle.activity_laws.specs.CompactionOps.{HasSynced, IsCompactOp, IsInputRead, IsObjectMade, ReadsObject, WasRead}
 use Rattle.activity_laws.specs.Sights.{IsSeen}
 use Rattle.activity_laws.proofs.CompactionAsks.{compaction_op}
-use Rattle.lifecycle_core.specs.Conducts.{of_seat}
+use Rattle.activity_laws.proofs.CompactionGroups.{plan_among, named_is}
+use Rattle.world_core.specs.Journals.{of_seat}
 use Rattle.lifecycle_core.specs.PutBlocks.{WasPutBefore}
 use Rattle.lifecycle_core.specs.Setting.{Setting}
 use Rattle.lifecycle_core.proofs.blocks.Contents.{IsHeldWhole, complete_holds}
@@ -47,20 +48,21 @@ use Rattle.lifecycle_core.proofs.blocks.Declared.{declared_lawful, declared_ulid
 use Rattle.lifecycle_core.proofs.blocks.Known.{put_is_complete}
 use Rattle.lifecycle_core.proofs.blocks.NamedSegments.{named_some}
 use Rattle.lifecycle_core.proofs.blocks.Objects.{object_is, object_ulid}
-use Rattle.lifecycle_core.proofs.blocks.PlanMembers.{member_within, plan_within}
+use Rattle.lifecycle_core.proofs.blocks.PlanMembers.{member_within}
 use Rattle.lifecycle_core.proofs.blocks.ReadAgain.{named_last, read_content}
 use Rattle.lifecycle_core.proofs.deeds.Orders.{front_is_earlier, in_seat, one_entry, stands_whole}
 use Rattle.lifecycle_core.proofs.deeds.Sources.{IsSource, by_compaction, by_upload, object_source}
 use Rattle.lifecycle_core.proofs.deeds.Stood.{found_stands, stood}
 use Rattle.lifecycle_core.proofs.deeds.Words.{AreDeeds}
-use Rattle.lifecycle_core.proofs.journals.Positions.{stands_in, zip_left}
+use Rattle.lifecycle_core.proofs.journals.Positions.{stands_in}
 use Rattle.lifecycle_core.proofs.journals.Rising.{journal_rises}
 use Rattle.lifecycle_core.proofs.journals.Standing.{parted}
 use Rattle.lifecycle_core.proofs.journals.Told.{Rises}
-use Rattle.lifecycle_core.proofs.marks.Reasons.{kept_seen, named_is}
+use Rattle.lifecycle_core.proofs.marks.Reasons.{kept_seen}
 use Rattle.lifecycle_core.proofs.misses.RoundHarm.{HasHarm, IsHarm, IsRefusedMerge, harm_shown, in_rounds, in_sync, no_index, no_merge, stands_already}
 use Rattle.lifecycle_core.proofs.phases.TaskRuns.{got}
 use Rattle.lifecycle_core.proofs.views.Undamaged.{syncs_undamaged, was_put_before}
+use Rattle.lifecycle_core.proofs.blocks.OneKey.{reserved_new, same_number}
 
 mapped : {A B : Type 0} (g : A → B) (xs : List A) (place : ℕ) (x : A) → slice_get xs place ≡ Some x → slice_get (map g xs) place ≡ Some (g x)
 mapped g [] place x at = absurd (cc (at))
@@ -69,13 +71,6 @@ mapped g (y ∷ xs) (suc place) x at = mapped g xs place x at
 
 new_small : (number moment : ℕ) → moment < 2 ^ 48 → moment * 2 ^ 80 + (2 ^ 80 - 2 ^ 20 + number % 2 ^ 20) < 2 ^ 128
 new_small number moment small = omega (arith, small)
-
-reserved_new : (number moment : ℕ) → is_reserved (new_ulid number (record { ms = moment })) ≡ true
-reserved_new number moment = le-leb (2 ^ 80 - 2 ^ 20) (new_ulid number (record { ms = moment }) % 2 ^ 80) (omega arith)
-
--- the number of an entry is told by a new block's ULID
-same_number : (n m : ℕ) (t u : ℕ) → 1 ≤ n → n ≤ 2 ^ 20 → 1 ≤ m → m ≤ 2 ^ 20 → t * 2 ^ 80 + (2 ^ 80 - 2 ^ 20 + n % 2 ^ 20) ≡ u * 2 ^ 80 + (2 ^ 80 - 2 ^ 20 + m % 2 ^ 20) → n ≡ m
-same_number n m t u low high little great same = omega (arith, low, high, little, great, same)
 
 module _ (setting : Setting) (journal : List Entry) (lawful : IsLawfulScript setting.script) (deeds : AreDeeds setting journal) (of_bytes : IsOfBytes journal) (honest : IsHonest journal) where
   rising : Rises journal
@@ -265,9 +260,9 @@ module _ (setting : Setting) (journal : List Entry) (lawful : IsLawfulScript set
     merge_undamaged r =
         let given = (r.refused).0 in
         let first = ((r.refused).1).first in
-        let i = zip_left IsInput r.inputs given.blocks first.member given.read (contains_place given.blocks ((r.refused).1).place first.member first.stands) in
-        let w = zip_left (WasRead own) r.metas r.inputs i.0 r.read i.1 in
-        let member = plan_within (r.group).members r.metas r.planned w.0 w.1 in
+        let i = AllZip-first IsInput r.inputs given.blocks first.member given.read (contains_place given.blocks ((r.refused).1).place first.member first.stands) in
+        let w = AllZip-first (WasRead own) r.metas r.inputs i.0 r.read i.1 in
+        let member = plan_among (r.group).members r.metas r.planned w.0 w.1 in
         let inside = member_within setting.script.rules.replicas (metas_of (r.view).kept) r.groups r.grouped r.group r.among w.0 member in
         let f = of_map (λ (b : Found). b.meta) (r.view).kept w.0 inside in
         not_refused r.view r.synced f.0 f.1 i.0 (subst (λ (m : Meta). WasRead own m i.0) (sym f.2) w.2) first.member i.2 ((r.refused).1).cause first.bad

@@ -1,6 +1,7 @@
 -- What a sync of an honest journal comes to: the blocks that it keeps are complete, and the one that holds a settled upload is kept.
-use Rattle.list_core.proofs.Membership.{all_at_member, any_of_member, contains_first, contains_later, into_filter, member_cases, member_of_any, no_member, only_member}
-use Rattle.std.proofs.Common.{◌≡◌, ◌⊎◌, inl, inr, ℕ, zero, suc, ◌+◌, ◌*◌, ◌<◌, ◌≤◌, ◌^◌, ◌==◌, ℤ, Bool, true, false, not, ◌&&◌, cond, List, [], ◌∷◌, ◌++◌, length, Contains, Option, Some, None, refl, sym, ◌∙◌, ap, subst, append_assoc, arith}
+use Rattle.list_core.proofs.Membership.{any_of_member, contains_first, contains_later, into_filter, member_cases, member_of_any, no_member, only_member}
+use Rattle.list_core.proofs.Integers.{le_le}
+use Rattle.std.proofs.Common.{◌≡◌, ◌⊎◌, inl, inr, ℕ, ◌+◌, ◌*◌, ◌<◌, ◌≤◌, ◌^◌, ◌==◌, ℤ, Bool, true, false, not, ◌&&◌, cond, List, [], ◌∷◌, ◌++◌, length, Contains, Option, Some, None, refl, sym, ◌∙◌, ap, subst, append_assoc, arith}
 use Rattle.std.specs.Prelude.{int_le, is_some, nat_lt, nat_le, option_map, pos, ◌+ℤ◌, ◌<ℤ◌, ◌≤ℤ◌}
 use Rattle.std.specs.List.{All, list_any}
 use Rattle.std.proofs.lemmas.Bool.{and_parts, le-leb, or_cases, or_left, or_right}
@@ -19,10 +20,6 @@ use Rattle.moment_core.specs.declared.span.Span.{Span}
 use Rattle.ulid_core.specs.Times.{time_of}
 use Rattle.ulid_core.specs.UlidText.{text_of}
 use Rattle.bucket_core.specs.Pages.{IsPage}
-use Rattle.world_core.specs.Plans.{Runs}
-use Rattle.shipper.specs.Uploads.{upload}
-use Rattle.compactor.specs.Compactions.{CompactRun}
-use Rattle.activity_laws.specs.CompactionOps.{IsCompactOp}
 use Rattle.world_core.specs.Standing.{IsHonest, Tells, has_landed, stands}
 use Rattle.world_core.specs.declared.op.Op.{Op}
 use Rattle.world_core.specs.declared.op.Op.TheVariants as op
@@ -37,8 +34,7 @@ use Rattle.activity_laws.specs.Sights.{IsSeen, IsSight, ShowsBlock, TellsMark}
 use Rattle.activity_laws.proofs.SyncSights.{sync_sight}
 use Rattle.script_core.specs.Lawful.{IsLawfulScript}
 use Rattle.lifecycle_core.specs.Completed.{IsCompletedAt, IsExpired, IsSettled}
-use Rattle.lifecycle_core.specs.Acting.{IsReading}
-use Rattle.lifecycle_core.specs.Conducts.{of_seat}
+use Rattle.world_core.specs.Journals.{of_seat}
 use Rattle.lifecycle_core.specs.Holdings.{Use}
 use Rattle.lifecycle_core.specs.Marked.{IsBetter, LandsDelete}
 use Rattle.lifecycle_core.specs.PutBlocks.{LiesWithin, WasPutBefore}
@@ -49,15 +45,14 @@ use Rattle.lifecycle_core.specs.TimeRules.{IsSyncedInTime, IsUploadedInTime, Put
 use Rattle.lifecycle_core.proofs.blocks.Contents.{declared_own}
 use Rattle.lifecycle_core.proofs.blocks.Known.{IsKnown, complete_is_known, put_is_complete}
 use Rattle.lifecycle_core.proofs.deeds.Orders.{IsEarlier, front_is_earlier, lower_is_in_front, ordered}
-use Rattle.activity_laws.proofs.CompactionAsks.{compaction_op}
-use Rattle.lifecycle_core.proofs.deeds.Fronts.{at_seat}
-use Rattle.lifecycle_core.proofs.deeds.Sources.{mark_source, upload_op}
+use Rattle.lifecycle_core.proofs.deeds.Sources.{mark_source}
 use Rattle.lifecycle_core.proofs.deeds.Stood.{WasDeleted, absent_stands, deleted_since, found_stands, stood}
-use Rattle.lifecycle_core.proofs.deeds.Words.{AreDeeds, Cleans, Compacts, Deed, IsClock, cleans as cleans_deed, clocks as clocks_deed, compacts as compacts_deed, reads as reads_deed, ships as ships_deed}
+use Rattle.lifecycle_core.proofs.deeds.Words.{AreDeeds, Cleans, Compacts, cleans as cleans_deed, clocks as clocks_deed, compacts as compacts_deed, reads as reads_deed, ships as ships_deed}
 use Rattle.lifecycle_core.proofs.journals.Positions.{stands_in}
 use Rattle.lifecycle_core.proofs.journals.Rising.{journal_rises, root_name}
 use Rattle.lifecycle_core.proofs.journals.Standing.{parted}
 use Rattle.lifecycle_core.proofs.journals.Told.{IsPart, Rises}
+use Rattle.lifecycle_core.proofs.marks.Better.{has_source}
 use Rattle.lifecycle_core.proofs.marks.Causes.{mark_cause}
 use Rattle.lifecycle_core.proofs.marks.Decided.{delays_agree}
 use Rattle.lifecycle_core.proofs.marks.Deletions.{deletions_are_late}
@@ -65,6 +60,8 @@ use Rattle.lifecycle_core.proofs.marks.Looks.{mark_is_read}
 use Rattle.lifecycle_core.proofs.marks.Reasons.{kept_is_seen}
 use Rattle.lifecycle_core.proofs.phases.TasksMade.{part_filter, part_middle, part_whole}
 use Rattle.lifecycle_core.proofs.journals.LastNumbers.{within_last}
+use Rattle.lifecycle_core.proofs.deeds.ActingDeeds.{trichotomy}
+use Rattle.lifecycle_core.proofs.misses.Deleted.{delete_cleans}
 
 -- The block was complete, with the meta that was found, before an entry.
 pub record IsCompleteFound (journal : List Entry) (number : ℕ) (found : Found) : Type 0 where
@@ -88,21 +85,12 @@ not_itself : (a x : ℕ) → ¬ IsGreater a x a x
 not_itself a x (inl more) = absurd (omega (arith, more))
 not_itself a x (inr same) = absurd (omega (arith, same.1))
 
-ordered_numbers : (n m : ℕ) → (n < m) ⊎ ((m < n) ⊎ (n ≡ m))
-ordered_numbers zero zero = inr (inr refl)
-ordered_numbers zero (suc m) = inl (omega arith)
-ordered_numbers (suc n) zero = inr (inl (omega arith))
-ordered_numbers (suc n) (suc m) = elim (ordered_numbers n m) [
-  | inl less ↦ inl (omega (arith, less))
-  | inr rest ↦ elim rest [ inl more ↦ inr (inl (omega (arith, more))) | inr same ↦ inr (inr (ap suc same)) ]
-]
-
 greater_or_not : (a x b y : ℕ) → IsGreater a x b y ⊎ (IsGreater a x b y → ⊥)
-greater_or_not a x b y = elim (ordered_numbers b a) [
+greater_or_not a x b y = elim (trichotomy b a) [
   | inl less ↦ inl (inl less)
   | inr rest ↦ elim rest [
     | inl more ↦ inr (λ is. elim is [ inl one ↦ absurd (omega (arith, one, more)) | inr two ↦ absurd (omega (arith, two.0, more)) ])
-    | inr same ↦ elim (ordered_numbers x y) [
+    | inr same ↦ elim (trichotomy x y) [
       | inl less ↦ inl (inr (same, less))
       | inr other ↦ elim other [
         | inl more ↦ inr (λ is. elim is [ inl one ↦ absurd (omega (arith, one, same)) | inr two ↦ absurd (omega (arith, two.1, more)) ])
@@ -219,7 +207,7 @@ puts_holder_by : (number source : ℕ) (e : Entry) (o : Option MetaFields) → m
 puts_holder_by number source e None is = inr (λ h. cc (h.1, is))
 puts_holder_by number source e (Some meta) is = elim (has_or_not source meta.sources) [
   | inr lacks ↦ inr (λ h. let same : h.0 ≡ meta = cc (h.1, is) in lacks (subst (λ (m : MetaFields). Contains m.sources source) same h.2))
-  | inl has ↦ elim (ordered_numbers e.seq number) [
+  | inl has ↦ elim (trichotomy e.seq number) [
     | inl less ↦ inl (meta, is, has, less)
     | inr rest ↦ elim rest [ inl more ↦ inr (λ h. absurd (omega (arith, h.3, more))) | inr same ↦ inr (λ h. absurd (omega (arith, h.3, same))) ]
   ]
@@ -293,20 +281,10 @@ expired_later (Some span) one other m n whole low late old = (whole, sum_less ot
 within_both : (low high first last : ℤ) → low ≤ℤ last → first ≤ℤ high → int_le low last && int_le first high ≡ true
 within_both low high first last from upto = grind (arith, ints)
 
-le_le : (a b c : ℤ) → a ≤ℤ b → b ≤ℤ c → a ≤ℤ c
-le_le a b c one two = omega (arith, ints)
-
 -- a mark that is young, or none
 unmarked_by : (mark : Option DeletionMark) (read : Moment) (delay : Span) → ((d : DeletionMark) → mark ≡ Some d → read.ms ≤ 1000 * d.deletion_time + delay.ms) → is_recent mark read delay ≡ true
 unmarked_by None read delay young = refl
 unmarked_by (Some d) read delay young = le-leb read.ms (1000 * d.deletion_time + delay.ms) (young d refl)
-
-has_source : (many few : List ℕ) (source : ℕ) → has_all many few ≡ true → Contains few source → Contains many source
-has_source many few source all among =
-    let some : list_any (λ other. other == source) many ≡ true = all_at_member (λ ulid. list_any (λ other. other == ulid) many) few source all among in
-    let f = member_of_any (λ other. other == source) many some in
-    let same = f.2 in
-    subst (Contains many) (grind (arith, nat_tests, same)) f.1
 
 more_is_greater : (one other : Meta) → has_more one other ≡ true → IsGreater (length one.sources) one.ulid (length other.sources) other.ulid
 more_is_greater one other is = elim (or_cases (nat_lt (length other.sources) (length one.sources)) _ is) [
@@ -456,7 +434,7 @@ module _ (setting : Setting) (journal : List Entry) (lawful : IsLawfulScript set
       let at = parted journal m among in
       let why = mark_cause setting journal lawful deeds honest at.0 at.1 m at.2 ulid second marks in
       let same = one_meta ulid why.seq why.meta meta why.completed put what.bytes top.among what.puts what.reads in
-      elim (ordered_numbers why.look.seq first.seq) [
+      elim (trichotomy why.look.seq first.seq) [
         | inl less ↦ elim why.cause [
           | inl better ↦ absurd (none_better better.ulid better.seq better.better better.completed (omega (arith, better.earlier, less)) (subst (IsBetter better.better) same better.is))
           | inr old ↦
@@ -609,26 +587,6 @@ pub settled_is_covered : (setting : Setting) (journal : List Entry) (lawful : Is
     → (ulid : ℕ) → IsSettled setting journal (sync_rules setting gateway) used ulid → (found : Found) × Contains used.view.kept found × Contains found.meta.sources ulid
 settled_is_covered setting journal lawful deeds honest gateway used sync gave timely quick ulid settled = is_kept setting journal lawful deeds honest gateway used sync gave (inl (timely, quick)) ulid settled
 
--- ---- what deletes
-
--- whoever deletes cleans
-deletes_cleans : (setting : Setting) (journal : List Entry) (deeds : AreDeeds setting journal) (before after : List Entry) (e : Entry) → journal ≡ before ++ e ∷ after → (k : Key) → e.op ≡ op.Delete k → Cleans (deeds.deed e.seat)
-deletes_cleans setting journal deeds before after e parts k deletes = by (of_seat e.seat journal) (at_seat journal before after e parts) (deeds.deed e.seat)
-  where
-    not_read : (whole : List Entry) → whole ≡ of_seat e.seat before ++ e ∷ of_seat e.seat after → All (λ (x : Entry). IsReading x.op) whole → ⊥
-    not_read whole is all = subst IsReading deletes (All-contains (λ (x : Entry). IsReading x.op) whole e all (subst (λ es. Contains es e) (sym is) (stands_in (of_seat e.seat before) (of_seat e.seat after) e)))
-
-    not_clock : (whole : List Entry) → whole ≡ of_seat e.seat before ++ e ∷ of_seat e.seat after → All (λ (x : Entry). IsClock x.op) whole → ⊥
-    not_clock whole is all = subst IsClock deletes (All-contains (λ (x : Entry). IsClock x.op) whole e all (subst (λ es. Contains es e) (sym is) (stands_in (of_seat e.seat before) (of_seat e.seat after) e)))
-
-    by : (whole : List Entry) → whole ≡ of_seat e.seat before ++ e ∷ of_seat e.seat after → (deed : Deed setting whole) → Cleans deed
-    by whole is (ships_deed u block objects end named shipped_is run) = absurd ((upload_op objects u (of_seat e.seat before) e (of_seat e.seat after) end (subst (λ es. Runs (upload u objects) es end) is run)).1 k deletes)
-    by whole is (compacts_deed end run) =
-        absurd (subst (IsCompactOp setting.script.rules (of_seat e.seat before)) deletes (compaction_op setting.script.rules (of_seat e.seat before) e (of_seat e.seat after) end (subst (λ es. CompactRun setting.script.rules es end) is run)))
-    by whole is (cleans_deed end run) = tt
-    by whole is (reads_deed all) = absurd (not_read whole is all)
-    by whole is (clocks_deed all) = absurd (not_clock whole is all)
-
 -- or where nothing is compacted and nothing deleted
 pub settled_is_kept : (setting : Setting) (journal : List Entry) (lawful : IsLawfulScript setting.script) (deeds : AreDeeds setting journal) → ((seat : ℕ) → ¬ Compacts (deeds.deed seat)) → ((seat : ℕ) → ¬ Cleans (deeds.deed seat)) → IsHonest journal
     → (gateway : ℕ) (used : Use) (sync : List Entry) → IsViewOf (sync_rules setting gateway) journal used sync
@@ -637,5 +595,5 @@ settled_is_kept setting journal lawful deeds uncompacted undeleted honest gatewa
     is_kept setting journal lawful deeds honest gateway used sync gave
     (inr (
       (λ m among ulid second marks. let at = parted journal m among in uncompacted m.seat (mark_source setting journal deeds at.0 at.1 m at.2 ulid marks.0 marks.2).0),
-      (λ d among k deletes. let at = parted journal d among in undeleted d.seat (deletes_cleans setting journal deeds at.0 at.1 d at.2 k deletes.0)),
+      (λ d among k deletes. let at = parted journal d among in undeleted d.seat (delete_cleans setting journal deeds at.0 at.1 d at.2 k deletes.0)),
     )) ulid settled

@@ -1,6 +1,6 @@
 -- No sync and no cleaning of an honest journal finds bytes or names that are not of the form: marks and metas that were put are read
 -- again, and the names of pages ascend.
-use Rattle.std.proofs.Common.{◌≡◌, ℕ, ◌+◌, ◌/◌, ◌<◌, ◌^◌, List, [], ◌∷◌, ◌++◌, Contains, Option, Some, None, IsUtf8, rules, sym, ◌∙◌, ap, subst, append_assoc, arith}
+use Rattle.std.proofs.Common.{◌≡◌, ℕ, ◌+◌, ◌<◌, ◌^◌, List, [], ◌∷◌, ◌++◌, Contains, Option, Some, None, rules, sym, ◌∙◌, ap, subst, append_assoc, arith}
 use Rattle.std.specs.Prelude.{fold}
 use Rattle.std.proofs.lemmas.Bool.{both_ways}
 use Rattle.std.proofs.lemmas.List.Elements.{All-contains_itself, All-weaker, Contains-append_left, recursion_from_All}
@@ -39,6 +39,7 @@ use Rattle.cleaner.specs.declared.clean_end.CleanEnd.TheVariants as clean
 use Rattle.cleaner.specs.declared.clean_rules.CleanRules.{CleanRules}
 use Rattle.script_core.specs.Lawful.{IsLawfulScript}
 use Rattle.activity_laws.proofs.MarkTexts.{own_mark}
+use Rattle.activity_laws.proofs.Listing.{ascends_after}
 use Rattle.lifecycle_core.specs.PutBlocks.{WasPutBefore}
 use Rattle.lifecycle_core.specs.Setting.{Setting}
 use Rattle.lifecycle_core.proofs.blocks.Known.{put_is_complete}
@@ -50,15 +51,8 @@ use Rattle.lifecycle_core.proofs.journals.Positions.{stands_in}
 use Rattle.lifecycle_core.proofs.journals.Rising.{journal_rises}
 use Rattle.lifecycle_core.proofs.journals.Standing.{parted}
 use Rattle.lifecycle_core.proofs.journals.Told.{Rises}
-use Rattle.lifecycle_core.proofs.views.Pages.{AreSmall, ascends_after, ulids_small}
-
-details_text : (why : Reason) → IsUtf8 (details_of why)
-details_text reason_is.Covered = search rules
-details_text reason_is.Compacted = search rules
-details_text reason_is.Expired = search rules
-
-second_below : (moment : ℕ) → moment < 2 ^ 48 → moment / 1000 < 2 ^ 46
-second_below moment small = omega (arith, small)
+use Rattle.lifecycle_core.proofs.views.Pages.{AreSmall, ulids_small}
+use Rattle.lifecycle_core.proofs.marks.Looks.{second_below, details_text}
 
 -- an entry of the journal put these bytes under the key
 record WasPutIn (journal : List Entry) (k : Key) (bytes : List ℕ) : Type 0 where

@@ -1,6 +1,7 @@
 -- Whoever is asked has a view: in a lawful script each gateway has a sync before each query, and a phase begins only when
 -- all syncs of the one before have come to their ends.
 use Rattle.list_core.proofs.Membership.{contains_first, contains_later}
+use Rattle.list_core.proofs.Pairs.{AllZip-first, AllZip-second}
 use Rattle.std.proofs.Common.{◌≡◌, ◌≢◌, ◌⊎◌, inl, inr, ℕ, ℤ, zero, suc, ◌+◌, ◌<◌, ◌≤◌, ◌==◌, ◌||◌, Bool, true, false, cond, List, [], ◌∷◌, ◌++◌, length, Contains, Option, Some, None, refl, sym, ◌∙◌, ap, subst, arith}
 use Rattle.std.specs.Prelude.{slice_get, option_map}
 use Rattle.std.specs.List.{All, AllByRecursion, AllZip, list_any}
@@ -26,12 +27,13 @@ use Rattle.script_workers.specs.declared.task.Task.{Task}
 use Rattle.script_workers.specs.declared.work.Work.{Work}
 use Rattle.script_workers.specs.declared.work.Work.TheVariants.{Upload, Sync, Compact, Clean, Query}
 use Rattle.script_workers.specs.declared.worker.Worker.{Worker}
-use Rattle.script_workers.proofs.HandLaws.{does_for, for_does, tested}
+use Rattle.script_workers.proofs.HandLaws.{does_for, for_does, tested, hands_equal}
 use Rattle.script_workers.proofs.StaffLaws.{is_staff, next_place}
 use Rattle.lifecycle_core.specs.Causes.{SomeCame}
 use Rattle.compactor.specs.Compactions.{compaction}
 use Rattle.cleaner.specs.Cleanings.{cleaning}
-use Rattle.lifecycle_core.specs.Conducts.{AreDone, Assigned, PhaseRun, TasksAt, TasksRun, Who, WorkerRun, of_seat}
+use Rattle.world_core.specs.Journals.{of_seat}
+use Rattle.lifecycle_core.specs.Conducts.{AreDone, Assigned, PhaseRun, TasksAt, TasksRun, Who, WorkerRun}
 use Rattle.lifecycle_core.specs.Holdings.{Holding, Holdings, Use, holding_of, none_held, nothing_held}
 use Rattle.lifecycle_core.specs.Phases.{IsInTurn, IsRunOf, by_script, by_workers}
 use Rattle.lifecycle_core.specs.Setting.{Setting}
@@ -39,11 +41,9 @@ use Rattle.querier.specs.declared.ask.Ask.{Ask}
 use Rattle.series_calls.specs.SeriesCalls.{CallEnd}
 use Rattle.lifecycle_core.specs.Tasks.{End, PartTask, QueryTask, TaskRun, answered, ask_to, cleaned, compacted, question_of, synced, synced_with, without_view}
 use Rattle.lifecycle_core.specs.Ways.{AreInTurn, PhasesRun}
-use Rattle.lifecycle_core.proofs.phases.Duties.{same_is}
 use Rattle.lifecycle_core.proofs.phases.GatewayParts.{query_is}
 use Rattle.lifecycle_core.proofs.phases.ShipEnds.{ship_end, stopped_end}
 use Rattle.lifecycle_core.proofs.phases.TaskRuns.{task_leaves}
-use Rattle.lifecycle_core.proofs.journals.Positions.{zip_left, zip_right}
 
 -- there is a view
 abbrev IsThere : Option Use → Type 0
@@ -288,7 +288,7 @@ module _ (setting : Setting) where
 -- ---- a phase's workers
 
 found_hand : (g : ℕ) (h : Hand) (b c : Bool) → same_hand (hands.Gateway g) h ≡ b → gateway_of h ≢ Some g → (c ≡ true → ⊥) → (b || c) ≡ true → ⊥
-found_hand g h true c is none later found = none (ap gateway_of (sym (same_is (hands.Gateway g) h is)))
+found_hand g h true c is none later found = none (ap gateway_of (sym (hands_equal (hands.Gateway g) h is)))
 found_hand g h false c is none later found = later found
 
 sync_for : (gateways g place : ℕ) (w : Work) → is_sync_of g w ≡ true → IsFor gateways (hands.Gateway g) place w
@@ -409,13 +409,13 @@ module _ (setting : Setting) (gateways : ℕ) (few : gateways ≤ length setting
 
   -- nobody in the phase wants for a view
   phase_none : (own : List End) → Contains ends own → Contains own without_view → ⊥
-  phase_none own among = let who = zip_left Own workers ends own owns among in worker_none who.0 own who.2 (gives own among)
+  phase_none own among = let who = AllZip-first Own workers ends own owns among in worker_none who.0 own who.2 (gives own among)
 
   -- and where all its tasks are done, each sync that was seen before it or stands in it left a view
   phase_has : AreDone workers ends → (g : ℕ) → (All (λ (w : Worker). w.gateway ≢ Some g) workers → has_sync (works_in tasks) g ≡ true → ⊥) → (seen g || has_sync (works_in tasks) g) ≡ true → HasView (after g)
   phase_has done g there h = elim (search g workers) [
     | inl found ↦
-        let own = zip_right (λ w e. Own w e × (length w.tasks ≡ length e)) workers ends found.0 (with_done Own workers ends owns done) found.1 in
+        let own = AllZip-second (λ w e. Own w e × (length w.tasks ≡ length e)) workers ends found.0 (with_done Own workers ends owns done) found.1 in
         worker_has g found.0 own.0 (own.2).0 found.2 (own.2).1 (gives own.0 own.1) h
     | inr none ↦ elim (or_cases (seen g) (has_sync (works_in tasks) g) h) [
       | inl old ↦ subst HasView (sym (run.kept g none)) (known g old)

@@ -28,7 +28,6 @@ use Rattle.script_workers.specs.declared.worker.Worker.{Worker}
 use Rattle.lifecycle_core.specs.Breaches.{IsBreach, IsCompactorSeat, IsKept, IsSeatOf, IsSyncIn, IsViewAt, IsWorkAt, Refuses, Rule, honesty, mark_time, rank, read_time, sync_time, upload_time, view_time}
 use Rattle.lifecycle_core.specs.Causes.{IsExplained}
 use Rattle.lifecycle_core.specs.Completed.{IsCompletedAt, IsExpired, IsSettled, PutsMeta}
-use Rattle.lifecycle_core.specs.Conducts.{of_seat}
 use Rattle.lifecycle_core.specs.Decisions.{DecidesToDelete}
 use Rattle.lifecycle_core.specs.Guarantees.{LeavesNoneOut, NamesAll}
 use Rattle.lifecycle_core.specs.Marked.{IsFirstMark, IsMarkedFor, PutsSomeMark}
@@ -37,7 +36,7 @@ use Rattle.lifecycle_core.specs.Tasks.{last_number, sync_rules}
 use Rattle.lifecycle_core.specs.TimeRules.{IsBlockObject, PutsMark, PutsObject}
 use Rattle.lifecycle_core.proofs.deeds.Orders.{in_seat}
 use Rattle.lifecycle_core.proofs.journals.Honesty.{no_lie}
-use Rattle.world_core.specs.Journals.{Each}
+use Rattle.world_core.specs.Journals.{Each, of_seat}
 use Rattle.world_core.proofs.Growing.{Each-push}
 use Rattle.tests_worked.specs.Entries.{absent, clock, deleted, entry, found, listed, stored}
 use Rattle.tests_worked.specs.ExpiredBlock as row

@@ -7,7 +7,8 @@ use Rattle.script_core.specs.Workers.{workers_of}
 use Rattle.script_workers.specs.declared.phase.Phase.{Phase}
 use Rattle.script_workers.specs.declared.task.Task.{Task}
 use Rattle.script_workers.specs.declared.worker.Worker.{Worker}
-use Rattle.lifecycle_core.specs.Conducts.{AreDone, PhaseRun, of_seat}
+use Rattle.world_core.specs.Journals.{of_seat}
+use Rattle.lifecycle_core.specs.Conducts.{AreDone, PhaseRun}
 use Rattle.lifecycle_core.specs.Holdings.{Holding, Holdings, nothing_held}
 use Rattle.lifecycle_core.specs.Phases.{by_script, by_workers}
 use Rattle.lifecycle_core.specs.Setting.{Setting}

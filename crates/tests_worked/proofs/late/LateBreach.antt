@@ -11,7 +11,7 @@ use Rattle.block_meta.specs.MetaText.{IsMarkText}
 use Rattle.block_meta.proofs.FoundTexts.{mark_text_only}
 use Rattle.moment_core.specs.declared.moment.Moment.{Moment}
 use Rattle.ulid_core.specs.Times.{time_of}
-use Rattle.world_core.specs.Journals.{Each}
+use Rattle.world_core.specs.Journals.{Each, of_seat}
 use Rattle.world_core.specs.Operations.{IsReplyTo}
 use Rattle.world_core.specs.Standing.{Tells, stands}
 use Rattle.world_core.specs.declared.entry.Entry.{Entry}
@@ -23,7 +23,6 @@ use Rattle.script_workers.specs.declared.work.Work.TheVariants as works
 use Rattle.script_workers.specs.declared.worker.Worker.{Worker}
 use Rattle.lifecycle_core.specs.Breaches.{IsBreach, IsCompactorSeat, IsKept, IsReadSince, IsSeatOf, Refuses, Rule, honesty, mark_time, rank, read_time, sync_time, upload_time, view_time, watched}
 use Rattle.lifecycle_core.specs.Causes.{IsBlamedInCompaction, IsExplainedBy}
-use Rattle.lifecycle_core.specs.Conducts.{of_seat}
 use Rattle.lifecycle_core.specs.TimeRules.{IsBlockObject, PutsMark, PutsObject}
 use Rattle.lifecycle_core.proofs.journals.Honesty.{no_lie}
 use Rattle.tests_worked.specs.CompactedPair as pair

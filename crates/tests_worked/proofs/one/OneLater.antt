@@ -16,7 +16,8 @@ use Rattle.series_calls.specs.SeriesCalls.{CallEnd, SeriesRun, reading, to_read}
 use Rattle.script_workers.specs.declared.task.Task.{Task}
 use Rattle.script_workers.specs.declared.work.Work.TheVariants as works
 use Rattle.script_workers.specs.declared.worker.Worker.{Worker}
-use Rattle.lifecycle_core.specs.Conducts.{Assigned, PhaseRun, TasksAt, TasksRun, WorkerRun, of_seat, who_of}
+use Rattle.world_core.specs.Journals.{of_seat}
+use Rattle.lifecycle_core.specs.Conducts.{Assigned, PhaseRun, TasksAt, TasksRun, WorkerRun, who_of}
 use Rattle.lifecycle_core.specs.Holdings.{Holding, Holdings, Use, empty_cache, nothing_held}
 use Rattle.lifecycle_core.specs.Phases.{by_script, by_workers}
 use Rattle.lifecycle_core.specs.Tasks.{End, last_number, synced, synced_with}

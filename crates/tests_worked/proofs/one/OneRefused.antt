@@ -8,7 +8,7 @@ use Rattle.std.specs.List.{AllByRecursion}
 use Rattle.world_core.specs.Standing.{IsHonest}
 use Rattle.world_core.specs.declared.op.Op.TheVariants as op
 use Rattle.script_workers.specs.declared.worker.Worker.{Worker}
-use Rattle.lifecycle_core.specs.Conducts.{of_seat}
+use Rattle.world_core.specs.Journals.{of_seat}
 use Rattle.lifecycle_core.specs.Holdings.{Holdings, nothing_held}
 use Rattle.lifecycle_core.specs.Phases.{IsLawfulJournal, by_workers}
 use Rattle.lifecycle_core.specs.Tasks.{End, UploadTask}

@@ -15,7 +15,8 @@ use Rattle.script_core.specs.declared.block.Block.{Block}
 use Rattle.script_workers.specs.declared.phase.Phase.{Phase}
 use Rattle.script_workers.specs.declared.work.Work.TheVariants as works
 use Rattle.script_workers.specs.declared.worker.Worker.{Worker}
-use Rattle.lifecycle_core.specs.Conducts.{Assigned, PhaseRun, TasksAt, TasksRun, Who, WorkerRun, of_seat, who_of}
+use Rattle.world_core.specs.Journals.{of_seat}
+use Rattle.lifecycle_core.specs.Conducts.{Assigned, PhaseRun, TasksAt, TasksRun, Who, WorkerRun, who_of}
 use Rattle.lifecycle_core.specs.Holdings.{Holding, Holdings, none_held, nothing_held}
 use Rattle.lifecycle_core.specs.Phases.{IsLawfulJournal, by_script, by_workers}
 use Rattle.lifecycle_core.specs.Setting.{Setting}

@@ -3,7 +3,7 @@ use Rattle.std.specs.BTreeMap.{get}
 use Rattle.std.specs.Ordering.{nat_cmp}
 use Rattle.std.proofs.lemmas.List.{take_more}
 use Rattle.world_core.specs.declared.entry.Entry.{Entry}
-use Rattle.lifecycle_core.specs.Conducts.{of_seat}
+use Rattle.world_core.specs.Journals.{of_seat}
 use Rattle.breach_finding.specs.Tables.{Numbers}
 use Rattle.breach_finding.proofs.Compactors.{moment_of_first}
 use Rattle.breach_finding.proofs.FirstMoments.{first_added, first_kept}

@@ -1,15 +1,16 @@
 use Rattle.std.proofs.Common.{subst, sym, ◌∙◌, ap, length}
 use Rattle.std.specs.List.{AllZip}
+use Rattle.std.proofs.lemmas.Slice.Zip.{AllZip-long}
 use Rattle.call_verdicts.specs.Stages.{IsLoadedFor}
 use Rattle.call_verdicts.proofs.ShelfReads.{ok_is}
-use Rattle.call_verdicts.proofs.Stages.{all_ended, all_untold, zip_many}
+use Rattle.call_verdicts.proofs.Stages.{all_ended, all_untold}
 use Rattle.call_verdicts.proofs.shelf_reading.read_group.Goals as goal
 
 pub keep_group-requires-clause-many : goal.keep_group-requires-clause-many
 keep_group-requires-clause-many g c =
     let told = g.F.Shelf.files c.args.shelf in
     let loaded = ok_is c.load_group-loaded.result.0 c.in-Ok.stages (λ stages. AllZip (IsLoadedFor told) c.args.group.now stages.items) c.in-Ok.is c.load_group-loaded.ensures.loaded in
-    c.check_all.auto.stages ∙ (ap length c.as_mut_slice-all.ensures.value ∙ zip_many (IsLoadedFor told) c.args.group.now c.in-Ok.stages.items loaded)
+    c.check_all.auto.stages ∙ (ap length c.as_mut_slice-all.ensures.value ∙ AllZip-long (IsLoadedFor told) c.args.group.now c.in-Ok.stages.items loaded)
 
 pub keep_group-requires-clause-ended : goal.keep_group-requires-clause-ended
 keep_group-requires-clause-ended g c =

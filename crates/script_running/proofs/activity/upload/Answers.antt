@@ -1,10 +1,10 @@
 use Rattle.std.proofs.Common.{◌||◌, refl, sym, ◌∙◌, ap}
 use Rattle.script_running.specs.Drives.{upload_came}
 use Rattle.script_running.specs.Tasks.{is_full_came}
-use Rattle.script_running.proofs.Refused.{or_none}
 use Rattle.script_running.proofs.Syncs.{wanted_by}
 use Rattle.script_running.proofs.Uploads.{unshipped_told, upload_told}
 use Rattle.script_running.proofs.activity.upload.Goals as goal
+use Rattle.list_core.proofs.Bools.{or_false}
 
 pub returns-in-Ok-clause-ran : goal.returns-in-Ok-clause-ran
 returns-in-Ok-clause-ran g c = λ setting ulid known.
@@ -19,7 +19,7 @@ returns-in-Err-clause-ran g c = λ setting ulid known.
     unshipped_told setting c.args.block.now c.args.stop (g.H.Hand.seat c.args.hand.now) (g.H.Hand.entries c.args.hand.now) ulid c.in-Err.why c.unshipped_came.result c.unshipped_came.ensures.came (c.in-Err.ensures.refused setting known)
 
 pub returns-in-Err-clause-refused : goal.returns-in-Err-clause-refused
-returns-in-Err-clause-refused g c = sym (ap (λ b. g.H.Hand.refused c.args.hand.now || b) c.unshipped_came.ensures.other ∙ or_none (g.H.Hand.refused c.args.hand.now))
+returns-in-Err-clause-refused g c = sym (ap (λ b. g.H.Hand.refused c.args.hand.now || b) c.unshipped_came.ensures.other ∙ or_false (g.H.Hand.refused c.args.hand.now))
 
 pub returns-in-Err-clause-full : goal.returns-in-Err-clause-full
 returns-in-Err-clause-full g c = λ full. absurd (cc (c.unshipped_came.ensures.other, ap is_full_came full))

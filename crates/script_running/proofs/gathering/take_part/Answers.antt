@@ -1,14 +1,14 @@
 use Rattle.std.proofs.Common.{sym, ◌∙◌, arith}
-use Rattle.script_running.proofs.Taking.{set_other}
 use Rattle.script_running.proofs.Telling.{empty_laid, part_laid, past_laid}
 use Rattle.script_running.proofs.gathering.take_part.Goals as goal
+use Rattle.list_core.proofs.Lists.{slice_get-set_other}
 
 pub returns-then-place-len-clause-parts : goal.returns-then-place-len-clause-parts
 returns-then-place-len-clause-parts c =
     past_laid c.args.parts.now.items c.args.column.now.slots.items c.args.place (let ok = c.args.column.now.slots.ok in omega arith)
 
 pub returns-in_err-push-in-Some-clause-others : goal.returns-in_err-push-in-Some-clause-others
-returns-in_err-push-in-Some-clause-others c = λ other apart. set_other c.args.column.now.slots.items c.args.place other c.take.new.self apart
+returns-in_err-push-in-Some-clause-others c = λ other apart. slice_get-set_other c.args.column.now.slots.items c.args.place other c.take.new.self apart
 
 pub returns-in_ok-push-in-Some-clause-parts : goal.returns-in_ok-push-in-Some-clause-parts
 returns-in_ok-push-in-Some-clause-parts c =
@@ -16,7 +16,7 @@ returns-in_ok-push-in-Some-clause-parts c =
     (let ok = c.args.column.now.slots.ok in omega arith) c.index_mut.ensures.value (sym c.take.ensures.value ∙ c.in-Some.is) c.in_ok-push-in-Some.ensures.items
 
 pub returns-in_ok-push-in-Some-clause-others : goal.returns-in_ok-push-in-Some-clause-others
-returns-in_ok-push-in-Some-clause-others c = λ other apart. set_other c.args.column.now.slots.items c.args.place other c.take.new.self apart
+returns-in_ok-push-in-Some-clause-others c = λ other apart. slice_get-set_other c.args.column.now.slots.items c.args.place other c.take.new.self apart
 
 pub returns-in-None-clause-parts : goal.returns-in-None-clause-parts
 returns-in-None-clause-parts c =

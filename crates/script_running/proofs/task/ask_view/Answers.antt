@@ -5,15 +5,15 @@ use Rattle.std.proofs.lemmas.Int.{to_z-of_z}
 use Rattle.index_cache.specs.Caches.{held}
 use Rattle.series_calls.specs.SeriesCalls.{asking}
 use Rattle.script_running.specs.Sights.{cache_of}
-use Rattle.script_running.proofs.JobSteps.{some_same}
 use Rattle.script_running.proofs.TaskSteps.{asked_again, asked_told, blind_asked, call_asked, short_asked}
 use Rattle.script_running.proofs.task.ask_view.Goals as goal
+use Rattle.list_core.proofs.Options.{one_value}
 
 pub returns-in-Ok-own_cache-clause-asked : goal.returns-in-Ok-own_cache-clause-asked
 returns-in-Ok-own_cache-clause-asked g c = λ holding selector sees at.
     let from = to_z-of_z w64 c.args.low c.ranges.low in
     let upto = to_z-of_z w64 c.args.high c.ranges.high in
-    let same = some_same c.in-Ok.selector selector (slice_get c.args.means.now.script.selectors c.args.number) c.in-Ok.ensures at in
+    let same = one_value c.in-Ok.selector selector (slice_get c.args.means.now.script.selectors c.args.number) c.in-Ok.ensures at in
     asked_again holding c.in-Ok.selector selector c.rules-rules.result.now c.args.means.now.script.rules c.args.low c.args.high (g.H.Hand.seat c.args.hand.now) (g.H.Hand.entries c.args.hand.now) (g.H.Hand.entries c.call-came.new.hand)
     (record { view = c.args.view.now; cache = c.call-came.result.1 }) c.call-came.result.0 same c.rules-rules.ensures.are
     (call_asked holding (asking c.in-Ok.selector c.rules-rules.result.now.replicas c.args.low c.args.high) (g.H.Hand.seat c.args.hand.now) (g.H.Hand.entries c.args.hand.now) (g.H.Hand.entries c.call-came.new.hand) c.call-came.result.0
