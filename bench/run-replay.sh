@@ -3,8 +3,8 @@
 # met: eight gateways that sync and are asked one query over 24 blocks, which lie on the shelf, at least 2.2 times as fast by `replay`
 # on four processors (1.5 on two); and 64 uploads of small blocks no slower, where a small block is two hours of ten series with a
 # sample a minute, one chunk of each. The ratios of the middle times are held to the bars as they are printed, with two digits behind
-# the point. (Ratios of the least times are printed beside. They are those of one processor's rarest moment: of 20 runs of `serial`
-# one took 382 ms and the others 500 to 648, where 16 of `replay` took 215 to 238.) The blocks of
+# the point. (Ratios of the least times are printed beside. They are those of rare moments: of 20 runs of `serial` one took 382 ms and
+# the others 500 to 648, and of 20 of `replay` one 179 and the others 201 to 332.) The blocks of
 # the query are those of bench/run-query.sh: two replicas of each of twelve, of 100 series by 411 or 412 samples. The other rows have no
 # bar: the same query where the script has the samples of the blocks, and uploads of blocks of a few samples, which no server makes.
 # PROCESSORS is how many whole processors the machine has (as many as `nproc` counts). Where that counts the halves of cores, as the
