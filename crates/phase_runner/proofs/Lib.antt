@@ -4,3 +4,4 @@ pub mod Taking
 pub mod Ready
 pub mod Joined
 pub mod Refused
+pub mod Parts

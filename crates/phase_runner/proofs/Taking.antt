@@ -16,11 +16,11 @@ use Rattle.phase_runner.specs.Works.{Meaning, Telling}
 max_more : (a b c : ℕ) → a ≤ b → a ≤ max b c
 max_more a b c h = omega arith
 
-or_false : (b : Bool) → b ≡ (b || false)
+pub or_false : (b : Bool) → b ≡ (b || false)
 or_false true = refl
 or_false false = refl
 
-or_more : (a b c : Bool) → ((a || b) || c) ≡ (a || (b || c))
+pub or_more : (a b c : Bool) → ((a || b) || c) ≡ (a || (b || c))
 or_more true b c = refl
 or_more false b c = refl
 
@@ -37,10 +37,10 @@ or_either : (a b : Bool) → IsTrue (a || b) → IsTrue a ⊎ IsTrue b
 or_either true b is = inl refl
 or_either false b is = inr is
 
-or_left : (a b : Bool) → IsTrue a → IsTrue (a || b)
+pub or_left : (a b : Bool) → IsTrue a → IsTrue (a || b)
 or_left a b is = ap (λ (x : Bool). x || b) is
 
-or_right : (a b : Bool) → IsTrue b → IsTrue (a || b)
+pub or_right : (a b : Bool) → IsTrue b → IsTrue (a || b)
 or_right true b is = refl
 or_right false b is = is
 

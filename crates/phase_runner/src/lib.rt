@@ -5,9 +5,11 @@ mod gate;
 mod hand;
 mod job;
 mod phase;
+mod shares;
 mod work;
 
 pub use gate::{Gate, Open};
 pub use hand::TurnHand;
 pub use job::Job;
 pub use phase::{PhaseEnd, run_phase};
+pub use shares::{for_each_beside, processors};

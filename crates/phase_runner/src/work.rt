@@ -1,10 +1,10 @@
 ghost use Rattle.std.specs.Prelude.{◌≡◌, ℕ, ◌<◌, length, All, slice_index_or};
 ghost use Rattle.phase_runner.specs.Works.{IsReady, IsDone};
 
+use crate::shares::{for_each_beside, processors};
 use crate::{Gate, Job, TurnHand};
 use bucket_core::Bucket;
 use std::sync::Wait;
-use std::thread;
 use std::thread::Threads;
 use world_turn::{Pass, Shared};
 
@@ -66,14 +66,6 @@ fn threads_for<J: Job, R: Threads>(rt: &R, works: &[Work<J>]) -> usize
     works.len().min(most)
 }
 
-/// How many processors there are, as far as the system tells.
-fn processors<R: Threads>(rt: &R) -> usize {
-    match thread::available_parallelism(rt) {
-        Ok(count) => count.get(),
-        Err(_) => LEAST_THREADS,
-    }
-}
-
 /// Whether the jobs that wait are light together. Once they are not, the others are not asked.
 fn are_light<J: Job>(works: &[Work<J>]) -> bool {
     let mut sum = 0u64;
@@ -108,7 +100,7 @@ where
         return;
     }
     let threads = threads_for(rt, works);
-    thread::for_each_mut(
+    for_each_beside(
         rt,
         works,
         threads,

@@ -5,8 +5,8 @@ ghost use Rattle.std.specs.Thread.{IsSync};
 ghost use Rattle.call_verdicts.specs.Stages.{IsCheckedAs};
 
 use call_verdicts::{CheckWay, InTurn, Stage};
+use phase_runner::{for_each_beside, processors};
 use std::alloc::Global;
-use std::thread;
 use std::thread::Threads;
 
 /// So many of a script's blocks are loaded at most before they are checked, so that the series of no more indexes lie in memory beside
@@ -41,7 +41,7 @@ fn check_beside<T: Threads + Sync>(rt: &T, alloc: Global, stages: &mut [Stage])
         InTurn.check_all(alloc, stages);
         return;
     }
-    thread::for_each_mut(
+    for_each_beside(
         rt,
         stages,
         processors(rt),
@@ -58,14 +58,4 @@ fn loaded_count(stages: &[Stage]) -> usize {
         }
     }
     count
-}
-
-/// How many processors there are; one, where that is not known.
-fn processors<T: Threads>(rt: &T) -> usize
-    ensures { 0 < result }
-{
-    match thread::available_parallelism(rt) {
-        Ok(count) => count.get(),
-        Err(_) => 1,
-    }
 }
