@@ -19,6 +19,7 @@ use crate::phases::Progress;
 use crate::seats::Seats;
 use bucket_core::Bucket;
 use list_core::NoMemory;
+use querier::InTurn;
 use report_lines::script_running::{
     Broken, Came, Means, Outcome, Part, Sight, outcome_of, run_task,
 };
@@ -156,7 +157,7 @@ fn gathered(alloc: Global, parts: Vec<Part>) -> Result<Outcome, Broken>
         → IfOk result (IsOutcomeOf work parts.items) }
     ensures why { result ≢ Err Broken.Full }
 {
-    match outcome_of(alloc, parts) {
+    match outcome_of(alloc, parts, &InTurn) {
         Ok(outcome) => Ok(outcome),
         Err(NoMemory) => Err(Broken::NoMemory),
     }

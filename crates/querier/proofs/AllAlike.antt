@@ -1,31 +1,12 @@
--- Answers that are all alike: the first one tells the same as all.
-use Rattle.std.proofs.Common.{◌≡◌, ◌⊎◌, inl, inr, ℕ, suc, ◌+◌, ◌-◌, ◌<◌, ◌≤◌, List, [], ◌∷◌, ◌++◌, length, get_or, take, drop, refl, sym, ap, ◌∙◌, subst, arith}
+-- Answers that all have the same series.
+use Rattle.std.proofs.Common.{◌≡◌, ◌⊎◌, inl, inr, ℕ, ◌+◌, ◌<◌, ◌≤◌, List, length, get_or, sym, ap, ◌∙◌, arith}
 use Rattle.std.specs.Prelude.{All, Some, slice_get}
 use Rattle.std.specs.Option.{unwrap_or}
 use Rattle.std.proofs.lemmas.Bool.{cases_lt}
-use Rattle.std.proofs.lemmas.List.{same_lists, append-nil, append_assoc, get_or_default, take_all}
+use Rattle.std.proofs.lemmas.List.{same_lists, get_or_default}
 use Rattle.std.proofs.lemmas.Option.{unwrap_or-slice_get}
 use Rattle.label_sets.specs.declared.series.Series.{Series}
 use Rattle.querier.specs.declared.answer.Answer.{Answer}
-use Rattle.querier.specs.Gathered.{TellTheSame}
-use Rattle.querier.proofs.ToldOnce.{told_more, told_again}
-
-told_none : TellTheSame [] []
-told_none = record {
-  nothing_more = λ k d below. absurd (omega (arith, below));
-  first = λ t. refl;
-}
-
-told_rest : (first : Answer) (done others : List Answer) → TellTheSame done (first ∷ []) → All (λ other. first.series ≡ other.series) others → TellTheSame (done ++ others) (first ∷ [])
-told_rest first done [] same alike = subst (λ (xs : List Answer). TellTheSame xs (first ∷ [])) (sym (append-nil done)) same
-told_rest first done (other ∷ others) same alike = subst (λ (xs : List Answer). TellTheSame xs (first ∷ [])) (append_assoc done (other ∷ []) others)
-    (told_rest first (done ++ other ∷ []) others
-    (told_again done (first ∷ []) first other same (0, omega arith, refl) (alike 0 first (omega arith)))
-    (λ k d below. alike (suc k) d (omega (arith, below))))
-
-pub first_tells : (answers : List Answer) → ((d : Answer) → All (λ other. (get_or answers 0 d).series ≡ other.series) (drop 1 answers)) → TellTheSame answers (take 1 answers)
-first_tells [] alike = told_none
-first_tells (first ∷ others) alike = told_rest first (first ∷ []) others (told_more [] [] first told_none) (alike first)
 
 -- as many series, and the same one at each place
 pub each_alike : (series : List Series) (answers : List Answer) → All (λ answer. length answer.series ≡ length series) answers
@@ -80,11 +61,3 @@ four_have place answers series one two three four start first second third fourt
   | inr (inr (inl e)) ↦ at_place place answers series three k (start + 2) third d (omega (arith, within)) e s3 same.2
   | inr (inr (inr e)) ↦ at_place place answers series four k (start + 3) fourth d within e s4 same.3
 ]
-
-pub first_alike : (answers others : List Answer) (first : Answer) (series : List Series) → 1 ≤ length answers → first ≡ get_or answers 0 first → others ≡ take (length answers - 1) (drop 1 answers)
-    → series ≡ first.series → All (λ answer. series ≡ answer.series) others → (d : Answer) → All (λ other. (get_or answers 0 d).series ≡ other.series) (drop 1 answers)
-first_alike [] others first series some here same is alike d = absurd (omega (arith, some))
-first_alike (one ∷ behind) others first series some here same is alike d =
-    let all : others ≡ behind = same ∙ take_all (length (one ∷ behind) - 1) behind (omega arith) in
-    let own : series ≡ one.series = is ∙ ap (λ (a : Answer). a.series) here in
-    λ k e below. sym own ∙ subst (λ (xs : List Answer). All (λ answer. series ≡ answer.series) xs) all alike k e below

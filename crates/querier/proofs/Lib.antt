@@ -1,3 +1,4 @@
 pub mod AllAlike
 pub mod AskLists
+pub mod Compared
 pub mod ToldOnce

@@ -15,9 +15,9 @@ use Rattle.label_sets.specs.declared.sample.Sample.{Sample}
 use Rattle.label_sets.specs.declared.series.Series.{Series}
 use Rattle.label_sets.specs.Labels.{compare_sets}
 use Rattle.label_sets.specs.Triples.{Triple, has_same_key, triples_of, IsDeduplication}
+use Rattle.label_sets.proofs.LabelValues.{same_set}
 use Rattle.vertical_merge.specs.Merged.{IsMerge}
 use Rattle.vertical_merge.proofs.Laws.{deduplicates}
-use Rattle.vertical_merge.proofs.Orders.{same_set}
 use Rattle.querier.specs.declared.answer.Answer.{Answer}
 use Rattle.querier.specs.Gathered.{gathered_samples, TellTheSame}
 
@@ -36,7 +36,7 @@ merge_told answers told made same merge = record {
 pub told_once : (answers told : List Answer) (made : List Series) → TellTheSame answers told → IsMerge (gathered_samples told) made → IsDeduplication (triples_of made) (gathered_samples answers)
 told_once answers told made same merge = deduplicates (gathered_samples answers) (gathered_samples answers) made refl (merge_told answers told made same merge)
 
-gathered_more : (answers : List Answer) (answer : Answer) → gathered_samples (answers ++ answer ∷ []) ≡ gathered_samples answers ++ triples_of answer.series
+pub gathered_more : (answers : List Answer) (answer : Answer) → gathered_samples (answers ++ answer ∷ []) ≡ gathered_samples answers ++ triples_of answer.series
 gathered_more answers answer = flat_map-append (λ (one : Answer). triples_of one.series) answers (answer ∷ []) ∙ ap (λ ts. gathered_samples answers ++ ts) (append-nil (triples_of answer.series))
 
 find_more : (p : Triple → Bool) (answers : List Answer) (answer : Answer) → find p (gathered_samples (answers ++ answer ∷ [])) ≡ option_or (find p (gathered_samples answers)) (find p (triples_of answer.series))

@@ -1,5 +1,5 @@
 -- The answers of several gateways as one.
-use Rattle.std.specs.Prelude.{◌≡◌, ℕ, List, All, Contains}
+use Rattle.std.specs.Prelude.{◌≡◌, ◌⊎◌, ℕ, List, [], All, Contains}
 use Rattle.std.specs.List.{find, flat_map}
 use Rattle.block_meta.specs.Lawful.{ascending}
 use Rattle.label_sets.specs.declared.series.Series.{Series}
@@ -27,3 +27,7 @@ pub record IsGathered (answers : List Answer) (made : Answer) : Type 0 where
 pub record TellTheSame (answers told : List Answer) : Type 0 where
   pub nothing_more : All (Contains (gathered_samples told)) (gathered_samples answers)
   pub first : (t : Triple) → find (has_same_key t) (gathered_samples answers) ≡ find (has_same_key t) (gathered_samples told)
+
+-- An answer that was compared with the first one is as it was, or it had the first one's series and has none now.
+abbrev pub IsComparedWith : Answer → Answer → Answer → Type 0
+IsComparedWith first old new = (new ≡ old) ⊎ ((first.series ≡ old.series) × (new.series ≡ []))

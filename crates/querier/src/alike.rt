@@ -8,20 +8,8 @@ use crate::Answer;
 use crate::repeats::is_same;
 use label_sets::{Sample, Series};
 
-/// Whether the series of all answers are those of the first.
-pub(crate) fn are_alike(answers: &[Answer]) -> bool
-    ensures { result ≡ true → (d : Answer)
-        → All (λ other. (slice_index_or answers.now 0 d).series ≡ other.series)
-        (drop 1 answers.now) }
-{
-    let [first, others @ ..] = answers else {
-        return true;
-    };
-    all_have(first.series.members(), others)
-}
-
 /// Whether these are the series of each answer.
-fn all_have(series: &[Series], answers: &[Answer]) -> bool
+pub(crate) fn all_have(series: &[Series], answers: &[Answer]) -> bool
     ensures { result ≡ true → All (λ answer. series.now ≡ answer.series) answers.now }
 {
     if !all_have_as_many(series.len(), answers) {

@@ -1,5 +1,10 @@
+ghost use Rattle.std.specs.Prelude.{◌≡◌, []};
+ghost use Rattle.querier.specs.Gathered.{IsComparedWith};
+
+use crate::repeats::are_same;
 use label_sets::SeriesList;
 use list_core::List;
+use std::alloc::Global;
 use ulid_core::UlidList;
 
 /// Samples that answer a query, or a gateway's part of it, and the uploads that they are of.
@@ -7,6 +12,28 @@ use ulid_core::UlidList;
 pub struct Answer {
     pub series: SeriesList,
     pub sources: UlidList,
+}
+
+impl Answer {
+    /// An answer that has nothing. It takes no memory.
+    pub(crate) fn empty(alloc: Global) -> Answer
+        ensures { result.series ≡ [] }
+    {
+        Answer {
+            series: SeriesList::new(alloc),
+            sources: UlidList::new(alloc),
+        }
+    }
+
+    /// Lets go what the answer has, if its series are those of the first one.
+    pub fn empty_repeat(&mut self, alloc: Global, first: &Answer)
+        ensures { IsComparedWith first.now self.old self.new }
+    {
+        let own = self.series.members();
+        if are_same(first.series.members(), own) {
+            *self = Answer::empty(alloc);
+        }
+    }
 }
 
 /// A list of answers.

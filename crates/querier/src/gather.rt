@@ -1,13 +1,12 @@
-ghost use Rattle.std.specs.Prelude.{◌≡◌, [], ◌∷◌, ◌++◌, fold, IfOk, OnOk, OnErr};
-ghost use Rattle.std.specs.BTreeSet.{insert_key};
-ghost use Rattle.std.specs.Ordering.{nat_cmp};
+ghost use Rattle.std.specs.Prelude.{◌≡◌, [], ◌∷◌, ◌++◌, IfOk, OnOk, OnErr};
 ghost use Rattle.block_meta.specs.Lawful.{ascending};
 ghost use Rattle.label_sets.specs.Triples.{triples_of};
 ghost use Rattle.vertical_merge.specs.Merged.{IsMerge, IsDeduplication};
 ghost use Rattle.querier.specs.Gathered.{answer, gathered_samples, gathered_sources, IsGathered};
 
 use crate::repeats::without_repeats;
-use crate::{Answer, AnswerList};
+use crate::{Answer, AnswerList, CompareWay};
+use block_meta::{add_all, ulids_in};
 use label_sets::SeriesList;
 use list_core::{NoMemory, TryCopy};
 use std::alloc::Global;
@@ -62,15 +61,16 @@ impl Gather {
     }
 
     /// The answer of all together: at each label set and time the pattern of the first gateway that has one, and the sources of
-    /// them all.
-    pub fn finish(self) -> Result<Answer, NoMemory>
+    /// them all. In this way the answers are compared before.
+    pub fn finish<W: CompareWay>(self, way: &W) -> Result<Answer, NoMemory>
+        requires { W.can_compare way.now }
         ensures merged { IfOk result (IsGathered self) }
         ensures deduplicated { IfOk result
             (λ made. IsDeduplication (triples_of made.series) (gathered_samples self)) }
     {
         let Gather { alloc, added } = self;
         let sources = union_of_sources(alloc, added.members())?;
-        let series = merged(alloc, added)?;
+        let series = merged(alloc, added, way)?;
         Ok(Answer { series, sources })
     }
 }
@@ -79,9 +79,7 @@ impl Gather {
 fn union_of_sources(alloc: Global, answers: &[Answer]) -> Result<UlidList, NoMemory>
     ensures { IfOk result (λ made. made ≡ ascending (gathered_sources answers.now)) }
 {
-    let set = set_of_sources(alloc, answers)?;
-    let members: Vec<Ulid> = set.iter().copied().collect(alloc)?;
-    Ok(UlidList::from_vec(members))
+    ulids_in(alloc, &set_of_sources(alloc, answers)?)
 }
 
 fn set_of_sources(alloc: Global, answers: &[Answer]) -> Result<BTreeSet<Ulid>, NoMemory>
@@ -94,22 +92,18 @@ fn set_of_sources(alloc: Global, answers: &[Answer]) -> Result<BTreeSet<Ulid>, N
     Ok(set)
 }
 
-fn add_all(set: &mut BTreeSet<Ulid>, ulids: &[Ulid]) -> Result<(), NoMemory>
-    ensures { OnOk result (set.new.keys ≡ fold (insert_key nat_cmp) set.old.keys ulids.now) }
-{
-    for ulid in ulids {
-        set.insert(*ulid)?;
-    }
-    Ok(())
-}
-
 /// The series of all answers, merged.
-fn merged(alloc: Global, answers: AnswerList) -> Result<SeriesList, NoMemory>
+fn merged<W: CompareWay>(
+    alloc: Global,
+    answers: AnswerList,
+    way: &W,
+) -> Result<SeriesList, NoMemory>
+    requires { W.can_compare way.now }
     ensures merged { IfOk result (IsMerge (gathered_samples answers)) }
     ensures deduplicated { IfOk result
         (λ made. IsDeduplication (triples_of made) (gathered_samples answers)) }
 {
-    let told = without_repeats(alloc, answers.into_vec())?;
+    let told = without_repeats(alloc, answers.into_vec(), way)?;
     merged_all(alloc, told)
 }
 

@@ -1,40 +1,40 @@
 //! Answers that say what the one before them says, as those of gateways that see the same blocks do. To compare two answers takes
 //! far less than to merge them.
-ghost use Rattle.std.specs.Prelude.{◌≡◌, ◌++◌, ◌∷◌, [], List, Contains, true, IfOk, OnOk, take};
+ghost use Rattle.std.specs.Prelude.{◌≡◌, ◌++◌, ◌∷◌, [], List, Contains, true, IfOk, OnOk};
 ghost use Rattle.querier.specs.Gathered.{TellTheSame};
 ghost use Rattle.querier.specs.declared.answer.Answer.{Answer};
 
-use crate::Answer;
-use crate::alike::are_alike;
+use crate::{Answer, CompareWay};
 use label_sets::{Sample, Series};
 use list_core::NoMemory;
 use std::alloc::Global;
 
-/// The answers, but for each whose series are those of the one before it.
-pub(crate) fn without_repeats(alloc: Global, answers: Vec<Answer>) -> Result<Vec<Answer>, NoMemory>
+/// The answers, but for repeats: those whose series are those of the first one, as far as the way tells, have none any more, and each
+/// whose series are those of the one before it then is left out.
+pub(crate) fn without_repeats<W: CompareWay>(
+    alloc: Global,
+    answers: Vec<Answer>,
+    way: &W,
+) -> Result<Vec<Answer>, NoMemory>
+    requires { W.can_compare way.now }
     ensures { IfOk result (λ told. TellTheSame answers.items told.items) }
 {
-    if are_alike(answers.as_slice()) {
-        return Ok(first_alone(answers));
+    let mut others = answers;
+    if others.is_empty() {
+        return Ok(others);
     }
-    told_in_turn(alloc, answers)
+    let first = others.remove(0);
+    way.compare_all(alloc, &first, others.as_mut_slice());
+    told_in_turn(alloc, first, others)
 }
 
-/// The first answer, or none.
-fn first_alone(answers: Vec<Answer>) -> Vec<Answer>
-    ensures { result.items ≡ take 1 answers.items }
-{
-    let mut first = answers;
-    first.truncate(1);
-    first
-}
-
-/// The same by comparing each answer with the one before it.
-fn told_in_turn(alloc: Global, answers: Vec<Answer>) -> Result<Vec<Answer>, NoMemory>
-    ensures { IfOk result (λ told. TellTheSame answers.items told.items) }
+/// The first answer, and the others but for each whose series are those of the one before it.
+fn told_in_turn(alloc: Global, first: Answer, others: Vec<Answer>) -> Result<Vec<Answer>, NoMemory>
+    ensures { IfOk result (λ told. TellTheSame (first ∷ others.items) told.items) }
 {
     let mut told = Vec::new(alloc);
-    for answer in answers {
+    told.push(first)?;
+    for answer in others {
         tell_once(&mut told, answer)?;
     }
     Ok(told)
@@ -63,7 +63,7 @@ fn repeats_last(told: &[Answer], answer: &Answer) -> bool
 }
 
 /// Whether these are the same series in the same order.
-fn are_same(series: &[Series], others: &[Series]) -> bool
+pub(crate) fn are_same(series: &[Series], others: &[Series]) -> bool
     ensures { result ≡ true → series.now ≡ others.now }
 {
     if series.len() != others.len() {

@@ -1,6 +1,6 @@
 //! A script's phases one after another, the workers of each beside each other in threads.
 
-ghost use Rattle.std.specs.Prelude.{◌≡◌, ◌≢◌, ◌+◌, ◌++◌, ◌<◌, ◌^◌, ◌||◌, List, [], Ok, Err, Some, IfOk, IfErr, OnErr, OnOk, false, length, slice_get, take};
+ghost use Rattle.std.specs.Prelude.{◌≡◌, ◌≢◌, ◌+◌, ◌++◌, ◌<◌, ◌||◌, List, [], Ok, Err, Some, IfOk, IfErr, OnErr, OnOk, false, length, slice_get, take};
 ghost use Rattle.std.specs.List.{All};
 ghost use Rattle.bucket_core.specs.Asking.{Call};
 ghost use Rattle.world_core.specs.Asking.{IsAllAsked};
@@ -8,6 +8,7 @@ ghost use Rattle.world_core.specs.Worlds.{failed_count};
 ghost use Rattle.script_core.specs.Lawful.{IsLawfulScript};
 ghost use Rattle.script_core.specs.Workers.{seats_before};
 ghost use Rattle.script_workers.specs.declared.task.Task.{Task};
+ghost use Rattle.moment_core.specs.Limits.{moment_limit};
 ghost use Rattle.script_running.specs.Shelves.{AreAllAtHand, setting_by};
 ghost use Rattle.script_running.specs.Beside.{HasRunBeside};
 ghost use Rattle.script_running.specs.Reporting.{HasToldFirst};
@@ -18,6 +19,7 @@ ghost use Rattle.world_turn.specs.Closing.{AllJoined};
 ghost use Rattle.world_turn.specs.Passes.{table_of, view_of};
 ghost use Rattle.world_turn.specs.Turns.{IsLater, IsSame};
 
+use crate::comparing::Beside;
 use crate::gathering::{gather, jobs_of};
 use crate::{Broken, Means, OutcomeList, Report, ShelfBlock, Sight, selector_texts};
 use bucket_core::Bucket;
@@ -258,6 +260,7 @@ fn phase_beside<B: Bucket + Send, G: Gate + Sync, P: Report, R: Threads + Wait +
         &mut standing.sights,
         &mut standing.outcomes,
         report,
+        &Beside { rt },
     );
     (came, end.root)
 }
@@ -270,7 +273,7 @@ fn begin_phase<B: Bucket, R: Wait>(
     phase: &Phase,
 ) -> (Result<(), Broken>, Pass)
     requires own { table_of root ≡ shared.now.table.shared.table_id }
-    requires moment { phase.now.moment.ms < 2 ^ 47 }
+    requires moment { phase.now.moment.ms < moment_limit }
     ensures pass { (table_of result.1 ≡ table_of root) × (result.1.seat ≡ root.seat)
         × (result.1.splits ≡ root.splits) }
     ensures clock { IsClockSet phase.now (view_of root) (view_of result.1) result.0 }

@@ -11,6 +11,7 @@ ghost use Rattle.script_workers.specs.declared.task.Task.{Task};
 ghost use Rattle.lifecycle_core.specs.Holdings.{Holding, Holdings};
 ghost use Rattle.lifecycle_core.specs.Setting.{Setting};
 ghost use Rattle.lifecycle_core.specs.Tasks.{End};
+ghost use Rattle.script_fields.specs.Limits.{most_gateways};
 ghost use Rattle.script_running.specs.Begun.{AreLeft};
 ghost use Rattle.script_running.specs.Beside.{AreSeen};
 ghost use Rattle.script_running.specs.Ended.{HaveEnded, IsPostOf};
@@ -22,6 +23,7 @@ ghost use Rattle.script_running.specs.declared.outcome.Outcome.{Outcome};
 
 use crate::{Broken, Means, OutcomeList, Part, Report, Sight, WorkerEnd, WorkerJob, outcome_of};
 use list_core::{NoMemory, TryCopy};
+use querier::CompareWay;
 use script_core::{Phase, Script, Task, Work, Worker};
 use std::alloc::Global;
 use std::mem;
@@ -71,7 +73,7 @@ fn take_sight(gateway: Option<u32>, sights: &mut Vec<Sight>) -> Sight
 /// the report.
 ///
 /// It takes memory only where no worker met the full journal, so that this is what is told of such a phase.
-pub(crate) fn gather<P: Report>(
+pub(crate) fn gather<P: Report, W: CompareWay>(
     alloc: Global,
     script: &Script,
     tasks: &[Task],
@@ -80,12 +82,14 @@ pub(crate) fn gather<P: Report>(
     sights: &mut Vec<Sight>,
     outcomes: &mut OutcomeList,
     report: &mut P,
+    way: &W,
 ) -> Result<(), Broken>
+    requires way { W.can_compare way.now }
     requires many { length workers.now ≡ length ends.items }
     requires gateways { All
         (λ worker. IfSome worker.gateway (λ gateway. gateway < length sights.old.items))
         workers.now }
-    requires few { length sights.old.items ≤ 16 }
+    requires few { length sights.old.items ≤ most_gateways }
     requires places { All (λ worker. All (λ place. place < length tasks.now) worker.tasks)
         workers.now }
     ensures each { length sights.new.items ≡ length sights.old.items }
@@ -112,7 +116,7 @@ pub(crate) fn gather<P: Report>(
         return Err(Broken::NoMemory);
     };
     match take_in(workers, ends, sights, &mut slots) {
-        Ok(()) => tell_all(alloc, script, tasks, slots, outcomes, report),
+        Ok(()) => tell_all(alloc, script, tasks, slots, outcomes, report, way),
         Err(broken) => Err(broken),
     }
 }
@@ -276,15 +280,17 @@ fn empty_slots(alloc: Global, count: usize) -> Result<Column, NoMemory>
 
 /// Adds the outcomes of the tasks, in their order, by the parts of those who did them, also to the report. For want of memory no outcome
 /// is added.
-fn tell_all<P: Report>(
+fn tell_all<P: Report, W: CompareWay>(
     alloc: Global,
     script: &Script,
     tasks: &[Task],
     slots: Slots,
     outcomes: &mut OutcomeList,
     report: &mut P,
+    way: &W,
 ) -> Result<(), Broken>
-    requires few { length slots.gateways.items ≤ 16 }
+    requires way { W.can_compare way.now }
+    requires few { length slots.gateways.items ≤ most_gateways }
     ensures told { OnOk result ((own : List Outcome) × (outcomes.new ≡ outcomes.old ++ own)
         × AreTold slots 0 tasks.now own) }
     ensures untold { OnErr result (outcomes.new ≡ outcomes.old) }
@@ -293,7 +299,7 @@ fn tell_all<P: Report>(
         → OnOk result (P.tells report.new script.now (before ++ tasks.now) outcomes.new) }
 {
     let before = outcomes.len();
-    match tell(alloc, script, tasks, slots, outcomes, report) {
+    match tell(alloc, script, tasks, slots, outcomes, report, way) {
         Ok(()) => Ok(()),
         Err(NoMemory) => {
             cut_back(alloc, outcomes, before);
@@ -312,15 +318,17 @@ fn cut_back(alloc: Global, outcomes: &mut OutcomeList, count: usize)
 }
 
 /// The same, but for want of memory some outcomes may have been added.
-fn tell<P: Report>(
+fn tell<P: Report, W: CompareWay>(
     alloc: Global,
     script: &Script,
     tasks: &[Task],
     slots: Slots,
     outcomes: &mut OutcomeList,
     report: &mut P,
+    way: &W,
 ) -> Result<(), NoMemory>
-    requires few { length slots.gateways.items ≤ 16 }
+    requires way { W.can_compare way.now }
+    requires few { length slots.gateways.items ≤ most_gateways }
     ensures told { OnOk result ((own : List Outcome) × (outcomes.new ≡ outcomes.old ++ own)
         × AreTold slots 0 tasks.now own) }
     ensures more { AreMore outcomes.old outcomes.new }
@@ -330,7 +338,9 @@ fn tell<P: Report>(
     let mut slots = slots;
     for place in 0..tasks.len() {
         let task = &tasks[place];
-        let Ok(()) = tell_one(alloc, script, task, place, &mut slots, outcomes, report) else {
+        let Ok(()) = tell_one(
+            alloc, script, task, place, &mut slots, outcomes, report, way,
+        ) else {
             return Err(NoMemory);
         };
     }
@@ -339,7 +349,7 @@ fn tell<P: Report>(
 
 /// Adds the outcome of the task at a place, whose slots are empty then.
 #[tactic(auto, using(crate::proofs::Gathers::all_first, crate::proofs::Gathers::pushed_first))]
-fn tell_one<P: Report>(
+fn tell_one<P: Report, W: CompareWay>(
     alloc: Global,
     script: &Script,
     task: &Task,
@@ -347,8 +357,10 @@ fn tell_one<P: Report>(
     slots: &mut Slots,
     outcomes: &mut OutcomeList,
     report: &mut P,
+    way: &W,
 ) -> Result<(), NoMemory>
-    requires few { length slots.old.gateways.items ≤ 16 }
+    requires way { W.can_compare way.now }
+    requires few { length slots.old.gateways.items ≤ most_gateways }
     ensures told { OnOk result ((o : Outcome) × (outcomes.new ≡ outcomes.old ++ o ∷ [])
         × IsToldBy task.now.work (parts_at slots.old place task.now.work) o) }
     ensures more { AreMore outcomes.old outcomes.new }
@@ -357,7 +369,7 @@ fn tell_one<P: Report>(
         → OnOk result (P.tells report.new script.now (before ++ task.now ∷ []) outcomes.new) }
 {
     let parts = take_parts(alloc, &task.work, place, slots)?;
-    let outcome = outcome_of(alloc, parts)?;
+    let outcome = outcome_of(alloc, parts, way)?;
     report.add(script, task, &outcome)?;
     outcomes.push(outcome)
 }

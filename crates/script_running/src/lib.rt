@@ -4,6 +4,7 @@
 mod activity;
 mod beside;
 mod came;
+mod comparing;
 mod declared;
 mod gathering;
 mod means;

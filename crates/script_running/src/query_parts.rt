@@ -9,14 +9,19 @@ ghost use Rattle.script_running.specs.declared.part.QueryPart.TheVariants as giv
 
 use crate::{NoAnswer, Outcome, Part, QueryOutcome, QueryPart};
 use list_core::{NoMemory, TryCopy};
-use querier::{Gather, Names, NamesList};
+use querier::{CompareWay, Gather, Names, NamesList};
 use std::alloc::Global;
 
 /// How a task came out, by the parts of all who did it, in their order: an upload, a compaction and a cleaning by its worker's,
-/// a sync by its gateway's, and a query by those of all gateways.
+/// a sync by its gateway's, and a query by those of all gateways, whose answers are compared in this way.
 #[tactic(auto, using(crate::proofs::GivenParts::query_whole))]
-pub fn outcome_of(alloc: Global, parts: Vec<Part>) -> Result<Outcome, NoMemory>
+pub fn outcome_of<W: CompareWay>(
+    alloc: Global,
+    parts: Vec<Part>,
+    way: &W,
+) -> Result<Outcome, NoMemory>
     requires few { length parts.items < 2 ^ 32 }
+    requires way { W.can_compare way.now }
     ensures whole { (work : Work) → AreAllParts work parts.items
         → IfOk result (IsOutcomeOf work parts.items) }
 {
@@ -32,7 +37,7 @@ pub fn outcome_of(alloc: Global, parts: Vec<Part>) -> Result<Outcome, NoMemory>
         }
         gateway += 1;
     }
-    Ok(Outcome::Query(given.finish()?))
+    Ok(Outcome::Query(given.finish(way)?))
 }
 
 /// What the first gateways gave to a query.
@@ -88,7 +93,8 @@ impl Given {
 
     /// How the query comes out.
     #[tactic(auto, using(crate::proofs::GivenParts::none_first, crate::proofs::GivenParts::all_answered))]
-    fn finish(self) -> Result<QueryOutcome, NoMemory>
+    fn finish<W: CompareWay>(self, way: &W) -> Result<QueryOutcome, NoMemory>
+        requires { W.can_compare way.now }
         ensures { (parts : List QueryPart) → HasGiven parts self
             → IfOk result (IsQueryOutcome parts) }
     {
@@ -99,7 +105,7 @@ impl Given {
         } = self;
         match none {
             Some((gateway, why)) => Ok(QueryOutcome::NoAnswer(gateway, why)),
-            None => Ok(QueryOutcome::Answer(answers.finish()?, names)),
+            None => Ok(QueryOutcome::Answer(answers.finish(way)?, names)),
         }
     }
 }

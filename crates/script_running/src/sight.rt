@@ -7,6 +7,9 @@ use list_core::NoMemory;
 use meta_fetcher::View;
 use std::alloc::Global;
 
+/// How many ranges a cache has room for.
+const MOST_RANGES: usize = 1_024;
+
 /// By what a gateway sees, from one of its tasks to the next.
 #[derive(Drop)]
 pub struct Sight {
@@ -34,6 +37,6 @@ pub(crate) fn own_cache(alloc: Global, kept: Option<IndexCache>) -> Result<Index
 {
     match kept {
         Some(cache) => Ok(cache),
-        None => IndexCache::new(alloc, 1024),
+        None => IndexCache::new(alloc, MOST_RANGES),
     }
 }

@@ -1,6 +1,6 @@
 use crate::says::{cut_at, put, put_number, say};
 use label_sets::{LabelSet, Sample, SampleList, Series, SeriesList};
-use querier::{Answer, Gather};
+use querier::{Answer, Gather, InTurn};
 use std::alloc::Global;
 use ulid_core::{Ulid, UlidList};
 
@@ -10,7 +10,7 @@ pub(crate) fn print_gathered(rt: &HostRuntime, text: &str) {
     for word in text.split_ascii_whitespace() {
         add_answer(rt.alloc(), &mut gather, word);
     }
-    match gather.finish() {
+    match gather.finish(&InTurn) {
         Ok(answer) => {
             print_answer(rt, &answer);
             drop(answer);

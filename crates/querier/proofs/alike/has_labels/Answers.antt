@@ -1,6 +1,6 @@
 use Rattle.std.proofs.Common.{◌∙◌, sym}
-use Rattle.vertical_merge.proofs.Orders.{same_set}
 use Rattle.label_sets.specs.Labels.{compare_sets}
+use Rattle.label_sets.proofs.LabelValues.{same_set}
 use Rattle.querier.proofs.alike.has_labels.Goals as goal
 use Rattle.list_core.proofs.Bools.{Equal-from_is_eq}
 

@@ -3,8 +3,9 @@ use Rattle.std.proofs.lemmas.Iterator.Adapters.{YieldsList-from_vec}
 use Rattle.std.proofs.lemmas.Iterator.Consumers.{YieldsList-end, YieldsList-turn}
 use Rattle.std.proofs.lemmas.Option.{slice_get-get_or}
 use Rattle.std.proofs.Math.ListN.{length-set}
-use Rattle.script_running.proofs.Taking.{at_place, found, lay_end, lay_past, lay_start, lay_step}
+use Rattle.script_running.proofs.Taking.{found, lay_end, lay_past, lay_start, lay_step}
 use Rattle.script_running.proofs.gathering.lay.Goals as goal
+use Rattle.list_core.proofs.Membership.{All-place}
 
 pub loop-part-init : goal.loop-part-init
 loop-part-init c = record {
@@ -25,7 +26,7 @@ loop-part-preserved c =
     let turn = YieldsList-turn road c.loop-part.yielded c.loop-part.part-iterator c.loop-part.yielded_by c.next.result c.next.new.self c.in-Some.part c.in-Some.is c.next.ensures.steps in
     let at = slice_get-get_or c.args.places.now c.loop-part.number 0 c.if-number-places.false in
     let here = found c.args.parts.items (length c.loop-part.yielded) c.loop-part.number c.in-Some.part i.number turn.0 turn.1 in
-    let fits = at_place (λ place. place < length c.args.slots.now.items) c.args.places.now c.loop-part.number (get_or c.args.places.now c.loop-part.number 0) c.requires at in
+    let fits = All-place (λ place. place < length c.args.slots.now.items) c.args.places.now c.loop-part.number (get_or c.args.places.now c.loop-part.number 0) c.requires at in
     let inside : get_or c.args.places.now c.loop-part.number 0 < length c.loop-part.slots.items = omega (arith, fits, i.wide) in
     record {
       number = omega (arith, i.number, length-append c.loop-part.yielded (c.in-Some.part ∷ []));

@@ -6,4 +6,4 @@ use Rattle.script_running.proofs.query_parts.outcome_of.Given as goal
 
 -- the parts so far are those of gateways
 abbrev pub invariant-loop-part : goal.invariant-loop-part
-invariant-loop-part l = (own : List QueryPart) × (l.yielded ≡ map part.Query own) × (l.gateway ≡ length own) × HasGiven own l.given
+invariant-loop-part g l = (own : List QueryPart) × (l.yielded ≡ map part.Query own) × (l.gateway ≡ length own) × HasGiven own l.given
