@@ -1,9 +1,10 @@
 ghost use Rattle.std.specs.Prelude.{◌≡◌, ◌++◌, ◌∷◌, [], codes, length, OnOk};
 ghost use Rattle.std.specs.List.{flat_map, list_any};
 ghost use Rattle.reading_core.specs.Decimal.{decimal_text, signed_text};
+ghost use Rattle.reading_core.specs.Lines.{newline};
 ghost use Rattle.ulid_core.specs.UlidText.{text_of};
 ghost use Rattle.report_lines.specs.CheckLines.{check_line};
-ghost use Rattle.report_lines.specs.Reports.{activity_text, gateway_name, upload_line, sync_line, compact_line, expired_words, clean_line, query_line, query_text, no_answer_words, answer_text, parted_text, counts_text, source_line, named_line, named_lines, named_count, is_part, series_line, newline};
+ghost use Rattle.report_lines.specs.Reports.{activity_text, gateway_name, upload_line, sync_line, compact_line, expired_words, clean_line, query_line, query_text, no_answer_words, answer_text, parted_text, counts_text, source_line, named_line, named_lines, named_count, is_part, series_line};
 ghost use Rattle.report_lines.specs.BreachLines.{between, breach_line, breach_text, rule_word};
 
 use crate::check_outcome::CheckOutcome;
@@ -13,7 +14,7 @@ use list_core::NoMemory;
 use moment_core::Partition;
 use querier::{Names, NamesList};
 use reading_core::{put_signed, put_unsigned};
-use script_core::{Script, Task, Work};
+use script_core::{LONGEST_SAMPLE, Script, Task, Work};
 use script_running::{
     CleanOutcome, CompactOutcome, NoAnswer, Outcome, QueryOutcome, SyncOutcome, UploadOutcome,
 };
@@ -401,13 +402,21 @@ fn put_named_source(
     put_text(out, "\n")
 }
 
+/// Appends a line for each series. Room for all samples is made at once, so that a long answer is not copied while it grows. Where there
+/// is none, the text grows as it needs.
 fn put_all_series(out: &mut Vec<u8>, series: &[Series]) -> Result<(), NoMemory>
     ensures { OnOk result (out.new.items ≡ out.old.items ++ flat_map series_line series.now) }
 {
+    let _ = out.reserve(samples_size(series));
     for one in series {
         put_series(out, one)?;
     }
     Ok(())
+}
+
+/// How many bytes the samples of these series take at most.
+fn samples_size(series: &[Series]) -> usize {
+    (sample_count(series) as usize).saturating_mul(LONGEST_SAMPLE)
 }
 
 #[tactic(auto, unfolding(crate::specs::Reports::series_line))]

@@ -20,3 +20,4 @@ pub use reader::LONGEST_TEXT;
 pub use script::Script;
 pub use script_fields::{LineCause, ScriptRefusal};
 pub use script_workers::{Hand, Phase, PhaseList, Task, TaskList, Work, Worker, WorkerList};
+pub use series_parts::LONGEST_SAMPLE;
