@@ -1,7 +1,5 @@
 -- The labels of series as entries, and their order.
-use Rattle.std.proofs.Common.{◌≡◌, ℕ, ◌<◌, length, get_or, subst, List, [], ◌∷◌, ◌++◌, map, zip, true, ◌&&◌, refl, sym, ap, ◌∙◌, append_assoc, arith}
-use Rattle.std.proofs.lemmas.Bool.Decides.{nat_tests}
-use Rattle.std.specs.Prelude.{◌==◌}
+use Rattle.std.proofs.Common.{◌≡◌, ℕ, ◌<◌, length, get_or, subst, List, [], ◌∷◌, ◌++◌, map, zip, refl, sym, ap, ◌∙◌}
 use Rattle.std.specs.Cmp.{IsTotalOrder, IsStrictWeakOrder}
 use Rattle.std.specs.List.Sorted.{IsSorted, IsStable}
 use Rattle.std.proofs.lemmas.List.Sorted.{ranks_by}
@@ -10,13 +8,9 @@ use Rattle.label_sets.specs.Ordered.{in_order}
 use Rattle.label_sets.proofs.StableSorts.{in_order-from_sort}
 use Rattle.index_parts.specs.declared.raw_series.RawSeries.{RawSeries}
 use Rattle.index_writing.specs.declared.label_groups.Entry.{Entry}
-use Rattle.index_writing.specs.declared.label_groups.LabelRow.{LabelRow}
-use Rattle.index_writing.specs.declared.label_groups.NameValues.{NameValues}
-use Rattle.index_writing.specs.LabelGroups.{entries_of, all_entries, compare_entries, is_lesser_entry, have_same_label, join_series, have_same_name, join_values}
+use Rattle.index_writing.specs.LabelGroups.{entries_of, all_entries, compare_entries, is_lesser_entry}
 use Rattle.std.specs.List.{AllByRecursion}
-use Rattle.std.proofs.lemmas.Bool.{and_parts}
 use Rattle.index_writing.specs.WriteSteps.{IsStorable}
-use Rattle.index_writing.proofs.Groups.{AreKinds}
 use Rattle.list_core.proofs.Lists.{AllByRecursion-at}
 
 abbrev pub labels_with : ℕ → List ℕ → List ℕ → List Entry
@@ -60,33 +54,3 @@ entries_order = ranks_by entries_total (λ e. e)
 
 pub entries_sorted : (xs ys : List Entry) → IsSorted compare_entries ys → IsStable compare_entries xs ys → ys ≡ in_order is_lesser_entry xs
 entries_sorted xs ys sorted stable = in_order-from_sort is_lesser_entry entries_order xs ys sorted stable
-
--- ---- their kinds
-
-same_label : (a b c : LabelRow) → have_same_label a b ≡ true → have_same_label b c ≡ have_same_label a c
-same_label a b c e =
-    let parts = and_parts (a.name == b.name) (a.value == b.value) e in
-    let name : a.name ≡ b.name = grind (arith, nat_tests) in
-    let value : a.value ≡ b.value = grind (arith, nat_tests) in
-    ap (λ n. (n == c.name) && (b.value == c.value)) (sym name) ∙ ap (λ n. (a.name == c.name) && (n == c.value)) (sym value)
-
-pub label_kinds : AreKinds have_same_label join_series
-label_kinds = record {
-  left = λ a b c. refl;
-  right = λ a b c. refl;
-  assoc = λ a b c. ap (λ l. record { name = a.name; value = a.value; series = l }) (append_assoc a.series b.series c.series);
-  alike = same_label;
-}
-
-same_name : (a b c : NameValues) → have_same_name a b ≡ true → have_same_name b c ≡ have_same_name a c
-same_name a b c e =
-    let name : a.name ≡ b.name = grind (arith, nat_tests) in
-    ap (λ n. n == c.name) (sym name)
-
-pub name_kinds : AreKinds have_same_name join_values
-name_kinds = record {
-  left = λ a b c. refl;
-  right = λ a b c. refl;
-  assoc = λ a b c. ap (λ l. record { name = a.name; values = l }) (append_assoc a.values b.values c.values);
-  alike = same_name;
-}

@@ -1,7 +1,7 @@
 -- The clauses of an index hold of what is written.
 use Rattle.std.proofs.Common.{◌≡◌, ℕ, ◌^◌, ◌<◌, ◌*◌, ◌≤◌, List, [], ◌∷◌, ◌++◌, length, map, zip, Some, refl, sym, ap, ◌∙◌, subst, arith, inl, inr}
 use Rattle.std.specs.Prelude.{slice_get}
-use Rattle.std.specs.List.{All, Contains, AllPairs, AllZip}
+use Rattle.std.specs.List.{All, Contains, AllPairs}
 use Rattle.std.proofs.lemmas.List.{length-map}
 use Rattle.label_sets.specs.declared.label.Label.{Label}
 use Rattle.label_sets.specs.Labels.{IsLabelSet}
@@ -17,7 +17,7 @@ use Rattle.index_writing.specs.Aligned.{padded, places_at}
 use Rattle.index_writing.specs.WriteSteps.{greatest, EachStands}
 use Rattle.index_writing.specs.Written.{HaveSmallNumbers, up_to_symbols, numbers_behind, list_texts, label_rows, table_rows, parts_of, with_series, with_label_indices, with_lists, list_places, written}
 use Rattle.list_core.proofs.Membership.{contains_first, contains_later, no_member, member_cases, each_member, of_map, into_map}
-use Rattle.list_core.proofs.Pairs.{first_in_zip, second_in_zip, AllZip-first, AllZip-second, AllZip-weaker}
+use Rattle.list_core.proofs.Pairs.{first_in_zip, second_in_zip, beside_first, beside_second}
 use Rattle.index_writing.proofs.OrderedEntries.{Below}
 use Rattle.index_writing.proofs.SymbolNumbers.{label_in, symbol_there, symbol_is}
 use Rattle.index_writing.proofs.SeriesNumbers.{numbers_rise}
@@ -31,19 +31,6 @@ use Rattle.index_writing.proofs.TableLaws.{AreLawful, IsNumbered, entries, rows_
 use Rattle.index_writing.proofs.WrittenIndex.{written_lists, written_series}
 
 -- ---- lists in pairs
-
-zip_all : {A B : Type 0} (xs : List A) (ys : List B) → length xs ≡ length ys → AllZip (λ x y. Contains (zip xs ys) (x, y)) xs ys
-zip_all [] [] many = tt
-zip_all [] (y ∷ ys) many = absurd (omega arith)
-zip_all (x ∷ xs) [] many = absurd (omega arith)
-zip_all (x ∷ xs) (y ∷ ys) many = (contains_first _ _, AllZip-weaker _ _ (λ a b h. contains_later _ _ _ h) xs ys (zip_all xs ys (omega arith)))
-
--- each member has another beside it
-pub beside_first : {A B : Type 0} (xs : List A) (ys : List B) (x : A) → length xs ≡ length ys → Contains xs x → (y : B) × Contains (zip xs ys) (x, y)
-beside_first xs ys x many h = let found = AllZip-second _ xs ys x (zip_all xs ys many) h in (found.0, found.2)
-
-pub beside_second : {A B : Type 0} (xs : List A) (ys : List B) (y : B) → length xs ≡ length ys → Contains ys y → (x : A) × Contains (zip xs ys) (x, y)
-beside_second xs ys y many h = let found = AllZip-first _ xs ys y (zip_all xs ys many) h in (found.0, found.2)
 
 zip_map : {A B C : Type 0} (f : B → C) (xs : List A) (ys : List B) → zip xs (map f ys) ≡ map (λ p. (p.0, f p.1)) (zip xs ys)
 zip_map f [] _ = refl
@@ -123,7 +110,7 @@ module _ (list : List IndexSeries) where
     unfolding parts_of places_at
     row_stands place row h =
         let member = second_in_zip _ _ place row h in
-        list_at place row.series (contains_later _ _ _ (pair_mapped (λ r. postings_text r.series) row_places rows place row h)) (each_member _ _ row (small_numbers room).rows member) ((are_rows list numbers known).rise row member)
+        list_at place row.series (contains_later _ _ _ (pair_mapped (λ r. postings_text r.series) row_places rows place row h)) (each_member _ _ row (small_numbers room).rows member) ((are_rows list numbers known).each row member).rise
 
     -- ---- rows of the table
 

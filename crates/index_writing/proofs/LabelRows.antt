@@ -80,19 +80,19 @@ entries_grouping = record {
 }
 
 pub grouped_rows : (entries : List Entry) → AllPairs Before entries → AreRowsOf entries (grouped have_same_label join_series (map row_of_entry entries))
-grouped_rows entries up = are_groups entry_key (λ entry. entry.series) row_key (λ row. row.series) LabelBefore Before have_same_label join_series row_of_entry entries_grouping entries up
+grouped_rows entries up = are_groups entries_grouping entries up
 
 -- a row's number is of an entry
 pub row_entry : (entries : List Entry) (rows : List LabelRow) (row : LabelRow) (n : ℕ) → AreRowsOf entries rows → Contains rows row → Contains row.series n → Contains entries (entry_in row n)
 row_entry entries _ row n are h i =
-    let found = are.only row n h i in
+    let found = (are.each row h).only n i in
     let key = found.2 in
     let number = found.3 in
     subst (λ e. Contains entries e) (λ j. record { name = (key j).0; value = (key j).1; series = number j }) found.1
 
 -- two rows of one label are one
 pub one_row : (rows : List LabelRow) (one other : LabelRow) → AllPairs RowBefore rows → Contains rows one → Contains rows other → one.name ≡ other.name → one.value ≡ other.value → one ≡ other
-one_row rows _ _ up h i name value = one_group entry_key (λ entry. entry.series) row_key (λ row. row.series) LabelBefore not_itself _ _ _ up h i (λ j. (name j, value j))
+one_row rows _ _ up h i name value = one_group entries_grouping _ _ _ up h i (λ j. (name j, value j))
 
 -- ---- names
 
@@ -111,8 +111,8 @@ rows_grouping = record {
 
 pub grouped_names : (rows : List LabelRow) → AllPairs RowBefore rows → AreNamesOf rows (names_of rows)
 unfolding names_of
-grouped_names rows up = are_groups (λ row. row.name) (λ row. row.value) (λ name. name.name) (λ name. name.values) (λ n m. n < m) RowBefore have_same_name join_values values_of_row rows_grouping rows up
+grouped_names rows up = are_groups rows_grouping rows up
 
 -- two of one name are one
 pub one_name : (names : List NameValues) (one other : NameValues) → AllPairs NameBefore names → Contains names one → Contains names other → one.name ≡ other.name → one ≡ other
-one_name _ _ _ up h i same = one_group (λ (row : LabelRow). row.name) (λ row. row.value) (λ name. name.name) (λ name. name.values) (λ n m. n < m) (λ n lt. omega arith) _ _ _ up h i same
+one_name _ _ _ up h i same = one_group rows_grouping _ _ _ up h i same

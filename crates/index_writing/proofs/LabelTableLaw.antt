@@ -18,7 +18,7 @@ use Rattle.index_writing.specs.WriteSteps.{greatest}
 use Rattle.index_writing.specs.Written.{label_index_texts, offset_rows, parts_of, with_series, with_label_indices, label_index_places, toc_of, written}
 use Rattle.list_core.proofs.Lists.{zip_firsts, zip_seconds}
 use Rattle.list_core.proofs.Membership.{each_member, all_members, of_map, into_map}
-use Rattle.list_core.proofs.Pairs.{second_in_zip}
+use Rattle.list_core.proofs.Pairs.{second_in_zip, beside_second}
 use Rattle.index_writing.proofs.OrderedEntries.{pairs_so, pairs_in_order}
 use Rattle.index_writing.proofs.SymbolNumbers.{label_in, IsNumber, symbol_there, symbol_is, symbols_less}
 use Rattle.index_writing.proofs.AlignedTexts.{places_many}
@@ -26,7 +26,7 @@ use Rattle.index_writing.proofs.ListPlaces.{StandsAt, each_stands, stands_on, in
 use Rattle.index_writing.proofs.LabelRows.{AreNamesOf, grouped_names, one_name}
 use Rattle.index_writing.proofs.TableLaws.{AreLawful, HasLabel, IsNumbered, are_rows, row_label, row_only, label_row}
 use Rattle.index_writing.proofs.WrittenIndex.{written_indices}
-use Rattle.index_writing.proofs.IndexWritten.{numbers, rows, many, numbered, small_numbers, beside_second, pair_mapped, stand_for}
+use Rattle.index_writing.proofs.IndexWritten.{numbers, rows, many, numbered, small_numbers, pair_mapped, stand_for}
 
 zip_swapped : {A B C : Type 0} (f : A → B) (xs : List A) (ys : List C) → zip (map f xs) ys ≡ map (λ p. (f p.1, p.0)) (zip ys xs)
 zip_swapped f [] [] = refl
@@ -76,18 +76,18 @@ module _ (list : List IndexSeries) where
     -- each value of a name is that of a label of this name
     value_label : (name : NameValues) (n : ℕ) → Contains names name → Contains name.values n → HasLabel list name.name n
     value_label name n h i =
-        let found = are_names.only name n h i in
+        let found = (are_names.each name h).only n i in
         subst (HasLabel list name.name) found.3 (subst (λ m. HasLabel list m found.0.value) found.2 (row_label list (numbers list) known found.0 found.1))
 
     value_has : (name : NameValues) (n : ℕ) → Contains names name → Contains name.values n → HasValue list (text_of name) (symbol n)
     value_has name n h i =
-        let found = are_names.only name n h i in
-        let some = (are_rows list (numbers list) known).some found.0 found.1 in
+        let found = (are_names.each name h).only n i in
+        let some = ((are_rows list (numbers list) known).each found.0 found.1).some in
         let at = row_only list (numbers list) known found.0 some.0 found.1 some.1 in
         subst (λ v. HasValue list (text_of name) (symbol v)) found.3 (subst (λ m. HasValue list (symbol m) (symbol found.0.value)) found.2 (at.0, second_in_zip (numbers list) list _ _ at.1, at.2))
 
     some_label : (name : NameValues) → Contains names name → (n : ℕ) × HasLabel list name.name n
-    some_label name h = let some = are_names.some name h in (some.0, value_label name some.0 h some.1)
+    some_label name h = let some = (are_names.each name h).some in (some.0, value_label name some.0 h some.1)
 
     -- a name and a value of a label, among the names
     value_found : (name value : List ℕ) → HasValue list name value → (one : NameValues) × Contains names one × IsNumber list one.name name × (n : ℕ) × Contains one.values n × (symbol n ≡ value)
@@ -121,7 +121,7 @@ module _ (list : List IndexSeries) where
           numbers = name.values;
           values = map symbol name.values;
           stands = index_stands (written list) place name.values room (stands_in place name i) (each_member _ names name (small_numbers list room).names h);
-          ascend = in_order _ (are_names.rise name h);
+          ascend = in_order _ (are_names.each name h).rise;
           values_are = subst (λ ns. StandFor (symbols_of list) ns (map symbol name.values)) (map-id name.values) stand;
           only = λ value has. let found = of_map symbol _ value has in subst (HasValue list (text_of name)) found.2 (value_has name found.0 h found.1);
           all = λ value has. index_all name value h has;
@@ -137,7 +137,7 @@ module _ (list : List IndexSeries) where
     name_only : (name : List ℕ) → Contains (map text_of names) name → (value : List ℕ) × HasValue list name value
     name_only name has =
         let found = of_map text_of _ name has in
-        let some = are_names.some found.0 found.1 in
+        let some = (are_names.each found.0 found.1).some in
         (symbol some.0, subst (λ t. HasValue list t (symbol some.0)) found.2 (value_has found.0 some.0 found.1 some.1))
 
     name_all : (name value : List ℕ) → HasValue list name value → Contains (map text_of names) name

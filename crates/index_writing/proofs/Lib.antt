@@ -4,7 +4,6 @@ pub mod Entries
 pub mod EntryOrder
 pub mod GroupLaws
 pub mod LabelRows
-pub mod Groups
 pub mod IndexLaw
 pub mod IndexWritten
 pub mod LabelTableLaw

@@ -101,7 +101,7 @@ module _ (list : List IndexSeries) (numbers : List ℕ) (known : IsNumbered list
       (found.0, found.1, has, found.3)
 
   pub row_label : (row : LabelRow) → Contains rows row → HasLabel list row.name row.value
-  row_label row h = let one = are_rows.some row h in (row_series row one.0 h one.1).2
+  row_label row h = let one = (are_rows.each row h).some in (row_series row one.0 h one.1).2
 
   pub row_only : (row : LabelRow) (n : ℕ) → Contains rows row → Contains row.series n → (s : IndexSeries) × Contains (zip numbers list) (n, s) × Contains s.labels (record { name = symbol_of (symbols_of list) row.name; value = symbol_of (symbols_of list) row.value })
   row_only row n h i =

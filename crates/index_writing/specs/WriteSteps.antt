@@ -1,16 +1,21 @@
 -- What a call comes to that makes a text in steps, up to the greatest length of an index.
-use Rattle.std.specs.Prelude.{◌≡◌, ℕ, ◌+◌, ◌*◌, ◌<◌, ◌≤◌, List, [], ◌∷◌, ◌++◌, length, Result, Ok, Err}
+use Rattle.std.specs.Prelude.{◌≡◌, ℕ, ◌+◌, ◌*◌, ◌<◌, ◌≤◌, List, [], ◌∷◌, ◌++◌, length, Result, Ok, Err, ◌^◌}
 use Rattle.wire_bytes.specs.Files.{file_limit}
 use Rattle.index_parts.specs.declared.postings_row.PostingsRow.{PostingsRow}
 use Rattle.index_parts.specs.declared.raw_series.RawSeries.{RawSeries}
 use Rattle.index_parts.specs.Turns.{InOrder}
 use Rattle.index_parts.specs.SeriesEntry.{IsSeries, StartsAfter}
+use Rattle.index_file.specs.IndexFile.{series_unit}
 use Rattle.index_writing.specs.declared.write_refusal.IndexWriteRefusal.{IndexWriteRefusal}
 use Rattle.index_writing.specs.declared.write_refusal.IndexWriteRefusal.TheVariants.{TooLarge, NoMemory}
 
 -- the greatest length of an index: 64 MiB
 abbrev pub greatest : ℕ
 greatest = file_limit
+
+-- how many numbers a section may have
+abbrev pub most_numbers : ℕ
+most_numbers = 2 ^ 24
 
 -- It made exactly this text, which is not too long; or it says that the text is too long, or it wants memory.
 abbrev pub Makes : {A : Type 0} → Result A IndexWriteRefusal → List ℕ → List ℕ → Type 0
@@ -36,7 +41,7 @@ abbrev pub EachStands : List ℕ → List ℕ → List RawSeries → Type 0
 EachStands text [] [] = Unit {0}
 EachStands text [] (one ∷ series) = ⊥
 EachStands text (number ∷ numbers) [] = ⊥
-EachStands text (number ∷ numbers) (one ∷ series) = ((after : List ℕ) → IsSeries (text ++ after) (16 * number) one) × EachStands text numbers series
+EachStands text (number ∷ numbers) (one ∷ series) = ((after : List ℕ) → IsSeries (text ++ after) (series_unit * number) one) × EachStands text numbers series
 
 -- what a writer of a series asks of it
 abbrev pub IsStorable : RawSeries → Type 0

@@ -1,6 +1,6 @@
 -- The one text that the writer writes for a list of series: the sections in the order symbols, series, label indices,
 -- postings lists, the table of label indices, the postings table and the table of contents. Each series stands at a multiple
--- of 16, each label index and each postings list at a multiple of 4.
+-- of one unit, each label index and each postings list at a multiple of another.
 use Rattle.std.specs.Prelude.{◌≡◌, ℕ, ◌-◌, ◌*◌, ◌/◌, ◌^◌, ◌<◌, List, [], ◌∷◌, ◌++◌, length, map, zip, slice_get, Some, option_map, unwrap_or}
 use Rattle.std.specs.List.{All, AllByRecursion}
 use Rattle.std.specs.List.Sorted.{IsStrictlySortedBy}
@@ -21,7 +21,7 @@ use Rattle.index_file.specs.declared.index_series.IndexSeries.{IndexSeries}
 use Rattle.index_writing.specs.declared.label_groups.LabelRow.{LabelRow}
 use Rattle.index_writing.specs.declared.label_groups.NameValues.{NameValues}
 use Rattle.index_writing.specs.declared.parts.Parts.{Parts}
-use Rattle.index_file.specs.IndexFile.{header, compare_series}
+use Rattle.index_file.specs.IndexFile.{header, header_size, compare_series, series_unit}
 use Rattle.index_writing.specs.SymbolsInUse.{symbols_of, symbol_of, raw_of}
 use Rattle.index_writing.specs.LabelGroups.{all_entries, rows_of, names_of}
 use Rattle.index_writing.specs.Aligned.{each_at, places_at}
@@ -32,13 +32,17 @@ unfoldable pub up_to_symbols : List (List ℕ) → List ℕ
 up_to_symbols symbols = header ++ symbols_text symbols
 
 abbrev pub up_to_series : List ℕ → List RawSeries → List ℕ
-up_to_series before series = each_at 16 before (map series_text series)
+up_to_series before series = each_at series_unit before (map series_text series)
 
--- a series' number: its place in units of 16 bytes
+-- a series' number: its place in units
 abbrev pub numbers_behind : List ℕ → List RawSeries → List ℕ
-numbers_behind before series = map (λ place. place / 16) (places_at 16 before (map series_text series))
+numbers_behind before series = map (λ place. place / series_unit) (places_at series_unit before (map series_text series))
 
 -- ---- label indices and postings lists
+
+-- each of them stands at a multiple of this
+abbrev pub list_unit : ℕ
+list_unit = 4
 
 abbrev pub label_index_texts : List NameValues → List (List ℕ)
 label_index_texts names = map (λ name. label_index_text name.values) names
@@ -94,17 +98,17 @@ unfoldable pub with_series : Parts → List ℕ
 with_series parts = up_to_series (up_to_symbols parts.symbols) parts.series
 
 unfoldable pub with_label_indices : Parts → List ℕ
-with_label_indices parts = each_at 4 (with_series parts) (label_index_texts parts.names)
+with_label_indices parts = each_at list_unit (with_series parts) (label_index_texts parts.names)
 
 unfoldable pub with_lists : Parts → List ℕ
-with_lists parts = each_at 4 (with_label_indices parts) (list_texts parts.numbers parts.rows)
+with_lists parts = each_at list_unit (with_label_indices parts) (list_texts parts.numbers parts.rows)
 
 -- the places of label indices and of postings lists
 unfoldable pub label_index_places : Parts → List ℕ
-label_index_places parts = places_at 4 (with_series parts) (label_index_texts parts.names)
+label_index_places parts = places_at list_unit (with_series parts) (label_index_texts parts.names)
 
 unfoldable pub list_places : Parts → List ℕ
-list_places parts = places_at 4 (with_label_indices parts) (list_texts parts.numbers parts.rows)
+list_places parts = places_at list_unit (with_label_indices parts) (list_texts parts.numbers parts.rows)
 
 -- the rows of the table of label indices
 abbrev pub offset_rows : Parts → List (List ℕ × ℕ)
@@ -124,8 +128,8 @@ first_or other places = unwrap_or (slice_get places 0) other
 -- indices.
 unfoldable pub toc_of : Parts → Toc
 toc_of parts = record {
-  symbols = 5;
-  series = unwrap_or (option_map (λ number. 16 * number) (slice_get parts.numbers 0)) (length (up_to_symbols parts.symbols));
+  symbols = header_size;
+  series = unwrap_or (option_map (λ number. series_unit * number) (slice_get parts.numbers 0)) (length (up_to_symbols parts.symbols));
   label_indices = first_or 0 (label_index_places parts);
   label_offsets = length (with_lists parts);
   postings = first_or 0 (list_places parts);

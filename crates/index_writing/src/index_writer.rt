@@ -5,7 +5,7 @@ ghost use Rattle.index_parts.specs.SeriesEntry.{StartsAfter};
 ghost use Rattle.index_parts.specs.LabelIndices.{IsLabelOffsets};
 ghost use Rattle.index_parts.specs.Rows.{MayComeAfter, IsPostingsTable};
 ghost use Rattle.index_file.specs.declared.index_series.IndexSeries.{IndexSeries};
-ghost use Rattle.index_file.specs.IndexFile.{IsIndex};
+ghost use Rattle.index_file.specs.IndexFile.{IsIndex, series_unit};
 ghost use Rattle.index_file.specs.LabelTable.{HasLabelIndices};
 ghost use Rattle.index_writing.specs.WriteSteps.{greatest, Makes};
 ghost use Rattle.index_writing.specs.Written.{AreWritable, IsBehind, HaveSmallNumbers, first_or, up_to_symbols, with_series, with_label_indices, with_lists, with_label_offsets, with_table, table_rows, offset_rows, label_index_places, list_places, toc_of, written, parts_of};
@@ -15,7 +15,7 @@ use crate::order::is_behind;
 use crate::parts::{Parts, put_parts};
 use crate::section_places::{put_label_indices, put_lists};
 use crate::section_tables::{put_label_offsets, put_table, put_toc};
-use index_file::IndexSeries;
+use index_file::{HEADER_SIZE, IndexSeries, SERIES_UNIT};
 use index_parts::{ChunkList, Toc};
 use label_sets::LabelSet;
 use list_core::{NoMemory, TryCopy};
@@ -24,7 +24,7 @@ use std::marker::Model;
 use wire_bytes::{Blob, NumberList};
 
 /// The place of the symbols, behind the magic number and the version.
-const SYMBOLS_PLACE: u64 = 5;
+const SYMBOLS_PLACE: u64 = HEADER_SIZE as u64;
 
 /// Collects series in ascending order of their labels, and writes them as an index.
 #[derive(Drop)]
@@ -176,10 +176,10 @@ fn series_place(parts: &Parts) -> u64
     requires small { All (λ number. number < 2 ^ 32) parts.now.numbers }
     ensures { result
         ≡ unwrap_or (option_map
-        (λ number. 16 * number) (slice_get parts.now.numbers 0)) parts.now.symbols_end }
+        (λ number. series_unit * number) (slice_get parts.now.numbers 0)) parts.now.symbols_end }
 {
     match parts.numbers.members().first() {
-        Some(number) => 16 * *number,
+        Some(number) => SERIES_UNIT * *number,
         None => parts.symbols_end,
     }
 }

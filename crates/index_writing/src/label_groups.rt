@@ -1,4 +1,4 @@
-ghost use Rattle.std.specs.Prelude.{◌≡◌, ◌++◌, ◌∷◌, [], ◌==◌, ◌&&◌, map, zip, length, MatchBool, IfOk, OnOk};
+ghost use Rattle.std.specs.Prelude.{◌≡◌, ◌++◌, map, zip, length, IfOk, OnOk};
 ghost use Rattle.std.specs.List.{AllByRecursion};
 ghost use Rattle.index_writing.specs.WriteSteps.{IsStorable};
 ghost use Rattle.index_writing.specs.LabelGroups.{entries_of, all_entries, is_lesser_entry, grouped, row_of_entry, have_same_label, join_series, rows_of, values_of_row, have_same_name, join_values, names_of};
@@ -81,63 +81,131 @@ fn sort_entries(entries: &mut Vec<Entry>) -> Result<(), NoMemory>
     Ok(())
 }
 
-fn row_of_entry(alloc: Global, entry: Entry) -> Result<LabelRow, NoMemory>
-    ensures { IfOk result (λ row. row ≡ row_of_entry entry) }
-{
-    let mut series = NumberList::new(alloc);
-    series.push(entry.series)?;
-    Ok(LabelRow {
-        name: entry.name,
-        value: entry.value,
-        series,
-    })
+/// What neighbours of one kind make: the first of them begins it, and it takes the next ones in.
+trait Group: Drop {
+    ghost use Rattle.std.specs.Prelude.{◌≡◌, true, Bool, cond, IfOk};
+
+    type Member;
+
+    /// The group of one member.
+    ghost of: { Self.Member → Self };
+
+    /// Two groups are of one kind.
+    ghost same: { Self → Self → Bool };
+
+    /// The group of the members of two.
+    ghost join: { Self → Self → Self };
+
+    /// Begins a group.
+    fn of(alloc: Global, member: &Self::Member) -> Result<Self, NoMemory>
+        ensures { IfOk result (λ group. group ≡ of member.now) };
+
+    /// Takes a member in if it is of the group's kind, and tells whether it is.
+    fn take(&mut self, member: &Self::Member) -> Result<bool, NoMemory>
+        ensures kind { IfOk result (λ taken. taken ≡ same self.old (of member.now)) }
+        ensures taken { IfOk result
+            (λ taken. self.new ≡ cond taken (join self.old (of member.now)) self.old) };
+
+    /// A group is of one kind with what two make if it is of one kind with the first of them.
+    ghost same_joined: { (a b c : Self) → same a (join b c) ≡ same a b };
+
+    /// What two of one kind make is of that kind.
+    ghost joined_same: { (a b c : Self) → same a b ≡ true → same (join a b) c ≡ same b c };
+
+    ghost join_assoc: { (a b c : Self) → join (join a b) c ≡ join a (join b c) };
 }
 
-/// Adds an entry to the row that is being made, or lays that one by and begins the next.
-fn next_row(
-    alloc: Global,
-    rows: &mut Vec<LabelRow>,
-    row: LabelRow,
-    entry: Entry,
-) -> Result<LabelRow, NoMemory>
-    ensures { IfOk result
-        (λ next. MatchBool (have_same_label row (row_of_entry entry))
-        ((rows.new.items ≡ rows.old.items) × (next ≡ join_series row (row_of_entry entry)))
-        ((rows.new.items ≡ rows.old.items ++ row ∷ []) × (next ≡ row_of_entry entry))) }
-{
-    let mut row = row;
-    if row.name == entry.name && row.value == entry.value {
-        row.series.push(entry.series)?;
-        return Ok(row);
-    }
-    rows.push(row)?;
-    row_of_entry(alloc, entry)
-}
-
-fn rows_behind(alloc: Global, first: Entry, others: &[Entry]) -> Result<Vec<LabelRow>, NoMemory>
-    ensures { IfOk result
-        (λ rows. rows.items
-        ≡ grouped have_same_label join_series (map row_of_entry (first ∷ others.now))) }
-{
-    let mut rows = Vec::new(alloc);
-    let mut row = row_of_entry(alloc, first)?;
-    for entry in others {
-        row = next_row(alloc, &mut rows, row, *entry)?;
-    }
-    rows.push(row)?;
-    Ok(rows)
-}
-
-/// The rows of entries in order.
+/// The groups that neighbours make, in their order.
 #[tactic(auto, unfolding(crate::specs::LabelGroups::grouped))]
-fn grouped_entries(alloc: Global, entries: &[Entry]) -> Result<Vec<LabelRow>, NoMemory>
-    ensures { IfOk result
-        (λ rows. rows.items ≡ grouped have_same_label join_series (map row_of_entry entries.now)) }
+fn grouped<G: Group>(alloc: Global, members: &[G::Member]) -> Result<Vec<G>, NoMemory>
+    ensures { IfOk result (λ groups. groups.items ≡ grouped G.same G.join (map G.of members.now)) }
 {
-    match entries {
-        [] => Ok(Vec::new(alloc)),
-        [first, others @ ..] => rows_behind(alloc, *first, others),
+    let mut groups = Vec::new(alloc);
+    let [first, others @ ..] = members else {
+        return Ok(groups);
+    };
+    let mut group = G::of(alloc, first)?;
+    for member in others {
+        if !group.take(member)? {
+            groups.push(group)?;
+            group = G::of(alloc, member)?;
+        }
     }
+    groups.push(group)?;
+    Ok(groups)
+}
+
+impl Group for LabelRow {
+    ghost use Rattle.std.proofs.Common.{refl, rules, append_assoc};
+    ghost use Rattle.std.proofs.lemmas.Bool.Decides.{nat_tests};
+
+    type Member = Entry;
+
+    ghost of = { row_of_entry };
+
+    ghost same = { have_same_label };
+
+    ghost join = { join_series };
+
+    fn of(alloc: Global, entry: &Entry) -> Result<Self, NoMemory> {
+        let mut series = NumberList::new(alloc);
+        series.push(entry.series)?;
+        Ok(LabelRow {
+            name: entry.name,
+            value: entry.value,
+            series,
+        })
+    }
+
+    fn take(&mut self, entry: &Entry) -> Result<bool, NoMemory> {
+        let is_same = self.name == entry.name && self.value == entry.value;
+        if is_same {
+            self.series.push(entry.series)?;
+        }
+        Ok(is_same)
+    }
+
+    ghost same_joined = { λ a b c. refl };
+
+    ghost joined_same = { λ a b c is. Prim.search (rules, nat_tests) };
+
+    ghost join_assoc = { λ a b c. Prim.search (rules, append_assoc) };
+}
+
+impl Group for NameValues {
+    ghost use Rattle.std.proofs.Common.{refl, rules, append_assoc};
+    ghost use Rattle.std.proofs.lemmas.Bool.Decides.{nat_tests};
+
+    type Member = LabelRow;
+
+    ghost of = { values_of_row };
+
+    ghost same = { have_same_name };
+
+    ghost join = { join_values };
+
+    fn of(alloc: Global, row: &LabelRow) -> Result<Self, NoMemory> {
+        let mut values = NumberList::new(alloc);
+        values.push(row.value)?;
+        Ok(NameValues {
+            name: row.name,
+            values,
+        })
+    }
+
+    fn take(&mut self, row: &LabelRow) -> Result<bool, NoMemory> {
+        let is_same = self.name == row.name;
+        if is_same {
+            self.values.push(row.value)?;
+        }
+        Ok(is_same)
+    }
+
+    ghost same_joined = { λ a b c. refl };
+
+    ghost joined_same = { λ a b c is. Prim.search (rules, nat_tests) };
+
+    ghost join_assoc = { λ a b c. Prim.search (rules, append_assoc) };
 }
 
 /// The labels of all series in order, each once with the numbers of its series.
@@ -153,66 +221,13 @@ pub(crate) fn rows_of(
 {
     let mut entries = entries_of(alloc, series, numbers)?;
     sort_entries(&mut entries)?;
-    grouped_entries(alloc, entries.as_slice())
-}
-
-fn values_of_row(alloc: Global, row: &LabelRow) -> Result<NameValues, NoMemory>
-    ensures { IfOk result (λ name. name ≡ values_of_row row.now) }
-{
-    let mut values = NumberList::new(alloc);
-    values.push(row.value)?;
-    Ok(NameValues {
-        name: row.name,
-        values,
-    })
-}
-
-/// Adds a row's value to the name that is being made, or lays that one by and begins the next.
-fn next_name(
-    alloc: Global,
-    names: &mut Vec<NameValues>,
-    name: NameValues,
-    row: &LabelRow,
-) -> Result<NameValues, NoMemory>
-    ensures { IfOk result
-        (λ next. MatchBool (have_same_name name (values_of_row row.now))
-        ((names.new.items ≡ names.old.items) × (next ≡ join_values name (values_of_row row.now)))
-        ((names.new.items ≡ names.old.items ++ name ∷ []) × (next ≡ values_of_row row.now))) }
-{
-    let mut name = name;
-    if name.name == row.name {
-        name.values.push(row.value)?;
-        return Ok(name);
-    }
-    names.push(name)?;
-    values_of_row(alloc, row)
-}
-
-fn names_behind(
-    alloc: Global,
-    first: &LabelRow,
-    others: &[LabelRow],
-) -> Result<Vec<NameValues>, NoMemory>
-    ensures { IfOk result
-        (λ names. names.items
-        ≡ grouped have_same_name join_values (map values_of_row (first.now ∷ others.now))) }
-{
-    let mut names = Vec::new(alloc);
-    let mut name = values_of_row(alloc, first)?;
-    for row in others {
-        name = next_name(alloc, &mut names, name, row)?;
-    }
-    names.push(name)?;
-    Ok(names)
+    grouped(alloc, entries.as_slice())
 }
 
 /// The names of rows in order, each once with its values.
-#[tactic(auto, unfolding(crate::specs::LabelGroups::names_of, crate::specs::LabelGroups::grouped))]
+#[tactic(auto, unfolding(crate::specs::LabelGroups::names_of))]
 pub(crate) fn names_of(alloc: Global, rows: &[LabelRow]) -> Result<Vec<NameValues>, NoMemory>
     ensures { IfOk result (λ names. names.items ≡ names_of rows.now) }
 {
-    match rows {
-        [] => Ok(Vec::new(alloc)),
-        [first, others @ ..] => names_behind(alloc, first, others),
-    }
+    grouped(alloc, rows)
 }

@@ -4,13 +4,15 @@ ghost use Rattle.index_parts.specs.Turns.{InOrder};
 ghost use Rattle.index_parts.specs.LabelIndices.{label_index_text};
 ghost use Rattle.index_parts.specs.Postings.{postings_text};
 ghost use Rattle.index_parts.specs.SeriesEntry.{IsSeries, StartsAfter, series_text};
+ghost use Rattle.index_file.specs.IndexFile.{series_unit};
 ghost use Rattle.index_writing.specs.declared.label_groups.LabelRow.{LabelRow};
 ghost use Rattle.index_writing.specs.Aligned.{gap, padded, each_at, places_at};
-ghost use Rattle.index_writing.specs.WriteSteps.{greatest, Makes, IsStorable, EachStands};
-ghost use Rattle.index_writing.specs.Written.{up_to_series, numbers_behind, label_index_texts, list_texts};
+ghost use Rattle.index_writing.specs.WriteSteps.{greatest, Makes, IsStorable, EachStands, most_numbers};
+ghost use Rattle.index_writing.specs.Written.{up_to_series, numbers_behind, label_index_texts, list_texts, list_unit};
 
 use crate::IndexWriteRefusal;
 use crate::label_groups::{LabelRow, NameValues};
+use index_file::SERIES_UNIT;
 use index_parts::RawSeries;
 use list_core::NoMemory;
 use section_writers::{write_label_index, write_postings, write_series};
@@ -19,9 +21,13 @@ use wire_bytes::{FILE_LIMIT, NumberList, put_bytes};
 /// The greatest length of an index.
 pub(crate) const GREATEST: usize = FILE_LIMIT;
 
-const SERIES_UNIT: usize = 16;
+/// A series stands at a multiple of so many bytes, and a list at one of so many.
+const SERIES_BYTES: usize = SERIES_UNIT as usize;
 
 const LIST_UNIT: usize = 4;
+
+/// How many numbers a section may have.
+const MOST_NUMBERS: usize = 1 << 24;
 
 /// Refuses a text that is too long already.
 pub(crate) fn test_size(out: &Vec<u8>) -> Result<(), IndexWriteRefusal>
@@ -35,10 +41,10 @@ pub(crate) fn test_size(out: &Vec<u8>) -> Result<(), IndexWriteRefusal>
 
 /// Refuses a section whose numbers are too many for an index.
 fn test_count(count: usize) -> Result<(), IndexWriteRefusal>
-    ensures { MatchResult result (λ _. count ≤ 2 ^ 24)
-        (λ e. (e ≡ IndexWriteRefusal.TooLarge) × (2 ^ 24 < count)) }
+    ensures { MatchResult result (λ _. count ≤ most_numbers)
+        (λ e. (e ≡ IndexWriteRefusal.TooLarge) × (most_numbers < count)) }
 {
-    if count > 1 << 24 {
+    if count > MOST_NUMBERS {
         return Err(IndexWriteRefusal::TooLarge);
     }
     Ok(())
@@ -48,7 +54,7 @@ fn test_count(count: usize) -> Result<(), IndexWriteRefusal>
 #[tactic(auto, unfolding(crate::specs::Aligned::padded))]
 fn pad(out: &mut Vec<u8>, unit: usize) -> Result<(), NoMemory>
     requires positive { 0 < unit }
-    requires small { unit ≤ 16 }
+    requires small { unit ≤ series_unit }
     requires room { length out.old.items ≤ greatest }
     ensures { OnOk result (out.new.items ≡ padded unit out.old.items) }
 {
@@ -63,14 +69,16 @@ fn put_series(out: &mut Vec<u8>, series: &RawSeries) -> Result<u64, IndexWriteRe
     requires room { length out.old.items ≤ greatest }
     requires as_many { length series.now.names ≡ length series.now.values }
     requires chunks { InOrder StartsAfter series.now.chunks }
-    ensures makes { Makes result out.new.items (padded 16 out.old.items ++ series_text series.now) }
+    ensures makes { Makes result out.new.items
+        (padded series_unit out.old.items ++ series_text series.now) }
     ensures stands { (after : List ℕ)
         → OnOk result
-        (IsSeries (out.new.items ++ after) (length (padded 16 out.old.items)) series.now) }
-    ensures number { IfOk result (λ number. number ≡ length (padded 16 out.old.items) / 16) }
+        (IsSeries (out.new.items ++ after) (length (padded series_unit out.old.items)) series.now) }
+    ensures number { IfOk result
+        (λ number. number ≡ length (padded series_unit out.old.items) / series_unit) }
 {
-    pad(out, SERIES_UNIT)?;
-    let number = (out.len() / SERIES_UNIT) as u64;
+    pad(out, SERIES_BYTES)?;
+    let number = (out.len() / SERIES_BYTES) as u64;
     write_series(out, series)?;
     test_size(out)?;
     Ok(number)
@@ -97,10 +105,10 @@ pub(crate) fn put_all_series(
 /// Appends zero bytes up to the next place of a section of so many numbers, and gives the place.
 fn begin_section(out: &mut Vec<u8>, count: usize) -> Result<u64, IndexWriteRefusal>
     requires room { length out.old.items ≤ greatest }
-    ensures few { OnOk result (count ≤ 2 ^ 24) }
-    ensures begun { OnOk result (out.new.items ≡ padded 4 out.old.items) }
-    ensures place { IfOk result (λ place. place ≡ length (padded 4 out.old.items)) }
-    ensures large { IfErr result (λ e. e ≡ IndexWriteRefusal.TooLarge → 2 ^ 24 < count) }
+    ensures few { OnOk result (count ≤ most_numbers) }
+    ensures begun { OnOk result (out.new.items ≡ padded list_unit out.old.items) }
+    ensures place { IfOk result (λ place. place ≡ length (padded list_unit out.old.items)) }
+    ensures large { IfErr result (λ e. e ≡ IndexWriteRefusal.TooLarge → most_numbers < count) }
 {
     test_count(count)?;
     pad(out, LIST_UNIT)?;
@@ -112,8 +120,8 @@ fn put_label_index(out: &mut Vec<u8>, values: &NumberList) -> Result<u64, IndexW
     requires room { length out.old.items ≤ greatest }
     requires small { All (λ number. number < 2 ^ 32) values.now }
     ensures makes { Makes result out.new.items
-        (padded 4 out.old.items ++ label_index_text values.now) }
-    ensures place { IfOk result (λ place. place ≡ length (padded 4 out.old.items)) }
+        (padded list_unit out.old.items ++ label_index_text values.now) }
+    ensures place { IfOk result (λ place. place ≡ length (padded list_unit out.old.items)) }
 {
     let place = begin_section(out, values.len())?;
     write_label_index(out, values)?;
@@ -130,9 +138,9 @@ pub(crate) fn put_label_indices(
     requires small { AllByRecursion
         (λ name. All (λ number. number < 2 ^ 32) name.values) names.now }
     ensures makes { Makes result out.new.items
-        (each_at 4 out.old.items (label_index_texts names.now)) }
+        (each_at list_unit out.old.items (label_index_texts names.now)) }
     ensures places { IfOk result
-        (λ places. places ≡ places_at 4 out.old.items (label_index_texts names.now)) }
+        (λ places. places ≡ places_at list_unit out.old.items (label_index_texts names.now)) }
 {
     let mut places = NumberList::new(*out.allocator());
     for name in names {
@@ -146,8 +154,8 @@ fn put_list(out: &mut Vec<u8>, numbers: &NumberList) -> Result<u64, IndexWriteRe
     requires room { length out.old.items ≤ greatest }
     requires small { All (λ number. number < 2 ^ 32) numbers.now }
     ensures makes { Makes result out.new.items
-        (padded 4 out.old.items ++ postings_text numbers.now) }
-    ensures place { IfOk result (λ place. place ≡ length (padded 4 out.old.items)) }
+        (padded list_unit out.old.items ++ postings_text numbers.now) }
+    ensures place { IfOk result (λ place. place ≡ length (padded list_unit out.old.items)) }
 {
     let place = begin_section(out, numbers.len())?;
     write_postings(out, numbers)?;
@@ -164,10 +172,11 @@ fn put_row_lists(
     requires room { length out.old.items ≤ greatest }
     requires small { AllByRecursion (λ row. All (λ number. number < 2 ^ 32) row.series) rows.now }
     ensures makes { Makes result out.new.items
-        (each_at 4 out.old.items (map (λ row. postings_text row.series) rows.now)) }
+        (each_at list_unit out.old.items (map (λ row. postings_text row.series) rows.now)) }
     ensures places { IfOk result
         (λ places. places
-        ≡ first ∷ places_at 4 out.old.items (map (λ row. postings_text row.series) rows.now)) }
+        ≡ first ∷ places_at list_unit out.old.items
+        (map (λ row. postings_text row.series) rows.now)) }
 {
     let mut places = NumberList::new(*out.allocator());
     places.push(first)?;
@@ -187,9 +196,9 @@ pub(crate) fn put_lists(
     requires all_small { All (λ number. number < 2 ^ 32) numbers.now }
     requires small { AllByRecursion (λ row. All (λ number. number < 2 ^ 32) row.series) rows.now }
     ensures makes { Makes result out.new.items
-        (each_at 4 out.old.items (list_texts numbers.now rows.now)) }
+        (each_at list_unit out.old.items (list_texts numbers.now rows.now)) }
     ensures places { IfOk result
-        (λ places. places ≡ places_at 4 out.old.items (list_texts numbers.now rows.now)) }
+        (λ places. places ≡ places_at list_unit out.old.items (list_texts numbers.now rows.now)) }
 {
     let first = put_list(out, numbers)?;
     put_row_lists(out, rows, first)

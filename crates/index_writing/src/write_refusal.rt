@@ -2,7 +2,7 @@ ghost use Rattle.std.specs.Prelude.{◌≡◌};
 ghost use Rattle.index_writing.specs.declared.write_refusal.IndexWriteRefusal.TheVariants.{NoMemory as IsNoMemory};
 
 use list_core::NoMemory;
-use std::alloc::{AllocError, AllocFailed};
+use std::alloc::AllocError;
 
 /// Why an index is not written.
 #[derive(Clone, Copy, Debug, PartialEq, Eq)]
@@ -24,14 +24,6 @@ impl From<AllocError> for IndexWriteRefusal {
     ghost from_gives = { λ _ e. e ≡ IsNoMemory };
 
     fn from(_: AllocError) -> Self {
-        IndexWriteRefusal::NoMemory
-    }
-}
-
-impl<T: Drop> From<AllocFailed<T>> for IndexWriteRefusal {
-    ghost from_gives = { λ _ e. e ≡ IsNoMemory };
-
-    fn from(_: AllocFailed<T>) -> Self {
         IndexWriteRefusal::NoMemory
     }
 }
