@@ -1,5 +1,5 @@
 -- What is written of a part reads as that part again.
-use Rattle.std.proofs.Common.{◌≡◌, ℕ, ℤ, pos, negsuc, ◌<◌, ◌^◌, List, [], ◌∷◌, true, false, ltb, Some, is_some, ◌⊎◌, inl, inr, Ok, Err, FitsSigned, w64, refl, arith, codes}
+use Rattle.std.proofs.Common.{◌≡◌, ℕ, ℤ, pos, negsuc, ◌<◌, ◌^◌, List, [], ◌∷◌, true, false, Some, is_some, ◌⊎◌, inl, inr, Ok, Err, FitsSigned, w64, refl, arith, lt-ltb, codes}
 use Rattle.std.proofs.lemmas.Bool.Decides.{nat_tests}
 use Rattle.ulid_core.specs.UlidText as ulid
 use Rattle.ulid_core.proofs.UlidLaws.{ulid_of-only}
@@ -9,13 +9,13 @@ use Rattle.block_meta.specs.declared.parent.Parent.{Parent}
 use Rattle.block_meta.specs.declared.file_size.FileSize.{FileSize}
 use Rattle.block_meta.specs.declared.refusal.MetaRefusal.{MetaRefusal}
 use Rattle.block_meta.specs.declared.refusal.MetaRefusal.TheVariants.{NoMemory}
-use Rattle.block_meta.specs.declared.thanos.Thanos.{Thanos}
 use Rattle.label_sets.specs.declared.label.Label.{Label}
-use Rattle.block_meta.specs.Members.{Read, member_of, needed_of, of_kind, signed_of, unsigned_of, text_of, ulid_of, count_of, list_of, each, section_of, version_of, whole_of, or_absent}
+use Rattle.block_meta.specs.Members.{member_of, needed_of, of_kind, signed_of, unsigned_of, text_of, ulid_of, count_of, list_of, each, section_of, version_of, whole_of, or_absent}
 use Rattle.block_meta.specs.Lawful.{ascending, are_lawful_times}
 use Rattle.block_meta.specs.MetaFields.{MetaFields, MarkFields, thanos_part}
 use Rattle.block_meta.specs.MetaReading.{parent_of, file_of, compaction_members_of, compaction_of, level_of, sources_of, stats_members_of, stats_of, thanos_members_of, thanos_of, labels_of, labels_from, resolution_of, text_or_empty, times_of, meta_of, mark_of, deletion_time_of}
 use Rattle.block_meta.specs.MetaValue.{ulid_value, signed_value, parent_value, file_value, items_value, compaction_value, stats_value, thanos_value, meta_value, mark_value, label_members}
+use Rattle.block_meta.proofs.Lists.{each_again}
 
 pub ulid_again : (name : List ℕ) (u : ℕ) → ulid.IsUlidText (ulid.text_of u) u → ulid_of name (ulid_value u) ≡ Ok u
 unfolding ulid_of text_of of_kind ulid_value
@@ -41,40 +41,22 @@ file_again _ f = refl
 
 pub compaction_again : (level : ℕ) (sources : List ℕ) (parents : List Parent) → level < 2 ^ 32 → each (ulid_of (codes "sources")) (items_value ulid_value sources) ≡ Ok sources → each (parent_of (codes "parents")) (items_value parent_value parents) ≡ Ok parents → compaction_members_of (compaction_value level sources parents) ≡ Ok (record { level = level; sources = ascending sources; parents = parents })
 unfolding compaction_members_of compaction_value level_of sources_of list_of needed_of member_of of_kind unsigned_of
-compaction_again level _ [] fits listed before =
-    let small : ltb level 4294967296 ≡ true = grind (arith, nat_tests) in
-    rw (small, listed) refl
-compaction_again level _ (p ∷ ps) fits listed before =
-    let small : ltb level 4294967296 ≡ true = grind (arith, nat_tests) in
-    rw (small, listed, before) refl
+compaction_again _ _ [] fits listed before = rw (lt-ltb _ _ fits, listed) refl
+compaction_again _ _ (p ∷ ps) fits listed before = rw (lt-ltb _ _ fits, listed, before) refl
 
 pub compaction_again_alone : (level : ℕ) (sources : List ℕ) (parents : List Parent) → level < 2 ^ 32 → each (ulid_of (codes "sources")) (items_value ulid_value sources) ≡ Ok sources → parents ≡ [] → compaction_members_of (compaction_value level sources parents) ≡ Ok (record { level = level; sources = ascending sources; parents = parents })
 unfolding each items_value
 compaction_again_alone _ _ _ fits listed none = rw none (compaction_again _ _ _ fits listed refl)
 
-pub stats_again : (series samples chunks : ℕ) → stats_members_of (stats_value series samples chunks) ≡ Ok (record { series = series; samples = samples; chunks = chunks })
-unfolding stats_members_of stats_value count_of member_of of_kind unsigned_of
-stats_again _ _ _ = refl
-
-thanos_again : (m : MetaFields) → FitsSigned w64 m.resolution → labels_from [] (label_members m.labels) ≡ Ok m.labels → each (text_of (codes "segment_files")) (items_value string m.segment_files) ≡ Ok m.segment_files → each (file_of (codes "files")) (items_value file_value m.files) ≡ Ok m.files → thanos_members_of (thanos_value m) ≡ Ok (thanos_part m)
-unfolding thanos_members_of thanos_value labels_of resolution_of text_or_empty list_of section_of member_of of_kind version_of text_of
-thanos_again m fits labels segments files = rw (labels, signed_again (codes "resolution") m.resolution fits, segments, files) refl
-
-module _ {A : Type 0} (read : Data → Read A) (one : A → Data) (again : (x : A) → read (one x) ≡ Ok x) where
-  all_again : (xs : List A) → each read (items_value one xs) ≡ Ok xs
-  unfolding each items_value
-  all_again [] = refl
-  all_again (x ∷ xs) = rw (again x, all_again xs) refl
-
-text_again : (list text : List ℕ) → text_of list (string text) ≡ Ok text
-unfolding text_of of_kind
-text_again _ _ = refl
-
 pub thanos_written : (m : MetaFields) → FitsSigned w64 m.resolution → labels_from [] (label_members m.labels) ≡ Ok m.labels → thanos_members_of (thanos_value m) ≡ Ok (thanos_part m)
+unfolding thanos_members_of thanos_value labels_of resolution_of text_or_empty list_of section_of member_of of_kind version_of text_of
 thanos_written m fits labels =
-    thanos_again m fits labels
-    (all_again (text_of (codes "segment_files")) string (text_again _) _)
-    (all_again (file_of (codes "files")) file_value (file_again _) _)
+    rw (
+      labels,
+      signed_again (codes "resolution") m.resolution fits,
+      each_again string (text_of (codes "segment_files")) m.segment_files (λ k d lt. refl),
+      each_again file_value (file_of (codes "files")) m.files (λ k d lt. file_again _ _),
+    ) refl
 
 as_integer-of_integer : (z : ℤ) → as_integer (of_integer z) ≡ Some z
 as_integer-of_integer (pos n) = refl
@@ -89,22 +71,17 @@ unfolding times_of meta_value needed_of member_of
 times_again m lawful = rw (whole_again, whole_again, lawful) refl
 
 stats_there : (m : MetaFields) → stats_of (meta_value m) ≡ Ok (record { series = m.series; samples = m.samples; chunks = m.chunks })
-unfolding stats_of meta_value section_of member_of stats_value
-stats_there m = rw (stats_again) refl
+unfolding stats_of meta_value section_of member_of stats_value stats_members_of count_of of_kind unsigned_of
+stats_there m = refl
 
-compaction_not_null : (level : ℕ) (sources : List ℕ) (parents : List Parent) → is_some (as_null (compaction_value level sources parents)) ≡ false
+compaction_is_object : (level : ℕ) (sources : List ℕ) (parents : List Parent) → (is_some (as_null (compaction_value level sources parents)) ≡ false) × (is_some (as_object (compaction_value level sources parents)) ≡ true)
 unfolding compaction_value
-compaction_not_null _ _ [] = refl
-compaction_not_null _ _ (p ∷ ps) = refl
-
-compaction_is_object : (level : ℕ) (sources : List ℕ) (parents : List Parent) → is_some (as_object (compaction_value level sources parents)) ≡ true
-unfolding compaction_value
-compaction_is_object _ _ [] = refl
-compaction_is_object _ _ (p ∷ ps) = refl
+compaction_is_object _ _ [] = (refl, refl)
+compaction_is_object _ _ _ = (refl, refl)
 
 compaction_there : (m : MetaFields) → compaction_of (meta_value m) ≡ compaction_members_of (compaction_value m.level m.sources m.parents)
 unfolding compaction_of meta_value section_of member_of
-compaction_there m = rw (compaction_not_null, compaction_is_object) refl
+compaction_there m = let is = compaction_is_object m.level m.sources m.parents in rw (is.0, is.1) refl
 
 thanos_there : (m : MetaFields) → thanos_of (meta_value m) ≡ thanos_members_of (thanos_value m)
 unfolding thanos_of meta_value section_of member_of thanos_value
@@ -120,17 +97,16 @@ meta_again m written lawful rising compaction thanos =
 
 pub mark_again : (m : MarkFields) → ulid.IsUlidText (ulid.text_of m.id) m.id → m.deletion_time < 2 ^ 46 → mark_of (mark_value m) ≡ Ok m
 unfolding mark_of mark_value needed_of member_of version_of ulid_value deletion_time_of unsigned_of of_kind text_or_empty text_of
-mark_again m written early =
-    let small : ltb m.deletion_time 70368744177664 ≡ true = grind (arith, nat_tests) in
-    rw (ulid_again, small) refl
+mark_again _ written early = rw (ulid_again, lt-ltb _ _ early) refl
 
 -- ---- reading the members of `thanos`
 
-pub thanos_read : (t : Data) (made : Thanos) → or_absent tt version_of (member_of (codes "version") t) ≡ Ok tt → labels_of t ≡ Ok made.labels → resolution_of t ≡ Ok made.resolution → text_or_empty (codes "source") t ≡ Ok made.source → list_of text_of (codes "segment_files") t ≡ Ok made.segment_files → list_of file_of (codes "files") t ≡ Ok made.files → thanos_members_of t ≡ Ok made
-unfolding thanos_members_of
-thanos_read t _ version labels resolution source segments files = rw (version, labels, resolution, source, segments, files) refl
+module _ (t : Data) (labels : List Label) (resolution : ℤ) (source : List ℕ) (segments : List (List ℕ)) (v : or_absent tt version_of (member_of (codes "version") t) ≡ Ok tt) (l : labels_of t ≡ Ok labels) (r : resolution_of t ≡ Ok resolution) (s : text_or_empty (codes "source") t ≡ Ok source) (g : list_of text_of (codes "segment_files") t ≡ Ok segments) where
+  pub thanos_read : (files : List FileSize) → list_of file_of (codes "files") t ≡ Ok files → thanos_members_of t ≡ Ok (record { labels = labels; resolution = resolution; source = source; segment_files = segments; files = files })
+  unfolding thanos_members_of
+  thanos_read _ f = rw (v, l, r, s, g, f) refl
 
-pub thanos_files_refused : (t : Data) (labels : List Label) (resolution : ℤ) (source : List ℕ) (segments : List (List ℕ)) (e : MetaRefusal) → or_absent tt version_of (member_of (codes "version") t) ≡ Ok tt → labels_of t ≡ Ok labels → resolution_of t ≡ Ok resolution → text_or_empty (codes "source") t ≡ Ok source → list_of text_of (codes "segment_files") t ≡ Ok segments → (e ≡ NoMemory) ⊎ (list_of file_of (codes "files") t ≡ Err e) → (e ≡ NoMemory) ⊎ (thanos_members_of t ≡ Err e)
-unfolding thanos_members_of
-thanos_files_refused t _ _ _ _ e v l r s g (inl memory) = inl memory
-thanos_files_refused t _ _ _ _ e v l r s g (inr files) = inr (rw (v, l, r, s, g, files) refl)
+  pub thanos_files_refused : (e : MetaRefusal) → (e ≡ NoMemory) ⊎ (list_of file_of (codes "files") t ≡ Err e) → (e ≡ NoMemory) ⊎ (thanos_members_of t ≡ Err e)
+  unfolding thanos_members_of
+  thanos_files_refused _ (inl memory) = inl memory
+  thanos_files_refused _ (inr f) = inr (rw (v, l, r, s, g, f) refl)

@@ -1,12 +1,15 @@
 -- The labels of an object: what is read of its members is the set that they make, and such a set is read.
-use Rattle.std.proofs.Common.{◌≡◌, ◌≢◌, ℕ, List, [], ◌∷◌, length, false, ◌==◌, Option, Some, None, is_some, option_map, Ok, ◌⊎◌, inl, inr, refl, sym, ap, subst, ◌∙◌, arith, codes}
+use Rattle.std.proofs.Common.{◌≡◌, ◌≢◌, ℕ, List, [], ◌∷◌, Option, Some, None, option_map, Ok, ◌⊎◌, inl, inr, refl, sym, ap, subst, ◌∙◌, codes}
 use Rattle.std.specs.declared.cmp.Ordering.{Ordering}
 use Rattle.std.specs.declared.cmp.Ordering.TheVariants.{Less, Equal, Greater}
+use Rattle.std.specs.Option.{option_or}
 use Rattle.std.specs.Ordering.{match_ordering}
-use Rattle.std.proofs.lemmas.Bool.Decides.{nat_tests}
+use Rattle.list_core.proofs.Bools.{by_order}
+use Rattle.list_core.proofs.Lists.{some-from_length, length-some}
+use Rattle.list_core.proofs.Options.{some_not_none, None-from_is_some, option_map-Some}
 use Rattle.reading_core.specs.Reading.{◌>>=◌}
-use Rattle.reading_core.proofs.Binds.{bind_ok, ok_is, cond_ok}
-use Rattle.reading_core.proofs.Bound.{OfValue, of_bind, of_refused}
+use Rattle.reading_core.proofs.Binds.{ok_is, cond_ok}
+use Rattle.reading_core.proofs.Bound.{OfValue, of_ok, of_weaker, of_bind, of_refused}
 use Rattle.label_sets.specs.declared.label.Label.{Label}
 use Rattle.label_sets.specs.declared.label_refusal.LabelRefusal.{LabelRefusal}
 use Rattle.label_sets.specs.Labels.{compare_texts, IsLabelSet, has_lesser_name, value_of, added}
@@ -15,19 +18,17 @@ use Rattle.label_sets.proofs.LabelValues.{compare_self, before_differs, same_tex
 use Rattle.label_sets.proofs.OrderedLabels.{value_of-placed, IsLabelSet-placed}
 use Rattle.serde_json.specs.Data.{Data, string, Members, no_members, member}
 use Rattle.serde_json.specs.Find.{get_member, as_object}
-use Rattle.block_meta.specs.declared.refusal.MetaRefusal.{MetaRefusal}
-use Rattle.block_meta.specs.Members.{of_kind}
+use Rattle.block_meta.specs.Members.{of_kind, text_of}
 use Rattle.block_meta.specs.MetaReading.{label_added, labels_from}
 use Rattle.block_meta.specs.MetaText.{NamesDiffer, AreLabels}
-use Rattle.block_meta.proofs.Found.{IsReadAs, text, members_found as object_members_found}
-use Rattle.list_core.proofs.Bools.{by_order}
+use Rattle.block_meta.proofs.Found.{IsReadAs, step, text, members_found as object_members_found}
 
 -- ---- members by name
 
 pub same_or_not : (a b : List ℕ) → (a ≡ b) ⊎ (a ≢ b)
 same_or_not a b = by_order _ (λ e. inr (before_differs a b e)) (λ e. inl (same_text a b e)) (λ e. inr (λ h. let f = subst (λ n. compare_texts a n ≡ Equal) h (compare_self a) in cc))
 
-member_hit : (name : List ℕ) (value : Data) (others : Members) → get_member name (member name value others) ≡ Some value
+pub member_hit : (name : List ℕ) (value : Data) (others : Members) → get_member name (member name value others) ≡ Some value
 member_hit _ _ _ = rw compare_self refl
 
 miss_at : (o : Ordering) (r s : Option Data) → o ≢ Equal → match_ordering o r s r ≡ r
@@ -40,61 +41,36 @@ member_miss _ _ _ _ differ = miss_at _ _ _ (λ e. differ (same_text _ _ e))
 
 -- ---- one label more
 
-filled_is : (text : List ℕ) → (length text == 0) ≡ false → text ≢ []
-filled_is [] e h = absurd cc
-filled_is (x ∷ xs) e h = cc
-
-is_filled : (text : List ℕ) → text ≢ [] → (length text == 0) ≡ false
-is_filled [] h = absurd (h refl)
-is_filled (x ∷ xs) h = grind (arith, nat_tests)
-
-none_is : (o : Option (List ℕ)) → is_some o ≡ false → o ≡ None
-none_is None e = refl
-none_is (Some t) e = absurd cc
-
--- the value is the text of a label, whose name and value are not empty
-record IsFilled (name : List ℕ) (value : Data) : Type 0 where
+-- the value is a text, and with it the second set has a label more than the first
+record IsOneMore (labels more : List Label) (name : List ℕ) (value : Data) : Type 0 where
   text : List ℕ
   is_text : value ≡ string text
-  named : name ≢ []
-  valued : text ≢ []
-
--- the second set has that label more than the first
-record IsOneMore (labels more : List Label) (name : List ℕ) (value : Data) : Type 0 where
-  filled : IsFilled name value
   missed : value_of labels name ≡ None
-  here : value_of more name ≡ Some filled.text
+  here : value_of more name ≡ Some text
   others : (other : List ℕ) → name ≢ other → value_of more other ≡ value_of labels other
   lawful : IsLabelSet more
 
-one_more : (labels more : List Label) (name : List ℕ) (value : Data) (filled : IsFilled name value) → value_of labels name ≡ None → more ≡ placed has_lesser_name (record { name = name; value = filled.text }) labels → IsLabelSet labels → IsOneMore labels more name value
-one_more labels more name value filled missed is lawful =
-    let l : Label = record { name = name; value = filled.text } in
-    record {
-      filled = filled;
-      missed = missed;
-      here = ap (λ (ls : List Label). value_of ls name) is ∙ value_of-placed l labels name ∙ value_hit l labels name refl;
-      others = λ other differ. ap (λ (ls : List Label). value_of ls other) is ∙ value_of-placed l labels other ∙ value_miss l labels other differ;
-      lawful = subst IsLabelSet (sym is) (IsLabelSet-placed l labels filled.named filled.valued missed lawful);
-    }
-
-more_found : (labels more : List Label) (name : List ℕ) (value : Data) → label_added labels name value ≡ Ok more → IsLabelSet labels → IsOneMore labels more name value
+more_found : (labels : List Label) (name : List ℕ) (value : Data) → IsLabelSet labels → OfValue (label_added labels name value) (λ more. IsOneMore labels more name value)
 unfolding label_added added
-more_found labels more name value e lawful =
-    let found = of_bind _ ((text _).found value) (λ t is. of_refused _ (added labels name t) (λ more e.
+more_found labels name value lawful =
+    step (text _) (λ t is. of_refused _ (added labels name t) (λ more e.
     let named = cond_ok _ _ _ _ e in
     let valued = cond_ok _ _ _ _ named.1 in
     let missed = cond_ok _ _ _ _ valued.1 in
-    let filled : IsFilled name value = record { text = t; is_text = is; named = filled_is _ named.0; valued = filled_is t valued.0 } in
-    one_more _ _ _ value filled (none_is _ missed.0) (sym (ok_is {E = LabelRefusal} _ _ missed.1)) lawful)) in
-    found.holds more e
+    let none = None-from_is_some _ missed.0 in
+    let l : Label = record { name = name; value = t } in
+    subst (λ more. IsOneMore labels more name value) (ok_is {E = LabelRefusal} _ _ missed.1) (record {
+      text = t;
+      is_text = is;
+      missed = none;
+      here = value_of-placed l labels name ∙ value_hit l labels name refl;
+      others = λ other differ. value_of-placed l labels other ∙ value_miss l labels other differ;
+      lawful = IsLabelSet-placed l labels (some-from_length name named.0) (some-from_length t valued.0) none lawful;
+    })))
 
-more_read : (labels : List Label) (name : List ℕ) (value : Data) → IsFilled name value → value_of labels name ≡ None → (more : List Label) × (label_added labels name value ≡ Ok more)
-unfolding label_added added
-more_read labels name value filled missed = (
-  placed has_lesser_name (record { name = name; value = filled.text }) labels,
-  rw ((text _).only value filled.text filled.is_text, is_filled name filled.named, is_filled filled.text filled.valued, missed) refl,
-)
+more_read : (labels : List Label) (name text : List ℕ) → name ≢ [] → text ≢ [] → value_of labels name ≡ None → (more : List Label) × (label_added labels name (string text) ≡ Ok more)
+unfolding label_added added text_of of_kind
+more_read labels name text named valued missed = (placed has_lesser_name (record { name = name; value = text }) labels, rw (length-some name named, length-some text valued, missed) refl)
 
 -- ---- all labels
 
@@ -102,71 +78,47 @@ more_read labels name value filled missed = (
 record AreRead (first labels : List Label) (members : Members) : Type 0 where
   differ : NamesDiffer members
   lawful : IsLabelSet labels
-  apart : (name : List ℕ) (value : Data) → get_member name members ≡ Some value → value_of first name ≡ None
-  kept : (name text : List ℕ) → value_of first name ≡ Some text → value_of labels name ≡ Some text
-  same : (name : List ℕ) → value_of first name ≡ None → get_member name members ≡ option_map string (value_of labels name)
+  apart : (name text : List ℕ) → value_of first name ≡ Some text → get_member name members ≡ None
+  same : (name : List ℕ) → option_map string (value_of labels name) ≡ option_or (option_map string (value_of first name)) (get_member name members)
 
-read_none : (first labels : List Label) → first ≡ labels → IsLabelSet first → AreRead first labels no_members
-read_none _ _ is lawful = record {
-  differ = tt;
-  lawful = subst IsLabelSet is lawful;
-  apart = λ name value e. absurd cc;
-  kept = λ name text e. subst (λ ls. value_of ls name ≡ Some text) is e;
-  same = λ name e. let none = subst (λ ls. value_of ls name ≡ None) is e in rw none refl;
-}
+module _ (first more labels : List Label) (name : List ℕ) (value : Data) (others : Members) (one : IsOneMore first more name value) where
+  same_at : (other : List ℕ) → option_or (option_map string (value_of first other)) (get_member other (member name value others)) ≡ option_or (option_map string (value_of more other)) (get_member other others)
+  same_at other = elim (same_or_not name other) [
+    | inl is ↦ subst (λ n. option_or (option_map string (value_of first n)) (get_member n (member name value others)) ≡ option_or (option_map string (value_of more n)) (get_member n others)) is
+        (rw (one.missed, member_hit name value others, one.here) (ap (λ v. Some v) one.is_text))
+    | inr not ↦ rw (one.others other not, member_miss other name value others (λ is. not (sym is))) refl
+  ]
 
-absent_at : (more : List Label) (name text : List ℕ) (o : Option Data) → value_of more name ≡ Some text → ((value : Data) → o ≡ Some value → value_of more name ≡ None) → o ≡ None
-absent_at _ _ _ None here apart = refl
-absent_at _ _ _ (Some value) here apart = let none = apart value refl in absurd cc
+  read_more : AreRead more labels others → AreRead first labels (member name value others)
+  read_more read = record {
+    differ = (read.apart name _ one.here, read.differ);
+    lawful = read.lawful;
+    apart = λ other t e.
+        let not : name ≢ other = λ is. some_not_none _ _ e (subst (λ n. value_of first n ≡ None) is one.missed) in
+        member_miss other name value others (λ is. not (sym is)) ∙ read.apart other t (one.others other not ∙ e);
+    same = λ other. read.same other ∙ sym (same_at other);
+  }
 
-read_more : (first more labels : List Label) (name : List ℕ) (value : Data) (others : Members) → IsOneMore first more name value → AreRead more labels others → AreRead first labels (member name value others)
-read_more first more labels name value others one read = record {
-  differ = (absent_at _ _ _ _ one.here (λ v e. read.apart name v e), read.differ);
-  lawful = read.lawful;
-  apart = λ other v e. elim (same_or_not _ _) [
-    | inl is ↦ subst (λ n. value_of first n ≡ None) is one.missed
-    | inr not ↦ sym (one.others other not) ∙ read.apart other v (sym (member_miss _ _ _ others (λ h. not (sym h))) ∙ e)
-  ];
-  kept = λ other text e. elim (same_or_not _ _) [
-    | inl is ↦ let none : value_of first other ≡ None = subst (λ (n : List ℕ). value_of first n ≡ None) is one.missed in absurd cc
-    | inr not ↦ read.kept other text (one.others other not ∙ e)
-  ];
-  same = λ other e. elim (same_or_not _ _) [
-    | inl is ↦ subst (λ (n : List ℕ). get_member n (member name value others) ≡ option_map string (value_of labels n)) is
-        (member_hit name _ others ∙ ap (λ v. Some v) one.filled.is_text ∙ sym (ap (option_map string) (read.kept name one.filled.text one.here)))
-    | inr not ↦ member_miss _ _ _ _ (λ h. not (sym h)) ∙ read.same other (one.others other not ∙ e)
-  ];
-}
+  read_less : AreRead first labels (member name value others) → AreRead more labels others
+  read_less read = record {
+    differ = read.differ.1;
+    lawful = read.lawful;
+    apart = λ other t e. elim (same_or_not name other) [
+      | inl is ↦ subst (λ n. get_member n others ≡ None) is read.differ.0
+      | inr not ↦ sym (member_miss other name value others (λ is. not (sym is))) ∙ read.apart other t (sym (one.others other not) ∙ e)
+    ];
+    same = λ other. read.same other ∙ same_at other;
+  }
 
-members_found : (members : Members) (first labels : List Label) → IsLabelSet first → labels_from first members ≡ Ok labels → AreRead first labels members
+or_none : (o : Option Data) → o ≡ option_or o None
+or_none None = refl
+or_none (Some d) = refl
+
+members_found : (members : Members) (first : List Label) → IsLabelSet first → OfValue (labels_from first members) (λ labels. AreRead first labels members)
 unfolding labels_from
-members_found no_members first labels lawful e = read_none first labels (ok_is {E = MetaRefusal} _ _ e) lawful
-members_found (member name value others) first labels lawful e =
-    let p = bind_ok (label_added first name value) _ labels e in
-    let one = more_found first p.0 _ _ p.1 lawful in
-    read_more _ _ _ _ value others one (members_found others _ _ one.lawful p.2)
-
--- a name of a later member is another one
-later_differs : (name other : List ℕ) (value : Data) (others : Members) → get_member name others ≡ None → get_member other others ≡ Some value → name ≢ other
-later_differs _ _ _ others none e h = let f = subst (λ n. get_member n others ≡ None) h none in absurd cc
-
-members_only : (members : Members) (first : List Label) → IsLabelSet first → NamesDiffer members → ((name : List ℕ) (value : Data) → get_member name members ≡ Some value → IsFilled name value) → ((name : List ℕ) (value : Data) → get_member name members ≡ Some value → value_of first name ≡ None) → (made : List Label) × (labels_from first members ≡ Ok made)
-unfolding labels_from
-members_only no_members first lawful differ filled apart = (first, refl)
-members_only (member name value others) first lawful differ filled apart =
-    let full = filled name value (member_hit name value others) in
-    let more = more_read first name value full (apart name value (member_hit name value others)) in
-    let one = more_found _ _ _ _ more.1 lawful in
-    let later = λ (other : List ℕ) (v : Data) (e : get_member other others ≡ Some v). later_differs name other v others differ.0 e in
-    let still = λ (other : List ℕ) (v : Data) (e : get_member other others ≡ Some v). member_miss other _ _ others (λ h. later other v e (sym h)) ∙ e in
-    let rest = members_only others more.0 one.lawful differ.1 (λ other v e. filled other v (still other v e)) (λ other v e. one.others other (later other v e) ∙ apart other v (still other v e)) in
-    (rest.0, rw more.1 rest.1)
-
--- ---- the object
-
-text_at : (o : Option (List ℕ)) (value : Data) → option_map string o ≡ Some value → (text : List ℕ) × (o ≡ Some text) × (value ≡ string text)
-text_at None _ e = absurd cc
-text_at (Some t) _ e = (t, refl, cc)
+members_found no_members first lawful = of_ok (record { differ = tt; lawful = lawful; apart = λ name t e. refl; same = λ name. or_none _ })
+members_found (member name value others) first lawful =
+    of_bind _ (more_found first name value lawful) (λ more one. of_weaker (λ labels. read_more _ _ labels _ _ others one) (members_found others more one.lawful))
 
 set_filled : (labels : List Label) (name text : List ℕ) → IsLabelSet labels → value_of labels name ≡ Some text → (name ≢ []) × (text ≢ [])
 set_filled [] name _ lawful e = let none = value_nil name in absurd cc
@@ -177,28 +129,35 @@ set_filled (l ∷ ls) name text lawful e = elim (same_or_not _ name) [
 
 texts_same : (o p : Option (List ℕ)) → option_map string o ≡ option_map string p → o ≡ p
 texts_same None None e = refl
-texts_same None (Some t) e = absurd cc
-texts_same (Some t) None e = absurd cc
 texts_same (Some t) (Some u) e = cc
+texts_same _ _ e = absurd cc
 
-labels_found : (value : Data) → OfValue (of_kind (codes "labels") (as_object value) >>= labels_from []) (AreLabels value)
-labels_found value = of_bind _ (object_members_found (codes "labels") value) (λ members is. record {
-  holds = λ labels e.
-      let read = members_found _ _ _ tt e in
-      record { members = members; is_object = is; differ = read.differ; lawful = read.lawful; same = λ name. read.same name (value_nil name) };
-})
+none_at : (o : Option (List ℕ)) → ((text : List ℕ) → o ≢ Some text) → o ≡ None
+none_at None h = refl
+none_at (Some t) h = absurd (h t refl)
 
-labels_only : (value : Data) (labels : List Label) → AreLabels value labels → (of_kind (codes "labels") (as_object value) >>= labels_from []) ≡ Ok labels
-unfolding of_kind
-labels_only _ labels are =
-    let filled = λ (name : List ℕ) (v : Data) (e : get_member name are.members ≡ Some v).
-    let t = text_at _ v (sym (are.same name) ∙ e) in
-    let full = set_filled _ _ _ are.lawful t.1 in
-    let is : IsFilled name v = record { text = t.0; is_text = t.2; named = full.0; valued = full.1 } in is in
-    let made = members_only _ _ tt are.differ filled (λ name v e. value_nil name) in
-    let read = members_found _ _ _ tt made.1 in
-    let is = same_sets _ _ read.lawful are.lawful (λ name. texts_same _ _ (sym (read.same name (value_nil _)) ∙ are.same name)) in
-    rw are.is_object (made.1 ∙ ap (λ ls. Ok ls) is)
+members_only : (members : Members) (first labels : List Label) → IsLabelSet first → AreRead first labels members → labels_from first members ≡ Ok labels
+unfolding labels_from
+members_only no_members first labels lawful read = ap (λ ls. Ok ls) (same_sets _ _ lawful read.lawful (λ name. texts_same _ _ (or_none _ ∙ sym (read.same name))))
+members_only (member name value others) first labels lawful read =
+    let missed = none_at (value_of first name) (λ t e. some_not_none _ _ (member_hit name value others) (read.apart name t e)) in
+    let t = option_map-Some string (value_of labels name) value (read.same name ∙ rw (missed, member_hit name value others) refl) in
+    let full = set_filled labels name t.0 read.lawful t.1 in
+    let more = more_read first name t.0 full.0 full.1 missed in
+    let made = subst (λ v. label_added first name v ≡ Ok more.0) t.2 more.1 in
+    let one = (more_found first name value lawful).holds more.0 made in
+    rw made (members_only others more.0 labels one.lawful (read_less _ _ _ _ _ _ one read))
 
 pub labels_read : IsReadAs (λ value. of_kind (codes "labels") (as_object value) >>= labels_from []) AreLabels
-labels_read = record { found = labels_found; only = labels_only }
+unfolding of_kind
+labels_read = record {
+  found = λ value. of_bind _ (object_members_found (codes "labels") value) (λ members is. of_weaker (λ labels read.
+      record { members = members; is_object = is; differ = read.differ; lawful = read.lawful; same = λ name. sym (rw value_nil at (read.same name)) })
+      (members_found members [] tt));
+  only = λ are. rw are.is_object (members_only are.members [] _ tt (record {
+    differ = are.differ;
+    lawful = are.lawful;
+    apart = λ name t e. absurd (some_not_none _ _ e (value_nil name));
+    same = λ name. rw value_nil (sym (are.same name));
+  }));
+}

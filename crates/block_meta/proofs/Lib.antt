@@ -6,7 +6,6 @@ pub mod Rising
 pub mod LabelMembers
 pub mod Found
 pub mod FoundLabels
-pub mod FoundLists
 pub mod FoundSections
 pub mod FoundTexts
 pub mod AscendingOnce

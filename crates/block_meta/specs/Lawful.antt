@@ -2,16 +2,21 @@
 use Rattle.std.specs.Prelude.{ℕ, ℤ, pos, neg_ℤ, ◌<ℤ◌, ◌≤ℤ◌, ◌^◌, ◌&&◌, Bool, int_lt, int_le, List, [], fold}
 use Rattle.std.specs.BTreeSet.{insert_key}
 use Rattle.std.specs.Ordering.{nat_cmp}
+use Rattle.label_sets.specs.Limits.{time_limit}
 
--- the first is below the second, and both are at most 2^62 from zero
+-- the first is below the second, and neither is further from zero than a time may be
 pub record AreLawfulTimes (min max : ℤ) : Type 0 where
-  pub early : neg_ℤ (pos (2 ^ 62)) ≤ℤ min
+  pub early : neg_ℤ (pos time_limit) ≤ℤ min
   pub ascend : min <ℤ max
-  pub late : max ≤ℤ pos (2 ^ 62)
+  pub late : max ≤ℤ pos time_limit
 
 -- the test of that
 unfoldable pub are_lawful_times : ℤ → ℤ → Bool
-are_lawful_times min max = int_le (neg_ℤ (pos (2 ^ 62))) min && int_lt min max && int_le max (pos (2 ^ 62))
+are_lawful_times min max = int_le (neg_ℤ (pos time_limit)) min && int_lt min max && int_le max (pos time_limit)
+
+-- a mark's second of deletion is below this one
+abbrev pub deletion_limit : ℕ
+deletion_limit = 2 ^ 46
 
 -- the listed numbers ascending, each once
 abbrev pub ascending : List ℕ → List ℕ

@@ -14,7 +14,7 @@ use Rattle.block_meta.specs.declared.times.Times.{Times}
 use Rattle.block_meta.specs.declared.stats.Stats.{Stats}
 use Rattle.block_meta.specs.declared.compaction.Compaction.{Compaction}
 use Rattle.block_meta.specs.declared.thanos.Thanos.{Thanos}
-use Rattle.block_meta.specs.Lawful.{are_lawful_times, ascending}
+use Rattle.block_meta.specs.Lawful.{are_lawful_times, ascending, deletion_limit}
 use Rattle.block_meta.specs.Members.{Read, object_of, member_of, needed_of, section_of, of_kind, unsigned_of, signed_of, whole_of, text_of, ulid_of, version_of, count_of, list_of, or_absent}
 use Rattle.block_meta.specs.MetaFields.{MetaFields, MarkFields, no_thanos}
 
@@ -142,7 +142,7 @@ meta_of_text text = object_of text >>= meta_of
 unfoldable pub deletion_time_of : Data → Read ℕ
 deletion_time_of mark = do
   time ← needed_of (codes "deletion_time") mark >>= unsigned_of (codes "deletion_time")
-  unless (nat_lt time (2 ^ 46)) (WrongKind (codes "deletion_time"))
+  unless (nat_lt time deletion_limit) (WrongKind (codes "deletion_time"))
   Ok time
 
 -- the deletion mark that a JSON object is

@@ -11,7 +11,7 @@ use Rattle.serde_json.specs.Read.{read}
 use Rattle.serde_json.specs.Find.{get, get_member, as_i64, as_integer}
 use Rattle.block_meta.specs.declared.parent.Parent.{Parent}
 use Rattle.block_meta.specs.declared.file_size.FileSize.{FileSize}
-use Rattle.block_meta.specs.Lawful.{AreLawfulTimes}
+use Rattle.block_meta.specs.Lawful.{AreLawfulTimes, deletion_limit}
 use Rattle.block_meta.specs.declared.stats.Stats.{Stats}
 use Rattle.block_meta.specs.declared.compaction.Compaction.{Compaction}
 use Rattle.block_meta.specs.declared.thanos.Thanos.{Thanos}
@@ -158,7 +158,7 @@ pub record IsMark (value : Data) (mark : MarkFields) : Type 0 where
   pub version : Has IsVersion (codes "version") value tt
   pub id : Has IsUlid (codes "id") value mark.id
   pub deletion_time : Has IsUnsigned (codes "deletion_time") value mark.deletion_time
-  pub early : mark.deletion_time < 2 ^ 46
+  pub early : mark.deletion_time < deletion_limit
   pub details : HasOr [] IsText (codes "details") value mark.details
 
 -- The text is that of a deletion mark with these fields.

@@ -1,4 +1,5 @@
-ghost use Rattle.std.specs.Prelude.{◌≡◌, ◌<◌, ◌^◌, IfOk};
+ghost use Rattle.std.specs.Prelude.{◌≡◌, ◌<◌, IfOk};
+ghost use Rattle.block_meta.specs.Lawful.{deletion_limit};
 
 use crate::MetaRefusal;
 use crate::item::Item;
@@ -20,7 +21,7 @@ pub struct DeletionMark {
     pub deletion_time: u64,
     /// Why, as `compacted` or `covered`.
     pub details: Text,
-    pub ghost early: { deletion_time < 2 ^ 46 },
+    pub ghost early: { deletion_time < deletion_limit },
 }
 
 /// 2^46
@@ -70,7 +71,7 @@ impl DeletionMark {
     fn read_time(alloc: Global, mark: &Value) -> Result<u64, MetaRefusal>
         ensures gives { Gives WithoutMemory (λ time. time) result
             (deletion_time_of (view mark.now)) }
-        ensures early { IfOk result (λ time. time < 2 ^ 46) }
+        ensures early { IfOk result (λ time. time < deletion_limit) }
     {
         let time = unsigned(
             alloc,

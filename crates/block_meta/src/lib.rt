@@ -15,11 +15,13 @@ mod sources;
 mod stats;
 mod thanos;
 mod times;
+mod ulid_sets;
 
 pub use block_plan::{BlockPlan, own_sources};
 pub use deletion_mark::DeletionMark;
 pub use file_size::{FileSize, FileSizeList};
-pub use meta::Meta;
+pub use meta::{Meta, later_end};
 pub use of_blocks::{mark_of, meta_of};
 pub use parent::{Parent, ParentList};
 pub use refusal::MetaRefusal;
+pub use ulid_sets::{add_all, ulids_in};

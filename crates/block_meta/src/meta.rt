@@ -1,4 +1,5 @@
 ghost use Rattle.std.specs.Prelude.{◌≡◌, ◌<ℤ◌, ◌≤ℤ◌, pos, neg_ℤ, ◌^◌};
+ghost use Rattle.std.specs.Int.{int_max};
 ghost use Rattle.std.specs.List.Sorted.{IsStrictlyIncreasing};
 ghost use Rattle.block_meta.specs.Lawful.{AreLawfulTimes};
 
@@ -176,4 +177,11 @@ impl TryCopy for Meta {
             segment_files: self.segment_files.copy()?,
         })
     }
+}
+
+/// The later of a time and a block's end.
+pub fn later_end(meta: &Meta, time: i64) -> i64
+    ensures { result ≡ int_max time meta.now.max_time }
+{
+    time.max(meta.max_time)
 }

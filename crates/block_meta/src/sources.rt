@@ -12,6 +12,7 @@ ghost use Rattle.block_meta.specs.MetaValue.{ulid_value};
 use crate::MetaRefusal;
 use crate::item::{Item, read_list};
 use crate::json_values::ulid;
+use crate::ulid_sets::{add_all, ulids_in};
 use list_core::NoMemory;
 use serde_json::Value;
 use std::alloc::{AllocError, Global};
@@ -49,25 +50,15 @@ fn in_order(alloc: Global, listed: &[Ulid]) -> Result<UlidList, NoMemory>
     ensures value { IfOk result (λ made. made ≡ ascending listed.now) }
     ensures increasing { IfOk result (λ made. IsStrictlyIncreasing made) }
 {
-    members(alloc, &set_of(alloc, listed)?)
+    ulids_in(alloc, &set_of(alloc, listed)?)
 }
 
 fn set_of(alloc: Global, listed: &[Ulid]) -> Result<BTreeSet<Ulid>, NoMemory>
     ensures { IfOk result (λ set. set.keys ≡ ascending listed.now) }
 {
     let mut set = BTreeSet::new(alloc);
-    for ulid in listed {
-        set.insert(*ulid)?;
-    }
+    add_all(&mut set, listed)?;
     Ok(set)
-}
-
-fn members(alloc: Global, set: &BTreeSet<Ulid>) -> Result<UlidList, NoMemory>
-    ensures value { IfOk result (λ made. made ≡ set.now.keys) }
-    ensures increasing { IfOk result (λ made. IsStrictlyIncreasing made) }
-{
-    let members: Vec<Ulid> = set.iter().copied().collect(alloc)?;
-    Ok(UlidList::from_vec(members))
 }
 
 #[tactic(auto, unfolding(crate::specs::MetaValue::ulid_value), using(crate::proofs::Again::ulid_again))]

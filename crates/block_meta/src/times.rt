@@ -1,12 +1,14 @@
-ghost use Rattle.std.specs.Prelude.{◌≡◌, ◌≤ℤ◌, pos, neg_ℤ, ◌^◌, IfOk, IsTrue};
+ghost use Rattle.std.specs.Prelude.{◌≡◌, ◌≤ℤ◌, pos, neg_ℤ, IfOk, IsTrue};
 ghost use Rattle.reading_core.specs.Reading.{Gives};
 ghost use Rattle.serde_json.specs.View.{view};
+ghost use Rattle.label_sets.specs.Limits.{time_limit};
 ghost use Rattle.block_meta.specs.declared.refusal.MetaRefusal.TheVariants.{NoMemory};
 ghost use Rattle.block_meta.specs.Lawful.{AreLawfulTimes, are_lawful_times};
 ghost use Rattle.block_meta.specs.MetaReading.{times_of};
 
 use crate::MetaRefusal;
 use crate::json_values::{needed, whole};
+use label_sets::TIME_LIMIT;
 use serde_json::Value;
 use std::alloc::Global;
 
@@ -17,8 +19,8 @@ pub(crate) struct Times {
     pub(crate) max: i64,
 }
 
-/// 2^62
-const LIMIT: i128 = 0x4000_0000_0000_0000;
+/// How far from 0 a time may be.
+const LIMIT: i128 = TIME_LIMIT as i128;
 
 impl Times {
     #[tactic(auto, unfolding(crate::specs::MetaReading::times_of))]
@@ -40,8 +42,8 @@ impl Times {
 }
 
 fn narrow(time: i128) -> i64
-    requires low { neg_ℤ (pos (2 ^ 62)) ≤ℤ time }
-    requires high { time ≤ℤ pos (2 ^ 62) }
+    requires low { neg_ℤ (pos time_limit) ≤ℤ time }
+    requires high { time ≤ℤ pos time_limit }
     ensures { result ≡ time }
 {
     time as i64

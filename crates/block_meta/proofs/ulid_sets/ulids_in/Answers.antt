@@ -1,7 +1,7 @@
 use Rattle.std.proofs.Common.{rules, ◌≡◌, subst, sym}
 use Rattle.std.specs.List.Sorted.{IsStrictlyIncreasing}
 use Rattle.std.proofs.lemmas.Map.Keys.{IsStrictlyIncreasing-from_sorted}
-use Rattle.block_meta.proofs.sources.members.Goals as goal
+use Rattle.block_meta.proofs.ulid_sets.ulids_in.Goals as goal
 
 pub returns-clause-increasing : goal.returns-clause-increasing
 returns-clause-increasing c =
