@@ -17,6 +17,7 @@ ghost use Rattle.block_meta.specs.MetaFields.{MarkFields};
 ghost use Rattle.block_meta.specs.MetaText.{IsMarkText};
 ghost use Rattle.block_meta.specs.MetaValue.{mark_text};
 ghost use Rattle.block_meta.specs.OfBlocks.{block_mark};
+ghost use Rattle.block_meta.specs.Lawful.{deletion_limit};
 ghost use Rattle.block_files.specs.declared.block_files.BlockFiles.{BlockFiles};
 ghost use Rattle.compactor.specs.Compactions.{CompactRun};
 ghost use Rattle.compactor.specs.declared.compact_end.CompactEnd.{CompactEnd};
@@ -45,9 +46,9 @@ pub fn compactions_ask_so()
 
 /// A law: the text of a mark is read as that mark, and as no other.
 pub fn marks_are_read_again()
-    ensures again { (mark : MarkFields) → mark.id < 2 ^ 128 → mark.deletion_time < 2 ^ 46
+    ensures again { (mark : MarkFields) → mark.id < 2 ^ 128 → mark.deletion_time < deletion_limit
         → IsUtf8 mark.details → block_mark mark.id (mark_text mark) ≡ Some mark }
-    ensures text { (mark : MarkFields) → mark.id < 2 ^ 128 → mark.deletion_time < 2 ^ 46
+    ensures text { (mark : MarkFields) → mark.id < 2 ^ 128 → mark.deletion_time < deletion_limit
         → IsUtf8 mark.details → IsMarkText (mark_text mark) mark }
     ensures one { (bytes : List ℕ) (one other : MarkFields) → IsMarkText bytes one
         → IsMarkText bytes other → one ≡ other }

@@ -1,8 +1,9 @@
 -- What a block's files hold, apart from how it is read: series, each with its labels and its samples.
-use Rattle.std.specs.Prelude.{◌≡◌, ℕ, ◌-◌, List, length, map, slice_get, Option, None, Some, ℤ, ◌<ℤ◌, ◌≤ℤ◌}
+use Rattle.std.specs.Prelude.{◌≡◌, ℕ, ◌-◌, List, length, slice_get, Option, None, Some, ℤ, ◌<ℤ◌, ◌≤ℤ◌}
 use Rattle.std.specs.List.{AllByRecursion, flat_map, AllZip}
 use Rattle.label_sets.specs.declared.sample.Sample.{Sample}
 use Rattle.label_sets.specs.declared.series.Series.{Series}
+use Rattle.label_sets.specs.Times.{times_of}
 use Rattle.xor_chunks.specs.Grammar.{IsText}
 use Rattle.chunk_files.specs.Chunk.{IsPlace}
 use Rattle.index_parts.specs.Turns.{InOrder}
@@ -19,9 +20,6 @@ pub record StandsAt (segments : List (List ℕ)) (place : ChunkPlace) (content :
   pub segment : List ℕ
   pub named : slice_get segments place.segment ≡ Some segment
   pub stands : IsPlace segment place.offset content
-
-abbrev pub times_of : List Sample → List ℤ
-times_of samples = map (λ s. s.time) samples
 
 -- There are samples, of which the first is at the least time that the place tells, and the last at the greatest.
 pub record HaveTimesOf (place : ChunkPlace) (samples : List Sample) : Type 0 where

@@ -1,7 +1,8 @@
 -- What reading a block's content gives, or the first refusal.
 use Rattle.std.specs.Prelude.{ℕ, ◌+◌, ◌*◌, ◌≤◌, ◌-◌, ◌^◌, min, sum_by, All, List, [], ◌∷◌, length, slice_get, Option, None, Some, option_map, Bool, true, false, ◌&&◌, Result, Ok, Err, ◌≡◌, ◌⊎◌, MatchResult, ℤ, ◌≤ℤ◌, int_lt, int_le, if◌then◌else◌}
-use Rattle.std.specs.List.{AllByRecursion, flat_map, AllZip}
+use Rattle.std.specs.List.{AllByRecursion, AllZip}
 use Rattle.std.specs.Ordering.{int_eq}
+use Rattle.list_core.specs.Lists.{joined}
 use Rattle.reading_core.specs.Reading.{◌>>=◌, ◌>>◌, unless, refused_as}
 use Rattle.label_sets.specs.declared.sample.Sample.{Sample}
 use Rattle.label_sets.specs.declared.series.Series.{Series}
@@ -16,7 +17,7 @@ use Rattle.index_file.specs.declared.index_series.IndexSeries.{IndexSeries}
 use Rattle.index_file.specs.IndexFile.{IsIndex}
 use Rattle.index_v2.specs.declared.refusal.IndexRefusal.{IndexRefusal}
 use Rattle.index_v2.specs.declared.refusal.IndexRefusal.TheVariants as index
-use Rattle.index_v2.specs.Budget.{members_of, text_bytes}
+use Rattle.index_v2.specs.Budget.{members_of, text_bytes, text_share}
 use Rattle.index_v2.specs.Held.{whole_file}
 use Rattle.index_v2.specs.Opening.{opened_at}
 use Rattle.index_v2.specs.WholeReading.{whole_at}
@@ -117,9 +118,6 @@ abbrev pub chunks_at : List (List ℕ) → IndexSeries → Result (List (List Sa
 chunks_at segments indexed = each_at (chunk_at segments) indexed.chunks
 
 -- a series with the samples of its chunks
-abbrev pub joined : List (List Sample) → List Sample
-joined parts = flat_map (λ part. part) parts
-
 abbrev pub series_of : IndexSeries → List (List Sample) → Series
 series_of indexed parts = record { labels = indexed.labels; samples = joined parts }
 
@@ -205,7 +203,7 @@ pub record ListsFew (index : List ℕ) (list : List IndexSeries) : Type 0 where
   pub series : 4 * length list ≤ length index
   pub each : All (λ (one : IndexSeries). 2 * length one.labels + 3 * length one.chunks ≤ length index) list
   pub members : sum_by members_of list ≤ 8 * length index
-  pub texts : sum_by text_bytes list ≤ 64 * length index
+  pub texts : sum_by text_bytes list ≤ text_share * length index
 
 -- the times of the series that were read, and then the order of their chunks
 unfoldable pub tested_at : Meta → List IndexSeries → List Series → Result (List Series) CheckRefusal

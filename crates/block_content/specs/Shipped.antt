@@ -10,6 +10,7 @@ use Rattle.block_meta.specs.declared.file_size.FileSize.{FileSize}
 use Rattle.block_meta.specs.declared.meta.Meta.{Meta}
 use Rattle.block_meta.specs.MetaFields.{MetaFields}
 use Rattle.block_files.specs.Built.{segment_objects}
+use Rattle.wire_bytes.specs.Files.{slash}
 
 -- a file of a block as a meta lists it: its path below the block's folder, and its size
 abbrev pub size_of : Object → FileSize
@@ -47,5 +48,5 @@ shipped_meta meta segments index external = record {
 
 -- the text has a slash behind these bytes, none of which is one, and the rest stands behind it
 pub record IsBehindSlash (text before rest : List ℕ) : Type 0 where
-  pub text_is : text ≡ before ++ (47 ∷ rest)
-  pub first : (i : ℕ) → i < length before → slice_index before i ≢ 47
+  pub text_is : text ≡ before ++ (slash ∷ rest)
+  pub first : (i : ℕ) → i < length before → slice_index before i ≢ slash

@@ -5,7 +5,7 @@ use crate::ChunkCause;
 use block_keys::Key;
 use block_meta::MetaRefusal;
 use index_v2::IndexRefusal;
-use std::alloc::{AllocError, AllocFailed};
+use std::alloc::AllocFailed;
 
 /// Why a block is not shipped, in the order in which it is looked for. Series and chunks are counted from 0, and a number
 /// above those of 32 bits stands as the greatest of them.
@@ -45,14 +45,6 @@ impl From<list_core::NoMemory> for CheckRefusal {
     ghost from_gives = { λ _ e. e ≡ WithoutMemory };
 
     fn from(_: list_core::NoMemory) -> Self {
-        CheckRefusal::NoMemory
-    }
-}
-
-impl From<AllocError> for CheckRefusal {
-    ghost from_gives = { λ _ e. e ≡ WithoutMemory };
-
-    fn from(_: AllocError) -> Self {
         CheckRefusal::NoMemory
     }
 }

@@ -2,13 +2,14 @@
 ghost use Rattle.std.specs.Prelude.{◌≡◌, ◌⊎◌, ◌^◌, ◌-◌, ◌+◌, ◌*◌, ◌≤◌, min, ℕ, List, length, sum_by, option_map, None, Ok, Err, IfOk, IfErr, MatchResult};
 ghost use Rattle.std.specs.List.{AllByRecursion};
 ghost use Rattle.std.specs.Result.{IsOkAnd};
+ghost use Rattle.list_core.specs.Lists.{joined};
 ghost use Rattle.reading_core.specs.Grammar.{IsBytes};
 ghost use Rattle.reading_core.specs.Reading.{Answers};
 ghost use Rattle.label_sets.specs.declared.series.Series.{Series};
 ghost use Rattle.label_sets.specs.Counts.{sample_count};
 ghost use Rattle.index_file.specs.declared.index_series.IndexSeries.{IndexSeries};
 ghost use Rattle.reading_core.specs.Firsts.{or_else, first_at};
-ghost use Rattle.block_content.specs.ContentReading.{index_at, chunk_bytes, series_bytes, joined, list_of, first_time, first_outside, lies_within, LieBetween, MadeOfChunk, WalksChunks, WalksSeries};
+ghost use Rattle.block_content.specs.ContentReading.{index_at, chunk_bytes, series_bytes, list_of, first_time, first_outside, lies_within, LieBetween, MadeOfChunk, WalksChunks, WalksSeries};
 ghost use Rattle.block_content.specs.Verdict.{IsVerdict};
 ghost use Rattle.block_content.specs.Checking.{HasPassed};
 ghost use Rattle.block_content.specs.CheckReading.{is_alone, own_at, some_at, check_at, indexed_at, found_at, IsFirstFound, HaveCounts};

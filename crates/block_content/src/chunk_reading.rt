@@ -1,5 +1,5 @@
 //! The samples of one chunk.
-ghost use Rattle.std.specs.Prelude.{◌≡◌, ◌+◌, ◌*◌, ◌≤◌, ◌++◌, ◌&&◌, List, length, drop, option_copied, IfOk, MatchResult};
+ghost use Rattle.std.specs.Prelude.{◌≡◌, ◌+◌, ◌*◌, ◌≤◌, ◌++◌, ◌&&◌, List, length, option_copied, IfOk, MatchResult};
 ghost use Rattle.std.specs.Ordering.{int_eq};
 ghost use Rattle.label_sets.specs.declared.sample.Sample.{Sample};
 ghost use Rattle.xor_chunks.specs.Data.{with_samples};
@@ -10,6 +10,7 @@ use crate::{CheckRefusal, ChunkCause};
 use chunk_files::{ChunkRefusal, read_chunk};
 use index_parts::ChunkPlace;
 use label_sets::Sample;
+use list_core::behind;
 use wire_bytes::Blob;
 use xor_chunks::{SampleSpan, XorRefusal, append_stored, span_stored};
 
@@ -33,8 +34,8 @@ fn is_at(sample: Option<&Sample>, time: i64) -> bool
     }
 }
 
-/// Whether the first and the last sample are at the times that the place tells.
-fn have_times_of(place: &ChunkPlace, samples: &[Sample]) -> bool
+/// Whether the first and the last sample are at the times that the place tells. Of no samples it is not so.
+pub fn have_times_of(place: &ChunkPlace, samples: &[Sample]) -> bool
     ensures { result ≡ have_times_of place.now samples.now }
 {
     is_at(samples.first(), place.min) && is_at(samples.last(), place.max)
@@ -51,14 +52,6 @@ fn test_part(part: &[Sample], place: &ChunkPlace) -> Result<(), ChunkCause>
         return Err(ChunkCause::TimesDiffer);
     }
     Ok(())
-}
-
-/// The samples behind so many.
-fn behind(samples: &[Sample], count: usize) -> &[Sample]
-    requires { count ≤ length samples.now }
-    ensures { result.now ≡ drop count samples.now }
-{
-    &samples[count..]
 }
 
 /// Reads the samples that a chunk's data stands for, behind others.

@@ -3,6 +3,7 @@ ghost use Rattle.std.specs.Prelude.{◌≡◌, ◌⊎◌, ◌+◌, ◌*◌, ◌�
 ghost use Rattle.std.specs.Int.{w64};
 ghost use Rattle.std.specs.List.{AllByRecursion, AllZip};
 ghost use Rattle.std.specs.Result.{IsOkAnd};
+ghost use Rattle.list_core.specs.Lists.{joined};
 ghost use Rattle.reading_core.specs.Grammar.{IsBytes};
 ghost use Rattle.reading_core.specs.Reading.{Gives, refused_as};
 ghost use Rattle.label_sets.specs.declared.series.Series.{Series};
@@ -11,7 +12,7 @@ ghost use Rattle.index_file.specs.IndexFile.{IsIndex};
 ghost use Rattle.reading_core.specs.Firsts.{first_at};
 ghost use Rattle.block_content.specs.Content.{IsContent};
 ghost use Rattle.block_content.specs.ContentRefusals.{RefusesContent};
-ghost use Rattle.block_content.specs.ContentReading.{index_at, refused_index, joined, list_of, series_bytes, chunk_bytes, is_within, first_time, first_outside, begins_after, follow, repeated_in, fitted, contents_at, content_at, AreFew, ListsFew, WalksChunks, WalksSeries};
+ghost use Rattle.block_content.specs.ContentReading.{index_at, refused_index, list_of, series_bytes, chunk_bytes, is_within, first_time, first_outside, begins_after, follow, repeated_in, fitted, contents_at, content_at, AreFew, ListsFew, WalksChunks, WalksSeries};
 
 use crate::CheckRefusal;
 use crate::chunk_reading::{append_chunk, refused_chunk};

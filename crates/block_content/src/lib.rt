@@ -15,5 +15,6 @@ pub use check_refusal::CheckRefusal;
 pub use checked::Checked;
 pub use checking::{check, check_indexed};
 pub use chunk_cause::ChunkCause;
+pub use chunk_reading::have_times_of;
 pub use content_reading::{content, read_index};
 pub use testing::test_content;

@@ -13,12 +13,14 @@ pub(crate) fn put_segment_name(out: &mut Vec<u8>, number: u32) -> Result<(), NoM
     ensures { OnOk result (out.new.items ≡ out.old.items ++ codes "chunks/" ++ six_digits number) }
 {
     out.extend_from_slice(b"chunks/")?;
-    out.extend_from_slice(&decimal_of(number))?;
+    out.extend_from_slice(&six_digits(number))?;
     Ok(())
 }
 
+/// The six decimal digits by which a segment is named. Of a number of more digits they are the last six, which name another
+/// segment as well.
 #[tactic(auto, unfolding(crate::specs::KeyText::six_digits))]
-fn decimal_of(number: u32) -> [u8; 6]
+pub fn six_digits(number: u32) -> [u8; 6]
     ensures { result ≡ six_digits number }
 {
     [

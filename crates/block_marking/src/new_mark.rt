@@ -5,7 +5,7 @@ ghost use Rattle.block_marking.specs.NewMarks.{new_mark_text};
 use block_meta::DeletionMark;
 use label_sets::Text;
 use list_core::NoMemory;
-use moment_core::Moment;
+use moment_core::{Moment, SECOND};
 use std::alloc::Global;
 use ulid_core::Ulid;
 use wire_bytes::Blob;
@@ -22,7 +22,7 @@ pub(crate) fn new_mark(
 {
     let mark = DeletionMark {
         id: ulid,
-        deletion_time: looked.ms / 1000,
+        deletion_time: looked.ms / SECOND,
         details: Text::from_str(alloc, details)?,
     };
     mark.write(alloc)

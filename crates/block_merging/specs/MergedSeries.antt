@@ -10,7 +10,7 @@ use Rattle.block_writing.specs.Built.{IsPutAs}
 use Rattle.block_laws.specs.PutContent.{IsSeriesOf}
 use Rattle.block_merging.specs.Runs.{AreRuns}
 
--- The samples for which the chunks stand, one chunk after another, are merged, and put as chunks of 120.
+-- The samples for which the chunks stand, one chunk after another, are merged, and put part by part as chunks.
 pub record AreMerged (labels : List Label) (run made : List PutChunk) : Type 0 where
   pub given : Series
   pub given_is : IsSeriesOf (record { labels = labels; chunks = run }) given

@@ -4,6 +4,7 @@ use Rattle.std.specs.List.{filter, flat_map, AllByRecursion}
 use Rattle.std.specs.Ordering.{is_lt, is_eq}
 use Rattle.list_core.specs.Ordered.{in_order}
 use Rattle.list_core.proofs.StableSorts.{Rises}
+use Rattle.list_core.specs.Lists.{joined}
 use Rattle.reading_core.specs.Grammar.{IsBytes}
 use Rattle.label_sets.specs.declared.label.Label.{Label}
 use Rattle.label_sets.specs.Labels.{compare_sets, IsLabelSet}
@@ -23,7 +24,6 @@ use Rattle.block_merging.specs.declared.listing.SeriesPlace.{SeriesPlace}
 use Rattle.block_merging.specs.declared.series_queue.SeriesQueue.{SeriesQueue}
 use Rattle.block_merging.specs.Inputs.{AreTaken, taken}
 use Rattle.block_merging.specs.MergedBlock.{has_labels}
-use Rattle.block_merging.specs.Steps.{joined}
 
 -- ---- series by their labels
 

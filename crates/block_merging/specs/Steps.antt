@@ -1,29 +1,23 @@
 -- What a writer holds on the way to a merged series.
 use Rattle.std.specs.Prelude.{◌≡◌, ◌+◌, List, [], ◌∷◌, ◌++◌, length, map, ℤ, ◌<ℤ◌}
-use Rattle.std.specs.List.{flat_map, AllByRecursion, AllZip}
+use Rattle.std.specs.List.{AllByRecursion, AllZip}
 use Rattle.label_sets.specs.declared.label.Label.{Label}
 use Rattle.label_sets.specs.declared.sample.Sample.{Sample}
-use Rattle.xor_chunks.specs.Grammar.{IsText}
 use Rattle.index_parts.specs.Turns.{InOrder}
 use Rattle.list_core.specs.Ordered.{in_order}
+use Rattle.list_core.specs.Lists.{joined}
 use Rattle.block_writing.specs.Put.{PutChunk, Put, IsAfterChunks, fitted}
-use Rattle.block_writing.specs.Built.{IsPart, IsEncoded}
+use Rattle.block_writing.specs.Built.{IsPart, IsEncoded, StandsFor}
 use Rattle.block_merging.specs.declared.placed_chunk.PlacedChunk.{PlacedChunk}
 use Rattle.block_merging.specs.Placed.{placed_chunk, stands_before}
 use Rattle.block_merging.specs.Runs.{AreConnected, AreRuns}
 use Rattle.block_merging.specs.MergedSeries.{Becomes}
 
-abbrev pub StandsFor : PutChunk → List Sample → Type 0
-StandsFor chunk part = IsText 8 chunk.content part
-
-abbrev pub joined : {A : Type 0} → List (List A) → List A
-joined parts = flat_map (λ part. part) parts
-
 -- chunks in the order in which they were given
 abbrev pub run_in : List PlacedChunk → List PutChunk
 run_in run = map placed_chunk (in_order stands_before run)
 
--- samples were put, each 120 as a chunk
+-- samples were put, part by part as chunks
 pub record HasParts (old : Put) (samples : List Sample) (new : Put) : Type 0 where
   pub parts : List (List Sample)
   pub whole : joined parts ≡ samples

@@ -2,9 +2,9 @@
 ghost use Rattle.std.specs.Prelude.{◌≡◌, map, option_map, IfOk, OnOk};
 ghost use Rattle.std.specs.List.{AllByRecursion};
 ghost use Rattle.list_core.proofs.StableSorts.{Rises};
+ghost use Rattle.list_core.specs.Lists.{joined};
 ghost use Rattle.index_v2.specs.LentLabels.{as_label};
 ghost use Rattle.block_merging.specs.Placed.{chunk_of};
-ghost use Rattle.block_merging.specs.Steps.{joined};
 ghost use Rattle.block_merging.specs.Queues.{IsQueue, have_lesser_labels, lesser, lefts_in, LeastIs, TakesGroup};
 
 use crate::input_chunk::InputChunk;

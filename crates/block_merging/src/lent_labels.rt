@@ -1,21 +1,14 @@
 //! Reduced labels whose texts a block's index lends.
 ghost use Rattle.std.specs.Prelude.{◌≡◌, ◌∷◌, [], if◌then◌else◌, map, IfOk};
 ghost use Rattle.std.specs.Ordering.{is_eq};
-ghost use Rattle.label_sets.specs.Labels.{IsLabelSet, compare_labels, compare_sets};
-ghost use Rattle.label_sets.specs.Finals.{is_among, reduced_of};
+ghost use Rattle.label_sets.specs.Labels.{compare_labels, compare_sets};
+ghost use Rattle.label_sets.specs.Finals.{reduced_of};
 ghost use Rattle.index_v2.specs.LentLabels.{as_label};
 
 use index_v2::LentLabel;
-use label_sets::{LabelSet, Text, TextList};
+use label_sets::{LabelSet, TextList, is_among};
 use list_core::NoMemory;
 use std::alloc::Global;
-
-#[tactic(auto, unfolding(label_sets::specs::Finals::is_among))]
-fn is_among(names: &[Text], name: &str) -> bool
-    ensures { result ≡ is_among names.now name.now }
-{
-    names.iter().any(|one| one.as_str() == name)
-}
 
 /// Whether a label's name is neither that of an external label nor a replica label.
 pub(crate) fn is_kept(label: &LentLabel<'_>, external: &LabelSet, replicas: &TextList) -> bool
@@ -83,18 +76,4 @@ pub(crate) fn are_same(one: &[LentLabel<'_>], other: &[LentLabel<'_>]) -> bool
         }
     }
     true
-}
-
-/// The label set of these labels.
-pub(crate) fn set_of(alloc: Global, labels: &[LentLabel<'_>]) -> Result<LabelSet, NoMemory>
-    requires { IsLabelSet (map as_label labels.now) }
-    ensures { IfOk result (λ set. set ≡ map as_label labels.now) }
-{
-    let mut set = LabelSet::empty(alloc);
-    for label in labels {
-        if set.add(label.name, label.value).is_err() {
-            return Err(NoMemory);
-        }
-    }
-    Ok(set)
 }

@@ -2,7 +2,7 @@ ghost use Rattle.std.specs.Prelude.{◌≡◌};
 ghost use Rattle.block_merging.specs.declared.merge_refusal.MergeRefusal.TheVariants.{NoMemory as WithoutMemory};
 
 use block_content::CheckRefusal;
-use std::alloc::{AllocError, AllocFailed};
+use std::alloc::AllocFailed;
 
 /// Why blocks are not merged.
 #[derive(Debug, PartialEq, Eq, Drop)]
@@ -19,14 +19,6 @@ impl From<list_core::NoMemory> for MergeRefusal {
     ghost from_gives = { λ _ e. e ≡ WithoutMemory };
 
     fn from(_: list_core::NoMemory) -> Self {
-        MergeRefusal::NoMemory
-    }
-}
-
-impl From<AllocError> for MergeRefusal {
-    ghost from_gives = { λ _ e. e ≡ WithoutMemory };
-
-    fn from(_: AllocError) -> Self {
         MergeRefusal::NoMemory
     }
 }

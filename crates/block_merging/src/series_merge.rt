@@ -1,32 +1,29 @@
 //! The merge of the chunks of one series.
 ghost use Rattle.std.specs.Prelude.{◌≡◌, ◌≢◌, ◌<◌, ◌^◌, ◌++◌, ◌∷◌, [], List, map, length, IfOk, OnOk};
 ghost use Rattle.std.specs.List.{AllByRecursion, AllZip};
+ghost use Rattle.list_core.specs.Lists.{joined};
 ghost use Rattle.label_sets.specs.declared.label.Label.{Label};
 ghost use Rattle.label_sets.specs.declared.sample.Sample.{Sample};
 ghost use Rattle.label_sets.specs.declared.series.Series.{Series};
 ghost use Rattle.label_sets.specs.Triples.{triples_under};
 ghost use Rattle.vertical_merge.specs.Merged.{IsMerge};
 ghost use Rattle.xor_chunks.specs.Grammar.{IsText};
-ghost use Rattle.xor_chunks.specs.Written.{AreOfChunk};
 ghost use Rattle.block_meta.specs.Lawful.{AreLawfulTimes};
-ghost use Rattle.block_writing.specs.Put.{PutChunk, IsWithin, IsStored, IsAfterChunks, IsAfterSeries, with_chunk};
-ghost use Rattle.block_writing.specs.Built.{AreOfBlock, BeginAfter, IsEncoded};
+ghost use Rattle.block_writing.specs.Put.{IsStored, IsAfterChunks, IsAfterSeries, with_chunk};
+ghost use Rattle.block_writing.specs.Built.{AreOfBlock, BeginAfter, StandsFor};
 ghost use Rattle.block_merging.specs.Placed.{chunk_of, placed_chunk, AreByBegin};
 ghost use Rattle.block_merging.specs.MergedSeries.{HasMerged};
-ghost use Rattle.block_merging.specs.Steps.{StandsFor, joined, run_in, HasParts, HasRun, HasRuns, HasSwept};
+ghost use Rattle.block_merging.specs.Steps.{run_in, HasParts, HasRun, HasRuns, HasSwept};
 
 use crate::input_chunk::InputChunk;
 use crate::placed_chunk::{PlacedChunk, placed, sort_by_begin, sort_by_place};
 use crate::runs::first_run;
-use block_writing::BlockWriter;
+use block_writing::{BlockWriter, LONGEST_PART, put_part};
 use label_sets::{LabelSet, Sample, Series, SeriesList};
 use list_core::{List, NoMemory, TryCopy};
 use std::alloc::Global;
 use vertical_merge::Merger;
-use xor_chunks::{append_stored, encode};
-
-/// How many samples a chunk has, but for the last one of a run.
-const PART: usize = 120;
+use xor_chunks::append_stored;
 
 /// Puts the merge of the chunks of one series, and ends it. The chunks stand in the order of their blocks, of which an earlier
 /// one wins at a time that both have. The writer keeps the labels.
@@ -199,7 +196,7 @@ fn only_member(list: SeriesList) -> Series
     }
 }
 
-/// Puts samples, each 120 as a chunk.
+/// Puts samples, part by part as chunks.
 fn put_samples(alloc: Global, writer: &mut BlockWriter, samples: &[Sample]) -> Result<(), NoMemory>
     requires samples { AreOfBlock writer.old.plan samples.now }
     requires times { AreLawfulTimes writer.old.plan.min_time writer.old.plan.max_time }
@@ -209,21 +206,9 @@ fn put_samples(alloc: Global, writer: &mut BlockWriter, samples: &[Sample]) -> R
 {
     let mut left = samples;
     while !left.is_empty() {
-        let (part, after) = left.split_at(left.len().min(PART));
+        let (part, after) = left.split_at(left.len().min(LONGEST_PART));
         put_part(alloc, writer, part)?;
         left = after;
     }
     Ok(())
-}
-
-/// Puts samples as a chunk.
-fn put_part(alloc: Global, writer: &mut BlockWriter, part: &[Sample]) -> Result<(), NoMemory>
-    requires fits { AreOfChunk part.now }
-    requires within { AllByRecursion (IsWithin writer.old.plan) part.now }
-    requires after { BeginAfter writer.old.chunks part.now }
-    ensures { OnOk result ((chunk : PutChunk) × IsEncoded part.now chunk
-        × (writer.new ≡ with_chunk writer.old chunk (length part.now))) }
-{
-    let data = encode(alloc, part)?;
-    writer.chunk(data.bytes(), part[0].time, part[part.len() - 1].time)
 }

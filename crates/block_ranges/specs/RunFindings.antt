@@ -8,6 +8,7 @@ use Rattle.index_parts.specs.declared.toc.Toc.{Toc}
 use Rattle.index_parts.specs.ContentsReading.{toc_at}
 use Rattle.index_parts.specs.SymbolsReading.{symbols_at}
 use Rattle.index_parts.specs.RowsReading.{postings_table_at}
+use Rattle.index_parts.specs.Contents.{contents_size}
 use Rattle.index_slices.specs.Parts.{known}
 use Rattle.index_cache.specs.Caches.{same_range}
 use Rattle.index_file.specs.declared.index_series.IndexSeries.{IndexSeries}
@@ -40,9 +41,9 @@ HasSections toc size None = has_sections toc size ≡ false
 -- the same of the bytes that are read for it
 abbrev pub FindsSections : ℕ → List ℕ → Option Sections → Type 0
 FindsSections size bytes (Some places) =
-    (length bytes ≡ 52) × (toc_at bytes ≡ Ok places.toc) × (places.size ≡ size) × (has_sections places.toc size ≡ true)
+    (length bytes ≡ contents_size) × (toc_at bytes ≡ Ok places.toc) × (places.size ≡ size) × (has_sections places.toc size ≡ true)
 FindsSections size bytes None =
-    ((length bytes == 52) ≡ false) ⊎ IsErr (toc_at bytes) ⊎ ((toc : Toc) × (toc_at bytes ≡ Ok toc) × (has_sections toc size ≡ false))
+    ((length bytes == contents_size) ≡ false) ⊎ IsErr (toc_at bytes) ⊎ ((toc : Toc) × (toc_at bytes ≡ Ok toc) × (has_sections toc size ≡ false))
 
 -- the bytes of the symbols are as many as were asked for, and symbols
 abbrev pub TestsSymbols : Sections → List ℕ → Option SymbolsRead → Type 0

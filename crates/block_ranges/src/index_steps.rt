@@ -1,6 +1,7 @@
 //! The reads of a block's index, up to the series that the selector takes.
 ghost use Rattle.std.specs.Prelude.{◌≡◌, ◌+◌, ◌*◌, ◌^◌, ◌<◌, ◌≤◌, length, map, option_map, IfOk, Ok, Some};
 ghost use Rattle.index_cache.specs.Caches.{held};
+ghost use Rattle.index_file.specs.IndexFile.{least_size};
 ghost use Rattle.read_ranges.specs.Reads.{Cache};
 ghost use Rattle.read_ranges.specs.IndexReads.{reached, after_contents, after_whole, by_size};
 ghost use Rattle.chunk_ranges.specs.BlockReads.{block_call, breaks_off};
@@ -16,7 +17,8 @@ use crate::run_steps::{Taken, cached_runs, have_bytes, run_taken, selected_runs,
 use crate::work::{IndexSize, RunWork, Step, SymbolsRead, TablesRead, Work};
 use block_keys::Key;
 use index_cache::IndexCache;
-use index_parts::{Toc, read_toc};
+use index_file::LEAST_SIZE;
+use index_parts::{CONTENTS_SIZE, Toc, read_toc};
 use index_v2::IndexSeries;
 use list_core::NoMemory;
 use read_ranges::{
@@ -27,8 +29,10 @@ use std::collections::VecDeque;
 use wire_bytes::Blob;
 use world_core::Op;
 
-/// The size of an index that has a header and a table of contents.
-const LEAST_SIZE: u64 = 57;
+/// How many bytes an index has at least, and how many of them its table of contents.
+const LEAST: u64 = LEAST_SIZE as u64;
+
+const CONTENTS: u64 = CONTENTS_SIZE as u64;
 
 /// Begins: with the table of contents, or with the whole index where the meta tells no size that an
 /// index may have.
@@ -48,7 +52,7 @@ fn begin_sized(asked: &Asked<'_>, size: u64) -> Step
         (Leading (by_size breaks_off (query_asked asked.now) (block_asked asked.now) (Some size)
         (after_index (query_asked asked.now) (block_asked asked.now)) cache)) (Ok result) }
 {
-    if size >= LEAST_SIZE {
+    if size >= LEAST {
         ask_contents(asked, size)
     } else {
         ask_whole(asked)
@@ -57,12 +61,12 @@ fn begin_sized(asked: &Asked<'_>, size: u64) -> Step
 
 /// Asks for the table of contents.
 fn ask_contents(asked: &Asked<'_>, size: u64) -> Step
-    requires { 57 ≤ size }
+    requires { least_size ≤ size }
     ensures { (cache : Cache) → Leads asked.now cache (9 * most * most)
         (Leading (contents_left asked.now size cache)) (Ok result) }
 {
     Step::Wait(
-        Op::GetRange(Key::Index(asked.ulid), size - 52, 52),
+        Op::GetRange(Key::Index(asked.ulid), size - CONTENTS, CONTENTS),
         Work::Contents(IndexSize { bytes: size }),
     )
 }
@@ -139,7 +143,7 @@ pub(crate) fn take_contents(
 fn sections_of(size: IndexSize, bytes: &[u8]) -> Option<Sections>
     ensures { FindsSections size.bytes bytes.now result }
 {
-    if bytes.len() != 52 {
+    if bytes.len() != CONTENTS_SIZE {
         return None;
     }
     match read_toc(bytes) {

@@ -1,5 +1,6 @@
 //! What a call is at, and what it has of a block so far.
 ghost use Rattle.std.specs.Prelude.{◌+◌, ◌^◌, ◌<◌, ◌≤◌, length};
+ghost use Rattle.index_file.specs.IndexFile.{least_size};
 
 use crate::BlockOutcome;
 use chunk_ranges::{ChunkRow, Pending};
@@ -14,7 +15,7 @@ use world_core::Op;
 #[derive(Clone, Copy)]
 pub(crate) struct IndexSize {
     pub(crate) bytes: u64,
-    ghost long: { 57 ≤ bytes },
+    ghost long: { least_size ≤ bytes },
 }
 
 /// The symbols, and where the other sections stand.

@@ -1,5 +1,5 @@
 -- What a block that is built of samples is put together from.
-use Rattle.std.specs.Prelude.{◌≡◌, ◌+◌, ◌-◌, ◌<◌, ◌≤◌, List, [], ◌∷◌, ◌++◌, length, map, slice_get, Option, None, Some, ℤ}
+use Rattle.std.specs.Prelude.{◌≡◌, ◌+◌, ◌-◌, ◌<◌, ◌≤◌, List, [], ◌∷◌, ◌++◌, length, map, slice_get, Option, None, Some, ℤ, ℕ}
 use Rattle.std.specs.Ordering.{int_cmp}
 use Rattle.std.specs.List.{flat_map, AllByRecursion, AllZip}
 use Rattle.std.specs.List.Sorted.{IsStrictlySortedBy}
@@ -34,10 +34,14 @@ pub record AreBuildable (plan : PlanFields) (series : List Series) : Type 0 wher
 
 -- ---- the chunks of a series
 
--- A part has up to 120 samples, and 120 where another follows.
+-- how many samples a part has at most
+abbrev pub longest_part : ℕ
+longest_part = 120
+
+-- A part has samples, no more than that, and as many where another follows.
 abbrev pub IsPart : Option (List Sample) → List Sample → Type 0
-IsPart None part = (0 < length part) × (length part ≤ 120)
-IsPart (Some before) part = (length before ≡ 120) × (0 < length part) × (length part ≤ 120)
+IsPart None part = (0 < length part) × (length part ≤ longest_part)
+IsPart (Some before) part = (length before ≡ longest_part) × (0 < length part) × (length part ≤ longest_part)
 
 -- The chunk has the one text of the samples, and their times.
 pub record IsEncoded (samples : List Sample) (chunk : PutChunk) : Type 0 where
@@ -46,6 +50,10 @@ pub record IsEncoded (samples : List Sample) (chunk : PutChunk) : Type 0 where
   pub bits : bits_in chunk.content ≡ filled (written samples)
   pub begins : slice_get (map (λ s. s.time) samples) 0 ≡ Some chunk.min
   pub ends : slice_get (map (λ s. s.time) samples) (length samples - 1) ≡ Some chunk.max
+
+-- The chunk stands for the samples of a part.
+abbrev pub StandsFor : PutChunk → List Sample → Type 0
+StandsFor chunk part = IsText 8 chunk.content part
 
 -- A series falls into parts, each of which is a chunk.
 pub record IsPutAs (series : Series) (put : PutSeries) : Type 0 where

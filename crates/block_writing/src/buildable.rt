@@ -1,6 +1,5 @@
 //! The test of what `build` asks of its series.
 ghost use Rattle.std.specs.Prelude.{IsTrue, ◌↔◌, map};
-ghost use Rattle.std.specs.Ordering.{int_cmp};
 ghost use Rattle.std.specs.List.Sorted.{IsStrictlySortedBy};
 ghost use Rattle.label_sets.specs.Labels.{compare_sets};
 ghost use Rattle.block_writing.specs.Built.{AreBuildable, AreOfBlock};
@@ -8,14 +7,7 @@ ghost use Rattle.block_writing.specs.Put.{IsWithin};
 ghost use Rattle.block_writing.specs.Writing.{plan_fields};
 
 use block_meta::BlockPlan;
-use label_sets::{Sample, Series, SeriesList};
-
-/// Whether each time is after the one before.
-fn rise(samples: &[Sample]) -> bool
-    ensures { IsTrue result ↔ IsStrictlySortedBy int_cmp (map (λ s. s.time) samples.now) }
-{
-    samples.is_sorted_by(|one, next| one.time < next.time)
-}
+use label_sets::{Sample, Series, SeriesList, times_ascend};
 
 /// Whether each series comes after the one before, by its labels.
 fn ascend(series: &[Series]) -> bool
@@ -42,7 +34,7 @@ fn are_of_block(plan: &BlockPlan, samples: &[Sample]) -> bool
             return false;
         }
     }
-    rise(samples)
+    times_ascend(samples)
 }
 
 /// Whether `build` may build a block of the plan of these series.

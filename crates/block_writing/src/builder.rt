@@ -14,11 +14,11 @@ use list_core::{NoMemory, TryCopy};
 use std::alloc::Global;
 use xor_chunks::encode;
 
-/// How many samples a chunk has, but for the last one of a series.
-const PART: usize = 120;
+/// How many samples `build` and a merge put into a chunk, but for the last one of a series or of a run.
+pub const LONGEST_PART: usize = 120;
 
-/// Puts samples as a chunk.
-fn put_part(alloc: Global, writer: &mut BlockWriter, part: &[Sample]) -> Result<(), NoMemory>
+/// Puts samples as a chunk, with the times of the first and the last of them.
+pub fn put_part(alloc: Global, writer: &mut BlockWriter, part: &[Sample]) -> Result<(), NoMemory>
     requires fits { AreOfChunk part.now }
     requires within { AllByRecursion (IsWithin writer.old.plan) part.now }
     requires after { BeginAfter writer.old.chunks part.now }
@@ -29,7 +29,7 @@ fn put_part(alloc: Global, writer: &mut BlockWriter, part: &[Sample]) -> Result<
     writer.chunk(data.bytes(), part[0].time, part[part.len() - 1].time)
 }
 
-/// Puts the samples of a series, each 120 as a chunk, and ends it.
+/// Puts the samples of a series, part by part as chunks, and ends it.
 fn put_series(alloc: Global, writer: &mut BlockWriter, series: &Series) -> Result<(), NoMemory>
     requires samples { AreOfBlock writer.old.plan series.now.samples }
     requires times { AreLawfulTimes writer.old.plan.min_time writer.old.plan.max_time }
@@ -40,7 +40,7 @@ fn put_series(alloc: Global, writer: &mut BlockWriter, series: &Series) -> Resul
 {
     let mut left = series.samples.members();
     while !left.is_empty() {
-        let (part, after) = left.split_at(left.len().min(PART));
+        let (part, after) = left.split_at(left.len().min(LONGEST_PART));
         put_part(alloc, writer, part)?;
         left = after;
     }

@@ -1,5 +1,5 @@
 //! What a written block says of itself.
-ghost use Rattle.std.specs.Prelude.{◌≡◌, ◌+◌, ◌%◌, ◌≤◌, ◌++◌, length, IfOk, codes};
+ghost use Rattle.std.specs.Prelude.{◌≡◌, ◌≤◌, length, IfOk};
 ghost use Rattle.block_keys.specs.Keys.{segment_limit};
 ghost use Rattle.block_keys.specs.KeyText.{six_digits};
 ghost use Rattle.block_meta.specs.MetaFields.{fields_of};
@@ -7,36 +7,18 @@ ghost use Rattle.block_writing.specs.Writing.{plan_fields};
 ghost use Rattle.block_writing.specs.WrittenMeta.{segment_size, index_size, sizes_of, names_from, meta_with};
 
 use crate::counts::Counts;
+use block_keys::six_digits;
 use block_meta::{BlockPlan, FileSize, FileSizeList, Meta};
 use label_sets::{Text, TextList};
 use list_core::NoMemory;
 use std::alloc::Global;
 use wire_bytes::Blob;
 
-fn digit_of(number: u32) -> u8
-    ensures { result ≡ 48 + number % 10 }
-{
-    b'0' + (number % 10) as u8
-}
-
-fn decimal_of(number: u32) -> [u8; 6]
-    ensures { result ≡ six_digits number }
-{
-    [
-        digit_of(number / 100_000),
-        digit_of(number / 10_000),
-        digit_of(number / 1_000),
-        digit_of(number / 100),
-        digit_of(number / 10),
-        digit_of(number),
-    ]
-}
-
 /// The name of the segment of a number.
 fn segment_name(alloc: Global, number: u32) -> Result<Text, NoMemory>
     ensures { IfOk result (λ name. name ≡ six_digits number) }
 {
-    let digits = Vec::from_slice(alloc, &decimal_of(number))?;
+    let digits = Vec::from_slice(alloc, &six_digits(number))?;
     Ok(Text::from_string(String::from_utf8(digits).unwrap()))
 }
 

@@ -1,6 +1,7 @@
 -- What the rules of time on syncs and views ask of an entry.
 use Rattle.std.specs.Prelude.{◌≡◌, ◌+◌, ℕ, Bool, true, false, Option, Some, None}
 use Rattle.lifecycle_core.specs.Breaches.{IsOver}
+use Rattle.moment_core.specs.Limits.{one_second}
 use Rattle.breach_finding.specs.Told.{IsTold}
 use Rattle.breach_finding.specs.declared.watching.Came.{Came}
 use Rattle.breach_finding.specs.declared.watching.Came.TheVariants.{GoesOn, Nothing, View}
@@ -16,5 +17,5 @@ is_whole Nothing last = true
 abbrev pub IsSyncAnswer : Option Told → Bool → ℕ → ℕ → Option (ℕ × ℕ) → Type 0
 IsSyncAnswer None last moment span answer = answer ≡ None
 IsSyncAnswer (Some told) last moment span answer =
-    (is_whole told.came last ≡ true → IsTold (IsOver (moment + 1000) (told.begin + span)) answer)
+    (is_whole told.came last ≡ true → IsTold (IsOver (moment + one_second) (told.begin + span)) answer)
     × (is_whole told.came last ≡ false → answer ≡ None)

@@ -6,6 +6,9 @@ use label_sets::Text;
 use list_core::NoMemory;
 use std::alloc::Global;
 
+/// The byte with which a name ends in the text of a reply.
+const NAME_END: u8 = 255;
+
 /// The byte with which a text goes on at a place, and 256 at its end.
 fn byte_at(text: &[u8], place: usize) -> u64
     ensures next { result ≡ next_byte (drop place text.now) }
@@ -62,7 +65,7 @@ fn ended_text(alloc: Global, names: &[Text]) -> Result<Vec<u8>, NoMemory>
     let mut text = Vec::new(alloc);
     for name in names {
         text.extend_from_slice(name.as_str().as_bytes())?;
-        text.push(255)?;
+        text.push(NAME_END)?;
     }
     Ok(text)
 }

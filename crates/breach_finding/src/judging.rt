@@ -10,6 +10,7 @@ ghost use Rattle.script_core.specs.Lawful.{AreLawfulRules};
 ghost use Rattle.lifecycle_core.specs.Breaches.{ReadsSamples, Refuses};
 ghost use Rattle.lifecycle_core.specs.Setting.{Setting, setting_of};
 ghost use Rattle.lifecycle_core.specs.Tasks.{partition_of, sync_rules};
+ghost use Rattle.moment_core.specs.Limits.{longest_span};
 ghost use Rattle.breach_finding.specs.Judging.{IsJudged, IsLateTold, IsWatchTurn, first_of, given_by, refusal_of, under_or};
 ghost use Rattle.breach_finding.specs.Tables.{gateway_or};
 ghost use Rattle.breach_finding.specs.Views.{IsViewAnswer};
@@ -176,7 +177,7 @@ fn staleness(
     rules: &Rules,
 ) -> Option<(u64, u64)>
     requires small { entry.now.moment.ms < 2 ^ 48 }
-    requires span { rules.now.ignore.ms ≤ 2 ^ 46 }
+    requires span { rules.now.ignore.ms ≤ longest_span }
     ensures read { ReadsSamples entry.now → IsViewAnswer (get nat_cmp views.now gateway)
         (entry.now.moment.ms + rules.now.ignore.ms) rules.now.delete.ms result }
     ensures none { (ReadsSamples entry.now → ⊥) → result ≡ None }

@@ -16,7 +16,7 @@ ghost use Rattle.breach_finding.specs.Told.{IsLateMark, IsSecondOf, IsTold};
 use block_keys::Key;
 use block_meta::{DeletionMark, MetaRefusal};
 use list_core::NoMemory;
-use moment_core::Rules;
+use moment_core::{Rules, SECOND};
 use std::alloc::Global;
 use ulid_core::Ulid;
 use world_core::{Entry, Op, Reply};
@@ -102,7 +102,7 @@ fn late_mark(
     ensures { IfOk result (IsTold (IsLateMark bytes.now moment span)) }
 {
     match mark_second(alloc, bytes)? {
-        Some(second) => Ok(over(moment, 1000 * second, span)),
+        Some(second) => Ok(over(moment, SECOND * second, span)),
         None => Ok(None),
     }
 }

@@ -11,6 +11,7 @@ use crate::puts::over;
 use crate::tables::Tables;
 use crate::watching::{Came, Told};
 use block_keys::Key;
+use moment_core::SECOND;
 use world_core::{Entry, Op};
 
 /// Whether a sync is whole with its last entry.
@@ -38,7 +39,7 @@ pub(crate) fn sync_lateness(
     if !is_whole(told.came, last) {
         return None;
     }
-    over(moment + 1000, told.begin, span)
+    over(moment + SECOND, told.begin, span)
 }
 
 /// How a read comes too late for what began then, a view or a compaction, if something did and it does.

@@ -1,6 +1,7 @@
 -- What a bucket holds, and what each call leaves and shows.
 use Rattle.std.specs.Prelude.{◌≡◌, ◌==◌, ℕ, Bool, true, false, not, IsTrue, if◌then◌else◌, List, [], ◌∷◌, take, drop, Option, Some, None}
 use Rattle.std.specs.Str.{bytes_eq}
+use Rattle.wire_bytes.specs.Files.{slash}
 use Rattle.bucket_core.specs.declared.answer.PutAnswer.{PutAnswer}
 use Rattle.bucket_core.specs.declared.answer.PutAnswer.TheVariants as put
 use Rattle.bucket_core.specs.declared.answer.GetAnswer.{GetAnswer}
@@ -15,7 +16,7 @@ Contents = List ℕ → Option (List ℕ)
 -- a text that an object may stand under: it is not empty and does not begin with a slash
 abbrev pub is_key : List ℕ → Bool
 is_key [] = false
-is_key (first ∷ rest) = not (first == 47)
+is_key (first ∷ rest) = not (first == slash)
 
 abbrev pub IsKey : List ℕ → Type 0
 IsKey text = IsTrue (is_key text)

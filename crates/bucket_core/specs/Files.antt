@@ -1,6 +1,6 @@
 -- What the reading of a file may answer.
 use Rattle.std.specs.Prelude.{◌≡◌, ℕ, ◌<◌, ◌≤◌, List, length, Option, Some, None, IsSomeAnd}
-pub use Rattle.wire_bytes.specs.Files.{file_limit}
+pub use Rattle.wire_bytes.specs.Files.{file_limit, slash}
 use Rattle.bucket_core.specs.declared.answer.ShelfAnswer.{ShelfAnswer}
 use Rattle.bucket_core.specs.declared.answer.ShelfAnswer.TheVariants.{Found, Absent, TooLarge, Failed, NoMemory}
 

@@ -1,9 +1,11 @@
 -- A page of names, by the objects that stand.
-use Rattle.std.specs.Prelude.{◌≡◌, ◌⊎◌, ◌==◌, ℕ, ◌≤◌, List, [], ◌∷◌, ◌++◌, length, All, Contains, IsSome}
+use Rattle.std.specs.Prelude.{◌≡◌, ◌⊎◌, ◌==◌, ℕ, ◌≤◌, List, [], ◌∷◌, ◌++◌, length, All, Contains, Some, IsSome}
 use Rattle.std.specs.List.{before_first}
 use Rattle.std.specs.Ordering.{nat_cmp}
 use Rattle.std.specs.Cmp.Lexicographic.{slice_cmp}
 use Rattle.std.specs.declared.cmp.Ordering.TheVariants.{Less}
+use Rattle.wire_bytes.specs.Files.{slash}
+use Rattle.list_core.specs.Order.{InOrderAfter, ComesAfter}
 use Rattle.bucket_core.specs.Contents.{Contents}
 use Rattle.bucket_core.specs.declared.answer.PageAnswer.{PageAnswer}
 use Rattle.bucket_core.specs.declared.answer.PageAnswer.TheVariants.{Names, Failed, NoMemory}
@@ -14,14 +16,13 @@ Before one other = slice_cmp nat_cmp one other ≡ Less
 
 -- each text is greater than the one before it, the first one than this
 abbrev pub Ascends : List ℕ → List (List ℕ) → Type 0
-Ascends after [] = Unit {0}
-Ascends after (name ∷ names) = Before after name × Ascends name names
+Ascends after names = InOrderAfter (ComesAfter (slice_cmp nat_cmp)) (Some after) names
 
 -- the name under which a folder lists a key: the text after the folder and a slash, and where no folder is
 -- given the key's part before its first slash
 abbrev pub Lists : List ℕ → List ℕ → List ℕ → Type 0
-Lists [] key name = name ≡ before_first (λ byte. byte == 47) key
-Lists (byte ∷ bytes) key name = key ≡ (byte ∷ bytes) ++ 47 ∷ name
+Lists [] key name = name ≡ before_first (λ byte. byte == slash) key
+Lists (byte ∷ bytes) key name = key ≡ (byte ∷ bytes) ++ slash ∷ name
 
 -- some object that stands is listed under the name
 abbrev pub IsName : Contents → List ℕ → List ℕ → Type 0

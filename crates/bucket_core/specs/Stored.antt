@@ -6,13 +6,14 @@ use Rattle.std.specs.Ordering.{nat_cmp, ordering_then, is_lt}
 use Rattle.std.specs.Cmp.Lexicographic.{slice_cmp}
 use Rattle.std.specs.Str.{bytes_eq}
 use Rattle.std.specs.declared.cmp.Ordering.{Ordering}
+use Rattle.wire_bytes.specs.Files.{slash}
 use Rattle.bucket_core.specs.Contents.{Contents, is_key}
 use Rattle.bucket_core.specs.Pages.{IsPage}
 use Rattle.bucket_core.specs.declared.stored.Stored.{Stored}
 
 -- a key's part before its first slash
 abbrev pub first_part : List ℕ → List ℕ
-first_part key = before_first (λ byte. byte == 47) key
+first_part key = before_first (λ byte. byte == slash) key
 
 -- keys are ordered by their first parts, and where these agree by their texts: so the first parts ascend too
 abbrev pub key_cmp : List ℕ → List ℕ → Ordering
@@ -65,7 +66,7 @@ text_after (byte ∷ bytes) (first ∷ rest) = if byte == first then text_after 
 -- the name under which a folder, or the whole bucket, lists a key
 abbrev pub name_of : List ℕ → List ℕ → Option (List ℕ)
 name_of [] key = Some (first_part key)
-name_of (byte ∷ bytes) key = text_after ((byte ∷ bytes) ++ 47 ∷ []) key
+name_of (byte ∷ bytes) key = text_after ((byte ∷ bytes) ++ slash ∷ []) key
 
 -- the names of objects in their order, up to the first that has none
 abbrev pub names_of : List ℕ → List Stored → List (List ℕ)

@@ -1,5 +1,6 @@
 ghost use Rattle.std.specs.Prelude.{◌≡◌, ◌++◌, ◌∷◌, [], IfOk, IsTrue, option_map};
 ghost use Rattle.std.specs.String.{string_bytes};
+ghost use Rattle.wire_bytes.specs.Files.{slash};
 ghost use Rattle.bucket_core.specs.Pages.{IsPage};
 ghost use Rattle.bucket_core.specs.Stored.{text_after, name_of, names_of, picked, in_order, object_in, IsStart};
 
@@ -18,14 +19,14 @@ fn rest_after<'a>(text: &str, key: &'a str) -> Option<&'a str>
 
 /// What follows the slash at the front.
 fn after_slash(key: &str) -> Option<&str>
-    ensures { option_map (λ rest. rest.now) result ≡ text_after (47 ∷ []) key.now }
+    ensures { option_map (λ rest. rest.now) result ≡ text_after (slash ∷ []) key.now }
 {
     key.strip_prefix('/')
 }
 
 /// What follows a folder and a slash in a key.
 fn after_folder<'a>(within: &str, key: &'a str) -> Option<&'a str>
-    ensures { option_map (λ rest. rest.now) result ≡ text_after (within.now ++ 47 ∷ []) key.now }
+    ensures { option_map (λ rest. rest.now) result ≡ text_after (within.now ++ slash ∷ []) key.now }
 {
     match rest_after(within, key) {
         Some(rest) => after_slash(rest),
@@ -73,7 +74,7 @@ fn pick_names(
 
 /// The key of a name in a folder.
 fn folder_key(alloc: Global, within: &str, name: &str) -> Result<String, NoMemory>
-    ensures { IfOk result (λ key. string_bytes key ≡ within.now ++ 47 ∷ name.now) }
+    ensures { IfOk result (λ key. string_bytes key ≡ within.now ++ slash ∷ name.now) }
 {
     let mut key = String::from_str(alloc, within)?;
     key.push_str("/")?;

@@ -1,6 +1,7 @@
 -- What a call of the program comes to, why, and what it then writes.
 use Rattle.std.specs.Prelude.{◌≡◌, ◌≢◌, ◌⊎◌, ◌<◌, ℕ, List, [], ◌∷◌, ◌++◌, Bool, true, false, Option, Some, None, option_map, IfSome, IsSome, IsSomeAnd, Ok, Err, codes}
 use Rattle.std.specs.List.{list_all}
+use Rattle.reading_core.specs.Lines.{newline}
 use Rattle.bucket_core.specs.Causes.{Rose}
 use Rattle.bucket_core.specs.Contents.{Contents, nothing}
 use Rattle.bucket_core.specs.Pages.{IsPage}
@@ -32,7 +33,6 @@ use Rattle.report_lines.specs.script_running.specs.Outcomes.{PhasesCame}
 use Rattle.call_verdicts.specs.Output.{IsWrittenInPart}
 use Rattle.report_lines.specs.breach_finding.specs.declared.found.Breach.{Breach}
 use Rattle.report_lines.specs.BreachLines.{HasBreach, breach_text}
-use Rattle.report_lines.specs.Reports.{newline}
 use Rattle.report_lines.specs.Telling.{report_of, tasks_of}
 use Rattle.report_lines.specs.script_running.specs.Outcomes.{is_as_asked}
 use Rattle.call_verdicts.specs.ShelfReads.{IsOfShelf}

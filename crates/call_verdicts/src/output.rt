@@ -1,8 +1,9 @@
-ghost use Rattle.std.specs.Prelude.{◌≡◌, ◌≤◌, ◌++◌, List, ℕ, length, drop, option_map, OnOk, OnErr};
+ghost use Rattle.std.specs.Prelude.{◌≡◌, ◌≤◌, ◌++◌, List, ℕ, option_map, OnOk, OnErr};
 ghost use Rattle.bucket_core.specs.Causes.{Rose};
 ghost use Rattle.call_verdicts.specs.Output.{IsWrittenInPart};
 
 use bucket_core::{Sink, WriteAnswer};
+use list_core::behind;
 
 /// The sink failed.
 #[derive(Clone, Copy, Debug, PartialEq, Eq)]
@@ -19,18 +20,9 @@ pub fn write_all<K: Sink>(out: &mut K, text: &[u8]) -> Result<(), SinkFault>
     let mut left = text;
     while !left.is_empty() {
         match out.write(left) {
-            WriteAnswer::Took(count) => left = past(left, count),
+            WriteAnswer::Took(count) => left = behind(left, count),
             WriteAnswer::Failed => return Err(SinkFault),
         }
     }
     Ok(())
-}
-
-/// What is left of the bytes after the first ones.
-fn past(bytes: &[u8], count: usize) -> &[u8]
-    requires { count ≤ length bytes.now }
-    ensures { result.now ≡ drop count bytes.now }
-{
-    let (_, rest) = bytes.split_at(count);
-    rest
 }

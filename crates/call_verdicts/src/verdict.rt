@@ -1,6 +1,6 @@
 ghost use Rattle.std.specs.Prelude.{◌≡◌, ◌≢◌, ◌++◌, ◌∷◌, [], codes, false, IfOk, OnErr, OnOk};
+ghost use Rattle.reading_core.specs.Lines.{newline};
 ghost use Rattle.report_lines.specs.CheckLines.{check_line};
-ghost use Rattle.report_lines.specs.Reports.{newline};
 ghost use Rattle.script_fields.specs.Wording.{refusal_text};
 ghost use Rattle.call_verdicts.specs.Verdicts.{first_of, is_at_hand, last_of, status_of};
 

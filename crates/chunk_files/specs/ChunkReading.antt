@@ -2,16 +2,13 @@
 use Rattle.std.specs.Prelude.{ℕ, ◌+◌, List, drop, slice_index, Result, Ok, Err, ◌==◌, ◌||◌, nat_le, if◌then◌else◌}
 use Rattle.std.specs.Int.{w8, w32}
 use Rattle.reading_core.specs.Reading.{◌>>=◌, ◌>>◌, unless, refused_as}
-use Rattle.wire_bytes.specs.Position.{Position}
+use Rattle.wire_bytes.specs.Position.{start}
 use Rattle.wire_bytes.specs.Fields.{number_at, uvarint_at, bytes_at}
 use Rattle.wire_bytes.specs.Crc.{crc}
 use Rattle.wire_bytes.specs.declared.refusal.WireRefusal.{WireRefusal}
 use Rattle.chunk_files.specs.Layout.{magic, version, header_size, xor, histogram, float_histogram}
 use Rattle.chunk_files.specs.declared.refusal.ChunkRefusal.{ChunkRefusal}
 use Rattle.chunk_files.specs.declared.refusal.ChunkRefusal.TheVariants.{BadMagic, BadVersion, Short, BadSum, Histogram, UnknownEncoding}
-
-abbrev pub start : List ℕ → Position
-start bytes = record { bytes = bytes; place = 0 }
 
 -- a field that cannot be read
 abbrev pub as_short : WireRefusal → ChunkRefusal

@@ -13,6 +13,10 @@ version = 1
 abbrev pub header_size : ℕ
 header_size = 8
 
+-- how many bytes a chunk has beside its length and its data: its encoding, and the sum
+abbrev pub frame_size : ℕ
+frame_size = 5
+
 -- how many bytes a segment has at most
 abbrev pub greatest : ℕ
 greatest = file_limit

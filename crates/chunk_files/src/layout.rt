@@ -7,7 +7,10 @@ pub(crate) const MAGIC: u32 = 0x85BD_40DD;
 pub(crate) const VERSION: u8 = 1;
 
 /// The length of a segment's header, before which no chunk begins.
-pub(crate) const HEADER: u64 = 8;
+pub const HEADER_SIZE: u64 = 8;
+
+/// How many bytes a chunk has beside its length and its data: its encoding, and the sum.
+pub const FRAME_SIZE: usize = 5;
 
 /// The greatest length of a segment.
 pub const GREATEST: usize = FILE_LIMIT;

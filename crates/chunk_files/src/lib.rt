@@ -7,7 +7,7 @@ mod refusal;
 mod segment_refusal;
 mod segment_writer;
 
-pub use layout::GREATEST;
+pub use layout::{FRAME_SIZE, GREATEST, HEADER_SIZE};
 pub use reading::{read_chunk, read_summed, take_chunk};
 pub use refusal::ChunkRefusal;
 pub use segment_refusal::SegmentRefusal;

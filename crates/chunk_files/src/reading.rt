@@ -9,7 +9,7 @@ ghost use Rattle.chunk_files.specs.ChunkReading.{as_short, header_at, by_encodin
 ghost use Rattle.chunk_files.specs.Layout.{xor};
 
 use crate::ChunkRefusal;
-use crate::layout::{FLOAT_HISTOGRAM, HEADER, HISTOGRAM, MAGIC, VERSION, XOR};
+use crate::layout::{FLOAT_HISTOGRAM, HEADER_SIZE, HISTOGRAM, MAGIC, VERSION, XOR};
 use wire_bytes::{Cursor, crc_of};
 
 /// The encoding and as many bytes of data.
@@ -140,7 +140,7 @@ fn segment_summed<'a>(segment: &'a [u8], offset: u64) -> Result<(&'a [u8], u32),
     ensures bytes { IsBytes segment.now }
 {
     test_header(segment)?;
-    if offset < HEADER {
+    if offset < HEADER_SIZE {
         return Err(ChunkRefusal::Short);
     }
     if offset > segment.len() as u64 {

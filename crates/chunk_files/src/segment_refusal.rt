@@ -2,7 +2,6 @@ ghost use Rattle.std.specs.Prelude.{◌≡◌};
 ghost use Rattle.chunk_files.specs.declared.segment_refusal.SegmentRefusal.TheVariants.{NoMemory as IsNoMemory};
 
 use list_core::NoMemory;
-use std::alloc::AllocError;
 
 /// Why a chunk is not appended.
 #[derive(Clone, Copy, Debug, PartialEq, Eq)]
@@ -16,14 +15,6 @@ impl From<NoMemory> for SegmentRefusal {
     ghost from_gives = { λ _ e. e ≡ IsNoMemory };
 
     fn from(_: NoMemory) -> Self {
-        SegmentRefusal::NoMemory
-    }
-}
-
-impl From<AllocError> for SegmentRefusal {
-    ghost from_gives = { λ _ e. e ≡ IsNoMemory };
-
-    fn from(_: AllocError) -> Self {
         SegmentRefusal::NoMemory
     }
 }

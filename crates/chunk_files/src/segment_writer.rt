@@ -6,7 +6,7 @@ ghost use Rattle.chunk_files.specs.Chunk.{IsChunk, IsPlace, header, frame_text};
 ghost use Rattle.chunk_files.specs.Layout.{greatest, xor};
 
 use crate::SegmentRefusal;
-use crate::layout::{GREATEST, MAGIC, VERSION, XOR};
+use crate::layout::{FRAME_SIZE, GREATEST, MAGIC, VERSION, XOR};
 use list_core::NoMemory;
 use std::alloc::Global;
 use std::marker::Model;
@@ -53,7 +53,7 @@ fn fits(filled: usize, content: &[u8]) -> bool
     ensures { IsTrue result ↔ (filled + length (frame_text content.now) ≤ greatest) }
 {
     let size = content.len();
-    size <= GREATEST && size_of_length(size) + size + 5 <= GREATEST - filled
+    size <= GREATEST && size_of_length(size) + size + FRAME_SIZE <= GREATEST - filled
 }
 
 /// Puts a chunk's length, encoding and data behind others, and gives where its encoding stands. Where memory is wanting, a part

@@ -10,7 +10,7 @@ use Rattle.block_keys.specs.declared.key.Key.TheVariants.{Segment}
 use Rattle.world_core.specs.Plans.{Plan, ends, finds, choose}
 use Rattle.world_core.specs.declared.op.Op.TheVariants.{GetRange}
 use Rattle.xor_chunks.specs.Data.{data_at}
-use Rattle.chunk_files.specs.Layout.{header_size, greatest}
+use Rattle.chunk_files.specs.Layout.{header_size, greatest, frame_size}
 use Rattle.chunk_files.specs.ChunkReading.{chunk_at}
 use Rattle.index_parts.specs.Placed.{at_place}
 use Rattle.index_parts.specs.declared.chunk_place.ChunkPlace.{ChunkPlace}
@@ -29,7 +29,7 @@ unfoldable pub chunk_len_at : List ℕ → ℕ → Result ℕ (Unit {0})
 chunk_len_at bytes at = do
   size ← refused_as (λ _. tt) (uvarint_at (at_place bytes at))
   unless (nat_le size.0 greatest) tt
-  Ok (size.1.place - at + size.0 + 5)
+  Ok (size.1.place - at + size.0 + frame_size)
 
 -- Whether these are the samples of a chunk at the place: there are some, with the times that the place tells, within the block's.
 -- No chunk stands in the header of a segment.

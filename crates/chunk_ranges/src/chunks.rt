@@ -1,17 +1,17 @@
 //! One chunk of a segment, by the bytes that were read of it.
-ghost use Rattle.std.specs.Prelude.{◌≡◌, ◌↔◌, ◌+◌, ◌≤◌, ◌<◌, ◌-◌, length, drop, option_copied, IsTrue, IfOk, IfSome, Ok, Err};
+ghost use Rattle.std.specs.Prelude.{◌≡◌, ◌↔◌, ◌+◌, ◌≤◌, ◌<◌, ◌-◌, length, IsTrue, IfOk, IfSome, Ok, Err};
 ghost use Rattle.std.specs.List.{list_all};
 ghost use Rattle.std.specs.Result.{result_ok};
-ghost use Rattle.chunk_files.specs.Layout.{greatest};
-ghost use Rattle.block_content.specs.ContentReading.{is_time, have_times_of};
+ghost use Rattle.chunk_files.specs.Layout.{greatest, frame_size};
 ghost use Rattle.read_ranges.specs.Asking.{block_asked};
 ghost use Rattle.chunk_ranges.specs.ChunkReads.{chunk_len_at, is_chunk_of, stored_at, chunk_samples_at};
 ghost use Rattle.read_ranges.specs.Findings.{ReadsAs, ReadsBehind};
 
-use chunk_files::{GREATEST, take_chunk};
+use block_content::have_times_of;
+use chunk_files::{FRAME_SIZE, GREATEST, HEADER_SIZE, take_chunk};
 use index_parts::ChunkPlace;
 use label_sets::{Sample, SampleList};
-use list_core::NoMemory;
+use list_core::{NoMemory, behind};
 use read_ranges::Asked;
 use wire_bytes::Cursor;
 use xor_chunks::{XorRefusal, append_stored};
@@ -19,8 +19,11 @@ use xor_chunks::{XorRefusal, append_stored};
 /// How many bytes a chunk's data has at most.
 const MOST: u64 = GREATEST as u64;
 
+/// How many bytes a chunk has beside its length and its data.
+const FRAME: u64 = FRAME_SIZE as u64;
+
 /// How many bytes the header of a segment takes.
-const HEADER: u32 = 8;
+const HEADER: u32 = HEADER_SIZE as u32;
 
 /// How many bytes the chunk at a place takes: its length, its encoding, its data and their sum.
 /// None where its length cannot be read, or is more than a segment can have.
@@ -28,7 +31,7 @@ const HEADER: u32 = 8;
 pub fn chunk_len(bytes: &[u8], at: u64) -> Option<u64>
     ensures value { result ≡ result_ok (chunk_len_at bytes.now at) }
     ensures within { IfSome result
-        (λ len. (at ≤ length bytes.now) × (at + len ≤ length bytes.now + greatest + 5)) }
+        (λ len. (at ≤ length bytes.now) × (at + len ≤ length bytes.now + greatest + frame_size)) }
 {
     if at > bytes.len() as u64 {
         return None;
@@ -38,27 +41,10 @@ pub fn chunk_len(bytes: &[u8], at: u64) -> Option<u64>
     let mut cursor = Cursor::at(bytes, at as usize);
     match cursor.take_uvarint() {
         Ok(size) if size <= MOST => Some(
-            cursor.place().saturating_sub(at as usize) as u64 + size + 5,
+            cursor.place().saturating_sub(at as usize) as u64 + size + FRAME,
         ),
         _ => None,
     }
-}
-
-/// Whether there is a sample, and it is at this time.
-fn is_at(sample: Option<&Sample>, time: i64) -> bool
-    ensures { result ≡ is_time (option_copied sample.entry) time }
-{
-    match sample {
-        Some(sample) => sample.time == time,
-        None => false,
-    }
-}
-
-/// Whether the first and the last sample are at the times that the place tells.
-fn have_times_of(place: &ChunkPlace, samples: &[Sample]) -> bool
-    ensures { result ≡ have_times_of place.now samples.now }
-{
-    is_at(samples.first(), place.min) && is_at(samples.last(), place.max)
 }
 
 /// Whether samples are those of a chunk at a place.
@@ -82,14 +68,6 @@ fn are_chunks_of(asked: &Asked<'_>, samples: &[Sample], places: &[ChunkPlace]) -
         }
     }
     true
-}
-
-/// The samples behind so many.
-fn behind(samples: &[Sample], count: usize) -> &[Sample]
-    requires { count ≤ length samples.now }
-    ensures { result.now ≡ drop count samples.now }
-{
-    &samples[count..]
 }
 
 /// Whether memory ran out.

@@ -1,5 +1,5 @@
 //! What the read of a group shows of its chunks.
-ghost use Rattle.std.specs.Prelude.{◌≡◌, ◌+◌, ◌-◌, ◌<◌, ◌≤◌, ◌++◌, [], ◌∷◌, true, drop, length, Ok, Some, None, IfOk};
+ghost use Rattle.std.specs.Prelude.{◌≡◌, ◌+◌, ◌-◌, ◌<◌, ◌++◌, [], ◌∷◌, true, Ok, Some, None, IfOk};
 ghost use Rattle.std.specs.List.Sorted.{IsNonDecreasingBy};
 ghost use Rattle.index_parts.specs.SeriesEntry.{reference_of};
 ghost use Rattle.reading_core.specs.Firsts.{each_at};
@@ -15,7 +15,7 @@ use crate::chunks::{chunk_len, chunk_samples};
 use index_file::IndexSeries;
 use index_parts::{ChunkPlace, reference_of};
 use label_sets::SampleList;
-use list_core::NoMemory;
+use list_core::{NoMemory, behind};
 use read_ranges::{Asked, GroupRead};
 use std::collections::VecDeque;
 
@@ -97,14 +97,6 @@ fn add_chunk(
         Some(rows) => Ok(Some(GroupShown { rows, pending })),
         None => Ok(None),
     }
-}
-
-/// The bytes behind so many.
-fn behind(bytes: &[u8], count: usize) -> &[u8]
-    requires { count ≤ length bytes.now }
-    ensures { result.now ≡ drop count bytes.now }
-{
-    &bytes[count..]
 }
 
 /// Shows the chunk of a group at a reference behind others. None where the read shows no chunk.

@@ -3,14 +3,14 @@ ghost use Rattle.cleaner.specs.Marks.{is_old_mark as is_old, is_old_block as is_
 ghost use Rattle.block_meta.specs.MetaFields.{mark_fields_of};
 
 use block_meta::DeletionMark;
-use moment_core::{Moment, Span};
+use moment_core::{Moment, SECOND, Span};
 use ulid_core::Ulid;
 
 /// Tells whether a mark that was read at that moment is older than the delay. A mark counts from its second on.
 pub(crate) fn is_old_mark(mark: &DeletionMark, read: Moment, delay: Span) -> bool
     ensures { result ≡ is_old (mark_fields_of mark.now) read delay }
 {
-    read.ms.saturating_sub(mark.deletion_time * 1000) > delay.ms
+    read.ms.saturating_sub(mark.deletion_time * SECOND) > delay.ms
 }
 
 /// Tells whether a block of that name is older than the delay at a moment.

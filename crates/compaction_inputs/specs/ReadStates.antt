@@ -2,6 +2,7 @@
 use Rattle.std.specs.Prelude.{ℕ, ◌+◌, ◌*◌, List, [], ◌∷◌, ◌++◌, length, Option, Some, None, IfSome, Result, Ok, Err}
 use Rattle.list_core.specs.declared.memory.NoMemory.{NoMemory}
 use Rattle.block_keys.specs.declared.key.Key.TheVariants as key
+use Rattle.block_keys.specs.Keys.{segment_limit}
 use Rattle.block_meta.specs.declared.meta.Meta.{Meta}
 use Rattle.world_core.specs.Plans.{Plan, Runs, never}
 use Rattle.world_core.specs.declared.op.Op.{Op}
@@ -60,11 +61,15 @@ asked_at Over = None
 abbrev pub asked_read : Reads → Option Op
 asked_read reads = asked_at reads.stage
 
+-- how many objects of a block are read at most: its index and its segments
+abbrev pub most_read : ℕ
+most_read = segment_limit + 1
+
 -- at most so many operations are still asked for, and one more
 abbrev pub count_at : ReadStage → ℕ → ℕ
-count_at (Fresh meta) waiting = 1_000_000 * waiting + 1_000_001
-count_at (Indexing meta) waiting = 1_000_000 * waiting + 1_000_000
-count_at (Segmenting input more) waiting = 1_000_000 * waiting + more + 1
+count_at (Fresh meta) waiting = most_read * waiting + (most_read + 1)
+count_at (Indexing meta) waiting = most_read * waiting + most_read
+count_at (Segmenting input more) waiting = most_read * waiting + more + 1
 count_at Over waiting = 0
 
 abbrev pub count_of : Reads → ℕ

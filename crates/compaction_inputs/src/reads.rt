@@ -39,7 +39,7 @@ pub struct Reads {
 
 impl Reads {
     ghost use Rattle.compaction_inputs.specs.Reading.{block_of, blocks_of};
-    ghost use Rattle.compaction_inputs.specs.ReadStates.{segments_of, left_at, left_of, asked_read, count_of, Fits};
+    ghost use Rattle.compaction_inputs.specs.ReadStates.{segments_of, left_at, left_of, asked_read, most_read, count_of, Fits};
 
     /// Begins the reads of a block and of those behind it, of which there is one at least.
     pub fn start(alloc: Global, first: Meta, others: VecDeque<Meta>) -> Reads
@@ -63,7 +63,7 @@ impl Reads {
         ensures leads { LeadsBy left_of asked_read
             (block_of self.old.inputs self.old.waiting.items meta) result self.new }
         ensures fits { Fits result }
-        ensures falls { Falls (1_000_000 * length self.old.waiting.items + 1_000_001) result
+        ensures falls { Falls (most_read * length self.old.waiting.items + (most_read + 1)) result
             (count_of self.new) }
     {
         let key = Key::Index(meta.ulid);
@@ -79,7 +79,7 @@ impl Reads {
             (after_entry (block_of self.old.inputs self.old.waiting.items meta)
             (entry_of seat op seen)) result self.new }
         ensures fits { Fits result }
-        ensures falls { Falls (1_000_000 * length self.old.waiting.items + 1_000_000) result
+        ensures falls { Falls (most_read * length self.old.waiting.items + most_read) result
             (count_of self.new) }
     {
         let Seen { seq, moment, reply } = seen;
@@ -116,7 +116,7 @@ impl Reads {
             (after_entry (left_at (ReadStage.Segmenting input more) self.old.inputs
             self.old.waiting.items) (entry_of seat op seen)) result self.new }
         ensures fits { Fits result }
-        ensures falls { Falls (1_000_000 * length self.old.waiting.items + more + 1) result
+        ensures falls { Falls (most_read * length self.old.waiting.items + more + 1) result
             (count_of self.new) }
     {
         let Seen { seq, moment, reply } = seen;
@@ -147,7 +147,7 @@ impl Reads {
             → LeadsBy left_of asked_read
             (segments_of self.old.inputs self.old.waiting.items input more last) result self.new }
         ensures fits { Fits result }
-        ensures falls { Falls (1_000_000 * length self.old.waiting.items + more + 1) result
+        ensures falls { Falls (most_read * length self.old.waiting.items + more + 1) result
             (count_of self.new) }
     {
         if more > 0 {
@@ -168,7 +168,7 @@ impl Reads {
             → LeadsBy left_of asked_read
             (blocks_of self.old.inputs self.old.waiting.items last) result self.new }
         ensures fits { Fits result }
-        ensures falls { Falls (1_000_000 * length self.old.waiting.items + 1) result
+        ensures falls { Falls (most_read * length self.old.waiting.items + 1) result
             (count_of self.new) }
     {
         match self.waiting.pop_front() {

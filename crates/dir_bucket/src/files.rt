@@ -1,6 +1,7 @@
 //! What is done to files and folders. Nothing is known of what they hold.
 ghost use Rattle.std.specs.Prelude.{◌≡◌, ◌≤◌, ◌∷◌, ◌++◌, IfOk, vec_len};
 ghost use Rattle.std.specs.String.{string_bytes};
+ghost use Rattle.wire_bytes.specs.Files.{slash};
 
 use crate::names::parent;
 use std::fs::{File, OpenFile};
@@ -13,7 +14,7 @@ const TEMPORARY: &str = ".put";
 
 /// The path of a name in a folder.
 pub(crate) fn path_of<R: AllocGlobal>(rt: &R, folder: &str, name: &str) -> io::Result<String>
-    ensures { IfOk result (λ path. string_bytes path ≡ folder.now ++ 47 ∷ name.now) }
+    ensures { IfOk result (λ path. string_bytes path ≡ folder.now ++ slash ∷ name.now) }
 {
     Ok(format!(in rt.alloc(); "{folder}/{name}")?)
 }

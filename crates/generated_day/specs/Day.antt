@@ -4,27 +4,34 @@
 use Rattle.std.specs.Prelude.{ℕ, ◌+◌, ◌*◌, ◌/◌, ◌%◌, ◌^◌, pos, List, [], ◌∷◌, ◌++◌, Bool, not, ◌==◌, if◌then◌else◌, codes}
 use Rattle.std.specs.List.{flat_map, range_with_len}
 use Rattle.reading_core.specs.Decimal.{decimal_text}
+use Rattle.reading_core.specs.Lines.{newline}
 use Rattle.ulid_core.specs.UlidText.{text_of}
 use Rattle.label_sets.specs.SampleText.{spaced_sample_text}
 use Rattle.label_sets.specs.declared.sample.Sample.{Sample}
-
-abbrev pub newline : List ℕ
-newline = 10 ∷ []
+use Rattle.moment_core.specs.Limits.{one_minute, one_hour}
 
 abbrev pub day_start : ℕ
 day_start = 1_728_000_000_000
 
 abbrev pub minutes : ℕ → ℕ
-minutes count = count * 60_000
+minutes count = count * one_minute
 
 abbrev pub hours : ℕ → ℕ
-hours count = count * 3_600_000
+hours count = count * one_hour
 
 -- the first millisecond of the block at a place, and the one behind the block before it
 abbrev pub block_start : ℕ → ℕ
 block_start place = day_start + 7_200_000 * place
 
 -- ---- samples
+
+-- how many series a block has
+abbrev pub series_count : ℕ
+series_count = 100
+
+-- how many places for samples a block has
+abbrev pub place_count : ℕ
+place_count = 480
 
 -- the pattern of a series' sample at a time, mixed of the day's number
 abbrev pub pattern : ℕ → ℕ → ℕ → ℕ
@@ -47,7 +54,7 @@ sample_part number block replica series place =
 
 -- the samples of a replica's series in a block
 unfoldable pub day_samples : ℕ → ℕ → ℕ → ℕ → List Sample
-day_samples number block replica series = flat_map (sample_part number block replica series) (range_with_len 0 480)
+day_samples number block replica series = flat_map (sample_part number block replica series) (range_with_len 0 place_count)
 
 unfoldable pub samples_text : ℕ → ℕ → ℕ → ℕ → List ℕ
 samples_text number block replica series = flat_map spaced_sample_text (day_samples number block replica series)
@@ -69,7 +76,7 @@ series_line number block replica series =
     codes "series " ++ labels_text series ++ samples_text number block replica series ++ newline
 
 unfoldable pub all_series_text : ℕ → ℕ → ℕ → List ℕ
-all_series_text number block replica = flat_map (series_line number block replica) (range_with_len 0 100)
+all_series_text number block replica = flat_map (series_line number block replica) (range_with_len 0 series_count)
 
 -- the times of a block: its first millisecond, and the one behind its last
 unfoldable pub times_text : ℕ → List ℕ

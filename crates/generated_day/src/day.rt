@@ -10,12 +10,9 @@ ghost use Rattle.generated_day.specs.Day.{all_blocks_text, all_uploads_text, all
 use crate::lines::{put_at, put_look, put_round, put_uploads, read_blocks};
 use crate::samples::DAY_START;
 use list_core::NoMemory;
+use moment_core::{HOUR, MINUTE};
 use script_core::{PartReader, Script, ScriptRefusal};
 use std::alloc::Global;
-
-const HOUR: u64 = 3_600_000;
-
-const MINUTE: u64 = 60_000;
 
 /// The script of the generated day with this number, which mixes the samples' patterns.
 pub fn generated(alloc: Global, number: u64) -> Result<Script, ScriptRefusal>

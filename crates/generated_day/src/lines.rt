@@ -2,16 +2,18 @@
 
 ghost use Rattle.std.specs.Prelude.{◌≡◌, ◌<◌, ◌≤◌, ◌*◌, ◌+◌, ◌++◌, OnOk};
 ghost use Rattle.generated_day.specs.Wanting.{ReadsOrWants};
-ghost use Rattle.generated_day.specs.Day.{two_digits, labels_text, all_series_text, times_text, external_text, at_line, upload_line, series_line, block_line, block_text, blocks_at, uploads_at, look_text, round_text, ulid_of};
+ghost use Rattle.generated_day.specs.Day.{two_digits, labels_text, all_series_text, times_text, external_text, at_line, upload_line, series_line, block_line, block_text, blocks_at, uploads_at, look_text, round_text, ulid_of, series_count};
 
 use crate::samples::{DAY_START, block_start, samples_of};
 use list_core::NoMemory;
+use moment_core::MINUTE;
 use reading_core::put_unsigned;
 use script_core::{PartReader, ScriptRefusal};
 use std::alloc::Global;
 use ulid_core::Ulid;
 
-const MINUTE: u64 = 60_000;
+/// How many series a block has.
+const SERIES_COUNT: u64 = 100;
 
 /// The ULID of a replica's block.
 fn ulid_of(block: u64, replica: u64) -> Ulid
@@ -35,7 +37,7 @@ fn put_two_digits(out: &mut Vec<u8>, number: u64) -> Result<(), NoMemory>
 
 #[tactic(auto, unfolding(crate::specs::Day::labels_text))]
 fn put_labels(out: &mut Vec<u8>, series: u64) -> Result<(), NoMemory>
-    requires { series < 100 }
+    requires { series < series_count }
     ensures { OnOk result (out.new.items ≡ out.old.items ++ labels_text series) }
 {
     out.extend_from_slice(b"{__name__=\"m\",inst=\"i")?;
@@ -54,7 +56,7 @@ fn read_series(
     series: u64,
 ) -> Result<(), ScriptRefusal>
     requires block { block < 12 }
-    requires series { series < 100 }
+    requires series { series < series_count }
     ensures { ReadsOrWants reader.old reader.new (series_line number block replica series)
         result }
 {
@@ -131,7 +133,7 @@ fn read_all_series(
     requires block { block < 12 }
     ensures { ReadsOrWants reader.old reader.new (all_series_text number block replica) result }
 {
-    for series in 0..100 {
+    for series in 0..SERIES_COUNT {
         read_series(reader, alloc, number, block, replica, series)?;
     }
     Ok(())

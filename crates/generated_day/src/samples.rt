@@ -1,7 +1,7 @@
 //! The samples of the generated day.
 
 ghost use Rattle.std.specs.Prelude.{◌≡◌, ◌<◌, ◌≤◌, ◌^◌, ◌++◌, IfOk, OnOk};
-ghost use Rattle.generated_day.specs.Day.{block_start, pattern, sample, has_sample, sample_part, day_samples};
+ghost use Rattle.generated_day.specs.Day.{block_start, pattern, sample, has_sample, sample_part, day_samples, series_count, place_count};
 
 use label_sets::{Sample, SampleList};
 use list_core::NoMemory;
@@ -18,6 +18,9 @@ const STEP: u64 = 15_000;
 
 /// How many samples a replica's series has at most.
 const MOST_SAMPLES: usize = 412;
+
+/// How many places for samples a block has.
+const PLACE_COUNT: u64 = 480;
 
 const SERIES_SEED: u64 = 1_000_003;
 
@@ -36,7 +39,7 @@ pub(crate) fn block_start(place: u64) -> u64
 }
 
 fn pattern(number: u64, series: u64, time: u64) -> u64
-    requires series { series < 100 }
+    requires series { series < series_count }
     requires time { time < 2 ^ 41 }
     ensures { result ≡ pattern number series time }
 {
@@ -46,8 +49,8 @@ fn pattern(number: u64, series: u64, time: u64) -> u64
 
 fn sample(number: u64, block: u64, series: u64, place: u64) -> Sample
     requires block { block < 12 }
-    requires series { series < 100 }
-    requires place { place < 480 }
+    requires series { series < series_count }
+    requires place { place < place_count }
     ensures { result ≡ sample number block series place }
 {
     let time = block_start(block) + STEP * place;
@@ -76,8 +79,8 @@ fn push_sample(
     place: u64,
 ) -> Result<(), NoMemory>
     requires block { block < 12 }
-    requires series { series < 100 }
-    requires place { place < 480 }
+    requires series { series < series_count }
+    requires place { place < place_count }
     ensures { OnOk result (samples.new.items
         ≡ samples.old.items ++ sample_part number block replica series place) }
 {
@@ -96,12 +99,12 @@ pub(crate) fn samples_of(
     series: u64,
 ) -> Result<SampleList, NoMemory>
     requires block { block < 12 }
-    requires series { series < 100 }
+    requires series { series < series_count }
     ensures { IfOk result (λ samples. samples ≡ day_samples number block replica series) }
 {
     let mut samples = Vec::new(alloc);
     samples.reserve(MOST_SAMPLES)?;
-    for place in 0..480 {
+    for place in 0..PLACE_COUNT {
         push_sample(&mut samples, number, block, replica, series, place)?;
     }
     Ok(SampleList::from_vec(samples))

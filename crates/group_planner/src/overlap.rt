@@ -1,5 +1,4 @@
 ghost use Rattle.std.specs.Prelude.{◌≡◌, ◌++◌, ◌≤◌, ◌<◌, ◌+◌, ◌==◌, [], if◌then◌else◌, int_lt, List, length, take, drop, IfOk};
-ghost use Rattle.std.specs.Int.{int_max};
 ghost use Rattle.block_meta.specs.declared.meta.Meta.{Meta};
 ghost use Rattle.group_planner.specs.Members.{ulids_of as ulids_of_all};
 ghost use Rattle.group_planner.specs.Runs.{IsLongestRun};
@@ -7,7 +6,7 @@ ghost use Rattle.group_planner.specs.Overlaps.{IsEndOf, overlaps_as, IsOverlapPl
 
 use crate::MetaList;
 use crate::members::ulids_of;
-use block_meta::Meta;
+use block_meta::{Meta, later_end};
 use list_core::NoMemory;
 use std::alloc::Global;
 use ulid_core::UlidList;
@@ -69,10 +68,4 @@ fn overlaps(meta: &Meta, end: i64) -> bool
     ensures { result ≡ int_lt meta.now.min_time end }
 {
     meta.min_time < end
-}
-
-fn later_end(meta: &Meta, end: i64) -> i64
-    ensures { result ≡ int_max end meta.now.max_time }
-{
-    end.max(meta.max_time)
 }

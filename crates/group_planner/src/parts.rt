@@ -1,5 +1,6 @@
 ghost use Rattle.std.specs.Prelude.{◌≡◌, ◌≤◌, ◌+ℤ◌, ◌<ℤ◌, ◌≤ℤ◌, neg_ℤ, pos, ◌^◌, ℤ, [], List, map, length, take, drop, IfOk, MatchOption};
 ghost use Rattle.block_meta.specs.declared.meta.Meta.{Meta};
+ghost use Rattle.label_sets.specs.Limits.{time_limit};
 ghost use Rattle.group_planner.specs.Members.{ulids_of as ulids_of_all};
 ghost use Rattle.group_planner.specs.Runs.{IsLongestRun};
 ghost use Rattle.group_planner.specs.Parts.{start_of, fits as fits_range, fits_at as fits_range_at, IsStart, IsNextPart, NoneFits, AreParts};
@@ -89,7 +90,7 @@ fn start_of(meta: &Meta, range: i64) -> i128
     requires { pos 0 <ℤ range }
     ensures value { result ≡ start_of range meta.now.min_time }
     ensures low { neg_ℤ (pos (2 ^ 64)) ≤ℤ result }
-    ensures high { result ≤ℤ pos (2 ^ 62) }
+    ensures high { result ≤ℤ pos time_limit }
 {
     i128::from(meta.min_time) - i128::from(meta.min_time.rem_euclid(range))
 }

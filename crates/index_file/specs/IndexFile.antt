@@ -1,12 +1,12 @@
 -- An index of version 2, apart from reading and writing: which bytes hold which series.
-use Rattle.std.specs.Prelude.{◌≡◌, ◌≢◌, ◌⊎◌, ℕ, ◌*◌, ◌≤◌, ◌==◌, List, [], ◌∷◌, ◌++◌, length, map, take, slice_get, Some, MatchBool}
+use Rattle.std.specs.Prelude.{◌≡◌, ◌≢◌, ◌⊎◌, ℕ, ◌+◌, ◌*◌, ◌≤◌, ◌==◌, List, [], ◌∷◌, ◌++◌, length, map, take, slice_get, Some, MatchBool}
 use Rattle.std.specs.declared.cmp.Ordering.{Ordering}
 use Rattle.std.specs.List.{Contains}
 use Rattle.std.specs.List.Sorted.{IsStrictlySortedBy}
 use Rattle.label_sets.specs.declared.label.Label.{Label}
 use Rattle.label_sets.specs.Labels.{IsLabelSet, compare_sets, compare_texts}
 use Rattle.index_parts.specs.declared.postings_row.PostingsRow.{PostingsRow}
-use Rattle.index_parts.specs.Contents.{IsToc}
+use Rattle.index_parts.specs.Contents.{IsToc, contents_size}
 use Rattle.index_parts.specs.Symbols.{IsSymbols}
 use Rattle.index_parts.specs.SeriesEntry.{IsSeries}
 use Rattle.index_parts.specs.Postings.{IsPostings}
@@ -26,9 +26,12 @@ version = 2
 abbrev pub header : List ℕ
 header = magic ++ version ∷ []
 
+abbrev pub header_size : ℕ
+header_size = 5
+
 -- the size of the header and the table of contents
 abbrev pub least_size : ℕ
-least_size = 57
+least_size = header_size + contents_size
 
 -- A section that holds a list stands at its reference. The reference 0 says that there is none, and then the list is empty.
 abbrev pub Holds : {A : Type 0} → (List ℕ → ℕ → List A → Type 0) → List ℕ → ℕ → List A → Type 0
@@ -38,7 +41,7 @@ Holds IsSectionOf index reference members = MatchBool (reference == 0) (members 
 -- stand. Nothing is said here of what lies between sections, nor of the label indices and their table, which nobody reads
 -- (LabelTable says which values they list).
 pub record IsOpened (opened : Opened) : Type 0 where
-  pub begins : take 5 opened.bytes ≡ header
+  pub begins : take header_size opened.bytes ≡ header
   pub long : least_size ≤ length opened.bytes
   pub toc_is : IsToc opened.bytes opened.toc
   pub symbols_are : Holds IsSymbols opened.bytes opened.toc.symbols opened.symbols
@@ -50,12 +53,16 @@ pub record IsOpened (opened : Opened) : Type 0 where
 abbrev pub StandFor : List (List ℕ) → List ℕ → List (List ℕ) → Type 0
 StandFor symbols numbers texts = map (slice_get symbols) numbers ≡ map (λ text. Some text) texts
 
--- A series of this number stands at sixteen times the number, with its names and its values as symbol numbers. Its labels
+-- a series stands at a multiple of this, and has that of it as its number
+abbrev pub series_unit : ℕ
+series_unit = 16
+
+-- A series of this number stands at so many times the number, with its names and its values as symbol numbers. Its labels
 -- are a label set.
 pub record IsSeriesOf (index : List ℕ) (symbols : List (List ℕ)) (number : ℕ) (series : IndexSeries) : Type 0 where
   pub names : List ℕ
   pub values : List ℕ
-  pub stands : IsSeries index (16 * number) (record { names = names; values = values; chunks = series.chunks })
+  pub stands : IsSeries index (series_unit * number) (record { names = names; values = values; chunks = series.chunks })
   pub names_are : StandFor symbols names (map (λ l. l.name) series.labels)
   pub values_are : StandFor symbols values (map (λ l. l.value) series.labels)
   pub lawful : IsLabelSet series.labels

@@ -4,5 +4,5 @@
 mod header;
 mod index_series;
 
-pub use header::{LEAST_SIZE, MAGIC, VERSION};
+pub use header::{HEADER_SIZE, LEAST_SIZE, MAGIC, SERIES_UNIT, VERSION};
 pub use index_series::{IndexSeries, IndexSeriesList};

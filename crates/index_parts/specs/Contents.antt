@@ -1,4 +1,4 @@
--- The table of contents (TOC), which is the last 52 bytes of an index.
+-- The table of contents (TOC), which is the last bytes of an index.
 use Rattle.std.specs.Prelude.{◌≡◌, ℕ, List, [], ◌∷◌, ◌++◌}
 use Rattle.std.specs.Int.{w32, w64, to_be_bytes}
 use Rattle.std.specs.List.{flat_map}
@@ -10,6 +10,14 @@ use Rattle.index_parts.specs.declared.toc.Toc.{Toc}
 -- its references in the order in which they stand
 abbrev pub references_of : Toc → List ℕ
 references_of toc = toc.symbols ∷ toc.series ∷ toc.label_indices ∷ toc.label_offsets ∷ toc.postings ∷ toc.postings_table ∷ []
+
+-- how many bytes the references take
+abbrev pub references_size : ℕ
+references_size = 48
+
+-- how many bytes they and their sum take
+abbrev pub contents_size : ℕ
+contents_size = 52
 
 -- The index ends with the references, each in eight bytes, and their sum.
 pub record IsToc (index : List ℕ) (toc : Toc) : Type 0 where

@@ -9,6 +9,7 @@ use Rattle.index_parts.specs.declared.refusal.PartRefusal.TheVariants.{Short}
 use Rattle.index_parts.specs.declared.toc.Toc.{Toc}
 use Rattle.index_parts.specs.Placed.{at_place, field}
 use Rattle.index_parts.specs.Framing.{summed_at}
+use Rattle.index_parts.specs.Contents.{contents_size, references_size}
 
 -- six references
 unfoldable pub references_at : Position → Result Toc PartRefusal
@@ -28,9 +29,9 @@ references_at p = do
     postings_table = postings_table.0;
   })
 
--- the last 52 bytes; where there are fewer, the refusal's place is 0
+-- the last bytes; where there are fewer, the refusal's place is 0
 unfoldable pub toc_at : List ℕ → Result Toc PartRefusal
 toc_at index = do
-  unless (nat_le 52 (length index)) (Short 0)
-  content ← summed_at (length index - 52) 48 (at_place index (length index - 52))
+  unless (nat_le contents_size (length index)) (Short 0)
+  content ← summed_at (length index - contents_size) references_size (at_place index (length index - contents_size))
   references_at content

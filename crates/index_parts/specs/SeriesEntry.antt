@@ -100,11 +100,14 @@ series_content series = labels_text series ++ (uvarint_text (length series.chunk
 abbrev pub series_text : RawSeries → List ℕ
 series_text series = entry_text (series_content series)
 
--- A chunk may stand behind another where it does not begin before that one ends, nor ends before it begins; the number of its
--- file has 31 bits, so that the step from one reference to the next is a number of 64.
+-- the number of a chunk's file has 31 bits, so that the step from one reference to the next is a number of 64
+abbrev pub segment_bound : ℕ
+segment_bound = 2 ^ 31
+
+-- A chunk may stand behind another where it does not begin before that one ends, nor ends before it begins.
 abbrev pub StartsAfter : Option ChunkPlace → ChunkPlace → Type 0
-StartsAfter None chunk = (chunk.min ≤ℤ chunk.max) × (chunk.segment < 2 ^ 31)
-StartsAfter (Some before) chunk = (before.max ≤ℤ chunk.min) × (chunk.min ≤ℤ chunk.max) × (chunk.segment < 2 ^ 31) × (before.segment < 2 ^ 31)
+StartsAfter None chunk = (chunk.min ≤ℤ chunk.max) × (chunk.segment < segment_bound)
+StartsAfter (Some before) chunk = (before.max ≤ℤ chunk.min) × (chunk.min ≤ℤ chunk.max) × (chunk.segment < segment_bound) × (before.segment < segment_bound)
 
 -- what the types of a chunk's fields say
 abbrev pub FitsTypes : ChunkPlace → Type 0

@@ -29,4 +29,4 @@ pub use row_search::Rows;
 pub use series_reading::{before_labels, chunks_behind, next_label, read_series, reference_of};
 pub use symbol_table::{SymbolTable, read_symbols};
 pub use toc::Toc;
-pub use toc_reading::read_toc;
+pub use toc_reading::{CONTENTS_SIZE, read_toc};

@@ -11,7 +11,7 @@ use crate::{PartRefusal, Toc};
 use wire_bytes::Cursor;
 
 /// How many bytes the references and their sum take.
-const SIZE: usize = 52;
+pub const CONTENTS_SIZE: usize = 52;
 
 /// How many bytes the references take.
 const REFERENCES: u64 = 48;
@@ -35,10 +35,10 @@ fn toc_of(index: &[u8]) -> Result<Toc, PartRefusal>
     ensures exact { Answers (λ toc. toc) result (toc_at index.now) }
     ensures bytes { IsBytes index.now }
 {
-    if index.len() < SIZE {
+    if index.len() < CONTENTS_SIZE {
         return Err(PartRefusal::Short(0));
     }
-    let place = index.len() - SIZE;
+    let place = index.len() - CONTENTS_SIZE;
     references_of(summed_content(index, place, place as u64, REFERENCES)?)
 }
 

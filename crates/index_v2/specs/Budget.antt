@@ -9,6 +9,7 @@ use Rattle.index_parts.specs.Placed.{at_place}
 use Rattle.index_parts.specs.declared.postings_row.PostingsRow.{PostingsRow}
 use Rattle.index_slices.specs.Parts.{Part}
 use Rattle.index_file.specs.declared.index_series.IndexSeries.{IndexSeries}
+use Rattle.index_file.specs.IndexFile.{series_unit}
 
 -- a series' labels and chunks
 abbrev pub members_of : IndexSeries → ℕ
@@ -17,6 +18,10 @@ members_of series = length series.labels + length series.chunks
 -- how many bytes a label's texts take
 abbrev pub label_bytes : Label → ℕ
 label_bytes label = length label.name + length label.value
+
+-- how many bytes of label texts an index gives at most for each byte of its own
+abbrev pub text_share : ℕ
+text_share = 64
 
 -- how many bytes the texts of a series' labels take
 abbrev pub text_bytes : IndexSeries → ℕ
@@ -29,7 +34,7 @@ told (Err e) = 0
 
 -- how many bytes the series of a number is said to take
 abbrev pub series_bytes : List ℕ → ℕ → ℕ
-series_bytes index number = told (uvarint_at (at_place index (16 * number)))
+series_bytes index number = told (uvarint_at (at_place index (series_unit * number)))
 
 -- how many bytes the list of a row is said to take
 abbrev pub list_bytes : Part → PostingsRow → ℕ

@@ -16,6 +16,25 @@ use Rattle.index_slices.specs.Parts.{known}
 use Rattle.index_v2.specs.declared.lent_parts.IndexParts.{IndexParts}
 use Rattle.index_v2.specs.Held.{Held, symbols_of, table_of, held_of}
 
+-- ---- the numbers of sections
+
+abbrev pub contents_section : ℕ
+contents_section = 0
+
+abbrev pub symbols_section : ℕ
+symbols_section = 1
+
+abbrev pub series_section : ℕ
+series_section = 2
+
+abbrev pub postings_section : ℕ
+postings_section = 5
+
+abbrev pub table_section : ℕ
+table_section = 6
+
+-- ---- refusals
+
 -- a refusal of a part, as that of its section
 abbrev pub refused_in : ℕ → PartRefusal → IndexRefusal
 refused_in section part.NoMemory = NoMemory
@@ -29,16 +48,18 @@ refused_of number refusal = BadSeries number refusal
 -- as that of the table of contents, of which only the sum can be refused in a file that is long enough
 abbrev pub refused_contents : PartRefusal → IndexRefusal
 refused_contents (part.BadSum kept computed) = BadTocSum kept computed
-refused_contents refusal = refused_in 0 refusal
+refused_contents refusal = refused_in contents_section refusal
 
 -- a section at its reference, which is absent where the reference is 0
 abbrev pub held_at : {A : Type 0} → ℕ → (List ℕ → ℕ → Result (List A) PartRefusal) → List ℕ → ℕ → Result (List A) IndexRefusal
 held_at section read index reference = if reference == 0 then Ok [] else refused_as (refused_in section) (read index reference)
 
+-- ---- what is read
+
 -- the length, the magic number, the version and the table of contents
 unfoldable pub contents_at : List ℕ → Result Toc IndexRefusal
 contents_at index = do
-  unless (nat_le least_size (length index)) (BadSection 0 (part.Short 0))
+  unless (nat_le least_size (length index)) (BadSection contents_section (part.Short 0))
   unless (starts_with nat_eq index magic) BadMagic
   unless (slice_index index 4 == version) BadVersion
   refused_as refused_contents (toc_at index)
@@ -47,13 +68,13 @@ contents_at index = do
 unfoldable pub opened_at : List ℕ → Result Opened IndexRefusal
 opened_at index = do
   toc ← contents_at index
-  symbols ← held_at 1 symbols_at index toc.symbols
-  rows ← held_at 6 postings_table_at index toc.postings_table
+  symbols ← held_at symbols_section symbols_at index toc.symbols
+  rows ← held_at table_section postings_table_at index toc.postings_table
   Ok (record { bytes = index; toc = toc; symbols = symbols; rows = rows })
 
 -- the symbols and the postings table of parts of an index
 unfoldable pub over_at : IndexParts → Result Held IndexRefusal
 over_at parts = do
-  symbols ← held_at 1 symbols_at (known (symbols_of parts)) parts.toc.symbols
-  rows ← held_at 6 postings_table_at (known (table_of parts)) parts.toc.postings_table
+  symbols ← held_at symbols_section symbols_at (known (symbols_of parts)) parts.toc.symbols
+  rows ← held_at table_section postings_table_at (known (table_of parts)) parts.toc.postings_table
   Ok (held_of parts symbols rows)

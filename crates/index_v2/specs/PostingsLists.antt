@@ -7,7 +7,7 @@ use Rattle.index_parts.specs.declared.postings_row.PostingsRow.{PostingsRow}
 use Rattle.index_slices.specs.Parts.{Part, list_in}
 use Rattle.index_v2.specs.declared.refusal.IndexRefusal.{IndexRefusal}
 use Rattle.index_v2.specs.Held.{Held}
-use Rattle.index_v2.specs.Opening.{refused_in}
+use Rattle.index_v2.specs.Opening.{refused_in, postings_section}
 
 -- a row of this name and this value
 abbrev pub is_row_of : List ℕ → List ℕ → PostingsRow → Bool
@@ -20,7 +20,7 @@ row_of rows name value = find (is_row_of name value) rows
 -- the list of a row, and the empty list where there is no row
 abbrev pub list_of : Part → Option PostingsRow → Result (List ℕ) IndexRefusal
 list_of part None = Ok []
-list_of part (Some row) = refused_as (refused_in 5) (list_in part row.offset)
+list_of part (Some row) = refused_as (refused_in postings_section) (list_in part row.offset)
 
 -- the numbers of the series that the table lists under a name and a value
 abbrev pub postings_of : Held → List ℕ → List ℕ → Result (List ℕ) IndexRefusal

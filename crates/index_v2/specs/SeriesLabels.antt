@@ -11,6 +11,7 @@ use Rattle.index_parts.specs.declared.refusal.PartRefusal.TheVariants as part
 use Rattle.wire_bytes.specs.Position.{Position}
 use Rattle.index_parts.specs.SeriesReading.{labels_at, series_at, label_place_of}
 use Rattle.index_file.specs.declared.index_series.IndexSeries.{IndexSeries}
+use Rattle.index_file.specs.IndexFile.{series_unit}
 use Rattle.index_v2.specs.declared.label_fault.LabelFault.{LabelFault}
 use Rattle.index_v2.specs.declared.label_fault.LabelFault.TheVariants.{Name, Value}
 use Rattle.index_v2.specs.declared.refusal.IndexRefusal.{IndexRefusal}
@@ -61,4 +62,4 @@ labelled_at index symbols at = do
 
 -- the series of a number, which stands at sixteen times the number
 abbrev pub numbered_at : List ℕ → List (List ℕ) → ℕ → Result IndexSeries IndexRefusal
-numbered_at index symbols number = refused_as (refused_of number) (labelled_at index symbols (16 * number))
+numbered_at index symbols number = refused_as (refused_of number) (labelled_at index symbols (series_unit * number))

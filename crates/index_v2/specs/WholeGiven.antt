@@ -6,13 +6,13 @@ use Rattle.index_parts.specs.declared.postings_row.PostingsRow.{PostingsRow}
 use Rattle.index_parts.specs.declared.refusal.PartRefusal.TheVariants.{Short}
 use Rattle.index_slices.specs.Parts.{HoldsSection}
 use Rattle.index_file.specs.Opened.{Opened}
-use Rattle.index_file.specs.IndexFile.{IsIndex}
+use Rattle.index_file.specs.IndexFile.{IsIndex, series_unit}
 use Rattle.index_file.specs.declared.index_series.IndexSeries.{IndexSeries}
 use Rattle.index_v2.specs.declared.refusal.IndexRefusal.{IndexRefusal}
 use Rattle.index_v2.specs.declared.refusal.IndexRefusal.TheVariants.{NoMemory, BadSeries, PostingsDiffer}
 use Rattle.index_v2.specs.Held.{Held, IsWhole, IsHeldOf, opened_of, whole_file}
 use Rattle.index_v2.specs.PostingsLists.{postings_of}
-use Rattle.index_v2.specs.Budget.{members_of, text_bytes}
+use Rattle.index_v2.specs.Budget.{members_of, text_bytes, text_share}
 use Rattle.index_v2.specs.WholeReading.{present_at, whole_at}
 use Rattle.index_v2.specs.Differing.{DifferFirstAt}
 
@@ -28,11 +28,11 @@ pub record GivesWhole (held : Held) (result : Result (List IndexSeries) IndexRef
   pub exact : Gives NoMemory (λ (list : List IndexSeries). list) result (whole_at held)
   -- Where parts are there, the first listed series is not; and where no series would be read it is as of the whole index.
   pub absent : (number : ℕ) (numbers : List ℕ) → held.bytes ≡ [] → postings_of held [] [] ≡ Ok (number ∷ numbers) → present_at held.toc (number ∷ numbers) ≡ Ok tt
-      → (result ≡ Err (BadSeries number (Short (16 * number)))) ⊎ (result ≡ Err NoMemory)
+      → (result ≡ Err (BadSeries number (Short (series_unit * number)))) ⊎ (result ≡ Err NoMemory)
   pub same : (opened : Opened) → IsHeldOf held opened → ((row : PostingsRow) → Contains held.rows row → HoldsSection held.lists row.offset)
       → ((number : ℕ) (numbers : List ℕ) → postings_of held [] [] ≡ Ok (number ∷ numbers) → present_at held.toc (number ∷ numbers) ≡ Ok tt → ⊥)
       → Gives NoMemory (λ (list : List IndexSeries). list) result (whole_at (whole_file opened))
   -- what it takes
   pub bounded : IfOk result (λ list. sum_by members_of list ≤ 8 * length held.bytes)
-  pub texts : IfOk result (λ list. sum_by text_bytes list ≤ 64 * length held.bytes)
+  pub texts : IfOk result (λ list. sum_by text_bytes list ≤ text_share * length held.bytes)
   pub few : IsWhole held → IfOk result (λ list. (4 * length list ≤ length held.bytes) × All (λ series. 2 * length series.labels + 3 * length series.chunks ≤ length held.bytes) list)

@@ -13,10 +13,11 @@ use Rattle.index_parts.specs.declared.toc.Toc.{Toc}
 use Rattle.index_parts.specs.declared.postings_row.PostingsRow.{PostingsRow}
 use Rattle.index_slices.specs.Parts.{Part, list_in}
 use Rattle.index_file.specs.declared.index_series.IndexSeries.{IndexSeries}
+use Rattle.index_file.specs.IndexFile.{series_unit}
 use Rattle.index_v2.specs.declared.refusal.IndexRefusal.{IndexRefusal}
 use Rattle.index_v2.specs.declared.refusal.IndexRefusal.TheVariants.{BadSection, BadSeries, PostingsDiffer}
 use Rattle.index_v2.specs.Held.{Held}
-use Rattle.index_v2.specs.Opening.{refused_in}
+use Rattle.index_v2.specs.Opening.{refused_in, symbols_section, series_section, postings_section}
 use Rattle.index_v2.specs.SeriesLabels.{numbered_at}
 use Rattle.index_parts.specs.RowOrder.{compare_row}
 use Rattle.index_v2.specs.PostingsLists.{postings_of}
@@ -25,9 +26,9 @@ use Rattle.index_v2.specs.PostingsLists.{postings_of}
 unfoldable pub present_at : Toc → List ℕ → Result (Unit {0}) IndexRefusal
 present_at toc [] = Ok tt
 present_at toc (number ∷ numbers) = do
-  unless (nat_lt 0 toc.symbols) (BadSection 1 (part.Short 0))
-  unless (nat_lt 0 toc.series) (BadSection 2 (part.Short 0))
-  unless (nat_lt 0 toc.postings) (BadSection 5 (part.Short 0))
+  unless (nat_lt 0 toc.symbols) (BadSection symbols_section (part.Short 0))
+  unless (nat_lt 0 toc.series) (BadSection series_section (part.Short 0))
+  unless (nat_lt 0 toc.postings) (BadSection postings_section (part.Short 0))
   Ok tt
 
 -- ---- the listed series, ascending by their labels
@@ -40,7 +41,7 @@ may_stand_behind (Some before) series = is_lt (compare_sets before.labels series
 unfoldable pub behind_at : List ℕ → List (List ℕ) → Option IndexSeries → ℕ → Result IndexSeries IndexRefusal
 behind_at index symbols before number = do
   series ← numbered_at index symbols number
-  unless (may_stand_behind before series) (BadSeries number (part.Unordered (16 * number)))
+  unless (may_stand_behind before series) (BadSeries number (part.Unordered (series_unit * number)))
   Ok series
 
 unfoldable pub all_at : List ℕ → List (List ℕ) → Option IndexSeries → List ℕ → Result (List IndexSeries) IndexRefusal
@@ -55,7 +56,7 @@ all_at index symbols before (number ∷ numbers) = do
 unfoldable pub lists_at : Part → List PostingsRow → Result (List (List ℕ)) IndexRefusal
 lists_at part [] = Ok []
 lists_at part (row ∷ rows) = do
-  list ← refused_as (refused_in 5) (list_in part row.offset)
+  list ← refused_as (refused_in postings_section) (list_in part row.offset)
   others ← lists_at part rows
   Ok (list ∷ others)
 

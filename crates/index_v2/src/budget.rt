@@ -1,5 +1,5 @@
 ghost use Rattle.std.specs.Prelude.{◌≡◌, ◌+◌, ◌-◌, ◌*◌, ◌^◌, ◌<◌, ◌≤◌, [], length, map, min, sum_by, IfOk, MatchResult};
-ghost use Rattle.index_v2.specs.Budget.{label_bytes, list_bytes, members_of, series_bytes, text_bytes, told};
+ghost use Rattle.index_v2.specs.Budget.{label_bytes, list_bytes, members_of, series_bytes, text_bytes, told, text_share};
 ghost use Rattle.index_v2.specs.LentLabels.{as_label};
 ghost use Rattle.std.specs.Int.{w32};
 ghost use Rattle.wire_bytes.specs.Fields.{number_at};
@@ -7,9 +7,13 @@ ghost use Rattle.index_parts.specs.Placed.{at_place};
 ghost use Rattle.index_slices.specs.Parts.{part_of};
 
 use crate::{LentLabel, LentSeries};
+use index_file::SERIES_UNIT;
 use index_slices::IndexPart;
 use list_core::NoMemory;
 use wire_bytes::Cursor;
+
+/// How many bytes of label texts are copied out of an index at most for each byte of its own.
+pub const TEXT_SHARE: usize = 64;
 
 /// How much reading the series of a whole index may cost, and as much again reading its lists: eight for each of its bytes.
 /// Spent are the bytes of each section that is read, since they are summed, and the members that it gives. Where sections do
@@ -27,16 +31,16 @@ pub(crate) fn budget_of(index: &[u8]) -> usize
 /// of its series at least, and four of a list where its row has one of its own: then only texts of some four hundred bytes,
 /// which many series share, come to more, and else such of some hundred and thirty.
 pub(crate) fn text_budget_of(size: usize) -> usize
-    ensures value { result ≡ min (64 * size) (2 ^ 64 - 1) }
-    ensures bound { result ≤ 64 * size }
+    ensures value { result ≡ min (text_share * size) (2 ^ 64 - 1) }
+    ensures bound { result ≤ text_share * size }
 {
-    size.saturating_mul(64)
+    size.saturating_mul(TEXT_SHARE)
 }
 
 /// As much for each byte of three parts of an index.
 pub(crate) fn text_budget_in(symbols: usize, table: usize, series: usize) -> usize
-    ensures value { result ≡ min (64 * (symbols + table + series)) (2 ^ 64 - 1) }
-    ensures bound { result ≤ 64 * (symbols + table + series) }
+    ensures value { result ≡ min (text_share * (symbols + table + series)) (2 ^ 64 - 1) }
+    ensures bound { result ≤ text_share * (symbols + table + series) }
 {
     text_budget_of(symbols.saturating_add(table).saturating_add(series))
 }
@@ -69,8 +73,8 @@ pub(crate) fn text_bytes(series: &LentSeries<'_>) -> Result<usize, NoMemory>
     lent_text_bytes(series.labels())
 }
 
-/// What is left of a budget behind this much.
-pub(crate) fn spend(left: usize, much: usize) -> Result<usize, NoMemory>
+/// What is left of a budget behind this much. A budget that is too small counts as a want of memory.
+pub fn spend(left: usize, much: usize) -> Result<usize, NoMemory>
     ensures { MatchResult result (λ rest. rest + much ≡ left) (λ _. left < much) }
 {
     match left.checked_sub(much) {
@@ -91,7 +95,7 @@ pub(crate) fn series_bytes(index: &[u8], number: u64) -> usize
     requires { number < 2 ^ 32 }
     ensures { result ≡ series_bytes index.now number }
 {
-    let at = 16 * number;
+    let at = SERIES_UNIT * number;
     if at > index.len() as u64 {
         return 0;
     }

@@ -8,12 +8,12 @@ ghost use Rattle.wire_bytes.specs.declared.refusal.WireRefusal.TheVariants.{Over
 ghost use Rattle.index_parts.specs.Placed.{at_place};
 ghost use Rattle.index_parts.specs.Rows.{compare_rows, IsPostingsTable};
 ghost use Rattle.index_parts.specs.Symbols.{IsSymbols};
-ghost use Rattle.index_file.specs.IndexFile.{Holds};
+ghost use Rattle.index_file.specs.IndexFile.{Holds, series_unit};
 ghost use Rattle.index_slices.specs.Parts.{part_of, file, known, IsPartOf, HoldsSection, HoldsSeries};
 ghost use Rattle.index_v2.specs.Held.{opened_in, opened_of, whole_file, IsWhole, IsHeldOf, IsReaderOf, HasList, AreSlicesOf, HoldTables};
-ghost use Rattle.index_v2.specs.Opening.{contents_at, opened_at, over_at};
+ghost use Rattle.index_v2.specs.Opening.{contents_at, opened_at, over_at, postings_section};
 ghost use Rattle.index_v2.specs.SeriesLabels.{numbered_at};
-ghost use Rattle.index_v2.specs.Budget.{text_bytes, list_bytes};
+ghost use Rattle.index_v2.specs.Budget.{text_bytes, list_bytes, text_share};
 ghost use Rattle.index_v2.specs.WholeGiven.{GivesWhole};
 ghost use Rattle.index_v2.specs.PostingsLists.{is_row_of, row_of, list_of, postings_of, values_of};
 ghost use Rattle.index_parts.specs.RowOrder.{BeginsAt, IsAlone};
@@ -252,9 +252,10 @@ impl<'a> IndexReader<'a> {
         // The first refusal.
         ensures exact { Gives IndexRefusal.NoMemory
             (λ series. series) result (numbered_at self.now.bytes self.now.symbols number) }
-        ensures texts { IfOk result (λ series. text_bytes series ≤ 64 * length self.now.bytes) }
+        ensures texts { IfOk result
+            (λ series. text_bytes series ≤ text_share * length self.now.bytes) }
         ensures absent { self.now.bytes ≡ []
-            → (result ≡ Err (IndexRefusal.BadSeries number (Short (16 * number))))
+            → (result ≡ Err (IndexRefusal.BadSeries number (Short (series_unit * number))))
             ⊎ (result ≡ Err IndexRefusal.NoMemory) }
         ensures few { IfOk result
             (λ series. 2 * length series.labels + 3 * length series.chunks ≤ length
@@ -275,7 +276,7 @@ impl<'a> IndexReader<'a> {
         at: u64,
         number: u32,
     ) -> Result<IndexSeries, IndexRefusal>
-        requires { at ≤ 16 * number }
+        requires { at ≤ series_unit * number }
 
         // What is read stands so in each index of which this is a part.
         ensures found { (index : List ℕ)
@@ -285,21 +286,22 @@ impl<'a> IndexReader<'a> {
         // A series that lies within the part is read, or refused, as in the index.
         ensures same { (index : List ℕ)
             → IsPartOf (record { begin = at; bytes = part.now }) index
-            → HoldsSeries (record { begin = at; bytes = part.now }) (16 * number)
+            → HoldsSeries (record { begin = at; bytes = part.now }) (series_unit * number)
             → Gives IndexRefusal.NoMemory
             (λ series. series) result (numbered_at index self.now.symbols number) }
 
         // One that does not is not there, unless its length is no number, which is refused as such.
-        ensures outside { (HoldsSeries (record { begin = at; bytes = part.now }) (16 * number) → ⊥)
-            → (uvarint_at (at_place part.now (16 * number - at)) ≡ Err Overlong → ⊥)
-            → (result ≡ Err (IndexRefusal.BadSeries number (Short (16 * number))))
+        ensures outside { (HoldsSeries (record { begin = at; bytes = part.now })
+            (series_unit * number) → ⊥)
+            → (uvarint_at (at_place part.now (series_unit * number - at)) ≡ Err Overlong → ⊥)
+            → (result ≡ Err (IndexRefusal.BadSeries number (Short (series_unit * number))))
             ⊎ (result ≡ Err IndexRefusal.NoMemory) }
 
         // In an index of a list the series that is listed under the number is read, where it lies within the part.
         ensures agrees { (index : List ℕ) (list : List IndexSeries) (is : IsIndex index list)
             → IsReaderOf self.now is.opened
             → IsPartOf (record { begin = at; bytes = part.now }) index
-            → HoldsSeries (record { begin = at; bytes = part.now }) (16 * number)
+            → HoldsSeries (record { begin = at; bytes = part.now }) (series_unit * number)
             → (series : IndexSeries) → Contains is.listed (number, series) → (result ≡ Ok series)
             ⊎ (result ≡ Err IndexRefusal.NoMemory) }
 
@@ -308,7 +310,7 @@ impl<'a> IndexReader<'a> {
             (λ series. series) result
             (numbered_at (known (record { begin = at; bytes = part.now }))
             self.now.symbols number) }
-        ensures texts { IfOk result (λ series. text_bytes series ≤ 64
+        ensures texts { IfOk result (λ series. text_bytes series ≤ text_share
             * (self.now.symbols_size + self.now.rows_size + length part.now)) }
         ensures few { IfOk result
             (λ series. 2 * length series.labels + 3 * length series.chunks ≤ length part.now) }
@@ -391,7 +393,7 @@ impl<'a> IndexReader<'a> {
             (λ numbers. numbers) result (postings_of (whole_file opened) name.now value.now) }
         ensures outside { (row : PostingsRow) → row_of self.now.rows name.now value.now ≡ Some row
             → (HoldsSection self.now.lists row.offset → ⊥)
-            → (result ≡ Err (IndexRefusal.BadSection 5 (Short row.offset)))
+            → (result ≡ Err (IndexRefusal.BadSection postings_section (Short row.offset)))
             ⊎ (result ≡ Err IndexRefusal.NoMemory) }
     {
         list_of(alloc, self.lists, &self.rows, name, value)
@@ -492,7 +494,7 @@ impl<'a> IndexReader<'a> {
             (λ numbers. numbers) result (list_of (file opened.bytes) (Some row)) }
         ensures outside { (row : PostingsRow) → slice_get self.now.rows place ≡ Some row
             → (HoldsSection self.now.lists row.offset → ⊥)
-            → (result ≡ Err (IndexRefusal.BadSection 5 (Short row.offset)))
+            → (result ≡ Err (IndexRefusal.BadSection postings_section (Short row.offset)))
             ⊎ (result ≡ Err IndexRefusal.NoMemory) }
     {
         let row = self.rows.get(place).unwrap();

@@ -135,8 +135,8 @@ impl<'a> LentSeries<'a> {
     }
 }
 
-/// The label set of these labels.
-fn set_of(alloc: Global, labels: &[LentLabel<'_>]) -> Result<LabelSet, NoMemory>
+/// The label set of these labels, with copies of their texts.
+pub fn set_of(alloc: Global, labels: &[LentLabel<'_>]) -> Result<LabelSet, NoMemory>
     requires { IsLabelSet (map as_label labels.now) }
     ensures { IfOk result (λ set. set ≡ map as_label labels.now) }
 {

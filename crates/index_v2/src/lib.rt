@@ -19,10 +19,11 @@ mod series_labels;
 mod symbols;
 mod whole;
 
+pub use budget::{TEXT_SHARE, spend};
 pub use index_file::{IndexSeries, IndexSeriesList};
 pub use index_reader::IndexReader;
 pub use lent_label::LentLabel;
 pub use lent_order::compare_lent;
 pub use lent_parts::IndexParts;
-pub use lent_series::LentSeries;
+pub use lent_series::{LentSeries, set_of};
 pub use refusal::IndexRefusal;

@@ -7,8 +7,8 @@ ghost use Rattle.wire_bytes.specs.Fields.{uvarint_at};
 ghost use Rattle.wire_bytes.specs.declared.refusal.WireRefusal.TheVariants.{Overlong};
 ghost use Rattle.index_parts.specs.Placed.{at_place};
 ghost use Rattle.index_parts.specs.declared.refusal.PartRefusal.TheVariants.{Short};
-ghost use Rattle.index_v2.specs.Budget.{text_bytes};
-ghost use Rattle.index_file.specs.IndexFile.{IsSeriesOf};
+ghost use Rattle.index_v2.specs.Budget.{text_bytes, text_share};
+ghost use Rattle.index_file.specs.IndexFile.{IsSeriesOf, series_unit};
 ghost use Rattle.index_slices.specs.Parts.{part_of, known, IsPartOf, HoldsSeries};
 ghost use Rattle.index_v2.specs.SeriesLabels.{labelled_at, numbered_at};
 
@@ -16,6 +16,7 @@ use crate::budget::{lent_text_bytes, spend, text_budget_of};
 use crate::opening::refused_of;
 use crate::symbols::Symbols;
 use crate::{IndexRefusal, IndexSeries, LentSeries};
+use index_file::SERIES_UNIT;
 use index_parts::PartRefusal;
 use index_slices::{IndexPart, shifted};
 use std::alloc::Global;
@@ -31,7 +32,7 @@ fn lent_at<'a>(
     ensures exact { Gives IndexRefusal.NoMemory
         (λ series. series) result (numbered_at index.now symbols.now number) }
 {
-    match LentSeries::read(index, symbols, 16 * u64::from(number), room) {
+    match LentSeries::read(index, symbols, SERIES_UNIT * u64::from(number), room) {
         Ok(series) => Ok(series),
         Err(refusal) => Err(refused_of(number, refusal)),
     }
@@ -84,18 +85,18 @@ pub(crate) fn series_of(
     number: u32,
     most: usize,
 ) -> Result<IndexSeries, IndexRefusal>
-    requires begins { part.begin ≤ 16 * number }
+    requires begins { part.begin ≤ series_unit * number }
     requires fits { part.begin + length part.bytes.now < 2 ^ 64 }
     ensures found { (index : List ℕ) → IsPartOf (part_of part.entry) index
         → IfOk result (λ series. IsSeriesOf index symbols.now number series) }
     ensures same { (index : List ℕ) → IsPartOf (part_of part.entry) index
-        → HoldsSeries (part_of part.entry) (16 * number)
+        → HoldsSeries (part_of part.entry) (series_unit * number)
         → Gives IndexRefusal.NoMemory
         (λ series. series) result (numbered_at index symbols.now number) }
-    ensures outside { (HoldsSeries (part_of part.entry) (16 * number) → ⊥)
-        → (uvarint_at (at_place part.entry.bytes.now (16 * number - part.entry.begin))
+    ensures outside { (HoldsSeries (part_of part.entry) (series_unit * number) → ⊥)
+        → (uvarint_at (at_place part.entry.bytes.now (series_unit * number - part.entry.begin))
         ≡ Err Overlong → ⊥)
-        → (result ≡ Err (IndexRefusal.BadSeries number (Short (16 * number))))
+        → (result ≡ Err (IndexRefusal.BadSeries number (Short (series_unit * number))))
         ⊎ (result ≡ Err IndexRefusal.NoMemory) }
     ensures exact { Gives IndexRefusal.NoMemory
         (λ series. series) result (numbered_at (known (part_of part.entry)) symbols.now number) }
@@ -107,7 +108,7 @@ pub(crate) fn series_of(
         alloc,
         part.bytes,
         symbols,
-        16 * u64::from(number) - part.begin,
+        SERIES_UNIT * u64::from(number) - part.begin,
         most,
     ) {
         Ok(series) => Ok(series),
@@ -125,7 +126,7 @@ pub(crate) fn series_of_file(
     ensures found { IfOk result (λ series. IsSeriesOf index.now symbols.now number series) }
     ensures only { (series : IndexSeries) → IsSeriesOf index.now symbols.now number series
         → (result ≡ Ok series) ⊎ (result ≡ Err IndexRefusal.NoMemory) }
-    ensures texts { IfOk result (λ series. text_bytes series ≤ 64 * length index.now) }
+    ensures texts { IfOk result (λ series. text_bytes series ≤ text_share * length index.now) }
     ensures exact { Gives IndexRefusal.NoMemory
         (λ series. series) result (numbered_at index.now symbols.now number) }
 {

@@ -5,7 +5,7 @@ ghost use Rattle.index_parts.specs.Postings.{IsPostings};
 ghost use Rattle.index_parts.specs.PostingsReading.{postings_at};
 ghost use Rattle.index_parts.specs.declared.postings_row.PostingsRow.{PostingsRow};
 ghost use Rattle.index_parts.specs.declared.refusal.PartRefusal.TheVariants.{Short};
-ghost use Rattle.index_v2.specs.Opening.{refused_in};
+ghost use Rattle.index_v2.specs.Opening.{refused_in, postings_section};
 ghost use Rattle.std.specs.List.Sorted.{IsStrictlyIncreasing};
 ghost use Rattle.index_v2.specs.PostingsLists.{row_of, list_of, values_of};
 
@@ -36,13 +36,14 @@ pub(crate) fn list_at(
     ensures same { (index : List ℕ) → IsPartOf (part_of part.entry) index
         → HoldsSection (part_of part.entry) at
         → Gives IndexRefusal.NoMemory
-        (λ numbers. numbers) result (refused_as (refused_in 5) (postings_at index at)) }
+        (λ numbers. numbers) result
+        (refused_as (refused_in postings_section) (postings_at index at)) }
     ensures outside { (HoldsSection (part_of part.entry) at → ⊥)
-        → (result ≡ Err (IndexRefusal.BadSection 5 (Short at)))
+        → (result ≡ Err (IndexRefusal.BadSection postings_section (Short at)))
         ⊎ (result ≡ Err IndexRefusal.NoMemory) }
     ensures exact { Gives IndexRefusal.NoMemory
         (λ numbers. numbers) result
-        (refused_as (refused_in 5) (list_in (part_of part.entry) at)) }
+        (refused_as (refused_in postings_section) (list_in (part_of part.entry) at)) }
 {
     match postings_in(alloc, part, at) {
         Ok(numbers) => Ok(numbers),
@@ -73,7 +74,7 @@ pub(crate) fn list_of(
         (list_of (file index) (row_of rows.now name.now value.now)) }
     ensures outside { (row : PostingsRow) → row_of rows.now name.now value.now ≡ Some row
         → (HoldsSection (part_of part.entry) row.offset → ⊥)
-        → (result ≡ Err (IndexRefusal.BadSection 5 (Short row.offset)))
+        → (result ≡ Err (IndexRefusal.BadSection postings_section (Short row.offset)))
         ⊎ (result ≡ Err IndexRefusal.NoMemory) }
     ensures exact { Gives IndexRefusal.NoMemory
         (λ numbers. numbers) result

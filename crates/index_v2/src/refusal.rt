@@ -3,7 +3,7 @@ ghost use Rattle.index_v2.specs.declared.refusal.IndexRefusal.TheVariants.{NoMem
 
 use index_parts::PartRefusal;
 use list_core::NoMemory;
-use std::alloc::{AllocError, AllocFailed};
+use std::alloc::AllocFailed;
 
 /// Why an index is not read.
 #[derive(Clone, Copy, Debug, PartialEq, Eq)]
@@ -30,14 +30,6 @@ impl From<NoMemory> for IndexRefusal {
     ghost from_gives = { λ _ e. e ≡ IsNoMemory };
 
     fn from(_: NoMemory) -> Self {
-        IndexRefusal::NoMemory
-    }
-}
-
-impl From<AllocError> for IndexRefusal {
-    ghost from_gives = { λ _ e. e ≡ IsNoMemory };
-
-    fn from(_: AllocError) -> Self {
         IndexRefusal::NoMemory
     }
 }

@@ -4,7 +4,7 @@ ghost use Rattle.index_parts.specs.Rows.{IsPostingsTable};
 ghost use Rattle.index_parts.specs.RowsReading.{postings_table_at};
 ghost use Rattle.index_slices.specs.Parts.{part_of, known, IsPartOf};
 ghost use Rattle.index_file.specs.IndexFile.{Holds};
-ghost use Rattle.index_v2.specs.Opening.{held_at};
+ghost use Rattle.index_v2.specs.Opening.{held_at, table_section};
 
 use crate::IndexRefusal;
 use crate::opening::refused_in;
@@ -26,7 +26,7 @@ pub(crate) fn rows_at<'a>(
     ensures found { (index : List ℕ) → IsPartOf (part_of part.entry) index
         → IfOk result (λ rows. Holds IsPostingsTable index reference rows) }
     ensures exact { Gives IndexRefusal.NoMemory (λ rows. rows) result
-        (held_at 6 postings_table_at (known (part_of part.entry)) reference) }
+        (held_at table_section postings_table_at (known (part_of part.entry)) reference) }
     ensures few { IfOk result (λ rows. 4 * length rows ≤ length part.entry.bytes.now) }
 {
     if reference == 0 {

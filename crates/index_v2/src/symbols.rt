@@ -5,7 +5,7 @@ ghost use Rattle.index_parts.specs.Symbols.{IsSymbols};
 ghost use Rattle.index_parts.specs.SymbolsReading.{symbols_at};
 ghost use Rattle.index_file.specs.IndexFile.{Holds};
 ghost use Rattle.index_slices.specs.Parts.{part_of, known, IsPartOf};
-ghost use Rattle.index_v2.specs.Opening.{held_at};
+ghost use Rattle.index_v2.specs.Opening.{held_at, symbols_section};
 
 use crate::IndexRefusal;
 use crate::opening::refused_in;
@@ -56,7 +56,7 @@ impl<'a> Symbols<'a> {
         ensures found { (index : List ℕ) → IsPartOf (part_of part.entry) index
             → IfOk result (λ symbols. Holds IsSymbols index reference symbols) }
         ensures exact { Gives IndexRefusal.NoMemory (λ symbols. symbols) result
-            (held_at 1 symbols_at (known (part_of part.entry)) reference) }
+            (held_at symbols_section symbols_at (known (part_of part.entry)) reference) }
         ensures few { IfOk result (λ symbols. length symbols ≤ length part.entry.bytes.now) }
     {
         if reference == 0 {

@@ -2,7 +2,7 @@ ghost use Rattle.std.specs.Prelude.{◌≡◌, ◌+◌, ◌*◌, ◌-◌, ◌^�
 ghost use Rattle.reading_core.specs.Reading.{Gives, Answers};
 ghost use Rattle.std.specs.List.Sorted.{IsStrictlyIncreasing};
 ghost use Rattle.index_slices.specs.Parts.{part_of};
-ghost use Rattle.index_v2.specs.Budget.{members_of, series_bytes, list_bytes, text_bytes};
+ghost use Rattle.index_v2.specs.Budget.{members_of, series_bytes, list_bytes, text_bytes, text_share};
 ghost use Rattle.index_v2.specs.WholeReading.{present_at, may_stand_behind, behind_at, all_at, lists_at, whole_at};
 
 use crate::budget::{
@@ -13,6 +13,7 @@ use crate::opening::refused_of;
 use crate::postings::{POSTINGS, list_at, list_of};
 use crate::symbols::{SYMBOLS, Symbols};
 use crate::{IndexRefusal, IndexSeriesList, LentSeries};
+use index_file::SERIES_UNIT;
 use index_parts::{PartRefusal, Rows, Toc};
 use index_slices::IndexPart;
 use list_core::{List, NoMemory};
@@ -67,9 +68,12 @@ fn series_behind<'a>(
         (λ series. series) result
         (behind_at index.now symbols.now (slice_get before.now (length before.now - 1)) number) }
 {
-    match LentSeries::read(index, symbols, 16 * number, LentSeries::new(alloc)) {
+    match LentSeries::read(index, symbols, SERIES_UNIT * number, LentSeries::new(alloc)) {
         Ok(series) if may_stand_behind(before, &series) => Ok(series),
-        Ok(_) => Err(IndexRefusal::BadSeries(number as u32, PartRefusal::Unordered(16 * number))),
+        Ok(_) => Err(IndexRefusal::BadSeries(
+            number as u32,
+            PartRefusal::Unordered(SERIES_UNIT * number),
+        )),
         Err(refusal) => Err(refused_of(number as u32, refusal)),
     }
 }
@@ -87,7 +91,8 @@ pub(crate) fn all_series<'a>(
     ensures bounded { IfOk result
         (λ series. sum_by members_of series.items + sum_by
         (series_bytes index.now) numbers.now ≤ 8 * length index.now) }
-    ensures texts { IfOk result (λ series. sum_by text_bytes series.items ≤ 64 * length index.now) }
+    ensures texts { IfOk result
+        (λ series. sum_by text_bytes series.items ≤ text_share * length index.now) }
     ensures exact { Gives IndexRefusal.NoMemory
         (λ series. series.items) result (all_at index.now symbols.now None numbers.now) }
 {
@@ -146,7 +151,7 @@ pub(crate) fn whole_lent<'a>(
 ) -> Result<List<LentSeries<'a>>, IndexRefusal>
     requires { part.begin + length part.bytes.now < 2 ^ 64 }
     ensures bounded { IfOk result (λ list. sum_by members_of list ≤ 8 * length index.now) }
-    ensures texts { IfOk result (λ list. sum_by text_bytes list ≤ 64 * length index.now) }
+    ensures texts { IfOk result (λ list. sum_by text_bytes list ≤ text_share * length index.now) }
     ensures exact { (symbols_size rows_size : ℕ) → Gives IndexRefusal.NoMemory
         (λ list. list) result
         (whole_at (record {
@@ -192,7 +197,7 @@ pub(crate) fn whole(
 ) -> Result<IndexSeriesList, IndexRefusal>
     requires { part.begin + length part.bytes.now < 2 ^ 64 }
     ensures bounded { IfOk result (λ list. sum_by members_of list ≤ 8 * length index.now) }
-    ensures texts { IfOk result (λ list. sum_by text_bytes list ≤ 64 * length index.now) }
+    ensures texts { IfOk result (λ list. sum_by text_bytes list ≤ text_share * length index.now) }
     ensures exact { (symbols_size rows_size : ℕ) → Gives IndexRefusal.NoMemory
         (λ list. list) result
         (whole_at (record {

@@ -2,6 +2,7 @@ pub use Rattle.reading_core.specs.Reading
 pub use Rattle.reading_core.specs.Decimal
 pub mod Ordered
 pub mod Labels
+pub mod Limits
 pub mod Finals
 pub mod Notation
 pub mod SetText
@@ -9,3 +10,4 @@ pub mod SetRefusals
 pub mod SampleText
 pub mod Triples
 pub mod Counts
+pub mod Times

@@ -2,7 +2,7 @@ ghost use Rattle.std.specs.Prelude.{◌≡◌};
 ghost use Rattle.label_sets.specs.declared.label_refusal.LabelRefusal.TheVariants.{NoMemory};
 
 use list_core::NoMemory;
-use std::alloc::{AllocError, AllocFailed};
+use std::alloc::AllocFailed;
 
 /// Why a label was not added to a set, or why no set was read.
 #[derive(Clone, Copy, Debug, PartialEq, Eq)]
@@ -20,14 +20,6 @@ impl From<NoMemory> for LabelRefusal {
     ghost from_gives = { λ _ e. e ≡ NoMemory };
 
     fn from(_: NoMemory) -> Self {
-        LabelRefusal::NoMemory
-    }
-}
-
-impl From<AllocError> for LabelRefusal {
-    ghost from_gives = { λ _ e. e ≡ NoMemory };
-
-    fn from(_: AllocError) -> Self {
         LabelRefusal::NoMemory
     }
 }

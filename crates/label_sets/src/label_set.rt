@@ -269,8 +269,9 @@ fn value_at<'a>(labels: &'a [Label], name: &str) -> Option<&'a str>
     Some(labels[place].value.as_str())
 }
 
+/// Whether a name is one of these, as of replica labels.
 #[tactic(auto, unfolding(crate::specs::Finals::is_among))]
-fn is_among(names: &[Text], name: &str) -> bool
+pub fn is_among(names: &[Text], name: &str) -> bool
     ensures { result ≡ is_among names.now name.now }
 {
     names.iter().any(|one| one.as_str() == name)

@@ -19,13 +19,15 @@ fn are_name_bytes(bytes: &[u8]) -> bool
     bytes.iter().all(|byte| is_name_byte(*byte))
 }
 
-pub(crate) fn is_name_start(byte: u8) -> bool
+/// Whether a name may begin with a byte: a letter or `_`, in ASCII.
+pub fn is_name_start(byte: u8) -> bool
     ensures { result ≡ is_name_start byte }
 {
     byte.is_ascii_alphabetic() || byte == b'_'
 }
 
-pub(crate) fn is_name_byte(byte: u8) -> bool
+/// Whether a byte may stand in a name behind its first one: a letter, a digit or `_`, in ASCII.
+pub fn is_name_byte(byte: u8) -> bool
     ensures { result ≡ is_name_byte byte }
 {
     is_name_start(byte) || byte.is_ascii_digit()

@@ -1,12 +1,17 @@
-ghost use Rattle.std.specs.Prelude.{◌≡◌, ◌≢◌, ◌↔◌, ◌<◌, ◌^◌, ℕ, ℤ, IfOk, Err, Ok};
+ghost use Rattle.std.specs.Prelude.{◌≡◌, ◌≢◌, ◌↔◌, ◌<◌, ◌^◌, ℕ, ℤ, map, IsTrue, IfOk, Err, Ok};
 ghost use Rattle.std.specs.Int.{w64};
 ghost use Rattle.std.specs.Int.RustNames.{FitsSigned};
 ghost use Rattle.std.specs.List.{list_all};
+ghost use Rattle.std.specs.List.Sorted.{IsStrictlySortedBy};
+ghost use Rattle.std.specs.Ordering.{int_cmp};
 ghost use Rattle.label_sets.specs.SampleText.{timed_text, sample_text, is_hex_sign, pattern_of, sample_of};
 
 use crate::SampleRefusal;
 use list_core::{List, NoMemory, TryCopy};
 use reading_core::{NumberRefusal, read_signed};
+
+/// How far from 0 the times of blocks and scripts may be.
+pub const TIME_LIMIT: i64 = 1 << 62;
 
 /// A time in milliseconds and a value, which is a pattern of 64 bits.
 #[derive(Clone, Copy, Debug, PartialEq, Eq)]
@@ -45,6 +50,13 @@ impl Sample {
     {
         read_sample(text)
     }
+}
+
+/// Whether each time is after the one before.
+pub fn times_ascend(samples: &[Sample]) -> bool
+    ensures { IsTrue result ↔ IsStrictlySortedBy int_cmp (map (λ s. s.time) samples.now) }
+{
+    samples.is_sorted_by(|one, next| one.time < next.time)
 }
 
 #[tactic(auto, unfolding(crate::specs::SampleText::sample_of, crate::specs::SampleText::sample_with))]

@@ -16,6 +16,7 @@ use Rattle.meta_fetcher.specs.declared.sync_end.SyncEnd.{SyncEnd}
 use Rattle.meta_fetcher.specs.declared.sync_end.SyncEnd.TheVariants as fetched
 use Rattle.meta_fetcher.specs.declared.view.View.{View}
 use Rattle.moment_core.specs.declared.moment.Moment.{Moment}
+use Rattle.moment_core.specs.Limits.{one_second}
 use Rattle.script_core.specs.Workers.{workers_of}
 use Rattle.script_workers.specs.declared.phase.Phase.{Phase}
 use Rattle.script_workers.specs.declared.task.Task.{Task}
@@ -53,12 +54,16 @@ rank read_time = 5
 
 -- ---- what the bucket shows
 
+-- the byte with which a name ends in the text of a reply, which no name has
+abbrev pub name_end : ℕ
+name_end = 255
+
 -- what a reply shows of the bucket, as a text: a found object, an absent one, or names, each of which ends with a byte that no
 -- name has
 abbrev pub shown_by : Reply → Option (List ℕ)
 shown_by (Found bytes) = Some (codes "F" ++ bytes)
 shown_by Absent = Some (codes "A")
-shown_by (Names names) = Some (codes "N" ++ flat_map (λ name. name ++ 255 ∷ []) names)
+shown_by (Names names) = Some (codes "N" ++ flat_map (λ name. name ++ name_end ∷ []) names)
 shown_by Clocked = None
 shown_by Stored = None
 shown_by Deleted = None
@@ -235,13 +240,13 @@ RefusesUnder setting watch upload_time before e x y =
     ⊎ IsOver e.moment.ms (time_of ulid + setting.script.rules.upload.ms) x y)
 RefusesUnder setting watch mark_time before e x y =
     (ulid : ℕ) × (second : ℕ) × PutsMark ulid second e
-    × IsOver e.moment.ms (1000 * second + setting.script.rules.ignore.ms) x y
+    × IsOver e.moment.ms (one_second * second + setting.script.rules.ignore.ms) x y
 -- the last read of a sync stands for it
 RefusesUnder setting watch sync_time before e x y =
     (entries : List Entry) × (end : Option SyncEnd) × (first : Entry) × (others : List Entry)
     × (front : List Entry) × watch.syncs entries end × (entries ≡ first ∷ others)
     × (entries ≡ front ++ e ∷ [])
-    × IsOver (e.moment.ms + 1000) (first.moment.ms + setting.script.rules.ignore.ms) x y
+    × IsOver (e.moment.ms + one_second) (first.moment.ms + setting.script.rules.ignore.ms) x y
 RefusesUnder setting watch view_time before e x y =
     (view : View) × watch.reads e view
     × IsOver (e.moment.ms + setting.script.rules.ignore.ms) (view.begin.ms + setting.script.rules.delete.ms) x y

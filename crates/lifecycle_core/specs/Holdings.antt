@@ -16,9 +16,12 @@ pub record Holding : Type 0 where
   -- the ranges of objects that its gateway's calls kept
   pub cache : Cache
 
--- a cache has room for so many ranges
+-- how many ranges a cache has room for
+abbrev pub most_ranges : ℕ
+most_ranges = 1_024
+
 abbrev pub empty_cache : Cache
-empty_cache = lru_cache [] 1024
+empty_cache = lru_cache [] most_ranges
 
 abbrev pub nothing_held : Holding
 nothing_held = record { used = None; cache = empty_cache }

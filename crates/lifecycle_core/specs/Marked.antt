@@ -7,6 +7,7 @@ use Rattle.world_core.specs.Standing.{has_landed}
 use Rattle.world_core.specs.declared.op.Op.TheVariants.{Delete, Get, Put}
 use Rattle.world_core.specs.declared.reply.Reply.TheVariants.{Absent}
 use Rattle.world_core.specs.declared.entry.Entry.{Entry}
+use Rattle.moment_core.specs.Limits.{one_second}
 use Rattle.lifecycle_core.specs.Completed.{IsCompletedAt, IsExpired}
 use Rattle.lifecycle_core.specs.Setting.{Setting}
 use Rattle.lifecycle_core.specs.TimeRules.{PutsMark}
@@ -51,8 +52,8 @@ pub record IsMarkedFor (setting : Setting) (journal : List Entry) (ulid second :
   pub before : look.seq < e.seq
   pub asks : look.op ≡ Get (Mark ulid)
   pub absent : look.reply ≡ Absent
-  pub from : 1000 * second ≤ look.moment.ms
-  pub upto : look.moment.ms < 1000 * second + 1000
+  pub from : one_second * second ≤ look.moment.ms
+  pub upto : look.moment.ms < one_second * second + one_second
   pub seq : ℕ
   pub meta : MetaFields
   pub completed : IsCompletedAt journal ulid seq meta

@@ -8,6 +8,7 @@ use Rattle.block_meta.specs.MetaFields.{MarkFields}
 use Rattle.block_meta.specs.MetaText.{IsMarkText}
 use Rattle.moment_core.specs.declared.moment.Moment.{Moment}
 use Rattle.moment_core.specs.declared.rules.Rules.{Rules}
+use Rattle.moment_core.specs.Limits.{one_second}
 use Rattle.meta_fetcher.specs.declared.view.View.{View}
 use Rattle.ulid_core.specs.Times.{time_of}
 use Rattle.world_core.specs.Standing.{has_landed}
@@ -43,13 +44,13 @@ PutsMark ulid second e =
 abbrev pub IsMarkedInTime : Rules → ℕ → List Entry → Type 0
 IsMarkedInTime rules ulid journal =
     All (λ e. (second : ℕ) → PutsMark ulid second e
-    → e.moment.ms ≤ 1000 * second + rules.ignore.ms) journal
+    → e.moment.ms ≤ one_second * second + rules.ignore.ms) journal
 
 -- A sync reads no longer than the ignore delay, less the second to which marks are rounded.
 abbrev pub IsSyncedInTime : Rules → List Entry → Type 0
 IsSyncedInTime rules entries =
     (first last : Entry) (others : List Entry) → entries ≡ first ∷ others → Contains entries last
-    → last.moment.ms + 1000 ≤ first.moment.ms + rules.ignore.ms
+    → last.moment.ms + one_second ≤ first.moment.ms + rules.ignore.ms
 
 -- A series call reads the blocks of a view while the view is young: no mark that its sync passed over can have led to a deletion
 -- before the delete delay, less the ignore delay, has gone by from the sync's beginning.

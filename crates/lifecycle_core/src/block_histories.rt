@@ -13,6 +13,7 @@ ghost use Rattle.world_core.specs.declared.entry.Entry.{Entry};
 ghost use Rattle.compactor.specs.Compactions.{CompactRun};
 ghost use Rattle.compactor.specs.declared.compact_end.CompactEnd.TheVariants as compacting;
 ghost use Rattle.script_core.specs.Lawful.{IsLawfulScript};
+ghost use Rattle.moment_core.specs.Limits.{one_second};
 ghost use Rattle.lifecycle_core.specs.Acting.{IsActing, IsCompactorAt};
 ghost use Rattle.lifecycle_core.specs.Breaches.{watched_compaction};
 ghost use Rattle.lifecycle_core.specs.Causes.{IsBlamedInCompaction, IsExplainedBy};
@@ -74,7 +75,7 @@ pub fn first_marks_stand_until_the_meta_goes()
         → e.op ≡ Delete key → key_ulid key ≡ ulid
         → (front : List Entry) × (mark : Entry) × (back : List Entry) × (second : ℕ)
         × (before ≡ front ++ mark ∷ back) × IsFirstMark ulid second front mark
-        × (1000 * second + setting.script.rules.delete.ms < e.moment.ms) }
+        × (one_second * second + setting.script.rules.delete.ms < e.moment.ms) }
 {}
 
 /// A law: each mark has its better block, which was complete before the look that led to the mark, or its block had expired by then.

@@ -1,7 +1,8 @@
-ghost use Rattle.std.specs.Prelude.{◌≡◌, ◌≢◌, ◌++◌, ◌+◌, ◌<◌, ◌^◌, ◌&&◌, [], ◌∷◌, true, false, length, take, List, Ok, Err, Some, IsTrue, IfOk, OnErr, OnOk, MatchResult, slice_get};
+ghost use Rattle.std.specs.Prelude.{◌≡◌, ◌≢◌, ◌++◌, ◌+◌, ◌<◌, ◌&&◌, [], ◌∷◌, true, false, length, take, List, Ok, Err, Some, IsTrue, IfOk, OnErr, OnOk, MatchResult, slice_get};
 ghost use Rattle.std.specs.List.{All};
 ghost use Rattle.world_core.specs.Keeping.{IsFull};
 ghost use Rattle.world_core.specs.declared.entry.Entry.{Entry};
+ghost use Rattle.world_core.specs.Limits.{moment_limit};
 ghost use Rattle.script_core.specs.Workers.{seats_before};
 ghost use Rattle.script_core.specs.Lawful.{IsLawfulScript};
 ghost use Rattle.report_lines.specs.lifecycle_core.specs.InLine.{seat_of};
@@ -160,7 +161,7 @@ fn run_phase<B: Bucket, R: PhaseReport + Drop>(
 /// Sets the clock to the moment of the phase.
 #[tactic(auto, using(crate::proofs::Keeping::kept_at, crate::proofs::Wanted::wanted_for))]
 fn begin_phase<B: Bucket>(phase: &Phase, hand: LineHand<B>) -> (Result<(), Broken>, LineHand<B>)
-    requires moment { phase.now.moment.ms < 2 ^ 47 }
+    requires moment { phase.now.moment.ms < moment_limit }
     requires unrefused { hand.refused ≡ false }
     requires unwanted { hand.wanted ≡ false }
     ensures begun { OnOk result.0

@@ -1,4 +1,4 @@
-ghost use Rattle.std.specs.Prelude.{◌≡◌, ◌↔◌, IsTrue, List, [], ◌∷◌, ◌++◌, length, slice_get, IfOk, OnOk, OnErr};
+ghost use Rattle.std.specs.Prelude.{◌≡◌, ◌↔◌, ◌≤◌, IsTrue, List, [], ◌∷◌, ◌++◌, length, drop, slice_get, IfOk, OnOk, OnErr};
 ghost use Rattle.std.specs.Option.{option_copied};
 
 use crate::{NoMemory, TryCopy};
@@ -87,4 +87,12 @@ impl<T: TryCopy> TryCopy for List<T> {
         }
         Ok(List::from_vec(made))
     }
+}
+
+/// The members of a slice behind so many.
+pub fn behind<T>(members: &[T], count: usize) -> &[T]
+    requires { count ≤ length members.now }
+    ensures { result.now ≡ drop count members.now }
+{
+    &members[count..]
 }

@@ -7,9 +7,10 @@ ghost use Rattle.matchers.specs.Stages.{nothing_read, goes_to, with_metric, with
 
 use crate::SelectorRefusal;
 use crate::asked::Asked;
-use crate::names::{is_metric_byte, is_metric_start, is_name_byte, is_name_start};
+use crate::names::{is_metric_byte, is_metric_start};
 use crate::operator::Operator;
 use crate::stage::Stage;
+use label_sets::{is_name_byte, is_name_start};
 use list_core::{List, NoMemory};
 use std::alloc::Global;
 use std::mem;

@@ -3,7 +3,6 @@ ghost use Rattle.matchers.specs.Patterns.{refusal_of};
 ghost use Rattle.matchers.specs.declared.pattern_refusal.PatternRefusal.TheVariants.{NoMemory};
 
 use list_core::NoMemory;
-use std::alloc::{AllocError, AllocFailed};
 
 /// Why a text was not built as a pattern.
 #[derive(Clone, Copy, Debug, PartialEq, Eq)]
@@ -31,22 +30,6 @@ impl From<NoMemory> for PatternRefusal {
     ghost from_gives = { λ _ e. e ≡ NoMemory };
 
     fn from(_: NoMemory) -> Self {
-        PatternRefusal::NoMemory
-    }
-}
-
-impl From<AllocError> for PatternRefusal {
-    ghost from_gives = { λ _ e. e ≡ NoMemory };
-
-    fn from(_: AllocError) -> Self {
-        PatternRefusal::NoMemory
-    }
-}
-
-impl<T: Drop> From<AllocFailed<T>> for PatternRefusal {
-    ghost from_gives = { λ _ e. e ≡ NoMemory };
-
-    fn from(_: AllocFailed<T>) -> Self {
         PatternRefusal::NoMemory
     }
 }

@@ -1,10 +1,9 @@
 //! Replica labels that a selector names.
 ghost use Rattle.std.specs.Prelude.{◌≡◌, List, ℕ, [], ◌∷◌, IfSome, IfNone};
-ghost use Rattle.label_sets.specs.Finals.{is_among};
 ghost use Rattle.matchers.specs.SelectorText.{named_replicas};
 
 use crate::Matcher;
-use label_sets::{Text, TextList};
+use label_sets::{Text, TextList, is_among};
 
 /// The first replica label that a matcher asks for.
 pub(crate) fn first_replica<'a>(matchers: &'a [Matcher], replicas: &TextList) -> Option<&'a Text>
@@ -18,11 +17,4 @@ pub(crate) fn first_replica<'a>(matchers: &'a [Matcher], replicas: &TextList) ->
         }
     }
     None
-}
-
-#[tactic(auto, unfolding(label_sets::specs::Finals::is_among))]
-fn is_among(names: &[Text], name: &str) -> bool
-    ensures { result ≡ is_among names.now name.now }
-{
-    names.iter().any(|one| one.as_str() == name)
 }

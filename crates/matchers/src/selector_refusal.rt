@@ -3,7 +3,7 @@ ghost use Rattle.matchers.specs.declared.selector_refusal.SelectorRefusal.TheVar
 
 use label_sets::Text;
 use list_core::NoMemory;
-use std::alloc::{AllocError, AllocFailed};
+use std::alloc::AllocFailed;
 
 /// Why a text was not read as a selector.
 #[derive(Debug, Drop)]
@@ -23,14 +23,6 @@ impl From<NoMemory> for SelectorRefusal {
     ghost from_gives = { λ _ e. e ≡ NoMemory };
 
     fn from(_: NoMemory) -> Self {
-        SelectorRefusal::NoMemory
-    }
-}
-
-impl From<AllocError> for SelectorRefusal {
-    ghost from_gives = { λ _ e. e ≡ NoMemory };
-
-    fn from(_: AllocError) -> Self {
         SelectorRefusal::NoMemory
     }
 }

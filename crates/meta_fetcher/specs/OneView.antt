@@ -1,11 +1,12 @@
 -- A sync comes to one view: what was seen of a block tells the block.
-use Rattle.std.proofs.Common.{◌≡◌, ℕ, ◌<◌, ◌^◌, List, [], ◌∷◌, ◌++◌, map, Option, Some, None, refl, sym, ap, subst, ◌∙◌, inl, inr, append-nil}
+use Rattle.std.proofs.Common.{◌≡◌, ℕ, ◌<◌, List, [], ◌∷◌, ◌++◌, map, Option, Some, None, refl, sym, ap, subst, ◌∙◌, inl, inr, append-nil}
 use Rattle.std.specs.Prelude.{option_map}
 use Rattle.std.specs.List.Sorted.{IsNonDecreasingBy}
 use Rattle.std.proofs.Props.{props}
 use Rattle.block_meta.proofs.SameMetas.{same_meta}
 use Rattle.block_meta.specs.MetaFields.{MarkFields, mark_fields_of}
 use Rattle.block_meta.specs.declared.deletion_mark.DeletionMark.{DeletionMark}
+use Rattle.block_meta.specs.Lawful.{deletion_limit}
 use Rattle.moment_core.specs.declared.moment.Moment.{Moment}
 use Rattle.world_core.specs.declared.entry.Entry.{Entry}
 use Rattle.world_core.specs.Plans.{Plan, Runs, IsAtMostOne, and_then, finds, ends}
@@ -20,16 +21,16 @@ use Rattle.meta_fetcher.specs.declared.view.View.{View}
 
 -- ---- marks
 
-early_prop : (second : ℕ) → IsProp (second < 2 ^ 46)
+early_prop : (second : ℕ) → IsProp (second < deletion_limit)
 early_prop second = hlevel props
 
-abbrev mark_made : (f : MarkFields) → f.deletion_time < 2 ^ 46 → DeletionMark
+abbrev mark_made : (f : MarkFields) → f.deletion_time < deletion_limit → DeletionMark
 mark_made f early = record { id = f.id; deletion_time = f.deletion_time; details = f.details; early = early }
 
-same_mark_made : (f g : MarkFields) → f ≡ g → (e : f.deletion_time < 2 ^ 46) (e' : g.deletion_time < 2 ^ 46) → mark_made f e ≡ mark_made g e'
+same_mark_made : (f g : MarkFields) → f ≡ g → (e : f.deletion_time < deletion_limit) (e' : g.deletion_time < deletion_limit) → mark_made f e ≡ mark_made g e'
 same_mark_made f g same e =
-    subst (λ (h : MarkFields). (e' : h.deletion_time < 2 ^ 46) → mark_made f e ≡ mark_made h e') same
-    (λ e'. ap (λ (x : f.deletion_time < 2 ^ 46). mark_made f x) (early_prop f.deletion_time e e'))
+    subst (λ (h : MarkFields). (e' : h.deletion_time < deletion_limit) → mark_made f e ≡ mark_made h e') same
+    (λ e'. ap (λ (x : f.deletion_time < deletion_limit). mark_made f x) (early_prop f.deletion_time e e'))
 
 same_mark : (m n : DeletionMark) → mark_fields_of m ≡ mark_fields_of n → m ≡ n
 same_mark m n same = same_mark_made (mark_fields_of m) (mark_fields_of n) same m.early n.early

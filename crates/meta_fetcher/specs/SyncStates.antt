@@ -130,11 +130,15 @@ Leads follows result new = lead.Leads may_sync asked_sync follows result new
 
 -- ---- the measure
 
+-- how many operations the blocks of one page may ask for
+abbrev pub most_asked : ℕ
+most_asked = 2 ^ 34
+
 -- at most so many operations are still asked for, and one more
 abbrev pub count_at : Stage → Sync → ℕ
-count_at Fresh sync = 2 * length sync.waiting.items + 3 * (most_listed - sync.listed) + 2 ^ 34 + 1
-count_at Opening sync = 2 * length sync.waiting.items + 3 * (most_listed - sync.listed) + 2 ^ 34
-count_at Listing sync = 2 * length sync.waiting.items + 3 * (most_listed - sync.listed) + 2 ^ 34
+count_at Fresh sync = 2 * length sync.waiting.items + 3 * (most_listed - sync.listed) + most_asked + 1
+count_at Opening sync = 2 * length sync.waiting.items + 3 * (most_listed - sync.listed) + most_asked
+count_at Listing sync = 2 * length sync.waiting.items + 3 * (most_listed - sync.listed) + most_asked
 count_at (Marking ulid) sync = 2 * length sync.waiting.items + 2
 count_at (Reading ulid) sync = 2 * length sync.waiting.items + 1
 

@@ -2,12 +2,13 @@
 use Rattle.std.specs.Prelude.{ℕ, ◌*◌, [], None}
 use Rattle.moment_core.specs.declared.rules.Rules.{Rules}
 use Rattle.moment_core.specs.declared.span.Span.{Span}
+use Rattle.moment_core.specs.Limits.{one_minute, one_hour}
 
 abbrev pub minutes : ℕ → Span
-minutes n = record { ms = n * 60_000 }
+minutes n = record { ms = n * one_minute }
 
 abbrev pub hours : ℕ → Span
-hours n = record { ms = n * 3_600_000 }
+hours n = record { ms = n * one_hour }
 
 abbrev pub standard_rules : Rules
 standard_rules = record {

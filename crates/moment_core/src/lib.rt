@@ -11,4 +11,4 @@ pub use moment::Moment;
 pub use partition::{Partition, PartitionList};
 pub use refusal::{BadSpan, MomentRefusal};
 pub use rules::Rules;
-pub use span::Span;
+pub use span::{HOUR, MINUTE, SECOND, Span};

@@ -1,6 +1,6 @@
 ghost use Rattle.std.specs.Prelude.{◌≡◌};
 
-use crate::Span;
+use crate::{HOUR, MINUTE, Span};
 use label_sets::TextList;
 use list_core::{NoMemory, TryCopy};
 use std::alloc::Global;
@@ -43,12 +43,6 @@ impl TryCopy for Rules {
         })
     }
 }
-
-const SECOND: u64 = 1_000;
-
-const MINUTE: u64 = 60 * SECOND;
-
-const HOUR: u64 = 60 * MINUTE;
 
 impl Rules {
     ghost use Rattle.moment_core.specs.StandardRules.{standard_rules};

@@ -8,6 +8,13 @@ use crate::BadSpan;
 use list_core::{NoMemory, TryCopy};
 use reading_core::short_number;
 
+/// The units of spans, in milliseconds.
+pub const SECOND: u64 = 1_000;
+
+pub const MINUTE: u64 = 60 * SECOND;
+
+pub const HOUR: u64 = 60 * MINUTE;
+
 /// How many digits the number of a span has at most.
 const MOST_DIGITS: usize = 12;
 
@@ -83,9 +90,9 @@ fn unit_of(unit: &[u8]) -> Option<u64>
 {
     match unit {
         b"ms" => Some(1),
-        b"s" => Some(1_000),
-        b"m" => Some(60_000),
-        b"h" => Some(3_600_000),
+        b"s" => Some(SECOND),
+        b"m" => Some(MINUTE),
+        b"h" => Some(HOUR),
         _ => None,
     }
 }

@@ -23,10 +23,18 @@ segment_of reference = reference / 2 ^ 32 + 1
 abbrev pub offset_of : ℕ → ℕ
 offset_of reference = reference % 2 ^ 32
 
+-- how far behind another one a reference stands near it
+abbrev pub reach : ℕ
+reach = 65_536
+
+-- as many bytes as most chunks take
+abbrev pub usual_size : ℕ
+usual_size = 4_096
+
 -- One reference stands near another: in one segment, and no further behind it than this.
 pub record IsNear (one other : ℕ) : Type 0 where
   pub same_segment : segment_of one ≡ segment_of other
-  pub near : other ≤ one + 65_536
+  pub near : other ≤ one + reach
 
 -- The longest groups of references of which each stands near the one before it.
 abbrev pub AreGroups : List ℕ → List (Stretch ℕ) → Type 0
@@ -34,7 +42,7 @@ AreGroups references groups = AreStretches IsNear references groups
 
 -- what is read of a group at first: as much behind its last chunk's begin as most chunks take
 abbrev pub group_piece : Stretch ℕ → Piece
-group_piece group = record { from = offset_of group.first; len = last_of group - group.first + 4096 }
+group_piece group = record { from = offset_of group.first; len = last_of group - group.first + usual_size }
 
 -- a group: its segment, the first of its references and all of them, and what is read of it at first
 pub record Group : Type 0 where

@@ -3,7 +3,8 @@ use Rattle.std.specs.Prelude.{◌≡◌, ℕ, ◌-◌, ◌*◌, min, List, [], �
 use Rattle.std.specs.List.{filter}
 use Rattle.std.specs.Option.{option_map_or}
 use Rattle.index_parts.specs.declared.toc.Toc.{Toc}
-use Rattle.index_parts.specs.Contents.{references_of}
+use Rattle.index_parts.specs.Contents.{references_of, contents_size}
+use Rattle.index_file.specs.IndexFile.{series_unit}
 use Rattle.read_ranges.specs.Stretches.{Stretch, members, last_of, AreStretches}
 
 -- bytes of an object that stand one behind another
@@ -20,13 +21,9 @@ has_bytes piece = nat_lt 0 piece.len
 
 -- ---- the table of contents and the sections
 
--- the size of an index that has a header and a table of contents
-abbrev pub least_size : ℕ
-least_size = 57
-
 -- the table of contents of an index of so many bytes
 abbrev pub contents_piece : ℕ → Piece
-contents_piece size = record { from = size - 52; len = 52 }
+contents_piece size = record { from = size - contents_size; len = contents_size }
 
 -- the least of these numbers, if there are any
 abbrev pub least : List ℕ → Option ℕ
@@ -40,7 +37,7 @@ with_less (Some other) number = min other number
 
 -- What stands at a place ends at the least reference above it, or at the table of contents where there is none.
 unfoldable pub end_of : Toc → ℕ → ℕ → ℕ
-end_of toc size place = unwrap_or (least (filter (nat_lt place) (references_of toc))) (size - 52)
+end_of toc size place = unwrap_or (least (filter (nat_lt place) (references_of toc))) (size - contents_size)
 
 -- the section at a reference
 abbrev pub section_piece : Toc → ℕ → ℕ → Piece
@@ -71,10 +68,10 @@ AreRuns all numbers runs = AreStretches (Follows all) numbers runs
 -- A series stands at sixteen times its number. A run goes up to the series that follows its last one, or to the end of what
 -- stands there where none follows.
 abbrev pub run_end : Toc → ℕ → List ℕ → ℕ → ℕ
-run_end toc size all last = option_map_or (λ next. 16 * next) (behind all last) (end_of toc size (16 * last))
+run_end toc size all last = option_map_or (λ next. series_unit * next) (behind all last) (end_of toc size (series_unit * last))
 
 abbrev pub run_piece : Toc → ℕ → List ℕ → Stretch ℕ → Piece
-run_piece toc size all run = between (16 * run.first) (run_end toc size all (last_of run))
+run_piece toc size all run = between (series_unit * run.first) (run_end toc size all (last_of run))
 
 -- the range of a run, and the numbers of the series in it
 pub record Run : Type 0 where

@@ -9,9 +9,11 @@ use Rattle.index_parts.specs.declared.postings_row.PostingsRow.{PostingsRow}
 use Rattle.index_parts.specs.ContentsReading.{toc_at}
 use Rattle.index_parts.specs.SymbolsReading.{symbols_at}
 use Rattle.index_parts.specs.RowsReading.{postings_table_at}
+use Rattle.index_parts.specs.Contents.{contents_size}
 use Rattle.index_slices.specs.Parts.{Part, file, known}
 use Rattle.index_file.specs.Opened.{Opened}
 use Rattle.index_file.specs.declared.index_series.IndexSeries.{IndexSeries}
+use Rattle.index_file.specs.IndexFile.{least_size}
 use Rattle.index_v2.specs.Opening.{opened_at}
 use Rattle.index_v2.specs.PostingsLists.{list_of}
 use Rattle.index_v2.specs.WholeReading.{lists_at}
@@ -20,7 +22,7 @@ use Rattle.series_selection.specs.Selections.{IsSelection, rows_read}
 use Rattle.reading_core.specs.Firsts.{each_at}
 use Rattle.read_ranges.specs.OneCut.{one_cut}
 use Rattle.read_ranges.specs.OneSet.{one_selection}
-use Rattle.read_ranges.specs.IndexRanges.{Piece, has_bytes, least_size, contents_piece, section_piece, has_sections, Follows, AreRuns, Run, run_of}
+use Rattle.read_ranges.specs.IndexRanges.{Piece, has_bytes, contents_piece, section_piece, has_sections, Follows, AreRuns, Run, run_of}
 use Rattle.read_ranges.specs.Reads.{Query, Block, Cache, Break, damaged, Reached, reads, takes, if_read}
 
 -- what is known of an index before its series are read: its symbols, the rows of its postings table, and where its lists are
@@ -126,7 +128,7 @@ module _ {E : Type 0} (breaks : Break → Cache → E) (query : Query) (block : 
   -- what follows the table of contents
   abbrev pub after_contents : ℕ → Goes → Cache → ℕ → List ℕ → Plan E
   after_contents size next cache seq bytes =
-      choose (length bytes == 52)
+      choose (length bytes == contents_size)
       (if_read (toc_at bytes)
       (λ toc. choose (has_sections toc size) (reads_sections size toc next (reached seq cache)) (reads_whole next cache))
       (reads_whole next cache))

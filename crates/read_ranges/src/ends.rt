@@ -1,16 +1,20 @@
 //! Where the sections of an index end.
 ghost use Rattle.std.specs.Prelude.{◌≡◌, ◌+◌, ◌^◌, ◌<◌, ◌≤◌, min, nat_lt, Option, Some, None};
 ghost use Rattle.std.specs.List.{filter};
+ghost use Rattle.index_parts.specs.Contents.{contents_size};
 ghost use Rattle.read_ranges.specs.IndexRanges.{end_of, least, with_less, section_piece, has_sections};
 ghost use Rattle.read_ranges.specs.Asking.{piece_of};
 
 use crate::ByteRange;
-use index_parts::Toc;
+use index_parts::{CONTENTS_SIZE, Toc};
+
+/// How many bytes the table of contents has.
+const CONTENTS: u64 = CONTENTS_SIZE as u64;
 
 /// Whether symbols, series, postings lists and postings table are there, and each of those that are
 /// read has bytes.
 pub fn has_sections(toc: &Toc, size: u64) -> bool
-    requires { 52 ≤ size }
+    requires { contents_size ≤ size }
     ensures { result ≡ has_sections toc.now size }
 {
     toc.symbols > 0
@@ -24,7 +28,7 @@ pub fn has_sections(toc: &Toc, size: u64) -> bool
 
 /// The bytes of the section at a reference, in an index of so many bytes.
 pub fn section_range(toc: &Toc, size: u64, place: u64) -> ByteRange
-    requires { 52 ≤ size }
+    requires { contents_size ≤ size }
     ensures value { piece_of result ≡ section_piece toc.now size place }
     ensures fits { result.from + result.len < 2 ^ 64 }
 {
@@ -38,7 +42,7 @@ pub fn section_range(toc: &Toc, size: u64, place: u64) -> ByteRange
 /// the table of contents.
 #[tactic(auto, unfolding(crate::specs::IndexRanges::end_of))]
 pub fn end_of_place(toc: &Toc, size: u64, place: u64) -> u64
-    requires { 52 ≤ size }
+    requires { contents_size ≤ size }
     ensures { result ≡ end_of toc.now size place }
 {
     let references = [
@@ -49,7 +53,7 @@ pub fn end_of_place(toc: &Toc, size: u64, place: u64) -> u64
         toc.postings,
         toc.postings_table,
     ];
-    least_above(&references, place).unwrap_or(size - 52)
+    least_above(&references, place).unwrap_or(size - CONTENTS)
 }
 
 /// The least of the references above a place.

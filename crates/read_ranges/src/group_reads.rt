@@ -12,8 +12,8 @@ use list_core::NoMemory;
 use std::alloc::Global;
 use wire_bytes::NumberList;
 
-/// How many bytes are read from the last chunk of a group on: as much as most chunks take.
-const BEHIND: u64 = 4096;
+/// How many bytes most chunks take.
+const USUAL_SIZE: u64 = 4_096;
 
 /// The groups of references to chunks, which ascend, with what is read of each at first.
 pub fn groups_to_read(alloc: Global, references: &[u64]) -> Result<Vec<GroupRead>, NoMemory>
@@ -51,7 +51,7 @@ fn group_to_read(alloc: Global, references: &[u64], span: Span) -> Result<GroupR
         first,
         range: ByteRange {
             from: first % 0x1_0000_0000,
-            len: last.saturating_sub(first) + BEHIND,
+            len: last.saturating_sub(first) + USUAL_SIZE,
         },
         references: NumberList::from_vec(Vec::from_slice(
             alloc,

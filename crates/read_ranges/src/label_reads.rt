@@ -1,5 +1,5 @@
 //! The labels of a series, by its symbol numbers.
-ghost use Rattle.std.specs.Prelude.{◌≡◌, ◌+◌, ◌<◌, ◌≤◌, ℕ, [], length, sum_by, option_map, MatchResult, IfOk, IfSome, Ok};
+ghost use Rattle.std.specs.Prelude.{◌≡◌, ◌+◌, ◌≤◌, ℕ, [], length, sum_by, option_map, IfOk, IfSome, Ok};
 ghost use Rattle.std.specs.Result.{result_ok};
 ghost use Rattle.label_sets.specs.Labels.{added};
 ghost use Rattle.index_v2.specs.Budget.{label_bytes, text_bytes};
@@ -7,20 +7,10 @@ ghost use Rattle.index_v2.specs.SeriesLabels.{label_of, labels_of};
 
 use crate::symbol_texts::SymbolTexts;
 use index_parts::RawSeries;
-use index_v2::IndexSeries;
+use index_v2::{IndexSeries, spend};
 use label_sets::LabelSet;
 use list_core::NoMemory;
 use std::alloc::Global;
-
-/// What is left of a budget behind this much.
-fn spend(left: usize, much: usize) -> Result<usize, NoMemory>
-    ensures { MatchResult result (λ rest. rest + much ≡ left) (λ _. left < much) }
-{
-    match left.checked_sub(much) {
-        Some(rest) => Ok(rest),
-        None => Err(NoMemory),
-    }
-}
 
 /// The texts of a label's symbol numbers: the name is above the one before it, and the value is not
 /// empty. None where one of them is refused.

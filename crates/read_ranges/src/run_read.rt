@@ -1,4 +1,5 @@
 ghost use Rattle.std.specs.Prelude.{◌*◌, ◌^◌, ◌<◌, ◌≤◌, All};
+ghost use Rattle.index_file.specs.IndexFile.{series_unit};
 
 use crate::ByteRange;
 use wire_bytes::NumberList;
@@ -8,6 +9,6 @@ use wire_bytes::NumberList;
 pub struct RunRead {
     pub range: ByteRange,
     pub numbers: NumberList,
-    ghost begins: { All (λ n. range.from ≤ 16 * n) numbers },
+    ghost begins: { All (λ n. range.from ≤ series_unit * n) numbers },
     ghost small: { All (λ n. n < 2 ^ 32) numbers },
 }

@@ -9,6 +9,7 @@ ghost use Rattle.read_ranges.specs.ToRead.{run_read, AreRunsToRead};
 use crate::run_read::RunRead;
 use crate::sections::Sections;
 use crate::{ByteRange, Span, end_of_place, number_behind, runs_of_series};
+use index_file::SERIES_UNIT;
 use list_core::NoMemory;
 use std::alloc::Global;
 use wire_bytes::NumberList;
@@ -71,7 +72,7 @@ fn run_to_read(
         (λ run. run_read run ≡ run_of sections.toc sections.size all.now
         (stretch_at numbers.now span)) }
 {
-    let from = 16 * numbers[span.start];
+    let from = SERIES_UNIT * numbers[span.start];
     let end = end_of_run(sections, all, numbers[span.end - 1]);
     Ok(RunRead {
         range: ByteRange {
@@ -90,7 +91,7 @@ fn end_of_run(sections: Sections, all: &[u64], last: u64) -> u64
     ensures { result ≡ run_end sections.toc sections.size all.now last }
 {
     match number_behind(all, last) {
-        Some(next) => 16 * next,
-        None => end_of_place(&sections.toc, sections.size, 16 * last),
+        Some(next) => SERIES_UNIT * next,
+        None => end_of_place(&sections.toc, sections.size, SERIES_UNIT * last),
     }
 }

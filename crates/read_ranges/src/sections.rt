@@ -1,4 +1,5 @@
 ghost use Rattle.std.specs.Prelude.{◌<◌, ◌≤◌};
+ghost use Rattle.index_parts.specs.Contents.{contents_size};
 
 use index_parts::Toc;
 
@@ -7,7 +8,7 @@ use index_parts::Toc;
 pub struct Sections {
     pub toc: Toc,
     pub size: u64,
-    ghost long: { 52 ≤ size },
+    ghost long: { contents_size ≤ size },
     ghost symbols: { 0 < toc.symbols },
     ghost table: { 0 < toc.postings_table },
 }

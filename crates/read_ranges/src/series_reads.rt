@@ -2,9 +2,10 @@
 ghost use Rattle.std.specs.Prelude.{◌≡◌, ◌+◌, ◌*◌, ◌^◌, ◌<◌, ◌≤◌, All, length, sum_by, Ok, IsErr, IfOk, IfSome};
 ghost use Rattle.index_parts.specs.SeriesReading.{series_at};
 ghost use Rattle.index_slices.specs.Parts.{known};
-ghost use Rattle.index_v2.specs.Budget.{text_bytes};
+ghost use Rattle.index_v2.specs.Budget.{text_bytes, text_share};
 ghost use Rattle.index_v2.specs.SeriesLabels.{numbered_at};
 ghost use Rattle.reading_core.specs.Firsts.{each_at};
+ghost use Rattle.index_file.specs.IndexFile.{series_unit};
 ghost use Rattle.read_ranges.specs.IndexReads.{part_at};
 ghost use Rattle.read_ranges.specs.Asking.{piece_of};
 ghost use Rattle.read_ranges.specs.Findings.{ReadsAs, ReadsBehind};
@@ -12,8 +13,9 @@ ghost use Rattle.read_ranges.specs.Findings.{ReadsAs, ReadsBehind};
 use crate::label_reads::named;
 use crate::run_read::RunRead;
 use crate::symbol_texts::SymbolTexts;
+use index_file::SERIES_UNIT;
 use index_parts::{PartRefusal, RawSeries, read_series};
-use index_v2::{IndexReader, IndexRefusal, IndexSeries};
+use index_v2::{IndexReader, IndexRefusal, IndexSeries, TEXT_SHARE};
 use list_core::NoMemory;
 use std::alloc::Global;
 
@@ -35,12 +37,12 @@ fn raw_at(alloc: Global, bytes: &[u8], at: u64) -> Result<Option<RawSeries>, NoM
 /// the bytes in which it stands. No series of at most 63 labels comes to more: its names differ, so
 /// that together they are no longer than the symbols, and neither is any of its values.
 fn most_texts(symbols: &SymbolTexts, bytes: &[u8]) -> usize
-    ensures { result ≤ 64 * (sum_by length symbols.now + length bytes.now) }
+    ensures { result ≤ text_share * (sum_by length symbols.now + length bytes.now) }
 {
     symbols
         .size()
         .saturating_add(bytes.len())
-        .saturating_mul(64)
+        .saturating_mul(TEXT_SHARE)
 }
 
 /// The series of a number in the bytes of a run. None where it is refused.
@@ -51,15 +53,15 @@ fn series_in(
     bytes: &[u8],
     number: u64,
 ) -> Result<Option<IndexSeries>, NoMemory>
-    requires begins { run.now.range.from ≤ 16 * number }
+    requires begins { run.now.range.from ≤ series_unit * number }
     requires small { number < 2 ^ 32 }
     ensures reads { IfOk result (ReadsAs (λ one. one)
         (numbered_at (known (part_at
         (piece_of run.now.range) bytes.now)) symbols.now number)) }
-    ensures texts { IfOk result (λ found. IfSome found (λ one. text_bytes one ≤ 64
+    ensures texts { IfOk result (λ found. IfSome found (λ one. text_bytes one ≤ text_share
         * (sum_by length symbols.now + length bytes.now))) }
 {
-    match raw_at(alloc, bytes, 16 * number - run.range.from)? {
+    match raw_at(alloc, bytes, SERIES_UNIT * number - run.range.from)? {
         Some(raw) => named(alloc, symbols, raw, most_texts(symbols, bytes)),
         None => Ok(None),
     }
@@ -89,7 +91,7 @@ fn series_of_numbers(
     bytes: &[u8],
     series: Vec<IndexSeries>,
 ) -> Result<Option<Vec<IndexSeries>>, NoMemory>
-    requires begins { All (λ n. run.now.range.from ≤ 16 * n) numbers.now }
+    requires begins { All (λ n. run.now.range.from ≤ series_unit * n) numbers.now }
     requires small { All (λ n. n < 2 ^ 32) numbers.now }
     ensures { IfOk result (ReadsBehind (λ all. all.items) series.items
         (each_at (numbered_at

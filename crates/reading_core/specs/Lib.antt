@@ -5,3 +5,4 @@ pub mod Grammar
 pub mod Decimal
 pub mod FixedDigits
 pub mod ShortNumber
+pub mod Lines

@@ -1,6 +1,7 @@
 -- The last line of a report, which tells the breach of the journal.
 use Rattle.std.specs.Prelude.{ℕ, List, [], ◌++◌, codes, Option, Some, None}
 use Rattle.reading_core.specs.Decimal.{decimal_text}
+use Rattle.reading_core.specs.Lines.{newline}
 use Rattle.world_core.specs.declared.entry.Entry.{Entry}
 use Rattle.script_core.specs.declared.script.Script.{Script}
 use Rattle.script_running.specs.lifecycle_core.specs.Setting.{FromShelf}
@@ -8,7 +9,6 @@ use Rattle.breach_finding.specs.Walks.{IsAnswer, setting_with}
 use Rattle.breach_finding.specs.declared.found.Breach.{Breach}
 use Rattle.breach_finding.specs.declared.found.BreachRule.{BreachRule}
 use Rattle.breach_finding.specs.declared.found.BreachRule.TheVariants as found
-use Rattle.report_lines.specs.Reports.{newline}
 
 -- the rules of time are numbered in the order in which they are asked of an entry
 abbrev pub rule_word : BreachRule → List ℕ

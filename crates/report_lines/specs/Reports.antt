@@ -1,9 +1,10 @@
 -- The lines of a report: one for each activity, and more for an answered query.
-use Rattle.std.specs.Prelude.{ℕ, ◌-◌, ◌^◌, min, ℤ, Bool, true, false, is_some, not, ◌&&◌, List, [], ◌∷◌, ◌++◌, length, codes, slice_get, if◌then◌else◌}
+use Rattle.std.specs.Prelude.{ℕ, ◌-◌, ◌^◌, min, ℤ, Bool, true, false, is_some, not, ◌&&◌, List, [], ◌++◌, length, codes, slice_get, if◌then◌else◌}
 use Rattle.std.specs.List.{flat_map, list_any, sum_by}
 use Rattle.std.specs.Option.{option_map_or}
 use Rattle.std.specs.Ordering.{int_eq}
 use Rattle.reading_core.specs.Decimal.{decimal_text, signed_text}
+use Rattle.reading_core.specs.Lines.{newline}
 use Rattle.ulid_core.specs.UlidText.{text_of}
 use Rattle.label_sets.specs.Counts.{sample_count}
 use Rattle.label_sets.specs.SampleText.{series_text}
@@ -28,10 +29,6 @@ use Rattle.script_running.specs.declared.outcome.QueryOutcome.{QueryOutcome}
 use Rattle.script_running.specs.declared.outcome.QueryOutcome.TheVariants as query
 use Rattle.script_running.specs.declared.outcome.NoAnswer.{NoAnswer}
 use Rattle.script_running.specs.declared.outcome.NoAnswer.TheVariants as none
-
--- a line ends with a newline
-abbrev pub newline : List ℕ
-newline = 10 ∷ []
 
 unfoldable pub upload_words : UploadOutcome → List ℕ
 upload_words (upload.Done count) = codes "ok " ++ decimal_text count ++ codes " objects"

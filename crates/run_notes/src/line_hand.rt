@@ -119,7 +119,7 @@ impl<B: Bucket> Hand for LineHand<B> {
         last.wanted first.world next.world last.world one two };
 
     /// It says what every hand says, and that it notes want of memory just where an operation is answered so (`wanting`).
-    #[tactic(auto, using(crate::proofs::Acting::acted))]
+    #[tactic(auto, using(world_core::proofs::GoingOn::acted_goes_on))]
     fn act(&mut self, op: Op) -> Acted
         requires { IsLawful op }
         ensures entries { self.new.world.journal

@@ -9,15 +9,17 @@ use Rattle.label_sets.specs.Notation.{is_name}
 use Rattle.label_sets.specs.SetText.{AreNamed}
 use Rattle.label_sets.specs.declared.label.Label.{Label}
 use Rattle.label_sets.specs.declared.series.Series.{Series}
+use Rattle.label_sets.specs.Limits.{time_limit}
+use Rattle.label_sets.specs.Times.{times_of}
 use Rattle.matchers.specs.SelectorRefusals.{IsReadable}
 use Rattle.matchers.specs.declared.matcher.Matcher.{Matcher}
 use Rattle.moment_core.specs.declared.rules.Rules.{Rules}
 use Rattle.moment_core.specs.declared.span.Span.{Span}
-use Rattle.moment_core.specs.Limits.{longest_tick}
+use Rattle.moment_core.specs.Limits.{longest_tick, moment_limit, longest_span}
 use Rattle.moment_core.specs.Partitions.{all_times}
 use Rattle.moment_core.specs.declared.partition.Partition.{Partition}
 use Rattle.script_workers.specs.Limits.{most_workers}
-use Rattle.script_fields.specs.Limits.{most_gateways, most_blocks, most_tasks, latest_stop}
+use Rattle.script_fields.specs.Limits.{most_gateways, most_blocks, most_tasks, latest_stop, most_names}
 use Rattle.script_core.specs.declared.block.Block.{Block}
 use Rattle.script_core.specs.declared.body.Body.{Body}
 use Rattle.script_core.specs.declared.body.Body.TheVariants.{Inline, OnShelf}
@@ -26,7 +28,7 @@ use Rattle.script_core.specs.declared.script.Script.{Script}
 use Rattle.script_workers.specs.declared.work.Work.{Work}
 use Rattle.script_workers.specs.declared.work.Work.TheVariants.{Upload, Sync, Compact, Clean, Query}
 use Rattle.script_fields.specs.Values.{is_reserved, agree}
-use Rattle.script_fields.specs.Samples.{times_of, are_within}
+use Rattle.script_fields.specs.Samples.{are_within}
 use Rattle.script_workers.specs.Hands.{gateway_count, hands_of}
 use Rattle.script_workers.specs.Works.{works_of, has_sync, CompactOnce}
 use Rattle.script_core.specs.Blocks.{declares}
@@ -34,18 +36,18 @@ use Rattle.script_core.specs.Blocks.{declares}
 -- a retention, where there is one, of some time
 abbrev pub IsLawfulRetention : Option Span → Type 0
 IsLawfulRetention None = Unit {0}
-IsLawfulRetention (Some span) = (1 ≤ span.ms) × (span.ms ≤ 2 ^ 46)
+IsLawfulRetention (Some span) = (1 ≤ span.ms) × (span.ms ≤ longest_span)
 
--- spans of at most 2^46 milliseconds, a tick of at most a day, pages of 1 to 10,000 names, and replica labels that are names
+-- spans no longer than the longest one, a tick of at most a day, pages of 1 to 10,000 names, and replica labels that are names
 pub record AreLawfulRules (rules : Rules) : Type 0 where
-  pub consistency : rules.consistency.ms ≤ 2 ^ 46
-  pub ignore : rules.ignore.ms ≤ 2 ^ 46
-  pub delete : rules.delete.ms ≤ 2 ^ 46
-  pub partial : rules.partial.ms ≤ 2 ^ 46
-  pub upload : rules.upload.ms ≤ 2 ^ 46
+  pub consistency : rules.consistency.ms ≤ longest_span
+  pub ignore : rules.ignore.ms ≤ longest_span
+  pub delete : rules.delete.ms ≤ longest_span
+  pub partial : rules.partial.ms ≤ longest_span
+  pub upload : rules.upload.ms ≤ longest_span
   pub tick : rules.tick.ms ≤ longest_tick
   pub page_limit_low : 1 ≤ rules.page_limit
-  pub page_limit_high : rules.page_limit ≤ 10_000
+  pub page_limit_high : rules.page_limit ≤ most_names
   pub replicas : All (λ name. IsTrue (is_name name)) rules.replicas
   pub retention : IsLawfulRetention rules.retention
 
@@ -64,9 +66,9 @@ pub record HasLawfulSamples (min_time max_time : ℤ) (series : Series) : Type 0
 
 -- times that a block may have, and series ascending by their labels
 pub record IsLawfulInline (min_time max_time : ℤ) (series : List Series) : Type 0 where
-  pub early : neg_ℤ (pos (2 ^ 62)) ≤ℤ min_time
+  pub early : neg_ℤ (pos time_limit) ≤ℤ min_time
   pub ascend : min_time <ℤ max_time
-  pub late : max_time ≤ℤ pos (2 ^ 62)
+  pub late : max_time ≤ℤ pos time_limit
   pub labels : All (λ one. AreLawfulLabels one.labels) series
   pub ordered : IsStrictlySortedBy compare_sets (map (λ one. one.labels) series)
   pub samples : All (HasLawfulSamples min_time max_time) series
@@ -105,10 +107,10 @@ IsLawfulWork gateways blocks selectors (Sync gateway) = gateway < length gateway
 IsLawfulWork gateways blocks selectors (Compact stop) = IsLawfulStop stop
 IsLawfulWork gateways blocks selectors (Clean stop) = IsLawfulStop stop
 IsLawfulWork gateways blocks selectors (Query low high selector) =
-    (neg_ℤ (pos (2 ^ 62)) ≤ℤ low) × (low ≤ℤ high) × (high ≤ℤ pos (2 ^ 62)) × (selector < selectors)
+    (neg_ℤ (pos time_limit) ≤ℤ low) × (low ≤ℤ high) × (high ≤ℤ pos time_limit) × (selector < selectors)
 
 pub record IsLawfulPhase (gateways : List (List ℕ)) (blocks : List Block) (selectors : ℕ) (phase : Phase) : Type 0 where
-  pub moment : phase.moment.ms < 2 ^ 47
+  pub moment : phase.moment.ms < moment_limit
   pub tasks : All (λ task. IsLawfulWork gateways blocks selectors task.work) phase.tasks
   pub few_workers : length (hands_of (gateway_count gateways) phase.tasks) ≤ most_workers
   pub compacts_once : CompactOnce phase.tasks
@@ -124,7 +126,7 @@ pub record AreLawfulPhases (gateways : List (List ℕ)) (blocks : List Block) (s
 abbrev pub IsLawfulPartition : Partition → Type 0
 IsLawfulPartition partition =
     (partition ≡ all_times)
-    ⊎ ((neg_ℤ (pos (2 ^ 62)) ≤ℤ partition.low) × (partition.low ≤ℤ partition.high) × (partition.high ≤ℤ pos (2 ^ 62)))
+    ⊎ ((neg_ℤ (pos time_limit) ≤ℤ partition.low) × (partition.low ≤ℤ partition.high) × (partition.high ≤ℤ pos time_limit))
 
 -- Some text is read as the selector, where these are the replica labels.
 abbrev pub IsLawfulSelector : List (List ℕ) → List Matcher → Type 0

@@ -2,7 +2,7 @@
 -- record for each kind of line: how the line is written, what has to hold of the script so far, and what the line adds. Here
 -- is nothing of causes and of their order: a text that is read is one that spells its script, and each text that spells a
 -- script is read.
-use Rattle.std.specs.Prelude.{◌≡◌, ◌≢◌, ℕ, ◌+◌, ◌-◌, ◌%◌, ◌^◌, ◌<◌, ◌≤◌, ℤ, pos, neg_ℤ, ◌<ℤ◌, ◌≤ℤ◌, List, [], ◌∷◌, ◌++◌, length, map, Bool, true, false, not, IsTrue, IsFalse, Option, None, Some, All, position, codes}
+use Rattle.std.specs.Prelude.{◌≡◌, ◌≢◌, ℕ, ◌+◌, ◌%◌, ◌^◌, ◌<◌, ◌≤◌, ℤ, pos, neg_ℤ, ◌<ℤ◌, ◌≤ℤ◌, List, [], ◌∷◌, ◌++◌, length, map, Bool, true, false, not, IsTrue, IsFalse, Option, None, Some, All, position, codes}
 use Rattle.std.specs.Bool.{MatchBool}
 use Rattle.std.specs.List.{list_all, join_with_byte}
 use Rattle.std.specs.List.Sorted.{IsStrictlySortedBy}
@@ -16,6 +16,8 @@ use Rattle.label_sets.specs.SampleText.{sample_text}
 use Rattle.label_sets.specs.declared.label.Label.{Label}
 use Rattle.label_sets.specs.declared.sample.Sample.{Sample}
 use Rattle.label_sets.specs.declared.series.Series.{Series}
+use Rattle.label_sets.specs.Limits.{time_limit}
+use Rattle.label_sets.specs.Times.{times_of}
 use Rattle.matchers.specs.SelectorRefusals.{IsReadable}
 use Rattle.matchers.specs.declared.matcher.Matcher.{Matcher}
 use Rattle.moment_core.specs.MomentText.{IsMomentText}
@@ -26,8 +28,9 @@ use Rattle.moment_core.specs.declared.partition.Partition.{Partition}
 use Rattle.moment_core.specs.declared.rules.Rules.{Rules}
 use Rattle.moment_core.specs.declared.span.Span.{Span}
 use Rattle.ulid_core.specs.UlidText.{IsUlidText}
-use Rattle.moment_core.specs.Limits.{longest_tick}
-use Rattle.script_fields.specs.Limits.{longest_text, most_gateways, most_blocks, most_tasks, latest_stop}
+use Rattle.ulid_core.specs.Reserved.{least_reserved}
+use Rattle.moment_core.specs.Limits.{longest_tick, one_second}
+use Rattle.script_fields.specs.Limits.{longest_text, most_gateways, most_blocks, most_tasks, latest_stop, most_names}
 use Rattle.script_core.specs.declared.block.Block.{Block}
 use Rattle.script_core.specs.declared.body.Body.TheVariants.{Inline, OnShelf}
 use Rattle.script_workers.specs.declared.phase.Phase.{Phase}
@@ -42,7 +45,6 @@ use Rattle.script_workers.specs.Whose.{FewWorkers}
 use Rattle.script_workers.specs.Works.{works_of, has_sync, has_compaction}
 use Rattle.script_core.specs.Blocks.{declares}
 use Rattle.script_core.specs.Lawful.{HasSeries}
-use Rattle.script_fields.specs.Samples.{times_of}
 
 -- ---- fields and values
 
@@ -57,8 +59,8 @@ pub record IsField (field : List ℕ) : Type 0 where
 
 -- a time of the script is at most 2^62 from zero
 pub record IsNear (time : ℤ) : Type 0 where
-  pub early : neg_ℤ (pos (2 ^ 62)) ≤ℤ time
-  pub late : time ≤ℤ pos (2 ^ 62)
+  pub early : neg_ℤ (pos time_limit) ≤ℤ time
+  pub late : time ≤ℤ pos time_limit
 
 -- a time as a decimal number
 pub record IsTimeText (text : List ℕ) (time : ℤ) : Type 0 where
@@ -66,11 +68,11 @@ pub record IsTimeText (text : List ℕ) (time : ℤ) : Type 0 where
   pub written : text ≡ signed_text time
   pub near : IsNear time
 
--- a ULID, but for the last 2^20 of its millisecond, which compacted blocks take
+-- a ULID, but for the last ones of its millisecond, which compacted blocks take
 pub record IsUlidField (text : List ℕ) (ulid : ℕ) : Type 0 where
   pub field : IsField text
   pub written : IsUlidText text ulid
-  pub not_reserved : ulid % 2 ^ 80 < 2 ^ 80 - 2 ^ 20
+  pub not_reserved : ulid % 2 ^ 80 < least_reserved
 
 -- TIME:PATTERN
 pub record IsSampleField (text : List ℕ) (sample : Sample) : Type 0 where
@@ -106,7 +108,7 @@ rule_word names.PageLimit = codes "page-limit"
 -- The text of a rule's value. Spans are in milliseconds.
 abbrev pub IsValueText : RuleName → List ℕ → ℕ → Type 0
 IsValueText names.Tick text value = IsSpanText text value × (value ≤ longest_tick)
-IsValueText names.PageLimit text value = (text ≡ decimal_text value) × (1 ≤ value) × (value ≤ 10_000)
+IsValueText names.PageLimit text value = (text ≡ decimal_text value) × (1 ≤ value) × (value ≤ most_names)
 IsValueText name text value = IsSpanText text value
 
 -- the value of the rule with this name
@@ -130,7 +132,7 @@ pub record Sets (name : RuleName) (value : ℕ) (before after : Rules) : Type 0 
 -- it deletes.
 pub record DoAgree (rules : Rules) : Type 0 where
   pub partial : rules.upload.ms ≤ rules.partial.ms
-  pub delete : rules.upload.ms + 1000 ≤ rules.delete.ms
+  pub delete : rules.upload.ms + one_second ≤ rules.delete.ms
   pub ignore : rules.ignore.ms ≤ rules.delete.ms
 
 -- ---- the script so far

@@ -5,6 +5,7 @@ use Rattle.std.specs.Ordering.{is_eq, match_ordering, nat_cmp}
 use Rattle.std.specs.BTreeMap.{is_at}
 use Rattle.std.specs.BTreeSet.{insert_key}
 use Rattle.std.specs.Str.{bytes_eq}
+use Rattle.list_core.specs.Lists.{is_one_of}
 use Rattle.reading_core.specs.Reading.{◌>>=◌, ◌>>◌, unless}
 use Rattle.label_sets.specs.Labels.{compare_sets}
 use Rattle.label_sets.specs.declared.label.Label.{Label}
@@ -203,14 +204,10 @@ add_query st line low high selector = do
   after ← add_task st line (Query low high (length st.selectors))
   Ok (record after { selectors = after.selectors ++ selector ∷ [] })
 
--- whether a gateway has a sync line
-abbrev pub is_synced : List ℕ → ℕ → Bool
-is_synced synced gateway = list_any (λ place. place == gateway) synced
-
 -- a sync line of the gateway at a place
 unfoldable pub note_sync : State → ℕ → State
 note_sync st gateway =
-    record st { synced = (if is_synced st.synced gateway then st.synced else st.synced ++ gateway ∷ []) }
+    record st { synced = (if is_one_of st.synced gateway then st.synced else st.synced ++ gateway ∷ []) }
 
 -- the last phase has a compaction
 abbrev pub phase_compacts : Option Phase → Bool
@@ -219,7 +216,7 @@ phase_compacts (Some phase) = has_compaction phase.tasks
 
 -- each gateway has a sync line
 abbrev pub are_all_synced : State → Bool
-are_all_synced st = list_all (is_synced st.synced) (range_with_len 0 (length st.gateways))
+are_all_synced st = list_all (is_one_of st.synced) (range_with_len 0 (length st.gateways))
 
 -- the script of a state that no line follows
 abbrev pub script_of_state : State → Script

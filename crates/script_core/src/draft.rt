@@ -1,5 +1,5 @@
 ghost use Rattle.std.specs.Prelude.{◌≡◌, ◌≤◌, ◌++◌, OnOk, length};
-ghost use Rattle.script_fields.specs.Limits.{most_tasks};
+ghost use Rattle.script_fields.specs.Limits.{most_tasks, most_gateways};
 ghost use Rattle.script_workers.specs.Works.{has_compaction};
 
 use crate::inline_block::InlineBlock;
@@ -52,7 +52,7 @@ pub(crate) struct Draft {
     pub hands: Vec<Hand>,
     /// How many tasks all phases have.
     pub activities: u32,
-    ghost few_gateways: { length gateways ≤ 16 },
+    ghost few_gateways: { length gateways ≤ most_gateways },
     ghost few_activities: { activities ≤ most_tasks },
     ghost few_selectors: { length selectors ≤ activities },
 }

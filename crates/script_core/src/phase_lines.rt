@@ -12,7 +12,7 @@ ghost use Rattle.script_core.specs.View.{asked_of, state_of};
 use crate::draft::Draft;
 use label_sets::{TextList, is_name};
 use matchers::{Selector, SelectorRefusal};
-use moment_core::{Moment, MomentRefusal, Rules};
+use moment_core::{Moment, MomentRefusal, Rules, SECOND};
 use script_fields::{
     LineCause, LineRefusal, is_reserved, next_field, only_field, stop_count, time, ulid,
 };
@@ -72,7 +72,7 @@ fn agree(rules: &Rules) -> bool
     let delete = rules.delete.ms;
     upload <= rules.partial.ms
         && upload <= delete
-        && delete - upload >= 1_000
+        && delete - upload >= SECOND
         && rules.ignore.ms <= delete
 }
 

@@ -6,7 +6,7 @@ ghost use Rattle.std.specs.Str.{is_utf8};
 ghost use Rattle.label_sets.specs.SetText.{IsSetText};
 ghost use Rattle.label_sets.specs.declared.label.Label.{Label};
 ghost use Rattle.script_fields.specs.Fields.{is_newline};
-ghost use Rattle.script_fields.specs.Limits.{longest_text};
+ghost use Rattle.script_fields.specs.Limits.{longest_text, longest_sample};
 ghost use Rattle.script_core.specs.Parts.{AreSeriesParts, IsOneLine, has_field, test_samples, series_front};
 ghost use Rattle.script_core.specs.Reading.{line_at};
 ghost use Rattle.script_core.specs.State.{add_series};
@@ -21,14 +21,14 @@ use label_sets::{LabelSet, Sample, SampleList, Series};
 use script_fields::{LineCause, LineRefusal, ScriptRefusal, are_rising, is_time};
 use std::alloc::Global;
 
-/// How many bytes a sample has at most: a space, a sign, 19 digits of a time, a colon and 16 of a pattern.
-const LONGEST_SAMPLE: usize = 38;
+/// How many bytes a sample of a series line has at most: a space, a sign, 19 digits of a time, a colon and 16 of a pattern.
+pub const LONGEST_SAMPLE: usize = 38;
 
 /// How many bytes a series line has at most, with its newline.
 pub(crate) fn line_size(labels: usize, samples: usize) -> Result<usize, ScriptRefusal>
-    ensures size { IfOk result (λ size. size ≡ 8 + labels + 38 * samples) }
+    ensures size { IfOk result (λ size. size ≡ 8 + labels + longest_sample * samples) }
     ensures refused { IfErr result (λ e. (e ≡ TooLong)
-        × (longest_text < 8 + labels + 38 * samples)) }
+        × (longest_text < 8 + labels + longest_sample * samples)) }
 {
     if labels > LONGEST_TEXT || samples > LONGEST_TEXT {
         return Err(ScriptRefusal::TooLong);
@@ -45,7 +45,7 @@ pub(crate) fn put_series(
 ) -> Result<(), LineRefusal>
     ensures line { OnOk result (IsOneLine (series_front labels.now samples)) }
     ensures size { OnOk result (length (series_front labels.now samples)
-        ≤ 7 + length labels.now + 38 * length samples) }
+        ≤ 7 + length labels.now + longest_sample * length samples) }
     ensures read { OnOk result ((number : ℕ)
         → line_at (state_of draft.old) number (series_front labels.now samples)
         ≡ Ok (state_of draft.new)) }

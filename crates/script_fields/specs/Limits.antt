@@ -18,3 +18,11 @@ most_tasks = 65_536
 -- how many operations a task makes at most before it stops
 abbrev pub latest_stop : ℕ
 latest_stop = 1_000_000
+
+-- how many names a page has at most
+abbrev pub most_names : ℕ
+most_names = 10_000
+
+-- how many bytes a sample of a series line has at most: a space, a sign, 19 digits of a time, a colon and 16 of a pattern
+abbrev pub longest_sample : ℕ
+longest_sample = 38

@@ -1,5 +1,5 @@
 -- The samples of a series line, which single spaces keep apart.
-use Rattle.std.specs.Prelude.{ℕ, List, [], ◌∷◌, length, map, Bool, true, false, not, ◌&&◌, ◌==◌, nat_lt, Result, Ok, Err, ℤ, int_lt, if◌then◌else◌}
+use Rattle.std.specs.Prelude.{ℕ, List, [], ◌∷◌, length, Bool, true, false, not, ◌&&◌, ◌==◌, nat_lt, Result, Ok, Err, ℤ, int_lt, if◌then◌else◌}
 use Rattle.std.specs.List.{list_all, slice_split, position_or_len, before_first}
 use Rattle.std.specs.Str.{byte}
 use Rattle.reading_core.specs.Reading.{◌>>=◌, refused_as}
@@ -48,9 +48,6 @@ samples_from (text ∷ texts) = do
 
 abbrev pub samples_of : List ℕ → Result (List Sample) LineCause
 samples_of texts = samples_from (texts_of texts)
-
-abbrev pub times_of : List Sample → List ℤ
-times_of samples = map (λ sample. sample.time) samples
 
 -- each time is above the one before it
 abbrev pub rise_after : Sample → List Sample → Bool

@@ -1,13 +1,15 @@
 -- The numbers, times, spans and ULIDs that stand in fields.
-use Rattle.std.specs.Prelude.{ℕ, ◌+◌, ◌-◌, ◌%◌, ◌^◌, List, [], ◌∷◌, ◌++◌, Bool, ◌&&◌, ◌==◌, nat_le, nat_lt, Option, None, Some, option_map, ok_or, Result, Ok, ℤ, pos, negsuc, if◌then◌else◌}
+use Rattle.std.specs.Prelude.{ℕ, ◌+◌, ◌%◌, ◌^◌, List, [], ◌∷◌, ◌++◌, Bool, ◌&&◌, ◌==◌, nat_le, nat_lt, Option, None, Some, option_map, ok_or, Result, Ok, ℤ, pos, negsuc, if◌then◌else◌}
 use Rattle.reading_core.specs.Reading.{◌>>=◌, ◌>>◌, unless, refused_as}
 use Rattle.reading_core.specs.Decimal.{unsigned_of, signed_of}
 use Rattle.ulid_core.specs.UlidText.{ulid_of}
+use Rattle.ulid_core.specs.Reserved.{least_reserved}
 use Rattle.label_sets.specs.Notation.{is_name}
+use Rattle.label_sets.specs.Limits.{time_limit}
 use Rattle.moment_core.specs.declared.span.Span.{Span}
 use Rattle.moment_core.specs.declared.rules.Rules.{Rules}
-use Rattle.moment_core.specs.Limits.{longest_tick}
-use Rattle.script_fields.specs.Limits.{latest_stop}
+use Rattle.moment_core.specs.Limits.{longest_tick, one_second}
+use Rattle.script_fields.specs.Limits.{latest_stop, most_names}
 use Rattle.script_fields.specs.declared.rule_kind.RuleKind.{RuleKind}
 use Rattle.script_fields.specs.declared.rule_kind.RuleKind.TheVariants.{Valued, ReplicaLabel, Retention}
 use Rattle.script_fields.specs.declared.rule_name.RuleName.{RuleName}
@@ -18,10 +20,10 @@ use Rattle.moment_core.specs.declared.moment.Moment.{Moment}
 use Rattle.script_fields.specs.declared.cause.LineCause.{LineCause}
 use Rattle.script_fields.specs.declared.cause.LineCause.TheVariants.{BadNumber, BadMomentText, BadSpanText, BadUlidText, BadName}
 
--- a time of the script: within 2^62 of 0
+-- a time of the script
 abbrev pub is_time : ℤ → Bool
-is_time (pos n) = nat_le n (2 ^ 62)
-is_time (negsuc n) = nat_lt n (2 ^ 62)
+is_time (pos n) = nat_le n time_limit
+is_time (negsuc n) = nat_lt n time_limit
 
 unfoldable pub time_field : List ℕ → Result ℤ LineCause
 time_field field = do
@@ -32,7 +34,7 @@ time_field field = do
 unfoldable pub page_limit_field : List ℕ → Result ℕ LineCause
 page_limit_field field = do
   limit ← refused_as (λ _. BadNumber) (unsigned_of field)
-  unless (nat_le 1 limit && nat_le limit 10000) BadNumber
+  unless (nat_le 1 limit && nat_le limit most_names) BadNumber
   Ok limit
 
 unfoldable pub stop_count : List ℕ → Result ℕ LineCause
@@ -63,9 +65,9 @@ moment_field field = ok_or (option_map moment_from (moment_of field)) BadMomentT
 unfoldable pub ulid_field : List ℕ → Result ℕ LineCause
 ulid_field field = refused_as (λ _. BadUlidText) (ulid_of field)
 
--- The last 2^20 ULIDs of each millisecond are kept for compacted blocks.
+-- The last ULIDs of each millisecond are kept for compacted blocks.
 abbrev pub is_reserved : ℕ → Bool
-is_reserved ulid = nat_le (2 ^ 80 - 2 ^ 20) (ulid % 2 ^ 80)
+is_reserved ulid = nat_le least_reserved (ulid % 2 ^ 80)
 
 -- what a text says of a rule's value, a span by its milliseconds
 unfoldable pub value_field : RuleName → List ℕ → Result ℕ LineCause
@@ -119,4 +121,4 @@ apply_rule Retention text rules = set_retention text rules
 -- no later than it deletes.
 abbrev pub agree : Rules → Bool
 agree set =
-    nat_le set.upload.ms set.partial.ms && nat_le (set.upload.ms + 1000) set.delete.ms && nat_le set.ignore.ms set.delete.ms
+    nat_le set.upload.ms set.partial.ms && nat_le (set.upload.ms + one_second) set.delete.ms && nat_le set.ignore.ms set.delete.ms

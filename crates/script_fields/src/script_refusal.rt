@@ -6,7 +6,7 @@ ghost use Rattle.script_fields.specs.Wording.{cause_number, line_text};
 use crate::LineCause;
 use list_core::NoMemory;
 use reading_core::put_unsigned;
-use std::alloc::{AllocError, AllocFailed, Global};
+use std::alloc::Global;
 
 /// Why a text is no script. A number is that of the line, from 1.
 #[derive(Clone, Copy, Debug, PartialEq, Eq)]
@@ -97,22 +97,6 @@ impl From<NoMemory> for ScriptRefusal {
     ghost from_gives = { λ _ e. e ≡ NoMemory };
 
     fn from(_: NoMemory) -> Self {
-        ScriptRefusal::NoMemory
-    }
-}
-
-impl From<AllocError> for ScriptRefusal {
-    ghost from_gives = { λ _ e. e ≡ NoMemory };
-
-    fn from(_: AllocError) -> Self {
-        ScriptRefusal::NoMemory
-    }
-}
-
-impl<T: Drop> From<AllocFailed<T>> for ScriptRefusal {
-    ghost from_gives = { λ _ e. e ≡ NoMemory };
-
-    fn from(_: AllocFailed<T>) -> Self {
         ScriptRefusal::NoMemory
     }
 }

@@ -4,23 +4,19 @@ ghost use Rattle.std.specs.Prelude.{◌≡◌};
 ghost use Rattle.script_fields.specs.Values.{time_field, is_time, page_limit_field, stop_count, span_field, tick_field, ulid_field, is_reserved};
 
 use crate::LineCause;
+use label_sets::TIME_LIMIT;
 use moment_core::Span;
 use reading_core::{read_signed, read_unsigned};
-use ulid_core::Ulid;
+use ulid_core::{LEAST_RESERVED, Ulid};
 
-/// The greatest distance of a time from 0.
-const TIME_LIMIT: i64 = 1 << 62;
-
-const PAGE_LIMIT: u64 = 10_000;
+/// How many names a page has at most.
+const MOST_NAMES: u64 = 10_000;
 
 /// The greatest number of operations after which a task may stop.
 const LATEST_STOP: u64 = 1_000_000;
 
 /// A day, in milliseconds.
 const LONGEST_TICK: u64 = 86_400_000;
-
-/// The least entropy that is kept for compacted blocks.
-const RESERVED: u128 = 0xffff_ffff_ffff_fff0_0000;
 
 /// A time in milliseconds, from -2^62 to 2^62.
 #[tactic(auto, unfolding(crate::specs::Values::time_field))]
@@ -46,7 +42,7 @@ pub fn page_limit(field: &str) -> Result<u32, LineCause>
     ensures { result ≡ page_limit_field field.now }
 {
     match read_unsigned(field) {
-        Ok(number) if 1 <= number && number <= PAGE_LIMIT => Ok(number as u32),
+        Ok(number) if 1 <= number && number <= MOST_NAMES => Ok(number as u32),
         _ => Err(LineCause::BadNumber),
     }
 }
@@ -95,5 +91,5 @@ pub fn ulid(field: &str) -> Result<Ulid, LineCause>
 pub fn is_reserved(ulid: Ulid) -> bool
     ensures { result ≡ is_reserved ulid }
 {
-    ulid.entropy() >= RESERVED
+    ulid.entropy() >= LEAST_RESERVED
 }

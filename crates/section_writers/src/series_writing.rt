@@ -1,7 +1,7 @@
 ghost use Rattle.std.specs.Prelude.{◌≡◌, ◌++◌, ◌+◌, ◌*◌, ◌<◌, ◌^◌, ◌≤ℤ◌, length, zip, slice_index, List, ℕ, pos, IfOk, OnOk, OnErr};
 ghost use Rattle.std.specs.List.{AllByRecursion, flat_map};
 ghost use Rattle.index_parts.specs.Turns.{InOrder};
-ghost use Rattle.index_parts.specs.SeriesEntry.{IsSeries, StartsAfter, FitsTypes, reference_of, span, label_text, begin_text, refer_text, chunk_text, chunks_text, labels_text, series_content, series_text};
+ghost use Rattle.index_parts.specs.SeriesEntry.{IsSeries, StartsAfter, FitsTypes, reference_of, span, label_text, begin_text, refer_text, chunk_text, chunks_text, labels_text, series_content, series_text, segment_bound};
 
 use crate::section_writing::append_entry;
 use index_parts::{ChunkPlace, RawSeries, reference_of};
@@ -40,7 +40,7 @@ fn span(begin: i64, end: i64) -> u64
 /// A reference whose segment has 31 bits, as a number with a sign.
 #[inline(always)]
 fn signed_reference(chunk: ChunkPlace) -> i64
-    requires { chunk.segment < 2 ^ 31 }
+    requires { chunk.segment < segment_bound }
     ensures value { result ≡ pos (reference_of chunk) }
     ensures fits { (chunk.segment < 2 ^ 32) × (chunk.offset < 2 ^ 32) }
 {

@@ -1,8 +1,9 @@
 -- What selecting series gives, matcher by matcher, or the first refusal.
-use Rattle.std.specs.Prelude.{◌≡◌, ℕ, ◌+◌, ◌*◌, ◌≤◌, List, [], ◌∷◌, ◌++◌, length, sum_by, slice_get, Option, Some, None, Bool, not, Result, Ok, ◌==◌, if◌then◌else◌}
-use Rattle.std.specs.List.{Contains, filter, flat_map, list_any}
+use Rattle.std.specs.Prelude.{◌≡◌, ℕ, ◌+◌, ◌*◌, ◌≤◌, List, [], ◌∷◌, ◌++◌, length, sum_by, slice_get, Option, Some, None, Bool, not, Result, Ok, if◌then◌else◌}
+use Rattle.std.specs.List.{Contains, filter, flat_map}
 use Rattle.std.specs.List.Sorted.{IsStrictlyIncreasing}
 use Rattle.std.specs.Str.{bytes_eq}
+use Rattle.list_core.specs.Lists.{is_one_of}
 use Rattle.reading_core.specs.Reading.{◌>>=◌}
 use Rattle.label_sets.specs.declared.label.Label.{Label}
 use Rattle.label_sets.specs.Labels.{value_of}
@@ -19,10 +20,6 @@ use Rattle.index_v2.specs.Budget.{list_bytes}
 use Rattle.index_v2.specs.PostingsLists.{list_of}
 use Rattle.index_v2.specs.WholeReading.{lists_at}
 use Rattle.series_selection.specs.Selections.{decides}
-
--- whether the number is one of these
-abbrev pub is_one_of : List ℕ → ℕ → Bool
-is_one_of numbers number = list_any (λ n. n == number) numbers
 
 -- those that are among the others, or those that are not
 abbrev pub kept : Bool → List ℕ → List ℕ → List ℕ

@@ -10,6 +10,7 @@ use Rattle.block_keys.specs.KeyText.{key_text}
 use Rattle.block_keys.specs.declared.key.Key.{Key}
 use Rattle.bucket_core.specs.Contents.{Contents}
 use Rattle.bucket_core.specs.Pages.{Before, IsName}
+use Rattle.bucket_core.specs.Files.{slash}
 use Rattle.standing_objects.specs.Held.{Places}
 
 -- something stands under the key
@@ -44,7 +45,7 @@ IsDueAt ulid cursor key = is_due_object ulid cursor key ≡ true
 
 -- the key is the block's, and its name comes after this one
 abbrev pub IsDueIn : ℕ → List ℕ → Key → Type 0
-IsDueIn ulid after key = IsDueAt ulid (text_of ulid ++ 47 ∷ after) key
+IsDueIn ulid after key = IsDueAt ulid (text_of ulid ++ slash ∷ after) key
 
 -- the key is the block's, and stands behind the other one
 abbrev pub IsBehindIn : ℕ → Key → Key → Type 0

@@ -11,6 +11,7 @@ ghost use Rattle.block_keys.specs.Keys.{IsLawfulKey, key_cmp, key_ulid};
 ghost use Rattle.block_keys.specs.KeyText.{is_slash, key_text, name_of};
 ghost use Rattle.bucket_core.specs.Contents.{Contents};
 ghost use Rattle.bucket_core.specs.Pages.{IsPage};
+ghost use Rattle.bucket_core.specs.Files.{slash};
 ghost use Rattle.standing_objects.specs.Held.{HaveTexts, IsWritten};
 ghost use Rattle.standing_objects.specs.Next.{IsBehindIn, IsDueAt, IsDueIn, IsFirstKey, IsNextBlock, is_due_block, is_due_object};
 ghost use Rattle.standing_objects.specs.Standings.{IsStanding};
@@ -71,7 +72,7 @@ fn is_due(ulid: Ulid, cursor: &str, key: &Key, text: &str) -> bool
 
 /// The text of a cursor within a block.
 fn cursor_of(alloc: Global, ulid: Ulid, after: &str) -> Result<String, NoMemory>
-    ensures { IfOk result (λ text. string_bytes text ≡ text_of ulid ++ 47 ∷ after.now) }
+    ensures { IfOk result (λ text. string_bytes text ≡ text_of ulid ++ slash ∷ after.now) }
 {
     let mut text = ulid.to_string(alloc)?;
     text.push_str("/")?;

@@ -10,6 +10,7 @@ use Rattle.block_meta.specs.declared.meta.Meta.{Meta}
 use Rattle.moment_core.specs.declared.moment.Moment.{Moment}
 use Rattle.moment_core.specs.declared.partition.Partition.{Partition}
 use Rattle.moment_core.specs.declared.span.Span.{Span}
+use Rattle.moment_core.specs.Limits.{one_second}
 use Rattle.sync_filters.specs.declared.found.Found.{Found}
 
 -- the programs that write a block's objects all at one time, long after its samples
@@ -27,7 +28,7 @@ is_in_partition meta partition = int_le partition.low meta.max_time && int_le me
 -- a mark that was read at that moment was not older than the delay
 abbrev pub is_recent : Option DeletionMark → Moment → Span → Bool
 is_recent None read delay = true
-is_recent (Some mark) read delay = nat_le read.ms (1000 * mark.deletion_time + delay.ms)
+is_recent (Some mark) read delay = nat_le read.ms (one_second * mark.deletion_time + delay.ms)
 
 -- no mark was found, or one that was not older than the delay
 abbrev pub is_unmarked : Found → Span → Bool

@@ -57,8 +57,11 @@ covers_at listed block place = option_map_or (λ other. is_better other.meta blo
 abbrev pub each_source : List ℕ → List ℕ
 each_source sources = sources
 
+abbrev pub mixer : ℕ
+mixer = 0x9e3779b97f4a7c15f39cc0605cedc835
+
 abbrev pub mixed : ℕ → ℕ → ℕ
-mixed digest source = ((digest * 0x9e3779b97f4a7c15f39cc0605cedc835) % 2 ^ 128 + source) % 2 ^ 128
+mixed digest source = ((digest * mixer) % 2 ^ 128 + source) % 2 ^ 128
 
 -- a number that equal lists of sources share
 unfoldable pub digest_of : List ℕ → ℕ

@@ -87,14 +87,14 @@ impl Bucket for StrangeBucket {
 
     ghost only_keys = { λ b c key told stands. absurd (Prim.cc told) };
 
-    #[tactic(auto, using(crate::proofs::Noting::noted))]
+    #[tactic(auto, using(dir_bucket::proofs::Noting::noted))]
     fn put(&mut self, key: &str, bytes: &Blob) -> PutAnswer {
         self.told.note_put(key, bytes.bytes());
         note(&mut self.notes, "put ", key);
         self.inner.put(key, bytes)
     }
 
-    #[tactic(auto, using(crate::proofs::Noting::noted))]
+    #[tactic(auto, using(dir_bucket::proofs::Noting::noted))]
     fn get(&mut self, key: &str) -> GetAnswer {
         self.told.note_get(key);
         note(&mut self.notes, "get ", key);
@@ -102,7 +102,7 @@ impl Bucket for StrangeBucket {
         self.shown(key, answer)
     }
 
-    #[tactic(auto, using(crate::proofs::Noting::noted))]
+    #[tactic(auto, using(dir_bucket::proofs::Noting::noted))]
     fn get_range(&mut self, key: &str, from: u64, len: u64) -> GetAnswer {
         self.told.note_range(key, from, len);
         note(&mut self.notes, "range ", key);
@@ -110,14 +110,14 @@ impl Bucket for StrangeBucket {
         self.shown(key, answer)
     }
 
-    #[tactic(auto, using(crate::proofs::Noting::noted_so))]
+    #[tactic(auto, using(dir_bucket::proofs::Noting::noted_so))]
     fn delete(&mut self, key: &str) -> DeleteAnswer {
         self.told.note_delete(key);
         note(&mut self.notes, "delete ", key);
         self.inner.delete(key)
     }
 
-    #[tactic(auto, using(crate::proofs::Noting::noted))]
+    #[tactic(auto, using(dir_bucket::proofs::Noting::noted))]
     fn page(&mut self, within: &str, after: &str, limit: u32) -> PageAnswer {
         self.told.note_page(within, after, limit);
         note(&mut self.notes, "page ", after);

@@ -8,12 +8,14 @@
 use phase_runner::Gate;
 use std::alloc::Global;
 
+const MEBIBYTE: usize = 1_048_576;
+
 /// Blocks that are smaller than this come from an area, and mostly stay in it, once one of this size was given back. Of much larger ones
 /// the C library takes no notice.
-const KEPT: usize = 31 * 1_048_576;
+const KEPT: usize = 31 * MEBIBYTE;
 
 /// By so much a thread's area grows at once.
-const ROOM: usize = 30 * 1_048_576;
+const ROOM: usize = 30 * MEBIBYTE;
 
 /// A worker of so few operations needs no room, as one that uploads a block.
 const FEW: u64 = 8;

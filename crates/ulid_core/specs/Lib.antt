@@ -1,3 +1,4 @@
 pub mod FixedDigits
 pub mod UlidText
 pub mod Times
+pub mod Reserved

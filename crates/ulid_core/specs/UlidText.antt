@@ -19,10 +19,14 @@ character digit = slice_index alphabet digit
 unfoldable pub digit_of : ℕ → Option ℕ
 digit_of byte = position (λ c. c == byte) alphabet
 
--- The text is that of the ULID: 26 digits in base 32 that write its number, each by its character.
+-- how many characters a text has
+abbrev pub text_length : ℕ
+text_length = 26
+
+-- The text is that of the ULID: so many digits in base 32 that write its number, each by its character.
 pub record IsUlidText (text : List ℕ) (ulid : ℕ) : Type 0 where
   pub digits : List ℕ
-  pub count : length digits ≡ 26
+  pub count : length digits ≡ text_length
   pub below_base : AllBelowBase 32 digits
   pub characters : text ≡ map character digits
   pub number : ulid ≡ number_from_digits 32 digits
@@ -30,7 +34,7 @@ pub record IsUlidText (text : List ℕ) (ulid : ℕ) : Type 0 where
 
 -- the one text of a ULID
 unfoldable pub text_of : ℕ → List ℕ
-text_of ulid = map character (fixed_digits 32 26 ulid)
+text_of ulid = map character (fixed_digits 32 text_length ulid)
 
 -- the number that a text of characters writes
 unfoldable pub number_of : List ℕ → ℕ
@@ -47,4 +51,4 @@ read_characters None text = if nat_le (slice_index text 0) (byte "7") then Ok (n
 
 -- what a text is read as: its length is tested first, then its characters, then its first character alone
 unfoldable pub ulid_of : List ℕ → Result ℕ UlidRefusal
-ulid_of text = if length text == 26 then read_characters (bad_place text) text else Err BadLength
+ulid_of text = if length text == text_length then read_characters (bad_place text) text else Err BadLength

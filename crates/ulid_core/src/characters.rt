@@ -1,10 +1,11 @@
-ghost use Rattle.std.specs.Prelude.{◌≡◌, ◌≤◌, ◌<◌, ◌^◌, None, IfOk, length, slice_index};
+ghost use Rattle.std.specs.Prelude.{◌≡◌, ◌≤◌, ◌<◌, ◌^◌, None, Some, IsSome, IfOk, length, slice_index};
 ghost use Rattle.std.specs.Str.{byte};
 ghost use Rattle.ulid_core.specs.UlidText as words;
+ghost use Rattle.ulid_core.specs.UlidText.{text_length};
 
 use crate::UlidRefusal;
 
-const TEXT_LENGTH: usize = 26;
+pub(crate) const TEXT_LENGTH: usize = 26;
 
 const ALPHABET: [u8; 32] = *b"0123456789ABCDEFGHJKMNPQRSTVWXYZ";
 
@@ -60,9 +61,17 @@ fn first_bad_place(bytes: &[u8]) -> Option<usize>
     bytes.iter().position(|byte| digit_of(*byte).is_none())
 }
 
+/// The digit that a character stands for, which is known to stand for one.
+fn digit_at(byte: u8) -> u8
+    requires { IsSome (words.digit_of byte) }
+    ensures { words.digit_of byte ≡ Some result }
+{
+    digit_of(byte).unwrap()
+}
+
 /// The number that 26 characters write.
 fn number_of(bytes: &[u8]) -> u128
-    requires count { length bytes.now ≡ 26 }
+    requires count { length bytes.now ≡ text_length }
     requires characters { words.bad_place bytes.now ≡ None }
     requires first { slice_index bytes.now 0 ≤ byte "7" }
     ensures value { result ≡ words.number_of bytes.now }
@@ -70,7 +79,7 @@ fn number_of(bytes: &[u8]) -> u128
 {
     let mut number = 0u128;
     for byte in bytes {
-        number = number * 32 + u128::from(digit_of(*byte).unwrap_or(0));
+        number = number * 32 + u128::from(digit_at(*byte));
     }
     number
 }

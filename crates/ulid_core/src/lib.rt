@@ -3,7 +3,9 @@
 
 mod characters;
 mod refusal;
+mod reserved;
 mod ulid;
 
 pub use refusal::UlidRefusal;
+pub use reserved::{LEAST_RESERVED, RESERVED_COUNT};
 pub use ulid::{Ulid, UlidList};

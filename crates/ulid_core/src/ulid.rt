@@ -3,10 +3,10 @@ ghost use Rattle.std.specs.Str.{byte};
 ghost use Rattle.std.specs.String.{string_bytes};
 ghost use Rattle.std.specs.Cmp.Lexicographic.{slice_cmp};
 ghost use Rattle.std.specs.Ordering.{nat_cmp};
-ghost use Rattle.ulid_core.specs.UlidText.{IsUlidText, text_of, bad_place, ulid_of};
+ghost use Rattle.ulid_core.specs.UlidText.{IsUlidText, text_of, bad_place, ulid_of, text_length};
 
 use crate::UlidRefusal;
-use crate::characters::{character, read_number};
+use crate::characters::{TEXT_LENGTH, character, read_number};
 use list_core::{List, NoMemory, TryCopy};
 use std::alloc::Global;
 use std::marker::Model;
@@ -37,24 +37,24 @@ impl Ulid {
         ensures only { (ulid : ℕ) → IsUlidText text.now ulid → result ≡ Ok ulid }
 
         // Which refusal it is.
-        ensures length { (result ≡ Err UlidRefusal.BadLength) ↔ (length text.now ≢ 26) }
+        ensures length { (result ≡ Err UlidRefusal.BadLength) ↔ (length text.now ≢ text_length) }
         ensures character { (place : ℕ) → (result ≡ Err (UlidRefusal.BadCharacter place))
-            ↔ ((length text.now ≡ 26) × (bad_place text.now ≡ Some place)) }
+            ↔ ((length text.now ≡ text_length) × (bad_place text.now ≡ Some place)) }
         ensures large { (result ≡ Err UlidRefusal.TooLarge)
-            ↔ ((length text.now ≡ 26) × (bad_place text.now ≡ None)
+            ↔ ((length text.now ≡ text_length) × (bad_place text.now ≡ None)
             × (byte "7" < slice_index text.now 0)) }
     {
         read_ulid(text)
     }
 
     /// The 26 characters, most significant first.
-    pub fn text(self) -> [u8; 26]
+    pub fn text(self) -> [u8; TEXT_LENGTH]
         ensures value { result ≡ text_of self }
         ensures written { IsUlidText result self }
     {
-        let mut text = [b'0'; 26];
+        let mut text = [b'0'; TEXT_LENGTH];
         let mut rest = self.number;
-        for place in (0..26).rev() {
+        for place in (0..TEXT_LENGTH).rev() {
             text[place] = character((rest % 32) as usize);
             rest /= 32;
         }

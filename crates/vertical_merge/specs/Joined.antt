@@ -2,11 +2,12 @@
 use Rattle.std.specs.Prelude.{List, [], ◌∷◌, ◌++◌, Bool, if◌then◌else◌}
 use Rattle.std.specs.declared.cmp.Ordering.{Ordering}
 use Rattle.std.specs.Ordering.{int_cmp, is_eq, is_lt}
-use Rattle.std.specs.List.{dedup, flat_map}
+use Rattle.std.specs.List.{dedup}
 use Rattle.label_sets.specs.declared.sample.Sample.{Sample}
 use Rattle.label_sets.specs.declared.series.Series.{Series}
 use Rattle.label_sets.specs.Labels.{compare_sets}
 use Rattle.list_core.specs.Ordered.{in_order}
+use Rattle.list_core.specs.Lists.{joined as all_of}
 use Rattle.vertical_merge.specs.declared.parts.Parts.{Parts}
 
 abbrev pub has_lesser_labels : Series → Series → Bool
@@ -26,10 +27,6 @@ unfoldable pub joined_to : List Series → Series → List Series
 joined_to [] next = next ∷ []
 joined_to (one ∷ []) next = joined one next
 joined_to (one ∷ other ∷ series) next = one ∷ joined_to (other ∷ series) next
-
--- the samples of all parts, one after another
-abbrev pub all_of : List (List Sample) → List Sample
-all_of parts = flat_map (λ part. part) parts
 
 -- the one series of parts
 abbrev pub series_of : Parts → Series

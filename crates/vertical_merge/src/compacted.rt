@@ -1,13 +1,11 @@
-ghost use Rattle.std.specs.Prelude.{◌≡◌, ◌≤◌, ◌∷◌, map, length, fold, All, IfOk, OnOk};
-ghost use Rattle.std.specs.BTreeSet.{insert_key};
-ghost use Rattle.std.specs.Int.{int_min, int_max};
-ghost use Rattle.std.specs.Ordering.{nat_cmp};
+ghost use Rattle.std.specs.Prelude.{◌≡◌, ◌≤◌, ◌∷◌, map, length, IfOk};
+ghost use Rattle.std.specs.Int.{int_min};
 ghost use Rattle.std.specs.List.{flat_map};
 ghost use Rattle.std.specs.List.Sorted.{IsStrictlyIncreasing};
 ghost use Rattle.block_meta.specs.Lawful.{ascending};
 ghost use Rattle.vertical_merge.specs.Compacted.{IsCompactedPlan, IsLeast, IsGreatest, IsGreatestLevel, parent_of as to_parent};
 
-use block_meta::{BlockPlan, Meta, Parent, ParentList};
+use block_meta::{BlockPlan, Meta, Parent, ParentList, add_all, later_end, ulids_in};
 use label_sets::{LabelSet, Text};
 use list_core::{List, NoMemory, TryCopy};
 use std::alloc::Global;
@@ -67,12 +65,6 @@ fn greatest_time(first: &Meta, others: &[Meta]) -> i64
     greatest
 }
 
-fn later_end(meta: &Meta, time: i64) -> i64
-    ensures { result ≡ int_max time meta.now.max_time }
-{
-    time.max(meta.max_time)
-}
-
 /// The greatest level.
 fn greatest_level(first: &Meta, others: &[Meta]) -> u32
     ensures { IsGreatestLevel (first.now ∷ others.now) result }
@@ -90,7 +82,7 @@ fn union_of_sources(alloc: Global, metas: &[Meta]) -> Result<UlidList, NoMemory>
         ≡ ascending (flat_map (λ meta. meta.sources) metas.now)) }
     ensures increasing { IfOk result (λ made. IsStrictlyIncreasing made) }
 {
-    members(alloc, &set_of_sources(alloc, metas)?)
+    ulids_in(alloc, &set_of_sources(alloc, metas)?)
 }
 
 fn set_of_sources(alloc: Global, metas: &[Meta]) -> Result<BTreeSet<Ulid>, NoMemory>
@@ -102,23 +94,6 @@ fn set_of_sources(alloc: Global, metas: &[Meta]) -> Result<BTreeSet<Ulid>, NoMem
         add_all(&mut set, meta.sources.members())?;
     }
     Ok(set)
-}
-
-fn add_all(set: &mut BTreeSet<Ulid>, ulids: &[Ulid]) -> Result<(), NoMemory>
-    ensures { OnOk result (set.new.keys ≡ fold (insert_key nat_cmp) set.old.keys ulids.now) }
-{
-    for ulid in ulids {
-        set.insert(*ulid)?;
-    }
-    Ok(())
-}
-
-fn members(alloc: Global, set: &BTreeSet<Ulid>) -> Result<UlidList, NoMemory>
-    ensures value { IfOk result (λ made. made ≡ set.now.keys) }
-    ensures increasing { IfOk result (λ made. IsStrictlyIncreasing made) }
-{
-    let members: Vec<Ulid> = set.iter().copied().collect(alloc)?;
-    Ok(UlidList::from_vec(members))
 }
 
 fn parents_of(alloc: Global, metas: &[Meta]) -> Result<ParentList, NoMemory>

@@ -5,6 +5,10 @@ pub record Position : Type 0 where
   pub bytes : List ℕ
   pub place : ℕ
 
+-- in front of the first byte
+abbrev pub start : List ℕ → Position
+start bytes = record { bytes = bytes; place = 0 }
+
 -- the bytes that are still to be read
 abbrev pub left : Position → List ℕ
 left p = drop p.place p.bytes

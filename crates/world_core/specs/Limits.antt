@@ -1,5 +1,6 @@
 -- The limits of a world.
 use Rattle.std.specs.Prelude.{ℕ}
+pub use Rattle.moment_core.specs.Limits.{moment_limit}
 
 -- how many entries a journal takes
 abbrev pub most_entries : ℕ

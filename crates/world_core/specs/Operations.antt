@@ -4,6 +4,7 @@ use Rattle.std.specs.List.{AllByRecursion}
 use Rattle.std.specs.Str.{IsUtf8}
 use Rattle.reading_core.specs.Grammar.{IsBytes}
 use Rattle.block_keys.specs.Keys.{IsLawfulKey}
+use Rattle.moment_core.specs.Limits.{moment_limit}
 use Rattle.world_core.specs.declared.op.Op.{Op}
 use Rattle.world_core.specs.declared.op.Op.TheVariants.{Clock, Put, Get, GetRange, Delete, RootPage, BlockPage}
 use Rattle.world_core.specs.declared.reply.Reply.{Reply}
@@ -11,9 +12,9 @@ use Rattle.world_core.specs.declared.reply.Reply.TheVariants.{Clocked, Stored, F
 use Rattle.world_core.specs.declared.seen.Seen.{Seen}
 use Rattle.world_core.specs.declared.entry.Entry.{Entry}
 
--- a clock is set below 2^47 milliseconds, a key can be written, and a page has room for a name
+-- a clock is set to a moment, a key can be written, and a page has room for a name
 abbrev pub IsLawful : Op → Type 0
-IsLawful (Clock moment) = moment.ms < 2 ^ 47
+IsLawful (Clock moment) = moment.ms < moment_limit
 IsLawful (Put key bytes) = IsLawfulKey key
 IsLawful (Get key) = IsLawfulKey key
 IsLawful (GetRange key from len) = IsLawfulKey key

@@ -5,7 +5,7 @@ use Rattle.bucket_core.specs.Contents.{Contents}
 use Rattle.world_core.specs.Operations.{IsLawful, IsReplyTo, PutsBytes, ShowsBytes, has_failed}
 use Rattle.world_core.specs.Journals.{Each, IsNumbered}
 use Rattle.world_core.specs.Keeping.{kept_bytes}
-use Rattle.moment_core.specs.Limits.{longest_tick}
+use Rattle.moment_core.specs.Limits.{longest_tick, moment_limit}
 use Rattle.world_core.specs.Limits.{most_entries}
 use Rattle.world_core.specs.Moments.{HasMoments, last_moment}
 use Rattle.world_core.specs.Standing.{stands, left_by, IsHonest}
@@ -55,7 +55,7 @@ pub record IsWorld {B : Type 0} (contents : B → Option Contents) (faults : B �
 pub record IsCounted (tick : ℕ) (journal : List Entry) (last kept : ℕ) : Type 0 where
   pub short : tick ≤ longest_tick
   pub latest : last ≡ last_moment journal
-  pub bound : last ≤ 2 ^ 47 + longest_tick * length journal
+  pub bound : last ≤ moment_limit + longest_tick * length journal
   pub size : kept ≡ min (kept_bytes journal) (2 ^ 64 - 1)
 
 pub record IsCountedWorld {B : Type 0} (contents : B → Option Contents) (faults : B → ℕ) (bucket : B) (journal : List Entry) (tick last kept : ℕ) : Type 0 where

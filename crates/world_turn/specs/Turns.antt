@@ -51,8 +51,8 @@ pub record IsSame (v w : View) : Type 0 where
   pub seats : w.seats ≡ v.seats
   pub joined : w.joined ≡ v.joined
 
--- A pass did an operation: it found the one journal in some state, was answered what the world's own call answers there,
--- and its entry, if there is one, is the next of that journal.
+-- A pass did an operation: it found the one journal in some state, was answered as a world with that journal answers (what
+-- the bucket holds is told when the world is closed), and its entry, if there is one, is the next of that journal.
 pub record Acts (v : View) (op : Op) (acted : Acted) (w : View) : Type 0 where
   pub journal : List Entry
   pub finds : Finds v journal

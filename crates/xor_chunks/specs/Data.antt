@@ -10,7 +10,7 @@ use Rattle.std.specs.Prelude.{ℕ, zero, suc, Bool, List, [], ◌∷◌, ◌++�
 use Rattle.std.specs.Int.{w16, w64}
 use Rattle.reading_core.specs.Reading.{◌>>=◌, ◌>>◌, unless, refused_as}
 use Rattle.reading_core.specs.Members.{members_at}
-use Rattle.wire_bytes.specs.Position.{Position, left}
+use Rattle.wire_bytes.specs.Position.{left, start}
 use Rattle.wire_bytes.specs.Fields.{number_at, uvarint_at, varint_at}
 use Rattle.label_sets.specs.declared.sample.Sample.{Sample}
 use Rattle.xor_chunks.specs.State.{State}
@@ -20,9 +20,6 @@ use Rattle.xor_chunks.specs.Refusals.{xor_refusal}
 use Rattle.wire_bits.specs.Bits.{bits_in, number_of}
 use Rattle.xor_chunks.specs.Samples.{begun, sample_of}
 use Rattle.xor_chunks.specs.Steps.{follow_at, next_at}
-
-abbrev pub start : List ℕ → Position
-start bytes = record { bytes = bytes; place = 0 }
 
 -- how many samples there are, and the bytes after that
 unfoldable pub count_at : List ℕ → Result (ℕ × List ℕ) XorRefusal

@@ -5,6 +5,7 @@ use Rattle.std.specs.Ordering.{int_eq, int_cmp}
 use Rattle.std.specs.List.Sorted.{IsStrictlySortedBy}
 use Rattle.wire_bytes.specs.Written.{uvarint_text, varint_text}
 use Rattle.label_sets.specs.declared.sample.Sample.{Sample}
+use Rattle.label_sets.specs.Limits.{time_limit}
 use Rattle.wire_bits.specs.Bits.{bits_of, bits_in}
 use Rattle.xor_chunks.specs.Window.{Window}
 use Rattle.xor_chunks.specs.declared.last_written.LastWritten.{LastWritten}
@@ -13,7 +14,7 @@ use Rattle.xor_chunks.specs.declared.window_setting.WindowSetting.TheVariants.{U
 
 -- a time from -2^62 to 2^62 - 1
 abbrev pub IsChunkTime : ℤ → Type 0
-IsChunkTime time = (negsuc (2 ^ 62 - 1) ≤ℤ time) × (time <ℤ pos (2 ^ 62))
+IsChunkTime time = (negsuc (time_limit - 1) ≤ℤ time) × (time <ℤ pos time_limit)
 
 -- samples of one chunk: some, but no more than two bytes count, whose times ascend
 pub record AreOfChunk (samples : List Sample) : Type 0 where
@@ -111,8 +112,8 @@ written (s ∷ ss) = bits_of 16 (suc (length ss)) ++ bits_in (varint_text s.time
 -- The sample can come next.
 pub record CanFollow (put : LastWritten) (s : Sample) : Type 0 where
   pub rises : put.time <ℤ s.time
-  pub low : negsuc (2 ^ 62 - 1) ≤ℤ put.time
-  pub high : s.time <ℤ pos (2 ^ 62)
+  pub low : negsuc (time_limit - 1) ≤ℤ put.time
+  pub high : s.time <ℤ pos time_limit
   pub delta_low : pos 0 ≤ℤ put.delta
   pub delta_high : put.delta <ℤ pos (2 ^ 63)
 
