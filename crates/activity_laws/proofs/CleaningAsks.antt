@@ -20,6 +20,7 @@ use Rattle.world_core.specs.declared.reply.Reply.TheVariants as reply
 use Rattle.world_core.specs.declared.entry.Entry.{Entry}
 use Rattle.world_core.proofs.PlanLaws.{AsksFor, EachAfter, asked_are}
 use Rattle.world_core.proofs.PlanWords.{chosen, gets_ask}
+use Rattle.world_core.proofs.PageNames.{ulids_small, AreSmall}
 use Rattle.cleaner.specs.Cleanings.{CleanRun, Counts, cleaning, deleting, deletion, if_mark, looking, none_deleted, one_block_more, one_partial_more, reads_meta, rules_of, walk_ends}
 use Rattle.cleaner.specs.Marks.{is_old_block, is_old_mark}
 use Rattle.cleaner.specs.Objects.{data_keys, data_named, objects_of, only_data}
@@ -27,7 +28,6 @@ use Rattle.cleaner.specs.declared.clean_end.CleanEnd.{CleanEnd}
 use Rattle.cleaner.specs.declared.clean_end.CleanEnd.TheVariants.{Fault}
 use Rattle.activity_laws.specs.CleaningOps.{IsCleanOp, IsDecision, IsDeleting}
 use Rattle.activity_laws.proofs.PagesAsk.{deletes_ask, pages_ask_on}
-use Rattle.activity_laws.proofs.Listing.{AreSmall, ulids_small}
 
 -- ---- keys of one block
 

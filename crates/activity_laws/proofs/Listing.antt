@@ -1,15 +1,14 @@
 -- What the pages of a walk list: a name that each page has to show is listed in the end, and the names of blocks are read again.
 use Rattle.list_core.proofs.Membership.{contains_first, contains_later}
-use Rattle.std.proofs.Common.{◌≡◌, ◌⊎◌, inl, inr, ℕ, ◌<◌, ◌^◌, suc, zero, true, List, [], ◌∷◌, ◌++◌, length, Contains, Option, Some, None, Result, Ok, Err, refl, sym, ◌∙◌, ap, subst, arith}
+use Rattle.std.proofs.Common.{◌≡◌, ◌⊎◌, inl, inr, ℕ, ◌<◌, ◌^◌, suc, zero, true, List, [], ◌∷◌, ◌++◌, length, Contains, Option, Some, None, Ok, refl, sym, ◌∙◌, ap, subst, arith}
 use Rattle.std.specs.Prelude.{unwrap_or}
-use Rattle.std.specs.List.{All, AllByRecursion, cons_option, last_or}
+use Rattle.std.specs.List.{All, cons_option, last_or}
 use Rattle.std.specs.Ordering.{is_lt}
 use Rattle.std.specs.Result.{result_ok}
 use Rattle.std.proofs.lemmas.Bool.{and_from}
 use Rattle.std.proofs.lemmas.List.Elements.{All-head, All-tail, Contains-append_left, Contains-append_right}
 use Rattle.ulid_core.specs.UlidText.{text_of, ulid_of}
-use Rattle.ulid_core.specs.declared.refusal.UlidRefusal.{UlidRefusal}
-use Rattle.ulid_core.proofs.UlidLaws.{IsUlidText-text_of, length-text_of, ulid_of-found, ulid_of-only}
+use Rattle.ulid_core.proofs.UlidLaws.{IsUlidText-text_of, length-text_of, ulid_of-only}
 use Rattle.bucket_core.specs.Pages.{Ascends, Before}
 use Rattle.world_core.specs.Walks.{ascends, is_after, last_listed, ulids_in}
 
@@ -74,17 +73,6 @@ listed_at_last limit listed names name page few (inr less) =
     ]
 
 -- ---- ULIDs among names
-
-abbrev pub AreSmall : List ℕ → Type 0
-AreSmall ulids = AllByRecursion (λ ulid. ulid < 2 ^ 128) ulids
-
-one_small : (r : Result ℕ UlidRefusal) (ulids : List ℕ) → ((ulid : ℕ) → r ≡ Ok ulid → ulid < 2 ^ 128) → AreSmall ulids → AreSmall (cons_option (result_ok r) ulids)
-one_small (Ok ulid) ulids small all = (small ulid refl, all)
-one_small (Err e) ulids small all = all
-
-pub ulids_small : (names : List (List ℕ)) → AreSmall (ulids_in names)
-ulids_small [] = tt
-ulids_small (name ∷ names) = one_small (ulid_of name) (ulids_in names) (λ ulid is. (ulid_of-found name ulid is).fits) (ulids_small names)
 
 text_read : (ulid : ℕ) → ulid < 2 ^ 128 → ulid_of (text_of ulid) ≡ Ok ulid
 text_read ulid small = ulid_of-only (text_of ulid) ulid (IsUlidText-text_of ulid small)

@@ -32,6 +32,7 @@ use Rattle.block_merging.specs.MergedContent.{reduced_triples, all_triples}
 use Rattle.block_merging.proofs.SameLists.{zip_back}
 use Rattle.block_merging.proofs.PlansFit.{compacted_lie}
 use Rattle.block_merging.proofs.MergeLaws.{merge_held, merge_deduplicates}
+use Rattle.block_merging.proofs.OneMerge.{under as labels_under}
 use Rattle.activity_laws.specs.MergedLabels.{seen_as, Holds, AreMergedAs}
 
 -- ---- final labels of reduced ones
@@ -169,11 +170,6 @@ hold_these replicas (block ∷ blocks) (h ∷ held) each = (
 
 abbrev one_under : List Label → Sample → Triple
 one_under labels s = record { labels = labels; time = s.time; pattern = s.pattern }
-
-labels_under : (labels : List Label) (samples : List Sample) (t : Triple) → Contains (triples_under labels samples) t → t.labels ≡ labels
-unfolding triples_under
-labels_under labels samples t among =
-    let w = of_map (λ (s : Sample). one_under labels s) samples t among in ap (λ (x : Triple). x.labels) (sym w.2)
 
 index_sets : (index : List ℕ) (indexed : List IndexSeries) (one : IndexSeries) → IsIndex index indexed → Contains indexed one → IsLabelSet one.labels
 index_sets index indexed one is among =

@@ -17,6 +17,7 @@ use Rattle.world_core.specs.declared.reply.Reply.{Reply}
 use Rattle.world_core.specs.declared.reply.Reply.TheVariants as reply
 use Rattle.world_core.specs.declared.entry.Entry.{Entry}
 use Rattle.world_core.proofs.PlanLaws.{nothing_given}
+use Rattle.world_core.proofs.PageNames.{ulids_small, AreSmall}
 use Rattle.sync_filters.specs.declared.found.Found.{Found}
 use Rattle.meta_fetcher.specs.Sightings.{IsView, Sighting, sighting_of}
 use Rattle.meta_fetcher.specs.Syncs.{Course, IsEnd, SyncRun, Synced}
@@ -27,7 +28,7 @@ use Rattle.meta_fetcher.specs.declared.rules.SyncRules.{SyncRules}
 use Rattle.meta_fetcher.specs.declared.sync_end.SyncEnd.TheVariants as fetched
 use Rattle.meta_fetcher.specs.declared.view.View.{View}
 use Rattle.activity_laws.specs.Sights.{IsSeen, IsSight, ShowsBlock, TellsMark}
-use Rattle.activity_laws.proofs.Listing.{AreSmall, IsToBeListed, before_first_page, listed_at_last, listed_on, ulid_listed, ulids_small}
+use Rattle.activity_laws.proofs.Listing.{IsToBeListed, before_first_page, listed_at_last, listed_on, ulid_listed}
 
 -- ---- what was seen of a block
 

@@ -7,6 +7,7 @@ use Rattle.std.proofs.lemmas.Int.{ints}
 use Rattle.reading_core.specs.Reading.{◌>>◌, unless, Gives}
 use Rattle.reading_core.proofs.Binds.{ok_is}
 use Rattle.label_sets.specs.declared.sample.Sample.{Sample}
+use Rattle.label_sets.specs.Times.{times_of}
 use Rattle.index_parts.specs.declared.chunk_place.ChunkPlace.{ChunkPlace}
 use Rattle.block_meta.specs.declared.meta.Meta.{Meta}
 use Rattle.xor_chunks.specs.declared.refusal.XorRefusal.{XorRefusal}
@@ -16,7 +17,7 @@ use Rattle.xor_chunks.specs.Data.{data_at, with_samples}
 use Rattle.xor_chunks.specs.Spans.{end_of}
 use Rattle.xor_chunks.specs.Grammar.{AreOthers, IsText, Follows}
 use Rattle.chunk_files.specs.declared.refusal.ChunkRefusal.{ChunkRefusal}
-use Rattle.block_content.specs.Content.{HaveTimesOf, times_of}
+use Rattle.block_content.specs.Content.{HaveTimesOf}
 use Rattle.reading_core.specs.Firsts.{first_at}
 use Rattle.block_content.specs.ContentReading.{data_of, part_at, samples_at, chunk_at, is_within, outside_of, first_time, lies_within, LieBetween}
 use Rattle.block_content.specs.declared.chunk_cause.ChunkCause.{ChunkCause}
@@ -27,8 +28,8 @@ use Rattle.std.proofs.lemmas.Float.{T_from_true}
 use Rattle.reading_core.specs.Firsts.{or_else}
 use Rattle.block_content.proofs.Counting.{time_cons}
 use Rattle.block_content.proofs.ChunksRead.{times_found}
-use Rattle.block_content.proofs.TimesAndOrder.{passes}
 use Rattle.list_core.proofs.Integers.{le_le}
+use Rattle.list_core.proofs.Bools.{true-from_T}
 
 -- ---- behind others
 
@@ -174,7 +175,7 @@ between_within meta place s lies is =
     let from : meta.min_time ≤ℤ s.time = le_le meta.min_time place.min s.time low is.0 in
     let to : s.time <ℤ meta.max_time = let q = is.1 in omega (arith, ints, q, high) in
     let both : (a b : Bool) → a ≡ true → b ≡ true → (a && b) ≡ true = λ a b e f. rw (e, f) refl in
-    both _ _ (passes _ from.le) (passes _ to.lt)
+    both _ _ (true-from_T _ from.le) (true-from_T _ to.lt)
 
 pub none_outside : (meta : Meta) (place : ChunkPlace) (samples : List Sample) → lies_within meta place ≡ true → LieBetween place samples → first_time meta samples ≡ None
 unfolding first_at

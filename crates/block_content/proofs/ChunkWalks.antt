@@ -2,18 +2,17 @@
 use Rattle.std.proofs.Common.{◌≡◌, ℕ, ◌+◌, ◌-◌, ◌*◌, ◌^◌, ◌<◌, ◌≤◌, min, List, [], ◌∷◌, ◌++◌, length, take, drop, map, get_or, sum_by, Result, Ok, Err, refl, sym, ap, subst, ◌∙◌, arith, ◌⊎◌, inl, inr}
 use Rattle.std.specs.Prelude.{IsErrAnd}
 use Rattle.std.specs.List.{AllByRecursion, AllZip}
-use Rattle.std.proofs.lemmas.List.{take_more, drop_more, append-nil, length-append, length-take-le, take-append-drop}
-use Rattle.std.proofs.lemmas.List.Sums.{sum_by-append, sum_by-cons}
-use Rattle.std.proofs.lemmas.List.Concat.{flat_map-append}
-use Rattle.list_core.proofs.Lists.{AllByRecursion-push}
+use Rattle.std.proofs.lemmas.List.{take_more, drop_more, length-append, length-take-le, take-append-drop}
+use Rattle.list_core.proofs.Lists.{AllByRecursion-push, sum_by-push, joined-push}
 use Rattle.list_core.proofs.Pairs.{AllZip-push}
+use Rattle.list_core.specs.Lists.{joined}
 use Rattle.reading_core.specs.Grammar.{IsBytes}
 use Rattle.label_sets.specs.declared.sample.Sample.{Sample}
 use Rattle.label_sets.specs.declared.series.Series.{Series}
 use Rattle.index_parts.specs.declared.chunk_place.ChunkPlace.{ChunkPlace}
 use Rattle.index_file.specs.declared.index_series.IndexSeries.{IndexSeries}
 use Rattle.reading_core.specs.Firsts.{each_at}
-use Rattle.block_content.specs.ContentReading.{chunk_at, chunk_bytes, chunks_at, series_bytes, joined, series_of, list_of, fitted, refused_cause, refused_chunk, WalksSeries}
+use Rattle.block_content.specs.ContentReading.{chunk_at, chunk_bytes, chunks_at, series_bytes, series_of, list_of, fitted, refused_cause, refused_chunk, WalksSeries}
 use Rattle.xor_chunks.specs.declared.refusal.XorRefusal.TheVariants as xor
 use Rattle.block_content.specs.declared.chunk_cause.ChunkCause.{ChunkCause}
 use Rattle.block_content.specs.declared.chunk_cause.ChunkCause.TheVariants.{Data}
@@ -32,9 +31,6 @@ behind xs i x d lt at = sym (take-append-drop i xs) ∙ ap (λ ys. take i xs ++ 
 pub taken : {A : Type 0} (xs : List A) (i : ℕ) → i < length xs → length (take i xs) ≡ i
 taken xs i lt = length-take-le i xs (omega arith)
 
-pub summed : {A : Type 0} (size : A → ℕ) (xs : List A) (x : A) → sum_by size (xs ++ x ∷ []) ≡ sum_by size xs + size x
-summed size xs x = omega (arith, sum_by-append size xs (x ∷ []), sum_by-cons size x [])
-
 -- a number that is counted on, up to the greatest
 pub fitted_more : (place n more : ℕ) → n ≡ fitted place → more ≡ min (n + 1) (2 ^ 32 - 1) → more ≡ fitted (place + 1)
 fitted_more place n more e e' = omega (arith, e, e')
@@ -49,7 +45,7 @@ pub bytes_step : (segments : List (List ℕ)) (i bytes more : ℕ) (segment d le
 bytes_step segments i bytes more segment d lent far lt at le is are =
     let up = front segments i segment d lt at in
     record {
-      few = let f = far.few in omega (arith, f, le, ap length is, summed length (take i segments) segment, ap (sum_by length) up);
+      few = let f = far.few in omega (arith, f, le, ap length is, sum_by-push length (take i segments) segment, ap (sum_by length) up);
       are = subst (AllByRecursion IsBytes) (sym up) (AllByRecursion-push IsBytes (take i segments) segment far.are (subst IsBytes is are));
     }
 
@@ -63,9 +59,6 @@ pub record ChunksSoFar (segments : List (List ℕ)) (chunks : List ChunkPlace) (
   pub few : length samples ≤ 8 * sum_by (chunk_bytes segments) (take i chunks)
   pub number : chunk ≡ fitted i
 
-pub joined_more : (parts : List (List Sample)) (part : List Sample) → joined (parts ++ part ∷ []) ≡ joined parts ++ part
-joined_more parts part = flat_map-append (λ (p : List Sample). p) parts (part ∷ []) ∙ ap (λ (t : List Sample). joined parts ++ t) (append-nil part)
-
 module _ (segments : List (List ℕ)) (chunks : List ChunkPlace) where
   pub chunks_start : (samples : List Sample) (budget : ℕ) → samples ≡ [] → ChunksSoFar segments chunks 0 samples budget budget 0
   unfolding each_at
@@ -75,11 +68,11 @@ module _ (segments : List (List ℕ)) (chunks : List ChunkPlace) where
       → chunk_at segments place ≡ Ok part → more ≡ samples ++ part → rest + chunk_bytes segments place ≡ left → length part ≤ 8 * chunk_bytes segments place → next ≡ min (chunk + 1) (2 ^ 32 - 1) → ChunksSoFar segments chunks (i + 1) more rest budget next
   chunks_step i place d samples more part left rest budget chunk next far lt at read pushed spent few counted =
       let up = front chunks i place d lt at in
-      let sums = summed (chunk_bytes segments) (take i chunks) place in
+      let sums = sum_by-push (chunk_bytes segments) (take i chunks) place in
       record {
         parts = far.parts ++ part ∷ [];
         read = ap (λ (xs : List ChunkPlace). each_at (chunk_at segments) xs) up ∙ each_push (chunk_at segments) (take i chunks) far.parts place part far.read read;
-        joined_are = pushed ∙ ap (λ (t : List Sample). t ++ part) far.joined_are ∙ sym (joined_more far.parts part);
+        joined_are = pushed ∙ ap (λ (t : List Sample). t ++ part) far.joined_are ∙ sym (joined-push far.parts part);
         spent = let s = far.spent in omega (arith, s, spent, sums, ap (sum_by (chunk_bytes segments)) up);
         few = let f = far.few in omega (arith, f, few, sums, ap (sum_by (chunk_bytes segments)) up, ap length pushed, length-append samples part);
         number = fitted_more i chunk next far.number counted;
@@ -130,7 +123,7 @@ module _ (segments : List (List ℕ)) where
         parts = far.parts ++ first ∷ [];
         read = each_push (chunks_at segments) indexed far.parts one first far.read read;
         made_are = ap (λ (t : List Series). t ++ next ∷ []) far.made_are ∙ ap (λ (s : Series). list_of indexed far.parts ++ s ∷ []) next_is ∙ sym (list_of_more indexed far.parts one first many);
-        spent = let s = far.spent in omega (arith, s, spent, summed (series_bytes segments) indexed one);
+        spent = let s = far.spent in omega (arith, s, spent, sum_by-push (series_bytes segments) indexed one);
         few = AllZip-push (λ (one : IndexSeries) (made : Series). length made.samples ≤ 8 * series_bytes segments one) indexed made one next far.few has;
         number = fitted_more (length indexed) series number far.number counted ∙ ap fitted (omega (arith, length-append indexed (one ∷ [])));
       })

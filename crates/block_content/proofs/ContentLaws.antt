@@ -5,6 +5,7 @@ use Rattle.std.specs.Result.{IsOkAnd}
 use Rattle.index_parts.proofs.ListLaws.{found_from, only_from}
 use Rattle.std.specs.List.{AllByRecursion, AllZip}
 use Rattle.list_core.proofs.Lists.{cons_same}
+use Rattle.list_core.specs.Lists.{joined}
 use Rattle.reading_core.specs.Reading.{◌>>◌, refused_as, Gives}
 use Rattle.reading_core.specs.Grammar.{IsBytes}
 use Rattle.reading_core.proofs.Binds.{bind_ok, bind_err, then_ok, ok_is, err_is, refused_as_ok, refused_as_err}
@@ -18,7 +19,7 @@ use Rattle.index_v2.specs.declared.refusal.IndexRefusal.{IndexRefusal}
 use Rattle.index_v2.specs.declared.refusal.IndexRefusal.TheVariants as index
 use Rattle.reading_core.specs.Firsts.{IsFirstAt, each_at, first_at}
 use Rattle.block_content.specs.Content.{IsChunkOf, HoldsSeries, AreWithin, IsContent}
-use Rattle.block_content.specs.ContentReading.{chunk_at, chunks_at, joined, series_of, list_of, first_outside, repeated_in, fitted, refused_index, refused_cause, refused_chunk, refused_time, refused_order, unless_found, index_at, tested_at, chunked_at, contents_at, content_at, AreFew, ListsFew}
+use Rattle.block_content.specs.ContentReading.{chunk_at, chunks_at, series_of, list_of, first_outside, repeated_in, fitted, refused_index, refused_cause, refused_chunk, refused_time, refused_order, unless_found, index_at, tested_at, chunked_at, contents_at, content_at, AreFew, ListsFew}
 use Rattle.block_content.specs.ContentRefusals.{RefusesChunk, IsChunk, IsFirstBadChunk, HasBadChunk, HasOutside, HasRepeated, RefusesContent}
 use Rattle.block_files.specs.declared.block_files.BlockFiles.{BlockFiles}
 use Rattle.block_content.specs.declared.chunk_cause.ChunkCause.{ChunkCause}

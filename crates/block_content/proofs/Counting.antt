@@ -2,6 +2,8 @@
 use Rattle.std.proofs.Common.{◌≡◌, ℕ, suc, ◌+◌, ◌-◌, ◌^◌, ◌<◌, ◌≤◌, min, List, [], ◌∷◌, ◌++◌, length, take, drop, get_or, sum_by, Option, None, Some, Ok, Err, ℤ, refl, sym, ap, subst, ◌∙◌, arith, ◌⊎◌, inl, inr}
 use Rattle.std.specs.Prelude.{option_map}
 use Rattle.std.proofs.lemmas.List.{take_all, length-append}
+use Rattle.list_core.specs.Lists.{joined}
+use Rattle.list_core.proofs.Lists.{sum_by-push, joined-push}
 use Rattle.label_sets.specs.declared.sample.Sample.{Sample}
 use Rattle.label_sets.specs.declared.series.Series.{Series}
 use Rattle.label_sets.specs.Counts.{sample_count}
@@ -9,7 +11,7 @@ use Rattle.index_parts.specs.declared.chunk_place.ChunkPlace.{ChunkPlace}
 use Rattle.index_file.specs.declared.index_series.IndexSeries.{IndexSeries}
 use Rattle.block_meta.specs.declared.meta.Meta.{Meta}
 use Rattle.reading_core.specs.Firsts.{each_at, first_at, or_else}
-use Rattle.block_content.specs.ContentReading.{chunk_at, chunk_bytes, chunks_at, series_bytes, joined, series_of, list_of, outside_of, first_time, first_outside, fitted, refused_cause, refused_chunk}
+use Rattle.block_content.specs.ContentReading.{chunk_at, chunk_bytes, chunks_at, series_bytes, series_of, list_of, outside_of, first_time, first_outside, fitted, refused_cause, refused_chunk}
 use Rattle.block_content.specs.CheckReading.{IsFirstFound}
 use Rattle.xor_chunks.specs.declared.refusal.XorRefusal.TheVariants as xor
 use Rattle.block_content.specs.declared.chunk_cause.ChunkCause.{ChunkCause}
@@ -17,7 +19,7 @@ use Rattle.block_content.specs.declared.chunk_cause.ChunkCause.TheVariants.{Data
 use Rattle.block_content.specs.declared.check_refusal.CheckRefusal.{CheckRefusal}
 use Rattle.block_content.specs.declared.check_refusal.CheckRefusal.TheVariants.{NoMemory}
 use Rattle.reading_core.proofs.FirstLaws.{each_push, each_stop, each_many, joins, none_push, some_behind}
-use Rattle.block_content.proofs.ChunkWalks.{front, behind, taken, summed, fitted_more, joined_more, list_of_more}
+use Rattle.block_content.proofs.ChunkWalks.{front, behind, taken, fitted_more, list_of_more}
 
 -- ---- times
 
@@ -63,13 +65,13 @@ module _ (meta : Meta) (segments : List (List ℕ)) (chunks : List ChunkPlace) w
       → chunk_at segments place ≡ Ok part → more ≡ min (samples + size) (2 ^ 64 - 1) → size ≡ length part → later ≡ or_else outside (first_time meta part) → rest + chunk_bytes segments place ≡ left → next ≡ min (chunk + 1) (2 ^ 32 - 1) → CountedSoFar meta segments chunks (i + 1) more later rest budget next
   counted_step i samples more left rest budget chunk next size place d outside later part far lt at read added size_is found spent counted =
       let up = front chunks i place d lt at in
-      let more_are = joined_more far.parts part in
+      let more_are = joined-push far.parts part in
       record {
         parts = far.parts ++ part ∷ [];
         read = ap (λ (xs : List ChunkPlace). each_at (chunk_at segments) xs) up ∙ each_push (chunk_at segments) (take i chunks) far.parts place part far.read read;
         count = let c = far.count in omega (arith, c, added, size_is, ap length more_are, length-append (joined far.parts) part);
         time = found ∙ ap (λ (o : Option ℤ). or_else o (first_time meta part)) far.time ∙ sym (time_append meta (joined far.parts) part) ∙ ap (first_time meta) (sym more_are);
-        spent = let s = far.spent in omega (arith, s, spent, summed (chunk_bytes segments) (take i chunks) place, ap (sum_by (chunk_bytes segments)) up);
+        spent = let s = far.spent in omega (arith, s, spent, sum_by-push (chunk_bytes segments) (take i chunks) place, ap (sum_by (chunk_bytes segments)) up);
         number = fitted_more i chunk next far.number counted;
       }
 
@@ -135,10 +137,10 @@ module _ (meta : Meta) (segments : List (List ℕ)) (indexed : List IndexSeries)
       record {
         parts = far.parts ++ first ∷ [];
         read = ap (λ (xs : List IndexSeries). each_at (chunks_at segments) xs) up ∙ each_push (chunks_at segments) (take i indexed) far.parts one first far.read read;
-        count = let c = far.count in omega (arith, c, added, size_is, ap (sum_by (λ (s : Series). length s.samples)) list_is, summed (λ (s : Series). length s.samples) (list_of (take i indexed) far.parts) (series_of one first));
+        count = let c = far.count in omega (arith, c, added, size_is, ap (sum_by (λ (s : Series). length s.samples)) list_is, sum_by-push (λ (s : Series). length s.samples) (list_of (take i indexed) far.parts) (series_of one first));
         found = subst (λ (xs : List Series). IsFirstFound (first_at (first_outside meta) xs) later) (sym list_is)
             (found_more (first_outside meta) (list_of (take i indexed) far.parts) (series_of one first) time outside later series far.found (far.number ∙ ap fitted (sym place)) (sym time_is) found);
-        spent = let s = far.spent in omega (arith, s, spent, summed (series_bytes segments) (take i indexed) one, ap (sum_by (series_bytes segments)) up);
+        spent = let s = far.spent in omega (arith, s, spent, sum_by-push (series_bytes segments) (take i indexed) one, ap (sum_by (series_bytes segments)) up);
         number = fitted_more i series next far.number counted;
       }
 

@@ -1,7 +1,6 @@
 -- The index, the times of samples, and the order of chunks: what the functions give is what the relations say.
 use Rattle.std.proofs.Common.{◌≡◌, ℕ, List, [], ◌∷◌, Bool, true, false, Option, None, Some, Ok, ℤ, refl, sym, ap, subst, ◌∙◌}
 use Rattle.std.specs.Prelude.{option_map, if◌then◌else◌}
-use Rattle.std.proofs.Math.Dec.{T}
 use Rattle.std.proofs.lemmas.Bool.{and_parts, true≢false, and_from, false_from_ne_true}
 use Rattle.std.proofs.lemmas.Float.{T_from_true}
 use Rattle.reading_core.specs.Grammar.{IsBytes}
@@ -21,6 +20,7 @@ use Rattle.block_content.specs.ContentReading.{is_within, outside_of, first_outs
 use Rattle.block_content.specs.ContentRefusals.{IsOutside}
 use Rattle.reading_core.proofs.FirstLaws.{Finds, all_good, all_pass, first_found, first_again}
 use Rattle.list_core.proofs.Options.{option_map-Some}
+use Rattle.list_core.proofs.Bools.{true-from_T}
 
 -- ---- the index
 
@@ -40,15 +40,11 @@ index_again bytes list are is =
 
 -- ---- samples within the block's times
 
-pub passes : (b : Bool) → T b → b ≡ true
-passes true t = refl
-passes false t = absurd t
-
 within_found : (meta : Meta) (sample : Sample) → is_within meta sample ≡ true → IsWithin meta sample
 within_found meta sample e = let p = and_parts _ _ e in (record { le = T_from_true _ p.0 }, record { lt = T_from_true _ p.1 })
 
 within_again : (meta : Meta) (sample : Sample) → IsWithin meta sample → is_within meta sample ≡ true
-within_again meta sample is = and_from _ _ (passes _ is.0.le) (passes _ is.1.lt)
+within_again meta sample is = and_from _ _ (true-from_T _ is.0.le) (true-from_T _ is.1.lt)
 
 -- a test that finds something where it does not hold
 chosen_none : {X : Type 0} (b : Bool) (x : X) → (if b then None else Some x) ≡ None → b ≡ true
@@ -87,7 +83,7 @@ begins_found (Some before) chunk e = record { lt = T_from_true _ e }
 
 begins_again : (before : Option ChunkPlace) (chunk : ChunkPlace) → BeginsAfter before chunk → begins_after before chunk ≡ true
 begins_again None chunk is = refl
-begins_again (Some before) chunk is = passes _ is.lt
+begins_again (Some before) chunk is = true-from_T _ is.lt
 
 pub follow_found : (before : Option ChunkPlace) (chunks : List ChunkPlace) → follow before chunks ≡ true → InOrderAfter BeginsAfter before chunks
 unfolding follow

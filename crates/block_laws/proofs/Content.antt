@@ -6,6 +6,7 @@ use Rattle.list_core.proofs.Lists.{AllByRecursion-append, AllByRecursion-weaker}
 use Rattle.reading_core.proofs.Binds.{ok_is}
 use Rattle.label_sets.specs.declared.sample.Sample.{Sample}
 use Rattle.label_sets.specs.declared.series.Series.{Series}
+use Rattle.label_sets.specs.Times.{times_of}
 use Rattle.block_meta.specs.declared.block_plan.BlockPlan.{BlockPlan}
 use Rattle.block_meta.specs.MetaFields.{MetaFields}
 use Rattle.xor_chunks.specs.Grammar.{IsText}
@@ -16,9 +17,9 @@ use Rattle.index_file.specs.declared.index_series.IndexSeries.{IndexSeries}
 use Rattle.block_files.specs.declared.block_files.BlockFiles.{BlockFiles}
 use Rattle.block_writing.specs.Put.{PutChunk, PutSeries, PlanFields, Put, IsWithin, IsStored, IsEnded, IsPut}
 use Rattle.block_writing.specs.WrittenMeta.{meta_with, IsWritten}
-use Rattle.block_writing.specs.Built.{IsEncoded, IsPutAs, IsBuilt}
-use Rattle.block_writing.proofs.Parts.{stored_text}
-use Rattle.block_content.specs.Content.{times_of, HaveTimesOf, IsChunkOf, HoldsSeries, IsApart, AreWithin, IsContent}
+use Rattle.block_writing.specs.Built.{IsPutAs, IsBuilt, StandsFor}
+use Rattle.block_writing.proofs.Parts.{texts_of}
+use Rattle.block_content.specs.Content.{HaveTimesOf, IsChunkOf, HoldsSeries, IsApart, AreWithin, IsContent}
 use Rattle.block_content.specs.Content as content
 use Rattle.block_content.specs.declared.check_refusal.CheckRefusal.{CheckRefusal}
 use Rattle.block_content.proofs.ContentLaws.{content_again}
@@ -45,9 +46,6 @@ part_within : (plan : PlanFields) (chunk : PutChunk) (part : List Sample) → Is
 part_within plan chunk part stored text = subst (AllByRecursion (IsWithin plan)) (text_once chunk.content stored.samples part stored.text_is text) stored.within
 
 -- ---- a series
-
-abbrev StandsFor : PutChunk → List Sample → Type 0
-StandsFor chunk part = IsText 8 chunk.content part
 
 chunks_held : (plan : PlanFields) (segments : List (List ℕ)) (chunks : List PutChunk) (places : List ChunkPlace) (parts : List (List Sample)) → AllByRecursion (IsStored plan) chunks → AllZip (IsAt segments) chunks places → AllZip StandsFor chunks parts → AllZip (IsChunkOf segments) places parts
 chunks_held plan segments [] [] [] stored each texts = tt
@@ -151,12 +149,6 @@ written_only put files list bytes is held =
     subst (AreSeriesOf put.series) (content_once files some.0 list bytes (written_holds put files some.0 is some.1) held) some.1
 
 -- ---- a block that is built
-
-texts_of : (parts : List (List Sample)) (chunks : List PutChunk) → AllZip IsEncoded parts chunks → AllZip StandsFor chunks parts
-texts_of [] [] each = tt
-texts_of [] (c ∷ chunks) each = absurd each
-texts_of (p ∷ parts) [] each = absurd each
-texts_of (p ∷ parts) (c ∷ chunks) each = (stored_text c.content p each.0.text_is, texts_of parts chunks each.1)
 
 pub built_series : (series : List Series) (puts : List PutSeries) → AllZip IsPutAs series puts → AreSeriesOf puts series
 built_series [] [] each = tt

@@ -6,11 +6,11 @@ use Rattle.std.specs.List.{AllByRecursion, filter}
 use Rattle.std.specs.Ordering.{is_lt}
 use Rattle.std.proofs.lemmas.List.{map-append, take_more, take_more_set, take_all, drop_more, drop-set-lt, length-set}
 use Rattle.std.proofs.lemmas.List.Elements.{Contains-append_left, Contains-append_right}
-use Rattle.std.proofs.lemmas.Grind.{flat_map-append}
 use Rattle.list_core.specs.Ordered.{in_order}
 use Rattle.list_core.proofs.Bools.{by_bool}
-use Rattle.list_core.proofs.Lists.{take_none, AllByRecursion-append, AllByRecursion-push}
+use Rattle.list_core.proofs.Lists.{take_none, AllByRecursion-append, AllByRecursion-push, joined-push}
 use Rattle.list_core.proofs.StableSorts.{Rises, Rises-in_order}
+use Rattle.list_core.specs.Lists.{joined}
 use Rattle.reading_core.specs.Grammar.{IsBytes}
 use Rattle.label_sets.specs.declared.label.Label.{Label}
 use Rattle.label_sets.specs.Labels.{compare_sets}
@@ -24,7 +24,6 @@ use Rattle.block_merging.specs.declared.merge_refusal.MergeRefusal.TheVariants.{
 use Rattle.block_merging.specs.declared.series_queue.SeriesQueue.{SeriesQueue}
 use Rattle.block_merging.specs.Inputs.{AreTaken, taken}
 use Rattle.block_merging.specs.MergedBlock.{has_labels}
-use Rattle.block_merging.specs.Steps.{joined}
 use Rattle.block_merging.specs.MergeSteps.{IsTest, AreTests}
 use Rattle.block_merging.specs.Queues.{have_lesser_labels, chunks_of, IsQueue, left_in, lefts_in, HasQueue, HasQueues, IsLeastOf, LeastIs, lesser, IsFrontOf, TakesGroup}
 use Rattle.block_merging.proofs.GroupsTaken.{labels_ranked, alike_append, in_order_alike, not_greater}
@@ -62,9 +61,6 @@ lesser_least (Some one) (Some other) xs ys h k = by_bool (is_lt (compare_sets ot
     (λ t. subst (λ (b : Bool). LeastIs (cond b (Some other) (Some one)) (xs ++ ys)) (sym t) (least_right other xs ys k (below_all other one xs (not_both_less one other t) h.least)))
     (λ f. subst (λ (b : Bool). LeastIs (cond b (Some other) (Some one)) (xs ++ ys)) (sym f) (least_left one xs ys h (below_all one other ys f k.least)))
 
-joined_push : (parts : List (List PutSeries)) (part : List PutSeries) → joined (parts ++ part ∷ []) ≡ joined parts ++ part
-joined_push parts part = flat_map-append (λ (p : List PutSeries). p) parts (part ∷ []) ∙ ap (λ (l : List PutSeries). joined parts ++ l) (append-nil part)
-
 lefts_more : (external : List Label) (replicas : List (List ℕ)) (queues : List SeriesQueue) (k : ℕ) (queue d : SeriesQueue) → k < length queues → queue ≡ get_or queues k d → lefts_in external replicas (take (k + 1) queues) ≡ lefts_in external replicas (take k queues) ++ left_in external replicas queue ∷ []
 lefts_more external replicas queues k queue d lt at =
     ap (lefts_in external replicas) (take_more queues k d lt ∙ ap (λ (q : SeriesQueue). take k queues ++ q ∷ []) (sym at)) ∙ map-append (left_in external replicas) (take k queues) (queue ∷ [])
@@ -76,7 +72,7 @@ pub least_more : (external : List Label) (replicas : List (List ℕ)) (queues : 
     → LeastIs next (left_in external replicas queue) → result ≡ lesser least next → LeastIs result (joined (lefts_in external replicas (take (k + 1) queues)))
 least_more external replicas queues k queue d least next result lt at h own is =
     subst (λ (o : Option (List Label)). LeastIs o (joined (lefts_in external replicas (take (k + 1) queues)))) (sym is)
-    (subst (LeastIs (lesser least next)) (sym (ap joined (lefts_more external replicas queues k queue d lt at) ∙ joined_push (lefts_in external replicas (take k queues)) (left_in external replicas queue)))
+    (subst (LeastIs (lesser least next)) (sym (ap joined (lefts_more external replicas queues k queue d lt at) ∙ joined-push (lefts_in external replicas (take k queues)) (left_in external replicas queue)))
     (lesser_least least next (joined (lefts_in external replicas (take k queues))) (left_in external replicas queue) h own))
 
 pub least_all : (external : List Label) (replicas : List (List ℕ)) (queues : List SeriesQueue) (k : ℕ) (least : Option (List Label)) → length queues ≤ k → LeastIs least (joined (lefts_in external replicas (take k queues))) → LeastIs least (joined (lefts_in external replicas queues))
@@ -188,7 +184,7 @@ queue_pushed external replicas blocks block queues news queue h one added =
     let series : List PutSeries = map (taken external replicas block.segments) one.series in
     let lefts : lefts_in external replicas news ≡ lefts_in external replicas queues ++ left_in external replicas queue ∷ [] = ap (lefts_in external replicas) added ∙ map-append (left_in external replicas) queues (queue ∷ []) in
     let all_lefts : joined (lefts_in external replicas news) ≡ joined (lefts_in external replicas queues) ++ in_order have_lesser_labels series =
-    ap joined lefts ∙ joined_push (lefts_in external replicas queues) (left_in external replicas queue) ∙ ap (λ (l : List PutSeries). joined (lefts_in external replicas queues) ++ l) one.left in
+    ap joined lefts ∙ joined-push (lefts_in external replicas queues) (left_in external replicas queue) ∙ ap (λ (l : List PutSeries). joined (lefts_in external replicas queues) ++ l) one.left in
     record {
       all = h.all ++ series;
       are = taken_push external replicas blocks block h.all (h.all ++ series) one.series h.are one.index_is refl;

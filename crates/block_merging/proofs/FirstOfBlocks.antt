@@ -13,6 +13,7 @@ use Rattle.list_core.proofs.Lists.{filter_hit, filter_miss, filter_all, filter_n
 use Rattle.list_core.proofs.Order.{sorted_nil, sorted_append}
 use Rattle.list_core.proofs.Membership.{no_member, contains_first, contains_later, each_member, all_members, any_of_member, member_of_any, into_filter, of_filter, of_map, into_map, of_flat_map, into_flat_map}
 use Rattle.list_core.proofs.Pairs.{AllZip-append}
+use Rattle.list_core.specs.Lists.{joined}
 use Rattle.reading_core.specs.Grammar.{IsBytes}
 use Rattle.label_sets.specs.declared.label.Label.{Label}
 use Rattle.label_sets.specs.declared.sample.Sample.{Sample}
@@ -31,9 +32,9 @@ use Rattle.block_files.specs.declared.block_files.BlockFiles.{BlockFiles}
 use Rattle.block_content.specs.Content.{IsChunkOf, HoldsSeries, IsContent}
 use Rattle.block_writing.specs.Put.{PlanFields, PutChunk, PutSeries, IsStored}
 use Rattle.block_writing.specs.Writing.{chunk_in}
+use Rattle.block_writing.specs.Built.{StandsFor}
 use Rattle.block_laws.specs.PutContent.{IsSeriesOf, AreSeriesOf}
 use Rattle.block_merging.specs.Inputs.{AreTaken, taken}
-use Rattle.block_merging.specs.Steps.{StandsFor, joined}
 use Rattle.block_merging.specs.MergedSeries.{IsMergedSeries}
 use Rattle.block_merging.specs.MergedBlock.{has_labels, chunks_under, AreMerges}
 use Rattle.block_merging.specs.MergedContent.{reduced_triples, all_triples}

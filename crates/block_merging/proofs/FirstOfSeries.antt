@@ -16,6 +16,7 @@ use Rattle.list_core.proofs.Lists.{filter_hit, filter_miss, filter_all, filter_n
 use Rattle.list_core.proofs.Order.{sorted_map, sorted_unmap}
 use Rattle.list_core.proofs.Membership.{no_member, contains_first, contains_later, member_cases, each_member, all_members, any_of_member, of_map, of_filter}
 use Rattle.list_core.proofs.Integers.{le_le}
+use Rattle.list_core.specs.Lists.{joined}
 use Rattle.label_sets.specs.declared.label.Label.{Label}
 use Rattle.label_sets.specs.declared.sample.Sample.{Sample}
 use Rattle.label_sets.specs.declared.series.Series.{Series}
@@ -27,18 +28,19 @@ use Rattle.vertical_merge.proofs.Laws.{find_here, find_skip}
 use Rattle.vertical_merge.proofs.Joining.{triples_under-append}
 use Rattle.std.proofs.lemmas.Cmp.{eq_by_cmp_equiv}
 use Rattle.block_writing.specs.Put.{PlanFields, PutChunk, PutSeries, IsStored}
+use Rattle.block_writing.specs.Built.{StandsFor}
+use Rattle.block_writing.proofs.Parts.{texts_of}
 use Rattle.block_laws.specs.PutContent.{IsSeriesOf}
 use Rattle.block_laws.proofs.Content.{text_once}
 use Rattle.block_merging.specs.Runs.{AreConnected, Span, lies_in}
 use Rattle.block_merging.specs.MergedSeries.{Becomes, IsMergedSeries}
-use Rattle.block_merging.specs.Steps.{StandsFor, joined}
 use Rattle.block_merging.proofs.Chains.{any_of, member_of}
-use Rattle.block_merging.proofs.Merged.{part_inside, texts_of, IsInside, samples_inside}
+use Rattle.block_merging.proofs.Merged.{part_inside, IsInside, samples_inside}
 use Rattle.block_merging.proofs.OneMerge.{first_labels, one_triples, of_under, under}
 use Rattle.block_merging.proofs.OneCut.{lies, AreApart, of_two}
 use Rattle.block_merging.proofs.SameLists.{each_once, split_zip}
 use Rattle.block_merging.proofs.Rising.{text_ascends}
-use Rattle.block_merging.proofs.Firsts.{in_span, AreFirstOfEach, joined as joined_triples, first_joined}
+use Rattle.block_merging.proofs.Firsts.{in_span, AreFirstOfEach, first_joined}
 use Rattle.block_merging.proofs.Spans.{le_false, le_true}
 
 -- ---- a chunk in a span, and one outside it
@@ -175,7 +177,7 @@ module _ (plan : PlanFields) (labels : List Label) (spans : List Span) (apart : 
 
   runs_first : (more : List Span) (made : List (List PutChunk)) (read : List (List Sample)) → ((s : Span) → Contains more s → Contains spans s) → AllByRecursion AreConnected (map (λ span. filter (lies_in span) chunks) more)
       → AllZip (Becomes labels) (map (λ span. filter (lies_in span) chunks) more) made → AllZip StandsFor (joined made) read
-      → (kepts : List (List Triple)) × AreFirstOfEach (triples_under labels (joined parts)) more kepts × (joined_triples kepts ≡ triples_under labels (joined read))
+      → (kepts : List (List Triple)) × AreFirstOfEach (triples_under labels (joined parts)) more kepts × (joined kepts ≡ triples_under labels (joined read))
   unfolding triples_under
   runs_first [] [] [] within connected becomes reads = ([], tt, refl)
   runs_first [] [] (r ∷ read) within connected becomes reads = absurd reads

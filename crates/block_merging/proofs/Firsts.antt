@@ -1,7 +1,7 @@
 -- The first patterns of spans of time, one span after another, are the first patterns of all.
 use Rattle.std.proofs.Common.{◌≡◌, Bool, true, false, ◌&&◌, ◌||◌, List, [], ◌∷◌, ◌++◌, refl, sym, ap, ◌∙◌, arith, inl, inr, ℤ, Less}
 use Rattle.std.specs.Prelude.{Any, All, Contains, Some, int_le, ◌≤ℤ◌, ◌<ℤ◌}
-use Rattle.std.specs.List.{AllByRecursion, AllPairs, filter, flat_map, find, list_any}
+use Rattle.std.specs.List.{AllByRecursion, AllPairs, filter, find, list_any}
 use Rattle.std.specs.List.Sorted.{IsStrictlySortedBy}
 use Rattle.std.specs.Ordering.{int_cmp, ordering_then}
 use Rattle.std.proofs.lemmas.Int.{ints}
@@ -11,6 +11,7 @@ use Rattle.list_core.proofs.Bools.{by_bool}
 use Rattle.list_core.proofs.Order.{sorted_nil, sorted_append}
 use Rattle.list_core.proofs.Lists.{filter_hit, filter_miss, find_holds, AllByRecursion-append}
 use Rattle.list_core.proofs.Membership.{no_member, contains_first, contains_later, all_members, of_filter, into_filter, member_passes, member_cases}
+use Rattle.list_core.specs.Lists.{joined}
 use Rattle.label_sets.specs.declared.label.Label.{Label}
 use Rattle.label_sets.specs.Labels.{compare_sets}
 use Rattle.label_sets.specs.Triples.{Triple, compare_keys, has_same_key}
@@ -54,9 +55,6 @@ first_of_all list span kept t is among =
     ∙ All-contains (IsFirstIn (filter (in_span span) list)) kept t is.first among
 
 -- ---- one span after another
-
-abbrev pub joined : List (List Triple) → List Triple
-joined kepts = flat_map (λ kept. kept) kepts
 
 -- what is kept of each span
 abbrev pub AreFirstOfEach : List Triple → List Span → List (List Triple) → Type 0

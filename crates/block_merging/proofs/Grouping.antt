@@ -14,7 +14,8 @@ use Rattle.list_core.proofs.Membership.{no_member, contains_first, contains_late
 use Rattle.list_core.proofs.Order.{sorted_nil, sorted_cons, sorted_append}
 use Rattle.label_sets.specs.declared.label.Label.{Label}
 use Rattle.label_sets.specs.Labels.{compare_sets}
-use Rattle.vertical_merge.proofs.Orders.{same_set, set_itself}
+use Rattle.label_sets.proofs.LabelValues.{same_set}
+use Rattle.vertical_merge.proofs.Orders.{set_itself}
 use Rattle.block_writing.specs.Put.{PutChunk, PutSeries}
 use Rattle.block_merging.specs.MergedSeries.{IsMergedSeries}
 use Rattle.block_merging.specs.MergedBlock.{has_labels, chunks_under, AreMerges}

@@ -17,11 +17,13 @@ use Rattle.list_core.proofs.StableSorts.{NoneLess, Rises}
 use Rattle.list_core.proofs.Lists.{filter_miss, AllByRecursion-append, AllByRecursion-weaker}
 use Rattle.list_core.proofs.Membership.{no_member, each_member, all_members, member_passes, of_filter, into_filter, contains_place, of_flat_map, into_flat_map}
 use Rattle.list_core.proofs.Pairs.{AllZip-append}
+use Rattle.list_core.specs.Lists.{joined}
 use Rattle.label_sets.specs.Counts.{sample_count}
 use Rattle.label_sets.specs.declared.label.Label.{Label}
 use Rattle.label_sets.specs.declared.series.Series.{Series}
 use Rattle.label_sets.specs.Labels.{compare_sets}
-use Rattle.vertical_merge.proofs.Orders.{sets_total, same_set, set_itself}
+use Rattle.label_sets.proofs.LabelValues.{same_set}
+use Rattle.vertical_merge.proofs.Orders.{sets_total, set_itself}
 use Rattle.block_meta.specs.Lawful.{AreLawfulTimes}
 use Rattle.block_writing.specs.Put.{PutChunk, PutSeries, PlanFields, Put, IsStored, IsAfterSeries, nothing_put}
 use Rattle.block_writing.proofs.Builds.{one_sum}
@@ -29,7 +31,6 @@ use Rattle.block_laws.specs.PutContent.{IsSeriesOf, AreSeriesOf}
 use Rattle.block_merging.specs.MergedSeries.{IsMergedSeries}
 use Rattle.block_merging.specs.MergedBlock.{has_labels, chunks_under, AreMerges}
 use Rattle.block_merging.specs.MergeSteps.{HasGroup, HasAll}
-use Rattle.block_merging.specs.Steps.{joined}
 use Rattle.block_merging.specs.Queues.{have_lesser_labels, AreAlike, chunks_of, IsLeastOf, IsFrontOf, TakesGroup}
 use Rattle.block_merging.proofs.Filters.{filter_in_order}
 use Rattle.block_merging.proofs.Grouping.{same_labels, are_same, not_itself, not_same, under_some, merged_same, merged_more, merges_none}

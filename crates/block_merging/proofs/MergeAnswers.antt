@@ -3,6 +3,7 @@ use Rattle.std.proofs.Common.{◌≡◌, ℕ, List, Result, Ok, Err, sym, ap, su
 use Rattle.std.specs.Prelude.{IfOk, IfErr}
 use Rattle.std.specs.Result.{IsErrAnd}
 use Rattle.std.specs.List.{AllByRecursion}
+use Rattle.list_core.specs.Lists.{joined}
 use Rattle.block_meta.specs.declared.block_plan.BlockPlan.{BlockPlan}
 use Rattle.block_files.specs.declared.block_files.BlockFiles.{BlockFiles}
 use Rattle.block_content.specs.ContentReading.{fitted}
@@ -15,7 +16,6 @@ use Rattle.block_merging.specs.declared.merge_refusal.MergeRefusal.{MergeRefusal
 use Rattle.block_merging.specs.declared.merge_refusal.MergeRefusal.TheVariants.{Input, TooLarge, NoMemory}
 use Rattle.block_merging.specs.declared.series_queue.SeriesQueue.{SeriesQueue}
 use Rattle.block_merging.specs.Inputs.{LiesWithin, HasContent, IsFirstRefused}
-use Rattle.block_merging.specs.Steps.{joined}
 use Rattle.block_merging.specs.MergedBlock.{IsMergedPut, IsMergeOf, HaveNoMerge}
 use Rattle.block_merging.specs.MergeSteps.{HasAll}
 use Rattle.block_merging.specs.Queues.{lefts_in, HasQueues}

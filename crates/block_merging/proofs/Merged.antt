@@ -10,6 +10,7 @@ use Rattle.list_core.specs.Ordered.{in_order, placed}
 use Rattle.list_core.proofs.Membership.{no_member, contains_first, contains_later, each_member, all_members, of_in_order, into_in_order, of_map, into_map, contains_place}
 use Rattle.list_core.proofs.Integers.{lt_le}
 use Rattle.list_core.proofs.Lists.{some-length}
+use Rattle.list_core.specs.Lists.{joined}
 use Rattle.label_sets.specs.declared.label.Label.{Label}
 use Rattle.label_sets.specs.declared.sample.Sample.{Sample}
 use Rattle.label_sets.specs.declared.series.Series.{Series}
@@ -19,12 +20,12 @@ use Rattle.index_parts.specs.declared.chunk_place.ChunkPlace.{ChunkPlace}
 use Rattle.block_content.specs.Content.{HaveTimesOf}
 use Rattle.block_content.proofs.Appending.{text_between}
 use Rattle.block_writing.specs.Put.{PlanFields, PutChunk, Put, IsWithin, IsStored, IsAfter, IsAfterChunks}
-use Rattle.block_writing.specs.Built.{AreOfBlock, BeginAfter, IsEncoded}
-use Rattle.block_writing.proofs.Parts.{stored_text}
+use Rattle.block_writing.specs.Built.{AreOfBlock, BeginAfter, StandsFor}
+use Rattle.block_writing.proofs.Parts.{texts_of}
 use Rattle.block_merging.specs.declared.placed_chunk.PlacedChunk.{PlacedChunk}
 use Rattle.block_merging.specs.Placed.{placed_chunk, stands_before}
 use Rattle.block_merging.specs.MergedSeries.{AreMerged, Becomes}
-use Rattle.block_merging.specs.Steps.{StandsFor, joined, run_in, HasParts, HasRun}
+use Rattle.block_merging.specs.Steps.{run_in, HasParts, HasRun}
 use Rattle.block_merging.proofs.OneMerge.{first_labels, kept_ascend, kept_given}
 
 le_lt : (a b c : ℤ) → a ≤ℤ b → b <ℤ c → a <ℤ c
@@ -139,12 +140,6 @@ kept_after plan chunks labels run samples kept stored after read merged time at 
     let s = of_map (λ (x : Sample). x.time) kept.samples time (contains_place (map (λ (x : Sample). x.time) kept.samples) 0 time at) in
     let w = kept_inside plan labels run samples kept s.0 stored read merged s.1 in
     after_later (slice_get chunks (length chunks - 1)) (w.0).min time (subst (λ (t : ℤ). (w.0).min ≤ℤ t) s.2 w.2.0) (each_member (λ c. IsAfterChunks chunks c.min) (run_in run) w.0 (in_run (λ c. IsAfterChunks chunks c.min) run after) w.1)
-
-pub texts_of : (parts : List (List Sample)) (chunks : List PutChunk) → AllZip IsEncoded parts chunks → AllZip StandsFor chunks parts
-texts_of [] [] each = tt
-texts_of [] (c ∷ chunks) each = absurd each
-texts_of (p ∷ parts) [] each = absurd each
-texts_of (p ∷ parts) (c ∷ chunks) each = (stored_text c.content p each.0.text_is, texts_of parts chunks each.1)
 
 merged_put : (old new : Put) (labels : List Label) (run : List PlacedChunk) (samples : List Sample) (kept : Series) → 1 < length run → AllByRecursion (IsStored old.plan) (map placed_chunk run)
     → ((parts : List (List Sample)) × AllZip StandsFor (run_in run) parts × (samples ≡ joined parts)) → IsMerge (triples_under labels samples) (kept ∷ []) → HasParts old kept.samples new → HasRun old labels (run_in run) new

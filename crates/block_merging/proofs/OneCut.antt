@@ -5,7 +5,7 @@ use Rattle.std.specs.List.{AllByRecursion, AllPairs, filter}
 use Rattle.std.proofs.lemmas.Int.{ints}
 use Rattle.std.proofs.lemmas.Bool.{and_parts, true≢false, not_from_false}
 use Rattle.std.proofs.lemmas.List.Elements.{All-contains}
-use Rattle.list_core.proofs.Bools.{by_bool}
+use Rattle.list_core.proofs.Bools.{by_bool, not_negated}
 use Rattle.list_core.proofs.Membership.{no_member, contains_first, contains_later, member_cases, of_filter, into_filter, member_passes}
 use Rattle.block_writing.specs.Put.{PutChunk}
 use Rattle.block_merging.specs.Runs.{Meet, AreConnected, Span, lies_in, AreRuns}
@@ -127,10 +127,6 @@ module _ (chunks : List PutChunk) where
 abbrev outside : Span → PutChunk → Bool
 outside s c = not (lies_in s c)
 
-not_false : (b : Bool) → not b ≡ true → b ≡ true → ⊥
-not_false true e t = absurd (true≢false (sym e))
-not_false false e t = absurd (true≢false (sym t))
-
 -- what lies in a later span is left
 later_run : (chunks : List PutChunk) (s u : Span) (ss : List Span) → IsCut chunks (s ∷ ss) → Contains ss u → run_in (filter (outside s) chunks) u ≡ run_in chunks u
 later_run chunks s u ss cut among = filter_within (lies_in u) (outside s) chunks (λ x within here.
@@ -147,7 +143,7 @@ rest_cut chunks s ss cut = record {
   timed = λ c among. cut.timed c (of_filter (outside s) chunks c among);
   covered = λ c among. let u = member_of (λ span. lies_in span c ≡ true) (s ∷ ss) (cut.covered c (of_filter (outside s) chunks c among)) in
       elim (member_cases s u.0 ss u.1) [
-        | inl is ↦ absurd (not_false (lies_in s c) (member_passes (outside s) chunks c among) (subst (λ w. lies_in w c ≡ true) (sym is) u.2))
+        | inl is ↦ absurd (not_negated (lies_in s c) (member_passes (outside s) chunks c among) (subst (λ w. lies_in w c ≡ true) (sym is) u.2))
         | inr later ↦ any_of (λ span. lies_in span c ≡ true) ss u.0 later u.2
       ];
   apart = others_apart s ss cut.apart;

@@ -3,9 +3,9 @@ use Rattle.std.proofs.Common.{◌≡◌, ◌≢◌, ℕ, List, [], ◌∷◌, �
 use Rattle.std.specs.Prelude.{Contains}
 use Rattle.std.specs.List.{AllByRecursion, AllZip, filter, flat_map}
 use Rattle.std.specs.declared.cmp.Ordering.{Ordering}
-use Rattle.list_core.proofs.Lists.{cons_parts}
 use Rattle.list_core.proofs.Order.{sorted_unmap}
 use Rattle.list_core.proofs.Membership.{no_member, each_member, of_map, of_filter, member_passes, of_flat_map}
+use Rattle.list_core.proofs.SameMembers.{same_ascending}
 use Rattle.reading_core.specs.Grammar.{IsBytes}
 use Rattle.label_sets.specs.declared.label.Label.{Label}
 use Rattle.label_sets.specs.declared.sample.Sample.{Sample}
@@ -22,7 +22,7 @@ use Rattle.xor_chunks.specs.Grammar.{IsText}
 use Rattle.block_writing.specs.Put.{PutChunk, PutSeries, Put}
 use Rattle.block_writing.specs.Writing.{plan_fields}
 use Rattle.block_writing.specs.Built.{IsPutAs}
-use Rattle.block_writing.proofs.OnePut.{put_once}
+use Rattle.block_writing.proofs.OnePut.{series_once as put_as_once}
 use Rattle.block_writing.proofs.DataLaws.{data_rise}
 use Rattle.block_laws.specs.PutContent.{IsSeriesOf, AreSeriesOf}
 use Rattle.block_laws.proofs.Content.{text_once}
@@ -32,7 +32,7 @@ use Rattle.block_merging.specs.MergedBlock.{has_labels, chunks_under, AreMerges,
 use Rattle.block_merging.proofs.Grouping.{same_labels}
 use Rattle.block_merging.proofs.OneMerge.{first_labels, one_triples}
 use Rattle.block_merging.proofs.OneCut.{IsTimed, runs_once, some_member}
-use Rattle.block_merging.proofs.SameLists.{same_lists, each_once}
+use Rattle.block_merging.proofs.SameLists.{each_once}
 use Rattle.block_merging.proofs.StoredInputs.{index_once, taken_stored}
 
 -- ---- samples
@@ -62,9 +62,6 @@ kept_once labels samples k l is too =
     let triples : triples_under k.labels k.samples ≡ triples_under l.labels l.samples = sym (one_triples k) ∙ one_kept (triples_under labels samples) (triples_of (k ∷ [])) (triples_of (l ∷ [])) is.first too.first ∙ one_triples l in
     let samples_are : k.samples ≡ l.samples = sym (samples_back k.labels k.samples) ∙ ap (map sample_of) triples ∙ samples_back l.labels l.samples in
     ap (λ (n : List Label). record { labels = n; samples = k.samples }) named ∙ ap (λ (n : List Sample). record { labels = l.labels; samples = n }) samples_are
-
-put_as_once : (series : Series) (p q : PutSeries) → IsPutAs series p → IsPutAs series q → p ≡ q
-put_as_once series p q is too = (cons_parts p q [] [] (put_once (series ∷ []) (p ∷ []) (q ∷ []) (is, tt) (too, tt))).0
 
 merged_once : (labels : List Label) (run made other : List PutChunk) → AreMerged labels run made → AreMerged labels run other → made ≡ other
 merged_once labels run made other is too =
@@ -118,7 +115,7 @@ module _ (all : List PutSeries) (timed : (s : PutSeries) (c : PutChunk) → Cont
 
   pub merges_once : (ps qs : List PutSeries) → AreMerges all ps → AreMerges all qs → ps ≡ qs
   merges_once ps qs is too =
-      same_lists compare_labels_of no_labels_turn ps qs
+      same_ascending compare_labels_of no_labels_turn ps qs
       (sorted_unmap compare_labels_of compare_sets (λ (m : PutSeries). m.labels) (λ x y less. less) ps is.ascend)
       (sorted_unmap compare_labels_of compare_sets (λ (m : PutSeries). m.labels) (λ x y less. less) qs too.ascend)
       (merged_in ps qs is too) (merged_in qs ps too is)

@@ -13,8 +13,9 @@ use Rattle.block_writing.proofs.Parts.{SoFar, none_yet, part_within, of_chunk, p
 use Rattle.list_core.proofs.Membership.{contains_first, each_member, contains_place, of_map, into_flat_map}
 use Rattle.list_core.proofs.Pairs.{AllZip-first}
 use Rattle.list_core.proofs.Lists.{last_or_none}
+use Rattle.list_core.specs.Lists.{joined}
 use Rattle.block_writing.proofs.PutLaws.{after_last, behind_last}
-use Rattle.block_merging.specs.Steps.{joined, HasParts}
+use Rattle.block_merging.specs.Steps.{HasParts}
 
 -- as if the series had these chunks alone
 abbrev pub with_only : Put → List PutChunk → Put

@@ -2,17 +2,19 @@
 use Rattle.std.proofs.Common.{◌≡◌, ℕ, ◌+◌, ◌<◌, List, [], ◌∷◌, ◌++◌, length, map, take, get_or, Result, Ok, Err, refl, sym, ap, subst, ◌∙◌, arith, append-nil}
 use Rattle.std.specs.Prelude.{OnOk}
 use Rattle.std.specs.List.{AllZip}
-use Rattle.std.proofs.lemmas.Grind.{flat_map-append}
 use Rattle.std.proofs.lemmas.List.{map-append, take_more}
 use Rattle.label_sets.specs.declared.label.Label.{Label}
 use Rattle.label_sets.specs.declared.sample.Sample.{Sample}
 use Rattle.xor_chunks.specs.Grammar.{IsText}
 use Rattle.block_writing.specs.Put.{PutChunk, Put, IsStored, IsAfterChunks, with_chunk}
 use Rattle.block_writing.proofs.PutLaws.{behind_last}
+use Rattle.block_writing.specs.Built.{StandsFor}
 use Rattle.block_merging.specs.declared.placed_chunk.PlacedChunk.{PlacedChunk}
 use Rattle.block_merging.specs.Placed.{placed_chunk}
-use Rattle.block_merging.specs.Steps.{StandsFor, joined, HasRun}
+use Rattle.block_merging.specs.Steps.{HasRun}
 use Rattle.list_core.proofs.Pairs.{AllZip-append}
+use Rattle.list_core.specs.Lists.{joined}
+use Rattle.list_core.proofs.Lists.{joined-push}
 
 pub alone_put : {U E : Type 0} (r : Result U E) (old new : Put) (labels : List Label) (chunk : PutChunk) → IsStored old.plan chunk
     → ((samples : List Sample) → IsText 8 chunk.content samples → OnOk r (new ≡ with_chunk old chunk (length samples))) → OnOk r (HasRun old labels (chunk ∷ []) new)
@@ -42,9 +44,6 @@ pub record Read (chunks : List PlacedChunk) (samples : List Sample) : Type 0 whe
 pub none_read : Read [] []
 none_read = record { parts = []; are = tt; whole = refl }
 
-pub flat_more : {A : Type 0} (parts : List (List A)) (part : List A) → joined (parts ++ part ∷ []) ≡ joined parts ++ part
-flat_more {A} parts part = flat_map-append (λ (p : List A). p) parts (part ∷ []) ∙ ap (λ (l : List A). joined parts ++ l) (append-nil part)
-
 pub read_more : (chunks : List PlacedChunk) (k : ℕ) (d : PlacedChunk) (samples new : List Sample) → k < length chunks → Read (take k chunks) samples
     → ((read : List Sample) × IsText 8 (get_or chunks k d).chunk.bytes.now read × (new ≡ samples ++ read)) → Read (take (k + 1) chunks) new
 read_more chunks k d samples new lt h (read, text, is) =
@@ -53,5 +52,5 @@ read_more chunks k d samples new lt h (read, text, is) =
     record {
       parts = h.parts ++ read ∷ [];
       are = subst (λ (l : List PutChunk). AllZip StandsFor l (h.parts ++ read ∷ [])) (sym mapped) (AllZip-append StandsFor (map placed_chunk (take k chunks)) (placed_chunk (get_or chunks k d) ∷ []) h.parts (read ∷ []) h.are (text, tt));
-      whole = is ∙ ap (λ (l : List Sample). l ++ read) h.whole ∙ sym (flat_more h.parts read);
+      whole = is ∙ ap (λ (l : List Sample). l ++ read) h.whole ∙ sym (joined-push h.parts read);
     }

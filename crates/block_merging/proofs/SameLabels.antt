@@ -9,7 +9,7 @@ use Rattle.std.proofs.lemmas.List.{take_more, take_all, length-map, length-take-
 use Rattle.list_core.proofs.Lists.{take_none}
 use Rattle.list_core.proofs.Bools.{Equal-from_is_eq}
 use Rattle.label_sets.specs.Labels.{compare_texts, compare_labels, compare_sets}
-use Rattle.vertical_merge.proofs.Orders.{same_set}
+use Rattle.label_sets.proofs.LabelValues.{same_set}
 use Rattle.index_v2.specs.declared.lent_label.LentLabel.{LentLabel}
 use Rattle.index_v2.specs.LentLabels.{as_label}
 

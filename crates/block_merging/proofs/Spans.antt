@@ -2,7 +2,7 @@
 use Rattle.std.proofs.Common.{◌≡◌, ◌≢◌, Bool, true, false, List, [], ◌∷◌, ◌++◌, map, refl, sym, ap, ◌∙◌, subst, arith, inl, inr, ℤ, append_assoc}
 use Rattle.std.specs.Prelude.{Any, Contains, int_le, ◌≤ℤ◌, ◌<ℤ◌}
 use Rattle.std.specs.Cmp.{IsStrictWeakOrder}
-use Rattle.std.specs.List.{AllByRecursion, AllPairs, filter, flat_map}
+use Rattle.std.specs.List.{AllByRecursion, AllPairs, filter}
 use Rattle.std.proofs.lemmas.Int.{ints, by_lt_z}
 use Rattle.std.proofs.lemmas.List.{append-nil, map-append}
 use Rattle.std.proofs.lemmas.List.Elements.{All-from_recursion, filter-append, Contains-append_left, Contains-append_right, Contains-append_cases}
@@ -12,6 +12,7 @@ use Rattle.list_core.specs.Ordered.{in_order}
 use Rattle.list_core.proofs.Lists.{AllByRecursion-append, AllByRecursion-weaker, filter-map, AllByRecursion-append_right}
 use Rattle.list_core.proofs.Membership.{no_member, contains_first, contains_later, each_member, all_members, of_in_order, into_in_order, of_map, into_map, filter_whole, filter_nothing}
 use Rattle.list_core.proofs.Integers.{le_itself}
+use Rattle.list_core.specs.Lists.{joined}
 use Rattle.block_writing.specs.Put.{PutChunk}
 use Rattle.block_merging.specs.Runs.{AreConnected, Span, lies_in, AreRuns}
 use Rattle.block_merging.specs.Steps.{EndBefore}
@@ -131,9 +132,6 @@ ends_begin chunks span x behind is begin before = between_ends is.last.max span.
 -- the run of a part: its chunks in the order in which they were given
 abbrev pub run_of : {A : Type 0} → (A → PutChunk) → (A → A → Bool) → List A → List PutChunk
 run_of of low part = map of (in_order low part)
-
-abbrev pub joined : {A : Type 0} → List (List A) → List A
-joined parts = flat_map (λ part. part) parts
 
 pub joined_more : {A : Type 0} (parts : List (List A)) (part left : List A) → joined (parts ++ part ∷ []) ++ left ≡ joined parts ++ (part ++ left)
 joined_more [] part left = ap (λ l. l ++ left) (append-nil part)

@@ -9,12 +9,11 @@ use Rattle.reading_core.specs.Grammar.{IsBytes}
 use Rattle.reading_core.proofs.Binds.{ok_is}
 use Rattle.wire_bytes.specs.Crc.{crc}
 use Rattle.wire_bytes.specs.FieldTexts.{IsFixed}
-use Rattle.wire_bytes.specs.Position.{Position, left, further}
+use Rattle.wire_bytes.specs.Position.{Position, left, further, start}
 use Rattle.wire_bytes.specs.Fields.{uvarint_at}
 use Rattle.wire_bytes.specs.declared.refusal.WireRefusal.{WireRefusal}
 use Rattle.wire_bytes.proofs.FieldLaws.{uvarint_again, left_after}
 use Rattle.chunk_files.specs.Chunk.{IsFront, IsPlace}
-use Rattle.chunk_files.specs.ChunkReading.{start}
 use Rattle.chunk_files.specs.Layout.{xor}
 use Rattle.chunk_files.proofs.ChunkLaws.{chunk_again, too_far}
 use Rattle.index_file.specs.declared.index_series.IndexSeries.{IndexSeries}

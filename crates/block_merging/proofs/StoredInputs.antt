@@ -5,6 +5,7 @@ use Rattle.std.specs.List.{AllByRecursion}
 use Rattle.std.proofs.lemmas.Int.{ints}
 use Rattle.std.proofs.lemmas.List.Elements.{Contains-append_cases}
 use Rattle.list_core.proofs.Membership.{no_member, contains_first, contains_later, each_member, all_members, of_map, of_flat_map, into_flat_map}
+use Rattle.list_core.specs.Lists.{joined}
 use Rattle.reading_core.specs.Grammar.{IsBytes}
 use Rattle.reading_core.proofs.Binds.{ok_is}
 use Rattle.label_sets.specs.declared.label.Label.{Label}
@@ -25,7 +26,6 @@ use Rattle.block_writing.proofs.Placed.{read_there}
 use Rattle.block_merging.specs.declared.series_queue.SeriesQueue.{SeriesQueue}
 use Rattle.block_merging.specs.Inputs.{LiesWithin, HasContent, AreTaken, taken}
 use Rattle.block_merging.proofs.SameLists.{zip_member}
-use Rattle.block_merging.specs.Steps.{joined}
 use Rattle.block_merging.specs.Queues.{chunks_of, lefts_in, HasQueues}
 use Rattle.block_merging.proofs.GroupsTaken.{member_alike}
 

@@ -9,26 +9,26 @@ use Rattle.std.proofs.lemmas.Grind.{flat_map-append}
 use Rattle.std.proofs.lemmas.List.{map-append, get_or-drop, get_or-take, drop-drop, length-take, length-drop, length-map, nil_from_length, take_all}
 use borrow.Author.Count.{below_more}
 use Rattle.list_core.specs.Ordered.{in_order}
-use Rattle.list_core.proofs.Lists.{drop_none}
+use Rattle.list_core.proofs.Lists.{drop_none, joined-push}
 use Rattle.list_core.proofs.Membership.{no_member, contains_first, contains_later, each_member, all_members, of_in_order, into_in_order, of_map, into_map}
 use Rattle.list_core.proofs.StableSorts.{NoneLess, Rises, Rises-in_order}
 use Rattle.list_core.proofs.Integers.{le_itself, lt_le}
 use Rattle.list_core.proofs.Pairs.{AllZip-append}
+use Rattle.list_core.specs.Lists.{joined}
 use Rattle.label_sets.specs.declared.label.Label.{Label}
 use Rattle.label_sets.specs.declared.sample.Sample.{Sample}
 use Rattle.block_meta.specs.Lawful.{AreLawfulTimes}
 use Rattle.block_writing.specs.Put.{PlanFields, PutChunk, PutSeries, Put, IsStored, IsAfterChunks, IsAfterSeries, fitted, with_series}
-use Rattle.block_writing.specs.Built.{IsEncoded}
+use Rattle.block_writing.specs.Built.{IsEncoded, StandsFor}
 use Rattle.block_writing.proofs.DataLaws.{data_rise}
 use Rattle.block_merging.specs.declared.input_chunk.InputChunk.{InputChunk}
 use Rattle.block_merging.specs.declared.placed_chunk.PlacedChunk.{PlacedChunk}
 use Rattle.block_merging.specs.Placed.{chunk_of, placed_chunk, placed_from, begins_before, stands_before, AreByBegin, IsFirstRun}
 use Rattle.block_merging.specs.Runs.{Meet, AreConnected, Span, lies_in, AreRuns}
 use Rattle.block_merging.specs.MergedSeries.{Becomes, HasMerged}
-use Rattle.block_merging.specs.Steps.{StandsFor, joined, run_in, HasRun, HasRuns, EndBefore, AreSwept, HasSwept}
+use Rattle.block_merging.specs.Steps.{run_in, HasRun, HasRuns, EndBefore, AreSwept, HasSwept}
 use Rattle.block_merging.proofs.Chains.{any_of, Chained, chained_crossed, connected_from}
 use Rattle.block_merging.proofs.PlacedOrders.{begins_ranked, stands_ranked, places_ascend, chunks_placed}
-use Rattle.block_merging.proofs.Putting.{flat_more}
 use Rattle.block_merging.proofs.Spans.{Swept, swept_runs, joined_more}
 
 get_same : (chunks : List PlacedChunk) (k : ℕ) (d e : PlacedChunk) → k < length chunks → get_or chunks k d ≡ get_or chunks k e
@@ -196,7 +196,7 @@ sweep_more begin now new labels sorted start n by h first has =
     let after : drop n left ≡ drop (start + n) sorted = drop-drop n start sorted in
     let split : part ++ drop (start + n) sorted ≡ left = ap (λ l. part ++ l) (sym after) ∙ take-append-drop n left in
     let ended : EndBefore (map placed_chunk part) (map placed_chunk (drop (start + n) sorted)) = subst (λ l. EndBefore (map placed_chunk part) (map placed_chunk l)) after (ended_apart left n (by_drop start sorted by) first) in
-    let made_is : joined (h.made ++ has.made ∷ []) ≡ joined h.made ++ has.made = flat_more h.made has.made in
+    let made_is : joined (h.made ++ has.made ∷ []) ≡ joined h.made ++ has.made = joined-push h.made has.made in
     let parts_are : joined (h.parts ++ has.parts) ≡ joined h.parts ++ joined has.parts = flat_map-append (λ (p : List Sample). p) h.parts has.parts in
     record {
       within = omega (arith, h.within, first.within, length-drop start sorted);

@@ -9,8 +9,10 @@ use Rattle.index_parts.specs.declared.toc.Toc.{Toc}
 use Rattle.index_parts.specs.ContentsReading.{toc_at}
 use Rattle.index_parts.specs.SymbolsReading.{symbols_at}
 use Rattle.index_parts.specs.RowsReading.{postings_table_at}
+use Rattle.index_parts.specs.Contents.{contents_size}
 use Rattle.index_slices.specs.Parts.{known}
 use Rattle.index_file.specs.declared.index_series.IndexSeries.{IndexSeries}
+use Rattle.index_file.specs.IndexFile.{least_size}
 use Rattle.index_v2.specs.Opening.{opened_at}
 use Rattle.index_v2.specs.PostingsLists.{list_of}
 use Rattle.index_v2.specs.WholeReading.{lists_at}
@@ -19,7 +21,7 @@ use Rattle.series_selection.specs.Selections.{rows_read}
 use Rattle.reading_core.specs.Firsts.{each_at}
 use Rattle.read_ranges.specs.OneCut.{one_cut}
 use Rattle.read_ranges.specs.OneSet.{one_selection}
-use Rattle.read_ranges.specs.IndexRanges.{Run, least_size, has_bytes, has_sections, Follows, AreRuns, run_of}
+use Rattle.read_ranges.specs.IndexRanges.{Run, has_bytes, has_sections, Follows, AreRuns, run_of}
 use Rattle.read_ranges.specs.Reads.{Query, Block, Cache, damaged, Reached, if_read}
 use Rattle.read_ranges.specs.IndexReads.{Tables, tables_of, IsTakenBy, Goes, reached, part_at, selects, falls_back, after_runs, after_sections, after_contents, after_whole, by_size}
 use Rattle.chunk_ranges.specs.BlockReads.{BlockEnd, breaks_off, block_call}
@@ -75,10 +77,10 @@ module _ (asked : Asked) where
   begins_by cache size is = subst (λ (s : Option ℕ). Keeps (by_size breaks_off Q B size Next cache) (by_size breaks_off Q B s Next cache)) is (keeps_all (by_size breaks_off Q B size Next cache))
 
   pub sized_contents : (cache : Cache) (size : ℕ) → 57 ≤ size → Keeps (contents_left asked size cache) (by_size breaks_off Q B (Some size) Next cache)
-  sized_contents cache size long = keeps_true (nat_le least_size size) (contents_left asked size cache) (whole_left asked cache) (le-leb 57 size long)
+  sized_contents cache size long = keeps_true (nat_le least_size size) (contents_left asked size cache) (whole_left asked cache) (le-leb least_size size long)
 
   pub sized_whole : (cache : Cache) (size : ℕ) → size < 57 → Keeps (whole_left asked cache) (by_size breaks_off Q B (Some size) Next cache)
-  sized_whole cache size small = keeps_false (nat_le least_size size) (contents_left asked size cache) (whole_left asked cache) (lt-leb 57 size small)
+  sized_whole cache size small = keeps_false (nat_le least_size size) (contents_left asked size cache) (whole_left asked cache) (lt-leb least_size size small)
 
   -- ---- the table of contents
 
@@ -86,16 +88,16 @@ module _ (asked : Asked) where
       → Keeps (range_left asked (symbols_piece places) (reached seq cache) (with_symbols asked places)) (after_contents breaks_off Q B size Next cache seq bytes)
   contents_read places size cache seq bytes (long, read, same, has) =
       subst (λ n. Keeps (range_left asked (symbols_piece places) (reached seq cache) (with_symbols asked places)) (after_contents breaks_off Q B n Next cache seq bytes)) same
-      (chooses (length bytes == 52) _ _ _ ((Decides-eqb (length bytes) 52).1 long)
+      (chooses (length bytes == contents_size) _ _ _ ((Decides-eqb (length bytes) contents_size).1 long)
       (reads_on (toc_at bytes) places.toc _ _ _ read
       (keeps_true (has_sections places.toc places.size) _ _ (subst (λ n. has_sections places.toc n ≡ true) (sym same) has))))
 
   pub contents_refused : (size : ℕ) (cache : Cache) (seq : ℕ) (bytes : List ℕ) → FindsSections size bytes None
       → Keeps (whole_left asked cache) (after_contents breaks_off Q B size Next cache seq bytes)
-  contents_refused size cache seq bytes (inl unlike) = keeps_false (length bytes == 52) _ _ unlike
-  contents_refused size cache seq bytes (inr (inl refused)) = either (length bytes == 52) _ _ (keeps_refused (toc_at bytes) _ _ refused)
+  contents_refused size cache seq bytes (inl unlike) = keeps_false (length bytes == contents_size) _ _ unlike
+  contents_refused size cache seq bytes (inr (inl refused)) = either (length bytes == contents_size) _ _ (keeps_refused (toc_at bytes) _ _ refused)
   contents_refused size cache seq bytes (inr (inr (toc, read, has))) =
-      either (length bytes == 52) _ _ (reads_on (toc_at bytes) toc _ _ (whole_left asked cache) read (keeps_false (has_sections toc size) _ (whole_left asked cache) has))
+      either (length bytes == contents_size) _ _ (reads_on (toc_at bytes) toc _ _ (whole_left asked cache) read (keeps_false (has_sections toc size) _ (whole_left asked cache) has))
 
   -- ---- the symbols and the postings table
 

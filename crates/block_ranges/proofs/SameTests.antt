@@ -1,21 +1,16 @@
 -- The order of chunk places does not matter to the tests of their chunks.
-use Rattle.std.proofs.Common.{◌≡◌, ℕ, Bool, true, false, List, Result, Ok, Err, refl, sym, ap, ◌==◌}
+use Rattle.std.proofs.Common.{◌≡◌, ℕ, Bool, true, List, Result, Ok, Err, refl, ap, ◌==◌}
 use Rattle.std.specs.List.{filter, list_all}
 use Rattle.std.specs.List.Sorted.{IsPermutation}
 use Rattle.std.proofs.lemmas.List.Sorted.{Contains-permutation, IsPermutation-sym}
 use Rattle.list_core.proofs.Membership.{of_filter, into_filter, member_passes, all_at_member, all_of_members}
+use Rattle.list_core.proofs.Bools.{equal_tests}
 use Rattle.reading_core.specs.Reading.{◌>>=◌, ◌>>◌, unless}
 use Rattle.label_sets.specs.declared.sample.Sample.{Sample}
 use Rattle.index_parts.specs.declared.chunk_place.ChunkPlace.{ChunkPlace}
 use Rattle.index_parts.specs.SeriesEntry.{reference_of}
 use Rattle.read_ranges.specs.Reads.{Block}
 use Rattle.chunk_ranges.specs.ChunkReads.{is_chunk_of, stored_at, chunk_samples_at, places_at, tests_at}
-
-equal_tests : (a b : Bool) → (a ≡ true → b ≡ true) → (b ≡ true → a ≡ true) → a ≡ b
-equal_tests true true on back = refl
-equal_tests true false on back = sym (on refl)
-equal_tests false true on back = back refl
-equal_tests false false on back = refl
 
 all_again : {A : Type 0} (p q : A → Bool) (xs ys : List A) → IsPermutation xs ys → list_all p (filter q xs) ≡ true → list_all p (filter q ys) ≡ true
 all_again p q xs ys same are = all_of_members p (filter q ys) (λ x within.

@@ -8,7 +8,7 @@ use Rattle.std.proofs.lemmas.List.Sums.{sum_by-append}
 use Rattle.std.proofs.lemmas.Option.{slice_get-map, slice_get_within}
 use Rattle.list_core.proofs.Lists.{slice_get-take}
 use Rattle.list_core.proofs.Order.{Less-at_places}
-use Rattle.list_core.proofs.Pairs.{AllZip-append}
+use Rattle.list_core.proofs.Pairs.{AllZip-append, AllZip-as_long}
 use Rattle.label_sets.specs.Counts.{sample_count}
 use Rattle.label_sets.specs.Labels.{compare_sets}
 use Rattle.label_sets.specs.declared.label.Label.{Label}
@@ -37,12 +37,6 @@ each_got R (x ∷ xs) [] k y each at = absurd each
 each_got {A} {B} R (x ∷ xs) (z ∷ ys) zero y each at = (x, refl, subst (R x) (same_some z y at) each.0)
 each_got R (x ∷ xs) (z ∷ ys) (suc k) y each at = each_got R xs ys k y each.1 at
 
-each_length : {A B : Type 0} (R : A → B → Type 0) (xs : List A) (ys : List B) → AllZip R xs ys → length xs ≡ length ys
-each_length R [] [] each = refl
-each_length R [] (y ∷ ys) each = absurd each
-each_length R (x ∷ xs) [] each = absurd each
-each_length R (x ∷ xs) (y ∷ ys) each = ap suc (each_length R xs ys each.1)
-
 all_at : {A : Type 0} (P : A → Type 0) (xs : List A) (k : ℕ) (x d : A) → AllByRecursion P xs → k < length xs → x ≡ get_or xs k d → P x
 all_at P [] k x d all within at = absurd (omega (arith, within))
 all_at P (y ∷ xs) zero x d all within at = subst P (sym at) all.0
@@ -65,7 +59,7 @@ of_times plan series now lawful h = subst (λ (p : PlanFields). AreLawfulTimes p
 pub after_series : (plan : PlanFields) (series : List Series) (k : ℕ) (one d : Series) (now : Put) → IsStrictlySortedBy compare_sets (map (λ (s : Series). s.labels) series) → k < length series → one ≡ get_or series k d → IsPutOf plan (take k series) now → IsAfterSeries now.series one.labels
 after_series plan series k one d now ascend within at h last there =
     let got = each_got IsPutAs (take k series) now.series (length now.series - 1) last h.series_are there in
-    let size : length now.series ≡ k = sym (each_length IsPutAs (take k series) now.series h.series_are) ∙ omega (arith, within, length-take k series) in
+    let size : length now.series ≡ k = sym (AllZip-as_long IsPutAs (take k series) now.series h.series_are) ∙ omega (arith, within, length-take k series) in
     let below : length now.series - 1 < k = omega (arith, size, slice_get_within now.series (length now.series - 1) last there) in
     let before : slice_get series (length now.series - 1) ≡ Some got.0 = slice_get-take series k (length now.series - 1) got.0 got.1 in
     let one_there : slice_get series k ≡ Some one = got_at series k one d within at in

@@ -7,11 +7,10 @@ use Rattle.std.specs.Ordering.{int_cmp}
 use Rattle.std.specs.List.{flat_map, AllZip}
 use Rattle.std.specs.List.Sorted.{IsStrictlySortedBy}
 use Rattle.std.proofs.lemmas.Cmp.{int_ranked}
-use Rattle.std.proofs.lemmas.Grind.{flat_map-append}
-use Rattle.std.proofs.lemmas.List.{map-append, length-map, length-take, length-drop, append-nil}
+use Rattle.std.proofs.lemmas.List.{map-append, length-map, length-take, length-drop}
 use Rattle.std.specs.List.{AllByRecursion}
 use Rattle.std.proofs.lemmas.List.Elements.{All-from_recursion}
-use Rattle.list_core.proofs.Lists.{AllByRecursion-weaker, last_or_none, AllByRecursion-append_right}
+use Rattle.list_core.proofs.Lists.{AllByRecursion-weaker, last_or_none, AllByRecursion-append_right, joined-push, pushed_not_nil}
 use Rattle.list_core.proofs.Order.{Less-at_places, sorted_left, sorted_right}
 use Rattle.list_core.proofs.Pairs.{AllZip-append}
 use Rattle.reading_core.specs.Grammar.{IsBytes}
@@ -22,8 +21,8 @@ use Rattle.xor_chunks.specs.Grammar.{IsText}
 use Rattle.block_meta.specs.Lawful.{AreLawfulTimes}
 use Rattle.xor_chunks.specs.Written.{written, IsChunkTime, AreOfChunk}
 use Rattle.block_writing.specs.Put.{PlanFields, PutChunk, Put, IsWithin, IsStored, IsAfterChunks, fitted, with_chunk}
-use Rattle.block_writing.specs.Built.{IsPart, IsEncoded, AreOfBlock, BeginAfter}
-use Rattle.block_writing.proofs.Runs.{some_last, order_more}
+use Rattle.block_writing.specs.Built.{IsPart, IsEncoded, AreOfBlock, BeginAfter, StandsFor}
+use Rattle.block_writing.proofs.Runs.{order_more}
 use Rattle.block_writing.proofs.Lists.{pushed_parts, all_left}
 use Rattle.block_writing.proofs.PutLaws.{behind_last}
 
@@ -96,7 +95,7 @@ none_yet begin samples are none counted = record {
   parts = [];
   whole = refl;
   cut = tt;
-  full = λ front last some e. absurd (some_last front last (sym e));
+  full = λ front last some e. absurd (pushed_not_nil front last (sym e));
   chunks = subst (AllZip IsEncoded []) (sym none) tt;
   behind = λ time at. subst (λ (l : List PutChunk). IsAfterChunks l time) (sym none) tt;
   plan_is = refl;
@@ -145,9 +144,6 @@ cut_more parts part cut some few full = elim (last_or_none parts) [
   | inr (front, last, e) ↦ subst (λ (l : List (List Sample)). InOrder IsPart (l ++ part ∷ [])) (sym e) (order_more IsPart front None last part (subst (InOrder IsPart) e cut) (full front last e, some, few))
 ]
 
-flat_more : (parts : List (List Sample)) (part : List Sample) → flat_map (λ p. p) (parts ++ part ∷ []) ≡ flat_map (λ p. p) parts ++ part
-flat_more parts part = flat_map-append (λ (p : List Sample). p) parts (part ∷ []) ∙ ap (λ (l : List Sample). flat_map (λ p. p) parts ++ l) (append-nil part)
-
 pub part_more : (begin : Put) (samples left part after : List Sample) (now new : Put) (k : ℕ) → SoFar begin samples left now → 0 < length left → k ≡ min (length left) 120 → part ≡ take k left → after ≡ drop k left
     → ((chunk : PutChunk) × IsEncoded part chunk × (new ≡ with_chunk now chunk (length part))) → SoFar begin samples after new
 part_more begin samples left part after now new k h some few part_is after_is (chunk, coded, new_is) =
@@ -160,14 +156,14 @@ part_more begin samples left part after now new k h some few part_is after_is (c
     let chunks_are : now.chunks ++ chunk ∷ [] ≡ new.chunks = sym (ap (λ (p : Put). p.chunks) new_is) in
     record {
       parts = h.parts ++ part ∷ [];
-      whole = ap (λ (l : List Sample). l ++ after) (flat_more h.parts part) ∙ append_assoc (flat_map (λ p. p) h.parts) part after ∙ ap (λ (l : List Sample). flat_map (λ p. p) h.parts ++ l) whole ∙ h.whole;
+      whole = ap (λ (l : List Sample). l ++ after) (joined-push h.parts part) ∙ append_assoc (flat_map (λ p. p) h.parts) part after ∙ ap (λ (l : List Sample). flat_map (λ p. p) h.parts ++ l) whole ∙ h.whole;
       cut = cut_more h.parts part h.cut many most (λ front last e. h.full front last some e);
       full = λ front last more e. ap length (sym (pushed_parts h.parts front part last e).1) ∙ omega (arith, size, few, more, ap length after_is, length-drop k left);
       chunks = subst (AllZip IsEncoded (h.parts ++ part ∷ [])) chunks_are (AllZip-append IsEncoded h.parts (part ∷ []) now.chunks (chunk ∷ []) h.chunks (coded, tt));
       behind = λ time at. subst (λ (l : List PutChunk). IsAfterChunks l time) chunks_are (behind_last now.chunks chunk time (ends_before part after chunk time many coded ascend at));
       plan_is = ap (λ (p : Put). p.plan) new_is ∙ h.plan_is;
       series_is = ap (λ (p : Put). p.series) new_is ∙ h.series_is;
-      samples_is = omega (arith, ap (λ (p : Put). p.samples) new_is, h.samples_is, ap length (flat_more h.parts part), length-append (flat_map (λ p. p) h.parts) part);
+      samples_is = omega (arith, ap (λ (p : Put). p.samples) new_is, h.samples_is, ap length (joined-push h.parts part), length-append (flat_map (λ p. p) h.parts) part);
       ascend = sorted_right int_cmp (times part) (times after) ascend;
       within = AllByRecursion-append_right (IsWithin begin.plan) part after (subst (AllByRecursion (IsWithin begin.plan)) (sym whole) h.within);
     }
@@ -182,3 +178,9 @@ no_parts (p ∷ parts) (c ∷ chunks) each none = absurd cc
 pub has_chunks : (begin : Put) (samples left : List Sample) (now : Put) → SoFar begin samples left now → length left ≡ 0 → AreOfBlock begin.plan samples → now.chunks ≡ [] → ⊥
 has_chunks begin samples left now h none are empty =
     absurd (omega (arith, none, are.some, ap length h.whole, length-append (flat_map (λ p. p) h.parts) left, ap length (no_parts h.parts now.chunks h.chunks empty)))
+
+pub texts_of : (parts : List (List Sample)) (chunks : List PutChunk) → AllZip IsEncoded parts chunks → AllZip StandsFor chunks parts
+texts_of [] [] each = tt
+texts_of [] (c ∷ chunks) each = absurd each
+texts_of (p ∷ parts) [] each = absurd each
+texts_of (p ∷ parts) (c ∷ chunks) each = (stored_text c.content p each.0.text_is, texts_of parts chunks each.1)

@@ -15,12 +15,6 @@ use Rattle.chunk_files.specs.declared.segment_refusal.SegmentRefusal.TheVariants
 use Rattle.block_writing.specs.declared.segment_place.SegmentPlace.{SegmentPlace}
 use Rattle.block_writing.specs.Segments.{segment_text, Begins, AreRuns, offsets_behind, place_in, places_from, AreSegments}
 
--- ---- the last member
-
-pub some_last : {A : Type 0} (front : List A) (last : A) → front ++ last ∷ [] ≡ [] → ⊥
-some_last [] last e = absurd cc
-some_last (x ∷ front) last e = absurd cc
-
 -- ---- one chunk more in a run
 
 pub text_more : (run : List (List ℕ)) (content : List ℕ) → segment_text (run ++ content ∷ []) ≡ segment_text run ++ frame_text content

@@ -1,5 +1,6 @@
 -- Which seats are those of compactions, and when a read at one comes too late.
 use Rattle.list_core.proofs.Membership.{any_of_member, member_of_any}
+use Rattle.list_core.proofs.Bools.{same-from_is_eq}
 use Rattle.std.proofs.Common.{◌≡◌, ◌⊎◌, inl, inr, ℕ, ◌+◌, ◌&&◌, ◌||◌, true, false, List, [], ◌∷◌, length, Option, Some, None, refl, sym, ◌∙◌, ap, subst, arith}
 use Rattle.std.specs.Prelude.{◌/◌, option_map, slice_get}
 use Rattle.std.specs.BTreeSet.{BTreeSet, contains}
@@ -27,7 +28,7 @@ use Rattle.breach_finding.specs.Tables.{AreCompactors, CompactsBefore, compacts_
 use Rattle.breach_finding.specs.Told.{IsTold}
 use Rattle.breach_finding.specs.Views.{IsCompactionAnswer, IsViewAnswer}
 use Rattle.breach_finding.specs.Walks.{setting_with}
-use Rattle.breach_finding.proofs.SeatTables.{num_itself, num_same}
+use Rattle.breach_finding.proofs.SeatTables.{num_itself}
 
 -- ---- the seats
 
@@ -87,7 +88,7 @@ module _ (script : Script) (shelf : ℕ → FromShelf) (seat : ℕ) where
         number = number;
         worker = by.0;
         works = by.1;
-        sits = num_same (by.0).seat seat both.0;
+        sits = same-from_is_eq (by.0).seat seat both.0;
         place = at.0;
         own = at.1;
         stop = work.0;

@@ -8,8 +8,9 @@ use Rattle.world_core.specs.declared.entry.Entry.{Entry}
 use Rattle.world_core.specs.Journals.{of_seat}
 use Rattle.breach_finding.specs.Tables.{Numbers}
 use Rattle.breach_finding.proofs.Compactors.{moment_of_first}
-use Rattle.breach_finding.proofs.SeatTables.{num_itself, num_same}
+use Rattle.breach_finding.proofs.SeatTables.{num_itself}
 use Rattle.breach_finding.proofs.WalkSteps.{other_more, seat_more}
+use Rattle.list_core.proofs.Bools.{same-from_is_eq}
 
 -- what follows the first entry does not change it
 first_stays : (own : List Entry) (e : Entry) → is_some (moment_of_first own) ≡ true → moment_of_first (own ++ e ∷ []) ≡ moment_of_first own
@@ -33,7 +34,7 @@ module _ (front : List Entry) (e : Entry) where
     -- the seat has a first entry already
     pub first_kept : is_some (get nat_cmp old e.seat) ≡ true → (seat : ℕ) → get nat_cmp old seat ≡ moment_of_first (of_seat seat (front ++ e ∷ []))
     first_kept some seat = elim (cases_Bool (is_eq (nat_cmp e.seat seat))) [
-      | inl same ↦ subst (λ (n : ℕ). get nat_cmp old n ≡ moment_of_first (of_seat n (front ++ e ∷ []))) (num_same e.seat seat same)
+      | inl same ↦ subst (λ (n : ℕ). get nat_cmp old n ≡ moment_of_first (of_seat n (front ++ e ∷ []))) (same-from_is_eq e.seat seat same)
           (known e.seat ∙ sym (ap moment_of_first (seat_more front e) ∙ first_stays (of_seat e.seat front) e (sym (ap is_some (known e.seat)) ∙ some)))
       | inr other ↦ known seat ∙ sym (elsewhere seat other)
     ]
@@ -42,7 +43,7 @@ module _ (front : List Entry) (e : Entry) where
     pub first_added : (new : Numbers) → is_some (get nat_cmp old e.seat) ≡ false → ((q : ℕ) → get nat_cmp new q ≡ cond (is_eq (nat_cmp e.seat q)) (Some e.moment.ms) (get nat_cmp old q))
         → (seat : ℕ) → get nat_cmp new seat ≡ moment_of_first (of_seat seat (front ++ e ∷ []))
     first_added new none updates seat = elim (cases_Bool (is_eq (nat_cmp e.seat seat))) [
-      | inl same ↦ subst (λ (n : ℕ). get nat_cmp new n ≡ moment_of_first (of_seat n (front ++ e ∷ []))) (num_same e.seat seat same)
+      | inl same ↦ subst (λ (n : ℕ). get nat_cmp new n ≡ moment_of_first (of_seat n (front ++ e ∷ []))) (same-from_is_eq e.seat seat same)
           (updates e.seat ∙ ap (λ b. cond b (Some e.moment.ms) (get nat_cmp old e.seat)) (num_itself e.seat e.seat refl)
           ∙ sym (ap moment_of_first (seat_more front e) ∙ first_is (of_seat e.seat front) e (sym (ap is_some (known e.seat)) ∙ none)))
       | inr other ↦ updates seat ∙ ap (λ b. cond b (Some e.moment.ms) (get nat_cmp old seat)) other ∙ known seat ∙ sym (elsewhere seat other)

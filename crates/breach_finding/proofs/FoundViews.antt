@@ -1,6 +1,6 @@
 -- What a sync reads of blocks are found blocks, and so each sync that comes to sightings gives a view.
-use Rattle.std.proofs.Common.{◌≡◌, inl, inr, ℕ, zero, suc, ◌+◌, ◌<◌, ◌≤◌, ◌==◌, Bool, true, false, cond, List, [], ◌∷◌, ◌++◌, length, Option, Some, None, Result, Ok, Err, refl, sym, ◌∙◌, ap, subst, arith}
-use Rattle.std.specs.Prelude.{map, option_map, slice_index}
+use Rattle.std.proofs.Common.{◌≡◌, inl, inr, ℕ, zero, suc, ◌+◌, ◌<◌, ◌≤◌, List, [], ◌∷◌, ◌++◌, length, Option, Some, None, refl, sym, ◌∙◌, ap, subst, arith}
+use Rattle.std.specs.Prelude.{map, option_map}
 use Rattle.std.specs.List.{AllAdjacentBelow}
 use Rattle.std.specs.List.Sorted.{IsNonDecreasingBy, IsStrictlyIncreasing}
 use Rattle.std.proofs.lemmas.List.{map-append}
@@ -8,10 +8,9 @@ use Rattle.std.proofs.lemmas.List.Sorted.{IsNonDecreasingBy-from_all_adjacent}
 use Rattle.block_meta.specs.MetaFields.{MarkFields, MetaFields, fields_of, mark_fields_of}
 use Rattle.block_meta.specs.MetaReading.{mark_of_text, meta_of_text}
 use Rattle.block_meta.specs.MetaText.{IsMarkText, IsMetaText}
-use Rattle.block_meta.specs.OfBlocks.{block_mark, block_meta, named_mark, named_meta}
+use Rattle.block_meta.specs.OfBlocks.{block_mark, block_meta}
 use Rattle.block_meta.specs.declared.deletion_mark.DeletionMark.{DeletionMark}
 use Rattle.block_meta.specs.declared.meta.Meta.{Meta}
-use Rattle.block_meta.specs.declared.refusal.MetaRefusal.{MetaRefusal}
 use Rattle.block_meta.proofs.FoundTexts.{mark_text_found, meta_text_found}
 use Rattle.moment_core.specs.declared.moment.Moment.{Moment}
 use Rattle.world_core.specs.Plans.{Runs}
@@ -25,24 +24,11 @@ use Rattle.meta_fetcher.specs.declared.rules.SyncRules.{SyncRules}
 use Rattle.meta_fetcher.specs.declared.view.View.{View}
 use Rattle.meta_fetcher.proofs.Ascending.{blocks_of, covered_ascend, kept_ascend, sighted_ascend, sync_ascends}
 use Rattle.meta_fetcher.proofs.SyncLaws.{KeptByPages, KeptByReads, TellsMark, sighting_at, told}
+use Rattle.list_core.proofs.Rising.{rest_rises}
+use Rattle.lifecycle_core.proofs.blocks.NewMetas.{meta_read}
+use Rattle.lifecycle_core.proofs.marks.Looks.{mark_read}
 
 -- ---- what is read is a meta, and a mark
-
-the_meta : (own meta : MetaFields) (test : Bool) → cond test (Some own) None ≡ Some meta → ◌≡◌ {A = Result MetaFields MetaRefusal} (Ok own) (Ok meta)
-the_meta own meta true is = ap Ok (cc (is))
-the_meta own meta false is = absurd (cc (is))
-
-meta_read : (ulid : ℕ) (r : Result MetaFields MetaRefusal) (meta : MetaFields) → named_meta ulid r ≡ Some meta → r ≡ Ok meta
-meta_read ulid (Ok own) meta is = the_meta own meta (own.ulid == ulid) is
-meta_read ulid (Err refusal) meta is = absurd (cc (is))
-
-the_mark : (own mark : MarkFields) (test : Bool) → cond test (Some own) None ≡ Some mark → ◌≡◌ {A = Result MarkFields MetaRefusal} (Ok own) (Ok mark)
-the_mark own mark true is = ap Ok (cc (is))
-the_mark own mark false is = absurd (cc (is))
-
-mark_read : (ulid : ℕ) (r : Result MarkFields MetaRefusal) (mark : MarkFields) → named_mark ulid r ≡ Some mark → r ≡ Ok mark
-mark_read ulid (Ok own) mark is = the_mark own mark (own.id == ulid) is
-mark_read ulid (Err refusal) mark is = absurd (cc (is))
 
 sources_rise : (meta : MetaFields) (bytes : List ℕ) → IsMetaText bytes meta → IsStrictlyIncreasing meta.sources
 sources_rise meta bytes is = elim (is.is.compaction.2.sources) [
@@ -139,18 +125,13 @@ found_all rules entries sightings course run =
 
 -- ---- and gives a view
 
-tail_ascends : (x : ℕ) (xs : List ℕ) → IsStrictlyIncreasing (x ∷ xs) → IsStrictlyIncreasing xs
-tail_ascends x xs up k more =
-    let e : suc k + 1 ≡ suc (k + 1) = omega arith in
-    subst (λ (n : ℕ). slice_index (x ∷ xs) (suc k) < slice_index (x ∷ xs) n) e (up (suc k) (omega (arith, more)))
-
 adjacent : (found : List Found) → IsStrictlyIncreasing (blocks_of found) → AllAdjacentBelow (λ (one other : Found). one.ulid ≤ other.ulid) found (length found)
 adjacent [] up k d less = absurd (omega (arith, less))
 adjacent (block ∷ []) up k d less = absurd (omega (arith, less))
 adjacent (block ∷ next ∷ found) up zero d less = let first : block.ulid < next.ulid = up 0 (omega arith) in omega (arith, first)
 adjacent (block ∷ next ∷ found) up (suc k) d less =
     let e : suc k + 1 ≡ suc (k + 1) = omega arith in
-    rw e (adjacent (next ∷ found) (tail_ascends block.ulid (blocks_of (next ∷ found)) up) k d (omega (arith, less)))
+    rw e (adjacent (next ∷ found) (rest_rises block.ulid (blocks_of (next ∷ found)) up) k d (omega (arith, less)))
 
 ascend_rise : (found : List Found) → IsStrictlyIncreasing (blocks_of found) → IsNonDecreasingBy (λ (b : Found). b.ulid) found
 ascend_rise found up = IsNonDecreasingBy-from_all_adjacent (λ (b : Found). b.ulid) found (adjacent found up)

@@ -1,7 +1,6 @@
 -- One rule more is asked of an entry.
-use Rattle.std.proofs.Common.{◌≡◌, ◌⊎◌, inl, inr, ℕ, ◌+◌, ◌<◌, ◌≤◌, true, false, Option, Some, None, refl, sym, ap, subst, arith}
+use Rattle.std.proofs.Common.{◌≡◌, inl, inr, ℕ, ◌+◌, ◌<◌, ◌≤◌, true, false, Option, Some, None, refl, sym, ap, subst, arith}
 use Rattle.std.specs.Prelude.{is_some}
-use Rattle.std.proofs.lemmas.Bool.{cases_lt}
 use Rattle.lifecycle_core.specs.Breaches.{Rule, honesty, mark_time, rank, upload_time}
 use Rattle.lifecycle_core.proofs.journals.OneBreach.{same_rule}
 use Rattle.breach_finding.specs.Judging.{IsJudged, refusal_of}
@@ -10,14 +9,12 @@ use Rattle.breach_finding.specs.Walks.{rule_of}
 use Rattle.breach_finding.specs.declared.found.BreachRule.{BreachRule}
 use Rattle.breach_finding.specs.declared.found.BreachRule.TheVariants as found
 use Rattle.breach_finding.specs.declared.found.Refusal.{Refusal}
-
-up_to : (n below : ℕ) → n < below + 1 → (n < below) ⊎ (n ≡ below)
-up_to n below less = elim (cases_lt n below) [ inl under ↦ inl under | inr over ↦ inr (omega (arith, less, over)) ]
+use Rattle.list_core.proofs.Numbers.{last_or_below}
 
 module _ (Refuses : Rule → ℕ → ℕ → Type 0) (below : ℕ) (rule : BreachRule) (is : rank (rule_of rule) ≡ below) (none : (other : Rule) (x y : ℕ) → rank other < below → Refuses other x y → ⊥) where
   -- where those of lower ranks do not refuse the entry, and of this one it is told
   pub judged_next : (told : Option (ℕ × ℕ)) → IsTold (Refuses (rule_of rule)) told → IsJudged Refuses (below + 1) (refusal_of rule told)
-  judged_next None not = λ other x y less refuses. elim (up_to (rank other) below less) [
+  judged_next None not = λ other x y less refuses. elim (last_or_below (rank other) below less) [
     | inl under ↦ none other x y under refuses
     | inr same ↦ not x y (subst (λ (r : Rule). Refuses r x y) (same_rule other (rule_of rule) (same_to (rank other) same)) refuses)
   ]

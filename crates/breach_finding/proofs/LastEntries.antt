@@ -1,5 +1,6 @@
 -- Which entry of a seat is its last one.
 use Rattle.list_core.proofs.Membership.{contains_first, contains_later}
+use Rattle.list_core.proofs.Bools.{same-from_is_eq}
 use Rattle.std.proofs.Common.{◌≡◌, ◌≢◌, inl, inr, ℕ, ◌<◌, ◌≤◌, ◌==◌, Bool, true, false, cond, List, [], ◌∷◌, ◌++◌, Contains, Option, Some, None, refl, sym, ◌∙◌, ap, subst, arith}
 use Rattle.std.specs.Prelude.{option_map}
 use Rattle.std.specs.BTreeMap.{get}
@@ -13,7 +14,7 @@ use Rattle.lifecycle_core.proofs.journals.Positions.{filtered}
 use Rattle.lifecycle_core.proofs.journals.Told.{Rises}
 use Rattle.lifecycle_core.proofs.phases.TasksMade.{rises_filter, rises_right}
 use Rattle.breach_finding.specs.Tables.{Numbers}
-use Rattle.breach_finding.proofs.SeatTables.{num_itself, num_same}
+use Rattle.breach_finding.proofs.SeatTables.{num_itself}
 use Rattle.breach_finding.proofs.WalkSteps.{other_more, seat_more}
 
 last_added : (entries : List Entry) (e : Entry) (o : Option Entry) → last_or o (entries ++ e ∷ []) ≡ Some e
@@ -36,7 +37,7 @@ module _ (old new : Numbers) (front : List Entry) (e : Entry) (updates : (q : �
 
   pub last_more : (seat : ℕ) → get nat_cmp new seat ≡ number_of_last (of_seat seat (front ++ e ∷ []))
   last_more seat = elim (cases_Bool (is_eq (nat_cmp e.seat seat))) [
-    | inl same ↦ subst (λ (n : ℕ). get nat_cmp new n ≡ number_of_last (of_seat n (front ++ e ∷ []))) (num_same e.seat seat same) own_last
+    | inl same ↦ subst (λ (n : ℕ). get nat_cmp new n ≡ number_of_last (of_seat n (front ++ e ∷ []))) (same-from_is_eq e.seat seat same) own_last
     | inr other ↦
         updates seat ∙ ap (λ b. cond b (Some e.seq) (get nat_cmp old seat)) other ∙ known seat
         ∙ sym (ap number_of_last (other_more front e seat (not_same seat other (e.seat == seat) refl)))

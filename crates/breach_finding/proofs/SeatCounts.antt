@@ -1,5 +1,5 @@
 -- How many seats are taken behind a phase.
-use Rattle.std.proofs.Common.{◌≡◌, ℕ, zero, suc, ◌+◌, ◌-◌, ◌^◌, ◌<◌, List, [], ◌∷◌, length, take, Some, refl, sym, ◌∙◌, ap, arith}
+use Rattle.std.proofs.Common.{◌≡◌, ℕ, zero, suc, ◌+◌, ◌-◌, ◌^◌, ◌<◌, List, [], ◌∷◌, length, Some, refl, sym, ◌∙◌, ap, arith}
 use Rattle.std.specs.Prelude.{min, slice_get}
 use Rattle.script_core.specs.Workers.{seats_before, workers_after, workers_of}
 use Rattle.script_core.specs.declared.script.Script.{Script}
@@ -7,14 +7,11 @@ use Rattle.script_workers.specs.Hands.{gateway_count, seats_after, seats_from}
 use Rattle.script_workers.specs.declared.phase.Phase.{Phase}
 use Rattle.script_workers.specs.declared.worker.Worker.{Worker}
 use Rattle.lifecycle_core.proofs.phases.NextSeats.{seats_behind}
-
-taken_none : (phases : List Phase) → take 0 phases ≡ []
-taken_none [] = refl
-taken_none (p ∷ ps) = refl
+use Rattle.list_core.proofs.Lists.{take_none}
 
 pub seats_first : (script : Script) → 0 ≡ seats_before script 0
 unfolding seats_from
-seats_first script = sym (ap (seats_from (gateway_count script.gateways) 0) (taken_none script.phases))
+seats_first script = sym (ap (seats_from (gateway_count script.gateways) 0) (take_none script.phases))
 
 -- the seats before the next phase
 pub seats_next : (script : Script) (place : ℕ) (phase : Phase) (before count after : ℕ) → slice_get script.phases place ≡ Some phase → before ≡ seats_before script place

@@ -5,22 +5,13 @@ use Rattle.std.specs.BTreeMap.{BTreeMap, IsEmpty, get}
 use Rattle.std.specs.Map.{lookup}
 use Rattle.std.specs.Ordering.{is_eq, nat_cmp}
 use Rattle.std.proofs.lemmas.Bool.{cases_lt}
-use Rattle.list_core.proofs.Bools.{nat_cmp-Equal, nat_cmp-Greater, nat_cmp-Less}
+use Rattle.list_core.proofs.Bools.{nat_cmp-Equal, same-from_is_eq}
 use Rattle.script_core.specs.declared.script.Script.{Script}
 use Rattle.script_core.specs.Lawful.{IsLawfulScript}
 use Rattle.script_core.specs.Workers.{workers_of}
 use Rattle.script_workers.specs.declared.worker.Worker.{Worker}
 use Rattle.lifecycle_core.proofs.phases.OneSeat.{one_worker}
 use Rattle.breach_finding.specs.Tables.{AreAdded, AreSeatsOf, Numbers, SitsBefore, gateway_or, seated}
-
-pub num_same : (m n : ℕ) → is_eq (nat_cmp m n) ≡ true → m ≡ n
-num_same m n is = elim (cases_lt m n) [
-  | inl less ↦ cc (is, ap is_eq (nat_cmp-Less m n less))
-  | inr most ↦ elim (cases_lt n m) [
-    | inl greater ↦ cc (is, ap is_eq (nat_cmp-Greater m n greater))
-    | inr least ↦ omega (arith, most, least)
-  ]
-]
 
 pub num_itself : (m n : ℕ) → m ≡ n → is_eq (nat_cmp m n) ≡ true
 num_itself m n same = ap (λ k. is_eq (nat_cmp m k)) (sym same) ∙ ap is_eq (nat_cmp-Equal m)
@@ -34,7 +25,7 @@ among_later w workers gateway seat (worker, among, is, sits) = (worker, contains
 
 own_or : (w : Worker) (o was : Option ℕ) (b : Bool) (seat gateway : ℕ) → w.gateway ≡ o → is_eq (nat_cmp w.seat seat) ≡ b → gateway_or o b was ≡ Some gateway → ((w.gateway ≡ Some gateway) × (w.seat ≡ seat)) ⊎ (was ≡ Some gateway)
 own_or w None was b seat gateway is test found = inr found
-own_or w (Some g) was true seat gateway is test found = inl (is ∙ found, num_same w.seat seat test)
+own_or w (Some g) was true seat gateway is test found = inl (is ∙ found, same-from_is_eq w.seat seat test)
 own_or w (Some g) was false seat gateway is test found = inr found
 
 seated_found : (workers : List Worker) (seat gateway : ℕ) (was : Option ℕ) → seated workers seat was ≡ Some gateway → SitsAmong workers gateway seat ⊎ (was ≡ Some gateway)
@@ -53,7 +44,7 @@ IsSole workers seat gateway = (w : Worker) (other : ℕ) → Contains workers w 
 
 kept_or : (w : Worker) (o : Option ℕ) (b : Bool) (seat gateway : ℕ) → w.gateway ≡ o → is_eq (nat_cmp w.seat seat) ≡ b → ((other : ℕ) → w.seat ≡ seat → w.gateway ≡ Some other → other ≡ gateway) → gateway_or o b (Some gateway) ≡ Some gateway
 kept_or w None b seat gateway is test sole = refl
-kept_or w (Some g) true seat gateway is test sole = ap Some (sole g (num_same w.seat seat test) is)
+kept_or w (Some g) true seat gateway is test sole = ap Some (sole g (same-from_is_eq w.seat seat test) is)
 kept_or w (Some g) false seat gateway is test sole = refl
 
 later_sole : (w : Worker) (workers : List Worker) (seat gateway : ℕ) → IsSole (w ∷ workers) seat gateway → IsSole workers seat gateway

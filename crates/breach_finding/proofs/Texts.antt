@@ -1,8 +1,7 @@
 -- The first place in which texts differ.
-use Rattle.std.proofs.Common.{◌≡◌, ◌≢◌, ◌⊎◌, inl, inr, ℕ, zero, suc, true, ◌+◌, ◌<◌, ◌≤◌, List, [], ◌∷◌, ◌++◌, take, drop, length, Option, Some, None, Result, Ok, Err, sym, ◌∙◌, ap, subst, arith}
+use Rattle.std.proofs.Common.{◌≡◌, ◌≢◌, ◌⊎◌, inl, inr, ℕ, zero, suc, true, ◌+◌, ◌<◌, ◌≤◌, List, [], ◌∷◌, ◌++◌, take, drop, length, Option, Some, None, sym, ◌∙◌, ap, subst, arith}
 use Rattle.std.proofs.lemmas.List.{take-append-drop}
 use Rattle.std.proofs.lemmas.Slice.Eq.{bytes_eq-Decides}
-use Rattle.std.specs.Prelude.{IfOk}
 use Rattle.std.specs.Str.{bytes_eq}
 use Rattle.world_core.specs.declared.reply.Reply.{Reply}
 use Rattle.world_core.specs.declared.reply.Reply.TheVariants.{Found, Names}
@@ -54,11 +53,6 @@ ends_apart m n count x y within also (inr is) apart byte end byte' end' same =
     let y_is : y ≡ 256 = end' (omega (arith, is)) in
     let x_is : x < 256 = byte (let not : m ≢ count = λ e. apart (e ∙ sym is) in omega (arith, within, not)) in
     omega (arith, x_is, y_is, same)
-
--- what holds of a result holds if more holds
-pub if_ok : {A E : Type 0} (P Q : A → Type 0) (r : Result A E) → IfOk r P → ((x : A) → P x → Q x) → IfOk r Q
-if_ok P Q (Ok x) is more = more x is
-if_ok P Q (Err e) is more = is
 
 pub shown_found : (reply : Reply) (bytes owed : List ℕ) (told : Option (ℕ × ℕ)) → reply ≡ Found bytes → IsDifference bytes owed told → IsShownWrong (shown_by reply) (70 ∷ owed) told
 shown_found reply bytes owed told is differ = subst (λ r. IsShownWrong (shown_by r) (70 ∷ owed) told) (sym is) (behind_letter 70 bytes owed told differ)

@@ -27,10 +27,11 @@ use Rattle.breach_finding.specs.declared.watching.Came.{Came}
 use Rattle.breach_finding.specs.declared.watching.Came.TheVariants as came
 use Rattle.breach_finding.specs.declared.watching.Told.{Told}
 use Rattle.lifecycle_core.proofs.views.OneOpening.{AllList}
-use Rattle.breach_finding.proofs.SeatTables.{num_itself, num_same}
+use Rattle.breach_finding.proofs.SeatTables.{num_itself}
 use Rattle.breach_finding.proofs.SeatTurns.{last_split}
 use Rattle.breach_finding.proofs.SyncTimes.{ends_here, is_sync}
 use Rattle.breach_finding.proofs.ViewTimes.{NoViewEnds, view_given, view_stays}
+use Rattle.list_core.proofs.Bools.{same-from_is_eq}
 
 -- who makes the last entry of a gateway's sync sits at one of its seats
 pub sits_last : (setting : Setting) (journal : List Entry) (e : Entry) (gateway : ℕ) (entries made : List Entry) (end : Option SyncEnd) → IsSyncIn setting journal gateway entries end → entries ≡ made ++ e ∷ [] → IsSeatOf setting gateway e.seat
@@ -130,7 +131,7 @@ module _ (setting : Setting) (lawful : IsLawfulScript setting.script) (journal b
   -- each gateway has the view that the entry gave it, or the one that it had
   pub views_on : (told : Option Told) → Own told → (other : ℕ) (was : Option ℕ) → IsLastView setting journal other e.seq was → IsLastView setting journal other (e.seq + 1) (gateway_or (given_by told) (is_eq (nat_cmp gateway other)) was)
   views_on told own other was last = elim (cases_Bool (is_eq (nat_cmp gateway other))) [
-    | inl same ↦ (let is : gateway ≡ other = num_same gateway other same in
+    | inl same ↦ (let is : gateway ≡ other = same-from_is_eq gateway other same in
         subst (λ b. IsLastView setting journal other (e.seq + 1) (gateway_or (given_by told) b was)) (sym same)
         (subst (λ (g : ℕ). IsLastView setting journal g (e.seq + 1) (gateway_or (given_by told) true was)) is (by_given told own was (subst (λ (g : ℕ). IsLastView setting journal g e.seq was) (sym is) last))))
     | inr differs ↦

@@ -5,6 +5,7 @@ use Rattle.std.specs.Ordering.{is_eq, nat_cmp}
 use Rattle.std.proofs.lemmas.Bool.{cases_Bool, eqb-true, eq-eqb}
 use Rattle.std.proofs.lemmas.List.Elements.{filter-append}
 use Rattle.list_core.proofs.Lists.{filter_hit, filter_miss}
+use Rattle.list_core.proofs.Bools.{same-from_is_eq}
 use Rattle.world_core.specs.Journals.{Each, of_seat}
 use Rattle.world_core.specs.declared.entry.Entry.{Entry}
 use Rattle.lifecycle_core.specs.Breaches.{IsKept, IsSeatOf}
@@ -16,7 +17,7 @@ use Rattle.breach_finding.specs.Walks.{UnderWays}
 use Rattle.breach_finding.specs.Watching.{IsWaiting}
 use Rattle.breach_finding.specs.declared.watching.Told.{Told}
 use Rattle.lifecycle_core.proofs.views.OneOpening.{AllList}
-use Rattle.breach_finding.proofs.SeatTables.{num_itself, num_same}
+use Rattle.breach_finding.proofs.SeatTables.{num_itself}
 use Rattle.breach_finding.proofs.SeatTurns.{last_split, seat_step}
 
 -- ---- a seat's entries with one entry more
@@ -82,7 +83,7 @@ module _ (setting : Setting) (before : List Entry) (e : Entry) (old new : UnderW
 
     pub watched_on : AreWatched (before ++ e ∷ []) new
     watched_on other seat sits' = elim (cases_Bool (is_eq (nat_cmp e.seat seat))) [
-      | inl same ↦ (let own : e.seat ≡ seat = num_same e.seat seat same in
+      | inl same ↦ (let own : e.seat ≡ seat = same-from_is_eq e.seat seat same in
           subst (λ (n : ℕ). IsWatched (sync_rules setting other) (of_seat n (before ++ e ∷ [])) (get nat_cmp new n)) own (at_own other (subst (IsSeatOf setting other) (sym own) sits')))
       | inr differs ↦ (let past : get nat_cmp new seat ≡ get nat_cmp old seat = w.seats seat ∙ ap (λ b. cond b w.turn.under (get nat_cmp old seat)) differs in
           subst (λ (es : List Entry). IsWatched (sync_rules setting other) es (get nat_cmp new seat)) (sym (other_more before e seat (apart seat differs (e.seat == seat) refl)))

@@ -2,6 +2,6 @@ mod AtPlace
 mod Edits
 mod PageOf
 mod Names
-mod Order
+pub mod Order
 mod Picks
 mod Places

@@ -1,19 +1,16 @@
 -- The names of keys.
-use Rattle.std.proofs.Common.{◌≡◌, ℕ, ◌+◌, true, cond, List, [], ◌∷◌, ◌++◌, length, drop, refl, sym, ◌∙◌, ap, inl, inr, ◌≢◌, Option, Some, None, option_map}
+use Rattle.std.proofs.Common.{◌≡◌, ℕ, ◌+◌, cond, List, [], ◌∷◌, ◌++◌, length, drop, refl, sym, ◌∙◌, ap, inl, inr, ◌≢◌, Option, Some, None, option_map}
 use Rattle.std.specs.Option.{MatchOption, option_and_then}
 use Rattle.std.specs.Str.Pattern.{FindsTextPrefix, LacksTextAt}
-use Rattle.std.proofs.lemmas.Bool.{eqb-true, eq-eqb, cases_Bool}
-use Rattle.std.specs.Bool.{◌==◌}
+use Rattle.std.proofs.lemmas.Bool.{eqb-true, cases_Bool}
 use denote.Ref.{Bor}
 use Rattle.bucket_core.specs.Stored.{text_after}
-
-eq_self : (n : ℕ) → (n == n) ≡ true
-eq_self n = eq-eqb n n refl
+use Rattle.list_core.proofs.Numbers.{equals_itself}
 
 -- what follows a text is found
 pub text_after-append : (p rest : List ℕ) → text_after p (p ++ rest) ≡ Some rest
 text_after-append [] _ = refl
-text_after-append (b ∷ p) rest = ap (λ t. cond t (text_after p (p ++ rest)) None) (eq_self b) ∙ text_after-append p _
+text_after-append (b ∷ p) rest = ap (λ t. cond t (text_after p (p ++ rest)) None) (equals_itself b) ∙ text_after-append p _
 
 -- and what is found follows it
 pub append-text_after : (p text rest : List ℕ) → text_after p text ≡ Some rest → text ≡ p ++ rest

@@ -9,7 +9,7 @@ use Rattle.reading_core.specs.Reading.{◌>>◌, unless, refused_as, Answers}
 use Rattle.reading_core.specs.Grammar.{IsBytes, HasFront}
 use Rattle.reading_core.proofs.Fronts.{IsBytes-after, IsBytes-drop}
 use Rattle.reading_core.proofs.Binds.{bind_ok, unless_ok, refused_as_ok, ok_is, then_ok, unless_is}
-use Rattle.wire_bytes.specs.Position.{left, further}
+use Rattle.wire_bytes.specs.Position.{left, further, start}
 use Rattle.wire_bytes.specs.Fields.{number_at, uvarint_at, bytes_at, groups_of}
 use Rattle.wire_bytes.specs.FieldTexts.{IsFixed, IsUvarint}
 use Rattle.wire_bytes.specs.Crc.{crc}
@@ -20,7 +20,7 @@ use Rattle.chunk_files.specs.declared.refusal.ChunkRefusal.{ChunkRefusal}
 use Rattle.chunk_files.specs.declared.refusal.ChunkRefusal.TheVariants.{BadMagic, BadVersion, Short, Histogram, UnknownEncoding}
 use Rattle.chunk_files.specs.Layout.{magic, version, header_size, xor, histogram, float_histogram}
 use Rattle.chunk_files.specs.Chunk.{IsChunk, IsFront, IsSegment, IsPlace}
-use Rattle.chunk_files.specs.ChunkReading.{start, as_short, header_at, by_encoding, chunk_at, segment_at}
+use Rattle.chunk_files.specs.ChunkReading.{as_short, header_at, by_encoding, chunk_at, segment_at}
 
 -- the encoding of XOR data, and no other
 xor_cases : (b d : Bool) (bytes content : List ℕ) (one other : ChunkRefusal) → cond b (Ok bytes) (cond d (Err one) (Err other)) ≡ Ok content → (b ≡ true) × (bytes ≡ content)

@@ -14,6 +14,7 @@ use Rattle.chunk_ranges.specs.ChunkReads.{is_chunk_of, stored_at, chunk_samples_
 use Rattle.read_ranges.specs.Findings.{ReadsBehind}
 use Rattle.chunk_ranges.proofs.OneChunk.{no_data, stored}
 use Rattle.read_ranges.proofs.Readings.{err_of}
+use Rattle.list_core.proofs.Bools.{not_both}
 
 -- ---- its data
 
@@ -22,12 +23,9 @@ pub data_behind : (front all : List Sample) (bytes content : List ℕ) → chunk
 data_behind front all bytes content is so =
     let p = parts_of_whole front all (data_at 8 content) so in (p.0, stored bytes content p.0 is p.1, p.2)
 
-wanting : (wants : Bool) → wants ≡ true → wants ≡ false → ⊥
-wanting wants t f = absurd (cc (t, f))
-
 pub data_stops : (front : List Sample) (bytes content : List ℕ) (e : XorRefusal) (wants : Bool) → chunk_at bytes ≡ Ok content → (wants ≡ true) ↔ (e ≡ xor.NoMemory) → wants ≡ false
     → (e ≡ xor.NoMemory) ⊎ (with_samples front (data_at 8 content) ≡ Err e) → IsErr (stored_at bytes)
-data_stops front bytes content e wants is told not_so (inl none) = absurd (wanting wants (told.1 none) not_so)
+data_stops front bytes content e wants is told not_so (inl none) = absurd (not_both wants (told.1 none) not_so)
 data_stops front bytes content e wants is told not_so (inr so) = no_data bytes content e is (refused_alone front (data_at 8 content) e so)
 
 -- ---- its places

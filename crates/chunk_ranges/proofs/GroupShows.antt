@@ -4,6 +4,7 @@ use Rattle.std.specs.Prelude.{zip, IsErr, IfOk, nat_le}
 use Rattle.std.specs.Result.{result_ok}
 use Rattle.std.proofs.lemmas.List.{take_more, map_push, nil_from_length}
 use Rattle.std.proofs.lemmas.Bool.Decides.{nat_tests}
+use Rattle.std.proofs.lemmas.Bool.{le-leb}
 use Rattle.reading_core.specs.Firsts.{each_at}
 use Rattle.reading_core.proofs.FirstLaws.{each_many}
 use Rattle.list_core.specs.declared.memory.NoMemory.{NoMemory}
@@ -112,9 +113,6 @@ some_read (Err e) len is = absurd (cc (is))
 is_out : (a b : ℕ) → b < a → nat_le a b ≡ false
 is_out a b less = grind (arith, nat_tests)
 
-is_within : (a b : ℕ) → a ≤ b → nat_le a b ≡ true
-is_within a b le = grind (arith, nat_tests)
-
 module _ (tests : Tests) (group : Group) (bytes : List ℕ) (reference : ℕ) where
   abbrev Seen : Result Glimpse (Unit {0})
   Seen = glimpse_at tests group bytes reference
@@ -167,5 +165,5 @@ module _ (tests : Tests) (group : Group) (bytes : List ℕ) (reference : ℕ) wh
           → IfOk r (ShowsOne before reference (glimpse true (tests reference cut) 0)) → IfOk r (ShowsOne before reference Seen)
       within_measured before cut (Err none) within is shows_so = tt
       within_measured before cut (Ok found) within is shows_so =
-          shows_there before found len length_is (ap (λ (n : ℕ). nat_le n group.piece.len) end_is ∙ is_within (at + len) group.piece.len within)
+          shows_there before found len length_is (ap (λ (n : ℕ). nat_le n group.piece.len) end_is ∙ le-leb (at + len) group.piece.len within)
           (subst (λ (l : List ℕ). ShowsOne before reference (glimpse true (tests reference l) 0) found) (is ∙ ap (λ (n : ℕ). drop n bytes) there) shows_so)

@@ -23,7 +23,7 @@ use Rattle.cleaner.specs.declared.walk.Walk.{Walk}
 use Rattle.cleaner.specs.declared.clean.Clean.{Clean}
 use Rattle.cleaner.specs.declared.clean_end.CleanEnd.{CleanEnd}
 use Rattle.cleaner.specs.declared.clean_end.CleanEnd.TheVariants.{Done, Fault, Damaged, TooMany}
-use Rattle.world_core.proofs.PageNames.{ulids_in-append, length-ulids_in}
+use Rattle.world_core.proofs.PageNames.{length-ulids_in, all_wait}
 use Rattle.world_core.proofs.LeadSteps.{ended}
 use Rattle.cleaner.proofs.Steps.{leads_as}
 use Rattle.cleaner.proofs.Walked.{followed, page_follows, page_came, page_failed, WalksOn, walks_on}
@@ -41,9 +41,6 @@ module _ (c : Clean) (seat : ℕ) (o : Op) (seen : Seen) where
   blocks_failed landed is = λ names more blocks. page_failed c.rules.page_limit seen.seq names (λ all. looking c.rules none_deleted (ulids_in all)) (listing c.rules more) seen.reply landed is
 
 -- ---- its names
-
-all_wait : (before : List ℕ) (page names : List (List ℕ)) (waiting : List ℕ) → waiting ≡ before ++ ulids_in page → ulids_in names ≡ before → waiting ≡ ulids_in (names ++ page)
-all_wait before page names waiting added listed = added ∙ ap (λ l. l ++ ulids_in page) (sym listed) ∙ sym (ulids_in-append names page)
 
 module _ (c : Clean) (seq : ℕ) (page : List (List ℕ)) where
   by_kind : (kind : Page) (entries : List Entry) (end : Option CleanEnd) → kind ≡ page_of c.rules.page_limit c.walk.listed c.walk.last page

@@ -27,7 +27,6 @@ use Rattle.script_core.specs.Spelling as spelling
 use Rattle.script_core.specs.declared.block.Block.{Block}
 use Rattle.script_core.specs.declared.body.Body.TheVariants.{Inline}
 use Rattle.script_core.specs.declared.script.Script.{Script}
-use Rattle.script_core.proofs.LineTools.{no_end}
 use Rattle.script_core.proofs.SampleSigns.{all_joined, all_weaker}
 use Rattle.script_core.proofs.Kept.{declares-append}
 use Rattle.generated_day.specs.Day.{all_blocks_text, all_series_text, block_line, block_start, block_text, blocks_at, external_text, setup_text, times_text, ulid_of}
@@ -35,6 +34,7 @@ use Rattle.generated_day.proofs.DayNumbers.{decimal_short, near_by}
 use Rattle.generated_day.proofs.DaySeries.{all_short, all_tell, first_series, two_named, with_first}
 use Rattle.generated_day.proofs.Tells.{Tells, digit_prints, in_range, is_print, speaks, tells_both, tells_line, tells_nothing}
 use Rattle.list_core.proofs.Bools.{or_true}
+use Rattle.list_core.proofs.Lists.{pushed_not_nil}
 
 -- ---- numbers
 
@@ -113,7 +113,7 @@ abbrev pub with_blocks : List Block → Bool → SoFar
 with_blocks blocks in_block = record { script = setup blocks; in_block = in_block }
 
 none_ended : HasEnded []
-none_ended others block is = absurd (no_end others block (sym is))
+none_ended others block is = absurd (pushed_not_nil others block (sym is))
 
 pub setup_tells : Tells nothing 1 setup_text (with_blocks [] false) 4
 unfolding setup_text is_name
@@ -160,11 +160,6 @@ none_ready = record {
   fresh = λ block replica later two. refl;
   there = λ block replica before two. absurd (omega (arith, before));
 }
-
-or_false : (a b : Bool) → (a || (b || false)) ≡ (a || b)
-or_false true b = refl
-or_false false true = refl
-or_false false false = refl
 
 -- a later block has a greater ULID
 greater : (block replica later other : ℕ) → 2 * block + replica < 2 * later + other → other < 2 → ulid_of block replica < ulid_of later other

@@ -31,7 +31,6 @@ use Rattle.std.specs.Str.{bytes_eq}
 use Rattle.std.specs.Prelude.{position}
 use Rattle.label_sets.specs.Notation.{is_name}
 use Rattle.script_core.proofs.Kept.{works_of-append}
-use Rattle.script_core.proofs.LineTools.{no_end}
 use Rattle.script_core.proofs.SampleSigns.{all_joined}
 use Rattle.script_core.proofs.SpelledValues.{agree_spelled}
 use Rattle.generated_day.specs.Day.{at_line, ulid_of, upload_line}
@@ -39,6 +38,7 @@ use Rattle.generated_day.proofs.DayNumbers.{decimal_short}
 use Rattle.generated_day.proofs.DayBlocks.{Ready, day_gateways, day_rules, decimal_field, digits_print, is_ulid, setup, time_text, ulid_prints}
 use Rattle.generated_day.proofs.Tells.{Tells, is_print, speaks, tells_line}
 use Rattle.list_core.proofs.Bools.{or_true}
+use Rattle.list_core.proofs.Lists.{pushed_not_nil}
 
 -- ---- moments
 
@@ -65,7 +65,7 @@ pub record Stands (phases : List Phase) (moment tasks : ℕ) : Type 0 where
   pub few : length (works_of phases) ≤ tasks
 
 pub none_stand : Stands [] 0 0
-none_stand = record { not_late = λ others last is. absurd (no_end others last (sym is)); few = omega arith }
+none_stand = record { not_late = λ others last is. absurd (pushed_not_nil others last (sym is)); few = omega arith }
 
 works_more : (phases : List Phase) (phase : Phase) → length (works_of (phases ++ phase ∷ [])) ≡ length (works_of phases) + length phase.tasks
 works_more phases phase =

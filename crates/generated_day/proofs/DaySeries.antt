@@ -1,6 +1,6 @@
 -- The series lines of a block of the generated day.
-use Rattle.std.proofs.Common.{◌≡◌, ◌≢◌, ℕ, zero, suc, ◌+◌, ◌*◌, ◌<◌, ◌≤◌, pos, Bool, true, false, ◌&&◌, List, [], ◌∷◌, ◌++◌, length, map, All, refl, sym, ap, ◌∙◌, subst, arith, codes, append-nil, append_assoc}
-use Rattle.std.specs.List.{list_all, flat_map, range_with_len, join_with_byte}
+use Rattle.std.proofs.Common.{◌≡◌, ◌≢◌, ℕ, zero, suc, ◌+◌, ◌*◌, ◌<◌, ◌≤◌, pos, Bool, true, false, ◌&&◌, List, [], ◌∷◌, ◌++◌, length, map, All, refl, sym, ap, subst, arith, codes, append-nil}
+use Rattle.std.specs.List.{list_all, flat_map, range_with_len}
 use Rattle.std.specs.List.Sorted.{IsStrictlySortedBy}
 use Rattle.std.specs.Ordering.{is_lt}
 use Rattle.std.specs.Str.{bytes_eq}
@@ -27,6 +27,7 @@ use Rattle.script_core.specs.declared.script.Script.{Script}
 use Rattle.script_core.proofs.LawfulParts.{above_all}
 use Rattle.script_core.proofs.SampleSigns.{all_joined, is_sign, sample_fields, samples_all, sign_is_ascii, sign_not_newline}
 use Rattle.script_core.proofs.SpelledValues.{rise_spelled}
+use Rattle.script_core.proofs.SeriesParts.{front_joined}
 use Rattle.generated_day.specs.Day.{block_start, labels_text, two_digits, series_line, all_series_text, samples_text}
 use Rattle.generated_day.proofs.DaySamples.{all_samples, have_fields, lie_within, their_text_is_short, they_are_some, they_rise}
 use Rattle.generated_day.proofs.Tells.{Tells, in_range, is_print, print_line, print_utf8, speaks, tells_both, tells_line, tells_nothing}
@@ -91,22 +92,6 @@ sorted_from from (suc (suc count)) few =
 -- ---- a line
 
 -- the texts of samples with a space between each and the next
-abbrev joined : List Sample → List ℕ
-joined samples = join_with_byte 32 (map sample_text samples)
-
-samples_joined : (sample : Sample) (samples : List Sample) → flat_map spaced_sample_text (sample ∷ samples) ≡ 32 ∷ joined (sample ∷ samples)
-unfolding spaced_sample_text
-samples_joined sample [] = ap (λ text. 32 ∷ text) (append-nil (sample_text sample))
-samples_joined sample (next ∷ samples) =
-    ap (λ text. 32 ∷ (sample_text sample ++ text)) (samples_joined next samples)
-
-front_joined : (text : List ℕ) (samples : List Sample) → samples ≢ [] → series_front text samples ≡ codes "series" ++ 32 ∷ (text ++ 32 ∷ joined samples)
-unfolding series_front
-front_joined text [] some = absurd (some refl)
-front_joined text (sample ∷ samples) some =
-    append_assoc (codes "series ") text (flat_map spaced_sample_text (sample ∷ samples))
-    ∙ ap (λ t. codes "series " ++ (text ++ t)) (samples_joined sample samples)
-
 some_texts : (samples : List Sample) → samples ≢ [] → map sample_text samples ≢ []
 some_texts [] some none = some refl
 some_texts (sample ∷ samples) some none = absurd cc

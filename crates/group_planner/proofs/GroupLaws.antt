@@ -1,19 +1,16 @@
 -- What was cut are the groups, and there are no others.
 use Rattle.std.proofs.Common.{◌≡◌, ◌≢◌, ℕ, Bool, true, false, cond, List, [], ◌∷◌, ◌++◌, map, append-nil, refl, sym, ap, subst, ◌∙◌, inl, inr, Less}
 use Rattle.std.specs.Prelude.{Contains, IfOk, Result, Ok, Err}
-use Rattle.std.specs.Cmp.{IsTotalOrder}
-use Rattle.std.specs.declared.cmp.Ordering.{Ordering}
-use Rattle.std.specs.declared.cmp.Ordering.TheVariants.{Equal}
 use Rattle.std.specs.List.{filter, flat_map}
 use Rattle.std.specs.List.Sorted.{IsStrictlySortedBy, IsPermutation, IsStableBy, ties}
 use Rattle.std.specs.Ordering.{is_eq, ordering_reverse}
-use Rattle.std.proofs.lemmas.Cmp.{tied_itself}
 use Rattle.std.proofs.lemmas.Map.Keys.{sorted_head, sorted_tail}
 use Rattle.std.proofs.lemmas.List.Sorted.{IsPermutation-sym, Contains-permutation}
 use Rattle.list_core.specs.Ordered.{in_order}
 use Rattle.list_core.specs.declared.memory.NoMemory.{NoMemory}
 use Rattle.list_core.proofs.Lists.{cons_same, filter-map}
 use Rattle.list_core.proofs.Membership.{each_member, member_cases, contains_first, contains_later, no_member, into_map, of_map, into_flat_map, of_flat_map, of_in_order, into_in_order, filter_whole, filter_nothing}
+use Rattle.list_core.proofs.SameMembers.{same_members}
 use Rattle.block_meta.specs.declared.meta.Meta.{Meta}
 use Rattle.group_planner.specs.Groups.{Key, compare_keys, key_of, has_key, group_of, comes_before, AreGroups}
 use Rattle.group_planner.specs.Cuts.{key_of_group, key_of_keyed, keyed_of, with_key, has_lesser_key, IsCut}
@@ -22,43 +19,9 @@ use Rattle.group_planner.specs.declared.keyed.Keyed.{Keyed}
 use Rattle.group_planner.proofs.KeptOrder.{kept_in_order}
 use Rattle.group_planner.proofs.KeyOrders.{keys_total, members_ranked, key_itself, tied_key}
 
--- ---- ascending lists of the same members are one list
-
-module _ {A : Type 0} (cmp : A → A → Ordering) (total : IsTotalOrder cmp) where
-  no_circle : (x y : A) → cmp x y ≡ Less → cmp y x ≡ Less → ⊥
-  no_circle x y e f = absurd (let h : Less ≡ Equal = sym (total.trans x y x e f) ∙ tied_itself total x in cc)
-
-  above : (x y : A) (xs : List A) → IsStrictlySortedBy cmp (x ∷ xs) → Contains xs y → cmp x y ≡ Less
-  above x y xs up among = each_member (λ z. cmp x z ≡ Less) xs y (sorted_head cmp x xs up) among
-
-  same_first : (x y : A) (xs ys : List A) → IsStrictlySortedBy cmp (x ∷ xs) → IsStrictlySortedBy cmp (y ∷ ys) → Contains (y ∷ ys) x → Contains (x ∷ xs) y → x ≡ y
-  same_first x y xs ys up rise there back = elim (member_cases y x ys there) [
-    | inl same ↦ sym same
-    | inr later ↦ elim (member_cases x y xs back) [
-      | inl same ↦ same
-      | inr behind ↦ absurd (no_circle x y (above x y xs up behind) (above y x ys rise later))
-    ]
-  ]
-
-  behind_first : (x y z : A) (xs ys : List A) → IsStrictlySortedBy cmp (x ∷ xs) → x ≡ y → Contains xs z → Contains (y ∷ ys) z → Contains ys z
-  behind_first x y z xs ys up same among there = elim (member_cases y z ys there) [
-    | inl is ↦ absurd (let less : cmp x x ≡ Less = subst (λ w. cmp x w ≡ Less) (sym (same ∙ is)) (above x z xs up among) in no_circle x x less less)
-    | inr later ↦ later
-  ]
-
-  pub same_ascending : (xs ys : List A) → IsStrictlySortedBy cmp xs → IsStrictlySortedBy cmp ys → ((z : A) → Contains xs z → Contains ys z) → ((z : A) → Contains ys z → Contains xs z) → xs ≡ ys
-  same_ascending [] [] up rise there back = refl
-  same_ascending [] (y ∷ ys) up rise there back = absurd (no_member y (back y (contains_first y ys)))
-  same_ascending (x ∷ xs) [] up rise there back = absurd (no_member x (there x (contains_first x xs)))
-  same_ascending (x ∷ xs) (y ∷ ys) up rise there back =
-      let first : x ≡ y = same_first x y xs ys up rise (there x (contains_first x xs)) (back y (contains_first y ys)) in
-      cons_same x y xs ys first (same_ascending xs ys (sorted_tail cmp x xs up) (sorted_tail cmp y ys rise)
-      (λ z among. behind_first x y z xs ys up first among (there z (contains_later x z xs among)))
-      (λ z among. behind_first y x z ys xs rise (sym first) among (back z (contains_later y z ys among))))
-
 pub one_answer : (replicas : List (List ℕ)) (metas : List Meta) (one other : List Group) → AreGroups replicas metas one → AreGroups replicas metas other → one ≡ other
 one_answer replicas metas one other is are =
-    is.are ∙ ap (map (group_of replicas metas)) (same_ascending compare_keys keys_total is.keys are.keys is.ascending are.ascending
+    is.are ∙ ap (map (group_of replicas metas)) (same_members keys_total is.keys are.keys is.ascending are.ascending
     (λ key among. (are.theirs key).1 ((is.theirs key).0 among)) (λ key among. (is.theirs key).1 ((are.theirs key).0 among)))
     ∙ sym are.are
 

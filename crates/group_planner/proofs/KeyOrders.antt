@@ -1,18 +1,19 @@
 -- The orders of keys and of members, and the labels of a key.
-use Rattle.std.proofs.Common.{◌≡◌, ℕ, ℤ, Bool, true, false, ◌&&◌, not, List, [], ◌∷◌, refl, sym, ap, ◌∙◌}
+use Rattle.std.proofs.Common.{◌≡◌, ℕ, Bool, true, false, ◌&&◌, not, List, [], refl, sym, ap, ◌∙◌}
 use Rattle.std.specs.declared.cmp.Ordering.{Ordering}
 use Rattle.std.specs.declared.cmp.Ordering.TheVariants.{Less, Equal, Greater}
 use Rattle.std.specs.Ordering.{int_cmp, int_eq, ordering_reverse, is_eq, is_lt}
 use Rattle.std.specs.Cmp.{IsTotalOrder, IsStrictWeakOrder}
 use Rattle.std.proofs.lemmas.Bool.{true≢false, and_parts}
 use Rattle.std.proofs.lemmas.Bool.Decides.{Decides-int_eq}
-use Rattle.std.proofs.lemmas.Cmp.{nat_list_cmp_total, nat_cmp_total, lists_total, then_total, on_total, int_cmp_total, tied_itself, int_ranked, by_ranked}
+use Rattle.std.proofs.lemmas.Cmp.{nat_list_cmp_total, nat_cmp_total, lists_total, then_total, on_total, int_cmp_total, tied_itself}
 use Rattle.std.proofs.lemmas.List.Sorted.{ranks_by}
 use Rattle.list_core.proofs.Bools.{Equal-from_then, Equal-from_is_eq}
+use Rattle.list_core.proofs.Integers.{same-from_int_cmp}
 use Rattle.label_sets.specs.declared.label.Label.{Label}
-use Rattle.label_sets.specs.Labels.{compare_texts, compare_labels, compare_sets}
+use Rattle.label_sets.specs.Labels.{compare_labels, compare_sets}
 use Rattle.label_sets.specs.Finals.{without, reduced_of}
-use Rattle.label_sets.proofs.LabelValues.{same_text}
+use Rattle.label_sets.proofs.LabelValues.{same_set}
 use Rattle.label_sets.proofs.FinalLabels.{without_nothing}
 use Rattle.block_meta.specs.declared.meta.Meta.{Meta}
 use Rattle.group_planner.specs.Groups.{Key, compare_keys, compare_members, comes_before}
@@ -36,25 +37,6 @@ pub members_ranked : IsStrictWeakOrder comes_before
 members_ranked = ranks_by members_total (λ (m : Meta). m)
 
 -- ---- what is equal
-
-same_label : (one other : Label) → compare_labels one other ≡ Equal → one ≡ other
-same_label one other e =
-    let parts = Equal-from_then (compare_texts one.name other.name) (compare_texts one.value other.value) e in
-    λ i. record { name = same_text one.name other.name parts.0 i; value = same_text one.value other.value parts.1 i }
-
-pub same_set : (one other : List Label) → compare_sets one other ≡ Equal → one ≡ other
-same_set [] [] e = refl
-same_set [] (o ∷ os) e = absurd (let f : Less ≡ Equal = e in cc)
-same_set (l ∷ ls) [] e = absurd (let f : Greater ≡ Equal = e in cc)
-same_set (l ∷ ls) (o ∷ os) e =
-    let parts = Equal-from_then (compare_labels l o) (compare_sets ls os) e in
-    let head : l ≡ o = same_label l o parts.0 in
-    let tail : ls ≡ os = same_set ls os parts.1 in
-    λ i. head i ∷ tail i
-
-pub same_number : (one other : ℤ) → int_cmp one other ≡ Equal → one ≡ other
-same_number one other e = by_ranked _ _ _ (int_cmp one other) (int_ranked one other (int_cmp one other) refl)
-    (λ f _. absurd (let g : Less ≡ Equal = sym f ∙ e in cc)) (λ _ same. same) (λ f _. absurd (let g : Greater ≡ Equal = sym f ∙ e in cc))
 
 pub key_itself : (key : Key) → compare_keys key key ≡ Equal
 key_itself key = tied_itself keys_total key
@@ -81,7 +63,7 @@ pub next_key : (one other : Key) → (int_eq one.resolution other.resolution && 
 next_key one other apart after = less_from (compare_keys one other) (compare_keys other one) (keys_total.antisymm other one) after (λ e.
     let parts = Equal-from_then (int_cmp one.resolution other.resolution) (compare_sets one.labels other.labels) e in
     both_hold (int_eq one.resolution other.resolution) (is_eq (compare_sets one.labels other.labels))
-    ((Decides-int_eq one.resolution other.resolution).1 (same_number one.resolution other.resolution parts.0)) (ap is_eq parts.1) apart)
+    ((Decides-int_eq one.resolution other.resolution).1 (same-from_int_cmp one.resolution other.resolution parts.0)) (ap is_eq parts.1) apart)
 
 -- ---- a tie of keys is the test for an equal key
 

@@ -9,11 +9,13 @@ use Rattle.std.proofs.lemmas.Map.Keys.{sorted_head, sorted_tail}
 use Rattle.list_core.proofs.Bools.{Equal-from_then, by_order}
 use Rattle.list_core.proofs.Membership.{member_cases, only_member, contains_first, contains_later, no_member, all_members, each_member}
 use Rattle.list_core.proofs.Order.{sorted_nil, sorted_cons}
+use Rattle.list_core.proofs.Integers.{same-from_int_cmp}
 use Rattle.label_sets.specs.Labels.{compare_sets}
+use Rattle.label_sets.proofs.LabelValues.{same_set}
 use Rattle.block_meta.specs.declared.meta.Meta.{Meta}
 use Rattle.group_planner.specs.Groups.{Key, compare_keys, key_of, group_of, AreGroups}
 use Rattle.group_planner.specs.declared.group.Group.{Group}
-use Rattle.group_planner.proofs.KeyOrders.{keys_total, same_number, same_set}
+use Rattle.group_planner.proofs.KeyOrders.{keys_total}
 
 -- these are the others and the key, and they ascend
 record IsPlaced (key : Key) (keys more : List Key) : Type 0 where
@@ -23,7 +25,7 @@ record IsPlaced (key : Key) (keys more : List Key) : Type 0 where
 equal_keys : (one other : Key) → compare_keys one other ≡ Equal → one ≡ other
 equal_keys one other e =
     let parts = Equal-from_then (int_cmp one.resolution other.resolution) (compare_sets one.labels other.labels) e in
-    let resolution = same_number one.resolution other.resolution parts.0 in
+    let resolution = same-from_int_cmp one.resolution other.resolution parts.0 in
     let labels = same_set one.labels other.labels parts.1 in
     λ i. record { resolution = resolution i; labels = labels i }
 

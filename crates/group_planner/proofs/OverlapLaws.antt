@@ -7,7 +7,8 @@ use Rattle.std.proofs.lemmas.Int.{ints}
 use Rattle.std.proofs.lemmas.List.{take_more, drop_more, take-append-drop}
 use Rattle.std.proofs.lemmas.List.Folds.{list_any-append}
 use Rattle.block_meta.specs.declared.meta.Meta.{Meta}
-use Rattle.list_core.proofs.Lists.{cons_parts, cons_same, nil_not_middle, nil_not_cons, take_none, drop_none}
+use Rattle.list_core.proofs.Lists.{cons_parts, cons_same, nil_not_middle, nil_not_cons, take_none, drop_none, take_whole}
+use Rattle.list_core.proofs.Bools.{or_false}
 use Rattle.group_planner.specs.Runs.{EachPasses, Stops, IsLongestRun}
 use Rattle.group_planner.specs.Overlaps.{is_before_end, overlaps, is_apart, overlaps_as, TakesOverlaps, IsOverlapPlan, IsEndOf}
 use Rattle.group_planner.proofs.LongestRuns.{one_run, all_or_cut, each_more}
@@ -41,11 +42,7 @@ before_later : (time a b : ℤ) → int_lt time (int_max a b) ≡ (int_lt time a
 before_later time a b = grind (arith, ints)
 
 pub end_alone : (meta : Meta) → IsEndOf (meta ∷ []) meta.max_time
-end_alone meta time = or_false (int_lt time meta.max_time)
-  where
-    or_false : (b : Bool) → b ≡ (b || false)
-    or_false true = refl
-    or_false false = refl
+end_alone meta time = sym (or_false (int_lt time meta.max_time))
 
 pub end_more : (before : List Meta) (one : Meta) (end new : ℤ) → new ≡ int_max end one.max_time → IsEndOf before end → IsEndOf (before ++ one ∷ []) new
 end_more before one end new e is time =
@@ -162,15 +159,11 @@ overlap_found first others apart (suc count) plan within some run longest e =
     (sym (e ∙ ap (λ b. cond b [] (take (suc count + 1) (drop apart (first ∷ others)))) more ∙ member_and_run first others apart count within))
     (taken first others apart count within some (apart_from_first first others apart run) longest)
 
-all_taken : (xs : List Meta) → take (length xs) xs ≡ xs
-all_taken [] = refl
-all_taken (x ∷ xs) = ap (λ l. x ∷ l) (all_taken xs)
-
 pub first_and_others : (metas : List Meta) (first : Meta) → 0 < length metas → first ≡ get_or metas 0 first → metas ≡ first ∷ take (length metas - 1) (drop 1 metas)
 first_and_others [] first some at = absurd (omega arith)
 first_and_others (x ∷ metas) first some at =
     let size : length (x ∷ metas) - 1 ≡ length metas = omega arith in
-    ap (λ y. y ∷ metas) (sym at) ∙ ap (λ l. first ∷ l) (sym (ap (λ n. take n metas) size ∙ all_taken metas))
+    ap (λ y. y ∷ metas) (sym at) ∙ ap (λ l. first ∷ l) (sym (ap (λ n. take n metas) size ∙ take_whole metas))
 
 -- the plan, where numbers and lists were passed on
 pub overlap_at_of : (metas : List Meta) (first : Meta) (others left plan : List Meta) (apart count : ℕ) (begin end passed : ℤ) → metas ≡ first ∷ others

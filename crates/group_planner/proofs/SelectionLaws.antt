@@ -1,5 +1,5 @@
 -- There is one selection, and how loops over ranges and parts find it.
-use Rattle.std.proofs.Common.{◌≡◌, ℕ, ◌+◌, ◌-◌, ◌<◌, Bool, true, false, cond, List, [], ◌∷◌, ◌++◌, length, get_or, drop, map, refl, sym, ap, ◌∙◌, subst, arith, Option, Some, None}
+use Rattle.std.proofs.Common.{◌≡◌, ℕ, ◌+◌, ◌-◌, ◌<◌, true, false, cond, List, [], ◌∷◌, ◌++◌, length, get_or, drop, map, refl, sym, ap, ◌∙◌, subst, arith, Option, Some, None}
 use Rattle.std.specs.Prelude.{ℤ, pos, slice_get}
 use Rattle.std.specs.List.{find}
 use Rattle.std.specs.Option.{option_or, option_map, option_map_or}
@@ -10,6 +10,7 @@ use Rattle.block_meta.specs.declared.meta.Meta.{Meta}
 use Rattle.group_planner.specs.Parts.{IsNextPart, AreParts, NoneFits}
 use Rattle.group_planner.specs.Selections.{Candidate, AreCandidates, is_worthwhile, is_wanted, ranges, last_begin, IsSelection}
 use Rattle.group_planner.proofs.PartLaws.{one_parts, parts_of, PartsUpTo, up_to_next, up_to_all}
+use Rattle.list_core.proofs.Lists.{find-map}
 
 abbrev pub as_candidates : ℤ → List (List Meta) → List Candidate
 as_candidates range parts = map (λ part. record { range = range; part = part }) parts
@@ -77,13 +78,6 @@ searched_all range high metas left none so_far = record {
 }
 
 -- ---- the first of all ranges
-
-find-map : {A B : Type 0} (test : B → Bool) (f : A → B) (xs : List A) → find test (map f xs) ≡ option_map f (find (λ x. test (f x)) xs)
-find-map test f [] = refl
-find-map test f (x ∷ xs) = elim (test (f x)) as (λ b. cond b (Some (f x)) (find test (map f xs)) ≡ option_map f (cond b (Some x) (find (λ y. test (f y)) xs))) [
-  | true ↦ refl
-  | false ↦ find-map test f xs
-]
 
 first_candidate : (range high : ℤ) (parts : List (List Meta)) (others : List Candidate) (first : Option (List Meta)) → find (is_worthwhile range high) parts ≡ first
     → find (is_wanted high) (as_candidates range parts ++ others) ≡ option_or (option_map (λ part. record { range = range; part = part }) first) (find (is_wanted high) others)

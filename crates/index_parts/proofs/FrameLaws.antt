@@ -65,7 +65,7 @@ summed_again _ p content after is =
     let parts = bytes_parts _ p r _ front in
     (at_place (take (p.place + length content) p.bytes) p.place, rw (front, kept, eq-eqb (crc content) (crc content) refl) refl, content_left p _ ∙ parts.1)
 
-regroup : (size content sum after : List ℕ) → size ++ (content ++ sum ++ after) ≡ size ++ content ++ sum ++ after
+pub regroup : (size content sum after : List ℕ) → size ++ (content ++ sum ++ after) ≡ size ++ content ++ sum ++ after
 regroup size content sum after = sym (append_assoc size (content ++ sum) after) ∙ ap (λ a. a ++ after) (sym (append_assoc size content sum))
 
 -- a frame, by the texts of its length and how that is read

@@ -5,7 +5,7 @@ use Rattle.std.specs.Result.{IsOkAnd}
 use Rattle.wire_bytes.specs.declared.refusal.WireRefusal.{WireRefusal}
 use Rattle.wire_bytes.specs.declared.refusal.WireRefusal.TheVariants as wire
 use Rattle.std.proofs.lemmas.Bool.{cases_lt, le-leb, leb-true, false_from_ne_true}
-use Rattle.reading_core.proofs.Binds.{cond_is}
+use Rattle.reading_core.proofs.Binds.{cond_is, by_result}
 use Rattle.std.specs.Prelude.{nat_lt, nat_le}
 use Rattle.std.proofs.lemmas.List.{length-drop, length-append, length-replicate, drop-append-le, drop-drop, drop_at}
 use Rattle.wire_bytes.specs.Position.{Position, left, further}
@@ -113,10 +113,6 @@ abbrev pub room_behind : ℕ → ℕ
 room_behind begin = 2 ^ 64 - 1 - begin
 
 -- ---- what ends within the part is the same in the index
-
-by_result : {A E P : Type 0} (r : Result A E) → ((x : A) → r ≡ Ok x → P) → ((d : E) → r ≡ Err d → P) → P
-by_result (Ok x) f g = f x refl
-by_result (Err d) f g = g d refl
 
 lies_by : (front : List ℕ) (most : ℕ) (bytes : List ℕ) (r s : Result (ℕ × Position) WireRefusal) → StepBy front most r s → IsOkAnd r (λ (size : ℕ × Position). size.1.place + size.0 + 4 ≤ length bytes) → IsOkAnd s (λ (size : ℕ × Position). size.1.place + size.0 + 4 ≤ length (front ++ bytes))
 lies_by front most bytes (Ok x) (Ok y) step lies = let p = step.state.place_is in let v = step.value in omega (arith, p, v, lies, length-append front bytes)

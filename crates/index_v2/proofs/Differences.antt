@@ -9,7 +9,6 @@ use Rattle.std.specs.declared.cmp.Ordering.TheVariants.{Less, Equal, Greater}
 use Rattle.std.proofs.lemmas.Bool.{ne_eqb, eq-eqb, cases_lt}
 use Rattle.std.proofs.lemmas.List.{drop_all}
 use Rattle.std.proofs.lemmas.List.Sorted.{searched}
-use Rattle.std.proofs.lemmas.Map.Keys.{below_from_sorted, sorted_from_strictly_increasing}
 use Rattle.std.proofs.lemmas.Option.{same_Some, slice_get_within, slice_get-get_or}
 use Rattle.label_sets.specs.declared.label.Label.{Label}
 use Rattle.index_parts.specs.declared.postings_row.PostingsRow.{PostingsRow}
@@ -20,20 +19,12 @@ use Rattle.index_v2.specs.WholeReading.{belongs, is_of_row, stray_from, gap_from
 use Rattle.std.proofs.lemmas.Cmp.{tied_itself}
 use Rattle.list_core.proofs.Order.{Less-at_places}
 use Rattle.list_core.proofs.Bools.{or_true, or_false}
+use Rattle.list_core.proofs.Rising.{rise_le, rise_less}
 use Rattle.index_parts.proofs.RowPlaces.{rows_total, stands_behind}
 use Rattle.index_parts.proofs.RowsBegin.{same_compare}
 use Rattle.index_v2.proofs.WholeLoops.{drop_at}
 
 -- ---- a number among others that ascend
-
-rise_less : (numbers : List ℕ) → IsStrictlyIncreasing numbers → (i j : ℕ) → i < j → j < length numbers → get_or numbers i 0 < get_or numbers j 0
-rise_less _ rises i j lt within = below_from_sorted _ i j 0 (sorted_from_strictly_increasing _ rises) lt within
-
-rise_le : (numbers : List ℕ) → IsStrictlyIncreasing numbers → (i j : ℕ) → i ≤ j → j < length numbers → get_or numbers i 0 ≤ get_or numbers j 0
-rise_le numbers rises i j le lt = elim (cases_lt i j) [
-  | inl less ↦ let h = rise_less _ rises i j less lt in omega arith
-  | inr ge ↦ let same : i ≡ j = omega arith in let e = ap (λ k. get_or numbers k 0) same in omega arith
-]
 
 -- where the search finds a number, no other place has it; where it does not, no place has it
 abbrev pub Among : List ℕ → ℕ → Result ℕ ℕ → Type 0

@@ -3,7 +3,7 @@ use Rattle.std.proofs.Common.{◌≡◌, ◌≢◌, ℕ, ◌+◌, ◌*◌, ◌<�
 use Rattle.std.specs.Prelude.{slice_get}
 use Rattle.std.proofs.lemmas.Bool.{lt-ltb}
 use Rattle.list_core.proofs.Bools.{is_lt-from_Less}
-use Rattle.list_core.proofs.Lists.{cons_same}
+use Rattle.list_core.proofs.Lists.{cons_same, some-from_long}
 use Rattle.reading_core.specs.Grammar.{IsBytes}
 use Rattle.reading_core.proofs.Binds.{bind_ok, refused_as_ok, ok_is}
 use Rattle.label_sets.specs.declared.label.Label.{Label}
@@ -34,15 +34,11 @@ above_nothing [] [] h e = cc
 above_nothing (b ∷ before) [] h e = cc
 above_nothing _ (n ∷ name) h e = cc
 
-long_value : (value : List ℕ) → 0 < length value → value ≢ []
-long_value [] h e = absurd (omega arith)
-long_value (v ∷ value) h e = cc
-
 pub set_from_chain : (before : List ℕ) (ls : List Label) → AreChained before ls → IsLabelSet ls × StandsBefore before ls
 set_from_chain _ [] chain = (tt, tt)
 set_from_chain _ (l ∷ ls) chain =
     let others = set_from_chain l.name ls chain.2 in
-    ((above_nothing _ _ chain.0, long_value _ chain.1, others.1, others.0), (chain.0, StandsBefore-trans _ _ _ chain.0 others.1))
+    ((above_nothing _ _ chain.0, some-from_long _ chain.1, others.1, others.0), (chain.0, StandsBefore-trans _ _ _ chain.0 others.1))
 
 some_length : (value : List ℕ) → value ≢ [] → 0 < length value
 some_length [] h = absurd (h refl)

@@ -10,8 +10,8 @@ use Rattle.label_sets.specs.declared.label.Label.{Label}
 use Rattle.label_sets.specs.declared.label_refusal.LabelRefusal.{LabelRefusal}
 use Rattle.label_sets.specs.declared.label_refusal.LabelRefusal.TheVariants.{NoMemory}
 use Rattle.label_sets.specs.Ordered.{placed}
-use Rattle.label_sets.specs.Labels.{compare_texts, ComesBefore, StandsBefore, IsLabelSet, value_of, has_lesser_name, added}
-use Rattle.label_sets.proofs.LabelValues.{before_differs, value_miss, value_nil}
+use Rattle.label_sets.specs.Labels.{compare_texts, ComesBefore, IsLabelSet, value_of, has_lesser_name, added}
+use Rattle.label_sets.proofs.LabelValues.{before_differs, value_miss, value_nil, stands_before_member}
 use Rattle.index_v2.specs.declared.lent_label.LentLabel.{LentLabel}
 use Rattle.index_v2.specs.LentLabels.{as_label}
 
@@ -32,10 +32,6 @@ placed_last (m ∷ ls) l all = rw (is_lt-from_Less (compare_texts m.name l.name)
 pub some_bytes : (text : List ℕ) → text ≢ [] → (length text == 0) ≡ false
 some_bytes [] h = absurd (h refl)
 some_bytes (b ∷ text) h = ne_eqb (suc (length text)) 0 (omega arith)
-
-stands_before_member : (name : List ℕ) (front : List Label) (l : Label) (after : List Label) → StandsBefore name (front ++ l ∷ after) → ComesBefore name l.name
-stands_before_member _ [] l _ stands = stands.0
-stands_before_member name (m ∷ front) l after stands = stands_before_member name front l _ stands.1
 
 -- a label of a set: all before it have lesser names, and neither of its texts is empty
 record IsInside (front : List Label) (l : Label) : Type 0 where

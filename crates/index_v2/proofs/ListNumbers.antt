@@ -1,10 +1,12 @@
 -- The numbers of a postings list ascend, and each has 32 bits.
-use Rattle.std.proofs.Common.{ℕ, zero, suc, ◌+◌, ◌^◌, ◌<◌, List, [], ◌∷◌, get_or, Option, Some, subst, arith}
+use Rattle.std.proofs.Common.{ℕ, zero, suc, ◌+◌, ◌^◌, ◌<◌, List, [], ◌∷◌, get_or, Option, Some, subst, arith, sym}
 use Rattle.std.specs.List.{All, AllByRecursion}
 use Rattle.std.specs.List.Sorted.{IsStrictlyIncreasing}
 use Rattle.std.proofs.lemmas.List.Elements.{All-from_recursion}
+use Rattle.index_file.specs.IndexFile.{AreListed}
 use Rattle.index_parts.specs.Turns.{AreInTurn}
 use Rattle.index_parts.specs.Postings.{IsNextPosting, IsPostings}
+use Rattle.index_parts.specs.declared.postings_row.PostingsRow.{PostingsRow}
 
 rising : (before : Option ℕ) (text numbers : List ℕ) → AreInTurn IsNextPosting before text numbers → IsStrictlyIncreasing numbers
 rising _ _ [] are k lt = absurd (omega arith)
@@ -28,3 +30,7 @@ none_rise = λ k lt. absurd (omega arith)
 
 pub none_small : All (λ n. n < 2 ^ 32) []
 none_small = λ k d lt. absurd (omega arith)
+
+pub listed_rises : (index : List ℕ) (rows : List PostingsRow) (numbers : List ℕ) → AreListed index rows numbers → IsStrictlyIncreasing numbers
+listed_rises index [] numbers are = subst IsStrictlyIncreasing (sym are) none_rise
+listed_rises index (row ∷ rows) numbers are = numbers_rise index row.offset numbers are

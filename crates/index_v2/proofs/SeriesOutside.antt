@@ -1,9 +1,10 @@
 -- A series that does not end within the part in which it is read is not there.
-use Rattle.std.proofs.Common.{◌≡◌, ℕ, ◌+◌, ◌-◌, ◌*◌, ◌^◌, ◌<◌, ◌≤◌, List, [], length, drop, Result, Ok, Err, refl, sym, ap, subst, ◌∙◌, arith, inl, inr}
+use Rattle.std.proofs.Common.{◌≡◌, ℕ, ◌+◌, ◌-◌, ◌*◌, ◌^◌, ◌<◌, ◌≤◌, List, [], length, drop, Err, refl, sym, ap, subst, ◌∙◌, arith, inl, inr}
 use Rattle.std.specs.Result.{IsOkAnd}
 use Rattle.std.proofs.lemmas.Bool.{cases_lt}
 use Rattle.std.proofs.lemmas.List.{length-drop}
 use Rattle.reading_core.specs.Reading.{refused_as}
+use Rattle.reading_core.proofs.Binds.{by_result}
 use Rattle.wire_bytes.specs.Position.{Position}
 use Rattle.wire_bytes.specs.declared.refusal.WireRefusal.{WireRefusal}
 use Rattle.wire_bytes.specs.declared.refusal.WireRefusal.TheVariants as wire
@@ -20,10 +21,6 @@ use Rattle.index_v2.specs.Opening.{refused_of}
 use Rattle.index_v2.specs.SeriesLabels.{numbered_at}
 use Rattle.index_v2.proofs.LabelPlaces.{labelled_not_begun}
 use Rattle.index_v2.proofs.SeriesSlices.{series_known_told}
-
-by_result : {A E P : Type 0} (r : Result A E) → ((x : A) → r ≡ Ok x → P) → ((d : E) → r ≡ Err d → P) → P
-by_result (Ok x) f g = f x refl
-by_result (Err d) f g = g d refl
 
 only_short : (d : WireRefusal) → (d ≡ wire.Overlong → ⊥) → d ≡ wire.Short
 only_short wire.Short other = refl

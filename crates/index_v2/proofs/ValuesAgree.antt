@@ -1,5 +1,5 @@
 -- The values under a name, in an index of a list of series.
-use Rattle.std.proofs.Common.{◌≡◌, ◌≢◌, ℕ, zero, suc, true, false, List, [], ◌∷◌, length, map, Some, refl, sym, ap, subst, ◌∙◌, arith, inl, inr}
+use Rattle.std.proofs.Common.{◌≡◌, ◌≢◌, ℕ, zero, suc, true, List, [], ◌∷◌, length, map, Some, refl, sym, ap, subst, ◌∙◌, arith, inl, inr}
 use Rattle.std.specs.Prelude.{slice_get, ◌==◌}
 use Rattle.std.specs.Cmp.Lexicographic.{bytes_decides}
 use Rattle.std.specs.List.{filter, Contains, AllByRecursion}
@@ -11,6 +11,7 @@ use Rattle.std.proofs.lemmas.List.Kept.{IsStrictlySortedBy-filter}
 use Rattle.std.proofs.lemmas.Option.{same_Some}
 use Rattle.list_core.proofs.Membership.{place_of_member, of_filter, into_filter, member_passes, of_map, into_map}
 use Rattle.list_core.proofs.Bools.{bytes_eq-itself, Less-from_then}
+use Rattle.list_core.proofs.Lists.{some-from_length}
 use Rattle.label_sets.specs.declared.label.Label.{Label}
 use Rattle.label_sets.specs.Labels.{compare_texts, IsLabelSet}
 use Rattle.label_sets.proofs.LabelValues.{by_bool}
@@ -33,15 +34,11 @@ values_named : (rows : List PostingsRow) (name : List ℕ) → name ≢ [] → v
 unfolding values_of
 values_named _ _ some = rw (some_bytes) refl
 
-some_name : (name : List ℕ) → (length name == 0) ≡ false → name ≢ []
-some_name [] e = absurd cc
-some_name (n ∷ name) e = λ f. cc
-
 value_only : (rows : List PostingsRow) (name value : List ℕ) → Contains (values_of rows name) value → (name ≢ []) × HasRow rows (record { name = name; value = value })
 value_only rows name value has = by_bool {P = (name ≢ []) × HasRow rows (record { name = name; value = value })} (length name == 0)
     (λ empty. let none = subst (λ l. Contains l value) (no_values _ _ empty) has in absurd (omega arith))
     (λ long.
-    let some = some_name _ long in
+    let some = some-from_length name long in
     let has' = subst (λ l. Contains l value) (values_named _ _ some) has in
     let row = of_map _ _ _ has' in
     let test = member_passes (is_named name) rows _ row.1 in
@@ -79,7 +76,7 @@ values_ascend rows name ascend = by_bool {P = IsStrictlySortedBy compare_texts (
     (λ empty. subst (IsStrictlySortedBy compare_texts) (sym (no_values rows _ empty)) no_value)
     (λ long.
     let named = recursion_from_All (λ r. is_named name r ≡ true) _ (filter_passes (is_named name) _) in
-    subst (IsStrictlySortedBy compare_texts) (sym (values_named _ _ (some_name _ long))) (in_order _ _ (IsStrictlySortedBy-filter _ _ _ ascend) named))
+    subst (IsStrictlySortedBy compare_texts) (sym (values_named _ _ (some-from_length name long))) (in_order _ _ (IsStrictlySortedBy-filter _ _ _ ascend) named))
 
 -- ---- in an index of a list
 

@@ -10,7 +10,7 @@ use Rattle.std.proofs.lemmas.Bool.{cases_lt, not-false}
 use Rattle.std.proofs.lemmas.List.{append-nil}
 use Rattle.std.proofs.lemmas.Option.{slice_get_cases}
 use Rattle.list_core.proofs.Order.{Less-at_places}
-use Rattle.list_core.proofs.Bools.{bytes_eq-itself, Less-from_then}
+use Rattle.list_core.proofs.Bools.{bytes_eq-itself, Less-from_then, not_negated}
 use Rattle.label_sets.specs.Labels.{compare_texts}
 use Rattle.label_sets.proofs.LabelValues.{bytes_eq_differs, same_text}
 use Rattle.index_parts.specs.declared.postings_row.PostingsRow.{PostingsRow}
@@ -19,10 +19,6 @@ use Rattle.index_parts.specs.RowOrder.{BeginsAt}
 use Rattle.index_parts.proofs.RowsBegin.{equal_not_less, same_row}
 use Rattle.index_v2.specs.PostingsLists.{values_of}
 use Rattle.index_v2.proofs.WholeLoops.{drop_at}
-
-not_both : (b : Bool) → not b ≡ true → b ≡ true → ⊥
-not_both true e f = cc
-not_both false e f = cc
 
 -- ---- filters
 
@@ -98,7 +94,7 @@ listed_none rows _ place lt none =
     ]
 
 pub other_name : (x : Bool) (one other : List ℕ) → x ≡ not (bytes_eq one other) → x ≡ true → one ≢ other
-other_name x one other e differ same = let equal : bytes_eq one other ≡ true = rw same (bytes_eq-itself other) in not_both _ (sym e ∙ differ) equal
+other_name x one other e differ same = let equal : bytes_eq one other ≡ true = rw same (bytes_eq-itself other) in not_negated _ (sym e ∙ differ) equal
 
 pub same_name : (x : Bool) (one other : List ℕ) → x ≡ not (bytes_eq one other) → x ≡ false → one ≡ other
 same_name x one other e equal = (bytes_decides one other).0 (not-false _ (sym e ∙ equal))

@@ -12,9 +12,10 @@ use Rattle.label_sets.specs.Labels.{compare_texts, ComesBefore, StandsBefore, Is
 use Rattle.label_sets.specs.declared.label_refusal.LabelRefusal.TheVariants.{EmptyName, EmptyValue, Repeated}
 use Rattle.label_sets.specs.Ordered.{placed}
 use Rattle.std.specs.Bool.{◌==◌}
-use Rattle.std.proofs.lemmas.Bool.{true≢false, cases_lt}
+use Rattle.std.proofs.lemmas.Bool.{cases_lt}
 use Rattle.label_sets.proofs.OrderedLabels.{IsLabelSet-placed}
 use Rattle.label_sets.proofs.LabelValues.{value_hit, value_miss, value_nil, same_text, before_differs, compare_self}
+use Rattle.list_core.proofs.Lists.{some-from_length}
 
 after_is_not_less : (one other : List ℕ) → ComesBefore one other → is_lt (compare_texts other one) ≡ false
 after_is_not_less one other b = ap is_lt (nat_list_cmp_total.antisymm other one ∙ ap ordering_reverse b)
@@ -81,9 +82,6 @@ absent_place (Err i) xs name h l is =
           (λ k d a b. subst (λ n. compare_texts (get_or xs k d).name n ≡ Greater) (sym e) (at.1 k d a b)),
     )
 
-not_empty : (text : List ℕ) → (length text == 0) ≡ false → text ≢ []
-not_empty _ h e = true≢false (sym (ap (λ t. length t == 0) e) ∙ h)
-
 -- a vector that took the label at its place, or did not, is a label set
 pub IsLabelSet-inserted : (r : Bool) (seen old new : List Label) (i : ℕ) (l : Label) (name : List ℕ) {value : List ℕ} → seen ≡ old → new ≡ cond r (insert old i l) old → l ≡ record { name = name; value = value }
     → (length name == 0) ≡ false → (length value == 0) ≡ false → value_of seen name ≡ None
@@ -93,7 +91,7 @@ IsLabelSet-inserted true _ old _ i l name e now is n v none put h =
     let same = ap (λ m. m.name) is in
     let here = subst (λ ls. insert ls i l ≡ placed has_lesser_name l ls) e (put l same) in
     subst IsLabelSet (sym (now ∙ here))
-    (IsLabelSet-placed l _ (λ d. not_empty name n (sym same ∙ d)) (λ d. not_empty l.value (ap (λ t. length t == 0) (ap (λ m. m.value) is) ∙ v) d)
+    (IsLabelSet-placed l _ (λ d. some-from_length name n (sym same ∙ d)) (λ d. some-from_length l.value (ap (λ t. length t == 0) (ap (λ m. m.value) is) ∙ v) d)
     (ap (value_of old) same ∙ subst (λ ls. value_of ls name ≡ None) e none) h)
 
 -- the refusal of a name that the set has

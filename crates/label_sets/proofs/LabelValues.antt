@@ -1,17 +1,17 @@
 -- What `value_of` finds in a list of labels, and that a label set is determined by it.
-use Rattle.std.proofs.Common.{◌≡◌, ◌≢◌, ℕ, false, cond, List, [], ◌∷◌, Some, None, refl, sym, ap, ◌∙◌, subst}
+use Rattle.std.proofs.Common.{◌≡◌, ◌≢◌, ℕ, false, cond, List, [], ◌∷◌, Some, None, refl, sym, ap, ◌∙◌, subst, ◌++◌}
 pub use Rattle.list_core.proofs.Bools.{by_bool}
 pub use Rattle.list_core.proofs.Options.{one_value, some_not_none}
 use Rattle.std.specs.declared.cmp.Ordering.{Ordering}
-use Rattle.std.specs.declared.cmp.Ordering.TheVariants.{Less, Equal}
+use Rattle.std.specs.declared.cmp.Ordering.TheVariants.{Less, Equal, Greater}
 use Rattle.std.specs.Ordering.{ordering_reverse, is_eq}
 use Rattle.std.specs.Cmp.Lexicographic.{nat_list_cmp_total, bytes_decides, texts_ties}
 use Rattle.std.specs.Str.{bytes_eq}
 use Rattle.std.proofs.lemmas.Cmp.{tied_itself}
 use Rattle.std.proofs.lemmas.Bool.{true≢false, false_from_ne_true}
 use Rattle.label_sets.specs.declared.label.Label.{Label}
-use Rattle.label_sets.specs.Labels.{compare_texts, ComesBefore, StandsBefore, IsLabelSet, value_of}
-use Rattle.list_core.proofs.Bools.{by_order}
+use Rattle.label_sets.specs.Labels.{compare_texts, ComesBefore, StandsBefore, IsLabelSet, value_of, compare_labels, compare_sets}
+use Rattle.list_core.proofs.Bools.{by_order, Equal-from_then}
 
 lesser_equal : (r : Ordering) → r ≡ Less → r ≡ Equal → ⊥
 lesser_equal r p q = cc
@@ -78,3 +78,24 @@ same_sets (x ∷ xs) (y ∷ ys) p q same = by_order _
     let ls = same_sets _ _ p.3 q.3 (λ name. tail_values x y xs ys name e p.2 q.2 (same name)) in
     λ i. l i ∷ ls i)
     (λ g. absurd (head_not_before y x _ _ p.2 (sym (same y.name)) (nat_list_cmp_total.antisymm y.name x.name ∙ ap ordering_reverse g)))
+
+-- labels, and lists of them, that compare as equal are one
+pub same_label : (one other : Label) → compare_labels one other ≡ Equal → one ≡ other
+same_label one other e =
+    let parts = Equal-from_then (compare_texts one.name other.name) (compare_texts one.value other.value) e in
+    λ i. record { name = same_text one.name other.name parts.0 i; value = same_text one.value other.value parts.1 i }
+
+pub same_set : (one other : List Label) → compare_sets one other ≡ Equal → one ≡ other
+same_set [] [] e = refl
+same_set [] (o ∷ os) e = absurd (let f : Less ≡ Equal = e in cc)
+same_set (l ∷ ls) [] e = absurd (let f : Greater ≡ Equal = e in cc)
+same_set (l ∷ ls) (o ∷ os) e =
+    let parts = Equal-from_then (compare_labels l o) (compare_sets ls os) e in
+    let head : l ≡ o = same_label l o parts.0 in
+    let tail : ls ≡ os = same_set ls os parts.1 in
+    λ i. head i ∷ tail i
+
+-- a name that stands before all labels comes before each
+pub stands_before_member : (name : List ℕ) (front : List Label) (l : Label) (rest : List Label) → StandsBefore name (front ++ l ∷ rest) → ComesBefore name l.name
+stands_before_member _ [] l _ h = h.0
+stands_before_member name (x ∷ xs) l rest h = stands_before_member name xs l _ h.1

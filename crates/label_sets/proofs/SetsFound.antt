@@ -22,6 +22,7 @@ use Rattle.label_sets.proofs.ReadPairs.{past-only, pair_shape}
 use Rattle.label_sets.proofs.ReadSets.{pair_steps}
 use Rattle.label_sets.proofs.LabelValues.{by_bool}
 use Rattle.std.specs.Char.{is_ascii_digit}
+use Rattle.list_core.proofs.Numbers.{one_more_is}
 
 refused_not_read : {A E : Type 0} (e : E) (x : A) → Err e ≡ Ok x → ⊥
 refused_not_read e x h = cc
@@ -33,9 +34,6 @@ pair_found text label rest e =
     let s = pair_steps text _ _ e in
     pair_shape _ _ _ _ _ _ _ _ _ refl s.name_is refl s.past_equals s.past_quote s.read_value
     ∙ simp append_assoc
-
-one_more_is : (n : ℕ) → 1 + n ≡ suc n
-one_more_is n = omega arith
 
 prefix_all : (p : ℕ → Bool) (xs : List ℕ) → list_all p (take (prefix_len p xs) xs) ≡ true
 prefix_all p [] = refl

@@ -1,6 +1,5 @@
 -- That a view keeps what was complete, covers each settled upload, and is there when a query asks for it.
 pub mod Metas
-pub mod Pages
 pub mod SyncEnds
 pub mod FewListed
 pub mod Undamaged

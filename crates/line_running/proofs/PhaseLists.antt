@@ -35,6 +35,7 @@ use Rattle.report_lines.specs.lifecycle_core.specs.InLine.{InLine, IsInLine, in_
 use Rattle.report_lines.specs.lifecycle_core.specs.Setting.{Setting}
 use Rattle.report_lines.specs.lifecycle_core.specs.Tasks.{End}
 use Rattle.report_lines.specs.lifecycle_core.specs.Ways.{AreFinished, AreInTurn, AreUnfinished, BeginsPhase, IsOperationDue, PhasesRun}
+use Rattle.list_core.proofs.Lists.{take_none}
 
 -- ---- lists
 
@@ -233,10 +234,6 @@ run_so_far tells setting place shown journal report r = short_run tells setting 
 blind_at : (gateways : List Sight) (place : ℕ) (gateway : Sight) → All (λ (g : Sight). g ≡ no_sight) gateways → slice_get gateways place ≡ Some gateway → gateway ≡ no_sight
 blind_at gateways place gateway blind at =
     subst (λ (g : Sight). g ≡ no_sight) (get_or_from_slice_get gateways place gateway gateway at) (blind place gateway (slice_get_within gateways place gateway at))
-
-take_none : (phases : List Phase) → take 0 phases ≡ []
-take_none [] = refl
-take_none (p ∷ ps) = refl
 
 pub no_seats : (setting : Setting) (workers : ℕ) → workers ≡ 0 → workers ≡ seats_before setting.script 0
 unfolding seats_from

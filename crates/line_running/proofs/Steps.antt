@@ -35,13 +35,10 @@ use Rattle.report_lines.specs.script_running.specs.declared.came.Broken.TheVaria
 use Rattle.report_lines.specs.script_running.specs.declared.outcome.Outcome.{Outcome}
 use Rattle.report_lines.specs.script_running.specs.declared.part.Part.{Part}
 use Rattle.report_lines.specs.script_running.specs.declared.sight.Sight.{Sight}
+use Rattle.report_lines.specs.script_running.proofs.TaskSteps.{when_done}
 use Rattle.line_running.specs.Progress.{IsDueInLine, IsWhole, PartStep, Shows, TaskStep, duties_at}
 
 -- ---- one part
-
-when_done : {X : Type 0} (came : Result X Broken) (P : Type 0) → P → WhenDone came P
-when_done (Ok o) P holds = holds
-when_done (Err why) P holds = tt
 
 done_by : {X : Type 0} (came : Result X Broken) (P Q : Type 0) → (P → Q) → WhenDone came P → WhenDone came Q
 done_by (Ok o) P Q f holds = f holds

@@ -1,10 +1,12 @@
 -- Booleans and orderings, where the standard library has no lemma.
-use Rattle.std.proofs.Common.{◌≡◌, ◌⊎◌, inl, inr, ℕ, ◌<◌, Bool, true, false, cond, ◌&&◌, ◌||◌, List, refl, arith}
+use Rattle.std.proofs.Common.{◌≡◌, ◌⊎◌, inl, inr, ℕ, ◌<◌, Bool, true, false, cond, ◌&&◌, ◌||◌, List, refl, sym, ap, ◌∙◌, arith}
+use Rattle.std.specs.Prelude.{not}
 use Rattle.std.specs.declared.cmp.Ordering.{Ordering}
 use Rattle.std.specs.declared.cmp.Ordering.TheVariants.{Less, Equal, Greater}
 use Rattle.std.specs.Ordering.{is_eq, is_lt, nat_cmp, ordering_then}
 use Rattle.std.specs.Str.{bytes_eq}
-use Rattle.std.proofs.lemmas.Bool.{and_parts}
+use Rattle.std.proofs.Math.Dec.{T}
+use Rattle.std.proofs.lemmas.Bool.{and_parts, true≢false}
 use Rattle.std.proofs.lemmas.Bool.Decides.{nat_tests}
 use Rattle.std.proofs.lemmas.Slice.Eq.{bytes_eq-Decides}
 
@@ -32,6 +34,29 @@ pub or_swap : (a b c : Bool) → (a || (b || c)) ≡ (b || (a || c))
 or_swap true true c = refl
 or_swap true false c = refl
 or_swap false b c = refl
+
+pub or_or_false : (a b : Bool) → (a || (b || false)) ≡ (a || b)
+or_or_false a b = ap (λ c. a || c) (or_false b)
+
+-- ---- what tests say of one another
+
+pub not_both : (b : Bool) → b ≡ true → b ≡ false → ⊥
+not_both b t f = true≢false (sym t ∙ f)
+
+pub not_negated : (b : Bool) → not b ≡ true → b ≡ true → ⊥
+not_negated true e t = true≢false (sym e)
+not_negated false e t = true≢false (sym t)
+
+-- tests that follow from one another are one
+pub equal_tests : (a b : Bool) → (a ≡ true → b ≡ true) → (b ≡ true → a ≡ true) → a ≡ b
+equal_tests true true on back = refl
+equal_tests true false on back = sym (on refl)
+equal_tests false true on back = back refl
+equal_tests false false on back = refl
+
+pub true-from_T : (b : Bool) → T b → b ≡ true
+true-from_T true t = refl
+true-from_T false t = absurd t
 
 -- two tests that never hold together may change places
 pub swap_tests : {A : Type 0} (a b : Bool) (x y z : A) → (a ≡ true → b ≡ true → ⊥) → cond a x (cond b y z) ≡ cond b y (cond a x z)
@@ -86,6 +111,9 @@ same-from_Equal n m e = grind (arith, nat_tests)
 
 pub gt-from_Greater : (n m : ℕ) → nat_cmp n m ≡ Greater → m < n
 gt-from_Greater n m e = grind (arith, nat_tests)
+
+pub same-from_is_eq : (n m : ℕ) → is_eq (nat_cmp n m) ≡ true → n ≡ m
+same-from_is_eq n m e = same-from_Equal n m (Equal-from_is_eq (nat_cmp n m) e)
 
 -- ---- texts
 

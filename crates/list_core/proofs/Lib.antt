@@ -1,4 +1,5 @@
 pub mod Bools
+pub mod Numbers
 pub mod Integers
 pub mod Options
 pub mod Lists
@@ -7,3 +8,5 @@ pub mod Pairs
 pub mod Order
 pub mod StableSorts
 pub mod Ascending
+pub mod Rising
+pub mod SameMembers

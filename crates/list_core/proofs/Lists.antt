@@ -1,9 +1,11 @@
 -- Lists, where the standard library has no lemma: parts at a place, filters, pairs, and what holds of each member.
 use Rattle.std.proofs.Common.{◌≡◌, ◌≢◌, ◌⊎◌, inl, inr, ℕ, zero, suc, ◌+◌, ◌<◌, Bool, true, false, cond, List, [], ◌∷◌, ◌++◌, length, take, drop, map, zip, set, get_or, Some, refl, sym, ap, ◌∙◌, subst, arith, append_assoc, append-nil}
-use Rattle.std.specs.Prelude.{slice_get, ◌==◌}
+use Rattle.std.specs.Prelude.{slice_get, sum_by, option_map, ◌==◌}
 use Rattle.std.specs.List.{All, AllByRecursion, filter, find, flat_map}
 use Rattle.std.proofs.lemmas.Bool.{eqb-false, ne_eqb}
-use Rattle.std.proofs.lemmas.List.{drop_more, take_more, nil_from_length}
+use Rattle.std.proofs.lemmas.List.{drop_more, take_more, take-append-drop, nil_from_length}
+use Rattle.std.proofs.lemmas.List.Sums.{sum_by-append, sum_by-cons}
+use Rattle.list_core.specs.Lists.{joined}
 use Rattle.std.proofs.lemmas.List.Elements.{All-head, All-tail}
 use Rattle.std.proofs.lemmas.Option.{slice_get_within, get_or_from_slice_get}
 use Rattle.list_core.proofs.Bools.{by_bool}
@@ -27,6 +29,9 @@ pub middle_not_nil : {A : Type 0} (xs : List A) (y : A) (ys : List A) → xs ++ 
 middle_not_nil [] y ys e = absurd cc
 middle_not_nil (x ∷ xs) y ys e = absurd cc
 
+pub pushed_not_nil : {A : Type 0} (xs : List A) (x : A) → xs ++ x ∷ [] ≡ [] → ⊥
+pushed_not_nil xs x e = middle_not_nil xs x [] e
+
 -- a list is empty, or has a last member
 pub last_or_none : {A : Type 0} (xs : List A) → (xs ≡ []) ⊎ ((others : List A) × (last : A) × (xs ≡ others ++ last ∷ []))
 last_or_none [] = inl refl
@@ -47,6 +52,10 @@ some-length (x ∷ xs) some = omega arith
 pub length-some : {A : Type 0} (xs : List A) → xs ≢ [] → (length xs == 0) ≡ false
 length-some xs some = ne_eqb (length xs) 0 (λ e. some (nil_from_length xs e))
 
+pub some-from_long : {A : Type 0} (xs : List A) → 0 < length xs → xs ≢ []
+some-from_long [] long e = absurd (omega arith)
+some-from_long (x ∷ xs) long e = cc
+
 -- ---- parts at a place
 
 pub take_none : {A : Type 0} (xs : List A) → take 0 xs ≡ []
@@ -65,6 +74,26 @@ drop_place xs place x at =
 pub take_place : {A : Type 0} (xs : List A) (place : ℕ) (x : A) → slice_get xs place ≡ Some x → take (place + 1) xs ≡ take place xs ++ x ∷ []
 take_place xs place x at =
     take_more xs place x (slice_get_within xs place x at) ∙ ap (λ (y : _). take place xs ++ y ∷ []) (get_or_from_slice_get xs place x x at)
+
+-- a list is what lies before a place, the member there, and what lies behind it
+pub split_place : {A : Type 0} (xs : List A) (place : ℕ) (x : A) → place < length xs → x ≡ get_or xs place x → xs ≡ take place xs ++ x ∷ drop (place + 1) xs
+split_place xs place x lt at =
+    sym (take-append-drop place xs) ∙ ap (λ ys. take place xs ++ ys) (drop_more xs place x lt ∙ ap (λ y. y ∷ drop (place + 1) xs) (sym at))
+
+-- below its length a list has a member, whatever would be taken elsewhere
+pub slice_get-below : {A : Type 0} (xs : List A) (place : ℕ) → place < length xs → (x : A) × (slice_get xs place ≡ Some x)
+slice_get-below [] place lt = absurd (omega (arith, lt))
+slice_get-below (x ∷ xs) zero lt = (x, refl)
+slice_get-below (x ∷ xs) (suc place) lt = slice_get-below xs place (omega (arith, lt))
+
+pub get_or-any : {A : Type 0} (xs : List A) (place : ℕ) (x y : A) → place < length xs → get_or xs place x ≡ get_or xs place y
+get_or-any [] place x y lt = absurd (omega (arith, lt))
+get_or-any (z ∷ xs) zero x y lt = refl
+get_or-any (z ∷ xs) (suc place) x y lt = get_or-any xs place x y (omega (arith, lt))
+
+pub take_whole : {A : Type 0} (xs : List A) → take (length xs) xs ≡ xs
+take_whole [] = refl
+take_whole (x ∷ xs) = ap (λ l. x ∷ l) (take_whole xs)
 
 -- a member of a front stands at the same place of the list
 pub slice_get-take : {A : Type 0} (xs : List A) (count place : ℕ) (x : A) → slice_get (take count xs) place ≡ Some x → slice_get xs place ≡ Some x
@@ -94,6 +123,12 @@ map-push f (y ∷ xs) x = ap (λ l. f y ∷ l) (map-push f xs x)
 pub flat_map-push : {A B : Type 0} (f : A → List B) (xs : List A) (x : A) → flat_map f (xs ++ x ∷ []) ≡ flat_map f xs ++ f x
 flat_map-push f [] x = append-nil (f x)
 flat_map-push f (y ∷ xs) x = ap (λ l. f y ++ l) (flat_map-push f xs x) ∙ sym (append_assoc (f y) (flat_map f xs) (f x))
+
+pub joined-push : {A : Type 0} (parts : List (List A)) (part : List A) → joined (parts ++ part ∷ []) ≡ joined parts ++ part
+joined-push parts part = flat_map-push (λ p. p) parts part
+
+pub sum_by-push : {A : Type 0} (size : A → ℕ) (xs : List A) (x : A) → sum_by size (xs ++ x ∷ []) ≡ sum_by size xs + size x
+sum_by-push size xs x = omega (arith, sum_by-append size xs (x ∷ []), sum_by-cons size x [])
 
 -- ---- filters and finds
 
@@ -129,6 +164,10 @@ pub filter_none : {A : Type 0} (p : A → Bool) (xs : List A) → All (λ x. p x
 filter_none p [] all = refl
 filter_none p (x ∷ xs) all =
     filter_miss p x xs (All-head (λ x. p x ≡ false) x xs all) ∙ filter_none p xs (All-tail (λ x. p x ≡ false) x xs all)
+
+pub find-map : {A B : Type 0} (p : B → Bool) (f : A → B) (xs : List A) → find p (map f xs) ≡ option_map f (find (λ x. p (f x)) xs)
+find-map p f [] = refl
+find-map p f (x ∷ xs) = by_bool (p (f x)) (λ t. rw t refl) (λ g. rw g (find-map p f xs))
 
 -- what is found passes, and has what every member has
 found_first : {A : Type 0} (P : A → Type 0) (p : A → Bool) (x : A) (xs : List A) (y : A) (b : Bool) → p x ≡ b → (p x ≡ true → P x) → (find p xs ≡ Some y → P y) → find p (x ∷ xs) ≡ Some y → P y

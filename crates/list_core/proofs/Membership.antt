@@ -1,11 +1,11 @@
 -- Members of lists that were joined, mapped, flattened, filtered and put in order, and tests of members.
 use Rattle.std.proofs.Common.{◌≡◌, ◌⊎◌, inl, inr, ℕ, zero, suc, Bool, true, false, List, [], ◌∷◌, map, Some, refl, sym, ap, ◌∙◌, subst, arith}
 use Rattle.std.specs.Prelude.{slice_get}
-use Rattle.std.specs.List.{Contains, AllByRecursion, filter, flat_map, list_any, list_all}
+use Rattle.std.specs.List.{Contains, All, AllByRecursion, filter, find, flat_map, list_any, list_all}
 use Rattle.std.proofs.lemmas.Bool.{cases_Bool, and_parts}
 use Rattle.std.proofs.lemmas.Option.{slice_get_within, get_or_from_slice_get, slice_get-get_or}
 use Rattle.std.proofs.lemmas.List.Elements.{All-contains, All-from_recursion, Contains-append_left, Contains-append_right, Contains-append_cases, filter_passes}
-use Rattle.std.proofs.lemmas.List.Folds.{Any-from_list_any, list_any_at}
+use Rattle.std.proofs.lemmas.List.Folds.{Any-from_list_any, list_any_at, find_at}
 use Rattle.list_core.specs.Ordered.{placed, in_order}
 use Rattle.list_core.proofs.Lists.{filter_hit, filter_miss}
 
@@ -35,6 +35,10 @@ contains_place xs place x at = (place, slice_get_within xs place x at, get_or_fr
 pub place_of_member : {A : Type 0} (xs : List A) (x : A) → Contains xs x → (place : ℕ) × (slice_get xs place ≡ Some x)
 place_of_member xs x (place, below, at) = (place, slice_get-get_or xs place x below ∙ ap Some at)
 
+-- what is found is a member
+pub found_among : {A : Type 0} (p : A → Bool) (xs : List A) (x : A) → find p xs ≡ Some x → Contains xs x
+found_among p xs x e = contains_place xs _ x (sym (find_at p xs) ∙ e)
+
 -- where every member passes, and where none does
 pub filter_whole : {A : Type 0} (p : A → Bool) (xs : List A) → ((x : A) → Contains xs x → p x ≡ true) → filter p xs ≡ xs
 filter_whole p [] all = refl
@@ -52,6 +56,10 @@ each_member P xs x all among = All-contains P xs x (All-from_recursion P xs all)
 pub all_members : {A : Type 0} (P : A → Type 0) (xs : List A) → ((x : A) → Contains xs x → P x) → AllByRecursion P xs
 all_members P [] each = tt
 all_members P (x ∷ xs) each = (each x (contains_first x xs), all_members P xs (λ y among. each y (contains_later x y xs among)))
+
+-- what stands at a place
+pub All-place : {A : Type 0} (P : A → Type 0) (xs : List A) (place : ℕ) (x : A) → All P xs → slice_get xs place ≡ Some x → P x
+All-place P xs place x all at = All-contains P xs x all (contains_place xs place x at)
 
 -- ---- tests
 

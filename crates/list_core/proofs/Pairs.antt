@@ -1,6 +1,7 @@
 -- Two lists whose members stand in pairs, where the standard library has no lemma.
-use Rattle.std.proofs.Common.{◌≡◌, inl, inr, List, [], ◌∷◌, ◌++◌, zip, ap, subst}
+use Rattle.std.proofs.Common.{◌≡◌, inl, inr, List, [], ◌∷◌, ◌++◌, length, zip, ap, subst, arith, sym}
 use Rattle.std.specs.List.{AllByRecursion, AllZip, Contains}
+use Rattle.std.proofs.lemmas.Slice.Zip.{AllZip-long}
 use Rattle.list_core.proofs.Membership.{contains_first, contains_later, no_member, member_cases}
 
 -- ---- what holds of each pair
@@ -26,6 +27,9 @@ AllZip-weaker_where P R S both [] [] each all = tt
 AllZip-weaker_where P R S both [] (y ∷ ys) each all = absurd all
 AllZip-weaker_where P R S both (x ∷ xs) [] each all = absurd all
 AllZip-weaker_where P R S both (x ∷ xs) (y ∷ ys) each all = (both x y each.0 all.0, AllZip-weaker_where P R S both xs ys each.1 all.1)
+
+pub AllZip-as_long : {A B : Type 0} (R : A → B → Type 0) (xs : List A) (ys : List B) → AllZip R xs ys → length xs ≡ length ys
+AllZip-as_long R xs ys all = sym (AllZip-long R xs ys all)
 
 -- ---- the other member of a pair
 
@@ -64,3 +68,16 @@ second_in_zip {A} {B} (a ∷ xs) (b ∷ ys) x y among = elim (member_cases (a, b
   | inl same ↦ subst (Contains (b ∷ ys)) (ap (λ (r : A × B). r.1) same) (contains_first b ys)
   | inr later ↦ contains_later b y ys (second_in_zip xs ys x y later)
 ]
+
+-- lists that are as long have a pair for each member
+pub zip_all : {A B : Type 0} (xs : List A) (ys : List B) → length xs ≡ length ys → AllZip (λ x y. Contains (zip xs ys) (x, y)) xs ys
+zip_all [] [] many = tt
+zip_all [] (y ∷ ys) many = absurd (omega arith)
+zip_all (x ∷ xs) [] many = absurd (omega arith)
+zip_all (x ∷ xs) (y ∷ ys) many = (contains_first _ _, AllZip-weaker _ _ (λ a b h. contains_later _ _ _ h) xs ys (zip_all xs ys (omega arith)))
+
+pub beside_first : {A B : Type 0} (xs : List A) (ys : List B) (x : A) → length xs ≡ length ys → Contains xs x → (y : B) × Contains (zip xs ys) (x, y)
+beside_first xs ys x many among = let found = AllZip-second _ xs ys x (zip_all xs ys many) among in (found.0, found.2)
+
+pub beside_second : {A B : Type 0} (xs : List A) (ys : List B) (y : B) → length xs ≡ length ys → Contains ys y → (x : A) × Contains (zip xs ys) (x, y)
+beside_second xs ys y many among = let found = AllZip-first _ xs ys y (zip_all xs ys many) among in (found.0, found.2)

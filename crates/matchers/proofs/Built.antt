@@ -3,7 +3,7 @@ use Rattle.std.proofs.Common.{◌≡◌, inl, inr, ℕ, ◌+◌, ◌<◌, List, 
 use Rattle.std.specs.Prelude.{IsErrAnd, IfErr}
 use Rattle.std.specs.List.{All, filter}
 use Rattle.std.specs.Str.{IsUtf8}
-use Rattle.std.proofs.lemmas.List.{map-append, take_more, drop_more, take-append-drop}
+use Rattle.std.proofs.lemmas.List.{map-append, take_more}
 use Rattle.std.proofs.lemmas.List.Elements.{filter-append}
 use Rattle.std.proofs.lemmas.List.Folds.{list_all-append}
 use Rattle.label_sets.specs.Finals.{is_among}
@@ -15,6 +15,7 @@ use Rattle.matchers.specs.Selectors.{metric_matcher}
 use Rattle.matchers.specs.SelectorText.{metric_part, is_lawful, are_lawful, named_replicas}
 use Rattle.matchers.specs.Stages.{matcher_of, selector_of}
 use Rattle.matchers.specs.Building.{IsUnbuilt, IsUnbuiltCondition, IsUnbuiltList}
+use Rattle.list_core.proofs.Lists.{split_place}
 
 abbrev pub IsText : Asked → Type 0
 IsText a = IsUtf8 a.name × IsUtf8 a.value
@@ -25,10 +26,6 @@ text_there xs i a all lt at = subst IsText (sym at) (all i a lt)
 
 one_more : {A : Type 0} (xs : List A) (i : ℕ) (a : A) → i < length xs → a ≡ get_or xs i a → take (i + 1) xs ≡ take i xs ++ a ∷ []
 one_more xs i a lt at = take_more xs i a lt ∙ ap (λ (x : _). take i xs ++ x ∷ []) (sym at)
-
-split_there : {A : Type 0} (xs : List A) (i : ℕ) (a : A) → i < length xs → a ≡ get_or xs i a → xs ≡ take i xs ++ a ∷ drop (i + 1) xs
-split_there xs i a lt at =
-    sym (take-append-drop i xs) ∙ ap (λ t. take i xs ++ t) (drop_more xs i a lt ∙ ap (λ (x : _). x ∷ drop (i + 1) xs) (sym at))
 
 pub made_more : (new old start : List Matcher) (xs : List Asked) (i : ℕ) (a : Asked) (m : Matcher) → new ≡ old ++ m ∷ [] → old ≡ start ++ map matcher_of (take i xs) → m ≡ matcher_of a
     → i < length xs → a ≡ get_or xs i a → new ≡ start ++ map matcher_of (take (i + 1) xs)
@@ -50,7 +47,7 @@ pub unbuilt_there : {X : Type 0} (r : Result X SelectorRefusal) (e : SelectorRef
 unbuilt_there (Ok x) e xs i a is why lawful lt at = absurd is
 unbuilt_there (Err d) e xs i a is (inl none) lawful lt at = inl (is ∙ none)
 unbuilt_there (Err d) e xs i a is (inr why) lawful lt at =
-    inr (record { before = take i xs; asked = a; others = drop (i + 1) xs; stands = split_there xs i a lt at; lawful = lawful; has_pattern = why.0; unbuilt = subst (IsUnbuilt a.value a.quote) (sym is) why.1 })
+    inr (record { before = take i xs; asked = a; others = drop (i + 1) xs; stands = split_place xs i a lt at; lawful = lawful; has_pattern = why.0; unbuilt = subst (IsUnbuilt a.value a.quote) (sym is) why.1 })
 
 metric_lawful : (metric : List ℕ) → are_lawful (metric_part metric) ≡ true
 unfolding metric_matcher
@@ -81,6 +78,6 @@ pub named_first : (replicas : List (List ℕ)) (xs : List Matcher) (i : ℕ) (m 
     → (others : List (List ℕ)) × (named_replicas replicas xs ≡ m.name ∷ others)
 named_first replicas xs i m none among lt at = (
   named_replicas replicas (drop (i + 1) xs),
-  ap (named_replicas replicas) (split_there xs i m lt at) ∙ named-append replicas (take i xs) (m ∷ drop (i + 1) xs)
+  ap (named_replicas replicas) (split_place xs i m lt at) ∙ named-append replicas (take i xs) (m ∷ drop (i + 1) xs)
       ∙ (λ k. none k ++ named_here replicas m (drop (i + 1) xs) among k),
 )

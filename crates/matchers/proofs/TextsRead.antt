@@ -10,6 +10,7 @@ use Rattle.list_core.proofs.Bools.{by_bool}
 use Rattle.reading_core.specs.Reading.{◌>>=◌}
 use Rattle.label_sets.specs.Notation.{is_name, is_name_start, is_name_byte, quoted, quoted_byte}
 use Rattle.label_sets.proofs.ReadPairs.{plain_byte}
+use Rattle.label_sets.proofs.SetsFound.{start_is_byte}
 use Rattle.matchers.specs.declared.asked.Asked.{Asked}
 use Rattle.matchers.specs.declared.condition.Condition.{Condition}
 use Rattle.matchers.specs.declared.condition.Condition.TheVariants as conditions
@@ -74,8 +75,8 @@ metric_no_brace byte t = by_bool (eqb byte 123)
     (λ same. let e : byte ≡ 123 = grind (arith, nat_tests) in let no : is_metric_byte 123 ≡ true = ap is_metric_byte (sym e) ∙ t in absurd (cc no))
     (λ other. other)
 
-start_is_byte : (byte : ℕ) → is_metric_start byte ≡ true → is_metric_byte byte ≡ true
-start_is_byte byte t = ap (λ b. b || is_ascii_digit byte) t
+metric_start_is_byte : (byte : ℕ) → is_metric_start byte ≡ true → is_metric_byte byte ≡ true
+metric_start_is_byte byte t = ap (λ b. b || is_ascii_digit byte) t
 
 metric_bytes : (front bytes : List ℕ) (place : ℕ) → list_all is_metric_byte bytes ≡ true → Passes (at_stage Metric front [] nothing_asked) place bytes (at_stage Metric (front ++ bytes) [] nothing_asked)
 unfolding step after_metric
@@ -93,7 +94,7 @@ metric_passes [] is = absurd cc
 metric_passes (byte ∷ bytes) is =
     let parts = and_parts (is_metric_start byte) (list_all is_metric_byte bytes) is in
     and_byte _ (at_stage Metric (byte ∷ []) [] nothing_asked) _ 0 byte bytes
-    (no_test _ _ _ (metric_no_brace byte (start_is_byte byte parts.0)) ∙ yes_test _ _ _ parts.0)
+    (no_test _ _ _ (metric_no_brace byte (metric_start_is_byte byte parts.0)) ∙ yes_test _ _ _ parts.0)
     (metric_bytes (byte ∷ []) bytes 1 parts.1)
 
 -- up to the opening brace
@@ -108,9 +109,6 @@ name_no : (byte other : ℕ) → is_name_byte byte ≡ true → is_name_byte oth
 name_no byte other t never = by_bool (eqb byte other)
     (λ same. let e : byte ≡ other = grind (arith, nat_tests) in let yes : is_name_byte other ≡ true = ap is_name_byte (sym e) ∙ t in absurd (true≢false (sym yes ∙ never)))
     (λ differs. differs)
-
-name_start_is_byte : (byte : ℕ) → is_name_start byte ≡ true → is_name_byte byte ≡ true
-name_start_is_byte byte t = ap (λ b. b || is_ascii_digit byte) t
 
 abbrev read_operator : Condition → Operator
 read_operator (conditions.Equal asked) = Equal
@@ -139,7 +137,7 @@ module _ (metric : List ℕ) (listed : List Asked) where
   name_passes (byte ∷ bytes) place is =
       let parts = and_parts (is_name_start byte) (list_all is_name_byte bytes) is in
       and_byte _ (at_stage Name metric listed (asking (byte ∷ []) Equal [] 0)) _ place byte bytes
-      (no_test _ _ _ (name_no byte 125 (name_start_is_byte byte parts.0) refl) ∙ yes_test _ _ _ parts.0)
+      (no_test _ _ _ (name_no byte 125 (start_is_byte byte parts.0) refl) ∙ yes_test _ _ _ parts.0)
       (name_bytes (byte ∷ []) bytes (place + 1) parts.1)
 
   -- ---- the operator and the opening quote

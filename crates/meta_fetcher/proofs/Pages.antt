@@ -21,7 +21,7 @@ use Rattle.meta_fetcher.specs.declared.stage.Stage.TheVariants.{Opening, Listing
 use Rattle.meta_fetcher.specs.declared.sync.Sync.{Sync}
 use Rattle.meta_fetcher.specs.declared.sync_end.SyncEnd.{SyncEnd}
 use Rattle.meta_fetcher.specs.declared.sync_end.SyncEnd.TheVariants.{TooMany, Damaged, Fault}
-use Rattle.world_core.proofs.PageNames.{ulids_in-append, length-ulids_in, last_listed-more}
+use Rattle.world_core.proofs.PageNames.{length-ulids_in, last_listed-more, all_wait}
 use Rattle.meta_fetcher.proofs.Steps.{ended, leads_as}
 
 -- a run of the one that a test chooses
@@ -94,9 +94,6 @@ module _ (s : Sync) (seat : ℕ) (o : Op) (seen : Seen) where
   next_failed landed is = λ names more listed. page_failed s.rules Now names more seen.seq landed seen.reply is
 
 -- ---- its names
-
-all_wait : (before : List ℕ) (page names : List (List ℕ)) (waiting : List ℕ) → waiting ≡ before ++ ulids_in page → ulids_in names ≡ before → waiting ≡ ulids_in (names ++ page)
-all_wait before page names waiting added listed = added ∙ ap (λ l. l ++ ulids_in page) (sym listed) ∙ sym (ulids_in-append names page)
 
 -- the last page
 pub last_page : (s : Sync) (page : List (List ℕ)) (waiting : List ℕ) (entries : List Entry) (end : Option SyncEnd)

@@ -1,5 +1,5 @@
 -- What ties the text of a moment to its milliseconds.
-use Rattle.std.proofs.Common.{◌≡◌, ℕ, ℤ, pos, negsuc, ◌+◌, ◌*◌, ◌/◌, ◌%◌, ◌^◌, ◌<◌, Bool, true, false, cond, eqb, ltb, List, None, Some, Result, Ok, Err, sym, ap, subst, ◌∙◌, arith}
+use Rattle.std.proofs.Common.{◌≡◌, ℕ, ℤ, pos, negsuc, ◌+◌, ◌*◌, ◌/◌, ◌%◌, ◌<◌, Bool, true, false, cond, eqb, ltb, List, None, Some, Result, Ok, Err, sym, ap, subst, ◌∙◌, arith}
 use Rattle.std.specs.Bool.{MatchBool}
 use Rattle.std.specs.Str.Parse.{digits_value}
 use Rattle.std.proofs.lemmas.Bool.Decides.{nat_tests}
@@ -7,21 +7,22 @@ use Rattle.std.proofs.lemmas.Nat.{div-add-mod'}
 use Rattle.jiff.specs.Words.{parse_timestamp, Error}
 use Rattle.reading_core.specs.ShortNumber.{is_number}
 use Rattle.moment_core.specs.MomentText.{IsMomentText, moment_within, moment_of_timestamp, moment_of}
+use Rattle.moment_core.specs.Limits.{moment_limit}
 use Rattle.std.proofs.lemmas.Option.{cond_some, none-some}
 use Rattle.list_core.proofs.Options.{tested_some}
 
-within_found : (value ms : ℕ) → moment_within value ≡ Some ms → (ms < 2 ^ 47) × (value ≡ ms)
+within_found : (value ms : ℕ) → moment_within value ≡ Some ms → (ms < moment_limit) × (value ≡ ms)
 within_found value ms is =
-    let passed = cond_some (ltb value (2 ^ 47)) value ms is in
-    let test : ltb value (2 ^ 47) ≡ true = passed.0 in
-    let low : value < 2 ^ 47 = grind (arith, nat_tests) in
-    (subst (λ n. n < 2 ^ 47) passed.1 low, passed.1)
+    let passed = cond_some (ltb value moment_limit) value ms is in
+    let test : ltb value moment_limit ≡ true = passed.0 in
+    let low : value < moment_limit = grind (arith, nat_tests) in
+    (subst (λ n. n < moment_limit) passed.1 low, passed.1)
 
-within_only : (ms : ℕ) → ms < 2 ^ 47 → moment_within ms ≡ Some ms
-within_only ms low = let test : ltb ms (2 ^ 47) ≡ true = grind (arith, nat_tests) in ap (λ b. cond b (Some ms) None) test
+within_only : (ms : ℕ) → ms < moment_limit → moment_within ms ≡ Some ms
+within_only ms low = let test : ltb ms moment_limit ≡ true = grind (arith, nat_tests) in ap (λ b. cond b (Some ms) None) test
 
 -- what is read of a timestamp is whole milliseconds
-at_found : (r : Result ℤ Error) (ms : ℕ) → moment_of_timestamp r ≡ Some ms → (ms < 2 ^ 47) × (r ≡ Ok (pos (ms * 1_000_000)))
+at_found : (r : Result ℤ Error) (ms : ℕ) → moment_of_timestamp r ≡ Some ms → (ms < moment_limit) × (r ≡ Ok (pos (ms * 1_000_000)))
 at_found (Ok (pos n)) ms is =
     let tested = tested_some (eqb (n % 1_000_000) 0) (moment_within (n / 1_000_000)) ms is in
     let whole : n % 1_000_000 ≡ 0 = let test : eqb (n % 1_000_000) 0 ≡ true = tested.0 in grind (arith, nat_tests) in
@@ -32,7 +33,7 @@ at_found (Ok (pos n)) ms is =
 at_found (Ok (negsuc n)) ms is = absurd (none-some ms is)
 at_found (Err e) ms is = absurd (none-some ms is)
 
-at_only : (ms : ℕ) → ms < 2 ^ 47 → moment_of_timestamp (Ok (pos (ms * 1_000_000))) ≡ Some ms
+at_only : (ms : ℕ) → ms < moment_limit → moment_of_timestamp (Ok (pos (ms * 1_000_000))) ≡ Some ms
 at_only ms low =
     let rest : ms * 1_000_000 % 1_000_000 ≡ 0 = omega arith in
     let whole : eqb (ms * 1_000_000 % 1_000_000) 0 ≡ true = grind (arith, nat_tests) in
@@ -40,11 +41,11 @@ at_only ms low =
     ap (λ b. cond b (moment_within (ms * 1_000_000 / 1_000_000)) None) whole ∙ ap moment_within parts ∙ within_only ms low
 
 read_found : (b : Bool) (value : ℕ) (r : Result ℤ Error) (ms : ℕ) → cond b (moment_within value) (moment_of_timestamp r) ≡ Some ms
-    → (ms < 2 ^ 47) × MatchBool b (ms ≡ value) (r ≡ Ok (pos (ms * 1_000_000)))
+    → (ms < moment_limit) × MatchBool b (ms ≡ value) (r ≡ Ok (pos (ms * 1_000_000)))
 read_found true value r ms is = let known = within_found value ms is in (known.0, sym known.1)
 read_found false value r ms is = at_found r ms is
 
-read_only : (b : Bool) (value : ℕ) (r : Result ℤ Error) (ms : ℕ) → ms < 2 ^ 47 → MatchBool b (ms ≡ value) (r ≡ Ok (pos (ms * 1_000_000)))
+read_only : (b : Bool) (value : ℕ) (r : Result ℤ Error) (ms : ℕ) → ms < moment_limit → MatchBool b (ms ≡ value) (r ≡ Ok (pos (ms * 1_000_000)))
     → cond b (moment_within value) (moment_of_timestamp r) ≡ Some ms
 read_only true value r ms low is = ap moment_within (sym is) ∙ within_only ms low
 read_only false value r ms low is = ap moment_of_timestamp is ∙ at_only ms low

@@ -1,5 +1,5 @@
 -- What ties the text of a span to its milliseconds.
-use Rattle.std.proofs.Common.{◌≡◌, ℕ, ◌+◌, ◌*◌, ◌^◌, ◌≤◌, Bool, true, false, not, ◌&&◌, cond, ltb, leb, List, [], ◌∷◌, ◌++◌, length, take, drop, Option, None, Some, ◌⊎◌, inl, inr, ⊎_elim, refl, sym, ap, subst, ◌∙◌, arith, codes}
+use Rattle.std.proofs.Common.{◌≡◌, ℕ, ◌+◌, ◌*◌, ◌≤◌, Bool, true, false, not, ◌&&◌, cond, ltb, leb, List, [], ◌∷◌, ◌++◌, length, take, drop, Option, None, Some, ◌⊎◌, inl, inr, ⊎_elim, refl, sym, ap, subst, ◌∙◌, arith, codes}
 use Rattle.std.specs.Char.{is_ascii_digit}
 use Rattle.std.specs.List.{before_first, position, position_or_len, list_all}
 use Rattle.std.specs.Option.{unwrap_or}
@@ -10,6 +10,7 @@ use Rattle.std.proofs.lemmas.List.{take-append-drop, take_at, drop_at}
 use Rattle.std.proofs.lemmas.List.Sums.{prefix_len-le-length}
 use Rattle.reading_core.specs.ShortNumber.{is_number, number_of}
 use Rattle.moment_core.specs.SpanText.{IsUnit, IsSpanText, unit_of, is_no_digit, span_within, span_of}
+use Rattle.moment_core.specs.Limits.{longest_span}
 use Rattle.std.proofs.lemmas.Bool.{and_parts}
 use Rattle.std.proofs.lemmas.Option.{cond_some, none-some}
 use Rattle.std.proofs.Math.Numerals.{one-add}
@@ -29,13 +30,13 @@ place_or_length p xs =
     (unwrap-place (position_or_len p xs) (length xs) low, low)
 
 within_found : (number each : Option ℕ) (ms : ℕ) → span_within number each ≡ Some ms
-    → (n : ℕ) × (e : ℕ) × (number ≡ Some n) × (each ≡ Some e) × (ms ≡ n * e) × (ms ≤ 2 ^ 46)
+    → (n : ℕ) × (e : ℕ) × (number ≡ Some n) × (each ≡ Some e) × (ms ≡ n * e) × (ms ≤ longest_span)
 within_found None each ms is = absurd (none-some ms is)
 within_found (Some n) None ms is = absurd (none-some ms is)
 within_found (Some n) (Some e) ms is =
-    let passed = cond_some (leb (n * e) (2 ^ 46)) (n * e) ms is in
-    let low : n * e ≤ 2 ^ 46 = let test : leb (n * e) (2 ^ 46) ≡ true = passed.0 in grind (arith, nat_tests) in
-    (n, e, refl, refl, sym passed.1, subst (λ k. k ≤ 2 ^ 46) passed.1 low)
+    let passed = cond_some (leb (n * e) longest_span) (n * e) ms is in
+    let low : n * e ≤ longest_span = let test : leb (n * e) longest_span ≡ true = passed.0 in grind (arith, nat_tests) in
+    (n, e, refl, refl, sym passed.1, subst (λ k. k ≤ longest_span) passed.1 low)
 
 -- a choice that gave a number
 choice : (b : Bool) (x : ℕ) (others : Option ℕ) (n : ℕ) → cond b (Some x) others ≡ Some n → ((b ≡ true) × (n ≡ x)) ⊎ (others ≡ Some n)
@@ -92,7 +93,7 @@ place_after (d ∷ digits) unit all begins =
     ap (λ b. cond (not (not b)) (1 + position_or_len is_no_digit (digits ++ unit)) 0) parts.0
     ∙ ap (λ n. 1 + n) others ∙ one-add (length digits)
 
-passes : (n : ℕ) → n ≤ 2 ^ 46 → leb n (2 ^ 46) ≡ true
+passes : (n : ℕ) → n ≤ longest_span → leb n longest_span ≡ true
 passes n low = grind (arith, nat_tests)
 
 pub span_of-only : (text : List ℕ) (ms : ℕ) → IsSpanText text ms → span_of text ≡ Some ms
@@ -110,8 +111,8 @@ span_of-only text ms is =
     let number : number_of 12 (before_first is_no_digit text) ≡ Some (digits_value 10 is.digits) =
     ap (number_of 12) before ∙ ap (λ b. cond b (Some (digits_value 10 is.digits)) None) is.is_number in
     let each : unit_of (drop (position_or_len is_no_digit text) text) ≡ Some is.each = ap unit_of after ∙ unit.0 in
-    let low : digits_value 10 is.digits * is.each ≤ 2 ^ 46 = subst (λ n. n ≤ 2 ^ 46) is.ms_is is.at_most in
-    let test : leb (digits_value 10 is.digits * is.each) (2 ^ 46) ≡ true = passes (digits_value 10 is.digits * is.each) low in
+    let low : digits_value 10 is.digits * is.each ≤ longest_span = subst (λ n. n ≤ longest_span) is.ms_is is.at_most in
+    let test : leb (digits_value 10 is.digits * is.each) longest_span ≡ true = passes (digits_value 10 is.digits * is.each) low in
     ap (λ n. span_within n (unit_of (drop (position_or_len is_no_digit text) text))) number ∙ ap (span_within (Some (digits_value 10 is.digits))) each
     ∙ ap (λ b. cond b (Some (digits_value 10 is.digits * is.each)) None) test ∙ ap Some (sym is.ms_is)
 

@@ -5,6 +5,7 @@ use Rattle.label_sets.proofs.LabelValues.{by_bool}
 use Rattle.std.specs.List.Sorted.{IsStrictlyIncreasing, IsPartitionPoint}
 use Rattle.std.proofs.lemmas.Bool.Decides.{nat_tests}
 use Rattle.std.proofs.lemmas.Map.Keys.{sorted_from_strictly_increasing, non_decreasing_from_sorted}
+use Rattle.std.proofs.lemmas.Option.{same_Some}
 
 pub found_at : (number : ℕ) (all : List ℕ) (there : ℕ) → ((k : ℕ) → k < there → k < length all → get_or all k 0 ≤ number) → (there < length all → number < get_or all there 0) → slice_get all there ≡ find (nat_lt number) all
 found_at number [] there below above = refl
@@ -39,11 +40,8 @@ stops number x xs t = rw t refl
 passes : (number x : ℕ) (xs : List ℕ) → nat_lt number x ≡ false → find (nat_lt number) (x ∷ xs) ≡ find (nat_lt number) xs
 passes number x xs f = rw f refl
 
-same_number : (x y : ℕ) → Some x ≡ Some y → x ≡ y
-same_number x y e = cc
-
 pub behind_small : (number next : ℕ) (all : List ℕ) → All (λ n. n < 2 ^ 32) all → find (nat_lt number) all ≡ Some next → next < 2 ^ 32
 behind_small number next [] small is = absurd (cc (is))
 behind_small number next (x ∷ xs) small is = by_bool (nat_lt number x)
-    (λ t. subst (λ n. n < 2 ^ 32) (same_number x next (sym (stops number x xs t) ∙ is)) (small 0 x (omega arith)))
+    (λ t. subst (λ n. n < 2 ^ 32) (same_Some x next (sym (stops number x xs t) ∙ is)) (small 0 x (omega arith)))
     (λ f. behind_small number next xs (λ k d h. small (suc k) d (omega arith)) (sym (passes number x xs f) ∙ is))

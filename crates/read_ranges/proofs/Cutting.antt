@@ -5,6 +5,7 @@ use Rattle.std.proofs.lemmas.List.{append-nil, drop_more, drop_all, drop-drop, t
 use Rattle.std.proofs.lemmas.List.Elements.{All-nil, All-push}
 use Rattle.read_ranges.specs.Stretches.{Stretch, members, last_behind, AreJoined, BeginAnew, AreStretches, stretch_at, IsSpanOf}
 use Rattle.read_ranges.specs.declared.span.Span.{Span}
+use Rattle.list_core.proofs.Numbers.{last_or_below}
 
 abbrev pub span : ℕ → ℕ → Span
 span start end = record { start = start; end = end }
@@ -23,9 +24,6 @@ parted list start end n within is =
     ap (λ (xs : List ℕ). get_or list start 0 ∷ (take n (drop (start + 1) list) ++ xs)) (sym e)
     ∙ ap (λ (xs : List ℕ). get_or list start 0 ∷ xs) (take-append-drop n (drop (start + 1) list))
     ∙ sym (drop_more list start 0 within)
-
-last_or_below : (k place : ℕ) → k < place + 1 → (k < place) ⊎ (k ≡ place)
-last_or_below k place h = grind arith
 
 module _ (Joins : ℕ → ℕ → Type 0) (list : List ℕ) where
   -- the member behind the one at a place joins it

@@ -15,6 +15,7 @@ use Rattle.index_v2.specs.SeriesLabels.{label_of, labels_of}
 use Rattle.index_v2.proofs.LabelReading.{label_parts, again, moved, one_more, none_more}
 use Rattle.index_v2.proofs.LabelsOwned.{AllBefore, some_bytes, no_value, placed_last}
 use Rattle.index_v2.proofs.LabelLaws.{above_nothing, labels_none}
+use Rattle.list_core.proofs.Lists.{some-from_long}
 
 -- ---- a label behind those of a set
 
@@ -31,10 +32,6 @@ below before name (l ∷ ls) less (inr lesser, others) = (before_trans l.name be
 up_to : (name : List ℕ) (ls : List Label) (l : Label) → l.name ≡ name → AllBefore name ls → UpTo name (ls ++ l ∷ [])
 up_to name [] l is all = (inl is, tt)
 up_to name (m ∷ ls) l is all = (inr all.0, up_to name ls l is all.1)
-
-long_value : (value : List ℕ) → 0 < length value → value ≢ []
-long_value [] h e = absurd (omega arith)
-long_value (v ∷ value) h e = cc
 
 added_last : (ls : List Label) (l : Label) (new : List Label) → AllBefore l.name ls → l.name ≢ [] → l.value ≢ [] → added ls l.name l.value ≡ Ok new → new ≡ ls ++ l ∷ []
 unfolding added
@@ -93,7 +90,7 @@ module _ (symbols : List (List ℕ)) (names values : List ℕ) where
         pub new_is : new ≡ labels ++ label ∷ []
         new_is =
             let is = label_parts symbols before place name value label found in
-            added_last labels label new (below before label.name labels is.ascends far.up) (above_nothing before label.name is.ascends) (long_value label.value is.some) adds
+            added_last labels label new (below before label.name labels is.ascends far.up) (above_nothing before label.name is.ascends) (some-from_long label.value is.some) adds
 
         pub named_step : (next : ℕ) → next ≡ place + 1 → AreNamed symbols names values label.name next new
         named_step next next_is =

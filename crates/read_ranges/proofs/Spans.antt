@@ -1,5 +1,5 @@
 -- The members of a stretch, by the places of the first and the last.
-use Rattle.std.proofs.Common.{◌≡◌, ℕ, zero, suc, ◌+◌, ◌-◌, ◌<◌, ◌≤◌, List, [], ◌∷◌, take, drop, length, get_or, refl, sym, ap, ap₂, subst, ◌∙◌, arith}
+use Rattle.std.proofs.Common.{◌≡◌, ℕ, zero, suc, ◌+◌, ◌-◌, ◌<◌, ◌≤◌, List, take, drop, length, get_or, sym, ap, ap₂, subst, ◌∙◌, arith}
 use Rattle.std.specs.Prelude.{◌*◌, ◌/◌, ◌%◌, ◌^◌, All}
 use Rattle.std.specs.List.Sorted.{IsStrictlyIncreasing}
 use Rattle.std.proofs.lemmas.List.{drop_more, length-drop, get_or-drop}
@@ -10,6 +10,7 @@ use Rattle.read_ranges.specs.IndexRanges.{Run, run_of, run_end}
 use Rattle.read_ranges.specs.ChunkRanges.{Group, group_of}
 use Rattle.read_ranges.specs.Stretches.{members, last_behind, last_of, stretch_at, IsSpanOf}
 use Rattle.read_ranges.specs.declared.span.Span.{Span}
+use Rattle.list_core.proofs.Lists.{get_or-any}
 
 pub members_at : (list : List ℕ) (span : Span) → IsSpanOf list span → take (span.end - span.start) (drop span.start list) ≡ members (stretch_at list span)
 members_at list span is =
@@ -26,11 +27,6 @@ last_upto list (suc n) start last is within =
 
 pub last_at : (list : List ℕ) (span : Span) → IsSpanOf list span → get_or list (span.end - 1) 0 ≡ last_of (stretch_at list span)
 last_at list span is = sym (last_upto list (span.end - (span.start + 1)) span.start (span.end - 1) (omega (arith, is.0)) (omega (arith, is.0, is.1)))
-
-any_default : (list : List ℕ) (k d e : ℕ) → k < length list → get_or list k d ≡ get_or list k e
-any_default [] k d e within = absurd (omega (arith, within))
-any_default (x ∷ xs) zero d e within = refl
-any_default (x ∷ xs) (suc k) d e within = any_default xs k d e (omega (arith, within))
 
 -- ---- what is read of them
 
@@ -61,5 +57,5 @@ run_begins list span numbers is up are =
     (λ k d h.
     let within : span.start + k < length list = omega (arith, h, length-drop span.start list) in
     let le : get_or list span.start d ≤ get_or list (span.start + k) d = rises span.start (span.start + k) d (omega arith) within in
-    let same : get_or list span.start d ≡ get_or list span.start 0 = any_default list span.start d 0 (omega (arith, within)) in
+    let same : get_or list span.start d ≡ get_or list span.start 0 = get_or-any list span.start d 0 (omega (arith, within)) in
     subst (λ n. 16 * get_or list span.start 0 ≤ 16 * n) (sym (get_or-drop span.start list k d)) (omega (arith, le, same))))

@@ -67,3 +67,8 @@ one_answer x y r e f = cc
 
 pub ok_not_err : {A E : Type 0} (x : A) (d : E) (r : Result A E) → r ≡ Ok x → r ≡ Err d → ⊥
 ok_not_err x d r e f = absurd cc
+
+-- a result is one or the other
+pub by_result : {A E P : Type 0} (r : Result A E) → ((x : A) → r ≡ Ok x → P) → ((d : E) → r ≡ Err d → P) → P
+by_result (Ok x) f g = f x refl
+by_result (Err d) f g = g d refl

@@ -6,9 +6,10 @@ use Rattle.std.specs.Ordering.{is_eq}
 use Rattle.std.proofs.lemmas.List.Folds.{list_any-append}
 use Rattle.label_sets.specs.Labels.{compare_sets}
 use Rattle.label_sets.specs.declared.label.Label.{Label}
-use Rattle.vertical_merge.proofs.Orders.{same_set, set_itself}
+use Rattle.label_sets.proofs.LabelValues.{same_set}
+use Rattle.vertical_merge.proofs.Orders.{set_itself}
 use Rattle.report_lines.specs.Summed.{HasEach, each_once}
-use Rattle.list_core.proofs.Bools.{Equal-from_is_eq}
+use Rattle.list_core.proofs.Bools.{Equal-from_is_eq, or_or_false}
 
 abbrev is_same : List Label → List Label → Bool
 is_same one other = is_eq (compare_sets one other)
@@ -30,14 +31,9 @@ same_by one other false true first second =
 same_back : (one other : List Label) → is_same one other ≡ is_same other one
 same_back one other = same_by one other (is_same one other) (is_same other one) refl refl
 
-or_false : (a b : Bool) → (a || (b || false)) ≡ (a || b)
-or_false true b = refl
-or_false false true = refl
-or_false false false = refl
-
 among_more : (set new : List Label) (sets : List (List Label)) → among set (sets ++ new ∷ []) ≡ (among set sets || is_same set new)
 among_more set new sets =
-    list_any-append (λ (other : List Label). is_eq (compare_sets set other)) sets (new ∷ []) ∙ or_false (among set sets) (is_same set new)
+    list_any-append (λ (other : List Label). is_eq (compare_sets set other)) sets (new ∷ []) ∙ or_or_false (among set sets) (is_same set new)
 
 -- a set more at the end, by whether it is the first, whether the first comes again, and whether the new one does
 step : (first : List Label) (once more : List (List Label)) (again same seen : Bool) → (same ≡ true → again ≡ seen) → length more ≡ length once + (if seen then 0 else 1) → length (if again || same then more else first ∷ more) ≡ length (if again then once else first ∷ once) + (if same || seen then 0 else 1)

@@ -3,6 +3,7 @@ use Rattle.std.proofs.Common.{◌≡◌, ℕ, zero, suc, ◌+◌, ◌%◌, ◌^�
 use Rattle.std.specs.List.{list_all, range_with_len}
 use Rattle.std.proofs.lemmas.Bool.Decides.{nat_tests}
 use Rattle.list_core.proofs.Lists.{nil_not_middle}
+use Rattle.list_core.specs.Lists.{is_one_of}
 use Rattle.matchers.specs.SelectorText.{IsSelectorText}
 use Rattle.matchers.specs.Selectors.{is_metric_name}
 use Rattle.matchers.specs.declared.matcher.Matcher.{Matcher}
@@ -18,7 +19,7 @@ use Rattle.script_fields.specs.Fields.{is_empty, next_field}
 use Rattle.script_workers.specs.Hands.{gateway_count, with_hands, hands_of}
 use Rattle.script_fields.specs.Values.{is_reserved, agree, moment_from}
 use Rattle.script_core.specs.Lines.{fields_line, may_begin, at_line, stop_field, upload_line, sync_line, compact_line, clean_line, query_line, question_at, selector_field}
-use Rattle.script_core.specs.State.{State, all_phases, begin_phase, add_task, add_query, note_sync, is_declared, is_synced, script_of_state, are_all_synced, phase_compacts}
+use Rattle.script_core.specs.State.{State, all_phases, begin_phase, add_task, add_query, note_sync, is_declared, script_of_state, are_all_synced, phase_compacts}
 use Rattle.script_core.specs.Spelling.{SoFar, spaced, IsField, AtLine, AddsTask, AreStopTexts, no_stop, stops_at, UploadLine, SyncLine, CompactLine, CleanLine, QueryLine}
 use Rattle.script_fields.proofs.FieldLaws.{no_space, cut_again, cut_last}
 use Rattle.script_core.proofs.ValueLaws.{time_again, ulid_again, moment_again, stop_count_again}
@@ -225,7 +226,7 @@ module _ (st : State) (number : ℕ) (line : List ℕ) (next : SoFar) (kept : Ke
       let read_low = time_again says.low_text says.low low.written (near_tested says.low low.near) in
       let read_high = time_again says.high_text says.high high.written (near_tested says.high high.near) in
       let times : int_lt says.high says.low ≡ false = not_before says.low says.high says.times in
-      let synced : are_all_synced (closed st) ≡ true = range_passes (is_synced st.synced) 0 (length st.gateways) (λ gateway from below. kept.tasks.are_synced gateway ∙ says.synced gateway (omega arith)) in
+      let synced : are_all_synced (closed st) ≡ true = range_passes (is_one_of st.synced) 0 (length st.gateways) (λ gateway from below. kept.tasks.are_synced gateway ∙ says.synced gateway (omega arith)) in
       let task = task_again (closed st) number (works.Query says.low says.high (length st.selectors)) says.script kept_closed says.task in
       let begun : is_some st.phase ≡ true = task.begun in
       let added = task.read in

@@ -26,11 +26,12 @@ use Rattle.std.proofs.lemmas.Bool.{and_parts}
 use Rattle.script_fields.proofs.FieldLaws.{no_space, spaceless}
 use Rattle.script_core.proofs.ValueLaws.{time_fits}
 use Rattle.script_core.proofs.Kept.{Kept, so_far_of}
-use Rattle.script_core.proofs.LineTools.{is_some_field, no_end}
+use Rattle.script_core.proofs.LineTools.{is_some_field}
 use Rattle.script_core.proofs.FoundSeries.{sample_time, added, last_there}
 use Rattle.script_core.proofs.AgainSetup.{IsRead, starts_again}
 use Rattle.script_core.proofs.SpelledValues.{near_tested, rise_tested, within_tested}
 use Rattle.script_core.proofs.SpelledSeries.{place_fresh, place_inserted}
+use Rattle.list_core.proofs.Lists.{pushed_not_nil}
 
 -- ---- texts that are joined and cut again
 
@@ -128,7 +129,7 @@ series_of_body OnShelf = []
 last_by : (st : State) (last : Option Last) (others : List Block) (ulid : ℕ) (labels : List Label) (min_time max_time : ℤ) (series : List Series) → Kept st → st.last ≡ last → with_last st.blocks last ≡ others ++ record { ulid = ulid; labels = labels; body = Inline min_time max_time series } ∷ [] → LastIs st others ulid labels min_time max_time series
 unfolding min_of max_of series_of_body
 last_by st None others ulid labels min_time max_time series kept is all =
-    absurd (no_end others (record { ulid = ulid; labels = labels; body = Inline min_time max_time series }) (sym (sym (kept.blocks.no_last is) ∙ all)))
+    absurd (pushed_not_nil others (record { ulid = ulid; labels = labels; body = Inline min_time max_time series }) (sym (sym (kept.blocks.no_last is) ∙ all)))
 last_by st (Some block) others ulid labels min_time max_time series kept is all =
     let p = same_from_push st.blocks others (block_of block) (record { ulid = ulid; labels = labels; body = Inline min_time max_time series }) all in
     record {

@@ -23,6 +23,7 @@ use Rattle.script_core.specs.GivenUp.{GivesUnless, IsWholeGivenUp}
 use Rattle.script_core.specs.Reading.{script_of}
 use Rattle.script_core.specs.Spelling.{spaced, IsField, AreSampleFields, SoFar, nothing, GatewayLine, BlockLine, ShelfLine, SeriesLine, AtLine, AddsTask, UploadLine, SyncLine, CompactLine, CleanLine, QueryLine, RuleLine, ReplicaLine, RetentionLine, Says, Say, Spells}
 use Rattle.script_core.proofs.ReadScripts.{found_of}
+use Rattle.list_core.proofs.Lists.{sum_by-push}
 
 -- ---- fields
 
@@ -81,11 +82,8 @@ selector_fits text selector (inr is) =
 
 -- ---- lists with one member more, and with their last member changed
 
-one_more : {A : Type 0} (f : A → ℕ) (xs : List A) (x : A) → sum_by f (xs ++ x ∷ []) ≡ sum_by f xs + f x
-one_more f xs x = omega (arith, sum_by-append f xs (x ∷ []), sum_by-cons f x [])
-
 at_end : {A : Type 0} (f : A → ℕ) (xs front : List A) (x : A) → xs ≡ front ++ x ∷ [] → sum_by f xs ≡ sum_by f front + f x
-at_end f xs front x is = omega (arith, ap (sum_by f) is, one_more f front x)
+at_end f xs front x is = omega (arith, ap (sum_by f) is, sum_by-push f front x)
 
 among : {A : Type 0} (f : A → ℕ) (front back : List A) (x : A) → sum_by f (front ++ x ∷ back) ≡ sum_by f (front ++ back) + f x
 among f front back x = omega (arith, sum_by-append f front (x ∷ back), sum_by-cons f x back, sum_by-append f front back)
@@ -100,7 +98,7 @@ gateway_adds before after line is =
     omega (
       arith,
       ap size_of is.adds,
-      one_more members_of_name before.script.gateways is.name,
+      sum_by-push members_of_name before.script.gateways is.name,
       length-append before.script.partitions (is.partition ∷ []),
       ap length is.spelled,
       longer_field (codes "gateway") is.name is.texts,
@@ -116,7 +114,7 @@ replica_adds before after line is =
     omega (
       arith,
       ap size_of is.adds,
-      one_more members_of_name before.script.rules.replicas is.name,
+      sum_by-push members_of_name before.script.rules.replicas is.name,
       ap length is.spelled,
       three_fields (codes "rule") (codes "replica-label") is.name,
     )
@@ -134,7 +132,7 @@ block_adds before after line is =
       longer_field (codes "block") is.ulid_text (is.min_text ∷ is.max_text ∷ is.labels_text ∷ []),
       longer_field is.ulid_text is.min_text (is.max_text ∷ is.labels_text ∷ []),
       three_fields is.min_text is.max_text is.labels_text,
-      one_more members_of_block before.script.blocks (record { ulid = is.ulid; labels = is.labels; body = Inline is.min_time is.max_time [] }),
+      sum_by-push members_of_block before.script.blocks (record { ulid = is.ulid; labels = is.labels; body = Inline is.min_time is.max_time [] }),
     )
 
 shelf_adds : (before after : SoFar) (line : List ℕ) → ShelfLine before line after → size_of after ≤ size_of before + length line
@@ -145,7 +143,7 @@ shelf_adds before after line is =
       ap length is.spelled,
       longer_text is.labels_text is.labels is.are_labels,
       three_fields (codes "shelf") is.ulid_text is.labels_text,
-      one_more members_of_block before.script.blocks (record { ulid = is.ulid; labels = is.labels; body = OnShelf }),
+      sum_by-push members_of_block before.script.blocks (record { ulid = is.ulid; labels = is.labels; body = OnShelf }),
     )
 
 series_adds : (before after : SoFar) (line : List ℕ) → SeriesLine before line after → size_of after ≤ size_of before + length line
@@ -161,7 +159,7 @@ series_adds before after line is =
       samples_fit is.texts is.samples is.are_samples,
       three_fields (codes "series") is.labels_text (spaced is.texts),
       at_end members_of_block before.script.blocks is.others old is.last,
-      one_more members_of_block is.others new,
+      sum_by-push members_of_block is.others new,
       among members_of_series is.lesser is.greater one,
     )
 
@@ -172,7 +170,7 @@ at_adds before after number line is =
       ap size_of is.adds,
       ap length is.spelled,
       two_fields (codes "at") is.text,
-      one_more members_of_phase before.script.phases (record { line = number; moment = record { ms = is.moment }; tasks = [] }),
+      sum_by-push members_of_phase before.script.phases (record { line = number; moment = record { ms = is.moment }; tasks = [] }),
     )
 
 task_adds : (before after : Script) (number : ℕ) (work : Work) → AddsTask before number work after → members_of_script after ≡ members_of_script before + 1
@@ -181,7 +179,7 @@ task_adds before after number work is =
       arith,
       ap members_of_script is.adds,
       at_end members_of_phase before.phases is.others is.phase is.last,
-      one_more members_of_phase is.others (record is.phase { tasks = is.phase.tasks ++ record { line = number; work = work } ∷ [] }),
+      sum_by-push members_of_phase is.others (record is.phase { tasks = is.phase.tasks ++ record { line = number; work = work } ∷ [] }),
       length-append is.phase.tasks (record { line = number; work = work } ∷ []),
     )
 
@@ -211,7 +209,7 @@ query_adds before after number line is =
       selector_fits is.selector_text is.selector is.is_selector.is_text,
       three_fields is.low_text is.high_text is.selector_text,
       task_adds before.script is.script number _ is.task,
-      one_more members_of_selector is.script.selectors is.selector,
+      sum_by-push members_of_selector is.script.selectors is.selector,
     )
 
 line_adds : (before after : SoFar) (number : ℕ) (line : List ℕ) → Says before number line after → size_of after ≤ size_of before + length line

@@ -8,6 +8,8 @@ use Rattle.std.proofs.Math.Bool.{or-false}
 use Rattle.reading_core.proofs.Binds.{bind_ok, unless_ok, ok_is, refused_as_ok, unless_is, then_ok, ok_or_ok}
 use Rattle.std.proofs.lemmas.Bool.{and_parts, not-true, cases_Bool}
 use Rattle.list_core.proofs.Bools.{bytes_eq-same}
+use Rattle.list_core.specs.Lists.{is_one_of}
+use Rattle.list_core.proofs.Lists.{pushed_not_nil}
 use Rattle.moment_core.specs.declared.moment.Moment.{Moment}
 use Rattle.moment_core.specs.declared.rules.Rules.{Rules}
 use Rattle.script_fields.specs.declared.cause.LineCause.TheVariants as causes
@@ -20,13 +22,13 @@ use Rattle.script_workers.specs.Hands.{gateway_count, with_hands}
 use Rattle.script_fields.specs.Values.{agree, stop_count}
 use Rattle.script_fields.specs.LineRefusals.{bad}
 use Rattle.script_core.specs.Lines.{may_begin, at_line, stop_field, upload_line, sync_line, compact_line, clean_line, query_line, Asked, has_begun, question_at, selector_field}
-use Rattle.script_core.specs.State.{State, all_phases, begin_phase, add_task, add_query, note_sync, is_declared, is_synced, script_of_state, are_all_synced, phase_compacts}
+use Rattle.script_core.specs.State.{State, all_phases, begin_phase, add_task, add_query, note_sync, is_declared, script_of_state, are_all_synced, phase_compacts}
 use Rattle.script_workers.specs.Works.{is_sync_of}
 use Rattle.script_core.specs.Spelling.{spaced, IsTimeText, AtLine, AddsTask, AreStopTexts, no_stop, stops_at, UploadLine, SyncLine, CompactLine, CleanLine, QueryLine}
 use Rattle.script_fields.proofs.FieldLaws.{Cut, cut_found}
 use Rattle.script_core.proofs.ValueLaws.{time_found, ulid_found, moment_found, stop_count_found}
 use Rattle.script_core.proofs.Kept.{Kept, KeepsTasks, at, so_far_of, phase_kept, task_kept, sync_noted, hands_of-append}
-use Rattle.script_core.proofs.LineTools.{is_field, cut_rest, only_found, last_phase, no_end, unit_is}
+use Rattle.script_core.proofs.LineTools.{is_field, cut_rest, only_found, last_phase, unit_is}
 use Rattle.script_core.proofs.FoundSetup.{Starts, closed, not_below, AreLeft, named_cut}
 use Rattle.script_core.proofs.SpelledValues.{near_spelled, free_spelled, agree_spelled}
 use Rattle.script_core.proofs.ReadSelectors.{selector_found}
@@ -38,7 +40,7 @@ use Rattle.script_fields.specs.Limits.{most_tasks}
 
 first_agrees : (rules : Rules) (phases : List Phase) (phase : Option Phase) (moment : Moment) → may_begin rules phase moment ≡ Ok tt → all_phases phases phase ≡ [] → agree rules ≡ true
 first_agrees rules phases None moment h early = unless_is (agree rules) BadRules h
-first_agrees rules phases (Some phase) moment h early = absurd (no_end phases phase early)
+first_agrees rules phases (Some phase) moment h early = absurd (pushed_not_nil phases phase early)
 
 not_sooner : (rules : Rules) (last : Phase) (moment : Moment) → may_begin rules (Some last) moment ≡ Ok tt → last.moment.ms ≤ moment.ms
 not_sooner rules last moment h = leb-true _ _ (unless_is (nat_le last.moment.ms moment.ms) FallingMoment h)
@@ -78,7 +80,7 @@ module _ (st after : State) (number : ℕ) (work : Work) (kept : Kept st) (task 
       }
 
   -- the last phase with the task, whatever syncs are noted beside it
-  pub more_kept : (noted : List ℕ) → ((gateway : ℕ) → is_synced noted gateway ≡ (is_synced st.synced gateway || is_sync_of gateway work)) → Kept (record after { synced = noted })
+  pub more_kept : (noted : List ℕ) → ((gateway : ℕ) → is_one_of noted gateway ≡ (is_one_of st.synced gateway || is_sync_of gateway work)) → Kept (record after { synced = noted })
   more_kept noted notes =
       let tasks = task_kept st.gateways st.phases task.phase st.synced noted st.hands st.activities (record { line = number; work = work }) (with_phase (Some task.phase) task.begun) notes in
       subst (λ (s : State). Kept (record s { synced = noted })) task.is (record { blocks = kept.blocks; follows = kept.follows; tasks = tasks })
@@ -86,7 +88,7 @@ module _ (st after : State) (number : ℕ) (work : Work) (kept : Kept st) (task 
   -- nothing is noted
   pub same_kept : ((gateway : ℕ) → is_sync_of gateway work ≡ false) → Kept after
   same_kept never =
-      let all = more_kept st.synced (λ gateway. sym (or-false (is_synced st.synced gateway)) ∙ ap (λ b. is_synced st.synced gateway || b) (sym (never gateway))) in
+      let all = more_kept st.synced (λ gateway. sym (or-false (is_one_of st.synced gateway)) ∙ ap (λ b. is_one_of st.synced gateway || b) (sym (never gateway))) in
       subst (λ (s : State). Kept (record s { synced = st.synced }) → Kept s) task.is (λ k. k) all
 
 -- ---- queries
@@ -235,7 +237,7 @@ module _ (st after : State) (number : ℕ) (line : List ℕ) (left : Option (Lis
       let name = only_found left a.0 (refused_as_ok _ _ _ a.1) in
       let task = added (closed st) e.0 number (works.Sync d.0) e.1 in
       let synced : e.0.synced ≡ st.synced = ap (λ (s : State). s.synced) (sym task.is) in
-      let noted = more_kept (closed st) e.0 number (works.Sync d.0) kept_closed task (cond (is_synced e.0.synced d.0) e.0.synced (e.0.synced ++ d.0 ∷ [])) (λ gateway. sync_noted e.0.synced d.0 gateway ∙ ap (λ s. is_synced s gateway || (d.0 == gateway)) synced) in (
+      let noted = more_kept (closed st) e.0 number (works.Sync d.0) kept_closed task (cond (is_one_of e.0.synced d.0) e.0.synced (e.0.synced ++ d.0 ∷ [])) (λ gateway. sync_noted e.0.synced d.0 gateway ∙ ap (λ s. is_one_of s gateway || (d.0 == gateway)) synced) in (
         record {
           name = a.0;
           gateway = d.0;
@@ -317,7 +319,7 @@ module _ (st after : State) (number : ℕ) (line : List ℕ) (left : Option (Lis
           is_high = asks.is_high;
           is_selector = selector_found st.rules.replicas a.0.text b.0 (refused_as_ok _ _ _ b.1);
           times = asks.times;
-          synced = λ gateway below. sym (kept.tasks.are_synced gateway) ∙ all_in_range (is_synced st.synced) 0 (length st.gateways) c.0 gateway (omega arith) (omega arith);
+          synced = λ gateway below. sym (kept.tasks.are_synced gateway) ∙ all_in_range (is_one_of st.synced) 0 (length st.gateways) c.0 gateway (omega arith) (omega arith);
           script = script_of_state d.0;
           task = adds_task (closed st) d.0 number work kept_closed task;
           adds = ap so_far_of (sym same) ∙ ap (λ (s : State). at (record (script_of_state d.0) { selectors = d.0.selectors ++ b.0 ∷ [] }) s.continues) (sym task.is);

@@ -19,6 +19,7 @@ use Rattle.label_sets.specs.declared.series.Series.{Series}
 use Rattle.moment_core.specs.declared.moment.Moment.{Moment}
 use Rattle.list_core.proofs.Bools.{same-from_Equal}
 use Rattle.list_core.proofs.Order.{sorted_nil}
+use Rattle.list_core.specs.Lists.{is_one_of}
 use Rattle.script_core.specs.declared.block.Block.{Block}
 use Rattle.script_core.specs.declared.body.Body.TheVariants.{OnShelf}
 use Rattle.script_workers.specs.declared.hand.Hand.{Hand}
@@ -27,7 +28,7 @@ use Rattle.script_core.specs.declared.script.Script.{Script}
 use Rattle.script_workers.specs.declared.task.Task.{Task}
 use Rattle.script_workers.specs.declared.work.Work.{Work}
 use Rattle.script_workers.specs.Hands.{gateway_count, with_hands, hands_of, hands_from}
-use Rattle.script_core.specs.State.{State, Last, start, block_of, with_last, all_blocks, has_ended, all_phases, is_synced, with_series, script_of_state}
+use Rattle.script_core.specs.State.{State, Last, start, block_of, with_last, all_blocks, has_ended, all_phases, with_series, script_of_state}
 use Rattle.script_core.specs.Spelling.{SoFar, nothing}
 use Rattle.script_workers.specs.Works.{works_in, works_of, is_sync_of, has_sync}
 use Rattle.script_core.specs.Blocks.{declares}
@@ -57,7 +58,7 @@ pub record KeepsBlocks (blocks : List Block) (last : Option Last) (shelved : Lis
 -- what is kept of the tasks is what they give
 pub record KeepsTasks (gateways : List (List ℕ)) (phases : List Phase) (phase : Option Phase) (synced : List ℕ) (hands : List Hand) (activities : ℕ) : Type 0 where
   pub no_phase : phase ≡ None → phases ≡ []
-  pub are_synced : (gateway : ℕ) → is_synced synced gateway ≡ has_sync (works_of (all_phases phases phase)) gateway
+  pub are_synced : (gateway : ℕ) → is_one_of synced gateway ≡ has_sync (works_of (all_phases phases phase)) gateway
   pub are_hands : (last : Phase) → phase ≡ Some last → hands ≡ hands_of (gateway_count gateways) last.tasks
   pub are_counted : activities ≡ length (works_of (all_phases phases phase))
 
@@ -228,7 +229,7 @@ module _ (gateways : List (List ℕ)) (phases : List Phase) (phase : Option Phas
       }
 
 -- another task of the last phase
-pub task_kept : (gateways : List (List ℕ)) (phases : List Phase) (phase : Phase) (synced noted : List ℕ) (hands : List Hand) (activities : ℕ) (task : Task) → KeepsTasks gateways phases (Some phase) synced hands activities → ((gateway : ℕ) → is_synced noted gateway ≡ (is_synced synced gateway || is_sync_of gateway task.work)) → KeepsTasks gateways phases (Some (record phase { tasks = phase.tasks ++ task ∷ [] })) noted (with_hands (gateway_count gateways) hands (length phase.tasks) task.work) (activities + 1)
+pub task_kept : (gateways : List (List ℕ)) (phases : List Phase) (phase : Phase) (synced noted : List ℕ) (hands : List Hand) (activities : ℕ) (task : Task) → KeepsTasks gateways phases (Some phase) synced hands activities → ((gateway : ℕ) → is_one_of noted gateway ≡ (is_one_of synced gateway || is_sync_of gateway task.work)) → KeepsTasks gateways phases (Some (record phase { tasks = phase.tasks ++ task ∷ [] })) noted (with_hands (gateway_count gateways) hands (length phase.tasks) task.work) (activities + 1)
 task_kept gateways phases phase synced noted hands activities task kept notes =
     let more = works_of-more phases phase task in
     record {
@@ -238,20 +239,20 @@ task_kept gateways phases phase synced noted hands activities task kept notes =
       are_counted = ap (λ n. n + 1) kept.are_counted ∙ sym (length-append (works_of (phases ++ phase ∷ [])) (task.work ∷ [])) ∙ ap length (sym more);
     }
 
-is_synced-same : (synced : List ℕ) (own gateway : ℕ) → own ≡ gateway → is_synced synced own ≡ true → is_synced synced gateway ≡ true
-is_synced-same synced own gateway same is = ap (is_synced synced) (sym same) ∙ is
+is_synced-same : (synced : List ℕ) (own gateway : ℕ) → own ≡ gateway → is_one_of synced own ≡ true → is_one_of synced gateway ≡ true
+is_synced-same synced own gateway same is = ap (is_one_of synced) (sym same) ∙ is
 
-noted_in : (synced : List ℕ) (own gateway : ℕ) (b : Bool) → is_synced synced own ≡ true → (own == gateway) ≡ b → is_synced synced gateway ≡ (is_synced synced gateway || b)
+noted_in : (synced : List ℕ) (own gateway : ℕ) (b : Bool) → is_one_of synced own ≡ true → (own == gateway) ≡ b → is_one_of synced gateway ≡ (is_one_of synced gateway || b)
 noted_in synced own gateway true is same =
-    let e : own ≡ gateway = grind (arith, nat_tests) in is_synced-same synced own gateway e is ∙ or_comm true (is_synced synced gateway)
-noted_in synced own gateway false is same = sym (or-false (is_synced synced gateway))
+    let e : own ≡ gateway = grind (arith, nat_tests) in is_synced-same synced own gateway e is ∙ or_comm true (is_one_of synced gateway)
+noted_in synced own gateway false is same = sym (or-false (is_one_of synced gateway))
 
-noted_by : (synced : List ℕ) (own gateway : ℕ) (b : Bool) → is_synced synced own ≡ b → is_synced (cond b synced (synced ++ own ∷ [])) gateway ≡ (is_synced synced gateway || (own == gateway))
+noted_by : (synced : List ℕ) (own gateway : ℕ) (b : Bool) → is_one_of synced own ≡ b → is_one_of (cond b synced (synced ++ own ∷ [])) gateway ≡ (is_one_of synced gateway || (own == gateway))
 noted_by synced own gateway true is =
     noted_in synced own gateway (own == gateway) is refl
 noted_by synced own gateway false is =
-    list_any-append (λ place. place == gateway) synced (own ∷ []) ∙ ap (λ b. is_synced synced gateway || b) (or-false (own == gateway))
+    list_any-append (λ place. place == gateway) synced (own ∷ []) ∙ ap (λ b. is_one_of synced gateway || b) (or-false (own == gateway))
 
 -- a sync line is noted
-pub sync_noted : (synced : List ℕ) (own gateway : ℕ) → is_synced (cond (is_synced synced own) synced (synced ++ own ∷ [])) gateway ≡ (is_synced synced gateway || (own == gateway))
-sync_noted synced own gateway = noted_by synced own gateway (is_synced synced own) refl
+pub sync_noted : (synced : List ℕ) (own gateway : ℕ) → is_one_of (cond (is_one_of synced own) synced (synced ++ own ∷ [])) gateway ≡ (is_one_of synced gateway || (own == gateway))
+sync_noted synced own gateway = noted_by synced own gateway (is_one_of synced own) refl

@@ -17,8 +17,9 @@ use Rattle.matchers.specs.declared.matcher.Matcher.{Matcher}
 use Rattle.moment_core.specs.declared.partition.Partition.{Partition}
 use Rattle.moment_core.specs.declared.rules.Rules.{Rules}
 use Rattle.moment_core.specs.declared.span.Span.{Span}
+use Rattle.moment_core.specs.Limits.{moment_limit}
 use Rattle.list_core.proofs.Order.{sorted_nil}
-use Rattle.list_core.proofs.Lists.{last_or_none}
+use Rattle.list_core.proofs.Lists.{last_or_none, pushed_not_nil}
 use Rattle.script_core.specs.declared.block.Block.{Block}
 use Rattle.script_core.specs.declared.body.Body.TheVariants.{Inline, OnShelf}
 use Rattle.script_workers.specs.declared.phase.Phase.{Phase}
@@ -37,7 +38,6 @@ use Rattle.script_core.specs.Lawful.{AreLawfulRules, AreLawfulLabels, HasLawfulS
 use Rattle.script_core.specs.Spelling as spelling
 use Rattle.script_core.specs.Spelling.{SoFar, HasEnded, IsValueText, AreSampleFields, RuleLine, ReplicaLine, KeepsFor, RetentionLine, ArePartitionTexts, GatewayLine, BlockLine, ShelfLine, SeriesLine, AtLine, AddsTask, AreStopTexts, UploadLine, SyncLine, CompactLine, CleanLine, QueryLine, Says, Say, Spells}
 use Rattle.script_core.proofs.Kept.{works_of-append, works_of-more}
-use Rattle.script_core.proofs.LineTools.{no_end}
 use Rattle.script_core.proofs.LawfulLabels.{block_labels, shelf_labels, series_labels, small_patterns}
 use Rattle.script_core.proofs.LawfulParts.{compacts_push, compacts_nil, All-front, All-last, once_push, same_ulids, ulids_of, moments_push}
 use Rattle.script_core.proofs.SpelledValues.{free_tested, agree_tested, within_tested}
@@ -296,7 +296,7 @@ no_workers : (gateways : ℕ) → length (hands_of gateways []) ≤ most_workers
 unfolding hands_from
 no_workers gateways = omega arith
 
-phase_in_order : (gateways : List (List ℕ)) (blocks : List Block) (selectors : ℕ) (phases : List Phase) (phase : Phase) → AreLawfulPhases gateways blocks selectors phases → phase.tasks ≡ [] → phase.moment.ms < 2 ^ 47 → ((others : List Phase) (last : Phase) → phases ≡ others ++ last ∷ [] → last.moment.ms ≤ phase.moment.ms) → AreLawfulPhases gateways blocks selectors (phases ++ phase ∷ [])
+phase_in_order : (gateways : List (List ℕ)) (blocks : List Block) (selectors : ℕ) (phases : List Phase) (phase : Phase) → AreLawfulPhases gateways blocks selectors phases → phase.tasks ≡ [] → phase.moment.ms < moment_limit → ((others : List Phase) (last : Phase) → phases ≡ others ++ last ∷ [] → last.moment.ms ≤ phase.moment.ms) → AreLawfulPhases gateways blocks selectors (phases ++ phase ∷ [])
 phase_in_order gateways blocks selectors phases phase lawful none below later =
     let same : works_of (phases ++ phase ∷ []) ≡ works_of phases = works_of-append phases phase ∙ ap (λ tasks. works_of phases ++ works_in tasks) none ∙ append-nil (works_of phases) in
     record {
@@ -418,7 +418,7 @@ module _ (before after : SoFar) (number : ℕ) (line : List ℕ) (order : InOrde
         blocks = order.blocks;
         full = order.full;
         selectors = order.selectors;
-        none_selected = λ none. absurd (no_end before.script.phases new none);
+        none_selected = λ none. absurd (pushed_not_nil before.script.phases new none);
         phases = phase_in_order before.script.gateways before.script.blocks (length before.script.selectors) before.script.phases new order.phases refl says.is_moment.below says.later;
         early = λ e. absurd cc;
       })
@@ -428,7 +428,7 @@ module _ (before after : SoFar) (number : ℕ) (line : List ℕ) (order : InOrde
   with_task script work adds phases =
       let all : InOrder (spelling.outside (record before.script { phases = adds.others ++ record adds.phase { tasks = adds.phase.tasks ++ record { line = number; work = work } ∷ [] } ∷ [] })) = record {
         rules = order.rules;
-        agreed = λ _. order.agreed (λ none. no_end adds.others adds.phase (sym adds.last ∙ none));
+        agreed = λ _. order.agreed (λ none. pushed_not_nil adds.others adds.phase (sym adds.last ∙ none));
         few_gateways = order.few_gateways;
         names = order.names;
         partitioned = order.partitioned;
@@ -436,7 +436,7 @@ module _ (before after : SoFar) (number : ℕ) (line : List ℕ) (order : InOrde
         blocks = order.blocks;
         full = order.full;
         selectors = order.selectors;
-        none_selected = λ none. absurd (no_end adds.others (record adds.phase { tasks = adds.phase.tasks ++ record { line = number; work = work } ∷ [] }) none);
+        none_selected = λ none. absurd (pushed_not_nil adds.others (record adds.phase { tasks = adds.phase.tasks ++ record { line = number; work = work } ∷ [] }) none);
         phases = subst (AreLawfulPhases before.script.gateways before.script.blocks (length before.script.selectors)) (ap (λ (s : Script). s.phases) adds.adds) phases;
         early = λ e. absurd cc;
       } in
@@ -469,7 +469,7 @@ module _ (before after : SoFar) (number : ℕ) (line : List ℕ) (order : InOrde
       let moved : AreLawfulPhases before.script.gateways before.script.blocks (selectors + 1) script.phases = subst (AreLawfulPhases before.script.gateways before.script.blocks (selectors + 1)) (ap (λ (s : Script). s.phases) adds.adds) phases in
       let all : InOrder (spelling.outside (record script { selectors = before.script.selectors ++ says.selector ∷ [] })) = record {
         rules = order.rules;
-        agreed = λ _. order.agreed (λ none. no_end adds.others adds.phase (sym adds.last ∙ none));
+        agreed = λ _. order.agreed (λ none. pushed_not_nil adds.others adds.phase (sym adds.last ∙ none));
         few_gateways = order.few_gateways;
         names = order.names;
         partitioned = order.partitioned;
@@ -477,7 +477,7 @@ module _ (before after : SoFar) (number : ℕ) (line : List ℕ) (order : InOrde
         blocks = order.blocks;
         full = order.full;
         selectors = All-push (IsLawfulSelector before.script.rules.replicas) before.script.selectors says.selector order.selectors (says.selector_text, says.is_selector);
-        none_selected = λ none. absurd (no_end adds.others (record adds.phase { tasks = adds.phase.tasks ++ record { line = number; work = work } ∷ [] }) none);
+        none_selected = λ none. absurd (pushed_not_nil adds.others (record adds.phase { tasks = adds.phase.tasks ++ record { line = number; work = work } ∷ [] }) none);
         phases = subst (λ n. AreLawfulPhases before.script.gateways before.script.blocks n script.phases) (sym (length-append before.script.selectors (says.selector ∷ []))) moved;
         early = λ e. absurd cc;
       } in
@@ -523,7 +523,7 @@ nothing_in_order = record {
   partitioned = refl;
   partitions = All-nil IsLawfulPartition;
   blocks = record { few = omega arith; each = All-nil IsLawfulBlock; once = none_once };
-  full = λ others block is. absurd (no_end others block (sym is));
+  full = λ others block is. absurd (pushed_not_nil others block (sym is));
   selectors = All-nil (IsLawfulSelector []);
   none_selected = λ none. refl;
   phases = no_phases [] [] 0;

@@ -11,7 +11,7 @@ use Rattle.std.specs.Map.{lookup}
 use Rattle.reading_core.proofs.Binds.{unless_ok, ok_is, unless_is}
 use Rattle.std.proofs.lemmas.Bool.{and_parts, not-true, not_from_false}
 use Rattle.list_core.proofs.Bools.{bytes_eq-same}
-use Rattle.list_core.proofs.Lists.{nil_not_middle, some-from_length, length-some, last_or_none}
+use Rattle.list_core.proofs.Lists.{nil_not_middle, some-from_length, length-some, last_or_none, pushed_not_nil}
 use Rattle.script_core.specs.declared.block.Block.{Block}
 use Rattle.script_core.specs.declared.body.Body.TheVariants.{OnShelf}
 use Rattle.script_fields.specs.declared.cause.LineCause.TheVariants.{BadShape}
@@ -168,11 +168,6 @@ pub name_free : (name : RuleName) → no_space (rule_word name) ≡ true
 name_free names.Consistency = refl
 name_free name = refl
 
--- ---- ends of lists
-
-pub no_end : {A : Type 0} (xs : List A) (x : A) → xs ++ x ∷ [] ≡ [] → ⊥
-no_end xs x e = nil_not_middle x xs [] (sym e)
-
 -- ---- the last block and the last phase
 
 ended_by : (last : Last) → last.series ≢ [] → has_ended (Some last) ≡ Ok tt
@@ -219,7 +214,7 @@ early_found phases (Some phase) first h = absurd cc
 
 pub early_again : (phases : List Phase) (phase : Option Phase) → all_phases phases phase ≡ [] → is_none phase ≡ true
 early_again phases None early = refl
-early_again phases (Some phase) early = absurd (no_end phases phase early)
+early_again phases (Some phase) early = absurd (pushed_not_nil phases phase early)
 
 -- the last phase
 pub last_phase : (phases : List Phase) (phase : Option Phase) (others : List Phase) (last : Phase) → (phase ≡ None → phases ≡ []) → all_phases phases phase ≡ others ++ last ∷ [] → (phase ≡ Some last) × (phases ≡ others)

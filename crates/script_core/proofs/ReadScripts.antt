@@ -19,11 +19,11 @@ use Rattle.script_core.proofs.FoundSetup.{closed}
 use Rattle.script_core.proofs.AgainLines.{script_again}
 use Rattle.script_core.proofs.Kept.{so_far_of, start_kept, start_is}
 use Rattle.script_core.proofs.LawfulScripts.{spelled_lawful}
-use Rattle.script_core.proofs.LineTools.{no_end}
+use Rattle.list_core.proofs.Lists.{pushed_not_nil}
 
 some_phase : (phases : List Phase) (phase : Option Phase) → is_some phase ≡ true → all_phases phases phase ≢ []
 some_phase phases None some = absurd cc
-some_phase phases (Some phase) some = no_end phases phase
+some_phase phases (Some phase) some = pushed_not_nil phases phase
 
 -- a query's line that is given up, in the words of its text
 asks_by_pattern : (st : State) (line : List ℕ) (is : IsPatternLine st line) → closed st ≡ is.before → AsksByPattern (so_far_of st) line

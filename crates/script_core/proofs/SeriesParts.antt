@@ -40,10 +40,10 @@ use Rattle.script_core.proofs.AgainLines.{text_read, spoken_again}
 use Rattle.script_core.proofs.SampleSigns.{all_joined, sign_not_newline, sign_is_ascii, sample_fields, samples_all, samples_least, samples_size}
 
 -- the texts of samples with a space between each and the next
-abbrev joined : List Sample → List ℕ
+abbrev pub joined : List Sample → List ℕ
 joined samples = join_with_byte 32 (map sample_text samples)
 
-samples_joined : (sample : Sample) (samples : List Sample) → flat_map spaced_sample_text (sample ∷ samples) ≡ 32 ∷ joined (sample ∷ samples)
+pub samples_joined : (sample : Sample) (samples : List Sample) → flat_map spaced_sample_text (sample ∷ samples) ≡ 32 ∷ joined (sample ∷ samples)
 unfolding spaced_sample_text
 samples_joined sample [] = ap (λ text. 32 ∷ text) (append-nil (sample_text sample))
 samples_joined sample (next ∷ samples) =
@@ -53,7 +53,7 @@ no_texts : (samples : List Sample) → map sample_text samples ≡ [] → sample
 no_texts [] none = refl
 no_texts (sample ∷ samples) none = absurd cc
 
-front_joined : (text : List ℕ) (samples : List Sample) → samples ≢ [] → series_front text samples ≡ codes "series" ++ 32 ∷ (text ++ 32 ∷ joined samples)
+pub front_joined : (text : List ℕ) (samples : List Sample) → samples ≢ [] → series_front text samples ≡ codes "series" ++ 32 ∷ (text ++ 32 ∷ joined samples)
 unfolding series_front
 front_joined text [] some = absurd (some refl)
 front_joined text (sample ∷ samples) some =

@@ -8,10 +8,11 @@ use Rattle.std.specs.declared.cmp.Ordering.TheVariants.{Less, Equal, Greater}
 use Rattle.std.proofs.lemmas.Bool.Decides.{nat_tests}
 use Rattle.std.proofs.lemmas.Int.{ints}
 use Rattle.std.proofs.lemmas.List.Elements.{All-nil, All-cons, All-head, All-tail}
-use Rattle.std.proofs.lemmas.Bool.{and_parts, not-true}
+use Rattle.std.proofs.lemmas.Bool.{and_parts, not-true, le-leb}
 use Rattle.label_sets.specs.declared.sample.Sample.{Sample}
+use Rattle.label_sets.specs.Times.{times_of}
 use Rattle.moment_core.specs.declared.rules.Rules.{Rules}
-use Rattle.script_fields.specs.Samples.{is_within, are_within, times_of, rise_after, are_rising}
+use Rattle.script_fields.specs.Samples.{is_within, are_within, rise_after, are_rising}
 use Rattle.script_fields.specs.Values.{is_time, agree}
 use Rattle.script_core.specs.Spelling.{IsNear, IsWithin, DoAgree}
 use Rattle.script_core.proofs.LawfulParts.{near_low, near_high}
@@ -111,12 +112,9 @@ agree_spelled set h =
     let two = and_parts (nat_le set.upload.ms set.partial.ms) (nat_le (set.upload.ms + 1000) set.delete.ms) all.0 in
     record { partial = leb-true _ _ two.0; delete = leb-true _ _ two.1; ignore = leb-true _ _ all.1 }
 
-le_tested : (a b : ℕ) → a ≤ b → nat_le a b ≡ true
-le_tested a b le = grind (arith, nat_tests)
-
 pub agree_tested : (set : Rules) → DoAgree set → agree set ≡ true
 agree_tested set is =
-    let one = le_tested set.upload.ms set.partial.ms is.partial in
-    let two = le_tested (set.upload.ms + 1000) set.delete.ms is.delete in
-    let three = le_tested set.ignore.ms set.delete.ms is.ignore in
+    let one = le-leb set.upload.ms set.partial.ms is.partial in
+    let two = le-leb (set.upload.ms + 1000) set.delete.ms is.delete in
+    let three = le-leb set.ignore.ms set.delete.ms is.ignore in
     rw (one, two, three) refl

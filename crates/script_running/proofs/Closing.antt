@@ -22,6 +22,7 @@ use Rattle.lifecycle_core.specs.Tasks.{End}
 use Rattle.lifecycle_core.specs.Ways.{AreFinished, AreInTurn, IsOperationDue, PhasesRun}
 use Rattle.lifecycle_core.proofs.phases.Fronts.{IsCutWell}
 use Rattle.lifecycle_core.proofs.phases.Turns.{none_turns, one_turns, turns_behind}
+use Rattle.lifecycle_core.proofs.phases.TaskRuns.{tasks_long}
 use Rattle.script_running.specs.Begun.{WasBegun}
 use Rattle.script_running.specs.Beside.{CameSoFar, HasRunBeside, IsCutForMemory}
 use Rattle.script_running.specs.Cutting.{AreParts, KnowsPhases, Passed}
@@ -37,7 +38,6 @@ use Rattle.script_running.specs.declared.worker.WorkerEnd.{WorkerEnd}
 use Rattle.script_running.proofs.Begun.{begun_more, phases_run}
 use Rattle.script_running.proofs.Cutting.{parts}
 use Rattle.script_running.proofs.Due.{is_due}
-use Rattle.script_running.proofs.Gathered.{tasks_long}
 use Rattle.script_running.proofs.Ending.{was_begun, was_idle, were_kept}
 use Rattle.phase_runner.proofs.Refused.{full_more}
 

@@ -4,9 +4,10 @@ use Rattle.std.specs.List.{All, AllByRecursion}
 use Rattle.std.proofs.lemmas.Bool.{cases_Bool, eq-eqb}
 use Rattle.std.proofs.lemmas.Bool.Decides.{nat_tests}
 use Rattle.std.proofs.lemmas.List.{length-append}
-use Rattle.std.proofs.lemmas.List.Elements.{All-contains, Contains-append_left, Contains-append_right, filter-append, All-from_recursion}
+use Rattle.std.proofs.lemmas.List.Elements.{All-contains, Contains-append_left, Contains-append_right, All-from_recursion}
 use Rattle.list_core.proofs.Lists.{cons_parts, filter_hit, filter_miss, nil_not_cons}
 use Rattle.list_core.proofs.Membership.{all_members, contains_first, contains_later, each_member, into_filter, into_flat_map, into_map, member_cases, member_passes, no_member, of_filter, of_flat_map, of_map}
+use Rattle.list_core.proofs.Numbers.{above_zero}
 use Rattle.std.specs.Prelude.{nat_lt, Some}
 use Rattle.world_core.specs.Journals.{IsNumbered, entry_at, of_seat}
 use Rattle.world_core.specs.declared.entry.Entry.{Entry}
@@ -14,6 +15,7 @@ use Rattle.world_turn.specs.Closing.{AllJoined, Closes}
 use Rattle.world_turn.specs.Seats.{Stand}
 use Rattle.world_turn.specs.declared.view.View.{View as Known}
 use Rattle.script_running.specs.Cutting.{AreApart, AreParts, KnowsPhases, Passed}
+use Rattle.lifecycle_core.proofs.phases.Fronts.{seat_parts}
 
 -- what was kept of a seat
 abbrev Kept : Type 0
@@ -66,9 +68,6 @@ nobody (x ∷ xs) none = absurd (none x (contains_first x xs))
 miss : (a b : ℕ) → a ≡ 0 → 0 < b → (a == b) ≡ false
 miss a b none some = grind (arith, nat_tests)
 
-above_zero : (a : ℕ) → (a == 0) ≡ false → 0 < a
-above_zero a test = grind (arith, nat_tests)
-
 is_zero : (a : ℕ) → (a == 0) ≡ true → a ≡ 0
 is_zero a test = grind (arith, nat_tests)
 
@@ -77,9 +76,6 @@ seated seat entries e among is = into_filter (λ (x : Entry). x.seat == seat) en
 
 inside : (seat : ℕ) (entries : List Entry) (e : Entry) → Contains (of_seat seat entries) e → Contains entries e
 inside seat entries e among = of_filter (λ (x : Entry). x.seat == seat) entries e among
-
-both_seats : (seat : ℕ) (xs ys : List Entry) → of_seat seat (xs ++ ys) ≡ of_seat seat xs ++ of_seat seat ys
-both_seats seat xs ys = filter-append (λ (e : Entry). e.seat == seat) xs ys
 
 -- ---- up to the next clock
 
@@ -184,7 +180,7 @@ module _ (clock : Entry) (made others : List Entry) (one : Passed) (passed : Lis
 
   -- entries of a worker's seat
   of_worker : (seat : ℕ) → 0 < seat → of_seat seat all ≡ of_seat seat made ++ of_seat seat others
-  of_worker seat some = filter_miss (λ (e : Entry). e.seat == seat) clock (made ++ others) (miss clock.seat seat zeroth some) ∙ both_seats seat made others
+  of_worker seat some = filter_miss (λ (e : Entry). e.seat == seat) clock (made ++ others) (miss clock.seat seat zeroth some) ∙ seat_parts seat made others
 
   no_zero_made : (e : Entry) → Contains (of_seat 0 made) e → ⊥
   no_zero_made e among =
@@ -195,7 +191,7 @@ module _ (clock : Entry) (made others : List Entry) (one : Passed) (passed : Lis
   clocks_first : of_seat 0 all ≡ clock ∷ of_seat 0 others
   clocks_first =
       filter_hit (λ (e : Entry). e.seat == 0) clock (made ++ others) (eq-eqb clock.seat 0 zeroth)
-      ∙ ap (λ (es : List Entry). clock ∷ es) (both_seats 0 made others ∙ ap (λ (es : List Entry). es ++ of_seat 0 others) (nobody (of_seat 0 made) no_zero_made))
+      ∙ ap (λ (es : List Entry). clock ∷ es) (seat_parts 0 made others ∙ ap (λ (es : List Entry). es ++ of_seat 0 others) (nobody (of_seat 0 made) no_zero_made))
 
   same_clock : one.clock ≡ clock
   same_clock = (cons_parts one.clock clock (map (λ (p : Passed). p.clock) passed) (of_seat 0 others) (l.clocks ∙ clocks_first)).0

@@ -7,7 +7,7 @@ use Rattle.std.proofs.lemmas.Option.{slice_get_within}
 use Rattle.std.proofs.lemmas.Slice.Zip.{AllZip-long}
 use Rattle.list_core.proofs.Lists.{cons_same}
 use Rattle.list_core.proofs.Membership.{contains_first, contains_later, contains_place, member_cases, no_member, place_of_member}
-use Rattle.list_core.proofs.Pairs.{second_in_zip}
+use Rattle.list_core.proofs.Pairs.{second_in_zip, beside_first}
 use Rattle.script_workers.specs.Hands.{gateway_count, gateway_of, hands_of, hands_of_task}
 use Rattle.script_workers.specs.Staff.{AreSeated, IsStaff, IsWorkerOf}
 use Rattle.script_workers.specs.Whose.{IsFor, IsTaskOf, asks, cleans, compacts, ships, syncs}
@@ -23,6 +23,7 @@ use Rattle.lifecycle_core.specs.Conducts.{AreDone, Assigned, CameTo, TasksAt, wh
 use Rattle.lifecycle_core.specs.Holdings.{Holding, Holdings, holding_of}
 use Rattle.lifecycle_core.specs.Setting.{Setting}
 use Rattle.lifecycle_core.specs.Tasks.{End}
+use Rattle.lifecycle_core.proofs.phases.TaskRuns.{tasks_long}
 use Rattle.script_running.specs.Begun.{AreLeft}
 use Rattle.script_running.specs.Beside.{AreSeen}
 use Rattle.script_running.specs.Ended.{HasEnded, HaveEnded}
@@ -41,14 +42,6 @@ use Rattle.script_running.specs.declared.worker.WorkerEnd.{WorkerEnd}
 
 -- ---- lists beside each other
 
-zip_partner : {A B : Type 0} (xs : List A) (ys : List B) (x : A) → length xs ≡ length ys → Contains xs x → (y : B) × Contains (zip xs ys) (x, y)
-zip_partner [] ys x long among = absurd (no_member x among)
-zip_partner (a ∷ xs) [] x long among = absurd (omega (arith, long))
-zip_partner {A} {B} (a ∷ xs) (b ∷ ys) x long among = elim (member_cases a x xs among) [
-  | inl same ↦ (b, subst (λ (z : A). Contains ((a, b) ∷ zip xs ys) (z, b)) same (contains_first (a, b) (zip xs ys)))
-  | inr later ↦ let rest = zip_partner xs ys x (omega (arith, long)) later in (rest.0, contains_later (a, b) (x, rest.0) (zip xs ys) rest.1)
-]
-
 pub same_place : {A B : Type 0} (xs : List A) (ys : List B) (k : ℕ) (x : A) → length xs ≡ length ys → slice_get xs k ≡ Some x → (y : B) × (slice_get ys k ≡ Some y)
 same_place [] ys k x long at = absurd (let w = slice_get_within [] k x at in omega (arith, w))
 same_place (a ∷ xs) [] k x long at = absurd (omega (arith, long))
@@ -56,12 +49,6 @@ same_place (a ∷ xs) (b ∷ ys) zero x long at = (b, refl)
 same_place (a ∷ xs) (b ∷ ys) (suc k) x long at = same_place xs ys k x (omega (arith, long)) at
 
 -- ---- one worker's parts
-
-pub tasks_long : (tasks : List Task) (places : List ℕ) (own : List Assigned) → TasksAt tasks places own → length own ≡ length places
-tasks_long tasks [] [] are = refl
-tasks_long tasks [] (a ∷ own) are = absurd (cc (are))
-tasks_long tasks (p ∷ places) [] are = absurd are
-tasks_long tasks (p ∷ places) (a ∷ own) are = ap suc (tasks_long tasks places own are.1)
 
 pub parts_long : (own : List Assigned) (ends : List End) (os : List Part) → AreParts own ends os → length os ≡ length ends
 parts_long own [] os are = ap length are
@@ -228,10 +215,10 @@ module _ (setting : Setting) (number : ℕ) (phase : Phase) (taken : ℕ)
       let k = place_of_member (hands_of gateways phase.tasks) h (staff.enough h place t) in
       let w = same_place (hands_of gateways phase.tasks) workers k.0 h (sym seated.count) k.1 in
       let of = seated.each k.0 h w.0 k.1 w.1 in
-      let e = zip_partner workers others w.0 done.1 (contains_place workers k.0 w.0 w.1) in
+      let e = beside_first workers others w.0 done.1 (contains_place workers k.0 w.0 w.1) in
       let c = comes setting phase.tasks before front after workers kept others ends lasts w.0 e.0 have left.own e.1 in
       let whole = one_done setting phase.tasks before front after w.0 c.kept e.0 c.own c.last c.has (All-contains (λ (x : WorkerEnd). x.came ≡ Ok tt) others e.0 all (second_in_zip workers others w.0 e.0 e.1)) in
-      let o = zip_partner (w.0).tasks (e.0).parts.items place whole.1 ((of.places).each place t) in
+      let o = beside_first (w.0).tasks (e.0).parts.items place whole.1 ((of.places).each place t) in
       subst (λ (g : Option ℕ). IsFilled new g place) of.gateway (taken_in.laid w.0 e.0 place o.0 e.1 o.1)
 
   -- the ends of those who do a task, and their parts

@@ -5,6 +5,7 @@ use Rattle.std.specs.List.{All}
 use mathlib.Core.List.{IsPrefix}
 use Rattle.std.proofs.lemmas.List.Elements.{All-head, All-tail, All-weaker}
 use Rattle.list_core.specs.declared.memory.NoMemory.{NoMemory}
+use Rattle.list_core.proofs.Membership.{All-place}
 use Rattle.world_core.specs.declared.entry.Entry.{Entry}
 use Rattle.script_workers.specs.Hands.{gateway_count, hands_of}
 use Rattle.script_workers.specs.Staff.{AreSeated}
@@ -32,7 +33,6 @@ use Rattle.script_running.specs.declared.part.Part.{Part}
 use Rattle.script_running.specs.declared.sight.Sight.{Sight}
 use Rattle.script_running.specs.declared.worker.WorkerEnd.{WorkerEnd}
 use Rattle.script_running.proofs.Gathered.{gathered}
-use Rattle.script_running.proofs.Taking.{at_place}
 
 take_none : (xs : List Outcome) → take 0 xs ≡ []
 take_none [] = refl
@@ -77,14 +77,14 @@ met_so false ends others met is same = absurd (cc (is))
 -- no slot has a part yet
 none_filled : (tasks gateways : ℕ) (slots : Slots) → AreAllEmpty tasks gateways slots → (gateway : Option ℕ) (place : ℕ) (one : Part) → slot_at slots gateway place ≡ Some (Some one) → ⊥
 none_filled tasks gateways slots empty None place one is =
-    let none = at_place (λ (slot : Option Part). slot ≡ None) slots.alone.slots.items place (Some one) (empty.alone).empty is in absurd (cc (none))
+    let none = All-place (λ (slot : Option Part). slot ≡ None) slots.alone.slots.items place (Some one) (empty.alone).empty is in absurd (cc (none))
 none_filled tasks gateways slots empty (Some gateway) place one is = of_column (slice_get slots.gateways.items gateway) refl is
   where
     of_column : (c : Option Column) → slice_get slots.gateways.items gateway ≡ c → slot_in c place ≡ Some (Some one) → ⊥
     of_column None at is = absurd (cc (is))
     of_column (Some column) at is =
-        let own = at_place (AreEmpty tasks) slots.gateways.items gateway column empty.columns at in
-        let none = at_place (λ (slot : Option Part). slot ≡ None) column.slots.items place (Some one) own.empty is in absurd (cc (none))
+        let own = All-place (AreEmpty tasks) slots.gateways.items gateway column empty.columns at in
+        let none = All-place (λ (slot : Option Part). slot ≡ None) column.slots.items place (Some one) own.empty is in absurd (cc (none))
 
 -- each worker's places have slots
 pub slots_there : (tasks gateways : ℕ) (slots : Slots) → AreAllEmpty tasks gateways slots → (workers : List Worker) → All (λ (w : Worker). IfSome w.gateway (λ gateway. gateway < gateways)) workers → All (λ (w : Worker). All (λ place. place < tasks) w.tasks) workers

@@ -13,7 +13,6 @@ use Rattle.script_workers.specs.declared.worker.Worker.{Worker}
 use Rattle.lifecycle_core.specs.Conducts.{Who, who_of}
 use Rattle.lifecycle_core.specs.Holdings.{Holding, Use}
 use Rattle.lifecycle_core.specs.Setting.{Setting}
-use Rattle.script_running.proofs.WorkerSteps.{member}
 use Rattle.script_running.specs.Lending.{setting_in}
 use Rattle.script_running.specs.Sights.{Sees, cache_of}
 use Rattle.script_running.specs.Workers.{HasWorked, IsAtWork, MayWork, Post}
@@ -21,6 +20,7 @@ use Rattle.script_running.specs.declared.came.Broken.TheVariants as broken
 use Rattle.script_running.specs.declared.sight.Sight.{Sight}
 use Rattle.script_running.specs.declared.worker.WorkerEnd.{WorkerEnd}
 use Rattle.list_core.proofs.Options.{one_value}
+use Rattle.list_core.proofs.Membership.{All-place}
 
 rest : {X : Type 0} (xs ys : List X) → drop (length xs) (xs ++ ys) ≡ ys
 rest [] ys = refl
@@ -83,7 +83,7 @@ module _ (post : Post) (phase : Phase) (at : slice_get post.loan.script.phases p
       )
 
 pub allowed : (script : Script) (number : ℕ) (phase : Phase) → IsLawfulScript script → slice_get script.phases number ≡ Some phase → All (λ t. IsLawfulWork script.gateways script.blocks (length script.selectors) t.work) phase.tasks
-allowed script number phase lawful at = (member (IsLawfulPhase script.gateways script.blocks (length script.selectors)) script.phases number phase (lawful.phases).each at).tasks
+allowed script number phase lawful at = (All-place (IsLawfulPhase script.gateways script.blocks (length script.selectors)) script.phases number phase (lawful.phases).each at).tasks
 
 -- of a worker's phase
 pub allows_all : (script : Script) (number : ℕ) (worker : Worker) (tasks : List Task) → IsAtWork script number worker tasks → All (λ t. IsLawfulWork script.gateways script.blocks (length script.selectors) t.work) tasks

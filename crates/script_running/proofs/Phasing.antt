@@ -7,6 +7,7 @@ use Rattle.std.proofs.lemmas.List.Elements.{All-contains, All-from_recursion, Al
 use Rattle.std.proofs.lemmas.Option.{slice_get_within}
 use Rattle.list_core.proofs.Lists.{drop_place, take_place}
 use Rattle.list_core.proofs.Membership.{all_members, contains_place, place_of_member}
+use Rattle.list_core.proofs.Pairs.{AllZip-as_long}
 use Rattle.world_core.specs.Operations.{entry_of}
 use Rattle.world_core.specs.declared.acted.Acted.TheVariants.{Done, Full, NoMemory}
 use Rattle.world_core.specs.declared.entry.Entry.{Entry}
@@ -38,6 +39,7 @@ use Rattle.lifecycle_core.specs.Setting.{Setting}
 use Rattle.lifecycle_core.specs.Tasks.{End}
 use Rattle.lifecycle_core.specs.Ways.{BeginsPhase}
 use Rattle.lifecycle_core.proofs.phases.Fronts.{AreApart as Apart, apart_of, script_is_cut_well}
+use Rattle.moment_core.specs.Limits.{moment_limit}
 use Rattle.script_running.specs.Begun.{AreLeft, WasBegun, WereKept}
 use Rattle.script_running.specs.Cutting.{KnowsPhases, Passed}
 use Rattle.script_running.specs.Ended.{AreInRow, HaveEnded, IsPostOf}
@@ -76,12 +78,6 @@ if_false P false is q = q
 pub joined_on : (v w : Known) → IsSame v w → AllJoined v → AllJoined w
 joined_on v w same all = λ seat some less. subst (λ (ks : List Kept). Contains (map (λ (k : Kept). k.0) ks) seat) (sym same.joined) (all seat some (subst (λ (n : ℕ). seat < n) same.seats less))
 
-pub as_many : {A B : Type 0} (R : A → B → Type 0) (xs : List A) (ys : List B) → AllZip R xs ys → length xs ≡ length ys
-as_many R [] [] all = refl
-as_many R [] (y ∷ ys) all = absurd all
-as_many R (x ∷ xs) [] all = absurd all
-as_many R (x ∷ xs) (y ∷ ys) all = ap suc (as_many R xs ys all.1)
-
 -- no two workers of a phase are of one gateway
 are_apart : (workers : List Worker) → Apart workers → HaveOwnGateways workers
 are_apart [] apart = tt
@@ -100,7 +96,7 @@ module _ (script : Script) (lawful : IsLawfulScript script) (place : ℕ) (phase
   abbrev gateways : ℕ
   gateways = gateway_count script.gateways
 
-  pub moment_lawful : phase.moment.ms < 2 ^ 47
+  pub moment_lawful : phase.moment.ms < moment_limit
   moment_lawful = (All-contains (IsLawfulPhase script.gateways script.blocks (length script.selectors)) script.phases phase (lawful.phases).each (contains_place script.phases place phase at)).moment
 
   pub row : (splits : ℕ) → splits ≡ seats_before script place → AreInRow (splits + 1) (workers_of script place)
@@ -331,7 +327,7 @@ runs_long above front seat (p ∷ posts) (o ∷ others) (k ∷ kept) runs = ap s
 
 pub ends_long : (loan : Loan) (number : ℕ) (held : Holdings) (workers : List Worker) (above : ℕ) (front : List Entry) (seat : ℕ) (posts : List Post) (others : List WorkerEnd) (kept : List Kept) → AllZip (IsPostOf loan number held) workers posts → Runs {J = Post} {E = WorkerEnd} MayWork above front seat posts others kept
     → length workers ≡ length others
-ends_long loan number held workers above front seat posts others kept sent runs = as_many (IsPostOf loan number held) workers posts sent ∙ runs_long above front seat posts others kept runs
+ends_long loan number held workers above front seat posts others kept sent runs = AllZip-as_long (IsPostOf loan number held) workers posts sent ∙ runs_long above front seat posts others kept runs
 
 pub workers_here : (script : Script) (place splits : ℕ) (staff workers : List Worker) → workers ≡ staff → staff ≡ workers_after script splits (slice_get script.phases place) → splits ≡ seats_before script place → workers ≡ workers_of script place
 workers_here script place splits staff workers same are is = same ∙ are ∙ ap (λ (n : ℕ). workers_after script n (slice_get script.phases place)) is

@@ -3,6 +3,7 @@ use Rattle.std.proofs.Common.{◌≡◌, ℕ, List, [], length, sym, ap, subst, 
 use Rattle.std.specs.Prelude.{Ok, Err, Result}
 use Rattle.std.specs.List.{All}
 use Rattle.list_core.proofs.Lists.{take_none}
+use Rattle.list_core.proofs.Membership.{All-place}
 use Rattle.world_core.specs.Worlds.{IsJournal}
 use Rattle.world_core.specs.declared.entry.Entry.{Entry}
 use Rattle.world_turn.specs.Closing.{AllJoined, Closes}
@@ -20,7 +21,6 @@ use Rattle.script_running.specs.declared.came.Broken.{Broken}
 use Rattle.script_running.specs.declared.outcome.Outcome.{Outcome}
 use Rattle.script_running.proofs.Closing.{all_ran, all_stopped}
 use Rattle.script_running.proofs.Going.{gone_none}
-use Rattle.script_running.proofs.Taking.{at_place}
 use Rattle.script_running.specs.Sights.{no_sight}
 use Rattle.script_running.specs.declared.sight.Sight.{Sight}
 
@@ -31,7 +31,7 @@ none_before script = ap (seats_from (gateway_count script.gateways) 0) (take_non
 
 pub first_gone : (setting : Setting) (opened : Opened) (known : Known) (sights : List Sight) (outcomes : List Outcome) → known ≡ root opened → length sights ≡ length setting.script.gateways → All (λ (sight : Sight). sight ≡ no_sight) sights → outcomes ≡ [] → HasGone setting known [] sights outcomes
 first_gone setting opened known sights outcomes is each none empty =
-    subst (HasGone setting known [] sights) (sym empty) (gone_none setting opened known sights is each (λ place sight at. at_place (λ (sight : Sight). sight ≡ no_sight) sights place sight none at))
+    subst (HasGone setting known [] sights) (sym empty) (gone_none setting opened known sights is each (λ place sight at. All-place (λ (sight : Sight). sight ≡ no_sight) sights place sight none at))
 
 pub run_came : (setting : Setting) (root : Known) (tick : ℕ) (journal : List Entry) (sights : List Sight) (outcomes : List Outcome) (came : Result (Unit {0}) Broken) → IsLawfulScript setting.script → Closes root tick journal → AllJoined root → IsJournal tick journal → tick ≡ setting.script.rules.tick.ms
     → HasCome setting root setting.script.phases sights outcomes came → HasRunBeside setting journal outcomes came

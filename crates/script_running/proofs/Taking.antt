@@ -3,11 +3,11 @@ use Rattle.std.proofs.Common.{◌≡◌, ◌≢◌, ◌⊎◌, inl, inr, ℕ, ze
 use Rattle.std.specs.Prelude.{None, Ok, Err, Result, IfSome, IsSome, slice_get}
 use Rattle.std.specs.List.{All, zip}
 use Rattle.std.proofs.Math.ListN.{set, length-set}
-use Rattle.std.proofs.lemmas.List.Elements.{All-cons, All-contains, All-nil, All-push, All-weaker, Contains-append_left, Contains-append_right}
+use Rattle.std.proofs.lemmas.List.Elements.{All-cons, All-nil, All-push, All-weaker, Contains-append_left, Contains-append_right}
 use Rattle.std.proofs.lemmas.List.{drop_all}
 use Rattle.std.proofs.lemmas.Option.{slice_get-get_or, slice_get_within}
 use Rattle.list_core.proofs.Lists.{drop_none, drop_place, slice_get-set_other}
-use Rattle.list_core.proofs.Membership.{contains_first, contains_later, contains_place, member_cases, no_member}
+use Rattle.list_core.proofs.Membership.{contains_first, contains_later, member_cases, no_member, All-place}
 use Rattle.script_workers.specs.declared.worker.Worker.{Worker}
 use Rattle.script_running.specs.declared.gathering.Column.{Column}
 use Rattle.script_running.specs.declared.gathering.Slots.{Slots}
@@ -281,10 +281,6 @@ take_step number workers ends w e sights mid seen old laid new at is long sees l
     (subst (λ (es : List WorkerEnd). AreTakenIn (w ∷ drop (number + 1) workers) es sights seen old new) (sym (drop_place ends number e is))
     (takes_one w (drop (number + 1) workers) e (drop (number + 1) ends) sights mid seen old laid new long sees l t))
 
--- what holds of a whole list holds at a place
-pub at_place : {X : Type 0} (P : X → Type 0) (xs : List X) (place : ℕ) (x : X) → All P xs → slice_get xs place ≡ Some x → P x
-at_place P xs place x all at = All-contains P xs x all (contains_place xs place x at)
-
 -- slots stay over two steps
 pub same_on : (old mid new : Slots) → HaveSameSlots old mid → HaveSameSlots mid new → HaveSameSlots old new
 same_on old mid new one two = record { wide = two.wide ∙ one.wide; each = λ gateway place has. two.each gateway place (one.each gateway place has) }
@@ -292,4 +288,4 @@ same_on old mid new one two = record { wide = two.wide ∙ one.wide; each = λ g
 -- a worker's places have slots as long as none goes
 pub places_on : (old now : Slots) (workers : List Worker) (number : ℕ) (w : Worker) → HaveSameSlots old now → slice_get workers number ≡ Some w → All (λ (x : Worker). All (HasSlot old x.gateway) x.tasks) workers → All (HasSlot now w.gateway) w.tasks
 places_on old now workers number w same at places =
-    All-weaker (HasSlot old w.gateway) (HasSlot now w.gateway) (λ place has. same.each w.gateway place has) w.tasks (at_place (λ (x : Worker). All (HasSlot old x.gateway) x.tasks) workers number w places at)
+    All-weaker (HasSlot old w.gateway) (HasSlot now w.gateway) (λ place has. same.each w.gateway place has) w.tasks (All-place (λ (x : Worker). All (HasSlot old x.gateway) x.tasks) workers number w places at)

@@ -50,7 +50,7 @@ when_full (Ok o) P Q f holds = tt
 when_full (Err broken.Full) P Q f holds = f holds
 when_full (Err broken.NoMemory) P Q f holds = tt
 
-when_done : {X : Type 0} (came : Result X Broken) (P : Type 0) → P → WhenDone came P
+pub when_done : {X : Type 0} (came : Result X Broken) (P : Type 0) → P → WhenDone came P
 when_done (Ok o) P holds = holds
 when_done (Err why) P holds = tt
 

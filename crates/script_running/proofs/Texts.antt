@@ -5,7 +5,7 @@ use Rattle.std.specs.List.{AllZip}
 use Rattle.std.proofs.lemmas.List.{take_all}
 use Rattle.std.proofs.lemmas.List.Elements.{All-contains}
 use Rattle.std.proofs.lemmas.Slice.Zip.{AllZip-long}
-use Rattle.list_core.proofs.Lists.{take_place}
+use Rattle.list_core.proofs.Lists.{take_place, slice_get-below}
 use Rattle.list_core.proofs.Membership.{contains_place}
 use Rattle.list_core.proofs.Pairs.{AllZip-push}
 use Rattle.matchers.specs.SelectorRefusals.{IsReadable}
@@ -15,7 +15,6 @@ use Rattle.script_core.specs.Lawful.{IsLawfulScript, IsLawfulSelector}
 use Rattle.script_core.specs.declared.script.Script.{Script}
 use Rattle.script_running.specs.Lending.{AreTextsOf}
 use Rattle.script_running.proofs.Taking.{found}
-use Rattle.script_running.proofs.WorkerSteps.{got}
 
 abbrev IsTextOf : List Matcher → List ℕ → Type 0
 IsTextOf selector text = IsSelectorText text selector
@@ -57,9 +56,9 @@ texts_long selectors texts kept = AllZip-long IsTextOf selectors texts kept
 pub read_again : {E : Type 0} (script : Script) (texts replicas : List (List ℕ)) (number : ℕ) (r : Result (List Matcher) E) → IsLawfulScript script → replicas ≡ script.rules.replicas → AreTextsOf script.selectors texts → number < length script.selectors
     → ((text : List ℕ) (selector : List Matcher) → slice_get texts number ≡ Some text → IsReadable text replicas selector → IfOk r (λ read. read ≡ selector)) → IfOk r (λ read. slice_get script.selectors number ≡ Some read)
 read_again script texts replicas number r lawful same kept below reads =
-    let s = got script.selectors number below in
+    let s = slice_get-below script.selectors number below in
     let long = texts_long script.selectors texts kept in
-    let t = got texts number (omega (arith, long, below)) in
+    let t = slice_get-below texts number (omega (arith, long, below)) in
     let allowed = All-contains (IsLawfulSelector script.rules.replicas) script.selectors s.0 lawful.selectors (contains_place script.selectors number s.0 s.1) in
     let may = subst (λ (l : List (List ℕ)). IsReadable t.0 l s.0) (sym same) (readable script.rules.replicas t.0 s.0 allowed (zip_at IsTextOf script.selectors texts number s.0 t.0 kept s.1 t.1)) in
     read_so script.selectors number s.0 r s.1 (reads t.0 s.0 t.1 may)

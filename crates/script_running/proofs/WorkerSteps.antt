@@ -4,7 +4,7 @@ use Rattle.std.specs.Prelude.{Option, Some, None, Ok, Err, Result, IfSome, slice
 use Rattle.std.specs.List.{All}
 use Rattle.std.proofs.lemmas.List.{append-nil, length-append, take_more}
 use Rattle.std.proofs.lemmas.Option.{slice_get-get_or}
-use Rattle.std.proofs.lemmas.List.Elements.{All-append, All-cons, All-drop, All-head, All-nil, All-tail}
+use Rattle.std.proofs.lemmas.List.Elements.{All-append, All-cons, All-drop, All-nil}
 use Rattle.world_core.specs.Operations.{entry_of}
 use Rattle.world_core.specs.declared.entry.Entry.{Entry}
 use Rattle.script_core.specs.Lawful.{IsLawfulScript, IsLawfulWork}
@@ -27,19 +27,16 @@ use Rattle.script_running.specs.declared.part.Part.{Part}
 use Rattle.script_running.specs.declared.sight.Sight.{Sight}
 use Rattle.script_running.specs.declared.worker.WorkerEnd.{WorkerEnd}
 use Rattle.list_core.proofs.Bools.{or_false}
+use Rattle.list_core.proofs.Membership.{All-place}
+use Rattle.list_core.proofs.Lists.{slice_get-below}
 
 -- ---- the tasks at places
-
-pub got : {X : Type 0} (xs : List X) (i : ℕ) → i < length xs → (x : X) × (slice_get xs i ≡ Some x)
-got [] i below = absurd (omega (arith, below))
-got (x ∷ xs) zero below = (x, refl)
-got (x ∷ xs) (suc i) below = got xs i (omega (arith, below))
 
 -- the tasks at places that the list has
 pub assigned : (tasks : List Task) (places : List ℕ) → All (λ place. place < length tasks) places → (own : List Assigned) × TasksAt tasks places own
 assigned tasks [] within = ([], refl)
 assigned tasks (place ∷ places) within =
-    let first = got tasks place (within 0 place (omega arith)) in
+    let first = slice_get-below tasks place (within 0 place (omega arith)) in
     let rest = assigned tasks places (λ k d below. within (suc k) d (omega (arith, below))) in
     (record { place = place; task = first.0 } ∷ rest.0, ((refl, first.1), rest.1))
 
@@ -245,16 +242,11 @@ all_worked setting tasks who places all before seat old new sight parts end is t
 
 -- ---- where nothing was done
 
-pub member : {X : Type 0} (P : X → Type 0) (xs : List X) (i : ℕ) (x : X) → All P xs → slice_get xs i ≡ Some x → P x
-member P [] i x all at = absurd (cc (at))
-member P (y ∷ ys) zero x all at = subst P (cc (at)) (All-head P y ys all)
-member P (y ∷ ys) (suc i) x all at = member P ys i x (All-tail P y ys all) at
-
 pub tasks_begin : (setting : Setting) (tasks : List Task) → All (λ t. MayBegin setting t.work) tasks → (places : List ℕ) (own : List Assigned) → TasksAt tasks places own → All (λ (a : Assigned). MayBegin setting a.task.work) own
 tasks_begin setting tasks begin [] [] are = All-nil (λ (a : Assigned). MayBegin setting a.task.work)
 tasks_begin setting tasks begin [] (a ∷ own) are = absurd (cc (are))
 tasks_begin setting tasks begin (p ∷ places) [] are = absurd are
-tasks_begin setting tasks begin (p ∷ places) (a ∷ own) are = All-cons (λ (a : Assigned). MayBegin setting a.task.work) a own (member (λ (t : Task). MayBegin setting t.work) tasks p a.task begin are.0.1) (tasks_begin setting tasks begin places own are.1)
+tasks_begin setting tasks begin (p ∷ places) (a ∷ own) are = All-cons (λ (a : Assigned). MayBegin setting a.task.work) a own (All-place (λ (t : Task). MayBegin setting t.work) tasks p a.task begin are.0.1) (tasks_begin setting tasks begin places own are.1)
 
 pub none_run : (setting : Setting) (who : Who) (before : Holding) (own : List Assigned) → All (λ (a : Assigned). MayBegin setting a.task.work) own → OwnRun setting who before own [] [] before
 none_run setting who before [] begin = λ all. (refl, refl, refl)
@@ -282,11 +274,6 @@ none_done setting tasks who places before seat journal end lawful allowed within
     }
 
 -- ---- a turn of the loop
-
-pub default_any : (xs : List ℕ) (n a b : ℕ) → n < length xs → get_or xs n a ≡ get_or xs n b
-default_any [] n a b below = absurd (omega (arith, below))
-default_any (x ∷ xs) zero a b below = refl
-default_any (x ∷ xs) (suc n) a b below = default_any xs n a b (omega (arith, below))
 
 at_place : (tasks : List Task) (place : ℕ) (task : Task) → place < length tasks → task ≡ get_or tasks place task → slice_get tasks place ≡ Some task
 at_place tasks place task within is = slice_get-get_or tasks place task within ∙ ap Some (sym is)

@@ -29,6 +29,7 @@ use Rattle.index_parts.specs.declared.postings_row.PostingsRow.{PostingsRow}
 use Rattle.index_parts.specs.declared.toc.Toc.{Toc}
 use Rattle.index_slices.specs.Parts.{known}
 use Rattle.index_file.specs.declared.index_series.IndexSeries.{IndexSeries}
+use Rattle.index_file.specs.IndexFile.{least_size}
 use Rattle.index_v2.specs.Opening.{opened_at}
 use Rattle.index_v2.specs.PostingsLists.{list_of}
 use Rattle.index_v2.specs.SeriesLabels.{numbered_at}
@@ -37,7 +38,7 @@ use Rattle.series_selection.specs.Selections.{rows_read}
 use Rattle.reading_core.specs.Firsts.{each_at}
 use Rattle.read_ranges.specs.ChunkRanges.{AreGroups, IsNear, IsSetOf, group_of, group_piece, offset_of, segment_of}
 use Rattle.chunk_ranges.specs.ChunkReads.{Glimpse, Read, Tests, glimpse_at, have_keys, read, reads_chunks, reads_group, reads_groups, reads_out, reads_references, shows, sticks_out, tests_at}
-use Rattle.read_ranges.specs.IndexRanges.{AreRuns, Follows, Piece, Run, contents_piece, has_bytes, has_sections, least_size, run_of, section_piece}
+use Rattle.read_ranges.specs.IndexRanges.{AreRuns, Follows, Piece, Run, contents_piece, has_bytes, has_sections, run_of, section_piece}
 use Rattle.read_ranges.specs.IndexReads.{Goes, IsTakenBy, Tables, after_contents, after_lists, after_run, after_runs, after_symbols, after_table, after_whole, by_size, falls_back, have_bytes, part_at, reached, reads_contents, reads_runs, reads_sections, reads_whole, selects, tables_of}
 use Rattle.read_ranges.specs.OneCut.{one_cut}
 use Rattle.read_ranges.specs.OneSet.{one_selection, one_set}

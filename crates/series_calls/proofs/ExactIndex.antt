@@ -7,6 +7,7 @@ use Rattle.std.proofs.lemmas.Bool.{ltb-true, ne_eqb}
 use Rattle.list_core.proofs.Lists.{filter_hit, filter_miss}
 use Rattle.list_core.proofs.Membership.{contains_first, contains_later, into_filter, into_map, member_passes, of_filter, of_map}
 use Rattle.list_core.proofs.Pairs.{AllZip-weaker}
+use Rattle.list_core.proofs.Rising.{rest_rises}
 use Rattle.reading_core.specs.Grammar.{IsBytes}
 use Rattle.reading_core.proofs.Binds.{ok_is}
 use Rattle.reading_core.proofs.Fronts.{IsBytes-drop, IsBytes-take}
@@ -40,7 +41,7 @@ use Rattle.index_v2.specs.declared.refusal.IndexRefusal.{IndexRefusal}
 use Rattle.index_v2.proofs.ListNumbers.{none_rise, numbers_rise}
 use Rattle.index_v2.proofs.OpeningLaws.{opened_again}
 use Rattle.series_selection.specs.Selections.{IsSelection}
-use Rattle.series_selection.proofs.Matching.{above_first, first_of, rest_rises, selection_matches}
+use Rattle.series_selection.proofs.Matching.{above_first, first_of, selection_matches}
 use Rattle.read_ranges.specs.IndexRanges.{Piece, contents_piece, section_piece}
 use Rattle.read_ranges.specs.IndexReads.{part_at, tables_of}
 use Rattle.read_ranges.specs.ChunkRanges.{IsSetOf}

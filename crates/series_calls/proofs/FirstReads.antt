@@ -3,7 +3,7 @@ use Rattle.std.proofs.Common.{ℕ, Bool, true, false, [], Option, Some, None}
 use Rattle.std.specs.Prelude.{nat_le}
 use Rattle.std.specs.List.{flat_map}
 use Rattle.world_core.specs.Plans.{Plan, Runs, ends, choose}
-use Rattle.read_ranges.specs.IndexRanges.{least_size}
+use Rattle.index_file.specs.IndexFile.{least_size}
 use Rattle.read_ranges.specs.Reads.{Query, Block, Cache}
 use Rattle.read_ranges.specs.IndexReads.{Goes, by_size, reads_contents, reads_whole}
 use Rattle.chunk_ranges.specs.ChunkReads.{reads_chunks}

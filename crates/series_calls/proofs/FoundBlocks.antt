@@ -16,6 +16,7 @@ use Rattle.reading_core.proofs.Binds.{ok_is}
 use Rattle.label_sets.specs.Triples.{Triple}
 use Rattle.label_sets.specs.declared.sample.Sample.{Sample}
 use Rattle.label_sets.specs.declared.series.Series.{Series}
+use Rattle.label_sets.specs.Times.{times_of}
 use Rattle.block_keys.specs.KeyText.{key_text}
 use Rattle.block_keys.specs.declared.key.Key.TheVariants.{Index, Segment}
 use Rattle.bucket_core.specs.Contents.{Contents}
@@ -35,7 +36,7 @@ use Rattle.index_v2.specs.Opening.{opened_at}
 use Rattle.index_v2.specs.SeriesLabels.{numbered_at}
 use Rattle.index_cache.specs.Caches.{same_range}
 use Rattle.index_cache.specs.declared.range.Range.{Range}
-use Rattle.block_content.specs.Content.{HaveTimesOf, HoldsSeries, IsChunkOf, times_of}
+use Rattle.block_content.specs.Content.{HaveTimesOf, HoldsSeries, IsChunkOf}
 use Rattle.block_content.specs.ContentReading.{are_some, have_times_of, is_time}
 use Rattle.block_content.proofs.ChunksRead.{times_again, timed_are_there}
 use Rattle.reading_core.proofs.FirstLaws.{some_is}

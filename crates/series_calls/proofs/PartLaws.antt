@@ -20,6 +20,7 @@ use Rattle.index_parts.specs.SeriesEntry.{IsSeries}
 use Rattle.index_parts.proofs.ListLaws.{IsTurnOf, list_found}
 use Rattle.index_parts.proofs.PostingsLaws.{posting_turn}
 use Rattle.index_parts.proofs.TocLaws.{toc_again, toc_found}
+use Rattle.index_parts.proofs.FrameLaws.{regroup}
 use Rattle.index_slices.specs.Parts.{IsPartOf, Part, known, list_in}
 use Rattle.index_slices.proofs.Slices.{list_before, list_here, list_stands}
 use Rattle.index_slices.proofs.SeriesSlices.{series_stands}
@@ -142,9 +143,6 @@ pub one_series : (index : List ℕ) (symbols : List (List ℕ)) (number : ℕ) (
 one_series index symbols number one other is so = ok_is {E = IndexRefusal} one other (sym (numbered_again index symbols number one is) ∙ numbered_again index symbols number other so)
 
 -- ---- the table of contents
-
-regroup : (a b c d : List ℕ) → a ++ (b ++ c ++ d) ≡ a ++ b ++ c ++ d
-regroup a b c d = simp append_assoc
 
 -- what is read of the end of an index is its table of contents
 pub toc_in_index : (index bytes : List ℕ) (toc opened : Toc) → IsBytes bytes → take 52 (drop (length index - 52) index) ≡ bytes → length bytes ≡ 52 → toc_at bytes ≡ Ok toc → IsToc index opened → toc ≡ opened

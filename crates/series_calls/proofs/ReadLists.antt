@@ -7,7 +7,6 @@ use Rattle.std.proofs.lemmas.Bool.{and_parts}
 use Rattle.reading_core.proofs.Binds.{bind_ok}
 use Rattle.label_sets.specs.declared.sample.Sample.{Sample}
 use Rattle.index_parts.specs.declared.toc.Toc.{Toc}
-use Rattle.series_selection.proofs.Matching.{rest_rises}
 use Rattle.reading_core.specs.Firsts.{each_at}
 use Rattle.reading_core.proofs.FirstLaws.{each_found}
 use Rattle.read_ranges.specs.ChunkRanges.{AreGroups, Group, IsNear}
@@ -16,6 +15,7 @@ use Rattle.read_ranges.specs.IndexRanges.{AreRuns, Run, has_bytes, has_sections,
 use Rattle.read_ranges.specs.Stretches.{AreJoined, IsJoined, Stretch, last_behind, last_of, members}
 use Rattle.series_calls.proofs.BlockFindings.{IsWithin}
 use Rattle.list_core.proofs.Bools.{and_first, and_second}
+use Rattle.list_core.proofs.Rising.{rest_rises}
 
 -- ---- members
 

@@ -6,6 +6,7 @@ use Rattle.std.specs.List.Sorted.{IsPermutation, IsStrictlyIncreasing}
 use Rattle.std.proofs.lemmas.List.Elements.{filter_agree, Contains-append_cases}
 use Rattle.std.proofs.lemmas.List.Sorted.{list_any-IsPermutation}
 use Rattle.list_core.proofs.Membership.{contains_first, contains_later, no_member, only_member, of_filter, of_flat_map}
+use Rattle.list_core.specs.Lists.{is_one_of}
 use Rattle.reading_core.specs.Reading.{◌>>=◌, refused_as, Gives}
 use Rattle.label_sets.specs.declared.label.Label.{Label}
 use Rattle.label_sets.specs.Labels.{value_of}
@@ -31,7 +32,7 @@ use Rattle.index_v2.proofs.HeldLaws.{opened_whole}
 use Rattle.index_v2.proofs.ReadersOf.{whole_holds}
 use Rattle.index_v2.proofs.PostingsLaws.{opened_is}
 use Rattle.series_selection.specs.Selections.{decides, deciding, rows_read, IsSelection, AreMatching}
-use Rattle.series_selection.specs.SelectionSteps.{is_one_of, kept, numbers_at, left_by_rows, selected_at, ListsStand}
+use Rattle.series_selection.specs.SelectionSteps.{kept, numbers_at, left_by_rows, selected_at, ListsStand}
 use Rattle.series_selection.proofs.Walk.{ok_same, stand_same, stand_append}
 use Rattle.series_selection.proofs.Taking.{is_selection}
 use Rattle.series_selection.proofs.Endings.{lists_same}

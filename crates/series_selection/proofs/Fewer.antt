@@ -4,6 +4,7 @@ use Rattle.std.specs.Prelude.{IfOk, not, if◌then◌else◌}
 use Rattle.std.specs.List.{All, Contains, filter}
 use Rattle.std.proofs.lemmas.List.Elements.{All-contains, All-contains_itself}
 use Rattle.list_core.proofs.Membership.{no_member, of_filter}
+use Rattle.list_core.specs.Lists.{is_one_of}
 use Rattle.reading_core.proofs.Binds.{bind_ok, ok_is}
 use Rattle.label_sets.specs.declared.label.Label.{Label}
 use Rattle.label_sets.specs.Labels.{value_of}
@@ -17,7 +18,7 @@ use Rattle.index_v2.specs.Held.{Held}
 use Rattle.reading_core.specs.Reading.{Gives}
 use Rattle.index_v2.specs.declared.refusal.IndexRefusal.TheVariants.{NoMemory}
 use Rattle.series_selection.specs.Selections.{decides}
-use Rattle.series_selection.specs.SelectionSteps.{is_one_of, kept, numbers_at, left_by, left_by_rows, left_at}
+use Rattle.series_selection.specs.SelectionSteps.{kept, numbers_at, left_by, left_by_rows, left_at}
 
 pub record AreOf (left numbers : List ℕ) : Type 0 where
   pub few : length left ≤ length numbers

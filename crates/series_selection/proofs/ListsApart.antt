@@ -11,6 +11,7 @@ use Rattle.std.proofs.lemmas.List.Kept.{IsStrictlySortedBy-filter}
 use Rattle.std.proofs.lemmas.List.Elements.{Contains-append_left, Contains-append_right, Contains-append_cases}
 use Rattle.list_core.proofs.Order.{Less-at_places}
 use Rattle.list_core.proofs.Membership.{contains_first, contains_later, member_cases, no_member, into_map, place_of_member, of_filter, member_passes}
+use Rattle.list_core.proofs.Rising.{rest_rises}
 use Rattle.reading_core.specs.Reading.{refused_as}
 use Rattle.reading_core.proofs.Binds.{ok_is}
 use Rattle.label_sets.specs.declared.label.Label.{Label}
@@ -35,7 +36,7 @@ use Rattle.series_selection.specs.Selections.{HasNumber, decides, deciding}
 use Rattle.series_selection.specs.SelectionSteps.{numbers_at}
 use Rattle.series_selection.proofs.NumbersRead.{first_read, numbers_none, of_numbers}
 use Rattle.series_selection.proofs.Walk.{ok_same}
-use Rattle.series_selection.proofs.Matching.{Stands, first_of, rest_rises, above_first, row_has, row_value}
+use Rattle.series_selection.proofs.Matching.{Stands, first_of, above_first, row_has, row_value}
 use Rattle.series_selection.proofs.Taking.{decides_name}
 
 -- ---- numbers of which none stands twice

@@ -1,5 +1,5 @@
 -- In an index of a list of series a selector takes exactly the series whose final labels match.
-use Rattle.std.proofs.Common.{◌≡◌, ℕ, suc, ◌+◌, ◌<◌, Bool, true, false, cond, List, [], ◌∷◌, map, get_or, Option, Some, None, Result, Ok, refl, sym, ap, subst, ◌∙◌, inl, inr, arith}
+use Rattle.std.proofs.Common.{◌≡◌, ℕ, ◌<◌, Bool, true, false, cond, List, [], ◌∷◌, map, Option, Some, None, Result, Ok, refl, sym, ap, subst, ◌∙◌, inl, inr, arith}
 use Rattle.std.specs.Prelude.{IsTrue, IsFalse, ◌↔◌, unwrap_or}
 use Rattle.std.specs.List.{All, Contains, list_all}
 use Rattle.std.specs.List.Sorted.{IsStrictlyIncreasing}
@@ -7,6 +7,8 @@ use Rattle.std.specs.Option.{option_or}
 use Rattle.std.proofs.lemmas.Bool.{and_parts, and_from}
 use Rattle.std.proofs.lemmas.List.Elements.{All-nil, All-cons, All-head, All-tail}
 use Rattle.list_core.proofs.Membership.{no_member, of_map, into_map, member_cases}
+use Rattle.list_core.proofs.Rising.{rest_rises}
+use Rattle.list_core.proofs.Bools.{not_both}
 use Rattle.label_sets.specs.declared.label.Label.{Label}
 use Rattle.label_sets.specs.Labels.{value_of, IsLabelSet, StandsBefore, ComesBefore}
 use Rattle.label_sets.specs.Finals.{final_of, is_among}
@@ -23,9 +25,9 @@ use Rattle.index_parts.proofs.ListLaws.{list_again}
 use Rattle.index_parts.proofs.PostingsLaws.{posting_turn}
 use Rattle.index_file.specs.declared.index_series.IndexSeries.{IndexSeries}
 use Rattle.index_file.specs.IndexFile.{IsIndex, AreListed, BelongsTo}
-use Rattle.index_v2.proofs.ListNumbers.{numbers_rise, none_rise}
+use Rattle.index_v2.proofs.ListNumbers.{listed_rises}
 use Rattle.series_selection.specs.Selections.{HasNumber, IsListed, StandsUnder, TakesByRows, TakesBy, IsSelection, AreMatching}
-use Rattle.series_selection.proofs.Taking.{taken_apart, apart_taken, taken_among, among_taken, differ}
+use Rattle.series_selection.proofs.Taking.{taken_apart, apart_taken, taken_among, among_taken}
 
 -- ---- labels of a set
 
@@ -51,9 +53,6 @@ no_empty_name (l ∷ ls) is = value_miss l ls [] is.0 ∙ no_empty_name ls is.3
 
 abbrev pub first_of : ℕ × IndexSeries → ℕ
 first_of one = one.0
-
-pub rest_rises : (n : ℕ) (numbers : List ℕ) → IsStrictlyIncreasing (n ∷ numbers) → IsStrictlyIncreasing numbers
-rest_rises n numbers rise = λ k lt. subst (λ (i : ℕ). get_or numbers k 0 < get_or (n ∷ numbers) i 0) {x = suc k + 1} {y = suc (k + 1)} (omega arith) (rise (suc k) (omega arith))
 
 pub above_first : (n : ℕ) (numbers : List ℕ) (m : ℕ) → IsStrictlyIncreasing (n ∷ numbers) → Contains numbers m → n < m
 above_first n [] m rise among = absurd (no_member m among)
@@ -81,10 +80,6 @@ one_series (head ∷ listed) number one other rise a b =
         | inr later ↦ one_series listed number one other (rest_rises head.0 (map first_of listed) rise) late later
       ]
     ]
-
-listed_rises : (index : List ℕ) (rows : List PostingsRow) (numbers : List ℕ) → AreListed index rows numbers → IsStrictlyIncreasing numbers
-listed_rises index [] numbers are = subst IsStrictlyIncreasing (sym are) none_rise
-listed_rises index (row ∷ rows) numbers are = numbers_rise index row.offset numbers are
 
 -- ---- postings
 
@@ -164,18 +159,18 @@ module _ (bytes : List ℕ) (list : List IndexSeries) (is : IsIndex bytes list) 
         record { row = row.0; among = row.1; name_is = row.2; holds = subst Holds (sym row.3) holds; listed = has_row row.0 number series row.1 has belongs }
 
     refused_under : (o : Option (List ℕ)) → value_of series.labels m.name ≡ o → is_accepted m.condition [] ≡ true → is_accepted m.condition (unwrap_or o []) ≡ false → StandsUnder (Stands is.opened.bytes) is.opened.rows m.name (λ value. IsFalse (is_accepted m.condition value)) number
-    refused_under None e empty refused = absurd (differ (is_accepted m.condition []) empty refused)
+    refused_under None e empty refused = absurd (not_both (is_accepted m.condition []) empty refused)
     refused_under (Some value) e empty refused = stands_under (λ v. IsFalse (is_accepted m.condition v)) value e refused
 
     accepted_under : (o : Option (List ℕ)) → value_of series.labels m.name ≡ o → is_accepted m.condition [] ≡ false → is_accepted m.condition (unwrap_or o []) ≡ true → StandsUnder (Stands is.opened.bytes) is.opened.rows m.name (λ value. IsTrue (is_accepted m.condition value)) number
-    accepted_under None e empty accepted = absurd (differ (is_accepted m.condition []) accepted empty)
+    accepted_under None e empty accepted = absurd (not_both (is_accepted m.condition []) accepted empty)
     accepted_under (Some value) e empty accepted = stands_under (λ v. IsTrue (is_accepted m.condition v)) value e accepted
 
     by_own : (o : Option (List ℕ)) → value_of series.labels m.name ≡ o → TakesByRows (Stands is.opened.bytes) is.opened.rows m number ↔ IsTrue (is_accepted m.condition (unwrap_or o []))
     by_own o e = by_bool (is_accepted m.condition [])
         (λ empty. (
           λ takes. by_bool (is_accepted m.condition (unwrap_or o [])) (λ yes. yes) (λ refused. absurd (apart_taken (Stands is.opened.bytes) is.opened.rows m number empty takes (refused_under o e empty refused))),
-          λ accepted. taken_apart (Stands is.opened.bytes) is.opened.rows m number empty (λ under. differ (is_accepted m.condition (unwrap_or o [])) accepted (ap (is_accepted m.condition) (sym (row_value under.row under.among under.name_is under.listed ∙ ap (λ (p : Option (List ℕ)). unwrap_or p []) e)) ∙ under.holds)),
+          λ accepted. taken_apart (Stands is.opened.bytes) is.opened.rows m number empty (λ under. not_both (is_accepted m.condition (unwrap_or o [])) accepted (ap (is_accepted m.condition) (sym (row_value under.row under.among under.name_is under.listed ∙ ap (λ (p : Option (List ℕ)). unwrap_or p []) e)) ∙ under.holds)),
         ))
         (λ empty. (
           λ takes. let under = among_taken (Stands is.opened.bytes) is.opened.rows m number empty takes in ap (is_accepted m.condition) (sym (row_value under.row under.among under.name_is under.listed ∙ ap (λ (p : Option (List ℕ)). unwrap_or p []) e)) ∙ under.holds,

@@ -1,14 +1,16 @@
 -- What matchers leave of numbers, by what it says which numbers the lists of rows have.
-use Rattle.std.proofs.Common.{◌≡◌, ℕ, Bool, true, false, not, List, [], ◌∷◌, Option, Some, None, Ok, refl, sym, subst, ◌∙◌, arith}
+use Rattle.std.proofs.Common.{◌≡◌, ℕ, Bool, true, false, not, List, [], ◌∷◌, Option, Some, None, Ok, refl, sym, subst, ◌∙◌}
 use Rattle.std.specs.Prelude.{slice_get, MatchBool, IsTrue, IsFalse, is_some, if◌then◌else◌, ◌==◌, ◌↔◌, take}
 use Rattle.std.specs.List.{All, Contains, filter, flat_map}
 use Rattle.std.specs.List.Sorted.{IsStrictlyIncreasing}
 use Rattle.std.specs.Str.{bytes_eq}
 use Rattle.std.specs.Cmp.Lexicographic.{bytes_decides}
 use Rattle.std.proofs.lemmas.Bool.{and_parts, not-true, not_from_false, eqb-true}
-use Rattle.std.proofs.lemmas.Bool.Decides.{nat_tests}
 use Rattle.std.proofs.lemmas.List.Elements.{All-nil, All-cons, All-head, All-tail, Contains-append_left, Contains-append_right}
 use Rattle.list_core.proofs.Membership.{contains_first, no_member, member_of_any, any_of_member, member_passes, of_filter, into_filter}
+use Rattle.list_core.specs.Lists.{is_one_of}
+use Rattle.list_core.proofs.Numbers.{equals_itself}
+use Rattle.list_core.proofs.Bools.{not_both}
 use Rattle.reading_core.proofs.Binds.{bind_ok, ok_is}
 use Rattle.label_sets.specs.declared.label.Label.{Label}
 use Rattle.label_sets.specs.Labels.{value_of}
@@ -21,25 +23,17 @@ use Rattle.index_v2.specs.declared.refusal.IndexRefusal.{IndexRefusal}
 use Rattle.index_v2.specs.Held.{Held}
 use Rattle.index_v2.specs.PostingsLists.{list_of}
 use Rattle.series_selection.specs.Selections.{HasNumber, IsListed, StandsUnder, TakesByRows, TakesBy, IsSelection, decides, deciding, rows_read}
-use Rattle.series_selection.specs.SelectionSteps.{is_one_of, kept, numbers_at, left_by_rows, left_by, left_at, selected_at}
+use Rattle.series_selection.specs.SelectionSteps.{kept, numbers_at, left_by_rows, left_by, left_at, selected_at}
 use Rattle.series_selection.proofs.NumbersRead.{of_numbers, each_read}
 use Rattle.series_selection.proofs.Walk.{own_name}
 
--- ---- cases of a Bool
-
-pub differ : (b : Bool) → b ≡ true → b ≡ false → ⊥
-differ b e f = cc
-
 -- ---- numbers among others
-
-number_itself : (n : ℕ) → (n == n) ≡ true
-number_itself n = grind (arith, nat_tests)
 
 one_of : (numbers : List ℕ) (number : ℕ) → is_one_of numbers number ≡ true → Contains numbers number
 one_of numbers number e = let m = member_of_any (λ n. n == number) numbers e in subst (Contains numbers) (eqb-true m.0 number m.2) m.1
 
 is_one : (numbers : List ℕ) (number : ℕ) → Contains numbers number → is_one_of numbers number ≡ true
-is_one numbers number has = any_of_member (λ n. n == number) numbers number has (number_itself number)
+is_one numbers number has = any_of_member (λ n. n == number) numbers number has (equals_itself number)
 
 tests : Bool → List ℕ → ℕ → Bool
 tests wanted others n = if wanted then is_one_of others n else not (is_one_of others n)
@@ -56,7 +50,7 @@ kept_apart : (wanted : Bool) (others numbers : List ℕ) (number : ℕ) → want
 kept_apart true others numbers number w has = absurd cc
 kept_apart false others numbers number w has = (
   of_filter (λ n. not (is_one_of others n)) numbers number has,
-  λ among. differ (is_one_of others number) (is_one others number among) (not-true (is_one_of others number) (member_passes (λ n. not (is_one_of others n)) numbers number has)),
+  λ among. not_both (is_one_of others number) (is_one others number among) (not-true (is_one_of others number) (member_passes (λ n. not (is_one_of others n)) numbers number has)),
 )
 
 keep_apart : (wanted : Bool) (others numbers : List ℕ) (number : ℕ) → wanted ≡ false → Contains numbers number → (Contains others number → ⊥) → Contains (kept wanted others numbers) number

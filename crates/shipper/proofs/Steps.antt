@@ -31,6 +31,7 @@ use Rattle.shipper.specs.declared.stage.Stage.TheVariants.{Looking, Putting}
 use Rattle.shipper.specs.declared.upload.Upload.{Upload}
 use Rattle.shipper.specs.declared.upload_end.UploadEnd.{UploadEnd}
 use Rattle.shipper.specs.declared.upload_end.UploadEnd.TheVariants.{Done, Already, Fault}
+use Rattle.list_core.proofs.Numbers.{above_zero}
 
 -- the object at a place, with what is left behind it
 record ObjectAt (objects : List Object) (place : ℕ) : Type 0 where
@@ -78,14 +79,10 @@ last_is objects waiting place count empty rest within many is yes' =
     let none : count ≡ 0 = eqb-true count 0 (sym is ∙ yes') in
     omega (arith, none, many, ap length rest, length-drop (place + 1) objects)
 
-not_none : (count : ℕ) → (count == 0) ≡ false → 0 < count
-not_none zero e = absurd (cc)
-not_none (suc n) e = omega arith
-
 -- and any other does
 pub more_wait : (objects waiting : List Object) (place count : ℕ) (empty : Bool) → waiting ≡ drop (place + 1) objects → count ≡ length waiting → empty ≡ (count == 0) → empty ≡ false → place + 1 < length objects
 more_wait objects waiting place count empty rest many is no' =
-    let some : 0 < count = not_none count (sym is ∙ no') in
+    let some : 0 < count = above_zero count (sym is ∙ no') in
     omega (arith, some, many, ap length rest, length-drop (place + 1) objects)
 
 -- its put is what the plan asks for

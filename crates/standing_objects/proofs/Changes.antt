@@ -1,14 +1,14 @@
 -- What stands after a put and after a delete.
-use Rattle.std.proofs.Common.{◌≡◌, ℕ, Bool, true, false, cond, List, Option, Ok, refl, sym, ◌∙◌, ap, subst, ⊎_elim, inl, inr, arith}
+use Rattle.std.proofs.Common.{◌≡◌, ℕ, Bool, true, false, cond, List, Option, Ok, refl, sym, ◌∙◌, ap, subst, ⊎_elim, arith}
 use Rattle.std.specs.Prelude.{IsSome}
 use Rattle.std.specs.BTreeMap.{get, is_at}
 use Rattle.std.specs.Ordering.{nat_cmp, is_eq, ordering_then}
 use Rattle.std.specs.declared.cmp.Ordering.{Ordering}
 use Rattle.std.specs.declared.cmp.Ordering.TheVariants.{Less, Equal, Greater}
-use Rattle.list_core.proofs.Bools.{nat_cmp-Equal, nat_cmp-Greater, nat_cmp-Less}
+use Rattle.list_core.proofs.Bools.{nat_cmp-Equal, same-from_is_eq}
 use Rattle.std.specs.Str.{bytes_eq}
 use Rattle.std.specs.Cmp.Lexicographic.{slice_cmp}
-use Rattle.std.proofs.lemmas.Bool.{cases_Bool, cases_lt}
+use Rattle.std.proofs.lemmas.Bool.{cases_Bool}
 use Rattle.std.proofs.lemmas.Map.Text.{is_eq-slice_cmp}
 use Rattle.std.proofs.lemmas.Slice.Eq.{bytes_eq-Decides}
 use Rattle.ulid_core.specs.UlidText.{IsUlidText, text_of, ulid_of}
@@ -62,15 +62,6 @@ then_parts Less b is = cc (is)
 then_parts Equal b is = (refl, is)
 then_parts Greater b is = cc (is)
 
-num_same : (m n : ℕ) → is_eq (nat_cmp m n) ≡ true → m ≡ n
-num_same m n is = elim (cases_lt m n) [
-  | inl less ↦ cc (is, ap is_eq (nat_cmp-Less m n less))
-  | inr most ↦ elim (cases_lt n m) [
-    | inl greater ↦ cc (is, ap is_eq (nat_cmp-Greater m n greater))
-    | inr least ↦ omega (arith, most, least)
-  ]
-]
-
 of_parts : (one other : Key) → key_ulid one ≡ key_ulid other → key_kind one ≡ key_kind other → key_number one ≡ key_number other → one ≡ other
 of_parts (Meta u) (Meta v) block kind number = ap Meta block
 of_parts (Index u) (Index v) block kind number = ap Index block
@@ -83,7 +74,7 @@ pub same_key : (one other : Key) → is_at (key_cmp one) other ≡ true → one 
 same_key one other same =
     let blocks = then_parts (nat_cmp (key_ulid one) (key_ulid other)) (ordering_then (nat_cmp (key_kind one) (key_kind other)) (nat_cmp (key_number one) (key_number other))) same in
     let names = then_parts (nat_cmp (key_kind one) (key_kind other)) (nat_cmp (key_number one) (key_number other)) blocks.1 in
-    of_parts one other (num_same (key_ulid one) (key_ulid other) blocks.0) (num_same (key_kind one) (key_kind other) names.0) (num_same (key_number one) (key_number other) names.1)
+    of_parts one other (same-from_is_eq (key_ulid one) (key_ulid other) blocks.0) (same-from_is_eq (key_kind one) (key_kind other) names.0) (same-from_is_eq (key_number one) (key_number other) names.1)
 
 -- a key is itself
 pub key_itself : (key : Key) → key_cmp key key ≡ Equal

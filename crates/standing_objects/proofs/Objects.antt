@@ -1,16 +1,16 @@
 -- The names of a block's objects are what follows the slash in their keys' texts.
-use Rattle.std.proofs.Common.{◌≡◌, ◌⊎◌, inl, inr, ℕ, ◌+◌, ◌≤◌, ◌==◌, ◌&&◌, true, false, List, [], ◌∷◌, ◌++◌, map, length, drop, Option, Some, None, Result, Ok, Err, refl, sym, ◌∙◌, ap, subst, arith, append_assoc, length-append}
-use Rattle.std.specs.Prelude.{IfOk, IsSome}
+use Rattle.std.proofs.Common.{◌≡◌, ◌⊎◌, inl, inr, ℕ, ◌+◌, ◌≤◌, ◌==◌, ◌&&◌, true, false, List, [], ◌∷◌, ◌++◌, map, length, drop, Option, Some, None, refl, sym, ◌∙◌, ap, subst, arith, append_assoc, length-append}
+use Rattle.std.specs.Prelude.{IsSome}
 use Rattle.std.specs.BTreeMap.{get}
 use Rattle.std.specs.List.{after_first, position_or_len}
-use Rattle.std.specs.Ordering.{nat_cmp, is_eq, is_gt, is_lt, ordering_then}
+use Rattle.std.specs.Ordering.{nat_cmp, is_eq, is_gt, is_lt}
 use Rattle.std.specs.Cmp.Lexicographic.{slice_cmp}
 use Rattle.std.specs.declared.cmp.Ordering.{Ordering}
 use Rattle.std.specs.declared.cmp.Ordering.TheVariants.{Less, Equal, Greater}
 use Rattle.std.proofs.Math.Seq.{drop-append_seam}
 use Rattle.std.proofs.lemmas.Bool.{and_parts, eqb-true, eq-eqb}
 use Rattle.std.proofs.lemmas.List.{length-map}
-use Rattle.list_core.proofs.Bools.{Less-from_is_lt, nat_cmp-Equal}
+use Rattle.list_core.proofs.Bools.{Less-from_is_lt}
 use Rattle.ulid_core.specs.UlidText.{IsUlidText, character, text_of, ulid_of}
 use Rattle.ulid_core.proofs.UlidLaws.{IsUlidText-unique, length-text_of, ulid_of-only}
 use Rattle.block_keys.specs.Keys.{key_cmp, key_ulid}
@@ -19,6 +19,7 @@ use Rattle.block_keys.specs.declared.key.Key.{Key}
 use Rattle.block_keys.proofs.KeyLaws.{before_slash}
 use Rattle.bucket_core.specs.Contents.{Contents}
 use Rattle.bucket_core.specs.Pages.{Before, IsName, Lists}
+use Rattle.bucket_core.proofs.Order.{front_same}
 use Rattle.world_core.specs.declared.entry.Entry.{Entry}
 use Rattle.standing_objects.specs.Held.{Holds, IsWritten, Places, bytes_at}
 use Rattle.standing_objects.specs.Next.{IsDueAt, IsFirstKey, IsLeast, Stands, is_due_object}
@@ -43,11 +44,6 @@ object_name key is =
     ∙ ap (drop (length front + 1)) (text ∙ sym (append_assoc front (47 ∷ []) name))
     ∙ ap (λ n. drop n ((front ++ 47 ∷ []) ++ name)) longer
     ∙ drop-append_seam (front ++ 47 ∷ []) name
-
--- what both texts begin with decides nothing
-front_same : (front a b : List ℕ) → slice_cmp nat_cmp (front ++ a) (front ++ b) ≡ slice_cmp nat_cmp a b
-front_same [] a b = refl
-front_same (x ∷ front) a b = ap (λ o. ordering_then o (slice_cmp nat_cmp (front ++ a) (front ++ b))) (nat_cmp-Equal x) ∙ front_same front a b
 
 -- texts of one block are in the order of what follows the slash
 pub cmp_behind : (key : Key) (after : List ℕ) → slice_cmp nat_cmp (text_of (key_ulid key) ++ 47 ∷ after) (key_text key) ≡ slice_cmp nat_cmp after (name_of key)
@@ -140,8 +136,3 @@ module _ (entries : List Entry) (places : Places) (contents : Contents) (holds :
               let low = first.2 found.0 found.1 (is_due found.0 found.3 (subst (Before after) found.4 later)) in
               subst (λ (n : List ℕ). (name_of key ≡ n) ⊎ Before (name_of key) n) (sym found.4) (name_order (key_cmp key found.0) key found.0 refl names low);
         }
-
--- what holds of a result holds if more holds
-pub if_ok : {A E : Type 0} (P Q : A → Type 0) (r : Result A E) → IfOk r P → ((x : A) → P x → Q x) → IfOk r Q
-if_ok P Q (Ok x) is more = more x is
-if_ok P Q (Err e) is more = is

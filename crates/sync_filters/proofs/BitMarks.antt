@@ -10,7 +10,7 @@ use Rattle.std.proofs.lemmas.Bool.{and_parts, cases_Bool, eq-eqb}
 use Rattle.std.proofs.lemmas.Nat.{or_comm}
 use Rattle.std.proofs.lemmas.Nat.Bits.{bit_at_or, same_from_bits}
 use Rattle.std.proofs.lemmas.Bool.Decides.{nat_tests}
-use Rattle.std.proofs.lemmas.Option.{slice_get-map, slice_get-get_or}
+use Rattle.std.proofs.lemmas.Option.{slice_get-map, slice_get-get_or, same_Some}
 use Rattle.std.proofs.lemmas.List.{take_all, length-map}
 use Rattle.std.proofs.lemmas.List.Folds.{list_any_more, list_any_at}
 use Rattle.list_core.proofs.Membership.{member_cases, no_member, contains_first, contains_later}
@@ -87,12 +87,9 @@ marked_there block (Some other) theirs mark b mark_is at is = elim (cases_Bool (
   | inr f ↦ is ∙ ap (λ x. has_bits theirs mark && x) f ∙ and_none (has_bits theirs mark) ∙ sym f
 ]
 
-same_mark : (a b : ℕ) → Some a ≡ Some b → a ≡ b
-same_mark a b e = cc
-
 mark_there : (listed : List Found) (marks : List ℕ) (place theirs : ℕ) (other : Found) → marks ≡ map mark_at listed → slice_get marks place ≡ Some theirs → slice_get listed place ≡ Some other → mark_at other ≡ theirs
 mark_there listed marks place theirs other are at found =
-    same_mark (mark_at other) theirs (sym (ap (option_map mark_at) found) ∙ sym (slice_get-map mark_at listed place) ∙ sym (ap (λ l. slice_get l place) are) ∙ at)
+    same_Some (mark_at other) theirs (sym (ap (option_map mark_at) found) ∙ sym (slice_get-map mark_at listed place) ∙ sym (ap (λ l. slice_get l place) are) ∙ at)
 
 at_place : (marks : List ℕ) (place theirs : ℕ) → true ≡ ltb place (length marks) → theirs ≡ get_or marks place theirs → slice_get marks place ≡ Some theirs
 at_place marks place theirs inside is = let within : place < length marks = grind (arith, nat_tests) in slice_get-get_or marks place theirs within ∙ ap Some (sym is)

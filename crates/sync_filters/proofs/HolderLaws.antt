@@ -11,6 +11,7 @@ use Rattle.std.proofs.lemmas.Option.{slice_get_within}
 use Rattle.std.proofs.lemmas.List.Elements.{Contains-append_left, Contains-append_right}
 use Rattle.std.proofs.lemmas.List.Sorted.{Contains-permutation}
 use Rattle.list_core.proofs.Membership.{member_of_any, any_of_member, all_at_member, contains_place, place_of_member, into_map, contains_first}
+use Rattle.list_core.proofs.Bools.{equal_tests}
 use Rattle.block_meta.specs.declared.meta.Meta.{Meta}
 use Rattle.sync_filters.specs.Filters.{has_all, has_more, is_better, is_covered}
 use Rattle.sync_filters.specs.Holders.{holder, AreHolders, HasHoldersOf, HasLargerOf, HasLarger, covers_at, holders_at, each_source, digest_of, digest_alone}
@@ -19,11 +20,6 @@ use Rattle.sync_filters.specs.declared.holders.Holder.{Holder}
 use Rattle.sync_filters.proofs.EqualSources.{same_sources}
 
 -- ---- comparisons
-
-same_bool : (a b : Bool) → (a ≡ true → b ≡ true) → (b ≡ true → a ≡ true) → a ≡ b
-same_bool true b f g = sym (f refl)
-same_bool false true f g = g refl
-same_bool false false f g = refl
 
 passes : {A : Type 0} (test : A → Bool) (o : Option A) → option_map_or test o false ≡ true → (x : A) × (o ≡ Some x) × (test x ≡ true)
 passes test None e = absurd (true≢false (sym e))
@@ -109,7 +105,7 @@ module _ (listed : List Found) (equals holders same larger : List Holder) (block
       ]
 
   pub covered_by_few : (list_any (λ one. covers_at listed block one.place) same || list_any (λ one. covers_at listed block one.place) larger) ≡ is_covered listed block
-  covered_by_few = same_bool _ _
+  covered_by_few = equal_tests _ _
       (λ e. elim (or_cases _ _ e) [ inl left ↦ better_found listed same block left | inr right ↦ better_found listed larger block right ])
       found_better
 

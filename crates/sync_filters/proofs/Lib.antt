@@ -1,6 +1,6 @@
 mod Places
 mod EqualSources
-mod HolderLaws
+pub mod HolderLaws
 mod HolderPlaces
 mod Digests
 mod BitMarks

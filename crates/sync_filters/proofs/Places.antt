@@ -1,10 +1,11 @@
 -- Searches among ascending ULIDs, and what a split is made of.
-use Rattle.std.proofs.Common.{◌≡◌, ℕ, ◌+◌, ◌-◌, ◌<◌, ◌≤◌, zero, suc, eqb, List, length, get_or, sym, ◌∙◌, ap, subst, arith, inl, inr, Result, Ok, Err}
+use Rattle.std.proofs.Common.{◌≡◌, ℕ, ◌+◌, ◌-◌, ◌<◌, ◌≤◌, zero, suc, eqb, List, length, get_or, sym, ◌∙◌, ap, arith, inl, inr, Result, Ok, Err}
 use Rattle.std.specs.Prelude.{not, is_ok, IfOk}
 use Rattle.std.specs.List.{list_any, filter}
 use Rattle.std.specs.List.Sorted.{IsStrictlyIncreasing, IsBinarySearchResult, IsPermutation, IsNonDecreasingBy}
 use Rattle.std.specs.Ordering.{nat_cmp}
 use Rattle.list_core.specs.declared.memory.NoMemory.{NoMemory}
+use Rattle.list_core.proofs.Rising.{rise_le}
 use Rattle.sync_filters.specs.Filters.{is_covered, Splits}
 use Rattle.sync_filters.specs.declared.found.Found.{Found}
 use Rattle.std.proofs.lemmas.Bool.{ne_eqb, eq-eqb, cases_lt}
@@ -21,11 +22,6 @@ rises_by xs increase (suc n) i lt =
     let step : get_or xs (i + n) 0 < get_or xs (i + n + 1) 0 = increase (i + n) (omega arith) in
     omega (arith, same, before, step)
 
-rises : (xs : List ℕ) → IsStrictlyIncreasing xs → (i j : ℕ) → i ≤ j → j < length xs → get_or xs i 0 ≤ get_or xs j 0
-rises xs increase i j le lt =
-    let sum : i + (j - i) ≡ j = omega arith in
-    subst (λ k. get_or xs i 0 ≤ get_or xs k 0) sum (rises_by xs increase (j - i) i (omega arith))
-
 differs : (xs : List ℕ) (x i k : ℕ) → ((k : ℕ) → k < i → get_or xs k 0 < x) → ((k : ℕ) → i ≤ k → k < length xs → x < get_or xs k 0) → k < length xs → get_or xs k 0 ≡ x → ⊥
 differs xs x i k below above lt is =
     elim (cases_lt k i) [ inl before ↦ omega (arith, below k before, is) | inr behind ↦ omega (arith, above k behind lt, is) ]
@@ -34,10 +30,10 @@ differs xs x i k below above lt is =
 pub found_by : (xs : List ℕ) (x : ℕ) (r : Result ℕ ℕ) → IsStrictlyIncreasing xs → IsBinarySearchResult (λ y. nat_cmp y x) xs r
     → is_ok r ≡ list_any (λ other. eqb other x) xs
 found_by xs x (Ok i) increase result =
-    let at : (i < length xs) × (get_or xs i 0 ≡ x) = searched xs x (Ok i) result (rises xs increase) in
+    let at : (i < length xs) × (get_or xs i 0 ≡ x) = searched xs x (Ok i) result (rise_le xs increase) in
     sym (list_any_at (λ other. eqb other x) xs i 0 at.0 (eq-eqb (get_or xs i 0) x at.1))
 found_by xs x (Err i) increase result =
-    let past : (i ≤ length xs) × ((k : ℕ) → k < i → get_or xs k 0 < x) × ((k : ℕ) → i ≤ k → k < length xs → x < get_or xs k 0) = searched xs x (Err i) result (rises xs increase) in
+    let past : (i ≤ length xs) × ((k : ℕ) → k < i → get_or xs k 0 < x) × ((k : ℕ) → i ≤ k → k < length xs → x < get_or xs k 0) = searched xs x (Err i) result (rise_le xs increase) in
     sym (list_any_none (λ other. eqb other x) xs
     (λ k d lt. ne_eqb (get_or xs k d) x (λ is. differs xs x i k past.1 past.2 lt (sym (get_or_default_zero xs k d lt) ∙ is))))
 

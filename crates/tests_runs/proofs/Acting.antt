@@ -1,24 +1,10 @@
 -- What a hand has done so far.
-use Rattle.std.proofs.Common.{◌≡◌, ◌⊎◌, inl, inr, ◌||◌, IsTrue, Bool, true, false, ℕ, ◌++◌, List, [], sym, ap, subst, ◌∙◌, append-nil, append_assoc, refl}
+use Rattle.std.proofs.Common.{◌≡◌, ◌⊎◌, inl, inr, ◌||◌, IsTrue, Bool, false, ℕ, ◌++◌, List, [], sym, ap, subst, ◌∙◌, append-nil, append_assoc, refl}
 use Rattle.world_core.specs.declared.entry.Entry.{Entry}
 use Rattle.world_core.specs.declared.acted.Acted.{Acted}
 use Rattle.world_core.specs.declared.acted.Acted.TheVariants.{NoMemory}
 use Rattle.world_turn.specs.Turns.{is_wanting}
-
-or_false : (b : Bool) → b ≡ (b || false)
-or_false true = refl
-or_false false = refl
-
-or_more : (a b c : Bool) → ((a || b) || c) ≡ (a || (b || c))
-or_more true b c = refl
-or_more false b c = refl
-
-or_left : (a b : Bool) → IsTrue a → IsTrue (a || b)
-or_left a b is = ap (λ (x : Bool). x || b) is
-
-or_right : (a b : Bool) → IsTrue b → IsTrue (a || b)
-or_right true b is = refl
-or_right false b is = is
+use Rattle.phase_runner.proofs.Taking.{or_false, or_more, or_left, or_right}
 
 pub wanting : (P : Type 0) (acted : Acted) → P ⊎ (acted ≡ NoMemory) → P ⊎ IsTrue (is_wanting acted)
 wanting P acted (inl was) = inl was

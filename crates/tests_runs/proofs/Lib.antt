@@ -1,4 +1,3 @@
 pub mod Acting
 pub mod Joined
-pub mod Noting
 pub mod ToldCalls

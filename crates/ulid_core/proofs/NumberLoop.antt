@@ -1,10 +1,14 @@
 -- The number of a text, character by character.
-use Rattle.std.proofs.Common.{◌≡◌, ℕ, ◌+◌, ◌*◌, ◌^◌, ◌<◌, ◌≤◌, None, leb, true, List, [], map, length, take, drop, get_or, refl, sym, ap, ◌∙◌, arith}
+use Rattle.std.proofs.Common.{◌≡◌, ℕ, ◌+◌, ◌*◌, ◌^◌, ◌<◌, ◌≤◌, Option, None, Some, leb, true, false, List, [], map, length, take, drop, get_or, refl, sym, ap, ◌∙◌, arith}
 use Rattle.std.proofs.lemmas.Bool.Decides.{nat_tests}
 use Rattle.std.proofs.lemmas.Int.Digits.{number_more, number_after_append, number_after_ge}
 use Rattle.std.proofs.lemmas.List.{length-map, take-map, get_or-map, take-append-drop}
 use Rattle.std.specs.Int.Digits.{number_from_digits, number_from_digits_after}
-use Rattle.std.specs.Option.{unwrap_or}
+use Rattle.std.proofs.lemmas.Grind.{common_steps}
+use Rattle.std.proofs.lemmas.List.Sums.{fails_before_first}
+use Rattle.std.specs.List.{position_or_len}
+use Rattle.std.specs.Option.{is_none, unwrap_or}
+use Rattle.std.specs.Prelude.{IsSome}
 use Rattle.ulid_core.proofs.UlidLaws.{value, found-characters}
 use Rattle.ulid_core.specs.UlidText.{digit_of, number_of, bad_place}
 
@@ -34,6 +38,21 @@ number_of-fits : (text : List ℕ) → length text ≡ 26 → bad_place text ≡
 number_of-fits text count none first =
     let low : leb (get_or text 0 0) 55 ≡ true = grind (arith, nat_tests) in
     (found-characters text (number_of text) count none low refl).fits
+
+some_by : (o : Option ℕ) → is_none o ≡ false → IsSome o
+some_by None none = absurd (cc)
+some_by (Some digit) none = refl
+
+-- where no place is bad, each byte stands for a digit
+pub each_stands : (text : List ℕ) (i : ℕ) → bad_place text ≡ None → i < length text → IsSome (digit_of (get_or text i 0))
+unfolding bad_place
+each_stands text i none low =
+    let late : length text ≤ position_or_len (λ c. is_none (digit_of c)) text = grind (arith, common_steps) in
+    some_by _ (fails_before_first (λ c. is_none (digit_of c)) text i 0 (omega arith))
+
+-- the digit that a byte stands for is its value
+pub value_is : (c digit : ℕ) → digit_of c ≡ Some digit → digit ≡ unwrap_or (digit_of c) 0
+value_is c digit is = sym (ap (λ o. unwrap_or o 0) is)
 
 pub number_of-step : (text : List ℕ) (i number digit : ℕ) → length text ≡ 26 → bad_place text ≡ None → get_or text 0 0 ≤ 55 → i < length text
     → number ≡ number_of (take i text) → digit ≡ unwrap_or (digit_of (get_or text i 0)) 0

@@ -8,6 +8,7 @@ use Rattle.std.proofs.lemmas.List.{take_more}
 use Rattle.std.proofs.lemmas.List.Elements.{Contains-append_left, Contains-append_right, All-push, All-weaker}
 use Rattle.block_meta.specs.declared.meta.Meta.{Meta}
 use Rattle.vertical_merge.specs.Compacted.{IsLeast, IsGreatest, IsGreatestLevel, IsNextLevel}
+use Rattle.list_core.proofs.Lists.{take_whole}
 
 any_left : {A : Type 0} (P : A → Type 0) (xs ys : List A) → Any P xs → Any P (xs ++ ys)
 any_left P _ _ any =
@@ -124,16 +125,12 @@ between _ _ _ _ a b c = omega (arith, ints)
 
 -- ---- the inputs and their first
 
-all_taken : (xs : List Meta) → take (length xs) xs ≡ xs
-all_taken [] = refl
-all_taken (x ∷ xs) = ap (λ l. x ∷ l) (all_taken _)
-
 pub first_and_others : (inputs members : List Meta) (first : Meta) → members ≡ inputs → 0 < length members → first ≡ get_or members 0 first
     → inputs ≡ first ∷ take (length members - 1) (drop 1 members)
 first_and_others _ [] _ same some at = absurd (omega arith)
 first_and_others _ (x ∷ members) first same some at =
     let size : length (x ∷ members) - 1 ≡ length members = omega arith in
-    sym same ∙ ap (λ y. y ∷ members) (sym at) ∙ ap (λ l. first ∷ l) (sym (ap (λ n. take n members) size ∙ all_taken _))
+    sym same ∙ ap (λ y. y ∷ members) (sym at) ∙ ap (λ l. first ∷ l) (sym (ap (λ n. take n members) size ∙ take_whole _))
 
 pub least_of : (inputs : List Meta) (first : Meta) (others : List Meta) (least out : ℤ) → inputs ≡ first ∷ others → out ≡ least
     → IsLeast (λ m. m.min_time) (first ∷ others) least → IsLeast (λ m. m.min_time) inputs out

@@ -1,33 +1,24 @@
--- The first member of each class of a total order: what is found stays, and ascending lists are told by what is found.
-use Rattle.std.proofs.Common.{◌≡◌, ◌+◌, zero, suc, Bool, true, false, cond, List, map, [], ◌∷◌, refl, sym, ap, ◌∙◌, arith, inl, inr}
+-- The first member of each class of a total order: what is found stays, and ascending lists are
+-- told by what is found.
+use Rattle.std.proofs.Common.{◌≡◌, ◌+◌, zero, suc, Bool, true, List, [], ◌∷◌, refl, sym, ap, ◌∙◌, arith, inl, inr}
 use Rattle.std.specs.Prelude.{Contains, Some, is_some}
 use Rattle.std.specs.declared.cmp.Ordering.{Ordering}
-use Rattle.std.specs.declared.cmp.Ordering.TheVariants.{Less}
-use Rattle.std.specs.Option.{option_map}
 use Rattle.std.specs.Ordering.{is_lt, is_eq}
 use Rattle.std.specs.Cmp.{IsTotalOrder}
-use Rattle.std.specs.List.{AllByRecursion, dedup, dedup_from, find, list_any}
+use Rattle.std.specs.List.{dedup, dedup_from, find, list_any}
 use Rattle.std.specs.List.Sorted.{IsStrictlySortedBy, IsSorted}
 use Rattle.std.proofs.lemmas.Cmp.{tied_itself}
-use Rattle.std.proofs.lemmas.List.Folds.{find_at}
 use Rattle.std.proofs.lemmas.List.Kept.{IsStrictlySortedBy-dedup}
 use Rattle.std.proofs.lemmas.List.Sorted.{ranks_by}
 use Rattle.list_core.specs.Ordered.{in_order, placed}
 use Rattle.list_core.proofs.Bools.{by_bool, swap_tests, Less-from_is_lt, Equal-from_is_eq}
-use Rattle.list_core.proofs.Membership.{member_cases, no_member, contains_first, contains_later, contains_place, each_member}
+use Rattle.list_core.proofs.Membership.{member_cases, no_member, each_member, found_among}
 use Rattle.list_core.proofs.StableSorts.{Rises, Rises-in_order}
-
-pub found_among : {A : Type 0} (p : A → Bool) (xs : List A) (t : A) → find p xs ≡ Some t → Contains xs t
-found_among p xs t e = contains_place xs _ t (sym (find_at p xs) ∙ e)
+use Rattle.list_core.proofs.SameMembers.{same_members}
 
 pub is_some-find : {A : Type 0} (p : A → Bool) (xs : List A) → is_some (find p xs) ≡ list_any p xs
 is_some-find p [] = refl
 is_some-find p (x ∷ xs) = by_bool (p x) (λ t. rw t refl) (λ f. rw f (is_some-find p xs))
-
-pub find-map : {A B : Type 0} (p : B → Bool) (f : A → B) (xs : List A)
-    → find p (map f xs) ≡ option_map f (find (λ x. p (f x)) xs)
-find-map p f [] = refl
-find-map p f (x ∷ xs) = by_bool (p (f x)) (λ t. rw t refl) (λ g. rw g (find-map p f xs))
 
 module _ {A : Type 0} {cmp : A → A → Ordering} (o : IsTotalOrder cmp) where
   abbrev less : A → A → Bool
@@ -86,7 +77,8 @@ module _ {A : Type 0} {cmp : A → A → Ordering} (o : IsTotalOrder cmp) where
       of_list (x ∷ xs) = find-dedup_from x xs
 
   -- a member of an ascending list is found
-  pub found_itself : (xs : List A) (t : A) → IsStrictlySortedBy cmp xs → Contains xs t → find (same t) xs ≡ Some t
+  pub found_itself : (xs : List A) (t : A) → IsStrictlySortedBy cmp xs → Contains xs t
+      → find (same t) xs ≡ Some t
   unfolding IsStrictlySortedBy
   found_itself [] t up among = absurd (no_member t among)
   found_itself (x ∷ xs) t up among = elim (member_cases x t xs among) [
@@ -94,40 +86,9 @@ module _ {A : Type 0} {cmp : A → A → Ordering} (o : IsTotalOrder cmp) where
     | inr i ↦ rw (o.antisymm t x, each_member _ _ t up.0 i) (found_itself xs t up.1 i)
   ]
 
-  -- a member of another ascending list with the same first member, behind that one
-  behind : (x y t : A) (ys : List A) → x ≡ y → cmp x t ≡ Less → Contains (y ∷ ys) t → Contains ys t
-  behind x y t ys e l among = elim (member_cases y t ys among) [
-    | inl f ↦ absurd cc (tied_itself o t)
-    | inr i ↦ i
-  ]
-
-  same_first : (x y : A) (xs ys : List A) → AllByRecursion (λ z. cmp x z ≡ Less) xs
-      → AllByRecursion (λ z. cmp y z ≡ Less) ys → Contains (y ∷ ys) x → Contains (x ∷ xs) y → x ≡ y
-  same_first x y xs ys up rise p q = elim (member_cases y x ys p) [
-    | inl e ↦ sym e
-    | inr i ↦ elim (member_cases x y xs q) [
-      | inl e ↦ e
-      | inr j ↦ absurd cc (o.trans x y x (each_member _ _ y up j) (each_member _ _ x rise i), tied_itself o x)
-    ]
-  ]
-
-  -- ascending lists with the same members are one
-  pub same_members : (xs ys : List A) → IsStrictlySortedBy cmp xs → IsStrictlySortedBy cmp ys
-      → ((t : A) → Contains xs t → Contains ys t) → ((t : A) → Contains ys t → Contains xs t) → xs ≡ ys
-  unfolding IsStrictlySortedBy
-  same_members [] [] up rise p q = refl
-  same_members [] (y ∷ ys) up rise p q = absurd (no_member y (q y (contains_first y ys)))
-  same_members (x ∷ xs) [] up rise p q = absurd (no_member x (p x (contains_first x xs)))
-  same_members (x ∷ xs) (y ∷ ys) up rise p q =
-      let e = same_first x y xs ys up.0 rise.0 (p x (contains_first x xs)) (q y (contains_first y ys)) in
-      let tails = same_members xs ys up.1 rise.1
-      (λ t c. behind x y t ys e (each_member _ _ t up.0 c) (p t (contains_later x t xs c)))
-      (λ t c. behind y x t xs (sym e) (each_member _ _ t rise.0 c) (q t (contains_later y t ys c))) in
-      λ i. e i ∷ tails i
-
   -- ascending lists in which the same is found are one
   pub same_found : (xs ys : List A) → IsStrictlySortedBy cmp xs → IsStrictlySortedBy cmp ys
       → ((t : A) → find (same t) xs ≡ find (same t) ys) → xs ≡ ys
-  same_found xs ys up rise e = same_members xs ys up rise
+  same_found xs ys up rise e = same_members o xs ys up rise
       (λ t c. found_among (same t) ys t (sym (e t) ∙ found_itself xs t up c))
       (λ t c. found_among (same t) xs t (e t ∙ found_itself ys t rise c))

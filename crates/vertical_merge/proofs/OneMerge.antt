@@ -1,6 +1,7 @@
 -- There is one merge of a list of samples.
 use Rattle.list_core.proofs.Membership.{member_of_any}
-use Rattle.std.proofs.Common.{◌≡◌, ◌≢◌, Bool, true, false, List, [], ◌∷◌, ◌++◌, map, Contains, Some, refl, sym, ap, ap₂, subst, ◌∙◌}
+use Rattle.list_core.proofs.SameMembers.{same_members}
+use Rattle.std.proofs.Common.{◌≡◌, ◌≢◌, Bool, true, List, [], ◌∷◌, ◌++◌, map, Contains, Some, refl, sym, ap, ap₂, subst, ◌∙◌}
 use Rattle.std.specs.Prelude.{All}
 use Rattle.std.specs.List.{AllByRecursion, find, list_any}
 use Rattle.std.specs.List.Sorted.{IsStrictlySortedBy}
@@ -13,7 +14,6 @@ use Rattle.label_sets.specs.declared.label.Label.{Label}
 use Rattle.label_sets.specs.declared.sample.Sample.{Sample}
 use Rattle.label_sets.specs.declared.series.Series.{Series}
 use Rattle.vertical_merge.specs.Merged.{AreFirst, IsMerge}
-use Rattle.vertical_merge.proofs.Firsts.{same_members}
 use Rattle.vertical_merge.proofs.Laws.{found_contains}
 use Rattle.vertical_merge.proofs.Orders.{keys_total, same_key, set_itself}
 

@@ -14,7 +14,7 @@ use Rattle.world_core.specs.declared.op.Op.{Op}
 use Rattle.world_core.specs.declared.op.Op.TheVariants.{Clock, Put, Get, GetRange, Delete, RootPage, BlockPage}
 use Rattle.world_core.specs.declared.seen.Seen.{Seen}
 use Rattle.world_core.specs.declared.entry.Entry.{Entry}
-use Rattle.moment_core.specs.Limits.{longest_tick}
+use Rattle.moment_core.specs.Limits.{longest_tick, moment_limit}
 
 -- an entry of a list with one more is the last one, or stands in the list
 split_push : (entries : List Entry) (e : Entry) (before after : List Entry) (x : Entry) → entries ++ e ∷ [] ≡ before ++ x ∷ after → ((before ≡ entries) × (x ≡ e)) ⊎ ((others : List Entry) × (entries ≡ before ++ x ∷ others))
@@ -47,7 +47,7 @@ pub failed_more : (entries : List Entry) (e : Entry) → count_by (λ x. has_fai
 failed_more entries e = let h = sum_by-append (λ x. cond (has_failed x.reply) 1 0) entries (e ∷ []) in omega (arith, h)
 
 -- no moment passes what the clock's limit and the ticks allow
-bound_more : (tick last count : ℕ) (op : Op) → IsLawful op → tick ≤ longest_tick → last ≤ 2 ^ 47 + longest_tick * count → moment_after tick last op ≤ 2 ^ 47 + longest_tick * (count + 1)
+bound_more : (tick last count : ℕ) (op : Op) → IsLawful op → tick ≤ longest_tick → last ≤ moment_limit + longest_tick * count → moment_after tick last op ≤ moment_limit + longest_tick * (count + 1)
 bound_more tick last count (Clock moment) lawful short bound = omega arith
 bound_more tick last count (Put key bytes) lawful short bound = omega arith
 bound_more tick last count (Get key) lawful short bound = omega arith

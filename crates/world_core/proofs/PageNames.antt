@@ -1,12 +1,14 @@
 -- Names of a page, the ULIDs among them, and the last one.
-use Rattle.std.proofs.Common.{◌≡◌, ℕ, ◌≤◌, ◌<◌, ◌+◌, ◌-◌, suc, List, [], ◌∷◌, ◌++◌, length, get_or, refl, sym, ◌∙◌, ap, arith, Option, Some, None, Result, Ok, Err, append_assoc, append-nil, take}
+use Rattle.std.proofs.Common.{◌≡◌, ℕ, ◌≤◌, ◌<◌, ◌+◌, ◌-◌, suc, List, [], ◌∷◌, ◌++◌, length, get_or, refl, sym, ◌∙◌, ap, arith, Option, Some, None, Result, Ok, Err, append_assoc, append-nil, take, ◌^◌}
 use Rattle.std.specs.Prelude.{IfOk}
 use Rattle.list_core.specs.declared.memory.NoMemory.{NoMemory}
-use Rattle.std.specs.List.{last_or, cons_option, filter_map}
+use Rattle.std.specs.List.{last_or, cons_option, filter_map, AllByRecursion}
 use Rattle.std.specs.Result.{result_ok}
 use Rattle.std.proofs.lemmas.List.Elements.{filter_map-append}
 use Rattle.std.proofs.lemmas.List.{take_more}
 use Rattle.ulid_core.specs.UlidText.{ulid_of}
+use Rattle.ulid_core.specs.declared.refusal.UlidRefusal.{UlidRefusal}
+use Rattle.ulid_core.proofs.UlidLaws.{ulid_of-found}
 use Rattle.world_core.specs.Walks.{last_listed, ulids_in}
 
 -- ---- what is found among names
@@ -84,3 +86,20 @@ pub last_copied : (r : Result (List ℕ) NoMemory) (names : List (List ℕ)) (na
     → name ≡ get_or names (length names - 1) d → IfOk r (λ copied. copied ≡ name) → IfOk r (λ copied. last_listed names ≡ Some copied)
 last_copied (Ok copied) names name d some at is = last_listed-at names d some ∙ ap Some (sym (is ∙ at))
 last_copied (Err e) names name d some at is = tt
+
+-- the ULIDs that wait once a page more was listed
+pub all_wait : (before : List ℕ) (page names : List (List ℕ)) (waiting : List ℕ) → waiting ≡ before ++ ulids_in page → ulids_in names ≡ before → waiting ≡ ulids_in (names ++ page)
+all_wait before page names waiting added listed = added ∙ ap (λ l. l ++ ulids_in page) (sym listed) ∙ sym (ulids_in-append names page)
+
+-- ---- numbers of 128 bits
+
+abbrev pub AreSmall : List ℕ → Type 0
+AreSmall ulids = AllByRecursion (λ ulid. ulid < 2 ^ 128) ulids
+
+pub one_small : (r : Result ℕ UlidRefusal) (ulids : List ℕ) → ((ulid : ℕ) → r ≡ Ok ulid → ulid < 2 ^ 128) → AreSmall ulids → AreSmall (cons_option (result_ok r) ulids)
+one_small (Ok ulid) ulids small all = (small ulid refl, all)
+one_small (Err e) ulids small all = all
+
+pub ulids_small : (names : List (List ℕ)) → AreSmall (ulids_in names)
+ulids_small [] = tt
+ulids_small (name ∷ names) = one_small (ulid_of name) (ulids_in names) (λ ulid is. (ulid_of-found name ulid is).fits) (ulids_small names)

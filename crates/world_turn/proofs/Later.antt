@@ -1,5 +1,6 @@
 -- A call through the turn leaves its pass with no less than it knew.
 use Rattle.std.proofs.Common.{◌≡◌, ◌↔◌, ◌||◌, ℕ, Bool, true, false, None, if◌then◌else◌, ne_eqb, ◌+◌, ◌-◌, ◌<◌, ◌≤◌, List, [], ◌∷◌, ◌++◌, length, slice_get, Some, refl, sym, ap, ◌∙◌, subst, arith, le_refl, append-nil, append_assoc}
+use Rattle.list_core.proofs.Bools.{or_false}
 use mathlib.Core.List.{IsPrefix}
 use Rattle.world_core.specs.Journals.{entry_at}
 use Rattle.world_core.specs.Keeping.{IsFull}
@@ -41,10 +42,6 @@ pub stand_both : (above : ℕ) (es fs xs : List Entry) → Stand above es xs →
 stand_both above [] fs xs s t = t
 stand_both above (e ∷ es) fs xs s t = (s.0, stand_both above es fs xs s.1 t)
 
-or_false : (b : Bool) → b ≡ (b || false)
-or_false true = refl
-or_false false = refl
-
 or_true : (b : Bool) → true ≡ (b || true)
 or_true true = refl
 or_true false = refl
@@ -67,13 +64,13 @@ module _ (v : View) (journal : List Entry) (wanted : Bool) (op : Op) where
   known_then NoMemory = refl
 
   refused_then : (acted : Acted) → (settled (holding v journal wanted) op acted).refused ≡ (v.refused || is_full acted)
-  refused_then (Done seen) = or_false v.refused
+  refused_then (Done seen) = sym (or_false v.refused)
   refused_then Full = or_true v.refused
-  refused_then NoMemory = or_false v.refused
+  refused_then NoMemory = sym (or_false v.refused)
 
   wanted_then : (acted : Acted) → (settled (holding v journal wanted) op acted).wanted ≡ (v.wanted || is_wanting acted)
-  wanted_then (Done seen) = or_false v.wanted
-  wanted_then Full = or_false v.wanted
+  wanted_then (Done seen) = sym (or_false v.wanted)
+  wanted_then Full = sym (or_false v.wanted)
   wanted_then NoMemory = or_true v.wanted
 
   same_then : (acted : Acted) → IsSame v (settled (holding v journal wanted) op acted)

@@ -5,6 +5,7 @@ use Rattle.std.proofs.lemmas.Bool.{leb-true, le-leb}
 use Rattle.reading_core.specs.Grammar.{IsBytes, HasFront}
 use Rattle.wire_bytes.specs.FieldTexts.{IsUvarint}
 use Rattle.wire_bytes.proofs.FieldLaws.{uvarint_found, uvarint_again, left_after}
+use Rattle.wire_bytes.specs.Position.{start}
 use Rattle.reading_core.specs.Decimal.{fits_signed}
 use Rattle.reading_core.specs.Members.{members_at}
 use Rattle.label_sets.specs.declared.sample.Sample.{Sample}
@@ -12,7 +13,7 @@ use Rattle.xor_chunks.specs.State.{State}
 use Rattle.xor_chunks.specs.declared.refusal.XorRefusal.TheVariants.{OutOfRange}
 use Rattle.xor_chunks.specs.Steps.{time_after, risen, follow_at, next_at}
 use Rattle.xor_chunks.specs.Samples.{sample_of}
-use Rattle.xor_chunks.specs.Data.{start, gap_at, sample_at}
+use Rattle.xor_chunks.specs.Data.{gap_at, sample_at}
 use Rattle.xor_chunks.specs.Window.{Window, IsInside, is_inside}
 use Rattle.xor_chunks.specs.Grammar.{IsChange, unchanged, row_14, row_17, row_20, row_64, IsValue, same_pattern, in_window, opens, Follows, IsNext, AreOthers}
 use Rattle.reading_core.proofs.Bound.{OfValue, of_ok, of_err, of_weaker, of_bind, of_unless, of_bind_as}

@@ -11,7 +11,7 @@ use Rattle.reading_core.specs.Grammar.{IsBytes, HasFront}
 use Rattle.reading_core.specs.Members.{members_at}
 use Rattle.reading_core.proofs.Fronts.{IsBytes-after}
 use Rattle.reading_core.proofs.Binds.{ok_is}
-use Rattle.wire_bytes.specs.Position.{left, further}
+use Rattle.wire_bytes.specs.Position.{left, further, start}
 use Rattle.wire_bytes.specs.Fields.{number_at, varint_at}
 use Rattle.wire_bytes.specs.FieldTexts.{IsFixed, IsUvarint, IsVarint}
 use Rattle.wire_bytes.proofs.FieldLaws.{varint_found, varint_again, left_after}
@@ -22,7 +22,7 @@ use Rattle.xor_chunks.specs.declared.refusal.XorRefusal.{XorRefusal}
 use Rattle.xor_chunks.specs.declared.refusal.XorRefusal.TheVariants.{NoMemory}
 use Rattle.wire_bits.specs.Bits.{bits_of, number_of}
 use Rattle.xor_chunks.specs.Samples.{begun}
-use Rattle.xor_chunks.specs.Data.{start, count_at, first_at, sample_at, others_at, rest_at, samples_at, is_filling, data_at}
+use Rattle.xor_chunks.specs.Data.{count_at, first_at, sample_at, others_at, rest_at, samples_at, is_filling, data_at}
 use Rattle.xor_chunks.specs.Grammar.{AreOthers, AreRest, AreSamples, IsText}
 use Rattle.xor_chunks.specs.Window.{whole, IsInside}
 use Rattle.reading_core.proofs.Bound.{OfValue, of_ok, of_bind, of_unless, of_bind_as, of_gives}

@@ -36,6 +36,7 @@ use Rattle.lifecycle_core.proofs.phases.ShipEnds.{ship_end, stopped_end}
 use Rattle.lifecycle_core.proofs.phases.OwnSyncs.{IsLatestAt}
 use Rattle.lifecycle_core.proofs.phases.TasksMade.{answers_are_last}
 use Rattle.lifecycle_core.proofs.answers.LastViews.{none_between, view_at}
+use Rattle.list_core.proofs.Options.{Some-option_map}
 
 -- the call behind an end
 pub record IsAsked (setting : Setting) (gateway : Option ℕ) (w : Work) (held : Holding) (entries : List Entry) (used : Use) (end : SeriesEnd) : Type 0 where
@@ -52,20 +53,15 @@ pub record IsAsked (setting : Setting) (gateway : Option ℕ) (w : Work) (held :
   pub run : SeriesRun used.view (asking selector setting.script.rules.replicas ask.low ask.high) held.cache entries (Some own)
   pub came : end ≡ own.end
 
--- what an option is made of
-some_of : {A B : Type 0} (f : A → B) (o : Option A) (b : B) → Some b ≡ option_map f o → (a : A) × (o ≡ Some a) × (b ≡ f a)
-some_of f None b is = absurd (cc (is))
-some_of f (Some a) b is = (a, refl, cc (is))
-
 query_asked : (setting : Setting) (gateway : Option ℕ) (held after : Holding) (number : ℕ) (low high : ℤ) (ask : Ask) (entries : List Entry) (used : Use) (end : SeriesEnd) → ask_to setting gateway low high ≡ Some ask
     → QueryTask held.used (question_of setting number ask) held entries (Some (answered used end)) after → IsAsked setting gateway (Query low high number) held entries used end
 query_asked setting gateway held after number low high ask entries used end asked run = elim (query_is held.used (question_of setting number ask) held entries (Some (answered used end)) after run) [
   | inl none ↦ absurd (elim none.0.1 [ inl off ↦ cc (off) | inr same ↦ cc (same) ])
   | inr call ↦
-      let own = some_of (λ (c : CallEnd). answered call.from c.end) call.own (answered used end) call.came in
+      let own = Some-option_map (λ (c : CallEnd). answered call.from c.end) call.own (answered used end) call.came in
       let one : call.from ≡ used = cc (own.2) in
       let two : end ≡ (own.0).end = cc (own.2) in
-      let selects = some_of (λ (matchers : List Matcher). asking matchers setting.script.rules.replicas ask.low ask.high) (slice_get setting.script.selectors number) call.question (sym call.is) in
+      let selects = Some-option_map (λ (matchers : List Matcher). asking matchers setting.script.rules.replicas ask.low ask.high) (slice_get setting.script.selectors number) call.question (sym call.is) in
       let run : SeriesRun call.from.view call.question held.cache entries (Some own.0) = subst (SeriesRun call.from.view call.question held.cache entries) own.1 call.run in
       record {
         number = number;

@@ -1,5 +1,6 @@
 -- What a block holds whose meta was put.
 use Rattle.list_core.proofs.Membership.{any_of_member}
+use Rattle.list_core.proofs.Rising.{one_rises}
 use Rattle.std.proofs.Common.{◌≡◌, ℕ, ◌≤◌, true, is_some, List, [], ◌∷◌, ◌++◌, length, All, Contains, Option, Some, None, refl, sym, ◌∙◌, ap, subst, append-nil}
 use Rattle.std.specs.Prelude.{IfSome, IsSome}
 use Rattle.std.specs.List.{AllByRecursion, IsDistinct, list_any}
@@ -33,7 +34,7 @@ use Rattle.lifecycle_core.specs.Held.{declared, given, held, held_by}
 use Rattle.lifecycle_core.specs.Setting.{Setting}
 use Rattle.lifecycle_core.proofs.blocks.Declared.{declared_ulid}
 use Rattle.lifecycle_core.proofs.blocks.FilesPut.{AreFilesPut, new_files, shipped_files, shipped_whole}
-use Rattle.lifecycle_core.proofs.blocks.Known.{merged_again, alone}
+use Rattle.lifecycle_core.proofs.blocks.Known.{merged_again}
 use Rattle.lifecycle_core.proofs.blocks.NewMetas.{meta_is_read, named_again}
 use Rattle.lifecycle_core.proofs.blocks.Objects.{object, object_is}
 use Rattle.lifecycle_core.proofs.blocks.OneKey.{new_is_not_declared}
@@ -113,7 +114,7 @@ module _ (setting : Setting) (journal : List Entry) (lawful : IsLawfulScript set
 
   abbrev its_files : BlockFiles
   its_files = record {
-    meta = meta_made w.meta (meta_is_read ulid text w.meta read_is).is.times (subst IsStrictlyIncreasing (sym sources_are) (alone ulid));
+    meta = meta_made w.meta (meta_is_read ulid text w.meta read_is).is.times (subst IsStrictlyIncreasing (sym sources_are) (one_rises ulid));
     index = w.index;
     segments = w.segments;
     numbered = w.few;

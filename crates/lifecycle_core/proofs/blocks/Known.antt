@@ -6,6 +6,7 @@ use Rattle.std.specs.List.Sorted.{IsStrictlyIncreasing}
 use Rattle.std.proofs.lemmas.List.Elements.{All-cons, All-contains, All-from_recursion, All-nil}
 use Rattle.list_core.proofs.Membership.{all_members, of_map}
 use Rattle.list_core.proofs.Integers.{le_le, le_itself}
+use Rattle.list_core.proofs.Rising.{one_rises}
 use Rattle.block_keys.specs.declared.key.Key.TheVariants as key
 use Rattle.block_meta.specs.MetaFields.{MetaFields, fields_of}
 use Rattle.block_meta.specs.MetaReading.{meta_of_text}
@@ -62,9 +63,6 @@ pub record IsKnown (setting : Setting) (journal : List Entry) (ulid seq : ℕ) (
 
 pub one_meta : (bytes : List ℕ) (one other : MetaFields) → IsMetaText bytes one → IsMetaText bytes other → one ≡ other
 one_meta bytes one other is so = let both = sym (meta_text_only bytes one is) ∙ meta_text_only bytes other so in cc (both)
-
-pub alone : (u : ℕ) → IsStrictlyIncreasing (u ∷ [])
-alone u k below = absurd (omega (arith, below))
 
 -- ---- puts of metas
 
@@ -144,7 +142,7 @@ module _ (setting : Setting) (journal : List Entry) (lawful : IsLawfulScript set
             small = subst (λ (u : ℕ). u < 2 ^ 128) (sym is.own) small;
             times = text.is.times;
             whole = ap (λ (m : MetaFields). m.resolution) is.meta_is ∙ (is.whole).whole;
-            ascend = subst IsStrictlyIncreasing (sym is.sources) (alone ulid);
+            ascend = subst IsStrictlyIncreasing (sym is.sources) (one_rises ulid);
             some = λ none. (let no : ulid ∷ [] ≡ [] = sym is.sources ∙ none in cc (no));
             sources = subst (All (λ (u : ℕ). u < 2 ^ 128)) (sym is.sources) (All-cons (λ (u : ℕ). u < 2 ^ 128) ulid [] small (All-nil (λ (u : ℕ). u < 2 ^ 128)));
             labels = subst AreLawfulLabels (sym is.labels) (declared_lawful setting ulid is.block is.is lawful).labels;

@@ -14,6 +14,7 @@ use Rattle.label_sets.specs.Finals.{is_among, without}
 use Rattle.label_sets.specs.Labels.{compare_sets}
 use Rattle.label_sets.specs.Notation.{is_name}
 use Rattle.label_sets.proofs.FinalLabels.{IsLabelSet-without}
+use Rattle.label_sets.proofs.LabelValues.{same_set}
 use Rattle.block_meta.specs.Lawful.{AreLawfulTimes, ascending}
 use Rattle.block_meta.specs.MetaFields.{MetaFields, fields_of}
 use Rattle.block_meta.specs.MetaReading.{meta_of_text}
@@ -32,7 +33,6 @@ use Rattle.block_merging.specs.MergedBlock.{IsMergeOf}
 use Rattle.vertical_merge.specs.Compacted.{IsCompactedPlan, parent_of}
 use Rattle.group_planner.specs.Groups.{AreGroups, compare_keys, comes_before, group_of, has_key, key_of}
 use Rattle.group_planner.specs.declared.group.Group.{Group}
-use Rattle.group_planner.proofs.KeyOrders.{same_set}
 use Rattle.moment_core.specs.declared.rules.Rules.{Rules}
 use Rattle.world_core.specs.declared.entry.Entry.{Entry}
 use Rattle.meta_fetcher.specs.declared.view.View.{View}
@@ -57,13 +57,13 @@ some_test : (m meta : MetaFields) (b : Bool) → cond b (Some m) None ≡ Some m
 some_test m meta true same = ap Ok (cc (same))
 some_test m meta false same = absurd (cc (same))
 
-read_as : (ulid : ℕ) (r : Result MetaFields MetaRefusal) (meta : MetaFields) → named_meta ulid r ≡ Some meta → r ≡ Ok meta
-read_as ulid (Ok m) meta is = some_test m meta (eqb m.ulid ulid) is
-read_as ulid (Err e) meta is = absurd (cc (is))
+pub meta_read : (ulid : ℕ) (r : Result MetaFields MetaRefusal) (meta : MetaFields) → named_meta ulid r ≡ Some meta → r ≡ Ok meta
+meta_read ulid (Ok m) meta is = some_test m meta (eqb m.ulid ulid) is
+meta_read ulid (Err e) meta is = absurd (cc (is))
 
 -- a meta that is read is that of its text
 pub meta_is_read : (ulid : ℕ) (bytes : List ℕ) (meta : MetaFields) → block_meta ulid bytes ≡ Some meta → IsMetaText bytes meta
-meta_is_read ulid bytes meta is = (meta_text_found bytes).holds meta (read_as ulid (meta_of_text bytes) meta is)
+meta_is_read ulid bytes meta is = (meta_text_found bytes).holds meta (meta_read ulid (meta_of_text bytes) meta is)
 
 -- ---- metas that are merged
 

@@ -1,5 +1,5 @@
 -- What is planned of a group are members of it, which are blocks that the view keeps.
-use Rattle.list_core.proofs.Membership.{contains_first, contains_later, member_cases, no_member, of_filter, of_in_order, of_map}
+use Rattle.list_core.proofs.Membership.{contains_first, contains_later, member_cases, no_member, of_filter, of_in_order, of_map, found_among}
 use Rattle.std.proofs.Common.{◌≡◌, inl, inr, ℕ, ℤ, ◌-◌, Bool, true, false, cond, List, [], ◌∷◌, ◌++◌, map, Contains, Option, Some, None, sym, subst}
 use Rattle.std.specs.Prelude.{find}
 use Rattle.std.specs.List.{filter}
@@ -46,10 +46,6 @@ candidate_within (range ∷ rs) members candidates (parts, others, own, rest, is
 found_by : {X : Type 0} (p : X → Bool) (y : X) (xs : List X) (x : X) (b : Bool) → (find p xs ≡ Some x → Contains xs x) → cond b (Some y) (find p xs) ≡ Some x → Contains (y ∷ xs) x
 found_by {X} p y xs x true rest same = let e : y ≡ x = cc (same) in subst (Contains (y ∷ xs)) e (contains_first y xs)
 found_by {X} p y xs x false rest same = contains_later y x xs (rest same)
-
-found_among : {X : Type 0} (p : X → Bool) (xs : List X) (x : X) → find p xs ≡ Some x → Contains xs x
-found_among p [] x is = absurd (cc (is))
-found_among {X} p (y ∷ xs) x is = found_by p y xs x (p y) (found_among p xs x) is
 
 chosen_within : (members : List Meta) (candidates : List Candidate) → AreCandidates ranges members candidates → (o : Option Candidate) → find (is_wanted (last_begin members)) candidates ≡ o
     → (m : Meta) → Contains (option_map_or (λ (c : Candidate). c.part) o []) m → Contains members m

@@ -9,7 +9,7 @@ use Rattle.std.proofs.lemmas.List.Elements.{All-contains, All-contains_itself, A
 use Rattle.std.proofs.lemmas.Map.Keys.{below_from_sorted}
 use Rattle.std.proofs.lemmas.Option.{get_or_from_slice_get, slice_get_within}
 use Rattle.std.proofs.lemmas.Bool.{eq-eqb}
-use Rattle.list_core.proofs.Lists.{filter_none}
+use Rattle.list_core.proofs.Lists.{filter_none, slice_get-below}
 use Rattle.list_core.proofs.Membership.{contains_first, contains_later, contains_place, each_member, into_filter, into_flat_map, into_map, member_cases, member_passes, no_member, of_filter, of_map, only_member, place_of_member}
 use Rattle.list_core.proofs.Pairs.{AllZip-second}
 use Rattle.world_core.specs.declared.op.Op.{Op}
@@ -55,7 +55,6 @@ use Rattle.lifecycle_core.proofs.journals.Rising.{journal_rises}
 use Rattle.lifecycle_core.proofs.journals.Told.{Rises}
 use Rattle.lifecycle_core.proofs.phases.EachEntry.{phases_each}
 use Rattle.lifecycle_core.proofs.phases.OneSeat.{one_phase, one_worker}
-use Rattle.lifecycle_core.proofs.phases.TaskRuns.{got}
 use Rattle.lifecycle_core.proofs.phases.Stretches.{rises_right}
 use Rattle.lifecycle_core.proofs.phases.ActingRuns.{no_gateway}
 
@@ -280,7 +279,7 @@ module _ (setting : Setting) (lawful : IsLawfulScript setting.script) where
       let at = place_of_member (workers_of setting.script number) worker among in
       let within = slice_get_within (workers_of setting.script number) at.0 worker at.1 in
       let seated = are_seated setting.script number phase lawful is in
-      let hand = got (hands_of gateways phase.tasks) at.0 (omega (arith, within, seated.count)) in
+      let hand = slice_get-below (hands_of gateways phase.tasks) at.0 (omega (arith, within, seated.count)) in
       record { place = at.0; at = at.1; phase = phase; is = is; hand = hand.0; hand_at = hand.1; own = seated.each at.0 hand.0 worker hand.1 at.1 }
 
   stands : (number : ℕ) (worker : Worker) → Contains (workers_of setting.script number) worker → Stands number worker

@@ -1,5 +1,5 @@
 -- Numbers rise along a journal and moments do not fall, and keys are told by their texts.
-use Rattle.std.proofs.Common.{◌≡◌, ℕ, suc, ◌+◌, ◌<◌, ◌≤◌, ◌^◌, ◌==◌, false, not, cond, List, [], ◌∷◌, ◌++◌, map, length, take, refl, sym, ◌∙◌, ap, subst, append_assoc, arith}
+use Rattle.std.proofs.Common.{◌≡◌, ℕ, ◌+◌, ◌<◌, ◌≤◌, ◌^◌, ◌==◌, false, not, cond, List, [], ◌∷◌, ◌++◌, map, length, take, refl, sym, ◌∙◌, ap, subst, append_assoc, arith}
 use Rattle.std.specs.List.{All, before_first, position_or_len}
 use Rattle.std.specs.Int.Digits.{AllBelowBase}
 use Rattle.std.proofs.lemmas.Bool.Decides.{nat_tests}
@@ -21,6 +21,7 @@ use Rattle.world_core.specs.declared.entry.Entry.{Entry}
 use Rattle.world_core.proofs.Growing.{last_more}
 use Rattle.lifecycle_core.proofs.journals.Told.{Rises}
 use Rattle.lifecycle_core.proofs.journals.Unbroken.{after_more}
+use Rattle.list_core.proofs.Numbers.{one_more_is}
 
 -- ---- numbers and moments
 
@@ -51,9 +52,6 @@ journal_rises tick journal is = (rises_from tick [] journal is.numbered is.momen
 
 -- ---- texts of keys
 
-one_more : (n : ℕ) → 1 + n ≡ suc n
-one_more n = omega arith
-
 -- a text of characters holds no slash
 to_slash : (digits others : List ℕ) → AllBelowBase 32 digits → before_first (λ byte. byte == 47) (map character digits ++ 47 ∷ others) ≡ map character digits
 to_slash [] others low = refl
@@ -62,7 +60,7 @@ to_slash (d ∷ digits) others low =
     let n = position_or_len (λ byte. byte == 47) rest in
     let range = character-range d low.0 in
     let other : (character d == 47) ≡ false = grind (arith, nat_tests) in
-    ap (λ b. take (cond (not b) (1 + n) 0) (character d ∷ rest)) other ∙ ap (λ m. take m (character d ∷ rest)) (one_more n) ∙ ap (λ text. character d ∷ text) (to_slash digits others low.1)
+    ap (λ b. take (cond (not b) (1 + n) 0) (character d ∷ rest)) other ∙ ap (λ m. take m (character d ∷ rest)) (one_more_is n) ∙ ap (λ text. character d ∷ text) (to_slash digits others low.1)
 
 -- an object of a block is listed in the root under the block's ULID
 pub root_name : (k : Key) → text_of (key_ulid k) ≡ before_first (λ byte. byte == 47) (key_text k)

@@ -1,8 +1,9 @@
 -- A journal without a lie is honest: there is a reply that shows what stands, and it differs from any other one in its text. So each
 -- reply tells, or is a lie.
 use Rattle.list_core.proofs.Membership.{contains_first}
+use Rattle.list_core.proofs.Options.{Some-from_is_some}
 use Rattle.std.proofs.Common.{◌≡◌, ◌↔◌, ◌⊎◌, inl, inr, ℕ, zero, suc, true, List, [], ◌∷◌, ◌++◌, codes, take, drop, Contains, Option, Some, None, refl, sym, ◌∙◌, ap, subst, arith, append_assoc}
-use Rattle.std.specs.Prelude.{IsSome, is_some, option_map, ltb}
+use Rattle.std.specs.Prelude.{IsSome, option_map, ltb}
 use Rattle.std.specs.List.{list_all}
 use Rattle.std.specs.Str.{IsAscii}
 use Rattle.std.proofs.lemmas.Bool.{and_parts, ltb-true}
@@ -102,16 +103,12 @@ text_among [] back e k bytes is =
     Contains-append_left (put_text e.op) (texts_put back) (key_text k) (subst (λ (o : Op). Contains (put_text o) (key_text k)) (sym is) (contains_first (key_text k) []))
 text_among (x ∷ front) back e k bytes is = Contains-append_right (put_text x.op) (texts_put (front ++ e ∷ back)) (key_text k) (text_among front back e k bytes is)
 
-some_of : (o : Option (List ℕ)) → is_some o ≡ true → (bytes : List ℕ) × (o ≡ Some bytes)
-some_of None is = absurd (cc (is))
-some_of (Some bytes) is = (bytes, refl)
-
 put_of : (before : List Entry) (text bytes : List ℕ) → stands before text ≡ Some bytes → WasPut before text bytes
 put_of before text bytes is = elim (was_put before nothing text bytes is) [ inl put ↦ put | inr none ↦ absurd (cc (none)) ]
 
 all_put : (before : List Entry) (text : List ℕ) → IsSome (stands before text) → Contains (texts_put before) text
 all_put before text some =
-    let here = some_of (stands before text) some in
+    let here = Some-from_is_some (stands before text) some in
     let w = put_of before text here.0 here.1 in
     subst (Contains (texts_put before)) w.same (subst (λ (es : List Entry). Contains (texts_put es) (key_text w.key_is)) (sym w.parts) (text_among w.front w.back w.entry w.key_is here.0 w.puts))
 
@@ -126,7 +123,7 @@ module _ (tick : ℕ) (journal : List Entry) (kept : IsJournal tick journal) (of
 
   stands_below : (within name : List ℕ) → IsName (stands before) within name → AreBelow 255 name
   stands_below within name (text, some, lists) =
-      let here = some_of (stands before text) some in
+      let here = Some-from_is_some (stands before text) some in
       let w = put_of before text here.0 here.1 in
       let lawful : IsLawfulKey w.key_is = subst IsLawful w.puts (kept.lawful w.front (w.back ++ e ∷ after) w.entry (put_at w.front w.back w.entry w.parts)) in
       listed_below within text name (subst (AreBelow 255) w.same (key_below w.key_is lawful)) lists

@@ -1,15 +1,15 @@
 -- Of two blocks that a view keeps neither has all sources of the other.
-use Rattle.list_core.proofs.Bools.{lt-from_Less}
 use Rattle.list_core.proofs.Lists.{cons_same}
-use Rattle.list_core.proofs.Membership.{all_at_member, all_of_members, any_of_member, contains_first, contains_later, each_member, member_cases, member_of_any, member_passes, no_member, of_filter}
-use Rattle.std.proofs.Common.{◌≡◌, ◌≢◌, ◌⊎◌, inl, inr, ℕ, ◌<◌, ◌==◌, Bool, true, false, ◌&&◌, not, List, [], ◌∷◌, filter, length, Contains, refl, sym, ap, subst, arith, Less, nat_cmp}
+use Rattle.list_core.proofs.Membership.{all_of_members, any_of_member, contains_first, contains_later, member_cases, member_passes, no_member, of_filter}
+use Rattle.list_core.proofs.Rising.{above_first}
+use Rattle.std.proofs.Common.{◌≡◌, ◌≢◌, ◌⊎◌, inl, inr, ℕ, ◌<◌, ◌==◌, Bool, true, false, ◌&&◌, not, List, [], ◌∷◌, filter, length, Contains, refl, sym, ap, subst, arith, nat_cmp}
 use Rattle.std.specs.Prelude.{nat_lt, pos}
 use Rattle.std.specs.Ordering.{int_eq}
 use Rattle.std.specs.List.{list_any}
 use Rattle.std.specs.List.Sorted.{IsStrictlyIncreasing, IsStrictlySortedBy}
 use Rattle.std.proofs.lemmas.Bool.{and_from, cases_Bool, eq-eqb, or_left, or_right, true≢false}
 use Rattle.std.proofs.lemmas.Bool.Decides.{Decides-int_eq, nat_tests}
-use Rattle.std.proofs.lemmas.Map.Keys.{sorted_from_strictly_increasing, sorted_head, sorted_tail}
+use Rattle.std.proofs.lemmas.Map.Keys.{sorted_from_strictly_increasing, sorted_tail}
 use Rattle.block_meta.specs.declared.meta.Meta.{Meta}
 use Rattle.world_core.specs.declared.entry.Entry.{Entry}
 use Rattle.sync_filters.specs.Filters.{has_all, has_more, is_better, is_covered}
@@ -20,9 +20,6 @@ use Rattle.meta_fetcher.specs.declared.view.View.{View}
 use Rattle.activity_laws.specs.Sights.{IsSight}
 
 -- ---- ascending lists
-
-above : (x y : ℕ) (xs : List ℕ) → IsStrictlySortedBy nat_cmp (x ∷ xs) → Contains xs y → x < y
-above x y xs up among = lt-from_Less x y (each_member (λ z. nat_cmp x z ≡ Less) xs y (sorted_head nat_cmp x xs up) among)
 
 -- what is above the first one stands behind it
 behind : (m x : ℕ) (ms : List ℕ) → m < x → Contains (m ∷ ms) x → Contains ms x
@@ -37,11 +34,11 @@ sorted_within [] [] up rise among = inr refl
 sorted_within [] (m ∷ ms) up rise among = inl (omega arith)
 sorted_within (f ∷ fs) [] up rise among = absurd (no_member f (among f (contains_first f fs)))
 sorted_within (f ∷ fs) (m ∷ ms) up rise among = elim (member_cases m f ms (among f (contains_first f fs))) [
-  | inl heads ↦ elim (sorted_within fs ms (sorted_tail nat_cmp f fs up) (sorted_tail nat_cmp m ms rise) (λ x later. behind m x ms (let more : f < x = above f x fs up later in omega (arith, heads, more)) (among x (contains_later f x fs later)))) [
+  | inl heads ↦ elim (sorted_within fs ms (sorted_tail nat_cmp f fs up) (sorted_tail nat_cmp m ms rise) (λ x later. behind m x ms (let more : f < x = above_first f x fs up later in omega (arith, heads, more)) (among x (contains_later f x fs later)))) [
     | inl less ↦ inl (omega (arith, less))
     | inr same ↦ inr (cons_same f m fs ms (sym heads) same)
   ]
-  | inr higher ↦ elim (sorted_within (f ∷ fs) ms up (sorted_tail nat_cmp m ms rise) (λ x inside. behind m x ms (reach x (above m f ms rise higher) (member_cases f x fs inside)) (among x inside))) [
+  | inr higher ↦ elim (sorted_within (f ∷ fs) ms up (sorted_tail nat_cmp m ms rise) (λ x inside. behind m x ms (reach x (above_first m f ms rise higher) (member_cases f x fs inside)) (among x inside))) [
     | inl less ↦ inl (omega (arith, less))
     | inr same ↦ inl (let long : length (f ∷ fs) ≡ length ms = ap length same in omega (arith, long))
   ]
@@ -49,19 +46,12 @@ sorted_within (f ∷ fs) (m ∷ ms) up rise among = elim (member_cases m f ms (a
   where
     reach : (x : ℕ) → m < f → (f ≡ x) ⊎ Contains fs x → m < x
     reach x below (inl same) = omega (arith, below, same)
-    reach x below (inr later) = let more : f < x = above f x fs up later in omega (arith, below, more)
+    reach x below (inr later) = let more : f < x = above_first f x fs up later in omega (arith, below, more)
 
 pub fewer_or_same : (few many : List ℕ) → IsStrictlyIncreasing few → IsStrictlyIncreasing many → ((x : ℕ) → Contains few x → Contains many x) → (length few < length many) ⊎ (few ≡ many)
 fewer_or_same few many up rise among = sorted_within few many (sorted_from_strictly_increasing few up) (sorted_from_strictly_increasing many rise) among
 
 -- ---- better blocks
-
-pub has_source : (many few : List ℕ) (source : ℕ) → has_all many few ≡ true → Contains few source → Contains many source
-has_source many few source all among =
-    let some : list_any (λ other. other == source) many ≡ true = all_at_member (λ ulid. list_any (λ other. other == ulid) many) few source all among in
-    let f = member_of_any (λ other. other == source) many some in
-    let same = f.2 in
-    subst (Contains many) (grind (arith, nat_tests, same)) f.1
 
 less_test : (a b : ℕ) → a < b → nat_lt a b ≡ true
 less_test a b less = grind (arith, nat_tests, less)

@@ -22,6 +22,7 @@ use Rattle.world_core.specs.declared.reply.Reply.TheVariants as reply
 use Rattle.world_core.specs.declared.entry.Entry.{Entry}
 use Rattle.sync_filters.specs.Filters.{has_all, has_more, is_better, is_covered, is_expired}
 use Rattle.sync_filters.specs.declared.found.Found.{Found}
+use Rattle.sync_filters.proofs.HolderLaws.{has_source}
 use Rattle.meta_fetcher.specs.Sightings.{passed_by}
 use Rattle.compactor.specs.Compactions.{metas_of, sync_rules}
 use Rattle.activity_laws.specs.CompactionOps.{HasMerged, IsMarkMade, IsObjectMade, IsReason, WasCompacted, compacted, covered, expired}
@@ -47,7 +48,7 @@ use Rattle.lifecycle_core.proofs.journals.Positions.{stands_in}
 use Rattle.lifecycle_core.proofs.journals.Rising.{journal_rises}
 use Rattle.lifecycle_core.proofs.journals.Standing.{parted}
 use Rattle.lifecycle_core.proofs.journals.Told.{Rises}
-use Rattle.lifecycle_core.proofs.marks.Better.{fewer_or_same, has_source, none_within}
+use Rattle.lifecycle_core.proofs.marks.Better.{fewer_or_same, none_within}
 use Rattle.lifecycle_core.proofs.marks.Looks.{WasLookedAt, looked_at}
 use Rattle.lifecycle_core.proofs.marks.Reasons.{kept_seen, seen_by_more, sight}
 

@@ -35,13 +35,13 @@ some_test : (m mark : MarkFields) (b : Bool) → cond b (Some m) None ≡ Some m
 some_test m mark true same = ap Ok (cc (same))
 some_test m mark false same = absurd (cc (same))
 
-pub marked : (ulid : ℕ) (r : Result MarkFields MetaRefusal) (mark : MarkFields) → named_mark ulid r ≡ Some mark → r ≡ Ok mark
-marked ulid (Ok m) mark is = some_test m mark (m.id == ulid) is
-marked ulid (Err e) mark is = absurd (cc (is))
+pub mark_read : (ulid : ℕ) (r : Result MarkFields MetaRefusal) (mark : MarkFields) → named_mark ulid r ≡ Some mark → r ≡ Ok mark
+mark_read ulid (Ok m) mark is = some_test m mark (m.id == ulid) is
+mark_read ulid (Err e) mark is = absurd (cc (is))
 
 -- a mark that is read is that of its text
 pub mark_is_read : (ulid : ℕ) (bytes : List ℕ) (mark : MarkFields) → block_mark ulid bytes ≡ Some mark → IsMarkText bytes mark
-mark_is_read ulid bytes mark is = (mark_text_found bytes).holds mark (marked ulid (mark_of_text bytes) mark is)
+mark_is_read ulid bytes mark is = (mark_text_found bytes).holds mark (mark_read ulid (mark_of_text bytes) mark is)
 
 pub details_text : (why : Reason) → IsUtf8 (details_of why)
 details_text reason_is.Covered = search rules

@@ -1,6 +1,7 @@
 -- A compaction's miss is explained where the script's gateways and compactions are watched; and where nothing deletes, an honest bucket
 -- misses nothing of a compaction.
 use Rattle.list_core.proofs.Membership.{contains_later}
+use Rattle.list_core.proofs.Lists.{slice_get-below}
 use Rattle.std.proofs.Common.{◌≡◌, ℕ, ◌+◌, ◌<◌, ◌^◌, List, [], ◌∷◌, ◌++◌, Contains, Some, refl, sym, subst, arith}
 use Rattle.std.proofs.lemmas.List.Elements.{Contains-append_left, Contains-append_right}
 use Rattle.block_keys.specs.Keys.{IsLawfulKey, key_ulid}
@@ -38,7 +39,6 @@ use Rattle.lifecycle_core.proofs.marks.Reasons.{kept_seen}
 use Rattle.lifecycle_core.proofs.misses.Deleted.{delete_cleans}
 use Rattle.lifecycle_core.proofs.misses.RoundEnds.{IsOwed, ShowsMissing, owed_index, owed_segment}
 use Rattle.lifecycle_core.proofs.misses.RoundMisses.{compaction_misses}
-use Rattle.lifecycle_core.proofs.phases.TaskRuns.{got}
 use Rattle.lifecycle_core.proofs.views.Undamaged.{put_before_read}
 
 -- ---- under the script's watch
@@ -154,7 +154,7 @@ module _ (setting : Setting) (journal : List Entry) (lawful : IsLawfulScript set
       let put = put_before_read setting journal lawful deeds honest one (key.Index ulid) bytes (into_journal one (own_before one among)) (small ulid input) tt index found in
       let same : bytes ≡ h.holds.files.index = h.holds.put.one_index bytes one.seq put in
       let few = named_within h.holds.files h.holds.list h.holds.content h.holds.bytes count (subst (λ (b : List ℕ). named_segments b ≡ Some count) same named) in
-      let s = got h.holds.files.segments place (omega (arith, few, below)) in
+      let s = slice_get-below h.holds.files.segments place (omega (arith, few, below)) in
       not_absent (key.Segment ulid (place + 1)) (small ulid input) asks s.0 h.seq (h.holds.put.segments place s.0 s.1) h.early
 
   missed_none : ⊥

@@ -8,6 +8,7 @@ use Rattle.std.proofs.lemmas.List.Elements.{All-append, All-contains, All-contai
 use Rattle.std.proofs.lemmas.Option.{slice_get_within}
 use Rattle.list_core.proofs.Membership.{into_filter, into_map, member_passes, of_filter, of_map, place_of_member}
 use Rattle.list_core.proofs.Pairs.{AllZip-second}
+use Rattle.list_core.proofs.Lists.{slice_get-below}
 use Rattle.world_core.specs.declared.entry.Entry.{Entry}
 use Rattle.read_ranges.specs.Reads.{Query as Question}
 use Rattle.script_core.proofs.SeatLaws.{are_seated}
@@ -34,7 +35,6 @@ use Rattle.lifecycle_core.specs.Tasks.{End, QueryTask, TaskRun, ask_to, sync_rul
 use Rattle.lifecycle_core.proofs.phases.GatewayParts.{part_entries, query_is}
 use Rattle.lifecycle_core.specs.Ways.{PhasesRun}
 use Rattle.lifecycle_core.proofs.misses.GatewayEntries.{call_reads, sync_reads}
-use Rattle.lifecycle_core.proofs.phases.TaskRuns.{got}
 
 -- ---- seats
 
@@ -58,7 +58,7 @@ stands_by script number worker lawful among (Some phase) is =
     let at = place_of_member (workers_of script number) worker among in
     let within = slice_get_within (workers_of script number) at.0 worker at.1 in
     let seated = are_seated script number phase lawful is in
-    let hand = got (hands_of (gateway_count script.gateways) phase.tasks) at.0 (omega (arith, within, seated.count)) in
+    let hand = slice_get-below (hands_of (gateway_count script.gateways) phase.tasks) at.0 (omega (arith, within, seated.count)) in
     let own = seated.each at.0 hand.0 worker hand.1 at.1 in
     record { place = at.0; at = at.1; within = within; seat = own.seat; phase = phase; is = is; hand = hand.0; own = own }
 

@@ -46,7 +46,7 @@ nil_front : {X : Type 0} (xs ys : List X) → xs ++ ys ≡ [] → xs ≡ []
 nil_front [] ys is = refl
 nil_front (x ∷ xs) ys is = absurd (cc (is))
 
-seat_parts : (seat : ℕ) (xs ys : List Entry) → of_seat seat (xs ++ ys) ≡ of_seat seat xs ++ of_seat seat ys
+pub seat_parts : (seat : ℕ) (xs ys : List Entry) → of_seat seat (xs ++ ys) ≡ of_seat seat xs ++ of_seat seat ys
 seat_parts seat xs ys = filter-append (λ (e : Entry). e.seat == seat) xs ys
 
 -- ---- a conduct

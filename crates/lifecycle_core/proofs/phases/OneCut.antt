@@ -24,7 +24,8 @@ use Rattle.lifecycle_core.specs.Phases.{IsFinished, IsRunOf, by_script, by_worke
 use Rattle.lifecycle_core.specs.Setting.{Setting}
 use Rattle.lifecycle_core.specs.Tasks.{End, TaskRun}
 use Rattle.lifecycle_core.specs.Ways.{AreFinished, IsOperationDue, PhasesRun}
-use Rattle.lifecycle_core.proofs.phases.OneEnding.{alike, first_longer, second_longer, at_length, at_tells, begun_tell, made_above, no_further, parted, phase_tells, starts, task_once, task_tells, within}
+use Rattle.lifecycle_core.proofs.phases.OneEnding.{alike, first_longer, second_longer, at_tells, begun_tell, made_above, no_further, parted, phase_tells, starts, task_once, task_tells, within}
+use Rattle.lifecycle_core.proofs.phases.TaskRuns.{tasks_long}
 
 -- ---- an answer to an operation
 
@@ -107,7 +108,7 @@ module _ (setting : Setting) where
     worker_once : (worker : Worker) (one other : List End) → Worked worker one → WorkedOn worker other → length worker.tasks ≡ length one → worker.seat ≡ e.seat → ⊥
     worker_once worker one other run more full seat =
         let same : run.own ≡ more.own = at_tells setting tasks worker.tasks run.own more.own run.are more.are in
-        let count = at_length setting tasks worker.tasks run.own run.are in
+        let count = tasks_long tasks worker.tasks run.own run.are in
         tasks_once (who_of worker) made (made ++ e ∷ []) (holding_of before worker.gateway) run.own (of_seat worker.seat made) e [] one other run.last more.last run.runs
         (subst (λ (es : List Entry). Did (who_of worker) (made ++ e ∷ []) (holding_of before worker.gateway) run.own es other more.last) (with_own worker.seat made e seat)
         (subst (λ (os : List Assigned). Did (who_of worker) (made ++ e ∷ []) (holding_of before worker.gateway) os (of_seat worker.seat (made ++ e ∷ [])) other more.last) (sym same) more.runs))

@@ -1,7 +1,8 @@
 -- A journal tells the ends of what is done: two runs of a script over one journal came to the same ends.
 use Rattle.list_core.proofs.Membership.{contains_first}
 use Rattle.list_core.proofs.Lists.{middle_not_nil}
-use Rattle.std.proofs.Common.{◌≡◌, ◌≢◌, ◌⊎◌, inl, inr, ℕ, suc, ◌+◌, ◌<◌, ◌==◌, Bool, true, false, List, [], ◌∷◌, ◌++◌, length, map, All, Contains, Option, Some, None, refl, sym, ◌∙◌, ap, subst, arith, append-nil}
+use Rattle.list_core.proofs.Options.{Some-option_map}
+use Rattle.std.proofs.Common.{◌≡◌, ◌≢◌, ◌⊎◌, inl, inr, ℕ, ◌+◌, ◌<◌, ◌==◌, Bool, true, false, List, [], ◌∷◌, ◌++◌, length, map, All, Contains, Option, Some, None, refl, sym, ◌∙◌, ap, subst, arith, append-nil}
 use Rattle.std.specs.Prelude.{option_map, slice_get}
 use Rattle.std.specs.List.{AllZip}
 use Rattle.std.proofs.lemmas.Bool.Decides.{nat_tests}
@@ -41,6 +42,7 @@ use Rattle.lifecycle_core.specs.Tasks.{End, IsStop, PartTask, QueryTask, ShipTas
 use Rattle.lifecycle_core.specs.Ways.{AreFinished, PhasesRun}
 use Rattle.lifecycle_core.proofs.blocks.OneShipped.{not_refused, one_cause, one_shipped}
 use Rattle.lifecycle_core.proofs.views.SyncEnds.{sync_tells}
+use Rattle.lifecycle_core.proofs.phases.TaskRuns.{tasks_long}
 
 -- ---- lists and options
 
@@ -65,11 +67,6 @@ parted (x ∷ xs) ys (m ∷ made) others is =
 longer : (xs : List Entry) (y : Entry) (rest : List Entry) → length xs < length (xs ++ y ∷ rest)
 longer xs y rest = omega (arith, length-append xs (y ∷ rest))
 
--- what an end is made of
-some_of : {A B : Type 0} (f : A → B) (o : Option A) (b : B) → Some b ≡ option_map f o → (a : A) × (o ≡ Some a) × (b ≡ f a)
-some_of f None b is = absurd (cc (is))
-some_of f (Some a) b is = (a, refl, cc (is))
-
 pub within : (P : Entry → Type 0) (xs : List Entry) (y : Entry) (zs : List Entry) → All P (xs ++ y ∷ zs) → P y
 within P xs y zs all = All-contains P (xs ++ y ∷ zs) y all (Contains-append_right xs (y ∷ zs) y (contains_first y zs))
 
@@ -92,7 +89,7 @@ Stops {E} gives stop entries end own = ((end ≡ option_map gives own) × IsBefo
 stopped_once : {E : Type 0} (plan : Plan E) (gives : E → End) (stop : Option ℕ) (xs : List Entry) (y : Entry) (rest : List Entry) (last : End) (end : Option End) (own more : Option E) → Runs plan xs own → Stops gives stop xs (Some last) own
     → Runs plan (xs ++ y ∷ rest) more → Stops gives stop (xs ++ y ∷ rest) end more → ⊥
 stopped_once {E} plan gives stop xs y rest last end own more run (inl (is, early)) on how =
-    let made = some_of gives own last is in once plan xs made.0 y rest more (subst (λ (o : Option E). Runs plan xs o) made.1 run) on
+    let made = Some-option_map gives own last is in once plan xs made.0 y rest more (subst (λ (o : Option E). Runs plan xs o) made.1 run) on
 stopped_once {E} plan gives stop xs y rest last end own more run (inr (n, (stops, above, count), is)) on (inl (so, early)) =
     let below = early n stops above in omega (arith, below, count, longer xs y rest)
 stopped_once {E} plan gives stop xs y rest last end own more run (inr (n, (stops, above, count), is)) on (inr (m, (also, over, many), so)) =
@@ -100,8 +97,8 @@ stopped_once {E} plan gives stop xs y rest last end own more run (inr (n, (stops
 
 stopped_tells : {E : Type 0} (plan : Plan E) (gives : E → End) (stop : Option ℕ) (xs : List Entry) (one other : End) (own more : Option E) → Runs plan xs own → Stops gives stop xs (Some one) own → Runs plan xs more → Stops gives stop xs (Some other) more → one ≡ other
 stopped_tells {E} plan gives stop xs one other own more run (inl (is, early)) on (inl (so, soon)) =
-    let first = some_of gives own one is in
-    let second = some_of gives more other so in
+    let first = Some-option_map gives own one is in
+    let second = Some-option_map gives more other so in
     let same = one_end plan xs first.0 second.0 (subst (λ (o : Option E). Runs plan xs o) first.1 run) (subst (λ (o : Option E). Runs plan xs o) second.1 on) in
     first.2 ∙ ap gives same ∙ sym second.2
 stopped_tells {E} plan gives stop xs one other own more run (inl (is, early)) on (inr (n, (stops, above, count), so)) = absurd (let below = early n stops above in omega (arith, below, count))
@@ -140,7 +137,7 @@ query_once : (used : Option Use) (asked : Option Question) (before after later :
 query_once None asked before after later xs y rest last end run ((nil, how), same) = middle_not_nil xs y rest nil
 query_once (Some used) None before after later xs y rest last end run more = run
 query_once (Some used) (Some asked) before after later xs y rest last end (own, run, is, left) (also, more, so, right) =
-    let made = some_of (λ (call : CallEnd). answered used call.end) own last is in
+    let made = Some-option_map (λ (call : CallEnd). answered used call.end) own last is in
     comes_once (series_call used.view asked before.cache) (Gives (sources_of used.view.kept)) xs made.0 y rest also (subst (SeriesRun used.view asked before.cache xs) made.1 run) more
 
 query_tells : (used : Option Use) (asked : Option Question) (before after later : Holding) (xs : List Entry) (one other : End)
@@ -150,8 +147,8 @@ query_tells None asked before after later xs one other ((nil, inr is), left) ((n
 query_tells None asked before after later xs one other ((nil, inr is), left) ((nil', inr so), right) = (cc (is, so), left ∙ sym right)
 query_tells (Some used) None before after later xs one other run more = absurd run
 query_tells (Some used) (Some asked) before after later xs one other (own, run, is, left) (also, more, so, right) =
-    let first = some_of (λ (call : CallEnd). answered used call.end) own one is in
-    let second = some_of (λ (call : CallEnd). answered used call.end) also other so in
+    let first = Some-option_map (λ (call : CallEnd). answered used call.end) own one is in
+    let second = Some-option_map (λ (call : CallEnd). answered used call.end) also other so in
     let same : first.0 ≡ second.0 =
     call_tells used.view asked before.cache xs first.0 second.0 (subst (SeriesRun used.view asked before.cache xs) first.1 run) (subst (SeriesRun used.view asked before.cache xs) second.1 more) in
     let owns : own ≡ also = first.1 ∙ ap (λ (c : CallEnd). Some c) same ∙ sym second.1 in
@@ -178,7 +175,7 @@ module _ (setting : Setting) where
       ship_once setting block stop xs y rest last end ships (subst (λ (b : Block). ShipTask setting b stop (xs ++ y ∷ rest) end) same more)
   task_once who place (Sync gateway) held after later xs y rest last end (own, run, is, kept) (also, more, so, keeps) =
       let rules = sync_rules setting gateway in
-      let made = some_of synced own last is in
+      let made = Some-option_map synced own last is in
       comes_once (sync rules) (IsEnd rules) xs made.0 y rest also (subst (SyncRun rules xs) made.1 run) more
   task_once who place (Compact stop) held after later xs y rest last end ((own, run, how), kept) ((also, more, on), keeps) =
       stopped_once (compaction setting.script.rules) compacted stop xs y rest last end own also run how more on
@@ -195,8 +192,8 @@ module _ (setting : Setting) where
       (ship_tells setting block stop xs one other ships (subst (λ (b : Block). ShipTask setting b stop xs (Some other)) same more), kept ∙ sym keeps)
   task_tells who place (Sync gateway) held after later xs one other (own, run, is, kept) (also, more, so, keeps) =
       let rules = sync_rules setting gateway in
-      let first = some_of synced own one is in
-      let second = some_of synced also other so in
+      let first = Some-option_map synced own one is in
+      let second = Some-option_map synced also other so in
       let same = sync_tells rules xs first.0 second.0 (subst (SyncRun rules xs) first.1 run) (subst (SyncRun rules xs) second.1 more) in
       let owns : own ≡ also = first.1 ∙ ap (λ (s : SyncEnd). Some s) same ∙ sym second.1 in
       (first.2 ∙ ap synced same ∙ sym second.2, kept ∙ ap (synced_with held xs) owns ∙ sym keeps)
@@ -242,11 +239,6 @@ module _ (setting : Setting) where
       let first : x ≡ z = λ i. record { place = spots i; task = works i } in
       λ i. first i ∷ rest i
 
-  pub at_length : (tasks : List Task) (places : List ℕ) (own : List Assigned) → TasksAt tasks places own → length own ≡ length places
-  at_length tasks [] own is = ap (λ (l : List Assigned). length l) is
-  at_length tasks (place ∷ places) [] is = absurd is
-  at_length tasks (place ∷ places) (x ∷ own) is = ap suc (at_length tasks places own is.1)
-
   module _ (tasks : List Task) (before : Holdings) (entries : List Entry) (after later : Holdings) where
     abbrev Worked : Holdings → Worker → List End → Type 0
     Worked left = WorkerRun (by_script setting) tasks before entries left
@@ -254,7 +246,7 @@ module _ (setting : Setting) where
     worker_tells : (worker : Worker) (one other : List End) (run : Worked after worker one) (more : Worked later worker other) → length worker.tasks ≡ length one → length worker.tasks ≡ length other → (one ≡ other) × (run.last ≡ more.last)
     worker_tells worker one other run more full whole =
         let same : run.own ≡ more.own = at_tells tasks worker.tasks run.own more.own run.are more.are in
-        let count = at_length tasks worker.tasks run.own run.are in
+        let count = tasks_long tasks worker.tasks run.own run.are in
         tasks_tell (who_of worker) entries (holding_of before worker.gateway) run.own (of_seat worker.seat entries) one other run.last more.last run.runs
         (subst (λ (os : List Assigned). Did (who_of worker) entries (holding_of before worker.gateway) os (of_seat worker.seat entries) other more.last) (sym same) more.runs)
         (sym full ∙ sym count) (sym whole ∙ sym count)

@@ -1,6 +1,6 @@
 -- What every task may do: nothing yet; and what a task leaves of a view.
-use Rattle.std.proofs.Common.{◌≡◌, ℕ, zero, suc, ◌<◌, Bool, true, false, List, [], ◌∷◌, length, refl, sym, ap, subst, inl, inr, arith}
-use Rattle.std.specs.Prelude.{◌==◌, Option, Some, None, option_map, slice_get, find}
+use Rattle.std.proofs.Common.{◌≡◌, ℕ, ◌<◌, Bool, true, false, List, [], ◌∷◌, length, refl, sym, ap, subst, inl, inr, suc}
+use Rattle.std.specs.Prelude.{◌==◌, Option, Some, None, option_map, find}
 use Rattle.std.specs.List.{All, list_any}
 use Rattle.std.proofs.lemmas.List.Elements.{All-head, All-tail}
 use Rattle.world_core.specs.Plans.{Plan}
@@ -20,11 +20,13 @@ use Rattle.script_core.specs.Lawful.{IsLawfulBlock, IsLawfulWork}
 use Rattle.script_core.specs.declared.block.Block.{Block}
 use Rattle.script_workers.specs.declared.work.Work.{Work}
 use Rattle.script_workers.specs.declared.work.Work.TheVariants.{Upload, Sync, Compact, Clean, Query}
-use Rattle.lifecycle_core.specs.Conducts.{Who}
+use Rattle.script_workers.specs.declared.task.Task.{Task}
+use Rattle.lifecycle_core.specs.Conducts.{Who, Assigned, TasksAt}
 use Rattle.lifecycle_core.specs.Holdings.{Holding, Use}
 use Rattle.lifecycle_core.specs.Setting.{Setting}
 use Rattle.lifecycle_core.specs.Tasks.{End, PartTask, QueryTask, StoppedRun, TaskRun, cleaned, compacted, ask_to, called_with, last_number, question_of, sync_rules, synced_with}
 use Rattle.lifecycle_core.proofs.phases.GatewayParts.{query_is}
+use Rattle.list_core.proofs.Lists.{slice_get-below}
 
 found_first : {X : Type 0} (P : X → Type 0) (p : X → Bool) (x : X) (xs : List X) (b : Bool) → p x ≡ b → P x → (list_any p xs ≡ true → (y : X) × (find p xs ≡ Some y) × P y) → list_any p (x ∷ xs) ≡ true
     → (y : X) × (find p (x ∷ xs) ≡ Some y) × P y
@@ -36,11 +38,6 @@ found_by : {X : Type 0} (P : X → Type 0) (p : X → Bool) (xs : List X) → Al
 found_by P p [] all e = absurd (cc (e))
 found_by P p (x ∷ xs) all e = found_first P p x xs (p x) refl (All-head P x xs all) (found_by P p xs (All-tail P x xs all)) e
 
-pub got : {X : Type 0} (xs : List X) (i : ℕ) → i < length xs → (x : X) × (slice_get xs i ≡ Some x)
-got [] i below = absurd (omega (arith, below))
-got (x ∷ xs) zero below = (x, refl)
-got (x ∷ xs) (suc i) below = got xs i (omega (arith, below))
-
 query_none : (used : Option Use) (asked : Option Question) (before : Holding) → ((q : Question) × (asked ≡ Some q)) → QueryTask used asked before [] None before
 query_none None asked before is = ((refl, inl refl), refl)
 query_none (Some used) None before is = absurd (cc (is.1))
@@ -48,7 +45,7 @@ query_none (Some used) (Some q) before is = (None, breaks_off (series_call used.
 
 asked_some : (setting : Setting) (selector : ℕ) (ask : Ask) → selector < length setting.script.selectors → (q : Question) × (question_of setting selector ask ≡ Some q)
 asked_some setting selector ask below =
-    let g = got setting.script.selectors selector below in
+    let g = slice_get-below setting.script.selectors selector below in
     (record { selector = g.0; replicas = setting.script.rules.replicas; low = ask.low; high = ask.high }, ap (λ o. option_map (λ (m : List Matcher). record { selector = m; replicas = setting.script.rules.replicas; low = ask.low; high = ask.high }) o) g.1)
 
 part_none : (setting : Setting) (selector : ℕ) (ask : Option Ask) (before : Holding) → selector < length setting.script.selectors → PartTask setting selector ask before [] None before
@@ -126,3 +123,9 @@ module _ (Holds : Holding → Type 0) (setting : Setting) (who : Who) (place : �
   task_leaves (Clean stop) end after gives called run = subst Holds (sym run.1) known
   task_leaves (Sync gateway) end after gives called (own, run, is, same) = sync_leaves own after (gives gateway own refl run) same
   task_leaves (Query low high selector) end after gives called run = part_leaves selector (ask_to setting who.gateway low high) end after called run
+
+-- as many tasks are found as there are places
+pub tasks_long : (whole : List Task) (places : List ℕ) (found : List Assigned) → TasksAt whole places found → length found ≡ length places
+tasks_long whole [] found at = ap length at
+tasks_long whole (place ∷ places) [] at = absurd at
+tasks_long whole (place ∷ places) (task ∷ found) at = ap (λ n. suc n) (tasks_long whole places found at.1)

@@ -1,8 +1,9 @@
 -- No sync and no compaction of an honest journal lists too many names: each name that its pages list is that of a block of which an
 -- object was put, behind a look at one of its objects, and names strictly ascend, so that they are at most half as many as the entries.
 use Rattle.list_core.proofs.Membership.{contains_first, contains_later, member_cases, no_member}
+use Rattle.list_core.proofs.Options.{Some-from_is_some}
 use Rattle.std.proofs.Common.{◌≡◌, inl, inr, ℕ, suc, zero, ◌+◌, ◌≤◌, ◌==◌, ℤ, true, List, [], ◌∷◌, ◌++◌, length, Contains, Option, Some, None, refl, sym, ◌∙◌, ap, subst, arith}
-use Rattle.std.specs.Prelude.{fold, is_some, nat_le, option_map, unwrap_or}
+use Rattle.std.specs.Prelude.{fold, nat_le, option_map, unwrap_or}
 use Rattle.std.specs.List.{All, before_first, last_or}
 use Rattle.std.proofs.lemmas.Bool.{leb-true}
 use Rattle.std.proofs.lemmas.Cmp.{nat_list_cmp_total, tied_itself}
@@ -250,11 +251,6 @@ module _ (setting : Setting) (journal : List Entry) (deeds : AreDeeds setting jo
 
 -- ---- the names of pages
 
--- what an object that stands holds
-standing : (o : Option (List ℕ)) → is_some o ≡ true → (bytes : List ℕ) × (o ≡ Some bytes)
-standing None is = absurd (cc (is))
-standing (Some bytes) is = (bytes, refl)
-
 -- an object of such a block was put, and one was asked for
 abbrev IsKnown : List Entry → List ℕ → Type 0
 IsKnown journal name = Contains (names_by put_name journal) name × Contains (names_by got_name journal) name
@@ -290,7 +286,7 @@ module _ (setting : Setting) (journal : List Entry) (deeds : AreDeeds setting jo
 
   name_known : (before after : List Entry) (page : Entry) → journal ≡ before ++ page ∷ after → (name : List ℕ) → IsName (stands before) [] name → IsKnown journal name
   name_known before after page parts name (text, stand, lists) =
-      let here = standing (stands before text) stand in
+      let here = Some-from_is_some (stands before text) stand in
       elim (was_put before nothing text here.0 here.1) [
         | inl w ↦
             let among : Contains journal w.entry = subst (λ es. Contains es w.entry) (sym parts) (Contains-append_left before (page ∷ after) w.entry (subst (λ es. Contains es w.entry) (sym w.parts) (stands_in w.front w.back w.entry))) in

@@ -1,6 +1,7 @@
 -- No compaction of an honest journal finds bytes or names that are not of the form.
 use Rattle.list_core.proofs.Membership.{contains_later, contains_place, into_filter, member_cases, no_member, of_map}
 use Rattle.list_core.proofs.Pairs.{AllZip-first}
+use Rattle.list_core.proofs.Lists.{slice_get-below}
 use Rattle.std.proofs.Common.{◌≡◌, inl, inr, ℕ, zero, suc, ◌+◌, ◌-◌, ◌*◌, ◌%◌, ◌<◌, ◌≤◌, ◌^◌, ◌==◌, true, List, [], ◌∷◌, ◌++◌, length, map, Contains, Some, None, sym, ◌∙◌, ap, subst, append_assoc, arith}
 use Rattle.std.specs.Prelude.{slice_get}
 use Rattle.std.proofs.lemmas.Bool.Decides.{nat_tests}
@@ -60,7 +61,6 @@ use Rattle.lifecycle_core.proofs.journals.Standing.{parted}
 use Rattle.lifecycle_core.proofs.journals.Told.{Rises}
 use Rattle.lifecycle_core.proofs.marks.Reasons.{kept_seen}
 use Rattle.lifecycle_core.proofs.misses.RoundHarm.{HasHarm, IsHarm, IsRefusedMerge, harm_shown, in_rounds, in_sync, no_index, no_merge, stands_already}
-use Rattle.lifecycle_core.proofs.phases.TaskRuns.{got}
 use Rattle.lifecycle_core.proofs.views.Undamaged.{syncs_undamaged, was_put_before}
 use Rattle.lifecycle_core.proofs.blocks.OneKey.{reserved_new, same_number}
 
@@ -243,7 +243,7 @@ module _ (setting : Setting) (journal : List Entry) (lawful : IsLawfulScript set
 
       there : (place : ℕ) → place < last_named h.content.indexed → (s : List ℕ) × (slice_get block.segments place ≡ Some s) × (slice_get h.files.segments place ≡ Some s)
       there place below =
-          let one = got input.segments place (omega (arith, below, count)) in
+          let one = slice_get-below input.segments place (omega (arith, below, count)) in
           ((one.0).bytes, ap (λ (ss : List (List ℕ)). slice_get ss place) is.segments ∙ mapped (λ (r : Read). r.bytes) input.segments place one.0 one.1, segment_is place one.0 one.1)
 
       content : IsContent block h.list

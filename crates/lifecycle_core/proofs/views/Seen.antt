@@ -28,6 +28,7 @@ use Rattle.world_core.specs.declared.reply.Reply.TheVariants as reply
 use Rattle.world_core.specs.declared.entry.Entry.{Entry}
 use Rattle.sync_filters.specs.Filters.{has_all, has_more, is_better, is_consistent, is_covered, is_in_partition, is_late_source, is_recent, is_unmarked}
 use Rattle.sync_filters.specs.declared.found.Found.{Found}
+use Rattle.sync_filters.proofs.HolderLaws.{has_source}
 use Rattle.meta_fetcher.specs.Sightings.{kept_by, passed_by}
 use Rattle.meta_fetcher.specs.declared.rules.SyncRules.{SyncRules}
 use Rattle.activity_laws.specs.Sights.{IsSeen, IsSight, ShowsBlock, TellsMark}
@@ -52,7 +53,6 @@ use Rattle.lifecycle_core.proofs.journals.Positions.{stands_in}
 use Rattle.lifecycle_core.proofs.journals.Rising.{journal_rises, root_name}
 use Rattle.lifecycle_core.proofs.journals.Standing.{parted}
 use Rattle.lifecycle_core.proofs.journals.Told.{IsPart, Rises}
-use Rattle.lifecycle_core.proofs.marks.Better.{has_source}
 use Rattle.lifecycle_core.proofs.marks.Causes.{mark_cause}
 use Rattle.lifecycle_core.proofs.marks.Decided.{delays_agree}
 use Rattle.lifecycle_core.proofs.marks.Deletions.{deletions_are_late}

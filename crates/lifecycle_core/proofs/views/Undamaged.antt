@@ -26,6 +26,7 @@ use Rattle.world_core.specs.declared.reply.Reply.{Reply}
 use Rattle.world_core.specs.declared.reply.Reply.TheVariants as reply
 use Rattle.world_core.proofs.PlanLaws.{EndsAre, end_is}
 use Rattle.world_core.proofs.PlanWords.{chosen, gets_are, pages_are}
+use Rattle.world_core.proofs.PageNames.{ulids_small, AreSmall}
 use Rattle.meta_fetcher.specs.Syncs.{Course, IsEnd, Synced, SyncRun, with_entry}
 use Rattle.meta_fetcher.specs.Syncs as sync_told
 use Rattle.meta_fetcher.specs.declared.rules.SyncRules.{SyncRules}
@@ -51,7 +52,6 @@ use Rattle.lifecycle_core.proofs.journals.Positions.{stands_in}
 use Rattle.lifecycle_core.proofs.journals.Rising.{journal_rises}
 use Rattle.lifecycle_core.proofs.journals.Standing.{parted}
 use Rattle.lifecycle_core.proofs.journals.Told.{Rises}
-use Rattle.lifecycle_core.proofs.views.Pages.{AreSmall, ulids_small}
 use Rattle.lifecycle_core.proofs.marks.Looks.{second_below, details_text}
 
 -- an entry of the journal put these bytes under the key

@@ -43,7 +43,7 @@ use Rattle.lifecycle_core.specs.Tasks.{End, PartTask, QueryTask, TaskRun, answer
 use Rattle.lifecycle_core.specs.Ways.{AreInTurn, PhasesRun}
 use Rattle.lifecycle_core.proofs.phases.GatewayParts.{query_is}
 use Rattle.lifecycle_core.proofs.phases.ShipEnds.{ship_end, stopped_end}
-use Rattle.lifecycle_core.proofs.phases.TaskRuns.{task_leaves}
+use Rattle.lifecycle_core.proofs.phases.TaskRuns.{task_leaves, tasks_long}
 
 -- there is a view
 abbrev IsThere : Option Use → Type 0
@@ -205,11 +205,6 @@ owned_are gateways hand whole base (task ∷ tasks) found tails at =
     owned_by whole base task (places_from gateways hand (base + 1) tasks) (owned gateways hand (base + 1) tasks) found (does gateways hand base task.work)
     (sym (tails 0 ∙ ap (slice_get whole) zeroth))
     (λ f are. owned_are gateways hand whole (base + 1) tasks f (λ k. tails (suc k) ∙ ap (slice_get whole) (next_place base k)) are) at
-
-long_at : (whole : List Task) (places : List ℕ) (found : List Assigned) → TasksAt whole places found → length found ≡ length places
-long_at whole [] found at = ap length at
-long_at whole (place ∷ places) [] at = absurd at
-long_at whole (place ∷ places) (task ∷ found) at = ap (λ n. suc n) (long_at whole places found at.1)
 
 -- ---- a worker's tasks
 
@@ -403,7 +398,7 @@ module _ (setting : Setting) (gateways : ℕ) (few : gateways ≤ length setting
   worker_has g worker own ((hands.Gateway own_g, gateway, places), w) is long good h =
       let same : own_g ≡ g = cc (gateway, is) in
       let at : worker.tasks ≡ places_from gateways (hands.Gateway g) 0 tasks = subst (λ n. worker.tasks ≡ places_from gateways (hands.Gateway n) 0 tasks) same places in
-      let size : length own ≡ length (owned gateways (hands.Gateway g) 0 tasks) = sym long ∙ sym (long_at tasks worker.tasks w.own w.are) ∙ ap length (its_tasks (hands.Gateway g) worker own at w) in
+      let size : length own ≡ length (owned gateways (hands.Gateway g) 0 tasks) = sym long ∙ sym (tasks_long tasks worker.tasks w.own w.are) ∙ ap length (its_tasks (hands.Gateway g) worker own at w) in
       let last = (gateway_asks g (record { seat = worker.seat; gateway = Some g }) made (views g) w.last (of_seat worker.seat made) own (known g) good (its_runs (hands.Gateway g) worker own is at w)).1 size h in
       subst HasView (sym (w.leaves g is)) last
 

@@ -32,8 +32,9 @@ use Rattle.tests_worked.specs.SmallBlock as small
 use Rattle.tests_worked.proofs.expired.ExpiredRounds.{group_of, no_plan, one_group}
 use Rattle.tests_worked.proofs.late.LateMark.{block_mark_reads, mark_is}
 use Rattle.tests_worked.proofs.pair.PairMetas.{b_block_meta, b_reads}
-use Rattle.tests_worked.proofs.pair.PairRounds.{a_block_meta, both, both_planned, group, index_is, none_ascend, one_ascends, one_group as pair_group, two_ascend}
+use Rattle.tests_worked.proofs.pair.PairRounds.{a_block_meta, both, both_planned, group, index_is, none_ascend, one_group as pair_group, two_ascend}
 use Rattle.tests_worked.proofs.small.SmallMeta.{a_reads}
+use Rattle.list_core.proofs.Rising.{one_rises}
 
 -- ---- the compactions' syncs
 
@@ -65,7 +66,7 @@ first_synced = (
       sighted = refl;
       kept = refl;
       covered = refl;
-      kept_ascend = one_ascends row.b;
+      kept_ascend = one_rises row.b;
       covered_ascend = none_ascend;
     },
   ),

@@ -3,6 +3,7 @@ use Rattle.std.proofs.Common.{◌≡◌, ◌<◌, inl, inr, ℕ, ℤ, zero, suc,
 use Rattle.std.specs.List.Sorted.{IsStrictlyIncreasing, IsStrictlySortedBy}
 use Rattle.list_core.proofs.Membership.{contains_first, member_cases, only_member}
 use Rattle.list_core.specs.Ordered.{in_order, placed}
+use Rattle.list_core.proofs.Rising.{one_rises}
 use Rattle.label_sets.specs.Finals.{is_among, without}
 use Rattle.block_content.specs.ContentReading.{index_at}
 use Rattle.block_keys.specs.declared.key.Key.TheVariants as key
@@ -108,9 +109,6 @@ pub two_ascend : (one other : ℕ) → one < other → IsStrictlyIncreasing (one
 two_ascend one other below zero more = omega (arith, below)
 two_ascend one other below (suc k) more = absurd (omega (arith, more))
 
-pub one_ascends : (one : ℕ) → IsStrictlyIncreasing (one ∷ [])
-one_ascends one k more = omega (arith, more)
-
 pub none_ascend : IsStrictlyIncreasing []
 none_ascend k more = omega (arith, more)
 
@@ -175,7 +173,7 @@ synced = (
       sighted = refl;
       kept = refl;
       covered = refl;
-      kept_ascend = one_ascends row.n;
+      kept_ascend = one_rises row.n;
       covered_ascend = two_ascend small.a row.b (lit< tt);
     },
   ),

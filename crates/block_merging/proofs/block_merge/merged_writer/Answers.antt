@@ -1,10 +1,10 @@
 use Rattle.std.proofs.Common.{◌≡◌, sym, ap, subst, ◌∙◌}
 use Rattle.std.specs.List.{AllByRecursion}
+use Rattle.list_core.specs.Lists.{joined}
 use Rattle.block_meta.specs.Lawful.{AreLawfulTimes}
 use Rattle.block_meta.specs.declared.block_plan.BlockPlan.{BlockPlan}
 use Rattle.block_writing.specs.Put.{PlanFields, Put, IsStored, nothing_put}
 use Rattle.block_writing.specs.Writing.{plan_fields}
-use Rattle.block_merging.specs.Steps.{joined}
 use Rattle.block_merging.specs.MergeSteps.{HasAll}
 use Rattle.block_merging.specs.Queues.{chunks_of, lefts_in}
 use Rattle.block_merging.proofs.block_merge.merged_writer.Goals as goal

@@ -1,12 +1,12 @@
 use Rattle.std.proofs.Common.{List, map, sym, subst}
 use Rattle.std.specs.List.{AllByRecursion}
 use Rattle.list_core.proofs.StableSorts.{Rises}
+use Rattle.list_core.specs.Lists.{joined}
 use Rattle.index_v2.specs.LentLabels.{as_label}
 use Rattle.block_writing.specs.Put.{IsStored}
 use Rattle.block_merging.specs.declared.input_chunk.InputChunk.{InputChunk}
 use Rattle.block_merging.specs.declared.series_queue.SeriesQueue.{SeriesQueue}
 use Rattle.block_merging.specs.Placed.{chunk_of}
-use Rattle.block_merging.specs.Steps.{joined}
 use Rattle.block_merging.specs.MergeSteps.{HasGroup}
 use Rattle.block_merging.specs.Queues.{IsQueue, have_lesser_labels, lefts_in}
 use Rattle.block_merging.proofs.AllQueues.{copied, group_least, none_here}

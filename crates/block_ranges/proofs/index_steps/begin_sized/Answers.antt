@@ -7,14 +7,14 @@ use Rattle.block_ranges.proofs.Leading.{leads_kept}
 use Rattle.block_ranges.proofs.IndexPlans.{sized_contents, sized_whole}
 use Rattle.block_ranges.proofs.index_steps.begin_sized.Goals as goal
 
-pub returns-then-size-ge-LEAST_SIZE : goal.returns-then-size-ge-LEAST_SIZE
-returns-then-size-ge-LEAST_SIZE c = λ cache.
+pub returns-then-size-ge-LEAST : goal.returns-then-size-ge-LEAST
+returns-then-size-ge-LEAST c = λ cache.
     leads_kept c.args.asked.now cache (9 * most * most) (9 * most * most) (contents_left c.args.asked.now c.args.size cache)
     (by_size breaks_off (query_asked c.args.asked.now) (block_asked c.args.asked.now) (Some c.args.size) (after_index (query_asked c.args.asked.now) (block_asked c.args.asked.now)) cache)
-    (Ok c.ask_contents.result) (omega arith) (sized_contents c.args.asked.now cache c.args.size c.if-size-ge-LEAST_SIZE.true) (c.ask_contents.ensures cache)
+    (Ok c.ask_contents.result) (omega arith) (sized_contents c.args.asked.now cache c.args.size c.if-size-ge-LEAST.true) (c.ask_contents.ensures cache)
 
-pub returns-else-size-ge-LEAST_SIZE : goal.returns-else-size-ge-LEAST_SIZE
-returns-else-size-ge-LEAST_SIZE c = λ cache.
+pub returns-else-size-ge-LEAST : goal.returns-else-size-ge-LEAST
+returns-else-size-ge-LEAST c = λ cache.
     leads_kept c.args.asked.now cache (4 * most * most) (9 * most * most) (whole_left c.args.asked.now cache)
     (by_size breaks_off (query_asked c.args.asked.now) (block_asked c.args.asked.now) (Some c.args.size) (after_index (query_asked c.args.asked.now) (block_asked c.args.asked.now)) cache)
-    (Ok c.ask_whole.result) (omega arith) (sized_whole c.args.asked.now cache c.args.size c.if-size-ge-LEAST_SIZE.false) (c.ask_whole.ensures cache)
+    (Ok c.ask_whole.result) (omega arith) (sized_whole c.args.asked.now cache c.args.size c.if-size-ge-LEAST.false) (c.ask_whole.ensures cache)

@@ -20,4 +20,4 @@ returns-then-not-is_within c =
 
 pub returns : goal.returns
 returns c =
-    samples_tested (plan_fields c.args.plan.now) c.args.samples.now c.loop-sample.sample-index c.is_empty.result c.rise.result c.is_empty.ensures c.if-is_empty.false c.loop-sample-test.false c.loop-sample.invariant c.rise.ensures
+    samples_tested (plan_fields c.args.plan.now) c.args.samples.now c.loop-sample.sample-index c.is_empty.result c.times_ascend.result c.is_empty.ensures c.if-is_empty.false c.loop-sample-test.false c.loop-sample.invariant c.times_ascend.ensures

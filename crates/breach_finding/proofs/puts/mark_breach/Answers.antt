@@ -6,8 +6,8 @@ use Rattle.lifecycle_core.specs.Breaches.{Refuses, mark_time}
 use Rattle.lifecycle_core.specs.Setting.{Setting}
 use Rattle.breach_finding.specs.Told.{IsLateMark, IsTold}
 use Rattle.breach_finding.proofs.PutTimes.{mark_told, some_mark}
-use Rattle.breach_finding.proofs.Texts.{if_ok}
 use Rattle.breach_finding.proofs.puts.mark_breach.Goals as goal
+use Rattle.list_core.proofs.Options.{if_ok}
 
 pub returns-else-not-landed : goal.returns-else-not-landed
 returns-else-not-landed c =

@@ -15,10 +15,11 @@ use Rattle.script_running.specs.declared.worker.WorkerEnd.{WorkerEnd}
 use denote.Param.Send.{sendable}
 use Rattle.script_running.proofs.Crossing.{job_send}
 use Rattle.script_running.proofs.Gathers.{gateways_counted}
-use Rattle.script_running.proofs.Phasing.{always, as_many, at_work, clock_refused, ends_long, few_seats, idled, if_false, if_true, joined_on, moment_lawful, next_seats, no_room, phase_apart, phase_comes, within_gateways, within_tasks, workers_here}
+use Rattle.script_running.proofs.Phasing.{always, at_work, clock_refused, ends_long, few_seats, idled, if_false, if_true, joined_on, moment_lawful, next_seats, no_room, phase_apart, phase_comes, within_gateways, within_tasks, workers_here}
 use Rattle.script_running.proofs.Refused.{clock_done, clock_tells, clock_unwanted, come_tells, come_unwanted, phase_tells, phase_unwanted}
 use Rattle.script_running.proofs.beside.phase_beside.Goals as goal
 use Rattle.list_core.proofs.Bools.{or_false}
+use Rattle.list_core.proofs.Pairs.{AllZip-as_long}
 
 pub returns-in_default-clause-came : goal.returns-in_default-clause-came
 returns-in_default-clause-came g c = no_room c.args.script.now c.args.means.now.shelf c.args.place c.args.phase.now c.requires.at (view_of c.args.root) c.args.standing.now.sights.items c.args.standing.now.outcomes c.requires.gone
@@ -56,7 +57,7 @@ pub run_phase-end-requires-clause-few : goal.run_phase-end-requires-clause-few
 run_phase-end-requires-clause-few g c = λ κs lives.
     let are = workers_here c.args.script.now c.args.place c.splits.result c.in-Ok.staff c.members-workers.result.now c.members-workers.ensures c.in-Ok.ensures (c.splits.ensures ∙ c.requires.seats) in
     let sent = c.in-Ok-jobs_of.ensures.sent c.requires.gone.held c.requires.gone.seen in
-    let zipped = as_many (IsPostOf c.args.means.now c.args.place c.requires.gone.held) c.members-workers.result.now c.in-Ok-jobs_of.jobs.items sent in
+    let zipped = AllZip-as_long (IsPostOf c.args.means.now c.args.place c.requires.gone.held) c.members-workers.result.now c.in-Ok-jobs_of.jobs.items sent in
     let counted : vec_len c.in-Ok-jobs_of.jobs ≡ length c.members-workers.result.now = (let ok = c.in-Ok-jobs_of.jobs.ok in omega (arith, zipped)) in
     few_seats c.args.script.now c.requires.lawful c.args.place c.args.phase.now c.requires.at c.begin_phase-begun.result.1.splits (vec_len c.in-Ok-jobs_of.jobs) (c.begin_phase-begun.ensures.pass.2 ∙ c.requires.seats) (counted ∙ ap length are)
 
@@ -97,7 +98,7 @@ returns-clause-seats g c =
     let sent = c.in-Ok-jobs_of.ensures.sent c.requires.gone.held c.requires.gone.seen in
     let run = if_false {Q = ((kept : List (ℕ × List Entry)) × HasRun c.begin_phase-begun.result.1 c.run_phase-end.result.root (vec_len c.in-Ok-jobs_of.jobs) kept × Runs {J = Post} {E = WorkerEnd} MayWork (view_of c.begin_phase-begun.result.1).known (view_of c.run_phase-end.result.root).front (c.begin_phase-begun.result.1.splits + 1) c.in-Ok-jobs_of.jobs.items c.run_phase-end.result.ends.items kept)}
     ((c.run_phase-end.result.root ≡ c.begin_phase-begun.result.1) × (c.run_phase-end.result.ends.items ≡ [])) c.run_phase-end.result.memory c.if-end.false c.run_phase-end.ensures.run in
-    let zipped = as_many (IsPostOf c.args.means.now c.args.place c.requires.gone.held) c.members-workers.result.now c.in-Ok-jobs_of.jobs.items sent in
+    let zipped = AllZip-as_long (IsPostOf c.args.means.now c.args.place c.requires.gone.held) c.members-workers.result.now c.in-Ok-jobs_of.jobs.items sent in
     let counted : vec_len c.in-Ok-jobs_of.jobs ≡ length c.members-workers.result.now = (let ok = c.in-Ok-jobs_of.jobs.ok in omega (arith, zipped)) in
     always c.gather-came.result
     (next_seats c.args.script.now c.requires.lawful c.args.place c.args.phase.now c.requires.at c.begin_phase-begun.result.1.splits c.run_phase-end.result.root.splits (vec_len c.in-Ok-jobs_of.jobs) (c.begin_phase-begun.ensures.pass.2 ∙ c.requires.seats) (counted ∙ ap length are) (run.1).splits)

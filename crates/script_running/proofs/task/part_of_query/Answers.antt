@@ -6,13 +6,13 @@ use Rattle.querier.specs.declared.ask.Ask.{Ask}
 use Rattle.script_running.specs.Lending.{setting_in}
 use Rattle.script_running.specs.declared.sight.Sight.{Sight}
 use Rattle.script_running.proofs.TaskSteps.{asked_done, asked_so, asked_where, short_done, unasked_done}
-use Rattle.script_running.proofs.WorkerSteps.{got}
 use Rattle.script_running.proofs.task.part_of_query.Goals as goal
+use Rattle.list_core.proofs.Lists.{slice_get-below}
 
 pub returns-in-Some-clause-done : goal.returns-in-Some-clause-done
 returns-in-Some-clause-done g c = λ who place held by sees.
     let setting = setting_in c.args.means.now in
-    let s = got setting.script.selectors c.args.number c.requires in
+    let s = slice_get-below setting.script.selectors c.args.number c.requires in
     let asked = asked_where setting c.args.gateway _ c.args.low _ c.args.high c.in-Ok.asked _ (to_z-of_z w64 c.args.low c.ranges.low) (to_z-of_z w64 c.args.high c.ranges.high) c.in-Ok.ensures.asked c.in-Some.is in
     let fits = subst (λ (o : Option Ask). IfSome o (λ (a : Ask). FitsSigned w64 a.low × FitsSigned w64 a.high)) c.in-Some.is c.in-Ok.ensures.fits in
     let seen : Sight = record { view = c.args.sight.now.view; cache = c.ask_view.new.cache } in
@@ -30,5 +30,5 @@ returns-in-None-clause-done g c = λ who place held by sees.
 pub returns-in_default-clause-done : goal.returns-in_default-clause-done
 returns-in_default-clause-done g c = λ who place held by sees.
     let setting = setting_in c.args.means.now in
-    let s = got setting.script.selectors c.args.number c.requires in
+    let s = slice_get-below setting.script.selectors c.args.number c.requires in
     short_done setting who place held (g.H.Hand.seat c.args.hand.now) (g.H.Hand.entries c.args.hand.now) c.args.sight.now c.args.low c.args.high c.args.number s.0 s.1

@@ -3,8 +3,9 @@ use Rattle.std.proofs.lemmas.List.{take_all}
 use Rattle.std.specs.Prelude.{Ok}
 use Rattle.script_running.specs.Lending.{setting_in}
 use Rattle.script_running.specs.Tasks.{is_full_came}
-use Rattle.script_running.proofs.WorkerSteps.{all_worked, default_any, none_done, none_worked, refused_broken, refused_none, short_by, step_broken, step_worked, unrefused}
+use Rattle.script_running.proofs.WorkerSteps.{all_worked, none_done, none_worked, refused_broken, refused_none, short_by, step_broken, step_worked, unrefused}
 use Rattle.script_running.proofs.worker.do_tasks.Goals as goal
+use Rattle.list_core.proofs.Lists.{get_or-any}
 
 pub returns-in_default-clause-worked : goal.returns-in_default-clause-worked
 returns-in_default-clause-worked g c = λ who held by sees.
@@ -26,7 +27,7 @@ pub returns-in-Err-clause-worked : goal.returns-in-Err-clause-worked
 returns-in-Err-clause-worked g c = λ who held by sees.
     let below : c.loop-number.number < length c.args.places.now = omega (arith, c.loop-number-test.true) in
     step_broken (setting_in c.args.means.now) c.args.tasks.now who c.args.places.now held (g.H.Hand.seat c.args.hand.now) (g.H.Hand.seat c.loop-number.hand) (g.H.Hand.entries c.args.hand.now) (g.H.Hand.entries c.loop-number.hand) (g.H.Hand.entries c.run_task.new.hand)
-    c.loop-number.sight c.run_task.new.sight c.loop-number.parts.items c.loop-number.number _ c.index-tasks-places.result below (default_any c.args.places.now c.loop-number.number 0 _ below) c.requires.places c.index-tasks-places.is c.loop-number.invariant.seat
+    c.loop-number.sight c.run_task.new.sight c.loop-number.parts.items c.loop-number.number _ c.index-tasks-places.result below (get_or-any c.args.places.now c.loop-number.number 0 _ below) c.requires.places c.index-tasks-places.is c.loop-number.invariant.seat
     (c.loop-number.invariant.worked who held by sees) c.in-Err.broken c.run_task.result _ c.requires.lawful c.requires.tasks c.in-Err.is refl refl (λ h s. c.run_task.ensures.done who _ h by s)
 
 pub loop-number-preserved : goal.loop-number-preserved
@@ -35,7 +36,7 @@ loop-number-preserved g c =
     record {
       worked = λ who held by sees.
           step_worked (setting_in c.args.means.now) c.args.tasks.now who c.args.places.now held (g.H.Hand.seat c.args.hand.now) (g.H.Hand.seat c.loop-number.hand) (g.H.Hand.entries c.args.hand.now) (g.H.Hand.entries c.loop-number.hand) (g.H.Hand.entries c.run_task.new.hand)
-          c.loop-number.sight c.run_task.new.sight c.loop-number.parts.items c.loop-number.number _ c.index-tasks-places.result below (default_any c.args.places.now c.loop-number.number 0 _ below) c.requires.places c.index-tasks-places.is c.loop-number.invariant.seat
+          c.loop-number.sight c.run_task.new.sight c.loop-number.parts.items c.loop-number.number _ c.index-tasks-places.result below (get_or-any c.args.places.now c.loop-number.number 0 _ below) c.requires.places c.index-tasks-places.is c.loop-number.invariant.seat
           (c.loop-number.invariant.worked who held by sees) c.push_reserved.new.self.items c.in-Ok-run_task.part c.run_task.result c.in-Ok-run_task.is c.push_reserved.ensures.items (λ h s. c.run_task.ensures.done who _ h by s);
       seat = c.run_task.ensures.seat ∙ c.loop-number.invariant.seat;
       refused = refused_none (g.H.Hand.refused c.args.hand.now) (g.H.Hand.refused c.loop-number.hand) (g.H.Hand.refused c.run_task.new.hand) c.run_task.result c.in-Ok-run_task.part c.run_task.ensures.refused c.in-Ok-run_task.is c.loop-number.invariant.refused;

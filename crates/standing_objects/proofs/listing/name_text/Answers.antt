@@ -2,8 +2,9 @@ use Rattle.std.proofs.Common.{◌≡◌, ◌∙◌, ap}
 use Rattle.std.specs.List.{after_first}
 use Rattle.block_keys.specs.KeyText.{is_slash, key_text, name_of}
 use Rattle.block_keys.proofs.KeyLaws.{IsLawfulKey-text}
-use Rattle.standing_objects.proofs.Objects.{if_ok, object_name}
+use Rattle.standing_objects.proofs.Objects.{object_name}
 use Rattle.standing_objects.proofs.listing.name_text.Goals as goal
+use Rattle.list_core.proofs.Options.{if_ok}
 
 pub returns-then-not-is_lawful : goal.returns-then-not-is_lawful
 returns-then-not-is_lawful c is = cc (c.is_lawful.ensures.1 (IsLawfulKey-text (key_text c.args.key.now) c.args.key.now is), c.if-not-is_lawful.true)

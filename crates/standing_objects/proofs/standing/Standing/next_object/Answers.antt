@@ -3,8 +3,8 @@ use Rattle.ulid_core.specs.UlidText.{text_of}
 use Rattle.block_keys.specs.declared.key.Key.{Key}
 use Rattle.standing_objects.specs.Next.{IsDueAt, IsDueIn, IsFirstKey}
 use Rattle.standing_objects.proofs.NextObjects.{due_by_scan, due_first, no_names}
-use Rattle.standing_objects.proofs.Objects.{if_ok}
 use Rattle.standing_objects.proofs.standing.Standing.next_object.Goals as goal
+use Rattle.list_core.proofs.Options.{if_ok}
 
 pub returns-then-is_empty : goal.returns-then-is_empty
 returns-then-is_empty c texts =

@@ -1,7 +1,7 @@
 use Rattle.standing_objects.specs.Next.{IsDueAt, IsFirstKey}
 use Rattle.standing_objects.proofs.NextObjects.{due_behind, due_by_scan}
-use Rattle.standing_objects.proofs.Objects.{if_ok}
 use Rattle.standing_objects.proofs.standing.Standing.object_after.Goals as goal
+use Rattle.list_core.proofs.Options.{if_ok}
 
 pub returns-then-eq : goal.returns-then-eq
 returns-then-eq c texts = due_behind c.args.self.now.places texts c.args.ulid c.args.cursor.now c.args.key c.object_behind.result c.requires.written c.requires.text c.object_behind.ensures

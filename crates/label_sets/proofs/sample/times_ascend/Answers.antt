@@ -3,7 +3,7 @@ use Rattle.std.specs.Ordering.{int_cmp, is_lt}
 use Rattle.std.proofs.lemmas.Cmp.{int_cmp_total}
 use Rattle.std.proofs.lemmas.List.Sorted.{answers_always}
 use Rattle.list_core.proofs.Ascending.{ascends_answer}
-use Rattle.xor_chunks.proofs.fitting.ascend.Goals as goal
+use Rattle.label_sets.proofs.sample.times_ascend.Goals as goal
 
 pub returns : goal.returns
 returns c = ascends_answer int_cmp int_cmp_total (λ s. s.time) _ _
