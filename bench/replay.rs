@@ -1,5 +1,6 @@
 //! Runs a program's `serial` and `replay` in turn over one script, each in a process of its own: PROGRAM SHELF SCRIPT ROUNDS NAME.
-//! It prints the name, the least times of both in milliseconds, and the middle ones, with tabs between. Both have to write the same.
+//! It prints the name, the least times of both in milliseconds, the middle ones, and the middle of the ratios of each run of `serial` by
+//! the run of `replay` right behind it, with tabs between. Both have to write the same.
 use std::fs::File;
 use std::io::Read;
 use std::process::{Command, Stdio};
@@ -30,6 +31,7 @@ fn main() {
         panic!("PROGRAM SHELF SCRIPT ROUNDS NAME");
     };
     let mut times = [Vec::new(), Vec::new()];
+    let mut ratios = Vec::new();
     let (mut one, mut all) = (Vec::new(), Vec::new());
     for _ in 0..rounds.parse().expect("a number of rounds") {
         let serial = run(program, "serial", shelf, script, &mut one);
@@ -37,11 +39,12 @@ fn main() {
         assert!(one == all, "the reports differ");
         times[0].push(serial);
         times[1].push(replay);
+        ratios.push(serial / replay);
     }
-    for each in &mut times {
+    for each in times.iter_mut().chain([&mut ratios]) {
         each.sort_by(f64::total_cmp);
     }
     let [serial, replay] = &times;
     let middle = serial.len() / 2;
-    println!("{name}\t{}\t{}\t{}\t{}", serial[0], replay[0], serial[middle], replay[middle]);
+    println!("{name}\t{}\t{}\t{}\t{}\t{}", serial[0], replay[0], serial[middle], replay[middle], ratios[middle]);
 }

@@ -1,12 +1,13 @@
 #!/usr/bin/env bash
-# Times `serial` and `replay` of the program in turn, whole runs over a bucket in memory, prints a table, and says whether the bars are
-# met: eight gateways that sync and are asked one query over 24 blocks, which lie on the shelf, at least 2.2 times as fast by `replay`
-# on four processors (1.5 on two); and 64 uploads of small blocks no slower, where a small block is two hours of ten series with a
-# sample a minute, one chunk of each. The ratios of the middle times are held to the bars as they are printed, with two digits behind
-# the point. (Ratios of the least times are printed beside. They are those of rare moments: of 20 runs of `serial` one took 382 ms and
-# the others 500 to 648, and of 20 of `replay` one 179 and the others 201 to 332.) The blocks of
-# the query are those of bench/run-query.sh: two replicas of each of twelve, of 100 series by 411 or 412 samples. The other rows have no
-# bar: the same query where the script has the samples of the blocks, and uploads of blocks of a few samples, which no server makes.
+# Times `serial` and `replay` of the program in turn, whole runs over a bucket in memory, prints a table, and says whether the bars
+# are met: eight gateways that sync and are asked one query over 24 blocks, which lie on the shelf, at least 2.2 times as fast by
+# `replay` on four processors (1.5 on two); and 64 uploads of small blocks no slower, where a small block is two hours of ten series
+# with a sample a minute, one chunk of each. The ratios of the middle times are held to the bars as they are printed, with two digits
+# behind the point. (Ratios of the least times are printed beside. They are those of rare moments: of 20 runs of `serial` one took 382
+# ms and the others 500 to 648, and of 20 of `replay` one 179 and the others 201 to 332. Printed beside is the middle ratio of each
+# run by its neighbour, too, which a machine's changes of speed touch least.) The blocks of the query are those of bench/run-query.sh:
+# two replicas of each of twelve, of 100 series by 411 or 412 samples. The other rows have no bar: the same query where the script has
+# the samples of the blocks, and uploads of blocks of a few samples, which no server makes.
 # PROCESSORS is how many whole processors the machine has (as many as `nproc` counts). Where that counts the halves of cores, as the
 # cloud's machines do, say how many cores there are.
 # ROUNDS is how often the first is run each way (9; a third as often from text, and eight times as often each of the uploads). PROGRAM
@@ -81,11 +82,11 @@ small 10 120 >"$made/uploads_10"
     "$made/replay" "$program" none "$made/uploads" $((rounds * 8)) "64 uploads of one series by 3 samples"
 } >"$made/lines"
 awk -F '\t' -v processors="${PROCESSORS:-$(nproc)}" '
-BEGIN { print "| Script, whole runs over memory | `serial`, ms: least; middle | `replay`, ms: least; middle | Ratio of the least | Ratio of the middle | Bar |\n|---|---|---|---|---|---|" }
+BEGIN { print "| Script, whole runs over memory | `serial`, ms: least; middle | `replay`, ms: least; middle | Ratio of the least | Ratio of neighbours, the middle | Ratio of the middle | Bar |\n|---|---|---|---|---|---|---|" }
 {
     bar = NR == 1 ? (processors >= 4 ? 2.2 : 1.5) : NR == 3 ? 1 : 0
     ratio = sprintf("%.2f", $4 / $5)
-    printf "| %s | %.1f; %.1f | %.1f; %.1f | %.2f | %s | %s |\n", $1, $2, $4, $3, $5, $2 / $3, ratio, bar ? bar : "-"
+    printf "| %s | %.1f; %.1f | %.1f; %.1f | %.2f | %.2f | %s | %s |\n", $1, $2, $4, $3, $5, $2 / $3, $6, ratio, bar ? bar : "-"
     if (ratio + 0 < bar) missed = missed $1 "; "
 }
 END { print missed ? "\nMissed: " missed : "\nThe bars are met." }' "$made/lines"
