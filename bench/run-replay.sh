@@ -4,10 +4,10 @@
 # `replay` on four processors (1.5 on two); and 64 uploads of small blocks no slower, where a small block is two hours of ten series
 # with a sample a minute, one chunk of each. The ratios of the middle times are held to the bars as they are printed, with two digits
 # behind the point. (Ratios of the least times are printed beside. They are those of rare moments: of 20 runs of `serial` one took 382
-# ms and the others 500 to 648, and of 20 of `replay` one 179 and the others 201 to 332. Printed beside is the middle ratio of each
-# run by its neighbour, too, which a machine's changes of speed touch least.) The blocks of the query are those of bench/run-query.sh:
-# two replicas of each of twelve, of 100 series by 411 or 412 samples. The other rows have no bar: the same query where the script has
-# the samples of the blocks, and uploads of blocks of a few samples, which no server makes.
+# ms and the others 500 to 648, and of 20 of `replay` one 179 and the others 201 to 332.) The middle ratio of neighbouring runs is
+# printed too, which a machine's changes of speed touch least. The blocks of the query are those of bench/run-query.sh: two replicas
+# of each of twelve, of 100 series by 411 or 412 samples. The other rows have no bar: the same query where the script has the samples
+# of the blocks, and uploads of blocks of a few samples, which no server makes.
 # PROCESSORS is how many whole processors the machine has (as many as `nproc` counts). Where that counts the halves of cores, as the
 # cloud's machines do, say how many cores there are.
 # ROUNDS is how often the first is run each way (9; a third as often from text, and eight times as often each of the uploads). PROGRAM
