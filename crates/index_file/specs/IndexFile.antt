@@ -53,7 +53,7 @@ pub record IsOpened (opened : Opened) : Type 0 where
 abbrev pub StandFor : List (List ℕ) → List ℕ → List (List ℕ) → Type 0
 StandFor symbols numbers texts = map (slice_get symbols) numbers ≡ map (λ text. Some text) texts
 
--- a series stands at a multiple of this, and has that of it as its number
+-- a series stands at a multiple of this, and its number says how many times
 abbrev pub series_unit : ℕ
 series_unit = 16
 

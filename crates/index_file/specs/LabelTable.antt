@@ -1,11 +1,13 @@
 -- The label indices of an index and their table, apart from reading and writing: of each label name the values that it has.
 use Rattle.std.specs.Prelude.{◌≡◌, ℕ, List, map, slice_get, unwrap_or}
 use Rattle.std.specs.List.{Contains}
+use Rattle.std.specs.Ordering.{nat_cmp}
 use Rattle.index_parts.specs.declared.toc.Toc.{Toc}
 use Rattle.index_parts.specs.Turns.{InOrder}
 use Rattle.index_parts.specs.Contents.{IsToc}
-use Rattle.index_parts.specs.Symbols.{MayFollow, IsSymbols}
-use Rattle.index_parts.specs.Postings.{Rises}
+use Rattle.index_parts.specs.Symbols.{IsSymbols}
+use Rattle.list_core.specs.Order.{ComesAfter}
+use Rattle.label_sets.specs.Labels.{compare_texts}
 use Rattle.index_parts.specs.LabelIndices.{IsLabelIndex, IsLabelOffsets}
 use Rattle.index_file.specs.declared.index_series.IndexSeries.{IndexSeries}
 use Rattle.index_file.specs.IndexFile.{StandFor}
@@ -19,7 +21,7 @@ pub record IsLabelIndexOf (index : List ℕ) (symbols : List (List ℕ)) (list :
   pub numbers : List ℕ
   pub values : List (List ℕ)
   pub stands : IsLabelIndex index place numbers
-  pub ascend : InOrder Rises numbers
+  pub ascend : InOrder (ComesAfter nat_cmp) numbers
   pub values_are : StandFor symbols numbers values
   pub only : (value : List ℕ) → Contains values value → HasValue list name value
   pub all : (value : List ℕ) → HasValue list name value → Contains values value
@@ -33,7 +35,7 @@ pub record HasLabelIndices (index : List ℕ) (list : List IndexSeries) : Type 0
   pub toc_is : IsToc index toc
   pub symbols_are : IsSymbols index toc.symbols symbols
   pub rows_are : IsLabelOffsets index toc.label_offsets rows
-  pub ascend : InOrder MayFollow (map (λ row. row.0) rows)
+  pub ascend : InOrder (ComesAfter compare_texts) (map (λ row. row.0) rows)
   pub only : (name : List ℕ) → Contains (map (λ row. row.0) rows) name → (value : List ℕ) × HasValue list name value
   pub all : (name value : List ℕ) → HasValue list name value → Contains (map (λ row. row.0) rows) name
   pub indices : (name : List ℕ) (place : ℕ) → Contains rows (name, place) → IsLabelIndexOf index symbols list name place

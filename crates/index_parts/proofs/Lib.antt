@@ -14,6 +14,5 @@ pub mod SameNames
 pub mod TocLaws
 pub mod ChunkLaws
 pub mod SeriesLaws
-pub mod LabelPlaces
 pub mod RowPlaces
 pub mod RowsBegin

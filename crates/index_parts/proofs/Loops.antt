@@ -4,6 +4,10 @@ use Rattle.std.proofs.lemmas.List.{map_push}
 use Rattle.std.specs.Prelude.{IsErrAnd}
 use Rattle.reading_core.specs.Reading.{◌>>=◌, Gives}
 use Rattle.reading_core.specs.Members.{members_at}
+use Rattle.wire_bytes.specs.Position.{Position}
+use Rattle.index_parts.specs.declared.refusal.PartRefusal.{PartRefusal}
+use Rattle.index_parts.specs.declared.raw_label.RawLabel.{RawLabel}
+use Rattle.index_parts.specs.SeriesReading.{label_at, names_of, values_of}
 use Rattle.reading_core.proofs.Counted.{loop_start, members_more, members_stop}
 
 pub turns_exit : {X A S E : Type 0} (read : S → Result (A × S) E) (no_memory : E) (view : X → List A) (result : Result X E) (i n : ℕ) (s t : S) (front : List A) (e : E) → members_at read i s ≡ Ok (front, t) → IsErrAnd result (λ d. d ≡ e) → read t ≡ Err e → i < n
@@ -14,31 +18,30 @@ turns_exit read _ _ (Err d) i n s t front e so_far is refused lt = rw (is, membe
 pub turns_end : {A S E : Type 0} (read : S → Result (A × S) E) (i n : ℕ) (s t : S) (xs : List A) → members_at read i s ≡ Ok (xs, t) → n ≤ i → i ≤ n → (members_at read n s >>= λ members. Ok members.0) ≡ Ok xs
 turns_end _ i n s t _ so_far above below = let all : n ≡ i = omega arith in rw (all, so_far) refl
 
--- pairs that go into two lists
-pub record HasPairs {S E : Type 0} (read : S → Result ((ℕ × ℕ) × S) E) (firsts seconds : List ℕ) (count : ℕ) (s t : S) : Type 0 where
-  pub found : List (ℕ × ℕ)
-  pub firsts_are : firsts ≡ map (λ pair. pair.0) found
-  pub seconds_are : seconds ≡ map (λ pair. pair.1) found
-  pub read_is : members_at read count s ≡ Ok (found, t)
+-- labels whose symbol numbers go into two lists
+pub record AreRead (names values : List ℕ) (count : ℕ) (s t : Position) : Type 0 where
+  pub found : List RawLabel
+  pub names_are : names ≡ names_of found
+  pub values_are : values ≡ values_of found
+  pub read_is : members_at label_at count s ≡ Ok (found, t)
 
-abbrev split : {S E : Type 0} → Result (List (ℕ × ℕ) × S) E → Result ((List ℕ × List ℕ) × S) E
-split r = r >>= λ pairs. Ok ((map (λ pair. pair.0) pairs.0, map (λ pair. pair.1) pairs.0), pairs.1)
+abbrev split : Result (List RawLabel × Position) PartRefusal → Result ((List ℕ × List ℕ) × Position) PartRefusal
+split r = r >>= λ labels. Ok ((names_of labels.0, values_of labels.0), labels.1)
 
-module _ {S E : Type 0} (read : S → Result ((ℕ × ℕ) × S) E) where
-  pub pairs_begin : (firsts seconds : List ℕ) (s : S) → firsts ≡ [] → seconds ≡ [] → HasPairs read firsts seconds 0 s s
-  pairs_begin _ _ s a b = record { found = []; firsts_are = a; seconds_are = b; read_is = loop_start read s }
+pub labels_begin : (names values : List ℕ) (s : Position) → names ≡ [] → values ≡ [] → AreRead names values 0 s s
+labels_begin _ _ s a b = record { found = []; names_are = a; values_are = b; read_is = loop_start label_at s }
 
-  pub pairs_more : (firsts seconds more others : List ℕ) (count : ℕ) (s t u : S) (x y : ℕ) → HasPairs read firsts seconds count s t → read t ≡ Ok ((x, y), u) → more ≡ firsts ++ x ∷ [] → others ≡ seconds ++ y ∷ [] → HasPairs read more others (count + 1) s u
-  pairs_more _ _ _ _ _ s t u x y h one a b = record {
-    found = h.found ++ (x, y) ∷ [];
-    firsts_are = a ∙ ap (λ l. l ++ x ∷ []) h.firsts_are ∙ sym (map_push (λ pair. pair.0) _ _);
-    seconds_are = b ∙ ap (λ l. l ++ y ∷ []) h.seconds_are ∙ sym (map_push (λ pair. pair.1) _ _);
-    read_is = members_more read _ s t u _ _ h.read_is one;
-  }
+pub labels_more : (names values more others : List ℕ) (count : ℕ) (s t u : Position) (label : RawLabel) → AreRead names values count s t → label_at t ≡ Ok (label, u) → more ≡ names ++ label.name.number ∷ [] → others ≡ values ++ label.value.number ∷ [] → AreRead more others (count + 1) s u
+labels_more _ _ _ _ _ s t u label h one a b = record {
+  found = h.found ++ label ∷ [];
+  names_are = a ∙ ap (λ l. l ++ label.name.number ∷ []) h.names_are ∙ sym (map_push (λ label. label.name.number) _ _);
+  values_are = b ∙ ap (λ l. l ++ label.value.number ∷ []) h.values_are ∙ sym (map_push (λ label. label.value.number) _ _);
+  read_is = members_more label_at _ s t u _ _ h.read_is one;
+}
 
-  pub pairs_end : (firsts seconds : List ℕ) (i n : ℕ) (s t : S) → HasPairs read firsts seconds i s t → n ≤ i → i ≤ n → split (members_at read n s) ≡ Ok ((firsts, seconds), t)
-  pairs_end _ _ i n s t h above below = let all : n ≡ i = omega arith in rw (all, h.read_is, h.firsts_are, h.seconds_are) refl
+pub labels_end : (names values : List ℕ) (i n : ℕ) (s t : Position) → AreRead names values i s t → n ≤ i → i ≤ n → split (members_at label_at n s) ≡ Ok ((names, values), t)
+labels_end _ _ i n s t h above below = let all : n ≡ i = omega arith in rw (all, h.read_is, h.names_are, h.values_are) refl
 
-  pub pairs_exit : {X : Type 0} (no_memory : E) (view : X → (List ℕ × List ℕ) × S) (result : Result X E) (firsts seconds : List ℕ) (i n : ℕ) (s t : S) (e : E) → HasPairs read firsts seconds i s t → IsErrAnd result (λ d. d ≡ e) → read t ≡ Err e → i < n → Gives no_memory view result (split (members_at read n s))
-  pairs_exit _ _ (Ok y) _ _ i n s t e h is refused lt = absurd is
-  pairs_exit _ _ (Err d) _ _ i n s t e h is refused lt = rw (is, members_stop read i n s t h.found e lt h.read_is refused) (inr refl)
+pub labels_exit : {X : Type 0} (no_memory : PartRefusal) (view : X → (List ℕ × List ℕ) × Position) (result : Result X PartRefusal) (names values : List ℕ) (i n : ℕ) (s t : Position) (e : PartRefusal) → AreRead names values i s t → IsErrAnd result (λ d. d ≡ e) → label_at t ≡ Err e → i < n → Gives no_memory view result (split (members_at label_at n s))
+labels_exit _ _ (Ok y) _ _ i n s t e h is refused lt = absurd is
+labels_exit _ _ (Err d) _ _ i n s t e h is refused lt = rw (is, members_stop label_at i n s t h.found e lt h.read_is refused) (inr refl)

@@ -1,5 +1,4 @@
 -- Postings tables against their grammar.
-use Rattle.list_core.proofs.Bools.{Less-from_is_lt, is_lt-from_Less}
 use Rattle.std.proofs.Common.{◌≡◌, ℕ, ◌≤◌, true, List, [], ◌∷◌, ◌++◌, length, Option, Some, None, Ok, refl, sym, ap, ◌∙◌, length-append, arith}
 use Rattle.std.specs.Prelude.{◌==◌}
 use Rattle.std.specs.Int.{w8, to_be_bytes}
@@ -7,6 +6,7 @@ use Rattle.std.specs.Str.{is_utf8}
 use Rattle.std.proofs.lemmas.Bool.{and_parts, eqb-true}
 use Rattle.std.proofs.lemmas.List.{nil_from_length}
 use Rattle.std.proofs.lemmas.Str.{is_utf8-from_IsUtf8}
+use Rattle.list_core.proofs.Order.{comes_after_tells}
 use Rattle.reading_core.specs.Grammar.{IsBytes, HasFront}
 use Rattle.reading_core.proofs.Fronts.{IsBytes-after}
 use Rattle.reading_core.proofs.Binds.{bind_ok, unless_ok, ok_is}
@@ -16,7 +16,7 @@ use Rattle.wire_bytes.proofs.FixedLaws.{wide8}
 use Rattle.index_parts.specs.declared.refusal.PartRefusal.{PartRefusal}
 use Rattle.index_parts.specs.declared.refusal.PartRefusal.TheVariants.{Unordered}
 use Rattle.index_parts.specs.declared.postings_row.PostingsRow.{PostingsRow}
-use Rattle.index_parts.specs.Rows.{MayComeAfter, IsNextRow}
+use Rattle.index_parts.specs.Rows.{compare_rows, MayComeAfter, IsNextRow}
 use Rattle.index_parts.specs.RowsReading.{may_come_after, row_told, row_at}
 use Rattle.index_parts.proofs.FieldLaws.{fixed_field, uvarint_field, long_field}
 use Rattle.index_parts.proofs.TurnLaws.{turn_found}
@@ -28,11 +28,11 @@ after_found : (before : Option PostingsRow) (row : PostingsRow) → may_come_aft
 after_found None row e =
     let p = and_parts (length row.name == 0) (length row.value == 0) e in
     (nil_from_length _ (eqb-true (length row.name) 0 p.0), nil_from_length _ (eqb-true (length row.value) 0 p.1))
-after_found (Some b) _ e = Less-from_is_lt _ e
+after_found (Some b) row e = (comes_after_tells compare_rows (Some b) row).0 e
 
 after_again : (before : Option PostingsRow) (row : PostingsRow) → MayComeAfter before row → may_come_after before row ≡ true
 after_again None _ h = rw (h.0, h.1) refl
-after_again (Some b) _ h = is_lt-from_Less _ h
+after_again (Some b) row h = (comes_after_tells compare_rows (Some b) row).1 h
 
 abbrev row_with : List ℕ × Position → List ℕ × Position → ℕ × Position → PostingsRow
 row_with name value offset = record { name = name.0; value = value.0; offset = offset.0 }

@@ -2,43 +2,87 @@
 use Rattle.std.proofs.Common.{◌≡◌, ℕ, ◌+◌, ◌*◌, ◌≤◌, List, [], ◌∷◌, ◌++◌, length, map, zip, Ok, refl, sym, ap, subst, ◌∙◌, append_assoc, length-append, arith}
 use Rattle.reading_core.specs.Members.{members_at}
 use Rattle.reading_core.specs.Grammar.{IsBytes, HasFront, AreTexts}
-use Rattle.reading_core.proofs.Fronts.{IsBytes-after, members_found, members_again}
+use Rattle.reading_core.proofs.Fronts.{IsBytes-after, members_found}
 use Rattle.reading_core.proofs.Binds.{bind_ok, ok_is}
-use Rattle.reading_core.proofs.Counted.{length-members}
+use Rattle.reading_core.proofs.Counted.{length-members, members_first}
 use Rattle.wire_bytes.specs.Position.{Position, left}
 use Rattle.wire_bytes.specs.Fields.{uvarint_at}
 use Rattle.wire_bytes.specs.FieldTexts.{IsUvarint}
 use Rattle.index_parts.specs.declared.refusal.PartRefusal.{PartRefusal}
 use Rattle.index_parts.specs.declared.chunk_place.ChunkPlace.{ChunkPlace}
+use Rattle.index_parts.specs.declared.raw_label.SymbolNumber.{SymbolNumber}
+use Rattle.index_parts.specs.declared.raw_label.RawLabel.{RawLabel}
 use Rattle.index_parts.specs.declared.raw_series.RawSeries.{RawSeries}
+use Rattle.index_parts.specs.Placed.{field}
 use Rattle.index_parts.specs.SeriesEntry.{IsLabel, IsNextChunk, IsSeries}
-use Rattle.index_parts.specs.SeriesReading.{labels_begin_at, label_at, labels_at, chunk_at, chunks_at, series_at}
+use Rattle.index_parts.specs.SeriesReading.{labels_begin_at, symbol_number_at, label_at, names_of, values_of, labels_at, chunk_at, chunks_at, series_at}
 use Rattle.index_parts.proofs.FieldLaws.{uvarint_field}
 use Rattle.index_parts.proofs.FrameLaws.{framed_found, framed_again, framed_small}
 use Rattle.index_parts.proofs.TurnLaws.{field_found, turns_few}
 use Rattle.index_parts.proofs.ListLaws.{counted_found, counted_again}
-use Rattle.list_core.proofs.Lists.{zip_firsts, zip_seconds, zip_parts, length-zip}
+use Rattle.list_core.proofs.Lists.{length-zip}
 use Rattle.std.proofs.lemmas.List.{length-map}
 use Rattle.index_parts.proofs.SymbolLaws.{uvarint_size}
 use Rattle.index_parts.proofs.ChunkLaws.{chunk_turn, chunk_size}
 
 -- ---- labels
 
-label_found : (p : Position) (x : ℕ × ℕ) (q : Position) → IsBytes (left p) → label_at p ≡ Ok (x, q) → HasFront IsLabel (left p) x (left q)
+number_found : (p : Position) (x : SymbolNumber) (q : Position) → symbol_number_at p ≡ Ok (x, q) → field uvarint_at p ≡ Ok (x.number, q)
+unfolding symbol_number_at
+number_found p x q e =
+    let number = bind_ok _ _ _ e in
+    number.1 ∙ ap (λ (r : SymbolNumber × Position). Ok (r.0.number, r.1)) (ok_is {E = PartRefusal} _ _ number.2)
+
+-- the text of a label's symbol numbers, wherever they stand
+abbrev IsRaw : List ℕ → RawLabel → Type 0
+IsRaw text label = IsLabel text (label.name.number, label.value.number)
+
+label_found : (p : Position) (x : RawLabel) (q : Position) → IsBytes (left p) → label_at p ≡ Ok (x, q) → HasFront IsRaw (left p) x (left q)
 unfolding label_at
 label_found p x q are e =
     let name = bind_ok _ _ _ e in
     let value = bind_ok _ _ _ name.2 in
-    let f0 = uvarint_field.found p name.0.1 name.0.0 are name.1 in
-    let f1 = uvarint_field.found name.0.1 value.0.1 value.0.0 (IsBytes-after f0.0 (left name.0.1) _ f0.2 are) value.1 in
-    field_found IsLabel p value.0.1 q (f0.0 ++ f1.0) (name.0.0, value.0.0) x (record { name = f0.0; value = f1.0; name_is = f0.1; value_is = f1.1; text_is = refl }) (f0.2 ∙ ap (λ a. f0.0 ++ a) f1.2 ∙ sym (append_assoc f0.0 f1.0 (left value.0.1))) value.2
+    let f0 = uvarint_field.found p name.0.1 name.0.0.number are (number_found _ _ _ name.1) in
+    let f1 = uvarint_field.found name.0.1 value.0.1 value.0.0.number (IsBytes-after f0.0 (left name.0.1) _ f0.2 are) (number_found _ _ _ value.1) in
+    field_found IsRaw p value.0.1 q (f0.0 ++ f1.0) (record { name = name.0.0; value = value.0.0 }) x (record { name = f0.0; value = f1.0; name_is = f0.1; value_is = f1.1; text_is = refl }) (f0.2 ∙ ap (λ a. f0.0 ++ a) f1.2 ∙ sym (append_assoc f0.0 f1.0 (left value.0.1))) value.2
 
-label_again : (p : Position) (text : List ℕ) (x : ℕ × ℕ) (after : List ℕ) → IsLabel text x → left p ≡ text ++ after → (q : Position) × (label_at p ≡ Ok (x, q)) × (left q ≡ after)
-unfolding label_at
+are_zipped : (text : List ℕ) (labels : List RawLabel) → AreTexts IsRaw text labels → AreTexts IsLabel text (zip (names_of labels) (values_of labels))
+are_zipped _ [] are = are
+are_zipped _ (label ∷ labels) are = (are.0, are.1, are.2, are_zipped _ labels are.3, are.4)
+
+-- what was read again of these texts
+record AreAgain (names values : List ℕ) (p : Position) (after : List ℕ) : Type 0 where
+  labels : List RawLabel
+  end : Position
+  read_is : members_at label_at (length names) p ≡ Ok (labels, end)
+  names_are : names_of labels ≡ names
+  values_are : values_of labels ≡ values
+  left_is : left end ≡ after
+
+label_again : (p : Position) (text : List ℕ) (x : ℕ × ℕ) (after : List ℕ) → IsLabel text x → left p ≡ text ++ after
+    → (place : ℕ) × (q : Position) × (label_at p ≡ Ok (record { name = record { number = x.0; place = p.place }; value = record { number = x.1; place = place } }, q)) × (left q ≡ after)
+unfolding label_at symbol_number_at
 label_again p _ x after is e =
     let name = uvarint_field.again p is.name x.0 (is.value ++ after) is.name_is (e ∙ ap (λ a. a ++ after) is.text_is ∙ append_assoc is.name is.value after) in
     let value = uvarint_field.again name.0 is.value x.1 after is.value_is name.2 in
-    (value.0, rw (name.1, value.1) refl, value.2)
+    (name.0.place, value.0, rw (name.1, value.1) refl, value.2)
+
+all_again : (p : Position) (text names values after : List ℕ) → length names ≡ length values → AreTexts IsLabel text (zip names values) → left p ≡ text ++ after → AreAgain names values p after
+unfolding members_at
+all_again p _ [] [] after many are e = record { labels = []; end = p; read_is = refl; names_are = refl; values_are = refl; left_is = e ∙ ap (λ front. front ++ after) are }
+all_again p _ [] (value ∷ values) after many are e = absurd (omega arith)
+all_again p _ (name ∷ names) [] after many are e = absurd (omega arith)
+all_again p _ (name ∷ names) (value ∷ values) after many are e =
+    let first = label_again p are.0 (name, value) (are.1 ++ after) are.2 (e ∙ ap (λ front. front ++ after) are.4 ∙ append_assoc are.0 are.1 after) in
+    let others = all_again first.1 are.1 names values after (omega arith) are.3 first.3 in
+    record {
+      labels = record { name = record { number = name; place = p.place }; value = record { number = value; place = first.0 } } ∷ others.labels;
+      end = others.end;
+      read_is = members_first label_at _ p _ _ _ _ first.2 others.read_is;
+      names_are = ap (λ ns. name ∷ ns) others.names_are;
+      values_are = ap (λ vs. value ∷ vs) others.values_are;
+      left_is = others.left_is;
+    }
 
 labels_few : (text : List ℕ) (labels : List (ℕ × ℕ)) → AreTexts IsLabel text labels → 2 * length labels ≤ length text
 labels_few _ [] are = omega arith
@@ -69,11 +113,11 @@ unfolding labels_at
 labels_found count p q _ _ are e =
     let x = bind_ok _ _ _ e in
     let same = ok_is {E = PartRefusal} _ _ x.2 in
-    let texts = members_found left label_at IsLabel label_found _ p _ _ are x.1 in
+    let texts = members_found left label_at IsRaw label_found _ p _ _ are x.1 in
     let many = length-members label_at _ p _ _ x.1 in
-    let has : HasLabels (left p) count (map (λ label. label.0) x.0.0) (map (λ label. label.1) x.0.0) (left x.0.1) = record {
+    let has : HasLabels (left p) count (names_of x.0.0) (values_of x.0.0) (left x.0.1) = record {
       text = texts.0;
-      are = subst (λ l. AreTexts IsLabel texts.0 l) (sym (zip_parts _)) texts.1;
+      are = are_zipped _ _ texts.1;
       front = texts.2;
       names_many = length-map _ _ ∙ many;
       values_many = length-map _ _ ∙ many;
@@ -83,10 +127,8 @@ labels_found count p q _ _ are e =
 labels_again : (p : Position) (text names values after : List ℕ) → length names ≡ length values → AreTexts IsLabel text (zip names values) → left p ≡ text ++ after → (q : Position) × (labels_at (length names) p ≡ Ok ((names, values), q)) × (left q ≡ after)
 unfolding labels_at
 labels_again p text names values after many are e =
-    let r = members_again left label_at IsLabel label_again p text (zip names values) after are e in
-    let count : length (zip names values) ≡ length names = length-zip names values many in
-    let read : members_at label_at (length names) p ≡ Ok (zip names values, r.0) = ap (λ (n : ℕ). members_at label_at n p) (sym count) ∙ r.1 in
-    (r.0, rw (read, zip_firsts names values many, zip_seconds names values many) refl, r.2)
+    let r = all_again p text names values after many are e in
+    (r.end, rw (r.read_is, r.names_are, r.values_are) refl, r.left_is)
 
 pub series_found : (index : List ℕ) (at : ℕ) (series : RawSeries) → IsBytes index → series_at index at ≡ Ok series → IsSeries index at series
 unfolding series_at labels_begin_at chunks_at

@@ -1,18 +1,20 @@
 -- Symbol tables against their grammar.
-use Rattle.list_core.proofs.Bools.{Less-from_is_lt, is_lt-from_Less}
-use Rattle.std.proofs.Common.{◌≡◌, ℕ, ◌-◌, ◌≤◌, true, List, [], ◌∷◌, ◌++◌, length, Option, Some, None, Ok, refl, ap, arith}
+use Rattle.std.proofs.Common.{◌≡◌, ℕ, ◌-◌, ◌≤◌, true, List, [], ◌∷◌, ◌++◌, length, Option, Some, Ok, refl, ap, arith}
 use Rattle.std.specs.Str.{is_utf8}
 use Rattle.std.proofs.lemmas.List.{length-append}
 use Rattle.std.proofs.lemmas.Str.{IsUtf8-from_is_utf8, is_utf8-from_IsUtf8}
+use Rattle.list_core.specs.Order.{comes_after}
+use Rattle.list_core.proofs.Order.{comes_after_tells}
 use Rattle.reading_core.specs.Grammar.{IsBytes, HasFront}
 use Rattle.reading_core.proofs.Binds.{bind_ok, unless_ok}
 use Rattle.wire_bytes.specs.Position.{Position, left}
 use Rattle.wire_bytes.specs.FieldTexts.{IsUvarint, IsGroups}
+use Rattle.label_sets.specs.Labels.{compare_texts}
 use Rattle.index_parts.specs.declared.refusal.PartRefusal.TheVariants.{Unordered, NotText}
 use Rattle.index_parts.specs.Placed.{text_at}
 use Rattle.index_parts.specs.Framed.{IsText}
-use Rattle.index_parts.specs.Symbols.{MayFollow, IsNextSymbol}
-use Rattle.index_parts.specs.SymbolsReading.{may_follow, symbol_at}
+use Rattle.index_parts.specs.Symbols.{IsNextSymbol}
+use Rattle.index_parts.specs.SymbolsReading.{symbol_at}
 use Rattle.index_parts.proofs.FieldLaws.{long_field, IsLong}
 use Rattle.index_parts.proofs.TurnLaws.{turn_found}
 use Rattle.index_parts.proofs.ListLaws.{IsTurnOf}
@@ -35,30 +37,22 @@ uvarint_size _ n is = some_groups _ n is.groups
 pub text_size : (bytes text : List ℕ) → IsText bytes text → 1 ≤ length bytes
 text_size _ text is = let one = uvarint_size _ _ is.size_is in omega (arith, ap length is.bytes_are, length-append is.size text)
 
-follows_found : (before : Option (List ℕ)) (s : List ℕ) → may_follow before s ≡ true → MayFollow before s
-follows_found None s e = tt
-follows_found (Some b) s e = Less-from_is_lt _ e
-
-follows_again : (before : Option (List ℕ)) (s : List ℕ) → MayFollow before s → may_follow before s ≡ true
-follows_again None s h = refl
-follows_again (Some b) s h = is_lt-from_Less _ h
-
 found : (before : Option (List ℕ)) (p : Position) (x : List ℕ) (t : Option (List ℕ) × Position) → IsBytes (left p) → symbol_at (before, p) ≡ Ok (x, t) → HasFront (IsNextSymbol before) (left p) x (left t.1) × (t.0 ≡ Some x)
 unfolding symbol_at
 found before p x t are e =
     let symbol = bind_ok (text_at p) _ _ e in
     let s = symbol.0.0 in
     let q = symbol.0.1 in
-    let ordered = unless_ok (may_follow before s) (Unordered p.place) _ _ symbol.2 in
+    let ordered = unless_ok (comes_after compare_texts before s) (Unordered p.place) _ _ symbol.2 in
     let utf8 = unless_ok (is_utf8 s) (NotText (q.place - length s)) _ _ ordered.1 in
     let front = long_field.found p q s are symbol.1 in
-    turn_found IsNextSymbol before p q front.0 s x t (record { text_is = text_is front.0 s front.1 utf8.0; ascends = follows_found before s ordered.0 }) front.2 utf8.1
+    turn_found IsNextSymbol before p q front.0 s x t (record { text_is = text_is front.0 s front.1 utf8.0; ascends = (comes_after_tells compare_texts before s).0 ordered.0 }) front.2 utf8.1
 
 again : (before : Option (List ℕ)) (p : Position) (text x after : List ℕ) → IsNextSymbol before text x → left p ≡ text ++ after → (q : Position) × (symbol_at (before, p) ≡ Ok (x, (Some x, q))) × (left q ≡ after)
 unfolding symbol_at
 again before p text x after is e =
     let symbol = long_field.again p text x after (long_is text x is.text_is) e in
-    (symbol.0, rw (symbol.1, follows_again before x is.ascends, is_utf8-from_IsUtf8 x is.text_is.utf8) refl, symbol.2)
+    (symbol.0, rw (symbol.1, (comes_after_tells compare_texts before x).1 is.ascends, is_utf8-from_IsUtf8 x is.text_is.utf8) refl, symbol.2)
 
 pub symbol_turn : IsTurnOf IsNextSymbol symbol_at
 symbol_turn = record { found = found; again = again }

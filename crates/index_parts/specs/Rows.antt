@@ -3,8 +3,8 @@
 use Rattle.std.specs.Prelude.{◌≡◌, ◌^◌, ◌<◌, ℕ, List, [], ◌∷◌, ◌++◌, Option, Some, None}
 use Rattle.std.specs.Str.{IsUtf8}
 use Rattle.std.specs.declared.cmp.Ordering.{Ordering}
-use Rattle.std.specs.declared.cmp.Ordering.TheVariants.{Less}
 use Rattle.std.specs.Ordering.{ordering_then}
+use Rattle.list_core.specs.Order.{ComesAfter}
 use Rattle.wire_bytes.specs.FieldTexts.{IsUvarint}
 use Rattle.wire_bytes.specs.Written.{uvarint_text}
 use Rattle.label_sets.specs.Labels.{compare_texts}
@@ -19,7 +19,7 @@ compare_rows one other = ordering_then (compare_texts one.name other.name) (comp
 -- A row may stand behind another where it is greater, and first where it is that of all series.
 abbrev pub MayComeAfter : Option PostingsRow → PostingsRow → Type 0
 MayComeAfter None row = (row.name ≡ []) × (row.value ≡ [])
-MayComeAfter (Some before) row = compare_rows before row ≡ Less
+MayComeAfter (Some before) row = ComesAfter compare_rows (Some before) row
 
 -- what a row begins with
 abbrev pub row_kind : ℕ

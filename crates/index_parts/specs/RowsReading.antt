@@ -2,7 +2,7 @@
 use Rattle.std.specs.Prelude.{ℕ, ◌-◌, List, length, Option, Some, None, Bool, ◌&&◌, Result, Ok, ◌==◌}
 use Rattle.std.specs.Int.{w8}
 use Rattle.std.specs.Str.{is_utf8}
-use Rattle.std.specs.Ordering.{is_lt}
+use Rattle.list_core.specs.Order.{comes_after}
 use Rattle.reading_core.specs.Reading.{◌>>=◌, ◌>>◌, unless}
 use Rattle.wire_bytes.specs.Position.{Position}
 use Rattle.wire_bytes.specs.Fields.{number_at, uvarint_at}
@@ -16,7 +16,7 @@ use Rattle.index_parts.specs.Rows.{compare_rows, row_kind}
 -- whether a row may stand behind another, or first
 abbrev pub may_come_after : Option PostingsRow → PostingsRow → Bool
 may_come_after None row = (length row.name == 0) && (length row.value == 0)
-may_come_after (Some before) row = is_lt (compare_rows before row)
+may_come_after (Some before) row = comes_after compare_rows (Some before) row
 
 -- a row whose fields were read, the name and the value up to these places: its order is tested, and then its texts
 abbrev pub row_told : Option PostingsRow → ℕ → ℕ → ℕ → PostingsRow → Result PostingsRow PartRefusal

@@ -12,9 +12,13 @@ use Rattle.index_parts.specs.declared.raw_series.RawSeries.{RawSeries}
 use Rattle.index_parts.specs.Turns.{AreInTurn}
 use Rattle.index_parts.specs.Framed.{IsEntry, entry_text}
 
+-- how many places in a segment file a reference can tell
+abbrev pub offset_count : ℕ
+offset_count = 2 ^ 32
+
 -- a chunk's reference: the number of its segment file, and below it the place in the file
 abbrev pub reference_of : ChunkPlace → ℕ
-reference_of chunk = chunk.segment * 2 ^ 32 + chunk.offset
+reference_of chunk = chunk.segment * offset_count + chunk.offset
 
 -- the symbol numbers of a name and of its value
 pub record IsLabel (text : List ℕ) (label : ℕ × ℕ) : Type 0 where
@@ -47,7 +51,7 @@ pub record IsNextChunk (before : Option ChunkPlace) (text : List ℕ) (chunk : C
   pub max_fits : FitsSigned w64 chunk.max
   pub refers : Refers before reference (reference_of chunk)
   pub segment_fits : chunk.segment < 2 ^ 32
-  pub offset_fits : chunk.offset < 2 ^ 32
+  pub offset_fits : chunk.offset < offset_count
   pub text_is : text ≡ begin ++ span ++ reference
 
 -- At a place of the index stands a series: the labels' count, the labels, the chunks' count and the chunks; bytes may be
@@ -111,4 +115,4 @@ StartsAfter (Some before) chunk = (before.max ≤ℤ chunk.min) × (chunk.min �
 
 -- what the types of a chunk's fields say
 abbrev pub FitsTypes : ChunkPlace → Type 0
-FitsTypes chunk = FitsSigned w64 chunk.min × FitsSigned w64 chunk.max × (chunk.segment < 2 ^ 32) × (chunk.offset < 2 ^ 32)
+FitsTypes chunk = FitsSigned w64 chunk.min × FitsSigned w64 chunk.max × (chunk.segment < 2 ^ 32) × (chunk.offset < offset_count)

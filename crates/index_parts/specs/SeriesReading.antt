@@ -1,8 +1,6 @@
 -- What reading a series gives, or the first refusal.
-use Rattle.std.specs.Prelude.{ℕ, ◌/◌, ◌%◌, ◌^◌, List, map, Option, Some, None, Bool, false, if◌then◌else◌, Result, Ok, nat_lt, ℤ, pos, negsuc, ◌+ℤ◌}
+use Rattle.std.specs.Prelude.{ℕ, ◌/◌, ◌%◌, ◌^◌, List, map, Option, Some, None, Bool, false, Result, Ok, nat_lt, ℤ, pos, negsuc, ◌+ℤ◌}
 use Rattle.std.specs.Int.RustNames.{unsigned_abs}
-use Rattle.std.specs.Option.{option_and_then}
-use Rattle.std.specs.Result.{result_ok}
 use Rattle.reading_core.specs.Reading.{◌>>=◌, ◌>>◌, unless}
 use Rattle.reading_core.specs.Members.{members_at}
 use Rattle.reading_core.specs.Decimal.{fits_signed}
@@ -11,11 +9,13 @@ use Rattle.wire_bytes.specs.Fields.{uvarint_at, varint_at}
 use Rattle.index_parts.specs.declared.refusal.PartRefusal.{PartRefusal}
 use Rattle.index_parts.specs.declared.refusal.PartRefusal.TheVariants.{Overlong}
 use Rattle.index_parts.specs.declared.chunk_place.ChunkPlace.{ChunkPlace}
+use Rattle.index_parts.specs.declared.raw_label.SymbolNumber.{SymbolNumber}
+use Rattle.index_parts.specs.declared.raw_label.RawLabel.{RawLabel}
 use Rattle.index_parts.specs.declared.raw_series.RawSeries.{RawSeries}
 use Rattle.index_parts.specs.Placed.{field}
 use Rattle.index_parts.specs.Framing.{entry_at}
 use Rattle.index_parts.specs.ListReading.{turns_at}
-use Rattle.index_parts.specs.SeriesEntry.{reference_of}
+use Rattle.index_parts.specs.SeriesEntry.{reference_of, offset_count}
 
 -- the unsigned numbers of 64 bits
 abbrev pub fits_unsigned : ℤ → Bool
@@ -30,17 +30,29 @@ labels_begin_at index at = do
   content ← entry_at index at
   field uvarint_at content
 
-unfoldable pub label_at : Position → Result ((ℕ × ℕ) × Position) PartRefusal
+-- a symbol number with its place
+unfoldable pub symbol_number_at : Position → Result (SymbolNumber × Position) PartRefusal
+symbol_number_at p = do
+  number ← field uvarint_at p
+  Ok (record { number = number.0; place = p.place }, number.1)
+
+unfoldable pub label_at : Position → Result (RawLabel × Position) PartRefusal
 label_at p = do
-  name ← field uvarint_at p
-  value ← field uvarint_at name.1
-  Ok ((name.0, value.0), value.1)
+  name ← symbol_number_at p
+  value ← symbol_number_at name.1
+  Ok (record { name = name.0; value = value.0 }, value.1)
+
+abbrev pub names_of : List RawLabel → List ℕ
+names_of labels = map (λ label. label.name.number) labels
+
+abbrev pub values_of : List RawLabel → List ℕ
+values_of labels = map (λ label. label.value.number) labels
 
 -- so many labels: the numbers of the names and those of the values
 unfoldable pub labels_at : ℕ → Position → Result ((List ℕ × List ℕ) × Position) PartRefusal
 labels_at count p = do
   labels ← members_at label_at count p
-  Ok ((map (λ label. label.0) labels.0, map (λ label. label.1) labels.0), labels.1)
+  Ok ((names_of labels.0, values_of labels.0), labels.1)
 
 -- ---- chunks
 
@@ -67,7 +79,7 @@ reference_at None p = field uvarint_at p
 reference_at (Some before) p = moved_at (reference_of before) p
 
 abbrev pub chunk_of : ℤ → ℤ → ℕ → ChunkPlace
-chunk_of min max reference = record { min = min; max = max; segment = reference / 2 ^ 32; offset = reference % 2 ^ 32 }
+chunk_of min max reference = record { min = min; max = max; segment = reference / offset_count; offset = reference % offset_count }
 
 unfoldable pub chunk_at : Option ChunkPlace × Position → Result (ChunkPlace × (Option ChunkPlace × Position)) PartRefusal
 chunk_at s = do
@@ -90,20 +102,3 @@ series_at index at = do
   labels ← labels_at begin.0 begin.1
   chunks ← chunks_at labels.1
   Ok (record { names = labels.0.0; values = labels.0.1; chunks = chunks })
-
--- where the symbol numbers of the label behind so many others stand, that of its name and that of its value
-unfoldable pub place_behind : ℕ → Position → Result (ℕ × ℕ) PartRefusal
-place_behind label p = do
-  before ← members_at label_at label p
-  name ← field uvarint_at before.1
-  value ← field uvarint_at name.1
-  Ok (before.1.place, name.1.place)
-
--- those of one label among so many, where the labels before it and it itself can be read
-abbrev pub place_among : ℕ → ℕ → Position → Option (ℕ × ℕ)
-place_among count label p = if nat_lt label count then result_ok (place_behind label p) else None
-
--- those of one label of the series at a place
-unfoldable pub label_place_of : List ℕ → ℕ → ℕ → Option (ℕ × ℕ)
-label_place_of index at label =
-    option_and_then (λ (begin : ℕ × Position). place_among begin.0 label begin.1) (result_ok (labels_begin_at index at))

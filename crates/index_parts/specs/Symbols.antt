@@ -5,13 +5,9 @@ use Rattle.label_sets.specs.Labels.{compare_texts}
 use Rattle.index_parts.specs.Framed.{IsText, text_field}
 use Rattle.index_parts.specs.Lists.{IsList, list_text}
 
--- A symbol may stand behind another where it is greater by its bytes.
-abbrev pub MayFollow : Option (List ℕ) → List ℕ → Type 0
-MayFollow = ComesAfter compare_texts
-
 pub record IsNextSymbol (before : Option (List ℕ)) (text symbol : List ℕ) : Type 0 where
   pub text_is : IsText text symbol
-  pub ascends : MayFollow before symbol
+  pub ascends : ComesAfter compare_texts before symbol
 
 abbrev pub IsSymbols : List ℕ → ℕ → List (List ℕ) → Type 0
 IsSymbols = IsList IsNextSymbol

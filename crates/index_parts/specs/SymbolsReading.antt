@@ -1,7 +1,7 @@
 -- What reading a symbol table gives, or the first refusal.
-use Rattle.std.specs.Prelude.{ℕ, ◌-◌, List, length, Option, Some, None, Bool, true, Result, Ok}
+use Rattle.std.specs.Prelude.{ℕ, ◌-◌, List, length, Option, Some, Result, Ok}
 use Rattle.std.specs.Str.{is_utf8}
-use Rattle.std.specs.Ordering.{is_lt}
+use Rattle.list_core.specs.Order.{comes_after}
 use Rattle.reading_core.specs.Reading.{◌>>=◌, ◌>>◌, unless}
 use Rattle.wire_bytes.specs.Position.{Position}
 use Rattle.label_sets.specs.Labels.{compare_texts}
@@ -10,16 +10,11 @@ use Rattle.index_parts.specs.declared.refusal.PartRefusal.TheVariants.{Unordered
 use Rattle.index_parts.specs.Placed.{text_at}
 use Rattle.index_parts.specs.ListReading.{list_at}
 
--- whether a symbol may stand behind another
-abbrev pub may_follow : Option (List ℕ) → List ℕ → Bool
-may_follow None symbol = true
-may_follow (Some before) symbol = is_lt (compare_texts before symbol)
-
 -- a symbol: its order is tested before its text
 unfoldable pub symbol_at : Option (List ℕ) × Position → Result (List ℕ × (Option (List ℕ) × Position)) PartRefusal
 symbol_at s = do
   symbol ← text_at s.1
-  unless (may_follow s.0 symbol.0) (Unordered s.1.place)
+  unless (comes_after compare_texts s.0 symbol.0) (Unordered s.1.place)
   unless (is_utf8 symbol.0) (NotText (symbol.1.place - length symbol.0))
   Ok (symbol.0, (Some symbol.0, symbol.1))
 

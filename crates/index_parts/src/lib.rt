@@ -3,11 +3,11 @@
 
 mod chunk_place;
 mod fields;
-mod label_places;
 mod lent_row;
 mod postings_reading;
 mod postings_row;
 mod postings_table;
+mod raw_label;
 mod raw_series;
 mod refusal;
 mod row_fields;
@@ -19,14 +19,16 @@ mod toc;
 mod toc_reading;
 
 pub use chunk_place::{ChunkList, ChunkPlace};
-pub use label_places::label_place;
 pub use postings_reading::read_postings;
 pub use postings_row::{PostingsRow, PostingsRowList, ROW_KIND};
 pub use postings_table::{PostingsTable, read_postings_table};
+pub use raw_label::{RawLabel, SymbolNumber};
 pub use raw_series::RawSeries;
 pub use refusal::PartRefusal;
 pub use row_search::Rows;
-pub use series_reading::{before_labels, chunks_behind, next_label, read_series, reference_of};
+pub use series_reading::{
+    OFFSET_COUNT, before_labels, chunks_behind, next_label, read_series, reference_of,
+};
 pub use symbol_table::{SymbolTable, read_symbols};
 pub use toc::Toc;
 pub use toc_reading::{CONTENTS_SIZE, read_toc};

@@ -1,9 +1,12 @@
 ghost use Rattle.std.specs.Prelude.{◌≡◌, ◌⊎◌, ◌≤◌, ◌*◌, List, ℕ, length, map, IfOk, IfErr, IfSome, Ok, Err, Some, MatchResult};
 ghost use Rattle.std.specs.Int.{w32, from_be_bytes};
+ghost use Rattle.std.specs.Ordering.{nat_cmp};
+ghost use Rattle.list_core.specs.Order.{ComesAfter};
 ghost use Rattle.reading_core.specs.Reading.{Gives};
 ghost use Rattle.reading_core.specs.Grammar.{IsBytes};
+ghost use Rattle.index_parts.specs.Turns.{InOrder};
 ghost use Rattle.index_parts.specs.Postings.{IsPostings};
-ghost use Rattle.index_parts.specs.PostingsReading.{posting_at, postings_at, RiseFrom};
+ghost use Rattle.index_parts.specs.PostingsReading.{posting_at, postings_at};
 ghost use Rattle.index_parts.specs.ListReading.{turns_at};
 ghost use Rattle.index_parts.specs.Moves.{MovesOnTo};
 
@@ -30,9 +33,10 @@ fn next_posting(cursor: &mut Cursor<'_>, before: Option<u64>) -> Result<u64, Par
 
 /// The numbers of four bytes each, if they ascend. Whether they do is asked behind the last of them, and no number is left out
 /// of the loop, so that many are decoded at a time.
-fn decoded(alloc: Global, fronts: &[[u8; 4]]) -> Result<Option<Vec<u64>>, PartRefusal>
+fn decoded_numbers(alloc: Global, fronts: &[[u8; 4]]) -> Result<Option<Vec<u64>>, PartRefusal>
     ensures decoded { IfOk result (λ found. IfSome found (λ numbers.
-        (numbers.items ≡ map (from_be_bytes w32) fronts.now) × RiseFrom 0 numbers.items)) }
+        (numbers.items ≡ map (from_be_bytes w32) fronts.now)
+        × InOrder (ComesAfter nat_cmp) numbers.items)) }
     ensures refused { IfErr result (λ e. e ≡ PartRefusal.NoMemory) }
 {
     let mut numbers = Vec::with_capacity(alloc, fronts.len())?;
@@ -65,7 +69,7 @@ fn numbers_at_once(
     if fronts.len() < count {
         return Ok(None);
     }
-    decoded(alloc, &fronts[..count])
+    decoded_numbers(alloc, &fronts[..count])
 }
 
 /// Reads `count` numbers one after another, up to the first that is refused.

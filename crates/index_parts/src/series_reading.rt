@@ -3,17 +3,20 @@ ghost use Rattle.reading_core.specs.Reading.{Answers, Gives};
 ghost use Rattle.reading_core.specs.Grammar.{IsBytes};
 ghost use Rattle.wire_bytes.specs.Position.{Position};
 ghost use Rattle.index_parts.specs.declared.raw_series.RawSeries.{RawSeries};
-ghost use Rattle.index_parts.specs.SeriesEntry.{IsSeries, reference_of};
-ghost use Rattle.index_parts.specs.SeriesReading.{labels_begin_at, label_at, labels_at, later_at, moved_at, begin_at, reference_at, chunk_of, chunk_at, chunks_at, series_at};
+ghost use Rattle.index_parts.specs.SeriesEntry.{IsSeries, reference_of, offset_count};
+ghost use Rattle.index_parts.specs.SeriesReading.{labels_begin_at, symbol_number_at, label_at, labels_at, later_at, moved_at, begin_at, reference_at, chunk_of, chunk_at, chunks_at, series_at};
 ghost use Rattle.index_parts.specs.ListReading.{turns_at};
 ghost use Rattle.index_parts.specs.Moves.{MovesOn, MovesOnTo};
 
 use crate::fields::{next_uvarint, next_varint};
 use crate::sections::entry_of;
-use crate::{ChunkList, ChunkPlace, PartRefusal, RawSeries};
+use crate::{ChunkList, ChunkPlace, PartRefusal, RawLabel, RawSeries, SymbolNumber};
 use list_core::List;
 use std::alloc::Global;
 use wire_bytes::Cursor;
+
+/// How many places in a segment file a reference can tell.
+pub const OFFSET_COUNT: u64 = 1 << 32;
 
 /// Stands before the labels of the series at a place, and tells how many they are. The sum over the series is tested.
 #[inline(always)]
@@ -26,15 +29,26 @@ pub fn before_labels(index: &[u8], at: u64) -> Result<(u64, Cursor<'_>), PartRef
     Ok((count, content))
 }
 
-/// The symbol numbers of the next label, its name's and its value's, and what follows them.
+/// The next symbol number.
+#[inline(always)]
+#[tactic(auto, unfolding(crate::specs::SeriesReading::symbol_number_at))]
+fn next_number(cursor: &mut Cursor<'_>) -> Result<SymbolNumber, PartRefusal>
+    ensures { MovesOn (λ n. n) cursor.new result (symbol_number_at cursor.old) }
+{
+    let place = cursor.place() as u64;
+    let number = next_uvarint(cursor)?;
+    Ok(SymbolNumber { number, place })
+}
+
+/// The next label, and what follows it.
 #[inline(always)]
 #[tactic(auto, unfolding(crate::specs::SeriesReading::label_at))]
-pub fn next_label(mut cursor: Cursor<'_>) -> Result<((u64, u64), Cursor<'_>), PartRefusal>
-    ensures { Answers (λ x. ((x.0.0, x.0.1), x.1)) result (label_at cursor.entry) }
+pub fn next_label(mut cursor: Cursor<'_>) -> Result<(RawLabel, Cursor<'_>), PartRefusal>
+    ensures { Answers (λ x. (x.0, x.1)) result (label_at cursor.entry) }
 {
-    let name = next_uvarint(&mut cursor)?;
-    let value = next_uvarint(&mut cursor)?;
-    Ok(((name, value), cursor))
+    let name = next_number(&mut cursor)?;
+    let value = next_number(&mut cursor)?;
+    Ok((RawLabel { name, value }, cursor))
 }
 
 /// Reads the symbol numbers of `count` labels, and what follows them.
@@ -49,9 +63,9 @@ fn labels_of<'a>(
     let mut names = Vec::new(alloc);
     let mut values = Vec::new(alloc);
     for _ in 0..count {
-        let ((name, value), rest) = next_label(cursor)?;
-        names.push(name)?;
-        values.push(value)?;
+        let (label, rest) = next_label(cursor)?;
+        names.push(label.name.number)?;
+        values.push(label.value.number)?;
         cursor = rest;
     }
     Ok((names, values, cursor))
@@ -89,9 +103,9 @@ fn reference_after(cursor: &mut Cursor<'_>, reference: u64) -> Result<u64, PartR
 #[inline(always)]
 pub fn reference_of(chunk: ChunkPlace) -> u64
     ensures value { result ≡ reference_of chunk }
-    ensures fits { (chunk.segment < 2 ^ 32) × (chunk.offset < 2 ^ 32) }
+    ensures fits { (chunk.segment < 2 ^ 32) × (chunk.offset < offset_count) }
 {
-    u64::from(chunk.segment) * 0x1_0000_0000 + u64::from(chunk.offset)
+    u64::from(chunk.segment) * OFFSET_COUNT + u64::from(chunk.offset)
 }
 
 #[inline(always)]
@@ -101,8 +115,8 @@ fn chunk_of(min: i64, max: i64, reference: u64) -> ChunkPlace
     ChunkPlace {
         min,
         max,
-        segment: (reference / 0x1_0000_0000) as u32,
-        offset: (reference % 0x1_0000_0000) as u32,
+        segment: (reference / OFFSET_COUNT) as u32,
+        offset: (reference % OFFSET_COUNT) as u32,
     }
 }
 

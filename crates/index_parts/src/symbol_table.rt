@@ -1,10 +1,12 @@
 ghost use Rattle.std.specs.Prelude.{◌≡◌, ◌⊎◌, ◌≤◌, List, ℕ, length, map, slice_get, IfOk, Ok, Err, Some, MatchResult};
 ghost use Rattle.std.specs.Result.{IsOkAnd};
 ghost use Rattle.std.specs.Option.{option_copied};
+ghost use Rattle.list_core.specs.Order.{comes_after};
 ghost use Rattle.reading_core.specs.Reading.{Gives};
 ghost use Rattle.reading_core.specs.Grammar.{IsBytes};
+ghost use Rattle.label_sets.specs.Labels.{compare_texts};
 ghost use Rattle.index_parts.specs.Symbols.{IsSymbols};
-ghost use Rattle.index_parts.specs.SymbolsReading.{may_follow, symbol_at, symbols_at};
+ghost use Rattle.index_parts.specs.SymbolsReading.{symbol_at, symbols_at};
 ghost use Rattle.index_parts.specs.ListReading.{turns_at};
 ghost use Rattle.index_parts.specs.Moves.{MovesOnTo};
 
@@ -49,7 +51,7 @@ impl<'a> SymbolTable<'a> {
 /// Whether a symbol may stand behind another.
 #[inline(always)]
 fn may_follow(before: Option<&str>, symbol: &str) -> bool
-    ensures { result ≡ may_follow (option_copied before.entry) symbol.now }
+    ensures { result ≡ comes_after compare_texts (option_copied before.entry) symbol.now }
 {
     match before {
         None => true,
@@ -59,7 +61,7 @@ fn may_follow(before: Option<&str>, symbol: &str) -> bool
 
 /// Whether bytes that are no text may stand behind a symbol.
 fn may_bytes_follow(before: Option<&str>, symbol: &[u8]) -> bool
-    ensures { result ≡ may_follow (option_copied before.entry) symbol.now }
+    ensures { result ≡ comes_after compare_texts (option_copied before.entry) symbol.now }
 {
     match before {
         None => true,

@@ -11,7 +11,7 @@ use Rattle.wire_bytes.specs.declared.refusal.WireRefusal.TheVariants as wire
 use Rattle.wire_bytes.specs.Position.{Position, left, further}
 use Rattle.wire_bytes.specs.Fields.{bytes_at, number_at, groups_of, uvarint_at, unzigzag, varint_at}
 use Rattle.index_parts.specs.Placed.{refused_at, field, text_at}
-use Rattle.index_slices.specs.Shifting.{shifted}
+use Rattle.index_slices.specs.Shifting.{shifted_refusal}
 use Rattle.index_slices.proofs.Shifts.{IsWithin, IsMoved, left_same, IsSame, IsStep, same_value, same_refusal, same_step}
 
 module _ (front : List ℕ) (most : ℕ) where
@@ -92,7 +92,7 @@ module _ (front : List ℕ) (most : ℕ) where
 
   -- ---- with the place where the field begins
 
-  refused_same : (place : ℕ) (d : WireRefusal) → place ≤ most → (refused_at (length front + place) d ≡ shifted (length front) (refused_at place d)) × IsWithin most (refused_at place d)
+  refused_same : (place : ℕ) (d : WireRefusal) → place ≤ most → (refused_at (length front + place) d ≡ shifted_refusal (length front) (refused_at place d)) × IsWithin most (refused_at place d)
   refused_same place wire.Short le = (refl, le)
   refused_same place wire.Overlong le = (refl, le)
 

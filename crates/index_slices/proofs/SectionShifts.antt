@@ -18,12 +18,12 @@ use Rattle.index_parts.specs.declared.postings_row.PostingsRow.{PostingsRow}
 use Rattle.index_parts.specs.Placed.{at_place, field, text_at}
 use Rattle.index_parts.specs.Framing.{summed_at, framed_at}
 use Rattle.index_parts.specs.ListReading.{turns_at, list_at}
-use Rattle.index_parts.specs.SymbolsReading.{may_follow, symbol_at}
-use Rattle.index_parts.specs.PostingsReading.{rises, posting_at}
+use Rattle.index_parts.specs.SymbolsReading.{symbol_at}
+use Rattle.index_parts.specs.PostingsReading.{posting_at}
 use Rattle.index_parts.specs.Rows.{row_kind}
 use Rattle.index_parts.specs.RowsReading.{may_come_after, row_told, row_at}
 use Rattle.index_parts.proofs.Texts.{text_within}
-use Rattle.index_slices.specs.Shifting.{shifted}
+use Rattle.index_slices.specs.Shifting.{shifted_refusal}
 use Rattle.index_slices.proofs.Shifts.{IsWithin, IsMoved, IsSame, IsStep, same_value, same_refusal, same_bind, same_step, same_unless, same_members}
 use Rattle.index_slices.proofs.FieldShifts.{StepBy, IsField, bytes_field, number_field, uvarint_field, same_field, same_text}
 
@@ -106,10 +106,10 @@ module _ (front : List ℕ) (most : ℕ) where
   pub turned : {A : Type 0} (x : A) (p q : Position) → Moved p q → IsSame front most (IsStep front most (IsTurn {A = A})) (Ok (x, (Some x, p))) (Ok (x, (Some x, q)))
   turned x p q m = same_value front most (IsStep front most IsTurn) _ _ (record { value = refl; state = record { before = refl; here = m } })
 
-  unordered : (p q : Position) → Moved p q → Unordered q.place ≡ shifted (length front) (Unordered p.place)
+  unordered : (p q : Position) → Moved p q → Unordered q.place ≡ shifted_refusal (length front) (Unordered p.place)
   unordered p q m = ap Unordered m.place_is
 
-  not_text : (text : List ℕ) (p q : Position) → length text ≤ p.place → Moved p q → NotText (q.place - length text) ≡ shifted (length front) (NotText (p.place - length text))
+  not_text : (text : List ℕ) (p q : Position) → length text ≤ p.place → Moved p q → NotText (q.place - length text) ≡ shifted_refusal (length front) (NotText (p.place - length text))
   not_text text p q le m = ap NotText (let e = m.place_is in omega (arith, e))
 
   before_text : (text : List ℕ) (p q : Position) → Moved p q → IsWithin most (NotText (p.place - length text))
@@ -119,7 +119,7 @@ module _ (front : List ℕ) (most : ℕ) where
   unfolding symbol_at
   symbol_turned before p q m =
       same_step front most Moved (IsStep front most IsTurn) (text_at p) (text_at q) _ _ (same_text front most p q m)
-      (λ text a b e h. same_unless front most (IsStep front most IsTurn) (may_follow before text) (Unordered p.place) (Unordered q.place) _ _ (unordered p q m) m.within
+      (λ text a b e h. same_unless front most (IsStep front most IsTurn) _ (Unordered p.place) (Unordered q.place) _ _ (unordered p q m) m.within
       (λ _. same_unless front most (IsStep front most IsTurn) (is_utf8 text) (NotText (a.place - length text)) (NotText (b.place - length text)) _ _ (not_text text a b (text_within p a text e) h) (before_text text a b h)
       (λ _. turned text a b h)))
 
@@ -127,7 +127,7 @@ module _ (front : List ℕ) (most : ℕ) where
   unfolding posting_at
   posting_turned before p q m =
       same_step front most Moved (IsStep front most IsTurn) _ _ _ _ (same_field front most (number_at w32) (number_field front most w32) p q m)
-      (λ number a b e h. same_unless front most (IsStep front most IsTurn) (rises before number) (Unordered p.place) (Unordered q.place) _ _ (unordered p q m) m.within
+      (λ number a b e h. same_unless front most (IsStep front most IsTurn) _ (Unordered p.place) (Unordered q.place) _ _ (unordered p q m) m.within
       (λ _. turned number a b h))
 
   told_same : (before : Option PostingsRow) (p q a b c d : Position) (row : PostingsRow) → Moved p q → Moved a b → Moved c d → length row.name ≤ a.place → length row.value ≤ c.place → IsSame front most (λ x y. x ≡ y) (row_told before p.place a.place c.place row) (row_told before q.place b.place d.place row)

@@ -1,11 +1,11 @@
--- A series that is read in a part of an index, and the same in the index.
+-- A series that stands in a part of an index, and the same in the index.
 use Rattle.std.proofs.Common.{◌≡◌, ℕ, ◌-◌, ◌≤◌, List, ◌++◌, refl}
 use Rattle.wire_bytes.specs.Fields.{uvarint_at}
 use Rattle.wire_bytes.specs.FieldTexts.{IsUvarint}
 use Rattle.index_parts.specs.declared.raw_series.RawSeries.{RawSeries}
 use Rattle.index_parts.specs.Framing.{framed_at}
 use Rattle.index_parts.specs.SeriesEntry.{IsSeries}
-use Rattle.index_parts.specs.SeriesReading.{labels_begin_at, label_place_of, series_at}
+use Rattle.index_parts.specs.SeriesReading.{labels_begin_at}
 use Rattle.index_parts.proofs.SymbolLaws.{uvarint_size}
 use Rattle.index_slices.specs.Parts.{Part, IsPartOf, HoldsSeries}
 use Rattle.index_slices.proofs.FieldShifts.{uvarint_field}
@@ -34,20 +34,6 @@ begin_by_frame : (index other : List ℕ) (at : ℕ) → framed_at uvarint_at in
 unfolding labels_begin_at
 begin_by_frame index other at e = rw e refl
 
-series_by_begin : (index other : List ℕ) (at : ℕ) → labels_begin_at index at ≡ labels_begin_at other at → series_at index at ≡ series_at other at
-unfolding series_at
-series_by_begin index other at e = rw e refl
-
-place_by_begin : (index other : List ℕ) (at label : ℕ) → labels_begin_at index at ≡ labels_begin_at other at → label_place_of index at label ≡ label_place_of other at label
-unfolding label_place_of
-place_by_begin index other at label e = rw e refl
-
 module _ (part : Part) (index : List ℕ) (at : ℕ) (is : IsPartOf part index) (lies : HoldsSeries part at) where
-  begin_in_index : labels_begin_at index at ≡ labels_begin_at (is.before ++ part.bytes) at
+  pub begin_in_index : labels_begin_at index at ≡ labels_begin_at (is.before ++ part.bytes) at
   begin_in_index = begin_by_frame index (is.before ++ part.bytes) at (frame_in_index uvarint_at uvarint_field entry_longer part index at is lies)
-
-  pub series_in_index : series_at index at ≡ series_at (is.before ++ part.bytes) at
-  series_in_index = series_by_begin index (is.before ++ part.bytes) at begin_in_index
-
-  pub place_in_index : (label : ℕ) → label_place_of index at label ≡ label_place_of (is.before ++ part.bytes) at label
-  place_in_index label = place_by_begin index (is.before ++ part.bytes) at label begin_in_index

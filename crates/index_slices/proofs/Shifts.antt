@@ -6,7 +6,7 @@ use Rattle.reading_core.specs.Members.{members_at}
 use Rattle.wire_bytes.specs.Position.{Position, left}
 use Rattle.index_parts.specs.declared.refusal.PartRefusal.{PartRefusal}
 use Rattle.index_parts.specs.declared.refusal.PartRefusal.TheVariants.{Short, BadSum, Unordered, Overlong, NotText, NoMemory}
-use Rattle.index_slices.specs.Shifting.{shifted}
+use Rattle.index_slices.specs.Shifting.{shifted_refusal}
 
 -- a refusal whose place is at most so great
 abbrev pub IsWithin : ℕ → PartRefusal → Type 0
@@ -35,7 +35,7 @@ module _ (front : List ℕ) (most : ℕ) where
   SameBy R (Ok x) (Ok y) = R x y
   SameBy R (Ok x) (Err e) = ⊥
   SameBy R (Err d) (Ok y) = ⊥
-  SameBy R (Err d) (Err e) = (e ≡ shifted (length front) d) × IsWithin most d
+  SameBy R (Err d) (Err e) = (e ≡ shifted_refusal (length front) d) × IsWithin most d
 
   pub record IsSame {X Y : Type 0} (R : X → Y → Type 0) (r : Result X PartRefusal) (s : Result Y PartRefusal) : Type 0 where
     pub same : SameBy R r s
@@ -48,7 +48,7 @@ module _ (front : List ℕ) (most : ℕ) where
   pub same_value : {X Y : Type 0} (R : X → Y → Type 0) (x : X) (y : Y) → R x y → IsSame R (Ok x) (Ok y)
   same_value R x y h = record { same = h }
 
-  pub same_refusal : {X Y : Type 0} (R : X → Y → Type 0) (d e : PartRefusal) → e ≡ shifted (length front) d → IsWithin most d → IsSame R (Err d) (Err e)
+  pub same_refusal : {X Y : Type 0} (R : X → Y → Type 0) (d e : PartRefusal) → e ≡ shifted_refusal (length front) d → IsWithin most d → IsSame R (Err d) (Err e)
   same_refusal R d e h within = record { same = (h, within) }
 
   bind_by : {X Y A B : Type 0} (R : X → Y → Type 0) (S : A → B → Type 0) (r : Result X PartRefusal) (s : Result Y PartRefusal) (f : X → Result A PartRefusal) (g : Y → Result B PartRefusal) → SameBy R r s → ((x : X) (y : Y) → r ≡ Ok x → R x y → IsSame S (f x) (g y)) → SameBy S (r >>= f) (s >>= g)
@@ -65,11 +65,11 @@ module _ (front : List ℕ) (most : ℕ) where
   same_step {V} {T} Rel S r s f g h k =
       same_bind (IsStep Rel) S r s f g h (λ x y e step. subst (λ (v : V). IsSame S (f x) (g (v, y.1))) step.value (k x.0 x.1 y.1 e step.state))
 
-  unless_by : {A B : Type 0} (S : A → B → Type 0) (b : Bool) (d e : PartRefusal) (r : Result A PartRefusal) (s : Result B PartRefusal) → e ≡ shifted (length front) d → IsWithin most d → (b ≡ true → IsSame S r s) → SameBy S (unless b d >> r) (unless b e >> s)
+  unless_by : {A B : Type 0} (S : A → B → Type 0) (b : Bool) (d e : PartRefusal) (r : Result A PartRefusal) (s : Result B PartRefusal) → e ≡ shifted_refusal (length front) d → IsWithin most d → (b ≡ true → IsSame S r s) → SameBy S (unless b d >> r) (unless b e >> s)
   unless_by S true d e r s h within k = (k refl).same
   unless_by S false d e r s h within k = (h, within)
 
-  pub same_unless : {A B : Type 0} (S : A → B → Type 0) (b : Bool) (d e : PartRefusal) (r : Result A PartRefusal) (s : Result B PartRefusal) → e ≡ shifted (length front) d → IsWithin most d → (b ≡ true → IsSame S r s) → IsSame S (unless b d >> r) (unless b e >> s)
+  pub same_unless : {A B : Type 0} (S : A → B → Type 0) (b : Bool) (d e : PartRefusal) (r : Result A PartRefusal) (s : Result B PartRefusal) → e ≡ shifted_refusal (length front) d → IsWithin most d → (b ≡ true → IsSame S r s) → IsSame S (unless b d >> r) (unless b e >> s)
   same_unless S b d e r s h within k = record { same = unless_by S b d e r s h within k }
 
   -- so many members

@@ -21,7 +21,7 @@ use Rattle.index_parts.specs.Lists.{IsList}
 use Rattle.index_parts.specs.ListReading.{list_at}
 use Rattle.index_parts.specs.PostingsReading.{posting_at, postings_at}
 use Rattle.index_slices.specs.Parts.{Part, known, is_before, list_in, IsPartOf, LiesIn, HoldsSection}
-use Rattle.index_slices.specs.Shifting.{shifted, FitsShifted}
+use Rattle.index_slices.specs.Shifting.{shifted_refusal, FitsShifted}
 use Rattle.index_slices.proofs.Shifts.{IsWithin, IsMoved, IsSame, SameBy}
 use Rattle.index_slices.proofs.FieldShifts.{StepBy, IsField, number_field}
 use Rattle.index_slices.proofs.SectionShifts.{Turned, same_list, posting_turned}
@@ -40,7 +40,7 @@ fits_within begin most NoMemory small le = tt
 -- one result in the part, and one in the index
 pub record IsTold {X : Type 0} (begin : ℕ) (r s : Result X PartRefusal) : Type 0 where
   pub found : (x : X) → r ≡ Ok x → s ≡ Ok x
-  pub refused : (d : PartRefusal) → r ≡ Err d → s ≡ Err (shifted begin d)
+  pub refused : (d : PartRefusal) → r ≡ Err d → s ≡ Err (shifted_refusal begin d)
   pub fits : (d : PartRefusal) → r ≡ Err d → FitsShifted begin d
 
 refused_one : {X : Type 0} (d c : PartRefusal) → ◌≡◌ {A = Result X PartRefusal} (Err d) (Err c) → d ≡ c
@@ -52,7 +52,7 @@ told_by front most (Ok x) (Err e) small h = absurd h
 told_by front most (Err d) (Ok y) small h = absurd h
 told_by {X} front most (Err d) (Err e) small h = record {
   found = λ z e. absurd cc;
-  refused = λ c same. ap Err (h.0 ∙ ap (shifted (length front)) (refused_one {X = X} d c same));
+  refused = λ c same. ap Err (h.0 ∙ ap (shifted_refusal (length front)) (refused_one {X = X} d c same));
   fits = λ c same. subst (FitsShifted (length front)) (refused_one {X = X} d c same) (fits_within (length front) most d small h.1);
 }
 
@@ -60,8 +60,8 @@ pub told_from : {X : Type 0} (front : List ℕ) (begin most : ℕ) (r s : Result
 told_from front begin most r s is small h = subst (λ (n : ℕ). IsTold n r s) is (told_by front most r s (omega (arith, is, small)) h.same)
 
 -- an end of the code
-pub refused_in : {X : Type 0} (begin : ℕ) (r s : Result X PartRefusal) (d e : PartRefusal) → IsTold begin r s → e ≡ shifted begin d → (d ≡ NoMemory) ⊎ (r ≡ Err d) → (e ≡ NoMemory) ⊎ (s ≡ Err e)
-refused_in begin r s d e told is (inl none) = inl (is ∙ ap (shifted begin) none)
+pub refused_in : {X : Type 0} (begin : ℕ) (r s : Result X PartRefusal) (d e : PartRefusal) → IsTold begin r s → e ≡ shifted_refusal begin d → (d ≡ NoMemory) ⊎ (r ≡ Err d) → (e ≡ NoMemory) ⊎ (s ≡ Err e)
+refused_in begin r s d e told is (inl none) = inl (is ∙ ap (shifted_refusal begin) none)
 refused_in begin r s d e told is (inr h) = inr (told.refused d h ∙ ap Err (sym is))
 
 pub fits_in : {X : Type 0} (begin : ℕ) (r s : Result X PartRefusal) (d : PartRefusal) → IsTold begin r s → (d ≡ NoMemory) ⊎ (r ≡ Err d) → FitsShifted begin d
@@ -206,11 +206,11 @@ pub list_before : (part : Part) (at : ℕ) → at < part.begin → list_in part 
 list_before part at lt = rw (before at part.begin lt) refl
 
 -- the place of what is not there
-pub short_told : (part : Part) (at : ℕ) (r : Result (List ℕ) PartRefusal) (d e : PartRefusal) → part.begin ≤ at → r ≡ Err (Short (at - part.begin)) → e ≡ shifted part.begin d → (d ≡ NoMemory) ⊎ (r ≡ Err d) → (e ≡ Short at) ⊎ (e ≡ NoMemory)
-short_told part at r d e le short is (inl none) = inr (is ∙ ap (shifted part.begin) none)
+pub short_told : (part : Part) (at : ℕ) (r : Result (List ℕ) PartRefusal) (d e : PartRefusal) → part.begin ≤ at → r ≡ Err (Short (at - part.begin)) → e ≡ shifted_refusal part.begin d → (d ≡ NoMemory) ⊎ (r ≡ Err d) → (e ≡ Short at) ⊎ (e ≡ NoMemory)
+short_told part at r d e le short is (inl none) = inr (is ∙ ap (shifted_refusal part.begin) none)
 short_told part at r d e le short is (inr refused) =
     let same : d ≡ Short (at - part.begin) = refused_one {X = List ℕ} d (Short (at - part.begin)) (sym refused ∙ short) in
-    inl (is ∙ ap (shifted part.begin) same ∙ ap Short (omega (arith, le)))
+    inl (is ∙ ap (shifted_refusal part.begin) same ∙ ap Short (omega (arith, le)))
 
 pub not_refused : {X : Type 0} (r : Result X PartRefusal) (x : X) (d : PartRefusal) → r ≡ Ok x → r ≡ Err d → ⊥
 not_refused r x d e h = let no = sym e ∙ h in absurd cc
@@ -231,7 +231,7 @@ one_by front other most (Ok x) (Ok y) (Err e) is h k = absurd k
 one_by front other most (Ok x) (Err e) t is h k = absurd h
 one_by front other most (Err d) (Ok y) t is h k = absurd h
 one_by front other most (Err d) (Err e) (Ok z) is h k = absurd k
-one_by front other most (Err d) (Err e) (Err f) is h k = ap Err (h.0 ∙ ap (λ (n : ℕ). shifted n d) is ∙ sym k.0)
+one_by front other most (Err d) (Err e) (Err f) is h k = ap Err (h.0 ∙ ap (λ (n : ℕ). shifted_refusal n d) is ∙ sym k.0)
 
 -- a list that lies within the part is the index's
 pub list_known : {A : Type 0} (read : Option A × Position → Result (A × (Option A × Position)) PartRefusal) (turned : (front : List ℕ) (most : ℕ) → Turned front most read) (part : Part) (index : List ℕ) (at : ℕ) → IsPartOf part index → HoldsSection part at → list_at read (known part) at ≡ list_at read index at

@@ -3,13 +3,13 @@ use Rattle.std.specs.Prelude.{ℕ, ◌+◌, ◌^◌, ◌<◌}
 use Rattle.index_parts.specs.declared.refusal.PartRefusal.{PartRefusal}
 use Rattle.index_parts.specs.declared.refusal.PartRefusal.TheVariants.{Short, BadSum, Unordered, Overlong, NotText, NoMemory}
 
-abbrev pub shifted : ℕ → PartRefusal → PartRefusal
-shifted begin (Short place) = Short (begin + place)
-shifted begin (BadSum kept computed) = BadSum kept computed
-shifted begin (Unordered place) = Unordered (begin + place)
-shifted begin (Overlong place) = Overlong (begin + place)
-shifted begin (NotText place) = NotText (begin + place)
-shifted begin NoMemory = NoMemory
+abbrev pub shifted_refusal : ℕ → PartRefusal → PartRefusal
+shifted_refusal begin (Short place) = Short (begin + place)
+shifted_refusal begin (BadSum kept computed) = BadSum kept computed
+shifted_refusal begin (Unordered place) = Unordered (begin + place)
+shifted_refusal begin (Overlong place) = Overlong (begin + place)
+shifted_refusal begin (NotText place) = NotText (begin + place)
+shifted_refusal begin NoMemory = NoMemory
 
 -- there it has 64 bits
 abbrev pub FitsShifted : ℕ → PartRefusal → Type 0

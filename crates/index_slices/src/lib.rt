@@ -7,4 +7,4 @@ mod shifting;
 
 pub use index_part::IndexPart;
 pub use sections::{postings_in, postings_table_in, symbols_in};
-pub use shifting::shifted;
+pub use shifting::shifted_refusal;

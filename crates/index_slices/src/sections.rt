@@ -8,7 +8,7 @@ ghost use Rattle.index_parts.specs.Rows.{IsPostingsTable};
 ghost use Rattle.index_parts.specs.RowsReading.{postings_table_at};
 ghost use Rattle.index_slices.specs.Parts.{part_of, known, IsPartOf, HoldsSection, list_in};
 
-use crate::{IndexPart, shifted};
+use crate::{IndexPart, shifted_refusal};
 use index_parts::{
     PartRefusal, PostingsTable, SymbolTable, read_postings, read_postings_table, read_symbols,
 };
@@ -40,7 +40,7 @@ pub fn symbols_in<'a>(
 {
     match read_symbols(alloc, part.bytes, at - part.begin) {
         Ok(table) => Ok(table),
-        Err(refusal) => Err(shifted(refusal, part.begin)),
+        Err(refusal) => Err(shifted_refusal(refusal, part.begin)),
     }
 }
 
@@ -69,7 +69,7 @@ pub fn postings_table_in<'a>(
 {
     match read_postings_table(alloc, part.bytes, at - part.begin) {
         Ok(table) => Ok(table),
-        Err(refusal) => Err(shifted(refusal, part.begin)),
+        Err(refusal) => Err(shifted_refusal(refusal, part.begin)),
     }
 }
 
@@ -98,6 +98,6 @@ pub fn postings_in(alloc: Global, part: IndexPart<'_>, at: u64) -> Result<Number
     }
     match read_postings(alloc, part.bytes, at - part.begin) {
         Ok(numbers) => Ok(numbers),
-        Err(refusal) => Err(shifted(refusal, part.begin)),
+        Err(refusal) => Err(shifted_refusal(refusal, part.begin)),
     }
 }

@@ -1,12 +1,12 @@
 ghost use Rattle.std.specs.Prelude.{◌≡◌};
-ghost use Rattle.index_slices.specs.Shifting.{shifted, FitsShifted};
+ghost use Rattle.index_slices.specs.Shifting.{shifted_refusal, FitsShifted};
 
 use index_parts::PartRefusal;
 
 /// A refusal whose place was counted in a part that begins at `begin`, with its place in the index.
-pub fn shifted(refusal: PartRefusal, begin: u64) -> PartRefusal
+pub fn shifted_refusal(refusal: PartRefusal, begin: u64) -> PartRefusal
     requires { FitsShifted begin refusal }
-    ensures { result ≡ shifted begin refusal }
+    ensures { result ≡ shifted_refusal begin refusal }
 {
     match refusal {
         PartRefusal::Short(place) => PartRefusal::Short(begin + place),

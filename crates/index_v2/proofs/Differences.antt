@@ -15,7 +15,7 @@ use Rattle.index_parts.specs.declared.postings_row.PostingsRow.{PostingsRow}
 use Rattle.index_file.specs.declared.index_series.IndexSeries.{IndexSeries}
 use Rattle.index_parts.specs.Rows.{compare_rows}
 use Rattle.index_parts.specs.RowOrder.{compare_row, IsRowAt, StandsAt}
-use Rattle.index_v2.specs.WholeReading.{belongs, is_of_row, stray_from, gap_from, gap_of, gap_among, earlier, by_order}
+use Rattle.index_v2.specs.WholeReading.{belongs, is_of_row, stray_from, gap_from, gap_of, gap_among, earlier_place, by_order}
 use Rattle.std.proofs.lemmas.Cmp.{tied_itself}
 use Rattle.list_core.proofs.Order.{Less-at_places}
 use Rattle.list_core.proofs.Bools.{or_true, or_false}
@@ -174,26 +174,26 @@ gap_found rows lists number place name value label list seen test ascend n v man
 
 -- ---- the least of several places
 
-earlier-none : (a : Option ℕ) → earlier a None ≡ a
-earlier-none None = refl
-earlier-none (Some a) = refl
+earlier_place-none : (a : Option ℕ) → earlier_place a None ≡ a
+earlier_place-none None = refl
+earlier_place-none (Some a) = refl
 
 least_of_three : (a b c : ℕ) → min (min a b) c ≡ min a (min b c)
 least_of_three a b c = omega arith
 
-earlier-assoc : (a b c : Option ℕ) → earlier (earlier a b) c ≡ earlier a (earlier b c)
-earlier-assoc None b c = refl
-earlier-assoc (Some a) None c = refl
-earlier-assoc (Some a) (Some b) None = refl
-earlier-assoc (Some a) (Some b) (Some c) = ap Some (least_of_three a b c)
+earlier_place-assoc : (a b c : Option ℕ) → earlier_place (earlier_place a b) c ≡ earlier_place a (earlier_place b c)
+earlier_place-assoc None b c = refl
+earlier_place-assoc (Some a) None c = refl
+earlier_place-assoc (Some a) (Some b) None = refl
+earlier_place-assoc (Some a) (Some b) (Some c) = ap Some (least_of_three a b c)
 
 pub record GapsSoFar (rows : List PostingsRow) (lists : List (List ℕ)) (number : ℕ) (labels : List Label) (place : ℕ) (least : Option ℕ) : Type 0 where
-  pub whole : gap_of rows lists number labels ≡ earlier least (gap_of rows lists number (drop place labels))
+  pub whole : gap_of rows lists number labels ≡ earlier_place least (gap_of rows lists number (drop place labels))
 
 pub gaps_start : (rows : List PostingsRow) (lists : List (List ℕ)) (number : ℕ) (labels : List Label) → GapsSoFar rows lists number labels 0 None
 gaps_start _ _ _ _ = record { whole = refl }
 
-gap_of_more : (rows : List PostingsRow) (lists : List (List ℕ)) (number : ℕ) (label : Label) (labels : List Label) → gap_of rows lists number (label ∷ labels) ≡ earlier (gap_from 0 rows lists number label) (gap_of rows lists number labels)
+gap_of_more : (rows : List PostingsRow) (lists : List (List ℕ)) (number : ℕ) (label : Label) (labels : List Label) → gap_of rows lists number (label ∷ labels) ≡ earlier_place (gap_from 0 rows lists number label) (gap_of rows lists number labels)
 unfolding gap_of
 gap_of_more _ _ _ _ _ = refl
 
@@ -201,20 +201,20 @@ no_gap_of : (rows : List PostingsRow) (lists : List (List ℕ)) (number : ℕ) �
 unfolding gap_of
 no_gap_of _ _ _ = refl
 
-pub gaps_step : (rows : List PostingsRow) (lists : List (List ℕ)) (number : ℕ) (labels : List Label) (place : ℕ) (label : Label) (least here new : Option ℕ) → GapsSoFar rows lists number labels place least → place < length labels → label ≡ get_or labels place label → here ≡ gap_from 0 rows lists number label → new ≡ earlier least here → GapsSoFar rows lists number labels (place + 1) new
+pub gaps_step : (rows : List PostingsRow) (lists : List (List ℕ)) (number : ℕ) (labels : List Label) (place : ℕ) (label : Label) (least here new : Option ℕ) → GapsSoFar rows lists number labels place least → place < length labels → label ≡ get_or labels place label → here ≡ gap_from 0 rows lists number label → new ≡ earlier_place least here → GapsSoFar rows lists number labels (place + 1) new
 gaps_step rows lists number labels place label least _ _ far lt at h e =
     let front : drop place labels ≡ label ∷ drop (place + 1) labels = rw add-one (drop-cons _ _ _ lt ∙ ap (λ x. x ∷ drop (suc place) labels) (sym at)) in
     rw (e, h) (record {
-      whole = far.whole ∙ ap (λ xs. earlier least (gap_of rows lists number xs)) front ∙ ap (earlier least) (gap_of_more _ _ _ _ _) ∙ sym (earlier-assoc least (gap_from 0 rows lists number label) (gap_of rows lists number (drop (place + 1) labels)));
+      whole = far.whole ∙ ap (λ xs. earlier_place least (gap_of rows lists number xs)) front ∙ ap (earlier_place least) (gap_of_more _ _ _ _ _) ∙ sym (earlier_place-assoc least (gap_from 0 rows lists number label) (gap_of rows lists number (drop (place + 1) labels)));
     })
 
 pub gaps_end : (rows : List PostingsRow) (lists : List (List ℕ)) (number : ℕ) (labels : List Label) (place : ℕ) (least : Option ℕ) → GapsSoFar rows lists number labels place least → length labels ≤ place → least ≡ gap_of rows lists number labels
-gaps_end rows lists number _ _ least far le = sym (far.whole ∙ ap (λ xs. earlier least (gap_of rows lists number xs)) (drop_all _ _ le) ∙ ap (earlier least) (no_gap_of _ _ _) ∙ earlier-none _)
+gaps_end rows lists number _ _ least far le = sym (far.whole ∙ ap (λ xs. earlier_place least (gap_of rows lists number xs)) (drop_all _ _ le) ∙ ap (earlier_place least) (no_gap_of _ _ _) ∙ earlier_place-none _)
 
 pub record GapSoFar (rows : List PostingsRow) (lists : List (List ℕ)) (numbers : List ℕ) (series : List IndexSeries) (place : ℕ) (least : Option ℕ) : Type 0 where
-  pub whole : gap_among rows lists (zip numbers series) ≡ earlier least (gap_among rows lists (zip (drop place numbers) (drop place series)))
+  pub whole : gap_among rows lists (zip numbers series) ≡ earlier_place least (gap_among rows lists (zip (drop place numbers) (drop place series)))
 
-gap_among_more : (rows : List PostingsRow) (lists : List (List ℕ)) (number : ℕ) (one : IndexSeries) (numbers : List ℕ) (series : List IndexSeries) → gap_among rows lists (zip (number ∷ numbers) (one ∷ series)) ≡ earlier (gap_of rows lists number one.labels) (gap_among rows lists (zip numbers series))
+gap_among_more : (rows : List PostingsRow) (lists : List (List ℕ)) (number : ℕ) (one : IndexSeries) (numbers : List ℕ) (series : List IndexSeries) → gap_among rows lists (zip (number ∷ numbers) (one ∷ series)) ≡ earlier_place (gap_of rows lists number one.labels) (gap_among rows lists (zip numbers series))
 unfolding gap_among
 gap_among_more _ _ _ _ _ _ = refl
 
@@ -223,18 +223,18 @@ unfolding gap_among
 no_gap_among _ _ _ = refl
 
 pub gap_step : (rows : List PostingsRow) (lists : List (List ℕ)) (numbers : List ℕ) (series : List IndexSeries) (place number : ℕ) (one : IndexSeries) (labels : List Label) (least here new : Option ℕ)
-    → GapSoFar rows lists numbers series place least → length numbers ≡ length series → place < length numbers → number ≡ get_or numbers place 0 → one ≡ get_or series place one → labels ≡ one.labels → here ≡ gap_of rows lists number labels → new ≡ earlier least here → GapSoFar rows lists numbers series (place + 1) new
+    → GapSoFar rows lists numbers series place least → length numbers ≡ length series → place < length numbers → number ≡ get_or numbers place 0 → one ≡ get_or series place one → labels ≡ one.labels → here ≡ gap_of rows lists number labels → new ≡ earlier_place least here → GapSoFar rows lists numbers series (place + 1) new
 gap_step rows lists numbers series place number one labels least _ _ far many lt n at l h e =
     let numbers_front : drop place numbers ≡ number ∷ drop (place + 1) numbers = rw (add-one, n) (drop-cons _ _ 0 lt) in
     let series_front : drop place series ≡ one ∷ drop (place + 1) series = rw add-one (drop-cons series place one (omega arith) ∙ ap (λ (x : IndexSeries). x ∷ drop (suc place) series) (sym at)) in
-    let front : gap_among rows lists (zip (drop place numbers) (drop place series)) ≡ earlier (gap_of rows lists number one.labels) (gap_among rows lists (zip (drop (place + 1) numbers) (drop (place + 1) series))) = rw (numbers_front, series_front) (gap_among_more _ _ _ _ _ _) in
+    let front : gap_among rows lists (zip (drop place numbers) (drop place series)) ≡ earlier_place (gap_of rows lists number one.labels) (gap_among rows lists (zip (drop (place + 1) numbers) (drop (place + 1) series))) = rw (numbers_front, series_front) (gap_among_more _ _ _ _ _ _) in
     let here_is = h ∙ ap (gap_of rows lists number) l in
     rw (e, here_is) (record {
-      whole = far.whole ∙ ap (earlier least) front ∙ sym (earlier-assoc least (gap_of rows lists number one.labels) (gap_among rows lists (zip (drop (place + 1) numbers) (drop (place + 1) series))));
+      whole = far.whole ∙ ap (earlier_place least) front ∙ sym (earlier_place-assoc least (gap_of rows lists number one.labels) (gap_among rows lists (zip (drop (place + 1) numbers) (drop (place + 1) series))));
     })
 
 pub gap_end : (rows : List PostingsRow) (lists : List (List ℕ)) (numbers : List ℕ) (series : List IndexSeries) (place : ℕ) (least : Option ℕ) → GapSoFar rows lists numbers series place least → length numbers ≤ place → least ≡ gap_among rows lists (zip numbers series)
-gap_end rows lists _ series place least far le = sym (far.whole ∙ ap (λ xs. earlier least (gap_among rows lists (zip xs (drop place series)))) (drop_all _ _ le) ∙ ap (earlier least) (no_gap_among _ _ (drop place series)) ∙ earlier-none _)
+gap_end rows lists _ series place least far le = sym (far.whole ∙ ap (λ xs. earlier_place least (gap_among rows lists (zip xs (drop place series)))) (drop_all _ _ le) ∙ ap (earlier_place least) (no_gap_among _ _ (drop place series)) ∙ earlier_place-none _)
 
 -- ---- no place lies past the rows
 
@@ -242,7 +242,7 @@ abbrev pub IsWithin : ℕ → Option ℕ → Type 0
 IsWithin most None = Unit {0}
 IsWithin most (Some place) = place ≤ most
 
-earlier_within : (most : ℕ) (a b : Option ℕ) → IsWithin most a → IsWithin most b → IsWithin most (earlier a b)
+earlier_within : (most : ℕ) (a b : Option ℕ) → IsWithin most a → IsWithin most b → IsWithin most (earlier_place a b)
 earlier_within _ None b p q = q
 earlier_within _ (Some a) None p q = p
 earlier_within _ (Some a) (Some b) p q = omega arith
@@ -286,6 +286,6 @@ if_within : (most : ℕ) (o : Option ℕ) → IsWithin most o → IfSome o (λ p
 if_within _ None w = tt
 if_within _ (Some place) w = w
 
-pub difference_within : (rows : List PostingsRow) (lists : List (List ℕ)) (listed : List (ℕ × IndexSeries)) (result : Option ℕ) → result ≡ earlier (stray_from 0 rows lists listed) (gap_among rows lists listed) → IfSome result (λ place. place ≤ length rows)
+pub difference_within : (rows : List PostingsRow) (lists : List (List ℕ)) (listed : List (ℕ × IndexSeries)) (result : Option ℕ) → result ≡ earlier_place (stray_from 0 rows lists listed) (gap_among rows lists listed) → IfSome result (λ place. place ≤ length rows)
 difference_within rows lists listed result e =
     if_within (length rows) _ (subst (IsWithin (length rows)) (sym e) (earlier_within _ _ _ (stray_within _ 0 _ _ _ (omega arith)) (gap_among_within _ _ _ _ (omega arith))))

@@ -8,28 +8,29 @@ use Rattle.reading_core.specs.Reading.{◌>>=◌, Answers, Gives}
 use Rattle.reading_core.proofs.Binds.{bind_ok, unless_ok, ok_is, ok_or_ok}
 use Rattle.label_sets.specs.declared.label.Label.{Label}
 use Rattle.label_sets.specs.Labels.{compare_texts, ComesBefore}
-use Rattle.index_v2.specs.declared.label_fault.LabelFault.{LabelFault}
-use Rattle.index_v2.specs.declared.label_fault.LabelFault.TheVariants.{Name, Value}
+use Rattle.index_parts.specs.declared.refusal.PartRefusal.{PartRefusal}
+use Rattle.index_parts.specs.declared.refusal.PartRefusal.TheVariants.{Unordered}
+use Rattle.index_parts.specs.declared.raw_label.RawLabel.{RawLabel}
 use Rattle.index_v2.specs.SeriesLabels.{label_of, labels_of}
 
 -- what a label that is read is
-pub record IsLabelOf (symbols : List (List ℕ)) (before : List ℕ) (name value : ℕ) (label : Label) : Type 0 where
-  pub name_is : slice_get symbols name ≡ Some label.name
-  pub value_is : slice_get symbols value ≡ Some label.value
+pub record IsLabelOf (symbols : List (List ℕ)) (before : List ℕ) (raw : RawLabel) (label : Label) : Type 0 where
+  pub name_is : slice_get symbols raw.name.number ≡ Some label.name
+  pub value_is : slice_get symbols raw.value.number ≡ Some label.value
   pub ascends : ComesBefore before label.name
   pub some : 0 < length label.value
 
-pub label_parts : (symbols : List (List ℕ)) (before : List ℕ) (place name value : ℕ) (label : Label) → label_of symbols before place name value ≡ Ok label → IsLabelOf symbols before name value label
+pub label_parts : (symbols : List (List ℕ)) (before : List ℕ) (raw : RawLabel) (label : Label) → label_of symbols before raw ≡ Ok label → IsLabelOf symbols before raw label
 unfolding label_of
-label_parts symbols before place name value label e =
+label_parts symbols before raw label e =
     let n = bind_ok _ _ _ e in
     let ordered = unless_ok _ _ _ _ n.2 in
     let v = bind_ok _ _ _ ordered.1 in
     let long = unless_ok _ _ _ _ v.2 in
-    let same = ok_is {E = LabelFault} _ _ long.1 in
+    let same = ok_is {E = PartRefusal} _ _ long.1 in
     record {
-      name_is = ok_or_ok (slice_get symbols name) (Name place) n.0 n.1 ∙ ap (λ (l : Label). Some l.name) same;
-      value_is = ok_or_ok (slice_get symbols value) (Value place) v.0 v.1 ∙ ap (λ (l : Label). Some l.value) same;
+      name_is = ok_or_ok (slice_get symbols raw.name.number) (Unordered raw.name.place) n.0 n.1 ∙ ap (λ (l : Label). Some l.name) same;
+      value_is = ok_or_ok (slice_get symbols raw.value.number) (Unordered raw.value.place) v.0 v.1 ∙ ap (λ (l : Label). Some l.value) same;
       ascends = ap (λ (l : Label). compare_texts before l.name) (sym same) ∙ Less-from_is_lt (compare_texts before n.0) ordered.0;
       some = rw (← same) (ltb-true 0 (length v.0) long.0);
     }
@@ -42,13 +43,13 @@ pub moved : {A E : Type 0} (r : Result (List A) E) (x : A) (front : List A) → 
 moved (Ok xs) x front = ap Ok (sym (append_assoc front (x ∷ []) xs))
 moved (Err e) x _ = refl
 
-pub one_more : (symbols : List (List ℕ)) (before : List ℕ) (place name value : ℕ) (names values : List ℕ) (label : Label) → label_of symbols before place name value ≡ Ok label → labels_of symbols before place (name ∷ names) (value ∷ values) ≡ (labels_of symbols label.name (place + 1) names values >>= λ others. Ok (label ∷ others))
+pub one_more : (symbols : List (List ℕ)) (before : List ℕ) (raw : RawLabel) (others : List RawLabel) (label : Label) → label_of symbols before raw ≡ Ok label → labels_of symbols before (raw ∷ others) ≡ (labels_of symbols label.name others >>= λ labels. Ok (label ∷ labels))
 unfolding labels_of
-one_more _ _ _ _ _ _ _ _ e = rw e refl
+one_more _ _ _ _ _ e = rw e refl
 
-pub none_more : (symbols : List (List ℕ)) (before : List ℕ) (place name value : ℕ) (names values : List ℕ) (fault : LabelFault) → label_of symbols before place name value ≡ Err fault → labels_of symbols before place (name ∷ names) (value ∷ values) ≡ Err fault
+pub none_more : (symbols : List (List ℕ)) (before : List ℕ) (raw : RawLabel) (others : List RawLabel) (refusal : PartRefusal) → label_of symbols before raw ≡ Err refusal → labels_of symbols before (raw ∷ others) ≡ Err refusal
 unfolding labels_of
-none_more _ _ _ _ _ _ _ _ e = rw e refl
+none_more _ _ _ _ _ e = rw e refl
 
 -- ---- from a call's clauses
 

@@ -7,7 +7,7 @@ use Rattle.std.specs.List.{Contains}
 use Rattle.std.proofs.lemmas.Option.{same_Some}
 use Rattle.std.proofs.lemmas.Bool.{cases_lt, cases_order}
 use Rattle.list_core.proofs.Membership.{contains_first, contains_later, contains_place, place_of_member}
-use Rattle.index_v2.specs.WholeReading.{earlier, by_order}
+use Rattle.index_v2.specs.WholeReading.{earlier_place, by_order}
 
 -- the least place of which something holds; it holds of none where there is none
 abbrev pub IsLeast : (ℕ → Type 0) → Option ℕ → Type 0
@@ -46,7 +46,7 @@ least_of_two P Q one other p q =
           subst (λ m. IsLeast (λ k. P k ⊎ Q k) (Some m)) same (inr q.0, λ k less. neither P Q k (p.1 k (omega arith)) (q.1 k less))
     ]
 
-pub earlier_least : (P Q : ℕ → Type 0) (a b : Option ℕ) → IsLeast P a → IsLeast Q b → IsLeast (λ k. P k ⊎ Q k) (earlier a b)
+pub earlier_least : (P Q : ℕ → Type 0) (a b : Option ℕ) → IsLeast P a → IsLeast Q b → IsLeast (λ k. P k ⊎ Q k) (earlier_place a b)
 earlier_least P Q None None p q = λ k. neither P Q k (p k) (q k)
 earlier_least P Q None (Some other) p q = (inr q.0, λ k lt. neither P Q k (p k) (q.1 k lt))
 earlier_least P Q (Some one) None p q = (inl p.0, λ k lt. neither P Q k (p.1 k lt) (q k))
@@ -108,7 +108,7 @@ such_joined P x _ (inl p) = (x, contains_first x _, p)
 such_joined P x _ (inr h) = (h.0, contains_later x _ _ h.1, h.2)
 
 -- the least place for a list's members is the earlier of that for the first and that for the others
-pub such_least : {A : Type 0} (P : A → ℕ → Type 0) (x : A) (xs : List A) (a b : Option ℕ) → IsLeast (P x) a → IsLeast (λ k. HasSuch (λ y. P y k) xs) b → IsLeast (λ k. HasSuch (λ y. P y k) (x ∷ xs)) (earlier a b)
+pub such_least : {A : Type 0} (P : A → ℕ → Type 0) (x : A) (xs : List A) (a b : Option ℕ) → IsLeast (P x) a → IsLeast (λ k. HasSuch (λ y. P y k) xs) b → IsLeast (λ k. HasSuch (λ y. P y k) (x ∷ xs)) (earlier_place a b)
 such_least P x xs a b p q =
     least_as (λ k. P x k ⊎ HasSuch (λ y. P y k) xs) _ _
     (λ k. such_joined (λ y. P y k) x xs)

@@ -15,7 +15,7 @@ use Rattle.index_parts.specs.declared.postings_row.PostingsRow.{PostingsRow}
 use Rattle.index_file.specs.declared.index_series.IndexSeries.{IndexSeries}
 use Rattle.index_v2.specs.declared.lent_label.LentLabel.{LentLabel}
 use Rattle.index_v2.specs.LentLabels.{as_label}
-use Rattle.index_v2.specs.WholeReading.{gap_from, earlier}
+use Rattle.index_v2.specs.WholeReading.{gap_from, earlier_place}
 use Rattle.index_v2.proofs.Differences.{GapsSoFar, gaps_step}
 
 -- ---- their order
@@ -117,7 +117,7 @@ at_mapped (l ∷ ls) zero x d e lt at = ap as_label at
 at_mapped (l ∷ ls) (suc k) x d e lt at = at_mapped ls k x d e (omega arith) at
 
 pub lent_step : (rows : List PostingsRow) (lists : List (List ℕ)) (number : ℕ) (labels : List LentLabel) (place : ℕ) (x d : LentLabel) (least here new : Option ℕ) → GapsSoFar rows lists number (map as_label labels) place least → place < length labels → x ≡ get_or labels place d
-    → here ≡ gap_from 0 rows lists number (as_label x) → new ≡ earlier least here → GapsSoFar rows lists number (map as_label labels) (place + 1) new
+    → here ≡ gap_from 0 rows lists number (as_label x) → new ≡ earlier_place least here → GapsSoFar rows lists number (map as_label labels) (place + 1) new
 lent_step rows lists number labels place x d least here new far lt at is added =
     gaps_step rows lists _ _ _ _ _ _ _ far (omega (arith, length-map labels as_label)) (at_mapped _ _ x d _ lt at) is added
 

@@ -15,7 +15,8 @@ pub mod OverLaws
 pub mod SeriesSlices
 pub mod SeriesOutside
 pub mod LabelTexts
-pub mod LabelPlaces
+pub mod LabelledSeries
+pub mod Unplaced
 pub mod LabelsOwned
 pub mod WholeParts
 pub mod WholeLaws

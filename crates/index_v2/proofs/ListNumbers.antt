@@ -3,6 +3,7 @@ use Rattle.std.proofs.Common.{ℕ, zero, suc, ◌+◌, ◌^◌, ◌<◌, List, [
 use Rattle.std.specs.List.{All, AllByRecursion}
 use Rattle.std.specs.List.Sorted.{IsStrictlyIncreasing}
 use Rattle.std.proofs.lemmas.List.Elements.{All-from_recursion}
+use Rattle.list_core.proofs.Bools.{lt-from_Less}
 use Rattle.index_file.specs.IndexFile.{AreListed}
 use Rattle.index_parts.specs.Turns.{AreInTurn}
 use Rattle.index_parts.specs.Postings.{IsNextPosting, IsPostings}
@@ -11,7 +12,7 @@ use Rattle.index_parts.specs.declared.postings_row.PostingsRow.{PostingsRow}
 rising : (before : Option ℕ) (text numbers : List ℕ) → AreInTurn IsNextPosting before text numbers → IsStrictlyIncreasing numbers
 rising _ _ [] are k lt = absurd (omega arith)
 rising _ _ (n ∷ []) are k lt = absurd (omega arith)
-rising _ _ (n ∷ m ∷ numbers) are zero lt = are.3.2.rises
+rising _ _ (n ∷ m ∷ numbers) are zero lt = lt-from_Less n m are.3.2.rises
 rising before text (n ∷ m ∷ numbers) are (suc k) lt =
     subst (λ i. get_or (m ∷ numbers) k 0 < get_or (n ∷ m ∷ numbers) i 0) {x = suc (k + 1)} {y = suc k + 1} (omega arith) (rising _ _ (m ∷ numbers) are.3 k (omega arith))
 

@@ -19,7 +19,7 @@ use Rattle.index_slices.proofs.Longer.{framed_is, framed_refused, no_content, no
 use Rattle.index_v2.specs.declared.refusal.IndexRefusal.TheVariants.{BadSeries}
 use Rattle.index_v2.specs.Opening.{refused_of}
 use Rattle.index_v2.specs.SeriesLabels.{numbered_at}
-use Rattle.index_v2.proofs.LabelPlaces.{labelled_not_begun}
+use Rattle.index_v2.proofs.LabelledSeries.{labelled_not_begun}
 use Rattle.index_v2.proofs.SeriesSlices.{series_known_told}
 
 only_short : (d : WireRefusal) → (d ≡ wire.Overlong → ⊥) → d ≡ wire.Short

@@ -1,99 +1,95 @@
 -- A series of a number that is read in a part of an index, and the same in the index.
-use Rattle.std.proofs.Common.{◌≡◌, ℕ, ◌+◌, ◌-◌, ◌*◌, ◌^◌, ◌<◌, ◌≤◌, List, [], ◌++◌, length, Option, Some, None, Result, Ok, Err, refl, sym, ap, subst, ◌∙◌, arith, ◌⊎◌, inl, inr}
-use Rattle.std.specs.Prelude.{option_map, unwrap_or}
+use Rattle.std.proofs.Common.{◌≡◌, ℕ, ◌+◌, ◌-◌, ◌*◌, ◌^◌, ◌<◌, ◌≤◌, List, [], ◌∷◌, ◌++◌, length, Option, Some, None, Result, Ok, Err, refl, sym, ap, subst, ◌∙◌, arith, ◌⊎◌, inl, inr}
+use Rattle.std.specs.Prelude.{slice_get, nat_lt}
+use Rattle.std.specs.Ordering.{is_lt}
+use Rattle.std.specs.Option.{ok_or}
 use Rattle.std.proofs.lemmas.List.{length-replicate, length-map, drop_all}
-use Rattle.reading_core.specs.Reading.{◌>>=◌, refused_as, Gives}
+use Rattle.reading_core.specs.Reading.{refused_as, Gives}
 use Rattle.reading_core.specs.Grammar.{IsBytes}
 use Rattle.reading_core.proofs.Binds.{err_is}
 use Rattle.wire_bytes.specs.declared.refusal.WireRefusal.TheVariants as wire
 use Rattle.wire_bytes.specs.Fields.{groups_of, uvarint_at}
+use Rattle.wire_bytes.specs.Position.{Position}
 use Rattle.label_sets.specs.declared.label.Label.{Label}
+use Rattle.label_sets.specs.Labels.{compare_texts}
 use Rattle.index_parts.specs.declared.refusal.PartRefusal.{PartRefusal}
 use Rattle.index_parts.specs.declared.refusal.PartRefusal.TheVariants as part
-use Rattle.index_parts.specs.declared.raw_series.RawSeries.{RawSeries}
+use Rattle.index_parts.specs.declared.refusal.PartRefusal.TheVariants.{Unordered}
+use Rattle.index_parts.specs.declared.raw_label.SymbolNumber.{SymbolNumber}
+use Rattle.index_parts.specs.declared.raw_label.RawLabel.{RawLabel}
 use Rattle.index_parts.specs.Placed.{at_place}
-use Rattle.index_parts.specs.SeriesReading.{label_place_of, labels_begin_at, series_at}
+use Rattle.index_parts.specs.SeriesReading.{labels_begin_at, names_of, values_of}
 use Rattle.index_parts.proofs.SeriesLaws.{series_found}
 use Rattle.index_parts.proofs.SeriesLaws.{series_few as raw_few}
 use Rattle.index_file.specs.declared.index_series.IndexSeries.{IndexSeries}
 use Rattle.index_file.specs.IndexFile.{IsSeriesOf}
 use Rattle.index_slices.specs.Parts.{Part, known, IsPartOf, HoldsSeries}
-use Rattle.index_slices.specs.Shifting.{shifted}
-use Rattle.index_slices.proofs.Shifts.{IsWithin, IsSame, same_value, same_refusal, same_bind}
-use Rattle.index_slices.proofs.SeriesShifts.{AreFurther, same_series, same_label_place}
+use Rattle.index_slices.specs.Shifting.{shifted_refusal}
+use Rattle.index_slices.proofs.Shifts.{IsMoved, IsSame, same_value, same_refusal, same_bind, same_step, same_unless}
+use Rattle.index_slices.proofs.SeriesShifts.{IsFurther, LabelFurther, AreFurther, AreBehind, labels_same, begin_same, chunks_same}
 use Rattle.index_slices.proofs.Longer.{framed_refused}
 use Rattle.index_slices.proofs.Slices.{IsTold, told_from, room_behind}
-use Rattle.index_slices.proofs.SeriesSlices.{series_stands, series_in_index, place_in_index}
-use Rattle.index_v2.specs.declared.label_fault.LabelFault.{LabelFault}
-use Rattle.index_v2.specs.declared.label_fault.LabelFault.TheVariants.{Name, Value}
+use Rattle.index_slices.proofs.SeriesSlices.{series_stands, begin_in_index}
 use Rattle.index_v2.specs.declared.refusal.IndexRefusal.{IndexRefusal}
 use Rattle.index_v2.specs.declared.refusal.IndexRefusal.TheVariants.{BadSeries, NoMemory}
 use Rattle.index_v2.specs.Opening.{refused_of}
-use Rattle.index_v2.specs.SeriesLabels.{labels_of, fault_at, labelled_at, numbered_at}
+use Rattle.index_v2.specs.SeriesLabels.{label_of, labels_of, texts_at, labelled_at, numbered_at}
 use Rattle.index_v2.proofs.FewLaws.{as_many}
-use Rattle.index_v2.proofs.LabelPlaces.{labelled_not_begun}
-use Rattle.index_v2.proofs.LabelLaws.{series_parts, labels_found, set_from_chain}
+use Rattle.index_v2.proofs.LabelledSeries.{labelled_not_begun, labelled_parts}
+use Rattle.index_v2.proofs.LabelLaws.{labels_found, set_from_chain}
 
 -- ---- read in front of other bytes
 
 module _ (front : List ℕ) (most : ℕ) where
-  name_further : (o p : Option (ℕ × ℕ)) (k : ℕ) → AreFurther front most o p → k ≤ most → (unwrap_or (option_map (λ (x : ℕ × ℕ). x.0) p) (length front + k) ≡ length front + unwrap_or (option_map (λ (x : ℕ × ℕ). x.0) o) k) × (unwrap_or (option_map (λ (x : ℕ × ℕ). x.0) o) k ≤ most)
-  name_further None None k h le = (refl, le)
-  name_further None (Some y) k h le = absurd h
-  name_further (Some x) None k h le = absurd h
-  name_further (Some x) (Some y) k h le = (h.0, h.2)
+  abbrev Same : {A : Type 0} → Result A PartRefusal → Result A PartRefusal → Type 0
+  Same r s = IsSame front most (λ x y. x ≡ y) r s
 
-  value_further : (o p : Option (ℕ × ℕ)) (k : ℕ) → AreFurther front most o p → k ≤ most → (unwrap_or (option_map (λ (x : ℕ × ℕ). x.1) p) (length front + k) ≡ length front + unwrap_or (option_map (λ (x : ℕ × ℕ). x.1) o) k) × (unwrap_or (option_map (λ (x : ℕ × ℕ). x.1) o) k ≤ most)
-  value_further None None k h le = (refl, le)
-  value_further None (Some y) k h le = absurd h
-  value_further (Some x) None k h le = absurd h
-  value_further (Some x) (Some y) k h le = (h.1, h.3)
+  found_same : (o : Option (List ℕ)) (m n : SymbolNumber) → IsFurther front most m n → Same (ok_or o (Unordered m.place)) (ok_or o (Unordered n.place))
+  found_same (Some text) m n f = same_value front most (λ x y. x ≡ y) text text refl
+  found_same None m n f = same_refusal front most (λ x y. x ≡ y) _ _ (ap Unordered f.place_is) f.within
 
-  fault_same : (bytes : List ℕ) (at : ℕ) (fault : LabelFault) → length bytes ≤ most → at ≤ most → (fault_at (front ++ bytes) (length front + at) fault ≡ shifted (length front) (fault_at bytes at fault)) × IsWithin most (fault_at bytes at fault)
-  fault_same _ at (Name label) few le =
-      let f = name_further _ _ at (same_label_place _ _ _ at label few le) le in
-      (ap part.Unordered f.0, f.1)
-  fault_same _ at (Value label) few le =
-      let f = value_further _ _ at (same_label_place _ _ _ at label few le) le in
-      (ap part.Unordered f.0, f.1)
+  looked_up : (symbols : List (List ℕ)) (m n : SymbolNumber) → IsFurther front most m n → Same (ok_or (slice_get symbols m.number) (Unordered m.place)) (ok_or (slice_get symbols n.number) (Unordered n.place))
+  looked_up symbols m n f = rw (← f.number_is) (found_same (slice_get symbols m.number) m n f)
 
-  labels_same : (bytes : List ℕ) (at : ℕ) (r : Result (List Label) LabelFault) → length bytes ≤ most → at ≤ most → IsSame front most (λ x y. x ≡ y) (refused_as (fault_at bytes at) r) (refused_as (fault_at (front ++ bytes) (length front + at)) r)
-  labels_same _ _ (Ok labels) few le = same_value _ _ _ _ _ refl
-  labels_same _ at (Err fault) few le = let f = fault_same _ at fault few le in same_refusal _ _ _ _ _ f.0 f.1
+  label_same : (symbols : List (List ℕ)) (before : List ℕ) (x y : RawLabel) → LabelFurther front most x y → Same (label_of symbols before x) (label_of symbols before y)
+  unfolding label_of
+  label_same symbols before x y f =
+      same_bind front most (λ v w. v ≡ w) (λ v w. v ≡ w) _ _ _ _ (looked_up symbols x.name y.name f.0) (λ name other e same. rw (← same)
+      (same_unless front most (λ v w. v ≡ w) (is_lt (compare_texts before name)) _ _ _ _ (ap Unordered f.0.place_is) f.0.within (λ _.
+      same_bind front most (λ v w. v ≡ w) (λ v w. v ≡ w) _ _ _ _ (looked_up symbols x.value y.value f.1) (λ value other e same. rw (← same)
+      (same_unless front most (λ v w. v ≡ w) (nat_lt 0 (length value)) _ _ _ _ (ap Unordered f.1.place_is) f.1.within (λ _.
+      same_value front most (λ v w. v ≡ w) _ _ refl))))))
 
-  abbrev behind : List ℕ → List (List ℕ) → ℕ → RawSeries → Result IndexSeries PartRefusal
-  behind bytes symbols at series = refused_as (fault_at bytes at) (labels_of symbols [] 0 series.names series.values) >>= λ labels. Ok (record { labels = labels; chunks = series.chunks })
+  all_same : (symbols : List (List ℕ)) (before : List ℕ) (xs ys : List RawLabel) → AreFurther front most xs ys → Same (labels_of symbols before xs) (labels_of symbols before ys)
+  unfolding labels_of
+  all_same symbols before [] [] f = same_value front most (λ v w. v ≡ w) _ _ refl
+  all_same symbols before [] (y ∷ ys) f = absurd f
+  all_same symbols before (x ∷ xs) [] f = absurd f
+  all_same symbols before (x ∷ xs) (y ∷ ys) f =
+      same_bind front most (λ v w. v ≡ w) (λ v w. v ≡ w) _ _ _ _ (label_same symbols before x y f.0) (λ label other e same. rw (← same)
+      (same_bind front most (λ v w. v ≡ w) (λ v w. v ≡ w) _ _ _ _ (all_same symbols label.name xs ys f.1) (λ labels more e same.
+      same_value front most (λ v w. v ≡ w) _ _ (ap (λ ls. label ∷ ls) same))))
 
-  behind_same : (bytes : List ℕ) (symbols : List (List ℕ)) (at : ℕ) (series : RawSeries) → length bytes ≤ most → at ≤ most → IsSame front most (λ x y. x ≡ y) (behind bytes symbols at series) (behind (front ++ bytes) symbols (length front + at) series)
-  behind_same _ symbols at series few le =
-      same_bind _ _ _ _ _ _ _ _ (labels_same _ at (labels_of symbols [] 0 series.names series.values) few le)
-      (λ x y e same. same_value front most (λ x y. x ≡ y) _ _ (ap (λ labels. record { labels = labels; chunks = series.chunks }) same))
+  texts_same : (symbols : List (List ℕ)) (count : ℕ) (p q : Position) → IsMoved front most p q → IsSame front most (AreBehind front most Same) (texts_at symbols [] count p) (texts_at symbols [] count q)
+  unfolding texts_at
+  texts_same symbols count p q m =
+      same_bind front most (AreBehind front most (AreFurther front most)) (AreBehind front most Same) _ _ _ _ (labels_same front most count p q m) (λ x y e h.
+      same_value front most (AreBehind front most Same) _ _ (record { values = all_same symbols [] x.0 y.0 h.values; state = h.state }))
 
-  labelled_same : (bytes : List ℕ) (symbols : List (List ℕ)) (at : ℕ) → length bytes ≤ most → at ≤ most → IsSame front most (λ x y. x ≡ y) (labelled_at bytes symbols at) (labelled_at (front ++ bytes) symbols (length front + at))
+  labelled_same : (bytes : List ℕ) (symbols : List (List ℕ)) (at : ℕ) → length bytes ≤ most → at ≤ most → Same (labelled_at bytes symbols at) (labelled_at (front ++ bytes) symbols (length front + at))
   unfolding labelled_at
   labelled_same bytes symbols at few le =
-      same_bind _ _ _ _ _ _ _ _ (same_series _ _ _ at few le)
-      (λ x y e same. subst (λ z. IsSame front most (λ x y. x ≡ y) (behind bytes symbols at x) (behind (front ++ bytes) symbols (length front + at) z)) same (behind_same _ _ at x few le))
+      same_step front most (IsMoved front most) (λ v w. v ≡ w) _ _ _ _ (begin_same front most bytes at few le) (λ count p q e m.
+      same_bind front most (AreBehind front most Same) (λ v w. v ≡ w) _ _ _ _ (texts_same symbols count p q m) (λ x y e h.
+      same_bind front most (λ v w. v ≡ w) (λ v w. v ≡ w) _ _ _ _ (chunks_same front most x.1 y.1 h.state) (λ chunks others e same. rw (← same)
+      (same_bind front most (λ v w. v ≡ w) (λ v w. v ≡ w) _ _ _ _ h.values (λ labels more e same.
+      same_value front most (λ v w. v ≡ w) _ _ (ap (λ (labels : List Label). record { labels = labels; chunks = chunks }) same))))))
 
 -- ---- where the series lies within the part
 
-fault_in_index : (index other : List ℕ) (at : ℕ) → ((label : ℕ) → label_place_of index at label ≡ label_place_of other at label) → (fault : LabelFault) → fault_at index at fault ≡ fault_at other at fault
-fault_in_index _ _ _ same (Name label) = rw (same label) refl
-fault_in_index _ _ _ same (Value label) = rw (same label) refl
-
-labels_in_index : (index other : List ℕ) (at : ℕ) → ((label : ℕ) → label_place_of index at label ≡ label_place_of other at label) → (r : Result (List Label) LabelFault) → refused_as (fault_at index at) r ≡ refused_as (fault_at other at) r
-labels_in_index _ _ _ same (Ok labels) = refl
-labels_in_index _ _ at same (Err fault) = ap Err (fault_in_index _ _ at same fault)
-
-bind_of : {A B E : Type 0} (r : Result A E) (f g : A → Result B E) → ((x : A) → f x ≡ g x) → (r >>= f) ≡ (r >>= g)
-bind_of (Ok x) f g same = same x
-bind_of (Err d) f g same = refl
-
-labelled_in_index : (index other : List ℕ) (symbols : List (List ℕ)) (at : ℕ) → series_at index at ≡ series_at other at → ((label : ℕ) → label_place_of index at label ≡ label_place_of other at label) → labelled_at index symbols at ≡ labelled_at other symbols at
+labelled_by_begin : (index other : List ℕ) (symbols : List (List ℕ)) (at : ℕ) → labels_begin_at index at ≡ labels_begin_at other at → labelled_at index symbols at ≡ labelled_at other symbols at
 unfolding labelled_at
-labelled_in_index index _ symbols at series places =
-    ap (λ r. r >>= λ series. refused_as (fault_at index at) (labels_of symbols [] 0 series.names series.values) >>= λ labels. Ok (record { labels = labels; chunks = series.chunks })) series
-    ∙ bind_of _ _ _ (λ s. ap (λ r. r >>= λ labels. Ok (record { labels = labels; chunks = s.chunks })) (labels_in_index _ _ at places (labels_of symbols [] 0 s.names s.values)))
+labelled_by_begin _ _ _ _ e = rw e refl
 
 module _ (here : Part) (symbols : List (List ℕ)) (at : ℕ) (begins : here.begin ≤ at) (small : at < 2 ^ 64) (fits : here.begin + length here.bytes < 2 ^ 64) where
   told_behind : (front : List ℕ) → length front ≡ here.begin → IsTold here.begin (labelled_at here.bytes symbols (at - here.begin)) (labelled_at (front ++ here.bytes) symbols at)
@@ -109,38 +105,33 @@ module _ (here : Part) (symbols : List (List ℕ)) (at : ℕ) (begins : here.beg
 
   pub series_index_told : (index : List ℕ) → IsPartOf here index → HoldsSeries here at → IsTold here.begin (labelled_at here.bytes symbols (at - here.begin)) (labelled_at index symbols at)
   series_index_told _ is lies =
-      let same = labelled_in_index _ _ _ at (series_in_index _ _ at is lies) (place_in_index _ _ at is lies) in
+      let same = labelled_by_begin _ _ symbols at (begin_in_index _ _ at is lies) in
       subst (λ s. IsTold here.begin (labelled_at here.bytes symbols (at - here.begin)) s) (sym same) (told_behind _ is.begins)
 
 -- ---- what is read stands in the index
 
 pub series_stands_in : (here : Part) (index : List ℕ) (symbols : List (List ℕ)) (number : ℕ) (series : IndexSeries) → IsPartOf here index → here.begin ≤ 16 * number → IsBytes here.bytes → labelled_at here.bytes symbols (16 * number - here.begin) ≡ Ok series → IsSeriesOf index symbols number series
-series_stands_in _ index symbols number _ is le are e =
-    let p = series_parts _ _ _ _ e in
-    let stands = series_found _ _ _ are p.2 in
-    let labels = labels_found _ _ 0 _ _ _ stands.as_many p.3 in
-    let all : IsSeriesOf index symbols number (record { labels = p.1; chunks = p.0.chunks }) = record {
-      names = p.0.names;
-      values = p.0.values;
-      stands = series_stands _ _ _ _ is le stands;
+series_stands_in _ index symbols number series is le are e =
+    let p = labelled_parts _ _ _ _ e in
+    let labels = labels_found _ _ _ _ p.labels_are in
+    record {
+      names = names_of p.raws;
+      values = values_of p.raws;
+      stands = series_stands _ _ _ _ is le (series_found _ _ _ are p.stands);
       names_are = labels.0;
       values_are = labels.1;
       lawful = (set_from_chain _ _ labels.2).0;
-    } in
-    subst (IsSeriesOf index symbols number) p.4 all
+    }
 
 -- labels and chunks take bytes of the part
 pub series_few_in : (bytes : List ℕ) (symbols : List (List ℕ)) (at : ℕ) (series : IndexSeries) → IsBytes bytes → labelled_at bytes symbols at ≡ Ok series → 2 * length series.labels + 3 * length series.chunks ≤ length bytes
 series_few_in bytes symbols at series are e =
-    let p = series_parts _ _ at series e in
-    let stands = series_found _ at p.0 are p.2 in
-    let labels = labels_found _ _ 0 _ _ _ stands.as_many p.3 in
-    let few = raw_few bytes at p.0 stands in
+    let p = labelled_parts _ _ at series e in
+    let labels = labels_found _ _ _ _ p.labels_are in
+    let few = raw_few bytes at _ (series_found _ at _ are p.stands) in
     let names = as_many _ _ _ labels.0 in
     let values = as_many _ _ _ labels.1 in
-    let same_labels = ap (λ (s : IndexSeries). length s.labels) p.4 in
-    let same_chunks = ap (λ (s : IndexSeries). length s.chunks) p.4 in
-    omega (arith, length-map p.1 (λ l. l.value))
+    omega (arith, length-map series.labels (λ l. l.name), length-map series.labels (λ l. l.value))
 
 -- ---- from the series' own refusals to those of the call
 
@@ -148,8 +139,8 @@ module _ (number begin : ℕ) (r s : Result IndexSeries PartRefusal) (told : IsT
   pub number_found : (series : IndexSeries) → r ≡ Ok series → refused_as (refused_of number) s ≡ Ok series
   number_found series e = ap (refused_as (refused_of number)) (told.found series e)
 
-  pub number_refused : (d e : PartRefusal) (f : IndexRefusal) → e ≡ shifted begin d → f ≡ refused_of number e → (d ≡ part.NoMemory) ⊎ (r ≡ Err d) → (f ≡ NoMemory) ⊎ (refused_as (refused_of number) s ≡ Err f)
-  number_refused d e f shift is (inl none) = inl (is ∙ ap (refused_of number) (shift ∙ ap (shifted begin) none))
+  pub number_refused : (d e : PartRefusal) (f : IndexRefusal) → e ≡ shifted_refusal begin d → f ≡ refused_of number e → (d ≡ part.NoMemory) ⊎ (r ≡ Err d) → (f ≡ NoMemory) ⊎ (refused_as (refused_of number) s ≡ Err f)
+  number_refused d e f shift is (inl none) = inl (is ∙ ap (refused_of number) (shift ∙ ap (shifted_refusal begin) none))
   number_refused d e f shift is (inr h) = inr (ap (refused_as (refused_of number)) (told.refused d h) ∙ ap (λ x. Err (refused_of number x)) (sym shift) ∙ ap Err (sym is))
 
 -- ---- where no bytes are there

@@ -20,7 +20,7 @@ use Rattle.index_file.proofs.SeriesOrder.{series_total}
 use Rattle.index_v2.specs.declared.refusal.IndexRefusal.{IndexRefusal}
 use Rattle.index_v2.specs.SeriesLabels.{numbered_at}
 use Rattle.index_parts.specs.RowOrder.{compare_row}
-use Rattle.index_v2.specs.WholeReading.{may_stand_behind, behind_at, all_at, lists_at, gap_from, gap_of, gap_among, earlier, by_order}
+use Rattle.index_v2.specs.WholeReading.{may_stand_behind, behind_at, all_at, lists_at, gap_from, gap_of, gap_among, earlier_place, by_order}
 
 -- ---- the series in order
 
@@ -168,7 +168,7 @@ module _ (index : List ℕ) where
 
 -- ---- without a gap
 
-pub both_none : (a b : Option ℕ) → earlier a b ≡ None → (a ≡ None) × (b ≡ None)
+pub both_none : (a b : Option ℕ) → earlier_place a b ≡ None → (a ≡ None) × (b ≡ None)
 both_none None b e = (refl, e)
 both_none (Some a) None e = absurd cc
 both_none (Some a) (Some b) e = absurd cc

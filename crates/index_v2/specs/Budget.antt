@@ -19,7 +19,7 @@ members_of series = length series.labels + length series.chunks
 abbrev pub label_bytes : Label → ℕ
 label_bytes label = length label.name + length label.value
 
--- how many bytes of label texts an index gives at most for each byte of its own
+-- how many bytes of label texts are given at most for each byte of an index that is read
 abbrev pub text_share : ℕ
 text_share = 64
 

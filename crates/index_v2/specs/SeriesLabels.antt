@@ -1,64 +1,69 @@
 -- What reading a series gives, or the first refusal: first the series' own bytes, and then its symbol numbers from left to
 -- right.
-use Rattle.std.specs.Prelude.{ℕ, ◌+◌, ◌*◌, List, [], ◌∷◌, length, slice_get, option_map, unwrap_or, Result, Ok, Err, nat_lt}
+use Rattle.std.specs.Prelude.{ℕ, ◌*◌, List, [], ◌∷◌, length, slice_get, Result, Ok, Err, nat_lt}
 use Rattle.std.specs.Ordering.{is_lt}
 use Rattle.std.specs.Option.{ok_or}
 use Rattle.reading_core.specs.Reading.{◌>>=◌, ◌>>◌, unless, refused_as}
+use Rattle.reading_core.specs.Members.{members_at}
 use Rattle.label_sets.specs.declared.label.Label.{Label}
 use Rattle.label_sets.specs.Labels.{compare_texts}
 use Rattle.index_parts.specs.declared.refusal.PartRefusal.{PartRefusal}
-use Rattle.index_parts.specs.declared.refusal.PartRefusal.TheVariants as part
+use Rattle.index_parts.specs.declared.refusal.PartRefusal.TheVariants.{Unordered}
+use Rattle.index_parts.specs.declared.raw_label.RawLabel.{RawLabel}
 use Rattle.wire_bytes.specs.Position.{Position}
-use Rattle.index_parts.specs.SeriesReading.{labels_at, series_at, label_place_of}
+use Rattle.index_parts.specs.SeriesReading.{labels_begin_at, label_at, chunks_at}
 use Rattle.index_file.specs.declared.index_series.IndexSeries.{IndexSeries}
 use Rattle.index_file.specs.IndexFile.{series_unit}
-use Rattle.index_v2.specs.declared.label_fault.LabelFault.{LabelFault}
-use Rattle.index_v2.specs.declared.label_fault.LabelFault.TheVariants.{Name, Value}
 use Rattle.index_v2.specs.declared.refusal.IndexRefusal.{IndexRefusal}
 use Rattle.index_v2.specs.Opening.{refused_of}
 
--- the label of this place in the series: the name's number stands for a text above the name before it, and the value's for
--- one that is not empty
-unfoldable pub label_of : List (List ℕ) → List ℕ → ℕ → ℕ → ℕ → Result Label LabelFault
-label_of symbols before place name value = do
-  name ← ok_or (slice_get symbols name) (Name place)
-  unless (is_lt (compare_texts before name)) (Name place)
-  value ← ok_or (slice_get symbols value) (Value place)
-  unless (nat_lt 0 (length value)) (Value place)
+-- the texts of a label: the name's number stands for one above the name before it, and the value's for one that is not empty;
+-- else the place of the number that does not
+unfoldable pub label_of : List (List ℕ) → List ℕ → RawLabel → Result Label PartRefusal
+label_of symbols before raw = do
+  name ← ok_or (slice_get symbols raw.name.number) (Unordered raw.name.place)
+  unless (is_lt (compare_texts before name)) (Unordered raw.name.place)
+  value ← ok_or (slice_get symbols raw.value.number) (Unordered raw.value.place)
+  unless (nat_lt 0 (length value)) (Unordered raw.value.place)
   Ok (record { name = name; value = value })
 
--- the labels from this place on
-unfoldable pub labels_of : List (List ℕ) → List ℕ → ℕ → List ℕ → List ℕ → Result (List Label) LabelFault
-labels_of symbols before place [] values = Ok []
-labels_of symbols before place (name ∷ names) [] = Ok []
-labels_of symbols before place (name ∷ names) (value ∷ values) = do
-  label ← label_of symbols before place name value
-  others ← labels_of symbols label.name (place + 1) names values
-  Ok (label ∷ others)
+-- those of these labels, behind a name
+unfoldable pub labels_of : List (List ℕ) → List ℕ → List RawLabel → Result (List Label) PartRefusal
+labels_of symbols before [] = Ok []
+labels_of symbols before (raw ∷ others) = do
+  label ← label_of symbols before raw
+  labels ← labels_of symbols label.name others
+  Ok (label ∷ labels)
 
--- the labels of the next symbol numbers, of so many pairs, or which number is refused; and what follows the numbers
-unfoldable pub texts_at : List (List ℕ) → List ℕ → ℕ → ℕ → Position → Result (Result (List Label) LabelFault × Position) PartRefusal
-texts_at symbols before place count p = do
-  labels ← labels_at count p
-  Ok (labels_of symbols before place labels.0.0 labels.0.1, labels.1)
+-- labels of which it is not told where their numbers stand
+abbrev pub unplaced : ℕ → ℕ → RawLabel
+unplaced name value = record { name = record { number = name; place = 0 }; value = record { number = value; place = 0 } }
 
--- a fault that is told once the other labels have been passed
-unfoldable pub faulty_at : LabelFault → ℕ → Position → Result (Result (List Label) LabelFault × Position) PartRefusal
-faulty_at fault count p = do
-  labels ← labels_at count p
-  Ok (Err fault, labels.1)
+abbrev pub all_unplaced : List ℕ → List ℕ → List RawLabel
+all_unplaced [] values = []
+all_unplaced (name ∷ names) [] = []
+all_unplaced (name ∷ names) (value ∷ values) = unplaced name value ∷ all_unplaced names values
 
--- where a refused symbol number of the series at a place stands
-abbrev pub fault_at : List ℕ → ℕ → LabelFault → PartRefusal
-fault_at index at (Name label) = part.Unordered (unwrap_or (option_map (λ (p : ℕ × ℕ). p.0) (label_place_of index at label)) at)
-fault_at index at (Value label) = part.Unordered (unwrap_or (option_map (λ (p : ℕ × ℕ). p.1) (label_place_of index at label)) at)
+-- the texts of the next labels, so many, or the refusal of one of their numbers; and what follows the numbers
+unfoldable pub texts_at : List (List ℕ) → List ℕ → ℕ → Position → Result (Result (List Label) PartRefusal × Position) PartRefusal
+texts_at symbols before count p = do
+  labels ← members_at label_at count p
+  Ok (labels_of symbols before labels.0, labels.1)
+
+-- a refusal that is told once the other labels have been passed
+unfoldable pub faulty_at : PartRefusal → ℕ → Position → Result (Result (List Label) PartRefusal × Position) PartRefusal
+faulty_at refusal count p = do
+  labels ← members_at label_at count p
+  Ok (Err refusal, labels.1)
 
 -- the series at a place of the index
 unfoldable pub labelled_at : List ℕ → List (List ℕ) → ℕ → Result IndexSeries PartRefusal
 labelled_at index symbols at = do
-  series ← series_at index at
-  labels ← refused_as (fault_at index at) (labels_of symbols [] 0 series.names series.values)
-  Ok (record { labels = labels; chunks = series.chunks })
+  begin ← labels_begin_at index at
+  texts ← texts_at symbols [] begin.0 begin.1
+  chunks ← chunks_at texts.1
+  labels ← texts.0
+  Ok (record { labels = labels; chunks = chunks })
 
 -- the series of a number, which stands at sixteen times the number
 abbrev pub numbered_at : List ℕ → List (List ℕ) → ℕ → Result IndexSeries IndexRefusal

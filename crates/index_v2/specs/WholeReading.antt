@@ -95,24 +95,24 @@ gap_from place (row ∷ rows) (list ∷ lists) number label =
     by_order (compare_row row label.name label.value) (gap_from (place + 1) rows lists number label) (if list_any (λ n. n == number) list then None else Some place) (Some place)
 
 -- the lesser of two places, if there is one
-abbrev pub earlier : Option ℕ → Option ℕ → Option ℕ
-earlier None other = other
-earlier (Some one) None = Some one
-earlier (Some one) (Some other) = Some (min one other)
+abbrev pub earlier_place : Option ℕ → Option ℕ → Option ℕ
+earlier_place None other = other
+earlier_place (Some one) None = Some one
+earlier_place (Some one) (Some other) = Some (min one other)
 
 -- the least place of these for a series' labels
 unfoldable pub gap_of : List PostingsRow → List (List ℕ) → ℕ → List Label → Option ℕ
 gap_of rows lists number [] = None
-gap_of rows lists number (label ∷ labels) = earlier (gap_from 0 rows lists number label) (gap_of rows lists number labels)
+gap_of rows lists number (label ∷ labels) = earlier_place (gap_from 0 rows lists number label) (gap_of rows lists number labels)
 
 -- for all series
 unfoldable pub gap_among : List PostingsRow → List (List ℕ) → List (ℕ × IndexSeries) → Option ℕ
 gap_among rows lists [] = None
-gap_among rows lists (one ∷ listed) = earlier (gap_of rows lists one.0 one.1.labels) (gap_among rows lists listed)
+gap_among rows lists (one ∷ listed) = earlier_place (gap_of rows lists one.0 one.1.labels) (gap_among rows lists listed)
 
 -- the least place at which the lists are not exactly those of the series
 abbrev pub difference : List PostingsRow → List (List ℕ) → List (ℕ × IndexSeries) → Option ℕ
-difference rows lists listed = earlier (stray_from 0 rows lists listed) (gap_among rows lists listed)
+difference rows lists listed = earlier_place (stray_from 0 rows lists listed) (gap_among rows lists listed)
 
 abbrev pub unless_differ : Option ℕ → Result (Unit {0}) IndexRefusal
 unless_differ None = Ok tt

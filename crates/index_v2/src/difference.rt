@@ -1,7 +1,7 @@
 ghost use Rattle.std.specs.Prelude.{◌≡◌, ◌==◌, ◌^◌, ◌<◌, ◌≤◌, All, length, map, zip, None, Some, IfSome, if◌then◌else◌};
 ghost use Rattle.std.specs.List.{list_any, list_all};
 ghost use Rattle.index_v2.specs.LentLabels.{as_label};
-ghost use Rattle.index_v2.specs.WholeReading.{belongs, is_of_row, stray_from, gap_from, gap_of, gap_among, earlier, difference};
+ghost use Rattle.index_v2.specs.WholeReading.{belongs, is_of_row, stray_from, gap_from, gap_of, gap_among, earlier_place, difference};
 ghost use Rattle.std.specs.List.Sorted.{IsStrictlyIncreasing};
 
 use crate::nearby::{Spot, Walk, place_near};
@@ -10,8 +10,8 @@ use index_parts::Rows;
 use wire_bytes::NumberList;
 
 /// The lesser of two places, if there is one.
-fn earlier(one: Option<usize>, other: Option<usize>) -> Option<usize>
-    ensures { result ≡ earlier one other }
+fn earlier_place(one: Option<usize>, other: Option<usize>) -> Option<usize>
+    ensures { result ≡ earlier_place one other }
 {
     match (one, other) {
         (None, other) => other,
@@ -166,7 +166,7 @@ fn gap_of(
         let (gap, found) = gap_at(rows, lists, number, label, near[slot % 32]);
         near[slot % 32] = found;
         slot = slot.wrapping_add(1);
-        least = earlier(least, gap);
+        least = earlier_place(least, gap);
     }
     (least, near)
 }
@@ -189,7 +189,7 @@ pub(crate) fn first_gap(
         let labels = series[place].labels();
         let (gap, found) = gap_of(rows, lists, numbers[place], labels, near);
         near = found;
-        least = earlier(least, gap);
+        least = earlier_place(least, gap);
     }
     least
 }
@@ -209,7 +209,7 @@ pub(crate) fn difference(
     ensures few { length rows.now < 2 ^ 32 }
     ensures exact { result ≡ difference rows.now lists.now (zip numbers.now series.now) }
 {
-    earlier(
+    earlier_place(
         first_stray(rows, lists, numbers, series),
         first_gap(rows, lists, numbers, series),
     )

@@ -6,7 +6,7 @@ ghost use Rattle.index_v2.specs.LentLabels.{as_label};
 ghost use Rattle.index_v2.specs.SeriesLabels.{labelled_at};
 
 use crate::lent_order::{compare_lent, value_in};
-use crate::series_labels::{fault_at, texts_of};
+use crate::series_labels::texts_of;
 use crate::symbols::Symbols;
 use crate::{IndexSeries, LentLabel};
 use index_parts::{ChunkList, ChunkPlace, PartRefusal, before_labels, chunks_behind};
@@ -130,7 +130,7 @@ impl<'a> LentSeries<'a> {
         let chunks = chunks_behind(labels_end, chunks)?;
         match texts {
             Ok(labels) => Ok(LentSeries { labels, chunks }),
-            Err(fault) => Err(fault_at(index, at, fault)),
+            Err(refusal) => Err(refusal),
         }
     }
 }

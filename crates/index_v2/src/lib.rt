@@ -4,7 +4,6 @@
 mod budget;
 mod difference;
 mod index_reader;
-mod label_fault;
 mod lent_label;
 mod lent_order;
 mod lent_parts;

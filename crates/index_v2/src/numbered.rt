@@ -18,7 +18,7 @@ use crate::symbols::Symbols;
 use crate::{IndexRefusal, IndexSeries, LentSeries};
 use index_file::SERIES_UNIT;
 use index_parts::PartRefusal;
-use index_slices::{IndexPart, shifted};
+use index_slices::{IndexPart, shifted_refusal};
 use std::alloc::Global;
 
 #[inline(always)]
@@ -112,7 +112,7 @@ pub(crate) fn series_of(
         most,
     ) {
         Ok(series) => Ok(series),
-        Err(refusal) => Err(refused_of(number, shifted(refusal, part.begin))),
+        Err(refusal) => Err(refused_of(number, shifted_refusal(refusal, part.begin))),
     }
 }
 

@@ -5,12 +5,11 @@ ghost use Rattle.std.specs.Ordering.{is_lt};
 ghost use Rattle.reading_core.specs.Reading.{Answers, Gives};
 ghost use Rattle.label_sets.specs.Labels.{compare_texts};
 ghost use Rattle.index_v2.specs.LentLabels.{as_label};
-ghost use Rattle.index_v2.specs.SeriesLabels.{label_of, texts_at, faulty_at, fault_at};
+ghost use Rattle.index_v2.specs.SeriesLabels.{label_of, texts_at, faulty_at};
 
 use crate::LentLabel;
-use crate::label_fault::LabelFault;
 use crate::symbols::Symbols;
-use index_parts::{PartRefusal, label_place, next_label};
+use index_parts::{PartRefusal, RawLabel, next_label};
 use wire_bytes::Cursor;
 
 /// Whether one text stands before another. Most names are told apart by their first bytes.
@@ -28,25 +27,23 @@ fn is_before(one: &str, other: &str) -> bool
     left[0] < right[0]
 }
 
-/// The texts of a label's symbol numbers: the name is above the one before it, and the value is not empty.
+/// The texts of a label: the name is above the one before it, and the value is not empty.
 #[inline(always)]
 #[tactic(auto, unfolding(crate::specs::SeriesLabels::label_of))]
 fn label_of<'a>(
     symbols: &Symbols<'a>,
     before: &str,
-    place: usize,
-    name: u64,
-    value: u64,
-) -> Result<LentLabel<'a>, LabelFault>
-    ensures { Answers as_label result (label_of symbols.now before.now place name value) }
+    label: RawLabel,
+) -> Result<LentLabel<'a>, PartRefusal>
+    ensures { Answers as_label result (label_of symbols.now before.now label) }
 {
-    let name = match symbols.get(name) {
+    let name = match symbols.get(label.name.number) {
         Some(name) if is_before(before, name) => name,
-        _ => return Err(LabelFault::Name(place)),
+        _ => return Err(PartRefusal::Unordered(label.name.place)),
     };
-    match symbols.get(value) {
+    match symbols.get(label.value.number) {
         Some(value) if !value.is_empty() => Ok(LentLabel { name, value }),
-        _ => Err(LabelFault::Value(place)),
+        _ => Err(PartRefusal::Unordered(label.value.place)),
     }
 }
 
@@ -60,7 +57,7 @@ fn room_for(count: u64, left: usize) -> usize {
     }
 }
 
-/// The labels of so many pairs of symbol numbers, in place of those that the list has, or the number that is refused; and what
+/// The texts of so many labels, in place of those that the list has, or the refusal of one of their symbol numbers; and what
 /// follows the numbers.
 #[inline(always)]
 pub(crate) fn texts_of<'a, 'b>(
@@ -68,23 +65,23 @@ pub(crate) fn texts_of<'a, 'b>(
     count: u64,
     mut cursor: Cursor<'b>,
     mut labels: Vec<LentLabel<'a>>,
-) -> Result<(Result<Vec<LentLabel<'a>>, LabelFault>, Cursor<'b>), PartRefusal>
+) -> Result<(Result<Vec<LentLabel<'a>>, PartRefusal>, Cursor<'b>), PartRefusal>
     ensures { Gives PartRefusal.NoMemory
-        (λ x. (result_map_both (λ labels. map as_label labels.items) (λ fault. fault) x.0, x.1))
-        result (texts_at symbols.now [] 0 count cursor.entry) }
+        (λ x. (result_map_both (λ labels. map as_label labels.items) (λ refusal. refusal) x.0, x.1))
+        result (texts_at symbols.now [] count cursor.entry) }
 {
     labels.clear();
     labels.reserve_exact(room_for(count, cursor.rest().len()))?;
     let mut before = "";
     for place in 0..count {
-        let ((name, value), rest) = next_label(cursor)?;
+        let (label, rest) = next_label(cursor)?;
         cursor = rest;
-        match label_of(symbols, before, place as usize, name, value) {
+        match label_of(symbols, before, label) {
             Ok(label) => {
                 labels.push(label)?;
                 before = label.name;
             }
-            Err(fault) => return after_fault(fault, count - place - 1, cursor),
+            Err(refusal) => return after_fault(refusal, count - place - 1, cursor),
         }
     }
     Ok((Ok(labels), cursor))
@@ -93,33 +90,16 @@ pub(crate) fn texts_of<'a, 'b>(
 /// Passes the labels behind one that is refused, so that what cannot be read there is told first.
 #[inline(never)]
 fn after_fault<'a, 'b>(
-    fault: LabelFault,
+    refusal: PartRefusal,
     count: u64,
     mut cursor: Cursor<'b>,
-) -> Result<(Result<Vec<LentLabel<'a>>, LabelFault>, Cursor<'b>), PartRefusal>
+) -> Result<(Result<Vec<LentLabel<'a>>, PartRefusal>, Cursor<'b>), PartRefusal>
     ensures { Answers
-        (λ x. (result_map_both (λ labels. map as_label labels.items) (λ fault. fault) x.0, x.1))
-        result (faulty_at fault count cursor.entry) }
+        (λ x. (result_map_both (λ labels. map as_label labels.items) (λ refusal. refusal) x.0, x.1))
+        result (faulty_at refusal count cursor.entry) }
 {
     for _ in 0..count {
         (_, cursor) = next_label(cursor)?;
     }
-    Ok((Err(fault), cursor))
-}
-
-/// The refusal of the symbol number that is at fault.
-pub(crate) fn fault_at(index: &[u8], at: u64, fault: LabelFault) -> PartRefusal
-    ensures { result ≡ fault_at index.now at fault }
-{
-    let place = match fault {
-        LabelFault::Name(label) => match label_place(index, at, label) {
-            Some((name, _)) => name,
-            None => at,
-        },
-        LabelFault::Value(label) => match label_place(index, at, label) {
-            Some((_, value)) => value,
-            None => at,
-        },
-    };
-    PartRefusal::Unordered(place)
+    Ok((Err(refusal), cursor))
 }

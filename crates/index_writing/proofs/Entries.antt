@@ -1,5 +1,5 @@
 -- The labels of series as entries, and their order.
-use Rattle.std.proofs.Common.{◌≡◌, ℕ, ◌<◌, length, get_or, subst, List, [], ◌∷◌, ◌++◌, map, zip, refl, sym, ap, ◌∙◌}
+use Rattle.std.proofs.Common.{◌≡◌, ℕ, List, [], ◌∷◌, ◌++◌, map, zip, refl, sym, ap, ◌∙◌}
 use Rattle.std.specs.Cmp.{IsTotalOrder, IsStrictWeakOrder}
 use Rattle.std.specs.List.Sorted.{IsSorted, IsStable}
 use Rattle.std.proofs.lemmas.List.Sorted.{ranks_by}
@@ -9,9 +9,6 @@ use Rattle.label_sets.proofs.StableSorts.{in_order-from_sort}
 use Rattle.index_parts.specs.declared.raw_series.RawSeries.{RawSeries}
 use Rattle.index_writing.specs.declared.label_groups.Entry.{Entry}
 use Rattle.index_writing.specs.LabelGroups.{entries_of, all_entries, compare_entries, is_lesser_entry}
-use Rattle.std.specs.List.{AllByRecursion}
-use Rattle.index_writing.specs.WriteSteps.{IsStorable}
-use Rattle.list_core.proofs.Lists.{AllByRecursion-at}
 
 abbrev pub labels_with : ℕ → List ℕ → List ℕ → List Entry
 labels_with series names values = map (λ label. record { name = label.0; value = label.1; series = series }) (zip names values)
@@ -25,6 +22,10 @@ labels_law _ _ _ _ _ = refl
 pub no_labels : (series : ℕ) (values : List ℕ) → labels_with series [] values ≡ []
 no_labels _ _ = refl
 
+pub no_values : (series : ℕ) (names : List ℕ) → labels_with series names [] ≡ []
+no_values _ [] = refl
+no_values _ (name ∷ names) = refl
+
 pub all_law : (one : RawSeries) (number : ℕ) (series : List RawSeries) (numbers : List ℕ) → all_entries (one ∷ series) (number ∷ numbers) ≡ entries_of one number ++ all_entries series numbers
 unfolding all_entries
 all_law _ _ _ _ = refl
@@ -33,6 +34,11 @@ pub none_law : (numbers : List ℕ) → all_entries [] numbers ≡ []
 unfolding all_entries
 none_law _ = refl
 
+pub no_numbers : (series : List RawSeries) → all_entries series [] ≡ []
+unfolding all_entries
+no_numbers [] = refl
+no_numbers (one ∷ series) = refl
+
 pub entry_is : (one : RawSeries) (number : ℕ) → entries_of one number ≡ labels_with number one.names one.values
 unfolding entries_of
 entry_is _ _ = refl
@@ -40,9 +46,6 @@ entry_is _ _ = refl
 pub entries_added : (one : RawSeries) (number : ℕ) (names values : List ℕ) (old new : List Entry) → names ≡ one.names → values ≡ one.values → new ≡ old ++ labels_with number names values → new ≡ old ++ entries_of one number
 entries_added one number names values old _ names_are values_are is =
     is ∙ ap (λ l. old ++ labels_with number l values) names_are ∙ ap (λ l. old ++ labels_with number one.names l) values_are ∙ ap (λ l. old ++ l) (sym (entry_is _ _))
-
-pub as_many_at : (series : List RawSeries) (i : ℕ) (one : RawSeries) → AllByRecursion IsStorable series → i < length series → one ≡ get_or series i one → length one.names ≡ length one.values
-as_many_at _ i _ all lt at = subst (λ s. length s.names ≡ length s.values) (sym at) (AllByRecursion-at _ _ i _ all lt).0
 
 -- ---- their order
 

@@ -5,7 +5,7 @@ use Rattle.std.specs.List.{Contains}
 use Rattle.std.proofs.lemmas.List.{length-map, map-id}
 use Rattle.index_parts.specs.Turns.{InOrder}
 use Rattle.index_parts.specs.Contents.{IsToc}
-use Rattle.index_parts.specs.Symbols.{MayFollow, IsSymbols}
+use Rattle.index_parts.specs.Symbols.{IsSymbols}
 use Rattle.index_parts.specs.LabelIndices.{IsLabelOffsets, label_index_text}
 use Rattle.index_file.specs.declared.index_series.IndexSeries.{IndexSeries}
 use Rattle.index_writing.specs.declared.label_groups.NameValues.{NameValues}
@@ -19,6 +19,8 @@ use Rattle.index_writing.specs.Written.{label_index_texts, offset_rows, parts_of
 use Rattle.list_core.proofs.Lists.{zip_firsts, zip_seconds}
 use Rattle.list_core.proofs.Membership.{each_member, all_members, of_map, into_map}
 use Rattle.list_core.proofs.Pairs.{second_in_zip, beside_second}
+use Rattle.list_core.specs.Order.{ComesAfter}
+use Rattle.label_sets.specs.Labels.{compare_texts}
 use Rattle.index_writing.proofs.OrderedEntries.{pairs_so, pairs_in_order}
 use Rattle.index_writing.proofs.SymbolNumbers.{label_in, IsNumber, symbol_there, symbol_is, symbols_less}
 use Rattle.index_writing.proofs.AlignedTexts.{places_many}
@@ -98,9 +100,9 @@ module _ (list : List IndexSeries) where
         let texts = label_in list has.0 _ has.1 has.2 in
         (found.0, found.1, record { among = texts.0; is = found.2 ∙ row.2 }, row.0.value, found.3, symbol_is {list = list} (record { among = texts.1; is = row.3 }))
 
-    texts_ascend : InOrder MayFollow (map text_of names)
+    texts_ascend : InOrder (ComesAfter compare_texts) (map text_of names)
     texts_ascend =
-        pairs_in_order MayFollow text_of None names (all_members _ _ (λ name h. tt))
+        pairs_in_order (ComesAfter compare_texts) text_of None names (all_members _ _ (λ name h. tt))
         (pairs_so _ _ _ (λ one other h i less. symbols_less (some_label one h).1.name_is (some_label other i).1.name_is less) are_names.ascend)
 
     -- ---- a label index
@@ -155,7 +157,7 @@ module _ (list : List IndexSeries) where
           toc_is = toc;
           symbols_are = symbols;
           rows_are = subst (IsLabelOffsets (written list) (toc_of (parts_of list)).label_offsets) table_is offsets;
-          ascend = subst (InOrder MayFollow) (sym texts) texts_ascend;
+          ascend = subst (InOrder (ComesAfter compare_texts)) (sym texts) texts_ascend;
           only = λ name has. name_only name (subst (λ l. Contains l name) texts has);
           all = λ name value has. subst (λ l. Contains l name) (sym texts) (name_all name value has);
           indices = row_index;

@@ -1,6 +1,10 @@
 -- Postings lists and label indices stand at their places in a text that is not too long.
 use Rattle.std.proofs.Common.{◌≡◌, ℕ, ◌/◌, ◌^◌, ◌<◌, ◌≤◌, Bool, true, false, cond, List, [], ◌∷◌, ◌++◌, length, zip, fold, None, sym, ap, ◌∙◌, subst, arith, inl, inr, length-append, append_assoc}
 use Rattle.std.specs.Prelude.{bit_xor}
+use Rattle.std.specs.Ordering.{nat_cmp}
+use Rattle.std.specs.declared.cmp.Ordering.TheVariants.{Less}
+use Rattle.list_core.specs.Order.{ComesAfter}
+use Rattle.list_core.proofs.Bools.{nat_cmp-Less}
 use Rattle.std.specs.List.{All, AllByRecursion, flat_map, Contains, AllPairs}
 use Rattle.std.proofs.lemmas.List.{map-id}
 use Rattle.std.proofs.lemmas.Nat.{xor_of_32}
@@ -8,14 +12,14 @@ use Rattle.wire_bytes.specs.Crc.{crc, remainder, with_bit, castagnoli, coefficie
 use Rattle.index_parts.specs.Framed.{section_text, IsSection}
 use Rattle.index_parts.specs.LabelIndices.{IsLabelIndex, label_index_text}
 use Rattle.index_parts.specs.Turns.{InOrder}
-use Rattle.index_parts.specs.Postings.{Rises, IsPostings, postings_text}
+use Rattle.index_parts.specs.Postings.{IsPostings, postings_text}
 use Rattle.section_writers.proofs.Stands.{section_stands}
 use Rattle.section_writers.proofs.Writing.{postings_stand, values_stand}
 use Rattle.index_writing.specs.Aligned.{padded, each_at, places_at}
 use Rattle.index_writing.specs.WriteSteps.{greatest}
 use Rattle.list_core.proofs.Membership.{no_member, member_cases, all_members}
 use Rattle.list_core.proofs.Lists.{AllByRecursion-append}
-use Rattle.index_writing.proofs.OrderedEntries.{Below, pairs_in_order}
+use Rattle.index_writing.proofs.OrderedEntries.{Below, pairs_in_order, pairs_so}
 use Rattle.index_writing.proofs.SectionSizes.{section_least}
 use Rattle.index_writing.proofs.Standing.{each_begins}
 
@@ -81,8 +85,8 @@ stands_on _ more _ text _ stands is = record {
 -- ---- lists of numbers
 
 -- numbers that rise are in order
-pub in_order : (numbers : List ℕ) → AllPairs Below numbers → InOrder Rises numbers
-in_order numbers up = subst (InOrder Rises) (map-id numbers) (pairs_in_order Rises (λ n. n) None numbers (all_members _ _ (λ n h. tt)) up)
+pub in_order : (numbers : List ℕ) → AllPairs Below numbers → InOrder (ComesAfter nat_cmp) numbers
+in_order numbers up = subst (InOrder (ComesAfter nat_cmp)) (map-id numbers) (pairs_in_order (ComesAfter nat_cmp) (λ n. n) None numbers (all_members _ _ (λ n h. tt)) (pairs_so Below (λ x y. nat_cmp x y ≡ Less) numbers (λ x y _ _ less. nat_cmp-Less x y less) up))
 
 section_at : (whole : List ℕ) (place : ℕ) (content : List ℕ) → length whole ≤ greatest → StandsAt whole place (section_text content) → (length content < 2 ^ 32) × IsSection whole place content
 section_at whole _ content room stands =

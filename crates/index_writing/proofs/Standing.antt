@@ -1,10 +1,12 @@
 -- What stands in a text still stands where more is put behind it.
 use Rattle.std.proofs.Common.{◌≡◌, ℕ, ◌+◌, ◌*◌, ◌/◌, ◌<◌, ◌≤◌, List, [], ◌∷◌, ◌++◌, length, get_or, take, map, replicate, sym, ap, ◌∙◌, subst, arith, append_assoc, length-append}
 use Rattle.std.proofs.lemmas.List.{take_more, take_all, append-nil, length-replicate}
+use Rattle.list_core.specs.Order.{ComesAfter}
+use Rattle.label_sets.specs.Labels.{compare_texts}
 use Rattle.index_parts.specs.declared.raw_series.RawSeries.{RawSeries}
 use Rattle.index_parts.specs.Turns.{InOrder}
 use Rattle.index_parts.specs.SeriesEntry.{IsSeries, series_text}
-use Rattle.index_parts.specs.Symbols.{MayFollow, IsSymbols}
+use Rattle.index_parts.specs.Symbols.{IsSymbols}
 use Rattle.index_file.specs.declared.index_series.IndexSeries.{IndexSeries}
 use Rattle.index_writing.specs.SymbolsInUse.{symbols_of}
 use Rattle.index_writing.specs.Aligned.{gap, padded, each_at}
@@ -74,8 +76,8 @@ stands_end series i out numbers stand past = subst (λ l. EachStands out numbers
 
 -- ---- symbols
 
-pub symbols_still : (list : List IndexSeries) (symbols : List (List ℕ)) (out new : List ℕ) (series : List RawSeries) → symbols ≡ symbols_of list → new ≡ up_to_series out series → (InOrder MayFollow symbols → (after : List ℕ) → IsSymbols (out ++ after) 5 symbols) → (after : List ℕ) → IsSymbols (new ++ after) 5 (symbols_of list)
+pub symbols_still : (list : List IndexSeries) (symbols : List (List ℕ)) (out new : List ℕ) (series : List RawSeries) → symbols ≡ symbols_of list → new ≡ up_to_series out series → (InOrder (ComesAfter compare_texts) symbols → (after : List ℕ) → IsSymbols (out ++ after) 5 symbols) → (after : List ℕ) → IsSymbols (new ++ after) 5 (symbols_of list)
 symbols_still list symbols out new series is new_is stands after =
     let more = each_begins 16 out (map series_text series) in
-    let order : InOrder MayFollow symbols = subst (λ (l : List (List ℕ)). InOrder MayFollow l) (sym is) (symbols_in_order _ (symbols_strict _)) in
+    let order : InOrder (ComesAfter compare_texts) symbols = subst (λ (l : List (List ℕ)). InOrder (ComesAfter compare_texts) l) (sym is) (symbols_in_order _ (symbols_strict _)) in
     subst (λ l. IsSymbols (new ++ after) 5 l) is (subst (λ l. IsSymbols l 5 symbols) (sym (behind _ _ _ _ (new_is ∙ more.is))) (stands order (more.more ++ after)))

@@ -9,15 +9,15 @@ use Rattle.std.specs.Cmp.Lexicographic.{nat_list_cmp_total, nat_list_eq_equiv}
 use Rattle.std.proofs.lemmas.Cmp.{tied_itself}
 use Rattle.std.proofs.lemmas.List.Kept.{Contains-dedup}
 use Rattle.label_sets.specs.declared.label.Label.{Label}
-use Rattle.label_sets.specs.Labels.{compare_texts}
+use Rattle.label_sets.specs.Labels.{compare_texts, is_lesser_text}
 use Rattle.index_parts.specs.Turns.{InOrder}
-use Rattle.index_parts.specs.Symbols.{MayFollow}
 use Rattle.index_file.specs.declared.index_series.IndexSeries.{IndexSeries}
-use Rattle.index_writing.specs.SymbolsInUse.{is_lesser_text, texts_of_labels, texts_of, symbols_of, number_of, symbol_of}
+use Rattle.index_writing.specs.SymbolsInUse.{texts_of_labels, texts_of, symbols_of, number_of, symbol_of}
 use Rattle.list_core.proofs.Membership.{contains_first, contains_later, no_member, member_cases, each_member, all_members, into_flat_map, into_in_order}
 use Rattle.list_core.proofs.Order.{order_from_sorted, Less-at_places}
 use Rattle.index_writing.proofs.SortedTexts.{symbols_strict}
 use Rattle.list_core.proofs.Bools.{bytes_eq-same}
+use Rattle.list_core.specs.Order.{ComesAfter}
 
 -- ---- symbols in use
 
@@ -80,7 +80,7 @@ number_less (x ∷ symbols) text other up h less = elim (member_cases x _ _ h) [
 
 -- ---- symbols in order
 
-pub symbols_in_order : (symbols : List (List ℕ)) → IsStrictlySortedBy compare_texts symbols → InOrder MayFollow symbols
+pub symbols_in_order : (symbols : List (List ℕ)) → IsStrictlySortedBy compare_texts symbols → InOrder (ComesAfter compare_texts) symbols
 symbols_in_order _ up = order_from_sorted compare_texts None _ (all_members _ _ (λ x h. tt)) up
 
 -- ---- what the number of a symbol in use tells

@@ -1,9 +1,9 @@
 -- The rows of a postings table that is made row by row, and how large it gets.
-use Rattle.std.proofs.Common.{◌≡◌, ℕ, ◌+◌, ◌<◌, ◌≤◌, List, [], ◌∷◌, ◌++◌, length, get_or, drop, Result, Ok, Err, refl, sym, ap, ◌∙◌, subst, arith}
+use Rattle.std.proofs.Common.{◌≡◌, ℕ, ◌+◌, ◌<◌, ◌≤◌, List, [], ◌∷◌, ◌++◌, length, get_or, drop, Result, Ok, Err, refl, sym, ap, ◌∙◌, subst, arith, inl}
 use Rattle.std.specs.Prelude.{IfErr}
 use Rattle.std.specs.Result.{IsErrAnd}
 use Rattle.std.specs.List.{sum_by}
-use Rattle.std.proofs.lemmas.List.{drop_more}
+use Rattle.std.proofs.lemmas.List.{drop_more, drop_all}
 use Rattle.std.proofs.lemmas.List.Sums.{sum_by-append, sum_by-cons}
 use Rattle.index_parts.specs.declared.postings_row.PostingsRow.{PostingsRow}
 use Rattle.index_writing.specs.declared.label_groups.LabelRow.{LabelRow}
@@ -12,7 +12,8 @@ use Rattle.index_writing.specs.declared.write_refusal.IndexWriteRefusal.TheVaria
 use Rattle.index_writing.specs.SymbolsInUse.{symbol_of}
 use Rattle.index_writing.specs.WriteSteps.{greatest, Makes, Measures, row_size}
 use Rattle.index_writing.specs.Written.{label_rows, table_rows}
-use Rattle.index_writing.proofs.Walks.{two_step, two_end}
+use Rattle.section_writers.proofs.PairLists.{two_more, two_all}
+use Rattle.index_writing.proofs.Walks.{front_is}
 
 abbrev pub row_with : List (List ℕ) → LabelRow → ℕ → PostingsRow
 row_with symbols row place = record { name = symbol_of symbols row.name; value = symbol_of symbols row.value; offset = place }
@@ -28,6 +29,11 @@ pub no_rows : (symbols : List (List ℕ)) (places : List ℕ) → label_rows sym
 unfolding label_rows
 no_rows _ _ = refl
 
+no_places : (symbols : List (List ℕ)) (rows : List LabelRow) → label_rows symbols rows [] ≡ []
+unfolding label_rows
+no_places _ [] = refl
+no_places _ (row ∷ rows) = refl
+
 abbrev pub row_of_all : ℕ → PostingsRow
 row_of_all place = record { name = []; value = []; offset = place }
 
@@ -42,11 +48,11 @@ table_start symbols rows places _ _ many is made_is =
 
 pub table_step : (symbols : List (List ℕ)) (rows : List LabelRow) (places : List ℕ) (i : ℕ) (row : LabelRow) (place : ℕ) (made : PostingsRow) (old new whole : List PostingsRow) → old ++ label_rows symbols (drop i rows) (drop (i + 1) places) ≡ whole → i < length rows → length places ≡ length rows + 1 → row ≡ get_or rows i row → place ≡ get_or places (i + 1) 0 → made ≡ row_with symbols row place → new ≡ old ++ made ∷ []
     → new ++ label_rows symbols (drop (i + 1) rows) (drop ((i + 1) + 1) places) ≡ whole
-table_step symbols _ _ i row place _ old new whole so_far lt many at by made_is is =
-    two_step (label_rows symbols) (rows_with symbols) (rows_law _) _ _ i (i + 1) row row place 0 old new whole so_far lt (omega arith) at by (is ∙ ap (λ (r : PostingsRow). old ++ r ∷ []) made_is)
+table_step symbols rows places i row place _ old new whole so_far lt many at by made_is is =
+    two_more (label_rows symbols) (rows_with symbols) (rows_law _) _ _ _ _ row place old new whole (front_is rows i row row lt at) (front_is places (i + 1) place 0 (omega arith) by) so_far (is ∙ ap (λ (r : PostingsRow). old ++ r ∷ []) made_is)
 
 pub table_end : (symbols : List (List ℕ)) (rows : List LabelRow) (left : List ℕ) (i : ℕ) (old whole : List PostingsRow) → old ++ label_rows symbols (drop i rows) left ≡ whole → length rows ≤ i → old ≡ whole
-table_end symbols _ _ i _ _ so_far past = two_end (label_rows symbols) (rows_with symbols) (no_rows _) _ _ i _ _ so_far past
+table_end symbols _ _ i _ _ so_far past = two_all (label_rows symbols) (no_rows _) (no_places _) _ _ _ _ (inl (drop_all i _ past)) so_far
 
 -- ---- its size
 

@@ -1,16 +1,12 @@
 -- The symbols that a writer writes: the names and values that are in use.
-use Rattle.std.specs.Prelude.{ℕ, List, [], ◌∷◌, slice_get, unwrap_or, map, Bool}
+use Rattle.std.specs.Prelude.{ℕ, List, [], ◌∷◌, slice_get, unwrap_or, map}
 use Rattle.std.specs.List.{flat_map, dedup, prefix_len}
 use Rattle.std.specs.Str.{bytes_eq}
-use Rattle.std.specs.Ordering.{is_lt}
-use Rattle.label_sets.specs.Labels.{compare_texts}
+use Rattle.label_sets.specs.Labels.{is_lesser_text}
 use Rattle.label_sets.specs.Ordered.{in_order}
 use Rattle.label_sets.specs.declared.label.Label.{Label}
 use Rattle.index_parts.specs.declared.raw_series.RawSeries.{RawSeries}
 use Rattle.index_file.specs.declared.index_series.IndexSeries.{IndexSeries}
-
-abbrev pub is_lesser_text : List ℕ → List ℕ → Bool
-is_lesser_text one other = is_lt (compare_texts one other)
 
 -- the name and the value of each label
 abbrev pub texts_of_labels : List Label → List (List ℕ)

@@ -1,6 +1,4 @@
-ghost use Rattle.std.specs.Prelude.{◌≡◌, ◌++◌, map, zip, length, IfOk, OnOk};
-ghost use Rattle.std.specs.List.{AllByRecursion};
-ghost use Rattle.index_writing.specs.WriteSteps.{IsStorable};
+ghost use Rattle.std.specs.Prelude.{◌≡◌, ◌++◌, map, zip, IfOk, OnOk};
 ghost use Rattle.index_writing.specs.LabelGroups.{entries_of, all_entries, is_lesser_entry, grouped, row_of_entry, have_same_label, join_series, rows_of, values_of_row, have_same_name, join_values, names_of};
 ghost use Rattle.label_sets.specs.Ordered.{in_order};
 
@@ -39,17 +37,15 @@ fn add_entries(
     values: &[u64],
     series: u64,
 ) -> Result<(), NoMemory>
-    requires { length names.now ≡ length values.now }
     ensures { OnOk result
         (entries.new.items ≡ entries.old.items ++ map
         (λ label. record { name = label.0; value = label.1; series = series })
         (zip names.now values.now)) }
 {
-    for (place, name) in names.iter().enumerate() {
-        let value = values[place];
+    for (name, value) in names.iter().zip(values) {
         entries.push(Entry {
             name: *name,
-            value,
+            value: *value,
             series,
         })?;
     }
@@ -58,17 +54,15 @@ fn add_entries(
 
 /// The labels of all series.
 fn entries_of(alloc: Global, series: &[RawSeries], numbers: &[u64]) -> Result<Vec<Entry>, NoMemory>
-    requires as_many { length series.now ≡ length numbers.now }
-    requires lawful { AllByRecursion IsStorable series.now }
     ensures { IfOk result (λ entries. entries.items ≡ all_entries series.now numbers.now) }
 {
     let mut entries = Vec::new(alloc);
-    for (place, one) in series.iter().enumerate() {
+    for (one, number) in series.iter().zip(numbers) {
         add_entries(
             &mut entries,
             one.names.members(),
             one.values.members(),
-            numbers[place],
+            *number,
         )?;
     }
     Ok(entries)
@@ -215,8 +209,6 @@ pub(crate) fn rows_of(
     series: &[RawSeries],
     numbers: &[u64],
 ) -> Result<Vec<LabelRow>, NoMemory>
-    requires as_many { length series.now ≡ length numbers.now }
-    requires lawful { AllByRecursion IsStorable series.now }
     ensures { IfOk result (λ rows. rows.items ≡ rows_of (all_entries series.now numbers.now)) }
 {
     let mut entries = entries_of(alloc, series, numbers)?;

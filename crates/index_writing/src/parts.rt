@@ -1,9 +1,10 @@
 ghost use Rattle.std.specs.Prelude.{◌≡◌, ◌++◌, [], map, length, IfOk, OnOk, List, ℕ};
 ghost use Rattle.std.specs.List.{AllByRecursion};
+ghost use Rattle.list_core.specs.Order.{ComesAfter};
 ghost use Rattle.index_file.specs.IndexFile.{header};
-ghost use Rattle.label_sets.specs.Labels.{IsLabelSet};
+ghost use Rattle.label_sets.specs.Labels.{IsLabelSet, compare_texts};
 ghost use Rattle.index_parts.specs.Turns.{InOrder};
-ghost use Rattle.index_parts.specs.Symbols.{MayFollow, IsSymbols};
+ghost use Rattle.index_parts.specs.Symbols.{IsSymbols};
 ghost use Rattle.index_writing.specs.SymbolsInUse.{symbols_of};
 ghost use Rattle.index_writing.specs.WriteSteps.{greatest, Makes, EachStands};
 ghost use Rattle.index_writing.specs.Written.{AreWritable, up_to_symbols, with_series, parts_of};
@@ -45,7 +46,7 @@ fn put_front(out: &mut Vec<u8>, symbols: &TextList) -> Result<u64, IndexWriteRef
     requires { out.old.items ≡ [] }
     ensures makes { Makes result out.new.items (up_to_symbols symbols.now) }
     ensures end { IfOk result (λ end. end ≡ length (up_to_symbols symbols.now)) }
-    ensures stands { InOrder MayFollow symbols.now → (after : List ℕ)
+    ensures stands { InOrder (ComesAfter compare_texts) symbols.now → (after : List ℕ)
         → OnOk result (IsSymbols (out.new.items ++ after) 5 symbols.now) }
 {
     put_header(out)?;

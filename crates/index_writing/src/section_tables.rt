@@ -1,12 +1,14 @@
 ghost use Rattle.std.specs.Prelude.{◌≡◌, ◌++◌, ◌∷◌, [], ◌+◌, ◌*◌, ◌<◌, ◌≤◌, ◌^◌, map, zip, length, IfOk, OnOk, OnErr, IfErr, MatchBool, List, ℕ, MatchResult};
 ghost use Rattle.std.specs.List.{sum_by};
+ghost use Rattle.list_core.specs.Order.{ComesAfter};
+ghost use Rattle.label_sets.specs.Labels.{compare_texts};
 ghost use Rattle.index_parts.specs.Turns.{InOrder};
 ghost use Rattle.index_parts.specs.Contents.{IsToc, toc_text};
 ghost use Rattle.index_parts.specs.Framed.{text_field};
 ghost use Rattle.index_parts.specs.Lists.{list_content};
 ghost use Rattle.index_parts.specs.LabelIndices.{IsLabelOffsets, label_offsets_text};
 ghost use Rattle.index_parts.specs.Rows.{MayComeAfter, IsPostingsTable, postings_table_text, row_text};
-ghost use Rattle.index_parts.specs.Symbols.{MayFollow, IsSymbols, symbols_text};
+ghost use Rattle.index_parts.specs.Symbols.{IsSymbols, symbols_text};
 ghost use Rattle.index_writing.specs.WriteSteps.{greatest, Makes, Measures, text_size, row_size};
 ghost use Rattle.index_writing.specs.SymbolsInUse.{symbol_of};
 ghost use Rattle.index_writing.specs.Written.{name_texts, label_rows, table_rows};
@@ -47,7 +49,7 @@ fn size_of_texts(texts: &[Text]) -> Result<usize, IndexWriteRefusal>
 /// Appends the symbols.
 pub(crate) fn put_symbols(out: &mut Vec<u8>, symbols: &TextList) -> Result<(), IndexWriteRefusal>
     ensures makes { Makes result out.new.items (out.old.items ++ symbols_text symbols.now) }
-    ensures stands { InOrder MayFollow symbols.now → (after : List ℕ)
+    ensures stands { InOrder (ComesAfter compare_texts) symbols.now → (after : List ℕ)
         → OnOk result (IsSymbols (out.new.items ++ after) (length out.old.items) symbols.now) }
 {
     size_of_texts(symbols.members())?;

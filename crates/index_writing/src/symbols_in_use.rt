@@ -2,10 +2,10 @@ ghost use Rattle.std.specs.Prelude.{◌≡◌, ◌++◌, ◌∷◌, [], map, Lis
 ghost use Rattle.std.specs.List.{dedup, AllByRecursion};
 ghost use Rattle.std.specs.Str.{bytes_eq, IsUtf8};
 ghost use Rattle.std.specs.List.Sorted.{IsStrictlySortedBy};
-ghost use Rattle.label_sets.specs.Labels.{compare_texts, IsLabelSet};
+ghost use Rattle.label_sets.specs.Labels.{compare_texts, IsLabelSet, is_lesser_text};
 ghost use Rattle.label_sets.specs.Ordered.{in_order};
 ghost use Rattle.index_parts.specs.declared.raw_series.RawSeries.{RawSeries};
-ghost use Rattle.index_writing.specs.SymbolsInUse.{is_lesser_text, texts_of_labels, texts_of, symbols_of, number_of, symbol_of, raw_of};
+ghost use Rattle.index_writing.specs.SymbolsInUse.{texts_of_labels, texts_of, symbols_of, number_of, symbol_of, raw_of};
 
 use crate::lent_text::LentText;
 use index_file::IndexSeries;

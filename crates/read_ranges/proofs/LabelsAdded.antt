@@ -11,7 +11,7 @@ use Rattle.label_sets.specs.declared.label_refusal.LabelRefusal.{LabelRefusal}
 use Rattle.label_sets.specs.Labels.{ComesBefore, added}
 use Rattle.label_sets.proofs.LabelValues.{before_trans}
 use Rattle.index_v2.specs.Budget.{label_bytes}
-use Rattle.index_v2.specs.SeriesLabels.{label_of, labels_of}
+use Rattle.index_v2.specs.SeriesLabels.{label_of, labels_of, unplaced, all_unplaced}
 use Rattle.index_v2.proofs.LabelReading.{label_parts, again, moved, one_more, none_more}
 use Rattle.index_v2.proofs.LabelsOwned.{AllBefore, some_bytes, no_value, placed_last}
 use Rattle.index_v2.proofs.LabelLaws.{above_nothing, labels_none}
@@ -55,50 +55,50 @@ read_as (Err e) x some = absurd (cc (some))
 
 -- The labels are those of the front of the numbers: with what the numbers from this place on give, they are the whole.
 pub record AreNamed (symbols : List (List ℕ)) (names values before : List ℕ) (place : ℕ) (labels : List Label) : Type 0 where
-  pub whole : labels_of symbols [] 0 names values ≡ (labels_of symbols before place (drop place names) (drop place values) >>= λ others. Ok (labels ++ others))
+  pub whole : labels_of symbols [] (all_unplaced names values) ≡ (labels_of symbols before (all_unplaced (drop place names) (drop place values)) >>= λ others. Ok (labels ++ others))
   pub up : UpTo before labels
 
 module _ (symbols : List (List ℕ)) (names values : List ℕ) where
   pub named_begin : (before : List ℕ) (labels : List Label) → before ≡ [] → labels ≡ [] → AreNamed symbols names values before 0 labels
-  named_begin before labels first none = rw (first, none) (record { whole = again (labels_of symbols [] 0 names values); up = tt })
+  named_begin before labels first none = rw (first, none) (record { whole = again (labels_of symbols [] (all_unplaced names values)); up = tt })
 
   module _ (before : List ℕ) (place : ℕ) (labels : List Label) (far : AreNamed symbols names values before place labels) where
-    named_all : length names ≤ place → labels_of symbols [] 0 names values ≡ Ok labels
+    named_all : length names ≤ place → labels_of symbols [] (all_unplaced names values) ≡ Ok labels
     named_all le =
         far.whole ∙ ap (behind labels)
-        (ap (λ (l : List ℕ). labels_of symbols before place l (drop place values)) (drop_all place names le) ∙ labels_none symbols before place (drop place values)) ∙ ap Ok (append-nil labels)
+        (ap (λ (l : List ℕ). labels_of symbols before (all_unplaced l (drop place values))) (drop_all place names le) ∙ labels_none symbols before) ∙ ap Ok (append-nil labels)
 
-    pub named_end : length names ≤ place → Some labels ≡ result_ok (labels_of symbols [] 0 names values)
+    pub named_end : length names ≤ place → Some labels ≡ result_ok (labels_of symbols [] (all_unplaced names values))
     named_end le = sym (ap result_ok (named_all le))
 
     module _ (name value : ℕ) (lt : place < length names) (many : length names ≡ length values) (name_is : name ≡ get_or names place 0) (value_is : value ≡ get_or values place 0) where
-      next_pair : labels_of symbols before place (drop place names) (drop place values) ≡ labels_of symbols before place (name ∷ drop (place + 1) names) (value ∷ drop (place + 1) values)
+      next_pair : labels_of symbols before (all_unplaced (drop place names) (drop place values)) ≡ labels_of symbols before (unplaced name value ∷ all_unplaced (drop (place + 1) names) (drop (place + 1) values))
       next_pair =
-          ap₂ (labels_of symbols before place) (drop_more names place 0 lt ∙ ap (λ (n : ℕ). n ∷ drop (place + 1) names) (sym name_is))
+          ap₂ (λ (ns vs : List ℕ). labels_of symbols before (all_unplaced ns vs)) (drop_more names place 0 lt ∙ ap (λ (n : ℕ). n ∷ drop (place + 1) names) (sym name_is))
           (drop_more values place 0 (omega (arith, lt, many)) ∙ ap (λ (n : ℕ). n ∷ drop (place + 1) values) (sym value_is))
 
-      pub named_refused : None ≡ result_ok (label_of symbols before place name value) → None ≡ result_ok (labels_of symbols [] 0 names values)
+      pub named_refused : None ≡ result_ok (label_of symbols before (unplaced name value)) → None ≡ result_ok (labels_of symbols [] (all_unplaced names values))
       named_refused none =
-          let e = refused_at (label_of symbols before place name value) none in
+          let e = refused_at (label_of symbols before (unplaced name value)) none in
           sym (ap result_ok (far.whole ∙ ap (behind labels)
-          (next_pair ∙ none_more symbols before place name value (drop (place + 1) names) (drop (place + 1) values) e.0 e.1)))
+          (next_pair ∙ none_more symbols before (unplaced name value) (all_unplaced (drop (place + 1) names) (drop (place + 1) values)) e.0 e.1)))
 
-      module _ (label : Label) (new : List Label) (some : Some label ≡ result_ok (label_of symbols before place name value)) (adds : added labels label.name label.value ≡ Ok new) where
-        found : label_of symbols before place name value ≡ Ok label
-        found = read_as (label_of symbols before place name value) label some
+      module _ (label : Label) (new : List Label) (some : Some label ≡ result_ok (label_of symbols before (unplaced name value))) (adds : added labels label.name label.value ≡ Ok new) where
+        found : label_of symbols before (unplaced name value) ≡ Ok label
+        found = read_as (label_of symbols before (unplaced name value)) label some
 
         pub new_is : new ≡ labels ++ label ∷ []
         new_is =
-            let is = label_parts symbols before place name value label found in
+            let is = label_parts symbols before (unplaced name value) label found in
             added_last labels label new (below before label.name labels is.ascends far.up) (above_nothing before label.name is.ascends) (some-from_long label.value is.some) adds
 
         pub named_step : (next : ℕ) → next ≡ place + 1 → AreNamed symbols names values label.name next new
         named_step next next_is =
-            let is = label_parts symbols before place name value label found in
+            let is = label_parts symbols before (unplaced name value) label found in
             rw (next_is, new_is) (record {
               whole =
                   far.whole ∙ ap (behind labels)
-                  (next_pair ∙ one_more symbols before place name value (drop (place + 1) names) (drop (place + 1) values) label found) ∙ moved _ label labels;
+                  (next_pair ∙ one_more symbols before (unplaced name value) (all_unplaced (drop (place + 1) names) (drop (place + 1) values)) label found) ∙ moved _ label labels;
               up = up_to label.name labels label refl (below before label.name labels is.ascends far.up);
             })
 

@@ -1,9 +1,10 @@
 -- A series that is read in a part of an index, by the symbol numbers that stand there.
-use Rattle.std.proofs.Common.{◌≡◌, ℕ, ◌+◌, ◌-◌, ◌*◌, ◌^◌, ◌<◌, ◌≤◌, List, [], length, Option, Some, None, Result, Ok, Err, refl, ap, arith}
+use Rattle.std.proofs.Common.{◌≡◌, ℕ, ◌+◌, ◌-◌, ◌*◌, ◌^◌, ◌<◌, ◌≤◌, List, [], length, Option, Some, None, Result, Ok, Err, refl, sym, ap, ap₂, ◌∙◌, arith}
 use Rattle.std.specs.Prelude.{IsErr, IfOk, IfSome, option_map}
 use Rattle.std.specs.Result.{result_ok}
 use Rattle.list_core.specs.declared.memory.NoMemory.{NoMemory}
 use Rattle.reading_core.specs.Reading.{◌>>=◌, refused_as}
+use Rattle.reading_core.proofs.Binds.{by_result}
 use Rattle.label_sets.specs.declared.label.Label.{Label}
 use Rattle.index_parts.specs.declared.chunk_place.ChunkPlace.{ChunkPlace}
 use Rattle.index_parts.specs.declared.raw_series.RawSeries.{RawSeries}
@@ -13,7 +14,9 @@ use Rattle.index_slices.specs.Parts.{Part, known}
 use Rattle.index_slices.proofs.Slices.{IsTold}
 use Rattle.index_v2.specs.Budget.{text_bytes}
 use Rattle.index_v2.specs.Opening.{refused_of}
-use Rattle.index_v2.specs.SeriesLabels.{labels_of, fault_at, labelled_at, numbered_at}
+use Rattle.index_v2.specs.SeriesLabels.{labels_of, all_unplaced, labelled_at, numbered_at}
+use Rattle.index_v2.proofs.LabelledSeries.{StandsRaw, labelled_parts, raw_stands}
+use Rattle.index_v2.proofs.Unplaced.{labels_alike}
 use Rattle.index_v2.proofs.SeriesSlices.{series_known_told, number_found}
 use Rattle.read_ranges.specs.Findings.{ReadsAs}
 use Rattle.read_ranges.proofs.Readings.{err_of, is_err}
@@ -25,29 +28,35 @@ some_same : (one other : IndexSeries) → Some one ≡ Some other → other ≡ 
 some_same one other same = cc (same)
 
 -- the labels that are read, with chunks
-abbrev joined_to : {E F : Type 0} → (E → F) → List ChunkPlace → Result (List Label) E → Result IndexSeries F
-joined_to f chunks r = refused_as f r >>= λ labels. Ok (with_chunks chunks labels)
+abbrev joined_to : {E : Type 0} → List ChunkPlace → Result (List Label) E → Result IndexSeries E
+joined_to chunks r = r >>= λ labels. Ok (with_chunks chunks labels)
 
-joined : {E F : Type 0} (f : E → F) (r : Result (List Label) E) (chunks : List ChunkPlace) (one : IndexSeries) → Some one ≡ option_map (with_chunks chunks) (result_ok r) → joined_to f chunks r ≡ Ok one
-joined f (Ok labels) chunks one some = ap Ok (some_same one (with_chunks chunks labels) some)
-joined f (Err fault) chunks one some = absurd (cc (some))
+joined : {E : Type 0} (r : Result (List Label) E) (chunks : List ChunkPlace) (one : IndexSeries) → Some one ≡ option_map (with_chunks chunks) (result_ok r) → joined_to chunks r ≡ Ok one
+joined (Ok labels) chunks one some = ap Ok (some_same one (with_chunks chunks labels) some)
+joined (Err fault) chunks one some = absurd (cc (some))
 
-not_joined : {E F : Type 0} (f : E → F) (r : Result (List Label) E) (chunks : List ChunkPlace) → None ≡ option_map (with_chunks chunks) (result_ok r) → IsErr (joined_to f chunks r)
-not_joined f (Ok labels) chunks none = absurd (cc (none))
-not_joined f (Err fault) chunks none = refl
+not_joined : {E : Type 0} (r : Result (List Label) E) (chunks : List ChunkPlace) → None ≡ option_map (with_chunks chunks) (result_ok r) → IsErr (joined_to chunks r)
+not_joined (Ok labels) chunks none = absurd (cc (none))
+not_joined (Err fault) chunks none = refl
 
 module _ (bytes : List ℕ) (symbols : List (List ℕ)) (at : ℕ) where
-  labelled : (raw : RawSeries) (one : IndexSeries) → series_at bytes at ≡ Ok raw → Some one ≡ option_map (with_chunks raw.chunks) (result_ok (labels_of symbols [] 0 raw.names raw.values)) → labelled_at bytes symbols at ≡ Ok one
-  unfolding labelled_at
-  labelled raw one is named = rw is (joined (fault_at bytes at) (labels_of symbols [] 0 raw.names raw.values) raw.chunks one named)
+  module _ (raw : RawSeries) (is : series_at bytes at ≡ Ok raw) where
+    placed : StandsRaw bytes symbols at raw
+    placed = raw_stands bytes symbols at raw is
 
-  not_labelled : (raw : RawSeries) → series_at bytes at ≡ Ok raw → None ≡ option_map (with_chunks raw.chunks) (result_ok (labels_of symbols [] 0 raw.names raw.values)) → IsErr (labelled_at bytes symbols at)
-  unfolding labelled_at
-  not_labelled raw is none = rw is (not_joined (fault_at bytes at) (labels_of symbols [] 0 raw.names raw.values) raw.chunks none)
+    texts_same : option_map (with_chunks raw.chunks) (result_ok (labels_of symbols [] (all_unplaced raw.names raw.values))) ≡ option_map (with_chunks raw.chunks) (result_ok (labels_of symbols [] placed.raws))
+    texts_same =
+        ap₂ (λ (names values : List ℕ). option_map (with_chunks raw.chunks) (result_ok (labels_of symbols [] (all_unplaced names values)))) (sym placed.names_are) (sym placed.values_are)
+        ∙ ap (option_map (with_chunks raw.chunks)) (labels_alike symbols [] placed.raws)
+
+    labelled : (one : IndexSeries) → Some one ≡ option_map (with_chunks raw.chunks) (result_ok (labels_of symbols [] (all_unplaced raw.names raw.values))) → labelled_at bytes symbols at ≡ Ok one
+    labelled one named = placed.read_is ∙ joined (labels_of symbols [] placed.raws) raw.chunks one (named ∙ texts_same)
+
+    not_labelled : None ≡ option_map (with_chunks raw.chunks) (result_ok (labels_of symbols [] (all_unplaced raw.names raw.values))) → IsErr (labelled_at bytes symbols at)
+    not_labelled none = rw placed.read_is (not_joined (labels_of symbols [] placed.raws) raw.chunks (none ∙ texts_same))
 
   not_read : IsErr (series_at bytes at) → IsErr (labelled_at bytes symbols at)
-  unfolding labelled_at
-  not_read refused = let e = err_of (series_at bytes at) refused in rw e.1 refl
+  not_read refused = by_result (labelled_at bytes symbols at) (λ one read. absurd (let e = err_of (series_at bytes at) refused in let no = sym e.1 ∙ (labelled_parts bytes symbols at one read).stands in cc)) (λ e is. is_err (labelled_at bytes symbols at) e is)
 
 module _ (here : Part) (symbols : List (List ℕ)) (number : ℕ) (begins : here.begin ≤ 16 * number) (small : number < 2 ^ 32) (fits : here.begin + length here.bytes < 2 ^ 64) where
   told : IsTold here.begin (labelled_at here.bytes symbols (16 * number - here.begin)) (labelled_at (known here) symbols (16 * number))
@@ -62,9 +71,9 @@ module _ (here : Part) (symbols : List (List ℕ)) (number : ℕ) (begins : here
   series_refused is = refused (not_read here.bytes symbols (16 * number - here.begin) is)
 
   pub series_named : (raw : RawSeries) → series_at here.bytes (16 * number - here.begin) ≡ Ok raw → (r : Result (Option IndexSeries) NoMemory)
-      → IfOk r (λ found. found ≡ option_map (with_chunks raw.chunks) (result_ok (labels_of symbols [] 0 raw.names raw.values))) → IfOk r (ReadsAs (λ (one : IndexSeries). one) (numbered_at (known here) symbols number))
+      → IfOk r (λ found. found ≡ option_map (with_chunks raw.chunks) (result_ok (labels_of symbols [] (all_unplaced raw.names raw.values)))) → IfOk r (ReadsAs (λ (one : IndexSeries). one) (numbered_at (known here) symbols number))
   series_named raw is (Ok (Some one)) named =
-      number_found number here.begin _ _ told one (labelled here.bytes symbols (16 * number - here.begin) raw one is named)
+      number_found number here.begin _ _ told one (labelled here.bytes symbols (16 * number - here.begin) raw is one named)
   series_named raw is (Ok None) named = refused (not_labelled here.bytes symbols (16 * number - here.begin) raw is named)
   series_named raw is (Err none) named = tt
 

@@ -1,7 +1,8 @@
 -- Which ranges of segments are read: groups of chunks that stand near one another, and then the chunks that stick out.
-use Rattle.std.specs.Prelude.{◌≡◌, ◌↔◌, ℕ, ◌+◌, ◌-◌, ◌/◌, ◌%◌, ◌^◌, ◌≤◌, ℤ, int_le, List, Contains, Bool, ◌&&◌}
+use Rattle.std.specs.Prelude.{◌≡◌, ◌↔◌, ℕ, ◌+◌, ◌-◌, ◌/◌, ◌%◌, ◌≤◌, ℤ, int_le, List, Contains, Bool, ◌&&◌}
 use Rattle.std.specs.List.Sorted.{IsStrictlyIncreasing}
 use Rattle.index_parts.specs.declared.chunk_place.ChunkPlace.{ChunkPlace}
+use Rattle.index_parts.specs.SeriesEntry.{offset_count}
 use Rattle.read_ranges.specs.Stretches.{Stretch, members, last_of, AreStretches}
 use Rattle.read_ranges.specs.IndexRanges.{Piece}
 
@@ -18,12 +19,12 @@ pub record IsSetOf (list set : List ℕ) : Type 0 where
 
 -- the number of a reference's segment, which counts from 1, and the place in it
 abbrev pub segment_of : ℕ → ℕ
-segment_of reference = reference / 2 ^ 32 + 1
+segment_of reference = reference / offset_count + 1
 
 abbrev pub offset_of : ℕ → ℕ
-offset_of reference = reference % 2 ^ 32
+offset_of reference = reference % offset_count
 
--- how far behind another one a reference stands near it
+-- how far behind another one a reference may stand and still be near it
 abbrev pub reach : ℕ
 reach = 65_536
 

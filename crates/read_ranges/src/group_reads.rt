@@ -1,13 +1,15 @@
 //! The reads of groups of chunks.
-ghost use Rattle.std.specs.Prelude.{◌≡◌, ◌+◌, ◌*◌, ◌^◌, ◌<◌, ◌≤◌, map, All, length, IfOk};
+ghost use Rattle.std.specs.Prelude.{◌≡◌, ◌+◌, ◌*◌, ◌<◌, ◌≤◌, map, All, length, IfOk};
 ghost use Rattle.std.specs.List.Sorted.{IsStrictlyIncreasing};
 ghost use Rattle.block_keys.specs.Keys.{segment_limit};
+ghost use Rattle.index_parts.specs.SeriesEntry.{offset_count};
 ghost use Rattle.read_ranges.specs.Stretches.{stretch_at, IsSpanOf};
 ghost use Rattle.read_ranges.specs.ChunkRanges.{group_of};
 ghost use Rattle.read_ranges.specs.ToRead.{group_read, AreGroupsToRead};
 
 use crate::group_read::GroupRead;
 use crate::{ByteRange, Span, groups_of_references};
+use index_parts::OFFSET_COUNT;
 use list_core::NoMemory;
 use std::alloc::Global;
 use wire_bytes::NumberList;
@@ -18,7 +20,7 @@ const USUAL_SIZE: u64 = 4_096;
 /// The groups of references to chunks, which ascend, with what is read of each at first.
 pub fn groups_to_read(alloc: Global, references: &[u64]) -> Result<Vec<GroupRead>, NoMemory>
     requires rise { IsStrictlyIncreasing references.now }
-    requires keys { All (λ r. r < segment_limit * 2 ^ 32) references.now }
+    requires keys { All (λ r. r < segment_limit * offset_count) references.now }
     ensures { IfOk result (λ groups. AreGroupsToRead references.now groups.items) }
 {
     let spans = groups_of_references(alloc, references)?;
@@ -26,7 +28,7 @@ pub fn groups_to_read(alloc: Global, references: &[u64]) -> Result<Vec<GroupRead
 }
 
 fn all_groups(alloc: Global, references: &[u64], spans: &[Span]) -> Result<Vec<GroupRead>, NoMemory>
-    requires keys { All (λ r. r < segment_limit * 2 ^ 32) references.now }
+    requires keys { All (λ r. r < segment_limit * offset_count) references.now }
     requires within { All (IsSpanOf references.now) spans.now }
     ensures { IfOk result
         (λ groups. map group_read groups.items
@@ -40,17 +42,17 @@ fn all_groups(alloc: Global, references: &[u64], spans: &[Span]) -> Result<Vec<G
 }
 
 fn group_to_read(alloc: Global, references: &[u64], span: Span) -> Result<GroupRead, NoMemory>
-    requires keys { All (λ r. r < segment_limit * 2 ^ 32) references.now }
+    requires keys { All (λ r. r < segment_limit * offset_count) references.now }
     requires within { IsSpanOf references.now span }
     ensures { IfOk result (λ group. group_read group ≡ group_of (stretch_at references.now span)) }
 {
     let first = references[span.start];
     let last = references[span.end - 1];
     Ok(GroupRead {
-        segment: (first / 0x1_0000_0000) as u32 + 1,
+        segment: (first / OFFSET_COUNT) as u32 + 1,
         first,
         range: ByteRange {
-            from: first % 0x1_0000_0000,
+            from: first % OFFSET_COUNT,
             len: last.saturating_sub(first) + USUAL_SIZE,
         },
         references: NumberList::from_vec(Vec::from_slice(

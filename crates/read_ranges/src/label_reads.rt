@@ -1,9 +1,9 @@
 //! The labels of a series, by its symbol numbers.
-ghost use Rattle.std.specs.Prelude.{◌≡◌, ◌+◌, ◌≤◌, ℕ, [], length, sum_by, option_map, IfOk, IfSome, Ok};
+ghost use Rattle.std.specs.Prelude.{◌≡◌, ◌+◌, ◌≤◌, [], length, sum_by, option_map, IfOk, IfSome, Ok};
 ghost use Rattle.std.specs.Result.{result_ok};
 ghost use Rattle.label_sets.specs.Labels.{added};
 ghost use Rattle.index_v2.specs.Budget.{label_bytes, text_bytes};
-ghost use Rattle.index_v2.specs.SeriesLabels.{label_of, labels_of};
+ghost use Rattle.index_v2.specs.SeriesLabels.{label_of, labels_of, unplaced, all_unplaced};
 
 use crate::symbol_texts::SymbolTexts;
 use index_parts::RawSeries;
@@ -21,9 +21,8 @@ fn label_of<'a>(
     name: u64,
     value: u64,
 ) -> Option<(&'a str, &'a str)>
-    ensures { (place : ℕ) → option_map
-        (λ texts. record { name = texts.0.now; value = texts.1.now }) result
-        ≡ result_ok (label_of symbols.now before.now place name value) }
+    ensures { option_map (λ texts. record { name = texts.0.now; value = texts.1.now }) result
+        ≡ result_ok (label_of symbols.now before.now (unplaced name value)) }
 {
     let name = match symbols.get(name) {
         Some(name) if before < name => name,
@@ -58,7 +57,8 @@ fn labels_of(
 ) -> Result<Option<LabelSet>, NoMemory>
     requires { length names.now ≡ length values.now }
     ensures value { IfOk result
-        (λ found. found ≡ result_ok (labels_of symbols.now [] 0 names.now values.now)) }
+        (λ found. found
+        ≡ result_ok (labels_of symbols.now [] (all_unplaced names.now values.now))) }
     ensures texts { IfOk result (λ found. IfSome found (λ set. sum_by label_bytes set ≤ most)) }
 {
     let mut set = LabelSet::empty(alloc);
@@ -78,7 +78,7 @@ fn labels_of(
 
 /// A series with the texts of its symbol numbers, which come to so many bytes at most. None where
 /// one of the numbers is refused.
-pub fn named(
+pub fn named_series(
     alloc: Global,
     symbols: &SymbolTexts,
     raw: RawSeries,
@@ -87,7 +87,7 @@ pub fn named(
     requires { length raw.names ≡ length raw.values }
     ensures value { IfOk result (λ found. found
         ≡ option_map (λ labels. record { labels = labels; chunks = raw.chunks })
-        (result_ok (labels_of symbols.now [] 0 raw.names raw.values))) }
+        (result_ok (labels_of symbols.now [] (all_unplaced raw.names raw.values)))) }
     ensures texts { IfOk result (λ found. IfSome found (λ one. text_bytes one ≤ most)) }
 {
     let RawSeries {

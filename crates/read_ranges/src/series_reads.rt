@@ -10,7 +10,7 @@ ghost use Rattle.read_ranges.specs.IndexReads.{part_at};
 ghost use Rattle.read_ranges.specs.Asking.{piece_of};
 ghost use Rattle.read_ranges.specs.Findings.{ReadsAs, ReadsBehind};
 
-use crate::label_reads::named;
+use crate::label_reads::named_series;
 use crate::run_read::RunRead;
 use crate::symbol_texts::SymbolTexts;
 use index_file::SERIES_UNIT;
@@ -62,7 +62,7 @@ fn series_in(
         * (sum_by length symbols.now + length bytes.now))) }
 {
     match raw_at(alloc, bytes, SERIES_UNIT * number - run.range.from)? {
-        Some(raw) => named(alloc, symbols, raw, most_texts(symbols, bytes)),
+        Some(raw) => named_series(alloc, symbols, raw, most_texts(symbols, bytes)),
         None => Ok(None),
     }
 }

@@ -33,7 +33,7 @@ impl SymbolTexts {
     pub fn of_table(alloc: Global, table: &SymbolTable<'_>) -> Result<Self, NoMemory>
         ensures { IfOk result (λ texts. texts ≡ table.now) }
     {
-        let (bytes, places) = copied(alloc, table)?;
+        let (bytes, places) = texts_of_table(alloc, table)?;
         Ok(SymbolTexts { bytes, places })
     }
 
@@ -53,7 +53,7 @@ impl SymbolTexts {
 }
 
 /// The texts of a table, one behind another, and where they stand.
-fn copied(alloc: Global, table: &SymbolTable<'_>) -> Result<(Vec<u8>, Vec<Span>), NoMemory>
+fn texts_of_table(alloc: Global, table: &SymbolTable<'_>) -> Result<(Vec<u8>, Vec<Span>), NoMemory>
     ensures texts { IfOk result (λ x. AreTextsAt x.0.items x.1.items) }
     ensures value { IfOk result (λ x. texts_at x.0.items x.1.items ≡ table.now) }
 {

@@ -1,5 +1,5 @@
 -- The table of label indices as it is written.
-use Rattle.std.proofs.Common.{◌≡◌, ℕ, suc, ◌^◌, ◌<◌, ◌≤◌, List, [], ◌∷◌, ◌++◌, length, get_or, zip, Option, refl, sym, ap, ◌∙◌, length-append, arith}
+use Rattle.std.proofs.Common.{◌≡◌, ℕ, ◌^◌, ◌<◌, ◌≤◌, List, [], ◌∷◌, ◌++◌, length, zip, Option, refl, sym, ap, ◌∙◌, length-append, arith}
 use Rattle.std.specs.Int.{w32, to_be_bytes}
 use Rattle.std.specs.List.{AllByRecursion, flat_map}
 use Rattle.std.specs.Str.{IsUtf8}
@@ -24,13 +24,8 @@ offsets_few names offsets many fits = omega (arith, length-zip names offsets man
 pub offsets_content_is : (names : List (List ℕ)) (offsets : List ℕ) → length names ≡ length offsets → to_be_bytes w32 (length names) ++ flat_map offset_text (zip names offsets) ≡ list_content offset_text (zip names offsets)
 offsets_content_is names offsets many = ap (λ n. to_be_bytes w32 n ++ flat_map offset_text (zip names offsets)) (sym (length-zip _ _ many))
 
-abbrev Fits : List ℕ × ℕ → Type 0
+abbrev pub Fits : List ℕ × ℕ → Type 0
 Fits row = IsUtf8 row.0 × (row.1 < 2 ^ 64)
-
-rows_fit : (names : List (List ℕ)) (offsets : List ℕ) → AllByRecursion IsUtf8 names → ((k : ℕ) → get_or offsets k 0 < 2 ^ 64) → AllByRecursion Fits (zip names offsets)
-rows_fit [] _ utf8 fit = tt
-rows_fit (name ∷ names) [] utf8 fit = tt
-rows_fit (name ∷ names) (offset ∷ offsets) utf8 fit = ((utf8.0, fit 0), rows_fit names _ utf8.1 (λ k. fit (suc k)))
 
 any_order : (rows : List (List ℕ × ℕ)) (before : Option (List ℕ × ℕ)) → InOrderAfter (λ _ _. Unit {0}) before rows
 any_order [] _ = tt
@@ -48,9 +43,9 @@ offset_writing = record {
   };
 }
 
-pub offsets_stand : (index : List ℕ) (at : ℕ) (names : List (List ℕ)) (offsets : List ℕ) → length (list_content offset_text (zip names offsets)) < 2 ^ 32 → AllByRecursion IsUtf8 names → ((k : ℕ) → get_or offsets k 0 < 2 ^ 64) → IsSection index at (list_content offset_text (zip names offsets)) → IsLabelOffsets index at (zip names offsets)
-offsets_stand index at names offsets small utf8 fit section =
-    list_stands (λ _ text row. IsOffset text row) (λ _ _. Unit {0}) Fits offset_text offset_writing index at (zip names offsets) small (rows_fit _ _ utf8 fit) (any_order _ _) section
+pub offsets_stand : (index : List ℕ) (at : ℕ) (names : List (List ℕ)) (offsets : List ℕ) → length (list_content offset_text (zip names offsets)) < 2 ^ 32 → AllByRecursion Fits (zip names offsets) → IsSection index at (list_content offset_text (zip names offsets)) → IsLabelOffsets index at (zip names offsets)
+offsets_stand index at names offsets small fit section =
+    list_stands (λ _ text row. IsOffset text row) (λ _ _. Unit {0}) Fits offset_text offset_writing index at (zip names offsets) small fit (any_order _ _) section
 
 pub lent_content : (seen names : List (List ℕ)) (told offsets lent made : List ℕ) → lent ≡ made → made ≡ to_be_bytes w32 (length seen) ++ flat_map offset_text (zip seen told) → seen ≡ names → told ≡ offsets → length names ≡ length offsets → lent ≡ list_content offset_text (zip names offsets)
 lent_content _ names told _ _ _ a b c d many =

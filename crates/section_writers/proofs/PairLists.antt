@@ -1,24 +1,39 @@
--- Two lists that are written in pairs.
-use Rattle.list_core.proofs.Lists.{length-zip, AllByRecursion-push}
-use Rattle.std.proofs.Common.{◌≡◌, ℕ, ◌+◌, ◌<◌, ◌≤◌, List, [], ◌∷◌, ◌++◌, length, get_or, take, zip, sym, ap, subst, ◌∙◌, append_assoc, arith}
+-- Loops over two lists at once, which append what each pair makes: what is left, behind what was appended, makes the whole.
+use Rattle.list_core.proofs.Lists.{AllByRecursion-push}
+use Rattle.std.proofs.Common.{◌≡◌, ℕ, ◌+◌, ◌<◌, List, [], ◌∷◌, ◌++◌, length, get_or, take, zip, sym, ap, subst, ◌∙◌, refl, append_assoc, ◌⊎◌, inl, inr}
 use Rattle.std.specs.List.{AllByRecursion, flat_map}
-use Rattle.std.proofs.lemmas.List.{append-nil, take_all, take_more}
-use Rattle.std.proofs.lemmas.Slice.Zip.{get_or-zip}
-use Rattle.std.proofs.lemmas.Grind.{flat_map-append}
+use Rattle.std.proofs.lemmas.List.{append-nil, take_more}
+use Rattle.std.proofs.lemmas.List.Concat.{flat_map-cons}
+
+module _ {A B C : Type 0} (F : List A → List B → List C) where
+  pub two_more : (g : A → B → List C) → ((x : A) (y : B) (xs : List A) (ys : List B) → F (x ∷ xs) (y ∷ ys) ≡ g x y ++ F xs ys) → (xs rest : List A) (ys others : List B) (x : A) (y : B) (old new whole : List C) → xs ≡ x ∷ rest → ys ≡ y ∷ others → old ++ F xs ys ≡ whole → new ≡ old ++ g x y → new ++ F rest others ≡ whole
+  two_more g law xs rest ys others x y old new _ first second so_far is =
+      let next = ap (λ l. F l ys) first ∙ ap (F (x ∷ rest)) second ∙ law x y rest others in
+      ap (λ l. l ++ F rest others) is ∙ append_assoc old (g x y) (F rest others) ∙ ap (λ l. old ++ l) (sym next) ∙ so_far
+
+  pub two_all : ((ys : List B) → F [] ys ≡ []) → ((xs : List A) → F xs [] ≡ []) → (xs : List A) (ys : List B) (old whole : List C) → (xs ≡ []) ⊎ (ys ≡ []) → old ++ F xs ys ≡ whole → old ≡ whole
+  two_all none _ _ ys old _ (inl e) so_far = sym (append-nil old) ∙ ap (λ l. old ++ l) (sym (ap (λ l. F l ys) e ∙ none ys)) ∙ so_far
+  two_all _ none xs _ old _ (inr e) so_far = sym (append-nil old) ∙ ap (λ l. old ++ l) (sym (ap (F xs) e ∙ none xs)) ∙ so_far
 
 module _ {A B : Type 0} where
-  pub pairs_more : (text_of : A × B → List ℕ) (d : A) (e : B) (xs : List A) (ys : List B) (start old new : List ℕ) (i : ℕ) (x : A) (y : B) → old ≡ start ++ flat_map text_of (take i (zip xs ys)) → new ≡ old ++ text_of (x, y) → i < length xs → length xs ≡ length ys → x ≡ get_or xs i d → y ≡ get_or ys i e
-      → new ≡ start ++ flat_map text_of (take (i + 1) (zip xs ys))
-  pairs_more text_of d e xs ys start _ _ i x y before put lt many a b =
-      let z = zip xs ys in
-      let at = get_or-zip _ _ i _ lt (omega arith) ∙ ap (λ n. (n, get_or ys i e)) (sym a) ∙ ap (λ (o : B). (x, o)) (sym b) in
-      let more : take (i + 1) z ≡ take i z ++ (x, y) ∷ [] = take_more z i _ (omega (arith, length-zip xs ys many)) ∙ ap (λ (r : A × B). take i z ++ r ∷ []) at in
-      let texts : flat_map text_of (take (i + 1) z) ≡ flat_map text_of (take i z) ++ text_of (x, y) =
-      ap (λ l. flat_map text_of l) more ∙ flat_map-append text_of (take i z) ((x, y) ∷ []) ∙ ap (λ l. flat_map text_of (take i z) ++ l) (append-nil (text_of (x, y))) in
-      put ∙ ap (λ l. l ++ text_of (x, y)) before ∙ append_assoc start (flat_map text_of (take i z)) (text_of (x, y)) ∙ ap (λ l. start ++ l) (sym texts)
+  zip_nil : (xs : List A) (ys : List B) → ys ≡ [] → zip xs ys ≡ []
+  zip_nil [] ys e = refl
+  zip_nil (x ∷ xs) ys e = ap (zip (x ∷ xs)) e
 
-  pub pairs_all : (text_of : A × B → List ℕ) (xs : List A) (ys : List B) (start new : List ℕ) (i : ℕ) → new ≡ start ++ flat_map text_of (take i (zip xs ys)) → length xs ≤ i → length xs ≡ length ys → new ≡ start ++ flat_map text_of (zip xs ys)
-  pairs_all text_of xs ys start _ i e past many = e ∙ ap (λ l. start ++ flat_map text_of l) (take_all i (zip xs ys) (omega (arith, length-zip xs ys many)))
+  -- the texts of pairs
+  pub pairs_more : (text_of : A × B → List ℕ) (xs rest : List A) (ys others : List B) (x : A) (y : B) (old new whole : List ℕ) → (xs ≡ x ∷ rest) × (ys ≡ y ∷ others) → old ++ flat_map text_of (zip xs ys) ≡ whole → new ≡ old ++ text_of (x, y) → new ++ flat_map text_of (zip rest others) ≡ whole
+  pairs_more text_of xs rest ys others x y old new whole is so_far put = two_more (λ xs ys. flat_map text_of (zip xs ys)) (λ x y. text_of (x, y)) (λ x y xs ys. flat_map-cons text_of (x, y) (zip xs ys)) xs rest ys others x y old new whole is.0 is.1 so_far put
+
+  pub pairs_all : (text_of : A × B → List ℕ) (xs : List A) (ys : List B) (old whole : List ℕ) → (xs ≡ []) ⊎ (ys ≡ []) → old ++ flat_map text_of (zip xs ys) ≡ whole → old ≡ whole
+  pairs_all text_of = two_all (λ xs ys. flat_map text_of (zip xs ys)) (λ ys. refl) (λ xs. ap (flat_map text_of) (zip_nil xs [] refl))
+
+  -- what holds of the pairs that are left
+  pub fit_more : (P : A × B → Type 0) (xs rest : List A) (ys others : List B) (x : A) (y : B) → (xs ≡ x ∷ rest) × (ys ≡ y ∷ others) → P (x, y) → AllByRecursion P (zip rest others) → AllByRecursion P (zip xs ys)
+  fit_more P xs rest ys others x y is one all = subst (AllByRecursion P) (sym (ap (λ l. zip l ys) is.0 ∙ ap (zip (x ∷ rest)) is.1)) (one, all)
+
+  pub fit_end : (P : A × B → Type 0) (xs : List A) (ys : List B) → (xs ≡ []) ⊎ (ys ≡ []) → AllByRecursion P (zip xs ys)
+  fit_end P _ ys (inl e) = subst (λ l. AllByRecursion P (zip l ys)) (sym e) tt
+  fit_end P xs ys (inr e) = subst (AllByRecursion P) (sym (zip_nil xs ys e)) tt
 
 pub all_take_more : {A : Type 0} (P : A → Type 0) (d : A) (xs : List A) (i : ℕ) (x : A) → AllByRecursion P (take i xs) → P x → x ≡ get_or xs i d → i < length xs → AllByRecursion P (take (i + 1) xs)
 all_take_more {A} P d xs i x all one at lt = subst (λ l. AllByRecursion P l) (sym (take_more _ i d lt ∙ ap (λ n. take i xs ++ n ∷ []) (sym at))) (AllByRecursion-push P _ x all one)

@@ -23,6 +23,8 @@ pub section_stands : (before content after : List ℕ) → length content < 2 ^ 
 unfolding section_text
 section_stands before _ _ fits sum = framed_stands _ _ _ _ _ (record { digits = refl; fits = fits }) sum
 
-pub framed_written : {E : Type 0} (IsSize : List ℕ → ℕ → Type 0) (r : Result (Unit {0}) E) (old new size content after : List ℕ) (sum : ℕ) → OnOk r (new ≡ old ++ (size ++ content ++ to_be_bytes w32 (crc content))) → IsSize size (length content) → sum ≡ crc content → sum < 2 ^ 32 → OnOk r (IsFramed IsSize (new ++ after) (length old) content)
-framed_written IsSize (Ok x) old _ _ content after _ put is e small = subst (λ a. IsFramed IsSize (a ++ after) (length old) content) (sym put) (framed_stands _ _ _ _ _ is (omega arith))
-framed_written IsSize (Err d) _ _ _ _ _ _ put is e small = tt
+pub framed_written : {E : Type 0} (IsSize : List ℕ → ℕ → Type 0) (r put : Result (Unit {0}) E) (old written new size content after : List ℕ) (sum : ℕ) → r ≡ put → OnOk r (new ≡ written) → OnOk put (written ≡ old ++ (size ++ content ++ to_be_bytes w32 (crc content))) → IsSize size (length content) → sum ≡ crc content → sum < 2 ^ 32 → OnOk r (IsFramed IsSize (new ++ after) (length old) content)
+framed_written IsSize (Ok x) _ old written _ size content after _ same kept put is e small =
+    let is_put = subst (λ r. OnOk r (written ≡ old ++ (size ++ content ++ to_be_bytes w32 (crc content)))) (sym same) put in
+    subst (λ a. IsFramed IsSize (a ++ after) (length old) content) (sym (kept ∙ is_put)) (framed_stands _ _ _ _ _ is (omega arith))
+framed_written IsSize (Err d) _ _ _ _ _ _ _ _ same kept put is e small = tt

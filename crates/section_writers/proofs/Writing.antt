@@ -5,6 +5,8 @@ use Rattle.std.specs.Prelude.{OnOk}
 use Rattle.std.specs.Int.{Width, byte_len, w32, w64, to_be_bytes}
 use Rattle.std.specs.List.{All, AllByRecursion, flat_map}
 use Rattle.std.specs.Str.{IsUtf8}
+use Rattle.std.specs.Ordering.{nat_cmp}
+use Rattle.list_core.specs.Order.{ComesAfter}
 use Rattle.std.proofs.lemmas.List.{append-nil}
 use Rattle.std.proofs.lemmas.List.Elements.{recursion_from_All}
 use Rattle.std.proofs.lemmas.Result.{on_ok_weaker}
@@ -16,9 +18,10 @@ use Rattle.wire_bytes.proofs.GroupTexts.{uvarint_text_is}
 use Rattle.index_parts.specs.Turns.{AreInTurn, InOrderAfter, InOrder}
 use Rattle.index_parts.specs.Framed.{IsSection, IsText, text_field}
 use Rattle.index_parts.specs.Lists.{IsList, list_content}
-use Rattle.index_parts.specs.Symbols.{MayFollow, IsNextSymbol}
-use Rattle.index_parts.specs.Postings.{Rises, IsNextPosting, IsPostings}
+use Rattle.index_parts.specs.Symbols.{IsNextSymbol}
+use Rattle.index_parts.specs.Postings.{IsNextPosting, IsPostings}
 use Rattle.wire_bytes.specs.Crc.{crc}
+use Rattle.label_sets.specs.Labels.{compare_texts}
 use Rattle.index_parts.specs.declared.toc.Toc.{Toc}
 use Rattle.index_parts.specs.declared.postings_row.PostingsRow.{PostingsRow}
 use Rattle.index_parts.specs.Contents.{references_of, IsToc, references_text}
@@ -64,10 +67,10 @@ module _ {A : Type 0} (IsNext : Option A → List ℕ → A → Type 0) (Follows
     texts_are = turns_written None xs order fit (omega (arith, length-append (to_be_bytes w32 (length xs)) (flat_map text_of xs)));
   }
 
-  -- from the content that was appended, by how it was made
-  pub list_written : {E : Type 0} (r : Result (Unit {0}) E) (index : List ℕ) (at : ℕ) (appended made : List ℕ) (seen given : List A) → appended ≡ made → made ≡ list_content text_of seen → seen ≡ given → length (list_content text_of given) < 2 ^ 32 → AllByRecursion Fits given → InOrder Follows given → OnOk r (IsSection index at appended) → OnOk r (IsList IsNext index at given)
-  list_written r index at appended made seen given a b c small fit order section =
-      on_ok_weaker r (λ s. list_stands index at given small fit order (subst (IsSection index at) (a ∙ b ∙ ap (list_content text_of) c) s)) section
+  -- from the members that were lent
+  pub list_written : {E : Type 0} (r : Result (Unit {0}) E) (index : List ℕ) (at : ℕ) (lent given : List A) → lent ≡ given → length (list_content text_of given) < 2 ^ 32 → OnOk r (AllByRecursion Fits lent) → InOrder Follows given → OnOk r (IsSection index at (list_content text_of lent)) → OnOk r (IsList IsNext index at given)
+  list_written (Ok x) index at lent given same small fit order section = list_stands index at given small (subst (λ xs. AllByRecursion Fits xs) same fit) order (subst (λ xs. IsSection index at (list_content text_of xs)) same section)
+  list_written (Err e) _ _ _ _ same small fit order section = tt
 
 -- ---- symbols
 
@@ -85,7 +88,7 @@ uvarint_text_size n =
 pub text_field_size : (text : List ℕ) → 1 ≤ length (text_field text)
 text_field_size text = omega (arith, uvarint_text_size (length text), length-append (uvarint_text (length text)) text)
 
-pub symbol_writing : IsWrittenBy IsNextSymbol MayFollow IsUtf8 text_field
+pub symbol_writing : IsWrittenBy IsNextSymbol (ComesAfter compare_texts) IsUtf8 text_field
 symbol_writing = record {
   some = text_field_size;
   one = λ before x follows utf8 small. record { text_is = text_written x utf8 (omega (arith, length-append (uvarint_text (length x)) x)); ascends = follows };
@@ -96,11 +99,11 @@ symbol_writing = record {
 number_size : (n : ℕ) → 1 ≤ length (to_be_bytes w32 n)
 number_size n = omega arith
 
-pub posting_writing : IsWrittenBy IsNextPosting Rises (λ n. n < 2 ^ 32) (to_be_bytes w32)
+pub posting_writing : IsWrittenBy IsNextPosting (ComesAfter nat_cmp) (λ n. n < 2 ^ 32) (to_be_bytes w32)
 posting_writing = record { some = number_size; one = λ before n rises fits small. record { text_is = record { digits = refl; fits = fits }; rises = rises } }
 
-pub postings_stand : (index : List ℕ) (at : ℕ) (numbers : List ℕ) → length (list_content (to_be_bytes w32) numbers) < 2 ^ 32 → All (λ number. number < 2 ^ 32) numbers → InOrder Rises numbers → IsSection index at (list_content (to_be_bytes w32) numbers) → IsPostings index at numbers
-postings_stand index at numbers small all order section = list_stands IsNextPosting Rises (λ n. n < 2 ^ 32) (to_be_bytes w32) posting_writing index at numbers small (recursion_from_All (λ n. n < 2 ^ 32) _ all) order section
+pub postings_stand : (index : List ℕ) (at : ℕ) (numbers : List ℕ) → length (list_content (to_be_bytes w32) numbers) < 2 ^ 32 → All (λ number. number < 2 ^ 32) numbers → InOrder (ComesAfter nat_cmp) numbers → IsSection index at (list_content (to_be_bytes w32) numbers) → IsPostings index at numbers
+postings_stand index at numbers small all order section = list_stands IsNextPosting (ComesAfter nat_cmp) (λ n. n < 2 ^ 32) (to_be_bytes w32) posting_writing index at numbers small (recursion_from_All (λ n. n < 2 ^ 32) _ all) order section
 
 fixed_written : (w : Width) (numbers : List ℕ) → AllByRecursion (λ n. n < 2 ^ (8 * byte_len w)) numbers → AreTexts (IsFixed w) (flat_map (to_be_bytes w) numbers) numbers
 fixed_written w [] all = refl

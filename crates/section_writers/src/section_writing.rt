@@ -5,7 +5,7 @@ ghost use Rattle.wire_bytes.specs.Crc.{crc};
 ghost use Rattle.index_parts.specs.Framed.{IsSection, IsEntry, section_text, entry_text, text_field};
 
 use label_sets::Text;
-use list_core::NoMemory;
+use list_core::{NoMemory, cut_on_err};
 use wire_bytes::{crc_of, put_bytes, put_u32, put_uvarint};
 
 /// Appends a text behind its length.
@@ -62,10 +62,7 @@ pub(crate) fn append_summed(out: &mut Vec<u8>, content: &[u8]) -> Result<(), NoM
 {
     let start = out.len();
     let put = put_summed(out, content, crc_of(content));
-    if put.is_err() {
-        out.truncate(start);
-    }
-    put
+    cut_on_err(out, start, put)
 }
 
 /// Appends a section, with the length of its content in four bytes.
@@ -78,10 +75,7 @@ pub(crate) fn append_section(out: &mut Vec<u8>, content: &[u8]) -> Result<(), No
 {
     let start = out.len();
     let put = put_section(out, content, crc_of(content));
-    if put.is_err() {
-        out.truncate(start);
-    }
-    put
+    cut_on_err(out, start, put)
 }
 
 /// Appends an entry, with the length of its content in base 128.
@@ -93,8 +87,5 @@ pub(crate) fn append_entry(out: &mut Vec<u8>, content: &[u8]) -> Result<(), NoMe
 {
     let start = out.len();
     let put = put_entry(out, content, crc_of(content));
-    if put.is_err() {
-        out.truncate(start);
-    }
-    put
+    cut_on_err(out, start, put)
 }

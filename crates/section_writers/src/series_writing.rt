@@ -17,14 +17,13 @@ fn put_label(out: &mut Vec<u8>, name: u64, value: u64) -> Result<(), NoMemory>
 }
 
 fn put_labels(out: &mut Vec<u8>, names: &[u64], values: &[u64]) -> Result<(), NoMemory>
-    requires { length names.now ≡ length values.now }
     ensures ok { OnOk result
         (out.new.items ≡ out.old.items ++ flat_map label_text (zip names.now values.now)) }
     ensures names { (k : ℕ) → slice_index names.now k < 2 ^ 64 }
     ensures values { (k : ℕ) → slice_index values.now k < 2 ^ 64 }
 {
-    for (place, name) in names.iter().enumerate() {
-        put_label(out, *name, values[place])?;
+    for (name, value) in names.iter().zip(values) {
+        put_label(out, *name, *value)?;
     }
     Ok(())
 }
@@ -114,8 +113,7 @@ fn usual_size(labels: usize, chunks: usize) -> usize {
 /// The content of a series.
 #[tactic(auto, unfolding(index_parts::specs::SeriesEntry::labels_text))]
 fn content_of(alloc: Global, series: &RawSeries) -> Result<Vec<u8>, NoMemory>
-    requires as_many { length series.now.names ≡ length series.now.values }
-    requires chunks { InOrder StartsAfter series.now.chunks }
+    requires { InOrder StartsAfter series.now.chunks }
     ensures ok { IfOk result (λ content. content.items ≡ series_content series.now) }
     ensures names { OnOk result ((k : ℕ) → slice_index series.now.names k < 2 ^ 64) }
     ensures values { OnOk result ((k : ℕ) → slice_index series.now.values k < 2 ^ 64) }

@@ -32,7 +32,7 @@ use Rattle.index_v2.proofs.HeldLaws.{opened_whole}
 use Rattle.index_v2.proofs.ReadersOf.{whole_holds}
 use Rattle.index_v2.proofs.PostingsLaws.{opened_is}
 use Rattle.series_selection.specs.Selections.{decides, deciding, rows_read, IsSelection, AreMatching}
-use Rattle.series_selection.specs.SelectionSteps.{kept, numbers_at, left_by_rows, selected_at, ListsStand}
+use Rattle.series_selection.specs.SelectionSteps.{kept_numbers, numbers_at, left_by_rows, selected_at, ListsStand}
 use Rattle.series_selection.proofs.Walk.{ok_same, stand_same, stand_append}
 use Rattle.series_selection.proofs.Taking.{is_selection}
 use Rattle.series_selection.proofs.Endings.{lists_same}
@@ -43,14 +43,14 @@ use Rattle.series_selection.proofs.Matching.{Stands, one_list, selection_matches
 same_among : (wanted : Bool) (listed sorted : List ℕ) (number : ℕ) → IsPermutation listed sorted → (if wanted then is_one_of sorted number else not (is_one_of sorted number)) ≡ (if wanted then is_one_of listed number else not (is_one_of listed number))
 same_among wanted listed sorted number p = ap (λ (b : Bool). if wanted then b else not b) (sym (list_any-IsPermutation (λ n. n == number) listed sorted p))
 
-same_kept : (wanted : Bool) (listed sorted numbers : List ℕ) → IsPermutation listed sorted → kept wanted sorted numbers ≡ kept wanted listed numbers
+same_kept : (wanted : Bool) (listed sorted numbers : List ℕ) → IsPermutation listed sorted → kept_numbers wanted sorted numbers ≡ kept_numbers wanted listed numbers
 same_kept wanted listed sorted numbers p = filter_agree (λ n. if wanted then is_one_of sorted n else not (is_one_of sorted n)) (λ n. if wanted then is_one_of listed n else not (is_one_of listed n)) (λ n. same_among wanted listed sorted n p) numbers
 
-pub rows_left : (part : Part) (rows : List PostingsRow) (m : Matcher) (numbers members listed sorted slice left : List ℕ) (wanted : Bool) → numbers_at part (filter (decides m) rows) ≡ Ok listed → IsPermutation listed sorted → slice ≡ sorted → members ≡ numbers → wanted ≡ not (is_accepted m.condition []) → left ≡ kept wanted slice members → left_by_rows part rows m numbers ≡ Ok left
+pub rows_left : (part : Part) (rows : List PostingsRow) (m : Matcher) (numbers members listed sorted slice left : List ℕ) (wanted : Bool) → numbers_at part (filter (decides m) rows) ≡ Ok listed → IsPermutation listed sorted → slice ≡ sorted → members ≡ numbers → wanted ≡ not (is_accepted m.condition []) → left ≡ kept_numbers wanted slice members → left_by_rows part rows m numbers ≡ Ok left
 unfolding left_by_rows
 rows_left part rows m numbers members listed sorted slice left wanted read p s n w e =
-    let made : left ≡ kept (not (is_accepted m.condition [])) listed numbers = e ∙ (λ i. kept (w i) (s i) (n i)) ∙ same_kept (not (is_accepted m.condition [])) listed sorted numbers p in
-    ap (λ (r : Result (List ℕ) IndexRefusal). r >>= λ xs. Ok (kept (not (is_accepted m.condition [])) xs numbers)) read ∙ ap Ok (sym made)
+    let made : left ≡ kept_numbers (not (is_accepted m.condition [])) listed numbers = e ∙ (λ i. kept_numbers (w i) (s i) (n i)) ∙ same_kept (not (is_accepted m.condition [])) listed sorted numbers p in
+    ap (λ (r : Result (List ℕ) IndexRefusal). r >>= λ xs. Ok (kept_numbers (not (is_accepted m.condition [])) xs numbers)) read ∙ ap Ok (sym made)
 
 -- ---- all rows that are read
 

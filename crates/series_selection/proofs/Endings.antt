@@ -18,7 +18,7 @@ use Rattle.index_v2.specs.Held.{Held}
 use Rattle.index_v2.specs.PostingsLists.{list_of}
 use Rattle.index_v2.specs.WholeReading.{lists_at}
 use Rattle.series_selection.specs.Selections.{decides, deciding, rows_read}
-use Rattle.series_selection.specs.SelectionSteps.{kept, numbers_at, left_by_rows, left_by, left_at, selected_at}
+use Rattle.series_selection.specs.SelectionSteps.{kept_numbers, numbers_at, left_by_rows, left_by, left_at, selected_at}
 
 -- whether there is a value, or which refusal
 pub ending : {A : Type 0} → Result A IndexRefusal → Result (Unit {0}) IndexRefusal
@@ -76,7 +76,7 @@ numbers_ending part rows = mapped_ending (lists_at part rows) (flat_map (λ list
 
 rows_ending : (part : Part) (rows : List PostingsRow) (m : Matcher) (numbers : List ℕ) → ending (left_by_rows part rows m numbers) ≡ ending (lists_at part (filter (decides m) rows))
 unfolding left_by_rows
-rows_ending part rows m numbers = mapped_ending (numbers_at part (filter (decides m) rows)) (λ (listed : List ℕ). kept (not (is_accepted m.condition [])) listed numbers) ∙ numbers_ending part (filter (decides m) rows)
+rows_ending part rows m numbers = mapped_ending (numbers_at part (filter (decides m) rows)) (λ (listed : List ℕ). kept_numbers (not (is_accepted m.condition [])) listed numbers) ∙ numbers_ending part (filter (decides m) rows)
 
 value_ending : (part : Part) (numbers : List ℕ) → ending (Ok numbers) ≡ ending (lists_at part [])
 unfolding ending lists_at

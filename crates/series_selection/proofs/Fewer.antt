@@ -18,7 +18,7 @@ use Rattle.index_v2.specs.Held.{Held}
 use Rattle.reading_core.specs.Reading.{Gives}
 use Rattle.index_v2.specs.declared.refusal.IndexRefusal.TheVariants.{NoMemory}
 use Rattle.series_selection.specs.Selections.{decides}
-use Rattle.series_selection.specs.SelectionSteps.{kept, numbers_at, left_by, left_by_rows, left_at}
+use Rattle.series_selection.specs.SelectionSteps.{kept_numbers, numbers_at, left_by, left_by_rows, left_at}
 
 pub record AreOf (left numbers : List ℕ) : Type 0 where
   pub few : length left ≤ length numbers
@@ -36,7 +36,7 @@ filter_few p (x ∷ xs) =
     let less = filter_few p xs in
     by_bool {P = length (filter p (x ∷ xs)) ≤ length (x ∷ xs)} (p x) (λ yes. rw yes (omega (arith, less))) (λ no. rw no (omega (arith, less)))
 
-kept_of : (wanted : Bool) (others numbers : List ℕ) → AreOf (kept wanted others numbers) numbers
+kept_of : (wanted : Bool) (others numbers : List ℕ) → AreOf (kept_numbers wanted others numbers) numbers
 kept_of wanted others numbers = record {
   few = filter_few (λ n. if wanted then is_one_of others n else not (is_one_of others n)) numbers;
   among = λ n has. of_filter (λ n. if wanted then is_one_of others n else not (is_one_of others n)) numbers n has;
@@ -49,7 +49,7 @@ by_choice false numbers = none_of numbers
 rows_of : (part : Part) (rows : List PostingsRow) (m : Matcher) (numbers left : List ℕ) → left_by_rows part rows m numbers ≡ Ok left → AreOf left numbers
 unfolding left_by_rows
 rows_of part rows m numbers left e =
-    let b = bind_ok (numbers_at part (filter (decides m) rows)) (λ xs. Ok (kept (not (is_accepted m.condition [])) xs numbers)) left e in
+    let b = bind_ok (numbers_at part (filter (decides m) rows)) (λ xs. Ok (kept_numbers (not (is_accepted m.condition [])) xs numbers)) left e in
     subst (λ (xs : List ℕ). AreOf xs numbers) (ok_is {E = IndexRefusal} _ _ b.2) (kept_of (not (is_accepted m.condition [])) b.0 numbers)
 
 by_of : (found : Option (List ℕ)) (part : Part) (rows : List PostingsRow) (m : Matcher) (numbers left : List ℕ) → left_by found part rows m numbers ≡ Ok left → AreOf left numbers

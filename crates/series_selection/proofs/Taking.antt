@@ -23,7 +23,7 @@ use Rattle.index_v2.specs.declared.refusal.IndexRefusal.{IndexRefusal}
 use Rattle.index_v2.specs.Held.{Held}
 use Rattle.index_v2.specs.PostingsLists.{list_of}
 use Rattle.series_selection.specs.Selections.{HasNumber, IsListed, StandsUnder, TakesByRows, TakesBy, IsSelection, decides, deciding, rows_read}
-use Rattle.series_selection.specs.SelectionSteps.{kept, numbers_at, left_by_rows, left_by, left_at, selected_at}
+use Rattle.series_selection.specs.SelectionSteps.{kept_numbers, numbers_at, left_by_rows, left_by, left_at, selected_at}
 use Rattle.series_selection.proofs.NumbersRead.{of_numbers, each_read}
 use Rattle.series_selection.proofs.Walk.{own_name}
 
@@ -38,22 +38,22 @@ is_one numbers number has = any_of_member (λ n. n == number) numbers number has
 tests : Bool → List ℕ → ℕ → Bool
 tests wanted others n = if wanted then is_one_of others n else not (is_one_of others n)
 
-kept_among : (wanted : Bool) (others numbers : List ℕ) (number : ℕ) → wanted ≡ true → Contains (kept wanted others numbers) number → Contains numbers number × Contains others number
+kept_among : (wanted : Bool) (others numbers : List ℕ) (number : ℕ) → wanted ≡ true → Contains (kept_numbers wanted others numbers) number → Contains numbers number × Contains others number
 kept_among true others numbers number w has = (of_filter (λ n. is_one_of others n) numbers number has, one_of others number (member_passes (λ n. is_one_of others n) numbers number has))
 kept_among false others numbers number w has = absurd cc
 
-keep_among : (wanted : Bool) (others numbers : List ℕ) (number : ℕ) → wanted ≡ true → Contains numbers number → Contains others number → Contains (kept wanted others numbers) number
+keep_among : (wanted : Bool) (others numbers : List ℕ) (number : ℕ) → wanted ≡ true → Contains numbers number → Contains others number → Contains (kept_numbers wanted others numbers) number
 keep_among true others numbers number w has among = into_filter (λ n. is_one_of others n) numbers number has (is_one others number among)
 keep_among false others numbers number w has among = absurd cc
 
-kept_apart : (wanted : Bool) (others numbers : List ℕ) (number : ℕ) → wanted ≡ false → Contains (kept wanted others numbers) number → Contains numbers number × (Contains others number → ⊥)
+kept_apart : (wanted : Bool) (others numbers : List ℕ) (number : ℕ) → wanted ≡ false → Contains (kept_numbers wanted others numbers) number → Contains numbers number × (Contains others number → ⊥)
 kept_apart true others numbers number w has = absurd cc
 kept_apart false others numbers number w has = (
   of_filter (λ n. not (is_one_of others n)) numbers number has,
   λ among. not_both (is_one_of others number) (is_one others number among) (not-true (is_one_of others number) (member_passes (λ n. not (is_one_of others n)) numbers number has)),
 )
 
-keep_apart : (wanted : Bool) (others numbers : List ℕ) (number : ℕ) → wanted ≡ false → Contains numbers number → (Contains others number → ⊥) → Contains (kept wanted others numbers) number
+keep_apart : (wanted : Bool) (others numbers : List ℕ) (number : ℕ) → wanted ≡ false → Contains numbers number → (Contains others number → ⊥) → Contains (kept_numbers wanted others numbers) number
 keep_apart true others numbers number w has out = absurd cc
 keep_apart false others numbers number w has out = into_filter (λ n. not (is_one_of others n)) numbers number has
     (not_from_false (is_one_of others number) (by_bool (is_one_of others number) (λ yes. absurd (out (one_of others number yes))) (λ other. other)))
@@ -155,7 +155,7 @@ module _ (Lists : PostingsRow → List ℕ → Type 0) (unique : (row : Postings
         let read = bind_ok _ _ _ e in
         let listed = read.0 in
         let wanted = not (is_accepted m.condition []) in
-        let is : kept wanted listed numbers ≡ left = ok_is {E = IndexRefusal} _ _ read.2 in
+        let is : kept_numbers wanted listed numbers ≡ left = ok_is {E = IndexRefusal} _ _ read.2 in
         by_bool (is_accepted m.condition [])
         (λ empty.
         let out : wanted ≡ false = rw empty refl in (

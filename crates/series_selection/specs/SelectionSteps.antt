@@ -22,8 +22,8 @@ use Rattle.index_v2.specs.WholeReading.{lists_at}
 use Rattle.series_selection.specs.Selections.{decides}
 
 -- those that are among the others, or those that are not
-abbrev pub kept : Bool → List ℕ → List ℕ → List ℕ
-kept wanted others numbers = filter (λ n. if wanted then is_one_of others n else not (is_one_of others n)) numbers
+abbrev pub kept_numbers : Bool → List ℕ → List ℕ → List ℕ
+kept_numbers wanted others numbers = filter (λ n. if wanted then is_one_of others n else not (is_one_of others n)) numbers
 
 -- the numbers in the lists of rows, list by list
 unfoldable pub numbers_at : Part → List PostingsRow → Result (List ℕ) IndexRefusal
@@ -35,7 +35,7 @@ numbers_at part rows = do
 unfoldable pub left_by_rows : Part → List PostingsRow → Matcher → List ℕ → Result (List ℕ) IndexRefusal
 left_by_rows part rows m numbers = do
   listed ← numbers_at part (filter (decides m) rows)
-  Ok (kept (not (is_accepted m.condition [])) listed numbers)
+  Ok (kept_numbers (not (is_accepted m.condition [])) listed numbers)
 
 -- by the external label of its name, or by the rows
 abbrev pub left_by : Option (List ℕ) → Part → List PostingsRow → Matcher → List ℕ → Result (List ℕ) IndexRefusal

@@ -2,7 +2,7 @@
 ghost use Rattle.std.specs.Prelude.{◌≡◌, ◌+◌, ◌-◌, ◌==◌, ◌<◌, ◌≤◌, ℕ, length, slice_index, take, drop, IfOk, true, if◌then◌else◌};
 ghost use Rattle.std.specs.List.Sorted.{IsNonDecreasing, IsStrictlyIncreasing};
 ghost use Rattle.list_core.specs.Lists.{is_one_of};
-ghost use Rattle.series_selection.specs.SelectionSteps.{kept};
+ghost use Rattle.series_selection.specs.SelectionSteps.{kept_numbers};
 
 use list_core::NoMemory;
 use std::alloc::Global;
@@ -11,7 +11,7 @@ use wire_bytes::NumberList;
 /// Those of ascending numbers that are among others, or those that are not. The others may repeat.
 ///
 /// Both lists are passed once, by leaps: where one of them has few members, hardly more than these are looked at.
-pub(crate) fn kept(
+pub(crate) fn kept_numbers(
     alloc: Global,
     wanted: bool,
     others: &[u64],
@@ -19,7 +19,7 @@ pub(crate) fn kept(
 ) -> Result<NumberList, NoMemory>
     requires others_rise { IsNonDecreasing others.now }
     requires rise { IsStrictlyIncreasing numbers.now }
-    ensures value { IfOk result (λ left. left ≡ kept wanted others.now numbers.now) }
+    ensures value { IfOk result (λ left. left ≡ kept_numbers wanted others.now numbers.now) }
     ensures rises { IfOk result IsStrictlyIncreasing }
 {
     let mut left = Vec::new(alloc);
@@ -107,12 +107,12 @@ fn first_from(numbers: &[u64], from: usize, least: u64) -> usize
         low += step;
         step += step;
     }
-    halved(numbers, low, numbers.len().min(low + step - 1), least)
+    place_by_halves(numbers, low, numbers.len().min(low + step - 1), least)
 }
 
 /// The first place from a low one on at which a number is not below the least, where there is one at the high place or none
 /// behind it.
-fn halved(numbers: &[u64], from: usize, to: usize, least: u64) -> usize
+fn place_by_halves(numbers: &[u64], from: usize, to: usize, least: u64) -> usize
     requires rise { IsNonDecreasing numbers.now }
     requires order { from ≤ to }
     requires within { to ≤ length numbers.now }

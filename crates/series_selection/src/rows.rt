@@ -1,5 +1,5 @@
 //! The rows that decide what a matcher takes, and the numbers in their lists.
-ghost use Rattle.std.specs.Prelude.{◌≡◌, ◌⊎◌, ◌+◌, ◌-◌, ◌*◌, ◌^◌, ◌<◌, ◌≤◌, [], ◌++◌, not, true, All, length, min, slice_get, take, Err, IfOk, IfErr, IfSome, MatchResult, OnOk};
+ghost use Rattle.std.specs.Prelude.{◌≡◌, ◌⊎◌, ◌+◌, ◌-◌, ◌*◌, ◌^◌, ◌<◌, ◌≤◌, [], ◌++◌, not, true, All, length, min, slice_get, take, Err, IfOk, IfErr, IfSome, OnOk};
 ghost use Rattle.std.specs.List.{filter};
 ghost use Rattle.std.specs.List.Sorted.{IsStrictlyIncreasing};
 ghost use Rattle.reading_core.specs.Reading.{Gives};
@@ -10,7 +10,7 @@ ghost use Rattle.index_v2.specs.declared.refusal.IndexRefusal.TheVariants.{NoMem
 ghost use Rattle.series_selection.specs.Selections.{decides};
 ghost use Rattle.series_selection.specs.SelectionSteps.{numbers_at, ListsStand, IsWithinBudget, IsReadOn, IsDecidedBy};
 
-use index_v2::{IndexReader, IndexRefusal};
+use index_v2::{IndexReader, IndexRefusal, spend};
 use label_sets::Text;
 use list_core::NoMemory;
 use matchers::{Condition, ConditionSearcher, Matcher};
@@ -57,19 +57,8 @@ fn none_listed(alloc: Global, index: &IndexReader<'_>) -> Listed
     }
 }
 
-/// What is left behind so many bytes and numbers.
-fn spend(left: usize, bytes: usize, numbers: usize) -> Result<usize, NoMemory>
-    ensures { MatchResult result
-        (λ rest. rest + (numbers + bytes) ≡ left) (λ _. left < numbers + bytes) }
-{
-    match left.checked_sub(bytes) {
-        Some(rest) => rest.checked_sub(numbers).ok_or(NoMemory),
-        None => Err(NoMemory),
-    }
-}
-
 /// A list behind other numbers. It is not copied where there are none.
-fn joined(numbers: Vec<u64>, list: NumberList) -> Result<Vec<u64>, NoMemory>
+fn joined_numbers(numbers: Vec<u64>, list: NumberList) -> Result<Vec<u64>, NoMemory>
     ensures { IfOk result (λ all. all.items ≡ numbers.items ++ list) }
 {
     if numbers.is_empty() {
@@ -95,9 +84,10 @@ fn read_on(
         ⊎ (list_of index.now.lists (slice_get index.now.rows place) ≡ Err e)) }
 {
     let list = index.row_numbers(alloc, place)?;
-    let left = spend(listed.left, index.list_size(place), list.len())?;
+    let rest = spend(listed.left, index.list_size(place))?;
+    let left = spend(rest, list.len())?;
     let is_one = listed.numbers.is_empty();
-    let numbers = joined(listed.numbers, list)?;
+    let numbers = joined_numbers(listed.numbers, list)?;
     Ok(Listed {
         numbers,
         is_one,

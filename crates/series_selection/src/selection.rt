@@ -20,7 +20,7 @@ ghost use Rattle.index_v2.specs.declared.refusal.IndexRefusal.TheVariants.{NoMem
 ghost use Rattle.series_selection.specs.Selections.{decides, deciding, rows_read, IsSelection, AreMatching};
 ghost use Rattle.series_selection.specs.SelectionSteps.{left_by, left_by_rows, left_at, selected_at, ListsStand, IsWithinBudget};
 
-use crate::keeping::kept;
+use crate::keeping::kept_numbers;
 use crate::rows::{Listed, all_listed, listed_by};
 use index_v2::{IndexReader, IndexRefusal};
 use label_sets::LabelSet;
@@ -98,12 +98,12 @@ pub fn select_postings(
         → MatchResult result (λ numbers.
         AreMatching is.listed external.now replicas selector.now numbers) (λ e. e ≡ NoMemory) }
 {
-    selected(alloc, index, selector, external)
+    selected_numbers(alloc, index, selector, external)
 }
 
 /// What each matcher leaves of the numbers of all series.
 #[tactic(auto, unfolding(crate::specs::SelectionSteps::selected_at))]
-fn selected(
+fn selected_numbers(
     alloc: Global,
     index: &IndexReader<'_>,
     selector: &Selector,
@@ -210,7 +210,7 @@ fn left_by_rows(
 {
     let (wanted, listed) = listed_by(alloc, index, matcher)?;
     let others = ascending(listed)?;
-    Ok(kept(alloc, wanted, others.as_slice(), numbers.members())?)
+    Ok(kept_numbers(alloc, wanted, others.as_slice(), numbers.members())?)
 }
 
 /// The numbers of lists, ascending. Several lists are merged by the sort, which keeps what stands in order: thousands of short

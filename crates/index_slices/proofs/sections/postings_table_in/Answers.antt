@@ -5,8 +5,8 @@ use Rattle.index_slices.proofs.SectionShifts.{row_turned}
 use Rattle.index_slices.proofs.Slices.{refused_in, fits_in, list_stands, known_told, index_told}
 use Rattle.index_slices.proofs.sections.postings_table_in.Goals as goal
 
-pub shifted-requires : goal.shifted-requires
-shifted-requires c =
+pub shifted_refusal-requires : goal.shifted_refusal-requires
+shifted_refusal-requires c =
     let part = part_of c.args.part in
     let told = known_told row_at row_turned part c.args.at c.requires.begins c.ranges.at.fits c.requires.fits in
     fits_in c.args.part.begin _ _ c.in-Err.refusal told c.in-Err.ensures.exact
@@ -28,7 +28,7 @@ returns-in-Err c =
     let told = known_told row_at row_turned part c.args.at c.requires.begins c.ranges.at.fits c.requires.fits in
     record {
       found = λ index is. tt;
-      same = λ index is lies. refused_in c.args.part.begin _ _ c.in-Err.refusal c.shifted.result (index_told row_at row_turned part c.args.at c.requires.begins c.ranges.at.fits c.requires.fits index is lies) c.shifted.ensures c.in-Err.ensures.exact;
-      exact = refused_in c.args.part.begin _ _ c.in-Err.refusal c.shifted.result told c.shifted.ensures c.in-Err.ensures.exact;
+      same = λ index is lies. refused_in c.args.part.begin _ _ c.in-Err.refusal c.shifted_refusal.result (index_told row_at row_turned part c.args.at c.requires.begins c.ranges.at.fits c.requires.fits index is lies) c.shifted_refusal.ensures c.in-Err.ensures.exact;
+      exact = refused_in c.args.part.begin _ _ c.in-Err.refusal c.shifted_refusal.result told c.shifted_refusal.ensures c.in-Err.ensures.exact;
       few = tt;
     }

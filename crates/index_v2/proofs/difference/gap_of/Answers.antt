@@ -10,7 +10,7 @@ loop-label-init c = gaps_start _ _ _ _
 
 pub loop-label-preserved : goal.loop-label-preserved
 loop-label-preserved c =
-    lent_step _ _ _ _ _ _ _ _ _ _ c.loop-label.invariant c.loop-label-test.true refl c.gap_at-gap.ensures c.earlier-least.ensures
+    lent_step _ _ _ _ _ _ _ _ _ _ c.loop-label.invariant c.loop-label-test.true refl c.gap_at-gap.ensures c.earlier_place-least.ensures
 
 pub returns : goal.returns
 returns c = gaps_end _ _ _ _ _ _ c.loop-label.invariant (omega (arith, length-map c.args.labels.now as_label))

@@ -7,8 +7,8 @@ use Rattle.index_v2.proofs.SeriesSlices.{series_known_told, series_index_told, s
 use Rattle.index_v2.proofs.SeriesOutside.{series_outside}
 use Rattle.index_v2.proofs.numbered.series_of.Goals as goal
 
-pub shifted-requires : goal.shifted-requires
-shifted-requires c =
+pub shifted_refusal-requires : goal.shifted_refusal-requires
+shifted_refusal-requires c =
     let here = part_of c.args.part in
     let told = series_known_told _ _ _ c.requires.begins (omega arith) c.requires.fits in
     fits_in _ _ _ _ told (subst (λ n. (c.in-Err.refusal ≡ NoMemory) ⊎ (labelled_at c.args.part.bytes.now c.args.symbols.now (16 * n - c.args.part.begin) ≡ Err c.in-Err.refusal)) c.from.ensures c.in-Err.ensures.exact)
@@ -29,11 +29,11 @@ returns-in-Ok-clause-few c = series_few_in _ _ _ _ c.series_at.ensures.bytes (su
 
 pub returns-in-Err-clause-same : goal.returns-in-Err-clause-same
 returns-in-Err-clause-same c = λ index is lies.
-    number_refused c.args.number c.args.part.begin _ _ (series_index_told _ _ _ c.requires.begins (omega arith) c.requires.fits _ is lies) c.in-Err.refusal c.shifted.result c.refused_of.result c.shifted.ensures c.refused_of.ensures (subst (λ n. (c.in-Err.refusal ≡ NoMemory) ⊎ (labelled_at c.args.part.bytes.now c.args.symbols.now (16 * n - c.args.part.begin) ≡ Err c.in-Err.refusal)) c.from.ensures c.in-Err.ensures.exact)
+    number_refused c.args.number c.args.part.begin _ _ (series_index_told _ _ _ c.requires.begins (omega arith) c.requires.fits _ is lies) c.in-Err.refusal c.shifted_refusal.result c.refused_of.result c.shifted_refusal.ensures c.refused_of.ensures (subst (λ n. (c.in-Err.refusal ≡ NoMemory) ⊎ (labelled_at c.args.part.bytes.now c.args.symbols.now (16 * n - c.args.part.begin) ≡ Err c.in-Err.refusal)) c.from.ensures c.in-Err.ensures.exact)
 
 pub returns-in-Err-clause-exact : goal.returns-in-Err-clause-exact
 returns-in-Err-clause-exact c =
-    number_refused _ _ _ _ (series_known_told _ _ _ c.requires.begins (omega arith) c.requires.fits) _ _ _ c.shifted.ensures c.refused_of.ensures (subst (λ n. (c.in-Err.refusal ≡ NoMemory) ⊎ (labelled_at c.args.part.bytes.now c.args.symbols.now (16 * n - c.args.part.begin) ≡ Err c.in-Err.refusal)) c.from.ensures c.in-Err.ensures.exact)
+    number_refused _ _ _ _ (series_known_told _ _ _ c.requires.begins (omega arith) c.requires.fits) _ _ _ c.shifted_refusal.ensures c.refused_of.ensures (subst (λ n. (c.in-Err.refusal ≡ NoMemory) ⊎ (labelled_at c.args.part.bytes.now c.args.symbols.now (16 * n - c.args.part.begin) ≡ Err c.in-Err.refusal)) c.from.ensures c.in-Err.ensures.exact)
 
 pub returns-in-Ok-clause-outside : goal.returns-in-Ok-clause-outside
 returns-in-Ok-clause-outside c = λ outside told.

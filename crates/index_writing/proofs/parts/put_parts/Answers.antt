@@ -1,7 +1,6 @@
-use Rattle.std.proofs.Common.{ℕ, sym, ap, ◌∙◌}
-use Rattle.index_writing.specs.Written.{numbers_behind}
+use Rattle.std.proofs.Common.{ℕ, ◌∙◌}
 use Rattle.index_writing.proofs.AlignedTexts.{makes_longer}
-use Rattle.index_writing.proofs.PartsLaws.{front_as, storable, as_many_numbers, strict_as}
+use Rattle.index_writing.proofs.PartsLaws.{front_as, storable, strict_as}
 use Rattle.index_writing.proofs.Standing.{symbols_still}
 use Rattle.index_writing.proofs.parts.put_parts.Goals as goal
 
@@ -14,13 +13,6 @@ returns-in_err-symbols_end-clause-makes c =
 
 pub put_all_series-requires-clause-lawful : goal.put_all_series-requires-clause-lawful
 put_all_series-requires-clause-lawful c = storable _ _ _ c.requires.lawful (c.as_slice.ensures.value ∙ c.in_ok-series.ensures)
-
-pub rows_of-requires-clause-as_many : goal.rows_of-requires-clause-as_many
-rows_of-requires-clause-as_many c =
-    as_many_numbers _ _ _ (c.members-2.ensures ∙ c.in_ok-numbers.ensures.numbers ∙ ap (numbers_behind c.put_front.new.out.items) (c.as_slice.ensures.value ∙ sym c.as_slice-2.ensures.value))
-
-pub rows_of-requires-clause-lawful : goal.rows_of-requires-clause-lawful
-rows_of-requires-clause-lawful c = storable _ _ _ c.requires.lawful (c.as_slice-2.ensures.value ∙ c.in_ok-series.ensures)
 
 pub returns-clause-symbols : goal.returns-clause-symbols
 returns-clause-symbols c =

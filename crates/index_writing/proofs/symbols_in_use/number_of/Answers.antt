@@ -1,6 +1,6 @@
 use Rattle.std.proofs.Common.{rules}
 use Rattle.std.proofs.lemmas.List.Sorted.{IsPartitionPoint-from_clause}
-use Rattle.index_writing.specs.SymbolsInUse.{is_lesser_text}
+use Rattle.label_sets.specs.Labels.{is_lesser_text}
 use Rattle.index_writing.proofs.SortedTexts.{partitioned, number_found}
 use Rattle.index_writing.proofs.symbols_in_use.number_of.Goals as goal
 

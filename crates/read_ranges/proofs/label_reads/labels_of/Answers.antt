@@ -12,15 +12,15 @@ loop-place-init c =
 
 pub returns-in-None : goal.returns-in-None
 returns-in-None c = record {
-  value = named_refused c.args.symbols.now c.args.names.now c.args.values.now c.loop-place.before.now c.loop-place.place c.loop-place.set c.loop-place.invariant.0 _ _ c.loop-place-test.true c.requires refl refl (c.in-None.ensures c.loop-place.place);
+  value = named_refused c.args.symbols.now c.args.names.now c.args.values.now c.loop-place.before.now c.loop-place.place c.loop-place.set c.loop-place.invariant.0 _ _ c.loop-place-test.true c.requires refl refl c.in-None.ensures;
   texts = tt;
 }
 
 pub loop-place-preserved : goal.loop-place-preserved
 loop-place-preserved c =
     let label : Label = record { name = c.in-Some.name.now; value = c.in-Some.value.now } in
-    let new = new_is c.args.symbols.now c.args.names.now c.args.values.now c.loop-place.before.now c.loop-place.place c.loop-place.set c.loop-place.invariant.0 _ _ c.loop-place-test.true c.requires refl refl label c.add.new.set (c.in-Some.ensures c.loop-place.place) c.in_ok-left-in-Some.ensures.adds in (
-      named_step c.args.symbols.now c.args.names.now c.args.values.now c.loop-place.before.now c.loop-place.place c.loop-place.set c.loop-place.invariant.0 _ _ c.loop-place-test.true c.requires refl refl label c.add.new.set (c.in-Some.ensures c.loop-place.place) c.in_ok-left-in-Some.ensures.adds _ refl,
+    let new = new_is c.args.symbols.now c.args.names.now c.args.values.now c.loop-place.before.now c.loop-place.place c.loop-place.set c.loop-place.invariant.0 _ _ c.loop-place-test.true c.requires refl refl label c.add.new.set c.in-Some.ensures c.in_ok-left-in-Some.ensures.adds in (
+      named_step c.args.symbols.now c.args.names.now c.args.values.now c.loop-place.before.now c.loop-place.place c.loop-place.set c.loop-place.invariant.0 _ _ c.loop-place-test.true c.requires refl refl label c.add.new.set c.in-Some.ensures c.in_ok-left-in-Some.ensures.adds _ refl,
       spent c.loop-place.set c.add.new.set label c.loop-place.left c.in_ok-left-in-Some.left c.args.most new c.loop-place.invariant.1 c.in_ok-left-in-Some.ensures.left,
       search rules,
     )

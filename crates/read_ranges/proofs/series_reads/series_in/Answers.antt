@@ -9,10 +9,10 @@ pub returns-in-Some-clause-reads : goal.returns-in-Some-clause-reads
 returns-in-Some-clause-reads c =
     series_named (part_at (piece_of c.args.run.now.range) c.args.bytes.now) c.args.symbols.now c.args.number c.requires.begins c.requires.small
     (omega (arith, c.requires.begins, c.requires.small, c.in_ok-raw.ensures.fits)) c.in-Some.raw
-    (some_read (λ raw. raw) _ c.in_ok-raw.field-0 c.in-Some.raw c.in-Some.is c.in_ok-raw.ensures.reads) c.named.result c.named.ensures.value
+    (some_read (λ raw. raw) _ c.in_ok-raw.field-0 c.in-Some.raw c.in-Some.is c.in_ok-raw.ensures.reads) c.named_series.result c.named_series.ensures.value
 
 pub returns-in-Some-clause-texts : goal.returns-in-Some-clause-texts
-returns-in-Some-clause-texts c = within c.named.result c.most_texts.result _ c.most_texts.ensures c.named.ensures.texts
+returns-in-Some-clause-texts c = within c.named_series.result c.most_texts.result _ c.most_texts.ensures c.named_series.ensures.texts
 
 pub returns-in-None-clause-reads : goal.returns-in-None-clause-reads
 returns-in-None-clause-reads c =

@@ -1,13 +1,18 @@
-use Rattle.std.proofs.Common.{refl}
+use Rattle.std.proofs.lemmas.Slice.Zip.{Zip-more, either_empty_from_Zip}
 use Rattle.index_parts.specs.LabelIndices.{offset_text}
-use Rattle.section_writers.proofs.PairLists.{pairs_more, pairs_all, all_take_more}
+use Rattle.section_writers.proofs.Offsets.{Fits}
+use Rattle.section_writers.proofs.PairLists.{pairs_more, pairs_all, fit_more, fit_end}
 use Rattle.section_writers.proofs.list_writing.put_offsets.Goals as goal
 
-pub loop-place-preserved : goal.loop-place-preserved
-loop-place-preserved c = (
-  pairs_more offset_text _ 0 _ _ _ _ _ _ _ _ c.loop-place.invariant.0 c.in_ok-put_offset.ensures.ok c.loop-place-test.true c.requires c.index-names-place.is refl,
-  all_take_more _ _ _ _ _ c.loop-place.invariant.1 c.in_ok-put_offset.ensures.utf8 c.index-names-place.is c.loop-place-test.true,
-)
+pub loop-name-preserved : goal.loop-name-preserved
+loop-name-preserved c =
+    let more = Zip-more c.loop-name.name-iterator c.next.new.self _ _ c.in-Some.is c.next.ensures.steps in (
+      pairs_more offset_text _ _ _ _ _ _ _ _ _ more c.loop-name.invariant.0 c.in_ok-put_offset.ensures.ok,
+      λ rest. c.loop-name.invariant.1 (fit_more Fits _ _ _ _ _ _ more c.in_ok-put_offset.ensures.fits rest),
+    )
 
 pub returns-clause-ok : goal.returns-clause-ok
-returns-clause-ok c = pairs_all offset_text _ _ _ _ _ c.loop-place.invariant.0 c.loop-place-test.false c.requires
+returns-clause-ok c = pairs_all offset_text _ _ _ _ (either_empty_from_Zip c.loop-name.name-iterator c.next.new.self _ c.in-None.is c.next.ensures.steps) c.loop-name.invariant.0
+
+pub returns-clause-fit : goal.returns-clause-fit
+returns-clause-fit c = c.loop-name.invariant.1 (fit_end Fits _ _ (either_empty_from_Zip c.loop-name.name-iterator c.next.new.self _ c.in-None.is c.next.ensures.steps))

@@ -1,8 +1,12 @@
-use Rattle.std.proofs.Common.{◌≡◌, ◌++◌, take, zip}
+use Rattle.std.proofs.Common.{◌≡◌, ◌++◌, zip}
 use Rattle.std.specs.List.{flat_map, AllByRecursion}
-use Rattle.std.specs.Str.{IsUtf8}
+use Rattle.std.specs.Iterator.Adapters.{zip_first, zip_second}
+use Rattle.std.specs.Slice.Iter.{iter_rest}
 use Rattle.index_parts.specs.LabelIndices.{offset_text}
+use Rattle.section_writers.proofs.Offsets.{Fits}
 use Rattle.section_writers.proofs.list_writing.put_offsets.Given as goal
 
-abbrev pub invariant-loop-place : goal.invariant-loop-place
-invariant-loop-place l = (l.out.items ≡ l.initial.out.items ++ flat_map offset_text (take l.place (zip l.names l.offsets))) × AllByRecursion IsUtf8 (take l.place l.names)
+abbrev pub invariant-loop-name : goal.invariant-loop-name
+invariant-loop-name l =
+    let left = zip (iter_rest (zip_first l.name-iterator)) (iter_rest (zip_second l.name-iterator)) in
+    (l.out.items ++ flat_map offset_text left ≡ l.initial.out.items ++ flat_map offset_text (zip l.names l.offsets)) × (AllByRecursion Fits left → AllByRecursion Fits (zip l.names l.offsets))

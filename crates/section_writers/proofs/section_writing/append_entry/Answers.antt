@@ -6,6 +6,6 @@ use Rattle.index_parts.specs.Framed.{entry_text}
 use Rattle.section_writers.proofs.Stands.{framed_written}
 use Rattle.section_writers.proofs.section_writing.append_entry.Goals as goal
 
-pub returns-else-is_err-clause-stands : goal.returns-else-is_err-clause-stands
+pub returns-clause-stands : goal.returns-clause-stands
 unfolding entry_text
-returns-else-is_err-clause-stands c = λ after. framed_written IsUvarint c.put_entry-put.result c.args.out.now.items c.put_entry-put.new.out.items (uvarint_text (length c.args.content.now)) c.args.content.now after c.crc_of.result c.put_entry-put.ensures.ok (uvarint_text_is _ c.put_entry-put.ensures.fits) c.crc_of.ensures c.crc_of.type_inv
+returns-clause-stands c = λ after. framed_written IsUvarint c.cut_on_err.result c.put_entry-put.result c.args.out.now.items c.put_entry-put.new.out.items c.cut_on_err.new.list.items (uvarint_text (length c.args.content.now)) c.args.content.now after c.crc_of.result c.cut_on_err.ensures.same c.cut_on_err.ensures.ok c.put_entry-put.ensures.ok (uvarint_text_is _ c.put_entry-put.ensures.fits) c.crc_of.ensures c.crc_of.type_inv

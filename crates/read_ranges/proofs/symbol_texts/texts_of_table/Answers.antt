@@ -1,6 +1,6 @@
 use Rattle.std.proofs.Common.{◌∙◌}
 use Rattle.read_ranges.proofs.TextsKept.{texts_more}
-use Rattle.read_ranges.proofs.symbol_texts.copied.Goals as goal
+use Rattle.read_ranges.proofs.symbol_texts.texts_of_table.Goals as goal
 
 pub loop-number-preserved : goal.loop-number-preserved
 loop-number-preserved c = (

@@ -1,5 +1,5 @@
 use Rattle.series_selection.proofs.KeptNumbers.{never_falls, kept_on, kept_rises}
-use Rattle.series_selection.proofs.keeping.kept.Goals as goal
+use Rattle.series_selection.proofs.keeping.kept_numbers.Goals as goal
 
 pub apart_until-end-requires-clause-rise : goal.apart_until-end-requires-clause-rise
 apart_until-end-requires-clause-rise c = never_falls c.args.numbers.now c.requires.rise

@@ -1,5 +1,5 @@
 use Rattle.std.proofs.Common.{ℕ, ◌-◌, ◌<◌, ◌≤◌, length, slice_index}
-use Rattle.series_selection.proofs.keeping.halved.Given as goal
+use Rattle.series_selection.proofs.keeping.place_by_halves.Given as goal
 
 abbrev pub invariant-loop-low : goal.invariant-loop-low
 invariant-loop-low l =

@@ -1,7 +1,7 @@
 use Rattle.std.proofs.Common.{arith, ◌∙◌, []}
 use Rattle.std.specs.Int.{w32, from_be_bytes}
 use Rattle.index_parts.proofs.Decoding.{taken_more, risen_more, all_risen}
-use Rattle.index_parts.proofs.postings_reading.decoded.Goals as goal
+use Rattle.index_parts.proofs.postings_reading.decoded_numbers.Goals as goal
 
 pub loop-front-init : goal.loop-front-init
 loop-front-init c = record {
