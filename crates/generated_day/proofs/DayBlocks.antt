@@ -9,6 +9,7 @@ use Rattle.std.proofs.lemmas.Nat.{mod_low}
 use Rattle.std.specs.Int.Digits.{AllBelowBase}
 use Rattle.std.proofs.lemmas.List.{length-append, same_from_push}
 use Rattle.std.proofs.lemmas.List.Sorted.{IsPermutation-refl}
+use Rattle.reading_core.specs.Lines.{line_feed}
 use Rattle.reading_core.specs.Decimal.{decimal_text, signed_text}
 use Rattle.reading_core.proofs.Decimals.{decimal_again, decimal_digits}
 use Rattle.ulid_core.specs.UlidText.{alphabet, character, text_of}
@@ -20,7 +21,7 @@ use Rattle.moment_core.specs.Partitions.{all_times}
 use Rattle.moment_core.specs.StandardRules.{standard_rules}
 use Rattle.moment_core.specs.declared.rules.Rules.{Rules}
 use Rattle.script_core.specs.Blocks.{declares}
-use Rattle.script_fields.specs.Fields.{is_silent, is_space, newline}
+use Rattle.script_fields.specs.Fields.{is_silent, is_space}
 use Rattle.script_core.specs.Lawful.{HasSeries}
 use Rattle.script_core.specs.Spelling.{BlockLine, GatewayLine, HasEnded, IsField, IsTimeText, IsUlidField, ReplicaLine, SoFar, at_all_times, nothing, outside}
 use Rattle.script_core.specs.Spelling as spelling
@@ -317,7 +318,7 @@ module _ (number block replica : ℕ) (early : block < 12) (two : replica < 2) w
   pub block_short : length (block_text number block replica) ≤ 1_330_201
   unfolding block_text block_line
   block_short =
-      omega (arith, front_short, length-append (front_of block replica) (newline ∷ []), length-append (block_line block replica) (all_series_text number block replica), all_short number block replica early)
+      omega (arith, front_short, length-append (front_of block replica) (line_feed ∷ []), length-append (block_line block replica) (all_series_text number block replica), all_short number block replica early)
 
 -- ---- all blocks
 

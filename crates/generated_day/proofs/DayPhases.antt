@@ -21,7 +21,6 @@ use Rattle.script_workers.specs.declared.task.Task.{Task}
 use Rattle.script_workers.specs.declared.work.Work.{Work}
 use Rattle.script_workers.specs.declared.work.Work.TheVariants as works
 use Rattle.script_workers.proofs.HandLaws.{few_spelled}
-use Rattle.script_fields.specs.Fields.{newline}
 use Rattle.script_fields.specs.Limits.{most_tasks}
 use Rattle.script_core.specs.Spelling.{AddsTask, AtLine, CleanLine, CompactLine, HasEnded, IsField, IsTimeText, QueryLine, SoFar, SyncLine, UploadLine, no_stop}
 use Rattle.script_core.specs.Spelling as spelling
@@ -29,6 +28,7 @@ use Rattle.script_core.specs.declared.block.Block.{Block}
 use Rattle.script_core.specs.declared.script.Script.{Script}
 use Rattle.std.specs.Str.{bytes_eq}
 use Rattle.std.specs.Prelude.{position}
+use Rattle.reading_core.specs.Lines.{line_feed}
 use Rattle.label_sets.specs.Notation.{is_name}
 use Rattle.script_core.proofs.Kept.{works_of-append}
 use Rattle.script_core.proofs.SampleSigns.{all_joined}
@@ -175,7 +175,7 @@ module _ (blocks : List Block) (ready : Ready blocks 24) where
         let says : UploadLine now line (codes "upload " ++ text_of ulid) (state false selectors (with_task work)) = record { text = text_of ulid; ulid = ulid; texts = []; stop = None; spelled = refl; is_ulid = is_ulid 0 block replica early two; are_texts = no_stop refl refl; declared = ready.there block replica (omega (arith, early, two)) two; script = with_phases selectors (with_task work); task = adds_task work hands; adds = refl } in
         tells_line now (state false selectors (with_task work)) line (codes "upload " ++ text_of ulid) (speaks 117 (codes "pload " ++ text_of ulid) refl) (upload_prints block replica early two) (spelling.upload (still_ended false selectors (phases ++ phase_of start moment done ∷ [])) says)
 
-    pub sync_tells : (name : List ℕ) (gateway : ℕ) → IsField name → is_name name ≡ true → position (λ one. bytes_eq one name) day_gateways ≡ Some gateway → list_all is_print (codes "sync " ++ name) ≡ true → length (hands_of 2 (done ++ record { line = line; work = works.Sync gateway } ∷ [])) ≤ 64 → Tells now line ((codes "sync " ++ name) ++ newline ∷ []) (state false selectors (with_task (works.Sync gateway))) (line + 1)
+    pub sync_tells : (name : List ℕ) (gateway : ℕ) → IsField name → is_name name ≡ true → position (λ one. bytes_eq one name) day_gateways ≡ Some gateway → list_all is_print (codes "sync " ++ name) ≡ true → length (hands_of 2 (done ++ record { line = line; work = works.Sync gateway } ∷ [])) ≤ 64 → Tells now line ((codes "sync " ++ name) ++ line_feed ∷ []) (state false selectors (with_task (works.Sync gateway))) (line + 1)
     sync_tells name gateway field named declared print hands =
         let work = works.Sync gateway in
         let says : SyncLine now line (codes "sync " ++ name) (state false selectors (with_task work)) = record { name = name; gateway = gateway; spelled = refl; field = field; is_name = named; declared = declared; script = with_phases selectors (with_task work); task = adds_task work hands; adds = refl } in

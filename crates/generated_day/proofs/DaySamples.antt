@@ -1,7 +1,10 @@
 -- The samples of a series of the generated day.
 use Rattle.std.proofs.Common.{◌≡◌, ◌≢◌, ℕ, zero, suc, ◌+◌, ◌*◌, ◌%◌, ◌<◌, ◌≤◌, ◌^◌, pos, Bool, true, false, not, nat_le, ◌==◌, int_lt, List, [], ◌∷◌, ◌++◌, length, All, refl, arith}
 use Rattle.std.specs.Prelude.{if◌then◌else◌}
-use Rattle.std.specs.List.{flat_map, range_with_len}
+use Rattle.std.specs.List.{AllByRecursion, flat_map, range_with_len}
+use Rattle.std.specs.List.Sorted.{IsStrictlySortedBy}
+use Rattle.std.specs.Ordering.{int_cmp}
+use Rattle.std.specs.declared.cmp.Ordering.TheVariants.{Less}
 use Rattle.std.proofs.lemmas.Bool.Decides.{nat_tests}
 use Rattle.std.proofs.lemmas.Int.{ints}
 use Rattle.std.proofs.lemmas.List.{length-append, length-map}
@@ -10,12 +13,11 @@ use Rattle.reading_core.specs.Decimal.{decimal_text, signed_text}
 use Rattle.reading_core.specs.FixedDigits.{fixed_digits}
 use Rattle.reading_core.proofs.Positional.{length-fixed_digits}
 use Rattle.label_sets.specs.SampleText.{hex_sign, hex_text, pattern_text, sample_text, spaced_sample_text, timed_text}
+use Rattle.label_sets.specs.Times.{times_of, IsWithin}
 use Rattle.label_sets.specs.declared.sample.Sample.{Sample}
 use Rattle.script_core.specs.Parts.{HasField}
-use Rattle.script_fields.specs.Samples.{are_rising, rise_after}
-use Rattle.script_core.specs.Spelling.{IsWithin}
 use Rattle.script_fields.specs.Values.{is_time}
-use Rattle.script_core.proofs.SpelledValues.{near_spelled}
+use Rattle.script_core.proofs.SpelledValues.{below_compared, near_spelled}
 use Rattle.generated_day.specs.Day.{block_start, day_samples, has_sample, sample, sample_part, samples_text}
 use Rattle.generated_day.proofs.DayNumbers.{decimal_short}
 
@@ -27,13 +29,18 @@ all_with : (P : Sample → Type 0) (has : Bool) (one : Sample) (others : List Sa
 all_with P true one others first all = All-cons P one others first all
 all_with P false one others first all = all
 
-rise_with : (has : Bool) (last one : Sample) (others : List Sample) → int_lt last.time one.time ≡ true → rise_after one others ≡ true → rise_after last others ≡ true → rise_after last (with_one has one others) ≡ true
-rise_with true last one others below rise without = rw below rise
-rise_with false last one others below rise without = without
+-- each time is after that of the sample
+abbrev AreAfter : Sample → List Sample → Type 0
+AreAfter last samples = AllByRecursion (λ time. int_cmp last.time time ≡ Less) (times_of samples)
 
-rising_with : (has : Bool) (one : Sample) (others : List Sample) → rise_after one others ≡ true → are_rising others ≡ true → are_rising (with_one has one others) ≡ true
-rising_with true one others rise without = rise
-rising_with false one others rise without = without
+after_with : (has : Bool) (last one : Sample) (others : List Sample) → int_cmp last.time one.time ≡ Less → AreAfter last others → AreAfter last (with_one has one others)
+after_with true last one others below after = (below, after)
+after_with false last one others below after = after
+
+ascend_with : (has : Bool) (one : Sample) (others : List Sample) → AreAfter one others → IsStrictlySortedBy int_cmp (times_of others) → IsStrictlySortedBy int_cmp (times_of (with_one has one others))
+unfolding IsStrictlySortedBy
+ascend_with true one others after ascend = (after, ascend)
+ascend_with false one others after ascend = ascend
 
 -- how many places there are at which a replica has a sample: the first replica, or the other
 kept : Bool → ℕ → ℕ → ℕ
@@ -54,8 +61,10 @@ some_with : (has : Bool) (one : Sample) (others : List Sample) → has ≡ true 
 some_with true one others is none = absurd cc
 some_with false one others is none = absurd cc
 
-later : (start one other : ℕ) → one < other → int_lt (pos (start + 15_000 * one)) (pos (start + 15_000 * other)) ≡ true
-later start one other below = grind (arith, ints, nat_tests)
+later : (start one other : ℕ) → one < other → int_cmp (pos (start + 15_000 * one)) (pos (start + 15_000 * other)) ≡ Less
+later start one other below =
+    let test : int_lt (pos (start + 15_000 * one)) (pos (start + 15_000 * other)) ≡ true = grind (arith, ints, nat_tests) in
+    below_compared (pos (start + 15_000 * one)) (pos (start + 15_000 * other)) test
 
 -- ---- how long a text is
 
@@ -104,17 +113,17 @@ module _ (number block replica series : ℕ) where
   all_from P each from (suc count) few =
       all_with P (has_sample replica from) (one_at from) (samples_from (from + 1) count) (each from (omega (arith, few))) (all_from P each (from + 1) count (omega (arith, few)))
 
-  rise_from : (last from count : ℕ) → last < from → rise_after (one_at last) (samples_from from count) ≡ true
+  after_from : (last from count : ℕ) → last < from → AreAfter (one_at last) (samples_from from count)
   unfolding samples_from sample_part
-  rise_from last from zero below = refl
-  rise_from last from (suc count) below =
-      rise_with (has_sample replica from) (one_at last) (one_at from) (samples_from (from + 1) count) (later (block_start block) last from below) (rise_from from (from + 1) count (omega arith)) (rise_from last (from + 1) count (omega (arith, below)))
+  after_from last from zero below = tt
+  after_from last from (suc count) below =
+      after_with (has_sample replica from) (one_at last) (one_at from) (samples_from (from + 1) count) (later (block_start block) last from below) (after_from last (from + 1) count (omega (arith, below)))
 
-  rising_from : (from count : ℕ) → are_rising (samples_from from count) ≡ true
-  unfolding samples_from sample_part
-  rising_from from zero = refl
-  rising_from from (suc count) =
-      rising_with (has_sample replica from) (one_at from) (samples_from (from + 1) count) (rise_from from (from + 1) count (omega arith)) (rising_from (from + 1) count)
+  ascend_from : (from count : ℕ) → IsStrictlySortedBy int_cmp (times_of (samples_from from count))
+  unfolding samples_from sample_part IsStrictlySortedBy
+  ascend_from from zero = tt
+  ascend_from from (suc count) =
+      ascend_with (has_sample replica from) (one_at from) (samples_from (from + 1) count) (after_from from (from + 1) count (omega arith)) (ascend_from (from + 1) count)
 
   kept_from : (from count : ℕ) → length (samples_from from count) ≡ kept (replica == 0) from count
   unfolding samples_from sample_part kept
@@ -125,9 +134,9 @@ module _ (number block replica series : ℕ) where
   abbrev pub all_samples : List Sample
   all_samples = day_samples number block replica series
 
-  pub they_rise : are_rising all_samples ≡ true
+  pub they_ascend : IsStrictlySortedBy int_cmp (times_of all_samples)
   unfolding day_samples samples_from
-  they_rise = rising_from 0 480
+  they_ascend = ascend_from 0 480
 
   count_is : length all_samples ≡ kept (replica == 0) 0 480
   unfolding day_samples samples_from
@@ -153,7 +162,7 @@ module _ (number block replica series : ℕ) where
     have_fields = all_from HasField field_at 0 480 (omega arith)
 
     within_at : (place : ℕ) → place < 480 → IsWithin (pos (block_start block)) (pos (block_start (block + 1))) (one_at place)
-    within_at place below = record { from = grind (arith, ints); below = grind (arith, ints) }
+    within_at place below = (grind (arith, ints), grind (arith, ints))
 
     pub lie_within : All (IsWithin (pos (block_start block)) (pos (block_start (block + 1)))) all_samples
     unfolding day_samples samples_from

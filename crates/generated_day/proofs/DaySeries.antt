@@ -9,6 +9,7 @@ use Rattle.std.proofs.lemmas.List.{length-append}
 use Rattle.std.proofs.lemmas.List.Elements.{All-cons, All-nil}
 use Rattle.std.proofs.lemmas.List.FromFn.{map-range_with_len_more}
 use Rattle.std.proofs.lemmas.List.Sorted.{IsPermutation-refl}
+use Rattle.reading_core.specs.Lines.{line_feed}
 use Rattle.list_core.proofs.Bools.{bytes_eq-same, Less-from_is_lt, and_first, and_second}
 use Rattle.label_sets.specs.Labels.{compare_sets}
 use Rattle.label_sets.specs.Notation.{is_name, quoted, quoted_byte, pair_text, comma_pair_text, pairs_text, set_text}
@@ -17,7 +18,7 @@ use Rattle.label_sets.specs.SetText.{IsSetText}
 use Rattle.label_sets.specs.declared.label.Label.{Label}
 use Rattle.label_sets.specs.declared.sample.Sample.{Sample}
 use Rattle.label_sets.specs.declared.series.Series.{Series}
-use Rattle.script_fields.specs.Fields.{is_silent, newline}
+use Rattle.script_fields.specs.Fields.{is_silent}
 use Rattle.script_core.specs.Parts.{AreSeriesParts, HasField, series_front}
 use Rattle.script_core.specs.Spelling.{SoFar, inside, SeriesLine}
 use Rattle.script_core.specs.Spelling as spelling
@@ -26,10 +27,9 @@ use Rattle.script_core.specs.declared.body.Body.TheVariants.{Inline}
 use Rattle.script_core.specs.declared.script.Script.{Script}
 use Rattle.script_core.proofs.LawfulParts.{above_all}
 use Rattle.script_core.proofs.SampleSigns.{all_joined, is_sign, sample_fields, samples_all, sign_is_ascii, sign_not_newline}
-use Rattle.script_core.proofs.SpelledValues.{rise_spelled}
 use Rattle.script_core.proofs.SeriesParts.{front_joined}
 use Rattle.generated_day.specs.Day.{block_start, labels_text, two_digits, series_line, all_series_text, samples_text}
-use Rattle.generated_day.proofs.DaySamples.{all_samples, have_fields, lie_within, their_text_is_short, they_are_some, they_rise}
+use Rattle.generated_day.proofs.DaySamples.{all_samples, have_fields, lie_within, their_text_is_short, they_are_some, they_ascend}
 use Rattle.generated_day.proofs.Tells.{Tells, in_range, is_print, print_line, print_utf8, speaks, tells_both, tells_line, tells_nothing}
 
 -- ---- the labels
@@ -120,7 +120,7 @@ module _ (number block replica : ℕ) (early : block < 12) where
     one_line = print_line (labels_text series) (labels_print series few);
     some = they_are_some number block replica series;
     fields = have_fields number block replica series early;
-    rising = they_rise number block replica series;
+    ascend = they_ascend number block replica series;
   }
 
   their_labels : (from count : ℕ) → map (λ (one : Series). one.labels) (map series_at (range_with_len from count)) ≡ map labels_at (range_with_len from count)
@@ -149,7 +149,7 @@ module _ (number block replica : ℕ) (early : block < 12) where
           are_labels = set_text_at series few;
           some = some_texts samples (they_are_some number block replica series);
           are_samples = sample_fields samples (have_fields number block replica series early);
-          rising = rise_spelled samples (they_rise number block replica series);
+          rising = they_ascend number block replica series;
           in_block = refl;
           others = others;
           ulid = ulid;
@@ -194,7 +194,7 @@ module _ (number block replica : ℕ) (early : block < 12) where
       omega (
         arith,
         their_text_is_short number block replica series early,
-        length-append (codes "series " ++ labels_text series ++ samples_text number block replica series) (newline ∷ []),
+        length-append (codes "series " ++ labels_text series ++ samples_text number block replica series) (line_feed ∷ []),
         length-append (codes "series " ++ labels_text series) (samples_text number block replica series),
       )
 

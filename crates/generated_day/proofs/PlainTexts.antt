@@ -2,9 +2,10 @@
 use Rattle.std.proofs.Common.{◌≡◌, ℕ, zero, suc, ◌+◌, ◌<◌, ◌≤◌, true, false, ◌&&◌, Some, List, [], ◌∷◌, ◌++◌, refl, sym, ap, ◌∙◌, subst, arith, codes, append-nil, append_assoc}
 use Rattle.std.specs.List.{flat_map, list_all, range_with_len}
 use Rattle.std.specs.Str.{bytes_eq}
+use Rattle.reading_core.specs.Lines.{line_feed}
 use Rattle.reading_core.specs.Decimal.{decimal_text}
 use Rattle.ulid_core.specs.UlidText.{text_of}
-use Rattle.script_fields.specs.Fields.{lines_of, newline, next_field}
+use Rattle.script_fields.specs.Fields.{lines_of, next_field}
 use Rattle.script_core.specs.Parts.{IsEnded, IsOneLine}
 use Rattle.script_fields.proofs.FieldLaws.{cut_again, no_space}
 use Rattle.script_core.proofs.PartLaws.{cut_one}
@@ -34,9 +35,9 @@ plain_both : (front text : List ℕ) → IsPlain front → IsPlain text → IsPl
 plain_both front text one two more rest =
     subst (λ t. list_all is_plain (lines_of t) ≡ true) (sym (append_assoc front text more)) (one (text ++ more) (two more rest))
 
-plain_line : (line : List ℕ) → IsOneLine line → is_plain line ≡ true → IsPlain (line ++ newline ∷ [])
+plain_line : (line : List ℕ) → IsOneLine line → is_plain line ≡ true → IsPlain (line ++ line_feed ∷ [])
 plain_line line one plain more rest =
-    ap (λ t. list_all is_plain (lines_of t)) (append_assoc line (newline ∷ []) more)
+    ap (λ t. list_all is_plain (lines_of t)) (append_assoc line (line_feed ∷ []) more)
     ∙ ap (list_all is_plain) (cut_one line one more)
     ∙ (λ i. plain i && rest i)
 
@@ -152,4 +153,4 @@ phases_ended =
     let front : List ℕ = all_uploads_text ++ look_text (day_start + hours 25) ++ all_rounds_text ++ look_text (day_start + hours 26) ++ cleaning_text in
     let at = at_line (day_start + hours 74 + minutes 1) in
     let line : List ℕ = codes "sync g1\nsync g2\nquery 1728000000000 1728086400000 {}" in
-    subst IsEnded (append_assoc (front ++ at) line (newline ∷ []) ∙ append_assoc front at (line ++ newline ∷ [])) (ended_by (front ++ at ++ line))
+    subst IsEnded (append_assoc (front ++ at) line (line_feed ∷ []) ∙ append_assoc front at (line ++ line_feed ∷ [])) (ended_by (front ++ at ++ line))

@@ -10,7 +10,8 @@ use Rattle.std.proofs.lemmas.List.FromFn.{get_or-range_with_len, length-range_wi
 use Rattle.std.proofs.lemmas.List.Sums.{AllPass-from_list_all}
 use Rattle.std.proofs.lemmas.Str.Ascii.{IsAscii-from_all}
 use Rattle.std.proofs.lemmas.Str.{IsUtf8-from_ascii, is_utf8-from_IsUtf8}
-use Rattle.script_fields.specs.Fields.{is_newline, is_silent, lines_of, newline}
+use Rattle.reading_core.specs.Lines.{line_feed}
+use Rattle.script_fields.specs.Fields.{is_newline, is_silent, lines_of}
 use Rattle.script_core.specs.Parts.{IsOneLine}
 use Rattle.script_core.specs.Spelling.{Say, Says, SoFar}
 use Rattle.script_core.proofs.PartLaws.{cut_one}
@@ -60,9 +61,9 @@ spoken : (before after last : SoFar) (number : ℕ) (line : List ℕ) (lines : L
 spoken before after last number line lines silent utf8 says said =
     subst (λ b. MatchBool b (Say before (number + 1) lines last) ((next : SoFar) × (is_utf8 line ≡ true) × Says before number line next × Say next (number + 1) lines last)) (sym silent) (after, utf8, says, said)
 
-pub tells_line : (before after : SoFar) (number : ℕ) (line : List ℕ) → is_silent line ≡ false → list_all is_print line ≡ true → Says before number line after → Tells before number (line ++ newline ∷ []) after (number + 1)
+pub tells_line : (before after : SoFar) (number : ℕ) (line : List ℕ) → is_silent line ≡ false → list_all is_print line ≡ true → Says before number line after → Tells before number (line ++ line_feed ∷ []) after (number + 1)
 tells_line before after number line silent print says more last said =
-    subst (λ t. Say before number (lines_of t) last) (sym (append_assoc line (newline ∷ []) more))
+    subst (λ t. Say before number (lines_of t) last) (sym (append_assoc line (line_feed ∷ []) more))
     (subst (λ (ls : List (List ℕ)). Say before number ls last) (sym (cut_one line (print_line line print) more)) (spoken before after last number line (lines_of more) silent (print_utf8 line print) says said))
 
 -- ---- tests over a range

@@ -5,11 +5,12 @@ use Rattle.std.specs.Str.{bytes_eq}
 use Rattle.std.proofs.lemmas.Bool.{and_parts}
 use Rattle.std.proofs.lemmas.Bool.Decides.{nat_tests}
 use Rattle.std.proofs.lemmas.List.{length-append, same_from_push}
+use Rattle.reading_core.specs.Lines.{line_feed}
 use Rattle.reading_core.specs.Reading.{Gives}
 use Rattle.reading_core.proofs.Binds.{ok_not_err}
 use Rattle.moment_core.specs.StandardRules.{standard_rules}
 use Rattle.matchers.specs.SelectorText.{commas_text, opening_text}
-use Rattle.script_fields.specs.Fields.{lines_of, newline, next_field}
+use Rattle.script_fields.specs.Fields.{lines_of, next_field}
 use Rattle.script_core.specs.GivenUp.{HasPattern, IsPatternAmong, IsPatternLine}
 use Rattle.script_fields.specs.Limits.{longest_text}
 use Rattle.script_core.specs.Lines.{Asked, has_begun, question_at}
@@ -155,5 +156,5 @@ script_wants text (Err e) whole (inr refused) =
 
 -- ---- ends
 
-pub ended_by : (line : List ℕ) → IsEnded (line ++ newline ∷ [])
-ended_by line front byte is = sym (same_from_push line front newline byte is).1
+pub ended_by : (line : List ℕ) → IsEnded (line ++ line_feed ∷ [])
+ended_by line front byte is = sym (same_from_push line front line_feed byte is).1

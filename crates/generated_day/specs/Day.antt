@@ -6,6 +6,7 @@ use Rattle.std.specs.List.{flat_map, range_with_len}
 use Rattle.reading_core.specs.Decimal.{decimal_text}
 use Rattle.reading_core.specs.Lines.{newline}
 use Rattle.ulid_core.specs.UlidText.{text_of}
+use Rattle.ulid_core.specs.Limits.{entropy_count}
 use Rattle.label_sets.specs.SampleText.{spaced_sample_text}
 use Rattle.label_sets.specs.declared.sample.Sample.{Sample}
 use Rattle.moment_core.specs.Limits.{one_minute, one_hour}
@@ -19,9 +20,17 @@ minutes count = count * one_minute
 abbrev pub hours : ℕ → ℕ
 hours count = count * one_hour
 
+-- how many blocks a replica has
+abbrev pub block_count : ℕ
+block_count = 12
+
+-- how many milliseconds a block has
+abbrev pub block_span : ℕ
+block_span = 7_200_000
+
 -- the first millisecond of the block at a place, and the one behind the block before it
 abbrev pub block_start : ℕ → ℕ
-block_start place = day_start + 7_200_000 * place
+block_start place = day_start + block_span * place
 
 -- ---- samples
 
@@ -29,9 +38,13 @@ block_start place = day_start + 7_200_000 * place
 abbrev pub series_count : ℕ
 series_count = 100
 
--- how many places for samples a block has
+-- how many places for samples each series of a block has
 abbrev pub place_count : ℕ
 place_count = 480
+
+-- how many milliseconds lie between two places
+abbrev pub sample_step : ℕ
+sample_step = 15_000
 
 -- the pattern of a series' sample at a time, mixed of the day's number
 abbrev pub pattern : ℕ → ℕ → ℕ → ℕ
@@ -41,7 +54,7 @@ pattern number series time =
 -- the sample at a place of a block: there is one each fifteen seconds
 abbrev pub sample : ℕ → ℕ → ℕ → ℕ → Sample
 sample number block series place =
-    let time = block_start block + 15_000 * place in
+    let time = block_start block + sample_step * place in
     record { time = pos time; pattern = pattern number series time }
 
 -- of each seven samples a replica misses one
@@ -63,7 +76,7 @@ samples_text number block replica series = flat_map spaced_sample_text (day_samp
 
 -- a ULID of the block's end
 abbrev pub ulid_of : ℕ → ℕ → ℕ
-ulid_of block replica = block_start (block + 1) * 2 ^ 80 + (2 * block + replica + 1)
+ulid_of block replica = block_start (block + 1) * entropy_count + (2 * block + replica + 1)
 
 unfoldable pub two_digits : ℕ → List ℕ
 two_digits number = (48 + number / 10) ∷ (48 + number % 10) ∷ []
@@ -113,6 +126,10 @@ uploads_at block = at_line (block_start (block + 1)) ++ upload_line block 0 ++ u
 unfoldable pub look_text : ℕ → List ℕ
 look_text moment = at_line moment ++ codes "sync g1\nsync g2\nquery 1728000000000 1728086400000 {}\n"
 
+-- how many rounds of compaction there are
+abbrev pub round_count : ℕ
+round_count = 15
+
 unfoldable pub round_text : ℕ → List ℕ
 round_text round = at_line (day_start + hours 25 + minutes round) ++ codes "compact\n"
 
@@ -122,13 +139,13 @@ cleaning_text = at_line (day_start + hours 74) ++ codes "clean\n"
 -- ---- the whole
 
 unfoldable pub all_blocks_text : ℕ → List ℕ
-all_blocks_text number = flat_map (blocks_at number) (range_with_len 0 12)
+all_blocks_text number = flat_map (blocks_at number) (range_with_len 0 block_count)
 
 unfoldable pub all_uploads_text : List ℕ
-all_uploads_text = flat_map uploads_at (range_with_len 0 12)
+all_uploads_text = flat_map uploads_at (range_with_len 0 block_count)
 
 unfoldable pub all_rounds_text : List ℕ
-all_rounds_text = flat_map round_text (range_with_len 1 15)
+all_rounds_text = flat_map round_text (range_with_len 1 round_count)
 
 unfoldable pub setup_text : List ℕ
 setup_text = codes "rule replica-label replica\ngateway g1\ngateway g2\n"

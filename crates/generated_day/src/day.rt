@@ -8,14 +8,17 @@ ghost use Rattle.generated_day.specs.Wanting.{ReadsOrWants};
 ghost use Rattle.generated_day.specs.Day.{all_blocks_text, all_uploads_text, all_rounds_text, setup_text, cleaning_text, phases_text, day_text};
 
 use crate::lines::{put_at, put_look, put_round, put_uploads, read_blocks};
-use crate::samples::DAY_START;
+use crate::samples::{BLOCK_COUNT, DAY_START};
 use list_core::NoMemory;
 use moment_core::{HOUR, MINUTE};
 use script_core::{PartReader, Script, ScriptRefusal};
 use std::alloc::Global;
 
+/// How many rounds of compaction there are.
+const ROUND_COUNT: u64 = 15;
+
 /// The script of the generated day with this number, which mixes the samples' patterns.
-pub fn generated(alloc: Global, number: u64) -> Result<Script, ScriptRefusal>
+pub fn generated_script(alloc: Global, number: u64) -> Result<Script, ScriptRefusal>
     ensures spelled { IfOk result (λ script. Spells (day_text number) script) }
     ensures lawful { IfOk result (λ script. IsLawfulScript script) }
 
@@ -50,7 +53,7 @@ fn read_day(reader: &mut PartReader, alloc: Global, number: u64) -> Result<(), S
 fn read_all_blocks(reader: &mut PartReader, alloc: Global, number: u64) -> Result<(), ScriptRefusal>
     ensures { ReadsOrWants reader.old reader.new (all_blocks_text number) result }
 {
-    for block in 0..12 {
+    for block in 0..BLOCK_COUNT {
         read_blocks(reader, alloc, number, block)?;
     }
     Ok(())
@@ -71,7 +74,7 @@ fn put_phases(out: &mut Vec<u8>) -> Result<(), NoMemory>
 fn put_all_uploads(out: &mut Vec<u8>) -> Result<(), NoMemory>
     ensures { OnOk result (out.new.items ≡ out.old.items ++ all_uploads_text) }
 {
-    for block in 0..12 {
+    for block in 0..BLOCK_COUNT {
         put_uploads(out, block)?;
     }
     Ok(())
@@ -80,7 +83,7 @@ fn put_all_uploads(out: &mut Vec<u8>) -> Result<(), NoMemory>
 fn put_rounds(out: &mut Vec<u8>) -> Result<(), NoMemory>
     ensures { OnOk result (out.new.items ≡ out.old.items ++ all_rounds_text) }
 {
-    for round in 1..16 {
+    for round in 1..ROUND_COUNT + 1 {
         put_round(out, round)?;
     }
     Ok(())

@@ -7,6 +7,6 @@ mod lines;
 mod samples;
 mod summary;
 
-pub use day::generated;
+pub use day::generated_script;
 pub use laws::day_is_a_script;
 pub use summary::{QueryCounts, Summary};

@@ -2,7 +2,7 @@
 
 ghost use Rattle.std.specs.Prelude.{◌≡◌, ◌<◌, ◌≤◌, ◌*◌, ◌+◌, ◌++◌, OnOk};
 ghost use Rattle.generated_day.specs.Wanting.{ReadsOrWants};
-ghost use Rattle.generated_day.specs.Day.{two_digits, labels_text, all_series_text, times_text, external_text, at_line, upload_line, series_line, block_line, block_text, blocks_at, uploads_at, look_text, round_text, ulid_of, series_count};
+ghost use Rattle.generated_day.specs.Day.{two_digits, labels_text, all_series_text, times_text, external_text, at_line, upload_line, series_line, block_line, block_text, blocks_at, uploads_at, look_text, round_text, ulid_of, block_count, round_count, series_count};
 
 use crate::samples::{DAY_START, block_start, samples_of};
 use list_core::NoMemory;
@@ -17,7 +17,7 @@ const SERIES_COUNT: u64 = 100;
 
 /// The ULID of a replica's block.
 fn ulid_of(block: u64, replica: u64) -> Ulid
-    requires block { block < 12 }
+    requires block { block < block_count }
     requires replica { replica < 2 }
     ensures { result ≡ ulid_of block replica }
 {
@@ -55,7 +55,7 @@ fn read_series(
     replica: u64,
     series: u64,
 ) -> Result<(), ScriptRefusal>
-    requires block { block < 12 }
+    requires block { block < block_count }
     requires series { series < series_count }
     ensures { ReadsOrWants reader.old reader.new (series_line number block replica series)
         result }
@@ -69,7 +69,7 @@ fn read_series(
 /// Appends the times of a block: its first millisecond, and the one behind its last.
 #[tactic(auto, unfolding(crate::specs::Day::times_text))]
 fn put_times(out: &mut Vec<u8>, block: u64) -> Result<(), NoMemory>
-    requires { block < 12 }
+    requires { block < block_count }
     ensures { OnOk result (out.new.items ≡ out.old.items ++ times_text block) }
 {
     put_unsigned(out, block_start(block))?;
@@ -90,7 +90,7 @@ fn put_external(out: &mut Vec<u8>, replica: u64) -> Result<(), NoMemory>
 
 #[tactic(auto, unfolding(crate::specs::Day::block_line))]
 fn put_block_line(out: &mut Vec<u8>, block: u64, replica: u64) -> Result<(), NoMemory>
-    requires block { block < 12 }
+    requires block { block < block_count }
     requires replica { replica < 2 }
     ensures { OnOk result (out.new.items ≡ out.old.items ++ block_line block replica) }
 {
@@ -113,7 +113,7 @@ fn read_block(
     block: u64,
     replica: u64,
 ) -> Result<(), ScriptRefusal>
-    requires block { block < 12 }
+    requires block { block < block_count }
     requires replica { replica < 2 }
     ensures { ReadsOrWants reader.old reader.new (block_text number block replica) result }
 {
@@ -130,7 +130,7 @@ fn read_all_series(
     block: u64,
     replica: u64,
 ) -> Result<(), ScriptRefusal>
-    requires block { block < 12 }
+    requires block { block < block_count }
     ensures { ReadsOrWants reader.old reader.new (all_series_text number block replica) result }
 {
     for series in 0..SERIES_COUNT {
@@ -147,7 +147,7 @@ pub(crate) fn read_blocks(
     number: u64,
     block: u64,
 ) -> Result<(), ScriptRefusal>
-    requires { block < 12 }
+    requires { block < block_count }
     ensures { ReadsOrWants reader.old reader.new (blocks_at number block) result }
 {
     read_block(reader, alloc, number, block, 0)?;
@@ -167,7 +167,7 @@ pub(crate) fn put_at(out: &mut Vec<u8>, moment: u64) -> Result<(), NoMemory>
 
 #[tactic(auto, unfolding(crate::specs::Day::upload_line))]
 fn put_upload(out: &mut Vec<u8>, block: u64, replica: u64) -> Result<(), NoMemory>
-    requires block { block < 12 }
+    requires block { block < block_count }
     requires replica { replica < 2 }
     ensures { OnOk result (out.new.items ≡ out.old.items ++ upload_line block replica) }
 {
@@ -180,7 +180,7 @@ fn put_upload(out: &mut Vec<u8>, block: u64, replica: u64) -> Result<(), NoMemor
 /// Appends the phase in which both replicas ship their blocks, at the end of these.
 #[tactic(auto, unfolding(crate::specs::Day::uploads_at))]
 pub(crate) fn put_uploads(out: &mut Vec<u8>, block: u64) -> Result<(), NoMemory>
-    requires { block < 12 }
+    requires { block < block_count }
     ensures { OnOk result (out.new.items ≡ out.old.items ++ uploads_at block) }
 {
     put_at(out, block_start(block + 1))?;
@@ -201,7 +201,7 @@ pub(crate) fn put_look(out: &mut Vec<u8>, moment: u64) -> Result<(), NoMemory>
 /// Appends the phase of a round of compactions.
 #[tactic(auto, unfolding(crate::specs::Day::round_text))]
 pub(crate) fn put_round(out: &mut Vec<u8>, round: u64) -> Result<(), NoMemory>
-    requires { round ≤ 15 }
+    requires { round ≤ round_count }
     ensures { OnOk result (out.new.items ≡ out.old.items ++ round_text round) }
 {
     put_at(out, DAY_START + 1_500 * MINUTE + round * MINUTE)?;

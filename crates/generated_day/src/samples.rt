@@ -1,7 +1,7 @@
 //! The samples of the generated day.
 
 ghost use Rattle.std.specs.Prelude.{◌≡◌, ◌<◌, ◌≤◌, ◌^◌, ◌++◌, IfOk, OnOk};
-ghost use Rattle.generated_day.specs.Day.{block_start, pattern, sample, has_sample, sample_part, day_samples, series_count, place_count};
+ghost use Rattle.generated_day.specs.Day.{block_count, block_start, pattern, sample, has_sample, sample_part, day_samples, series_count, place_count};
 
 use label_sets::{Sample, SampleList};
 use list_core::NoMemory;
@@ -10,11 +10,14 @@ use std::alloc::Global;
 /// The first millisecond of the day.
 pub(crate) const DAY_START: u64 = 1_728_000_000_000;
 
-/// How long a block is.
+/// How many blocks a replica has.
+pub(crate) const BLOCK_COUNT: u64 = 12;
+
+/// How many milliseconds a block has.
 const BLOCK_SPAN: u64 = 7_200_000;
 
-/// How far apart samples are.
-const STEP: u64 = 15_000;
+/// How many milliseconds lie between two places for samples.
+const SAMPLE_STEP: u64 = 15_000;
 
 /// How many samples a replica's series has at most.
 const MOST_SAMPLES: usize = 412;
@@ -32,7 +35,7 @@ const PATTERNS: u128 = 0x1_0000_0000_0000_0000;
 
 /// The first millisecond of the block at a place, and the one behind the block before it.
 pub(crate) fn block_start(place: u64) -> u64
-    requires { place ≤ 12 }
+    requires { place ≤ block_count }
     ensures { result ≡ block_start place }
 {
     DAY_START + BLOCK_SPAN * place
@@ -48,12 +51,12 @@ fn pattern(number: u64, series: u64, time: u64) -> u64
 }
 
 fn sample(number: u64, block: u64, series: u64, place: u64) -> Sample
-    requires block { block < 12 }
+    requires block { block < block_count }
     requires series { series < series_count }
     requires place { place < place_count }
     ensures { result ≡ sample number block series place }
 {
-    let time = block_start(block) + STEP * place;
+    let time = block_start(block) + SAMPLE_STEP * place;
     Sample {
         time: time as i64,
         pattern: pattern(number, series, time),
@@ -78,7 +81,7 @@ fn push_sample(
     series: u64,
     place: u64,
 ) -> Result<(), NoMemory>
-    requires block { block < 12 }
+    requires block { block < block_count }
     requires series { series < series_count }
     requires place { place < place_count }
     ensures { OnOk result (samples.new.items
@@ -98,7 +101,7 @@ pub(crate) fn samples_of(
     replica: u64,
     series: u64,
 ) -> Result<SampleList, NoMemory>
-    requires block { block < 12 }
+    requires block { block < block_count }
     requires series { series < series_count }
     ensures { IfOk result (λ samples. samples ≡ day_samples number block replica series) }
 {

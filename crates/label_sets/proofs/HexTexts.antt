@@ -1,15 +1,15 @@
 -- Patterns as 16 digits in base 16, and the number that such digits write.
-use Rattle.std.proofs.Common.{◌≡◌, ◌≢◌, ℕ, ◌^◌, ◌<◌, Bool, true, false, ◌&&◌, cond, eqb, List, [], ◌∷◌, map, length, get_or, Some, None, Result, Ok, Err, refl, sym, ap, subst, ◌∙◌, arith, eq-eqb}
+use Rattle.std.proofs.Common.{◌≡◌, ◌≢◌, ℕ, ◌+◌, ◌-◌, ◌*◌, ◌^◌, ◌<◌, ◌≤◌, Bool, true, false, ◌&&◌, cond, eqb, List, [], ◌∷◌, map, length, take, get_or, Some, None, refl, sym, ap, subst, ◌∙◌, arith, eq-eqb}
 use Rattle.std.proofs.lemmas.Bool.{and_parts}
 use Rattle.std.proofs.lemmas.Bool.Decides.{nat_tests}
-use Rattle.std.proofs.lemmas.Int.Digits.{digits_value_is, digits_value-lt, all_below_base_from_digits}
+use Rattle.std.proofs.lemmas.Int.Digits.{digits_value_is, digits_value-lt, digits_value_more, all_below_base_from_digits}
 use Rattle.std.proofs.lemmas.List.{length-map}
-use Rattle.std.proofs.lemmas.Str.Parse.{without_leading_plus_none}
-use Rattle.std.specs.Char.{digit_value}
+use Rattle.std.proofs.lemmas.List.Sums.{AllPass-from_list_all}
+use Rattle.std.proofs.lemmas.Str.Parse.{digits_value-take-le}
+use Rattle.std.specs.Char.{digit_value, is_ascii_digit}
 use Rattle.std.specs.Int.Digits.{number_from_digits, AllBelowBase}
 use Rattle.std.specs.List.{list_all}
-use Rattle.std.specs.Result.{OkIff, result_ok}
-use Rattle.std.specs.Str.Parse.{AllDigits, IsNumeral, digits_value, ParsesUnsigned}
+use Rattle.std.specs.Str.Parse.{AllDigits, digits_value}
 use Rattle.reading_core.specs.FixedDigits.{fixed_digits}
 use Rattle.reading_core.proofs.Positional.{length-fixed_digits, below-fixed_digits, number-fixed_digits, fixed_digits-only}
 use Rattle.label_sets.specs.SampleText.{hex_sign, hex_text, is_hex_sign, hex_number, pattern_text, pattern_of}
@@ -77,24 +77,35 @@ pattern_again pattern fits =
     let number = digits_value_is 16 text ∙ ap (number_from_digits 16) signs.1 ∙ number-fixed_digits _ _ _ (omega arith) (omega arith) in
     (λ i. cond (long i && signs.0 i) (Some (number i)) None)
 
-no_plus : (digits : List ℕ) → AllDigits 16 digits → get_or digits 0 0 ≢ 43
-no_plus [] all = λ e. omega arith
-no_plus (c ∷ digits) all = λ e. let low = all.0 in grind (arith, nat_tests)
+-- what a sign is worth
+pub figure_value : (sign : ℕ) → is_ascii_digit sign ≡ true → sign - 48 ≡ digit_value sign
+figure_value sign is = grind (arith, nat_tests)
 
-given : {E : Type 0} (digits : List ℕ) (r : Result ℕ E) → IsNumeral 16 digits → digits_value 16 digits < 2 ^ 64 → OkIff r (IsNumeral 16 digits × (digits_value 16 digits < 2 ^ 64)) (digits_value 16 digits) → result_ok r ≡ Some (digits_value 16 digits)
-given _ (Ok n) is low parsed = ap (λ k. Some k) parsed.1
-given _ (Err e) is low parsed = absurd (parsed (is, low))
+pub letter_least : (sign : ℕ) → is_hex_sign sign ≡ true → is_ascii_digit sign ≡ false → 97 ≤ sign
+unfolding is_hex_sign
+letter_least sign is other = grind (arith, nat_tests)
 
--- what `from_str_radix` gives is the pattern
-pub pattern_parsed : {E : Type 0} (digits : List ℕ) (r : Result ℕ E) → ParsesUnsigned 64 16 digits r → length digits ≡ 16 → list_all is_hex_sign digits ≡ true → result_ok r ≡ pattern_of digits
+pub letter_value : (sign : ℕ) → is_hex_sign sign ≡ true → is_ascii_digit sign ≡ false → sign - 97 + 10 ≡ digit_value sign
+unfolding is_hex_sign
+letter_value sign is other = grind (arith, nat_tests)
+
+-- what is made of the digits is the pattern
+pub pattern_read : (digits : List ℕ) → length digits ≡ 16 → list_all is_hex_sign digits ≡ true → Some (digits_value 16 digits) ≡ pattern_of digits
 unfolding pattern_of hex_number
-pattern_parsed {E} digits r parsed long all =
-    let known = (digits_of_signs _ all).0 in
-    let bare = without_leading_plus_none _ (no_plus _ known) in
-    let at =
-    subst (λ t. OkIff r (IsNumeral 16 t × (digits_value 16 t < 2 ^ 64)) (digits_value 16 t)) bare parsed in
+pattern_read digits long all =
     let test = eq-eqb _ _ long in
-    given _ r (omega arith, known) (small _ known long) at ∙ (λ i. cond (sym test i && sym all i) (Some (digits_value 16 digits)) None)
+    (λ i. cond (sym test i && sym all i) (Some (digits_value 16 digits)) None)
+
+-- the number of the signs so far, with the next one
+pub number_at : (signs : List ℕ) (i number : ℕ) → list_all is_hex_sign signs ≡ true → length signs ≡ 16 → i < length signs → number ≡ digits_value 16 (take i signs)
+    → (is_hex_sign (get_or signs i 0) ≡ true) × (number * 16 + digit_value (get_or signs i 0) ≡ digits_value 16 (take (i + 1) signs)) × (number * 16 + digit_value (get_or signs i 0) < 2 ^ 64)
+number_at signs i number all long low so_far =
+    let sign : is_hex_sign (get_or signs i 0) ≡ true = AllPass-from_list_all is_hex_sign signs all i 0 low in
+    let more = digits_value_more 16 signs i low in
+    let next : number * 16 + digit_value (get_or signs i 0) ≡ digits_value 16 (take (i + 1) signs) = rw (more, so_far) refl in
+    let front = digits_value-take-le 16 signs (i + 1) (omega arith) in
+    let whole = small signs (digits_of_signs signs all).0 long in
+    (sign, next, omega (arith, next, front, whole))
 
 -- and a text that fails a test is none
 pub pattern_unread : (digits : List ℕ) → length digits ≢ 16 → pattern_of digits ≡ None

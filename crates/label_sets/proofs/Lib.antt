@@ -17,4 +17,6 @@ pub mod StopPlaces
 pub mod RefusalLaws
 pub mod HexTexts
 pub mod SampleTexts
+pub mod TimesWithin
 pub mod Signs
+pub mod SampleParts

@@ -6,7 +6,7 @@ use Rattle.std.proofs.lemmas.List.{take-append-drop, length-append}
 use Rattle.std.specs.Str.{IsUtf8}
 use Rattle.label_sets.specs.declared.label_refusal.LabelRefusal.{LabelRefusal}
 use Rattle.label_sets.specs.declared.label_refusal.LabelRefusal.TheVariants.{BadText}
-use Rattle.label_sets.specs.Notation.{past, with_byte, value_at, quoted, quoted_byte}
+use Rattle.label_sets.specs.Notation.{rest_past, with_byte, value_at, quoted, quoted_byte}
 use Rattle.label_sets.proofs.Utf8Parts.{cut_front, cut_rest, unquoted}
 
 not_err : {A : Type 0} (e : LabelRefusal) (x : A) → Err e ≡ Ok x → ⊥
@@ -15,10 +15,10 @@ not_err e x h = cc
 same_pair : (x : List ℕ × List ℕ) (w after : List ℕ) (r : Result (List ℕ × List ℕ) LabelRefusal) → r ≡ Ok x → r ≡ Ok (w, after) → (x.0 ≡ w) × (x.1 ≡ after)
 same_pair x w _ r h k = let e = one_answer x _ r h k in (ap (λ p. p.0) e, ap (λ p. p.1) e)
 
-pub past-only : (byte : ℕ) (text rest : List ℕ) → past byte text ≡ Ok rest → text ≡ byte ∷ rest
-unfolding past
-past-only _ [] _ e = absurd (not_err _ _ e)
-past-only byte (first ∷ text) _ e = elim (cases_Bool _) [
+pub rest_past-only : (byte : ℕ) (text rest : List ℕ) → rest_past byte text ≡ Ok rest → text ≡ byte ∷ rest
+unfolding rest_past
+rest_past-only _ [] _ e = absurd (not_err _ _ e)
+rest_past-only byte (first ∷ text) _ e = elim (cases_Bool _) [
   | inl t ↦ let h = ok_is _ _ (rw t at e) in λ i. eqb-true first byte t i ∷ h i
   | inr f ↦ absurd (not_err _ _ (rw f at e))
 ]
@@ -91,11 +91,11 @@ pub value_is_quoted : (text value rest : List ℕ) → value_at false text ≡ O
 value_is_quoted text _ _ e = value-only _ _ _ _ e
 
 -- the text of a pair that was read in steps
-pub pair_shape : (text name rest after inside value last : List ℕ) (n m : ℕ) → m ≡ n → name ≡ take m text → rest ≡ drop m text → past 61 rest ≡ Ok after → past 34 after ≡ Ok inside → value_at false inside ≡ Ok (value, last)
+pub pair_shape : (text name rest after inside value last : List ℕ) (n m : ℕ) → m ≡ n → name ≡ take m text → rest ≡ drop m text → rest_past 61 rest ≡ Ok after → rest_past 34 after ≡ Ok inside → value_at false inside ≡ Ok (value, last)
     → text ≡ name ++ 61 ∷ 34 ∷ (quoted value ++ 34 ∷ last)
 pair_shape _ name _ _ _ _ _ n m k e r p q v =
     sym (take-append-drop m _) ∙ (λ i. sym e i ++ sym r i)
-    ∙ ap (λ t. name ++ t) (past-only _ _ _ p ∙ ap (λ t. 61 ∷ t) (past-only _ _ _ q ∙ ap (λ t. 34 ∷ t) (value_is_quoted _ _ _ v)))
+    ∙ ap (λ t. name ++ t) (rest_past-only _ _ _ p ∙ ap (λ t. 61 ∷ t) (rest_past-only _ _ _ q ∙ ap (λ t. 34 ∷ t) (value_is_quoted _ _ _ v)))
 
 pub shape_name : (text name value last : List ℕ) → text ≡ name ++ 61 ∷ 34 ∷ (quoted value ++ 34 ∷ last) → IsUtf8 text → IsUtf8 name
 shape_name _ _ _ _ e u = cut_front _ _ _ (omega arith) (subst IsUtf8 e u)

@@ -7,16 +7,16 @@ use Rattle.label_sets.specs.declared.label_refusal.LabelRefusal.{LabelRefusal}
 use Rattle.label_sets.specs.declared.label_refusal.LabelRefusal.TheVariants.{EmptyName, EmptyValue, Repeated}
 use Rattle.label_sets.specs.Labels.{names_of, has_lesser_name}
 use Rattle.label_sets.specs.Ordered.{in_order}
-use Rattle.label_sets.specs.Notation.{past, name_length, name_at, value_at, pair_at, repeats, placed_at, conclusion}
+use Rattle.label_sets.specs.Notation.{rest_past, name_length, name_at, value_at, pair_at, repeats, placed_at, conclusion}
 use Rattle.label_sets.proofs.RepeatedNames.{repeats_sorted_with}
 
 -- the steps of reading a pair
 pub record PairSteps (text : List ℕ) (label : Label) (rest : List ℕ) : Type 0 where
   pub after : List ℕ
   pub inside : List ℕ
-  pub past_equals : past 61 (drop (name_length text) text) ≡ Ok after
+  pub past_equals : rest_past 61 (drop (name_length text) text) ≡ Ok after
   pub named : nat_lt 0 (name_length text) ≡ true
-  pub past_quote : past 34 after ≡ Ok inside
+  pub past_quote : rest_past 34 after ≡ Ok inside
   pub read_value : value_at false inside ≡ Ok (label.value, rest)
   pub valued : nat_lt 0 (length label.value) ≡ true
   pub name_is : label.name ≡ name_at text
@@ -29,7 +29,7 @@ unfoldable pub after_quote : List ℕ → List ℕ → Result (Label × List ℕ
 after_quote name inside = value_at false inside >>= with_value name
 
 unfoldable pub after_equals : List ℕ → ℕ → List ℕ → Result (Label × List ℕ) LabelRefusal
-after_equals name n after = unless (nat_lt 0 n) EmptyName >> (past 34 after >>= after_quote name)
+after_equals name n after = unless (nat_lt 0 n) EmptyName >> (rest_past 34 after >>= after_quote name)
 
 same_read : (text value after : List ℕ) (label : Label) (rest : List ℕ) → ◌≡◌ {A = Result (Label × List ℕ) LabelRefusal} (Ok (record { name = name_at text; value = value }, after)) (Ok (label, rest))
     → (name_at text ≡ label.name) × (value ≡ label.value) × (after ≡ rest)

@@ -15,7 +15,7 @@ use Rattle.label_sets.specs.declared.label_refusal.LabelRefusal.TheVariants.{Emp
 use Rattle.label_sets.specs.Labels.{names_of, has_lesser_name}
 use Rattle.label_sets.specs.Ordered.{in_order}
 use Rattle.label_sets.specs.Finals.{is_among}
-use Rattle.label_sets.specs.Notation.{is_name, is_name_byte, Walk, name_length, name_at, past, pair_at, pairs_at, on_pair, with_label, value_at, at_end, end_at, after_pair, stopped_at, walk_at, repeats, placed_at, conclusion, read_set, pair_text, pairs_text, set_text}
+use Rattle.label_sets.specs.Notation.{is_name, is_name_byte, Walk, name_length, name_at, rest_past, pair_at, pairs_at, on_pair, with_label, value_at, at_end, end_at, after_pair, stopped_at, walk_at, repeats, placed_at, conclusion, read_set, pair_text, pairs_text, set_text}
 use Rattle.label_sets.specs.SetText.{ArePairs, IsSetText}
 use Rattle.label_sets.specs.SetRefusals.{pair_comma_text, HasPairs, LacksName, LacksValue, RepeatsName, BeginsASet, GoesOnTo, StopsAt, IsRefused}
 use Rattle.label_sets.proofs.LabelValues.{bytes_eq_differs}
@@ -106,7 +106,7 @@ unfolding at_end stopped_at
 end_bad _ (Ok after) bad = absurd (true≢false (sym bad))
 end_bad _ (Err e) bad = refl
 
-past_same : (front : List ℕ) (c : ℕ) (others more : List ℕ) → IsErr (past 125 (front ++ c ∷ others)) → IsErr (past 125 (front ++ c ∷ more))
+past_same : (front : List ℕ) (c : ℕ) (others more : List ℕ) → IsErr (rest_past 125 (front ++ c ∷ others)) → IsErr (rest_past 125 (front ++ c ∷ more))
 past_same [] c _ _ h = past_first _ c _ _ h
 past_same (x ∷ front) c _ _ h = past_first _ x _ _ h
 
@@ -118,7 +118,7 @@ stops_after _ labels front after p b bad =
     (λ c others g. no_beginning ((123 ∷ (commas labels ++ front)) ++ c ∷ []) (λ behind. simp append_assoc (bad c others behind g)))
 
 -- within a pair
-in_pair_reaches : (text : List ℕ) (labels : List Label) (pair : List ℕ) (e : LabelRefusal) → HasPairs text labels pair → (labels ≡ [] → IsErr (past 125 pair)) → repeats (name_at pair ∷ names_of labels) ≡ false
+in_pair_reaches : (text : List ℕ) (labels : List Label) (pair : List ℕ) (e : LabelRefusal) → HasPairs text labels pair → (labels ≡ [] → IsErr (rest_past 125 pair)) → repeats (name_at pair ∷ names_of labels) ≡ false
     → (s : Stops pair_at (HasName (name_at pair) (fresh labels)) pair e) → GoesOnTo text (length text - length s.after)
 unfolding repeats
 in_pair_reaches text labels pair e p closed once s =
@@ -132,7 +132,7 @@ in_pair_reaches text labels pair e p closed once s =
     (begun_pair _ _ _ more.0 p.lawful (pair_written (s.front ++ more.0) more.1.0 more.1.1 more.2) new found)
     (λ c others behind g.
     let other : List ℕ = s.front ++ c ∷ behind in
-    let walk = walk_goes_on labels other p.lawful (λ none. past_same s.front c others behind (subst (λ t. IsErr (past 125 t)) (s.whole ∙ ap (λ t. s.front ++ t) g) (closed none))) in
+    let walk = walk_goes_on labels other p.lawful (λ none. past_same s.front c others behind (subst (λ t. IsErr (rest_past 125 t)) (s.whole ∙ ap (λ t. s.front ++ t) g) (closed none))) in
     rw walk.1 (on_pair_bad (pairs_at walk.0) other (pair_at other) (s.here c others behind g)))
 
 -- behind a pair
@@ -143,15 +143,15 @@ behind_reaches _ _ _ s once =
     stops_after _ _ _ _ b.pairs
     (subst (λ t. BeginsASet (123 ∷ t)) (ap pairs_text b.labels_are ∙ pairs_and_last _ _) (begun _ b.lawful once))
     (λ c others behind g.
-    let first : (byte : ℕ) → IsErr (past byte s.rest) → IsErr (past byte (c ∷ behind)) = λ byte bad. past_first byte c others behind (subst (λ t. IsErr (past byte t)) g bad) in
+    let first : (byte : ℕ) → IsErr (rest_past byte s.rest) → IsErr (rest_past byte (c ∷ behind)) = λ byte bad. past_first byte c others behind (subst (λ t. IsErr (rest_past byte t)) g bad) in
     rw (walk_ends_behind b.front b.last (c ∷ behind) (subst ArePairs b.labels_are b.lawful) (first 44 s.no_comma)) (end_bad _ _ (first 125 s.no_end)))
 
 -- at the start of a text without the opening brace
-start_reaches : (text : List ℕ) → IsErr (past 123 text) → GoesOnTo text (length text - length text)
+start_reaches : (text : List ℕ) → IsErr (rest_past 123 text) → GoesOnTo text (length text - length text)
 unfolding set_text repeats pairs_text
 start_reaches text bad =
     reaches _ _ _ refl (shorter_begins [] (123 ∷ []) (begun [] (λ k d lt. absurd (omega arith)) refl))
-    (λ c others g b. true≢false (sym (past_first _ c _ _ (subst (λ t. IsErr (past 123 t)) g bad)) ∙ ap (λ t. is_err (past 123 t)) b.is_text.written ∙ ap is_err (past_it _ _)))
+    (λ c others g b. true≢false (sym (past_first _ c _ _ (subst (λ t. IsErr (rest_past 123 t)) g bad)) ∙ ap (λ t. is_err (rest_past 123 t)) b.is_text.written ∙ ap is_err (past_it _ _)))
 
 -- ---- each refusal has its cause
 
@@ -175,7 +175,7 @@ repeated_pairs text labels rest b t =
     }
 
 -- where a walk stopped and no name stands twice
-stop_cause : (text : List ℕ) (labels : List Label) (pair : List ℕ) (d : LabelRefusal) → HasPairs text labels pair → (labels ≡ [] → IsErr (past 125 pair)) → repeats (name_at pair ∷ names_of labels) ≡ false
+stop_cause : (text : List ℕ) (labels : List Label) (pair : List ℕ) (d : LabelRefusal) → HasPairs text labels pair → (labels ≡ [] → IsErr (rest_past 125 pair)) → repeats (name_at pair ∷ names_of labels) ≡ false
     → PairRefused (fresh labels) pair d → Cause text (placed_at (length text) d)
 unfolding placed_at name_at name_length
 stop_cause text labels _ d p closed once (inl why) = rw why.0 (record {
@@ -209,7 +209,7 @@ braces_cause text labels (Err stop) e b h =
         | inr s ↦ repeated_pairs _ _ _ s.behind (whole s ∙ t.0)
       ])
       | inr f ↦ subst (Cause text) (err_is _ e f.1) (elim b.1 [
-        | inl s ↦ stop_cause _ _ _ _ s.0 (λ none. subst (λ ls. IsErr (past 125 (commas ls ++ stop.1))) none (b.0 (commas labels ++ stop.1) s.0.begins)) f.0
+        | inl s ↦ stop_cause _ _ _ _ s.0 (λ none. subst (λ ls. IsErr (rest_past 125 (commas ls ++ stop.1))) none (b.0 (commas labels ++ stop.1) s.0.begins)) f.0
             (pair_refused _ _ _ (fresh_named _) s.1)
         | inr s ↦ subst (λ x. Cause text (placed_at (length text) x.0)) (sym s.stop_is) (behind_reaches _ _ _ s (whole s ∙ f.0))
       ])
@@ -229,14 +229,14 @@ cause_of _ e h = walk_cause _ _ e (walk_is _) h
 -- ---- and back
 
 -- a pair that is refused behind others
-refused_behind : (text : List ℕ) (labels : List Label) (pair : List ℕ) (d : LabelRefusal) → HasPairs text labels pair → (labels ≡ [] → IsErr (past 125 pair)) → pair_at pair ≡ Err d
+refused_behind : (text : List ℕ) (labels : List Label) (pair : List ℕ) (d : LabelRefusal) → HasPairs text labels pair → (labels ≡ [] → IsErr (rest_past 125 pair)) → pair_at pair ≡ Err d
     → read_set text ≡ cond (repeats (name_at pair ∷ names_of labels)) (Err Repeated) (Err (placed_at (length text) d))
 unfolding on_pair conclusion read_set
 refused_behind text labels _ d p unclosed h = let w = walk_goes_on _ _ p.lawful unclosed in rw (p.begins, w.1, h, append-nil labels)
 
 -- the equals sign, and the empty value
 lacks_name_again : (text : List ℕ) → LacksName text → read_set text ≡ Err EmptyName
-unfolding placed_at name_at name_length pair_at past after_equals after_quote with_value
+unfolding placed_at name_at name_length pair_at rest_past after_equals after_quote with_value
 lacks_name_again _ t =
     refused_behind _ _ _ _ t.pairs (λ none. refl) refl
     ∙ rw (repeats-nameless t.listed t.pairs.lawful ∙ t.once)
@@ -246,7 +246,7 @@ unfolding name_at
 named_at name rest is = rw (name_again name rest 61 is refl) (take_at _ _ _ refl)
 
 lacks_value_again : (text : List ℕ) → LacksValue text → read_set text ≡ Err EmptyValue
-unfolding placed_at past after_quote with_value value_at
+unfolding placed_at rest_past after_quote with_value value_at
 lacks_value_again text t =
     let pair = t.name ++ 61 ∷ 34 ∷ 34 ∷ t.after in
     refused_behind _ _ _ _ (subst (HasPairs text t.listed) (append_assoc t.name (61 ∷ 34 ∷ 34 ∷ []) t.after) t.pairs)
@@ -259,7 +259,7 @@ unfolding conclusion repeats
 repeated_whole _ _ (Ok after) t = rw t
 repeated_whole _ _ (Err stop) t = rw (t, or-true)
 
-repeated_pair : (text : List ℕ) (labels : List Label) (pair : List ℕ) (r : Result (Label × List ℕ) LabelRefusal) → pair_at pair ≡ r → HasPairs text labels pair → (labels ≡ [] → IsErr (past 125 pair))
+repeated_pair : (text : List ℕ) (labels : List Label) (pair : List ℕ) (r : Result (Label × List ℕ) LabelRefusal) → pair_at pair ≡ r → HasPairs text labels pair → (labels ≡ [] → IsErr (rest_past 125 pair))
     → repeats (name_at pair ∷ names_of labels) ≡ true → read_set text ≡ Err Repeated
 unfolding on_pair with_label read_set
 repeated_pair _ _ _ (Err d) h p unclosed t = refused_behind _ _ _ d p unclosed h ∙ rw t

@@ -8,7 +8,7 @@ use Rattle.std.specs.List.{flat_map, prefix_len, list_all}
 use Rattle.label_sets.specs.declared.label.Label.{Label}
 use Rattle.label_sets.specs.declared.label_refusal.LabelRefusal.{LabelRefusal}
 use Rattle.label_sets.specs.declared.label_refusal.LabelRefusal.TheVariants.{EmptyName, EmptyValue, BadText}
-use Rattle.label_sets.specs.Notation.{is_name, is_name_start, is_name_byte, name_length, name_at, past, with_byte, value_at, Walk, pair_at, pairs_at, on_pair, with_label, after_pair, at_comma, end_at, at_end, at_brace, after_brace, walk_at, quoted, quoted_byte, pair_text, pairs_text, set_text}
+use Rattle.label_sets.specs.Notation.{is_name, is_name_start, is_name_byte, name_length, name_at, rest_past, with_byte, value_at, Walk, pair_at, pairs_at, on_pair, with_label, after_pair, at_comma, end_at, at_end, at_brace, after_brace, walk_at, quoted, quoted_byte, pair_text, pairs_text, set_text}
 use Rattle.label_sets.specs.SetText.{ArePairs}
 use Rattle.label_sets.specs.SetRefusals.{pair_comma_text}
 use Rattle.label_sets.proofs.LabelValues.{by_bool}
@@ -21,12 +21,12 @@ use Rattle.reading_core.specs.Reading.{◌>>=◌, ◌>>◌, unless}
 
 -- ---- a value
 
-pub past_it : (byte : ℕ) (text : List ℕ) → past byte (byte ∷ text) ≡ Ok text
-unfolding past
+pub past_it : (byte : ℕ) (text : List ℕ) → rest_past byte (byte ∷ text) ≡ Ok text
+unfolding rest_past
 past_it byte text = let same : eqb byte byte ≡ true = grind (arith, nat_tests) in ap (λ b. cond b (Ok text) (Err (BadText (length (byte ∷ text))))) same
 
-pub past_other : (byte first : ℕ) (text : List ℕ) → first ≢ byte → past byte (first ∷ text) ≡ Err (BadText (length (first ∷ text)))
-unfolding past
+pub past_other : (byte first : ℕ) (text : List ℕ) → first ≢ byte → rest_past byte (first ∷ text) ≡ Err (BadText (length (first ∷ text)))
+unfolding rest_past
 past_other byte first text differs = let other : eqb first byte ≡ false = grind (arith, nat_tests) in ap (λ b. cond b (Ok text) (Err (BadText (length (first ∷ text))))) other
 
 -- what is read behind a byte of a value that stands in quotes
@@ -91,15 +91,15 @@ unfolding pair_text
 pair_shape_again _ _ = simp append_assoc
 
 -- a pair whose name is whole and is followed by an equals sign
-pub pair_named : (text name after : List ℕ) → is_name name ≡ true → text ≡ name ++ 61 ∷ after → pair_at text ≡ (past 34 after >>= after_quote name)
+pub pair_named : (text name after : List ℕ) → is_name name ≡ true → text ≡ name ++ 61 ∷ after → pair_at text ≡ (rest_past 34 after >>= after_quote name)
 unfolding pair_at name_at after_quote after_equals with_value
 pair_named text name after is e =
     let n : name_length text ≡ length name = ap name_length e ∙ name_again _ _ _ is equals_sign in
     let d : drop (name_length text) text ≡ 61 ∷ after = (λ i. drop (n i) (e i)) ∙ drop_at name (61 ∷ after) (length name) refl in
     let t : take (name_length text) text ≡ name = (λ i. take (n i) (e i)) ∙ take_at _ _ _ refl in
-    (λ i. past 61 (d i) >>= after_equals (t i) (n i))
+    (λ i. rest_past 61 (d i) >>= after_equals (t i) (n i))
     ∙ ap (λ r. r >>= after_equals name (length name)) (past_it _ _)
-    ∙ ap (λ b. unless b EmptyName >> (past 34 after >>= after_quote name)) (name_some _ is)
+    ∙ ap (λ b. unless b EmptyName >> (rest_past 34 after >>= after_quote name)) (name_some _ is)
 
 pair_steps_again : (text name value rest : List ℕ) → is_name name ≡ true → value ≢ [] → text ≡ name ++ 61 ∷ 34 ∷ (quoted value ++ 34 ∷ rest) → pair_at text ≡ Ok (record { name = name; value = value }, rest)
 unfolding pair_at name_at with_value after_quote after_equals
@@ -136,7 +136,7 @@ unfolding pair_comma_text
 at_most_text [] = omega arith
 at_most_text (l ∷ ls) = omega (arith, at_most_text ls, length-append (pair_text l ++ 44 ∷ []) (flat_map pair_comma_text ls), length-append (pair_text l) (44 ∷ []))
 
-pub begins_no_end : (name rest : List ℕ) → is_name name ≡ true → IsErr (past 125 (name ++ rest))
+pub begins_no_end : (name rest : List ℕ) → is_name name ≡ true → IsErr (rest_past 125 (name ++ rest))
 unfolding is_name
 begins_no_end [] _ is = absurd cc
 begins_no_end (x ∷ name) _ is =
@@ -144,12 +144,12 @@ begins_no_end (x ∷ name) _ is =
     let other : x ≢ 125 = λ e. let closing = ap is_name_start (sym e) ∙ b.0 in absurd (cc closing) in
     ap is_err (past_other _ x _ other)
 
-pair_no_end : (l : Label) (rest : List ℕ) → is_name l.name ≡ true → IsErr (past 125 (pair_text l ++ rest))
-pair_no_end l _ is = subst (λ t. IsErr (past 125 t)) (sym (pair_shape_again l _)) (begins_no_end _ _ is)
+pair_no_end : (l : Label) (rest : List ℕ) → is_name l.name ≡ true → IsErr (rest_past 125 (pair_text l ++ rest))
+pair_no_end l _ is = subst (λ t. IsErr (rest_past 125 t)) (sym (pair_shape_again l _)) (begins_no_end _ _ is)
 
-no_end_at_once : (labels : List Label) (text : List ℕ) → ArePairs labels → (labels ≡ [] → IsErr (past 125 text)) → IsErr (past 125 (flat_map pair_comma_text labels ++ text))
+no_end_at_once : (labels : List Label) (text : List ℕ) → ArePairs labels → (labels ≡ [] → IsErr (rest_past 125 text)) → IsErr (rest_past 125 (flat_map pair_comma_text labels ++ text))
 no_end_at_once [] _ are unclosed = unclosed refl
-no_end_at_once (l ∷ ls) _ are unclosed = subst (λ t. IsErr (past 125 t)) (sym (commas_shape l _ _)) (pair_no_end l _ (are 0 l (omega arith)).0)
+no_end_at_once (l ∷ ls) _ are unclosed = subst (λ t. IsErr (rest_past 125 t)) (sym (commas_shape l _ _)) (pair_no_end l _ (are 0 l (omega arith)).0)
 
 unclosed_braces : (inside : List ℕ) (r : Result (List ℕ) LabelRefusal) → IsErr r → after_brace inside r ≡ pairs_at (suc (length inside)) inside
 unfolding after_brace
@@ -157,7 +157,7 @@ unclosed_braces _ (Ok after) bad = absurd (true≢false (sym bad))
 unclosed_braces _ (Err e) bad = refl
 
 -- a walk goes on behind them
-pub walk_goes_on : (labels : List Label) (pair : List ℕ) → ArePairs labels → (labels ≡ [] → IsErr (past 125 pair))
+pub walk_goes_on : (labels : List Label) (pair : List ℕ) → ArePairs labels → (labels ≡ [] → IsErr (rest_past 125 pair))
     → (n : ℕ) × (walk_at (123 ∷ (flat_map pair_comma_text labels ++ pair)) ≡ (labels ++ (on_pair (pairs_at n) pair (pair_at pair)).0, (on_pair (pairs_at n) pair (pair_at pair)).1))
 unfolding walk_at at_brace pairs_at
 walk_goes_on labels pair are unclosed =
@@ -175,7 +175,7 @@ no_comma_here _ _ (Ok next) bad = absurd (true≢false (sym bad))
 no_comma_here _ _ (Err e) bad = refl
 
 -- and comes to its end behind the last one
-pub walk_ends_behind : (front : List Label) (l : Label) (rest : List ℕ) → ArePairs (front ++ l ∷ []) → IsErr (past 44 rest)
+pub walk_ends_behind : (front : List Label) (l : Label) (rest : List ℕ) → ArePairs (front ++ l ∷ []) → IsErr (rest_past 44 rest)
     → walk_at (123 ∷ (flat_map pair_comma_text front ++ (pair_text l ++ rest))) ≡ (front ++ l ∷ (end_at rest).0, (end_at rest).1)
 unfolding on_pair with_label after_pair
 walk_ends_behind front l rest are no_comma =
@@ -192,7 +192,7 @@ last_of l (m ∷ ms) = let v = last_of m _ in (l ∷ v.0, v.1, ap (λ xs. l ∷ 
 
 -- the labels that stand in braces are read
 pub walk_again : (labels : List Label) (after : List ℕ) → ArePairs labels → walk_at (set_text labels ++ after) ≡ (labels, Ok after)
-unfolding walk_at at_brace after_brace set_text pairs_text end_at at_end past
+unfolding walk_at at_brace after_brace set_text pairs_text end_at at_end rest_past
 walk_again [] _ are = refl
 walk_again (l ∷ ls) after are =
     let v = last_of l _ in

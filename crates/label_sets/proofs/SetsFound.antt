@@ -17,8 +17,8 @@ use Rattle.label_sets.specs.Labels.{names_of, has_lesser_name}
 use Rattle.label_sets.specs.Ordered.{in_order}
 use Rattle.label_sets.specs.SetText.{ArePairs}
 use Rattle.label_sets.specs.SetRefusals.{pair_comma_text, HasPairs}
-use Rattle.label_sets.specs.Notation.{is_name, is_name_start, is_name_byte, Walk, past, pair_at, pairs_at, on_pair, with_label, after_pair, at_comma, end_at, at_end, at_brace, after_brace, stopped_at, walk_at, repeats, name_at, name_length, conclusion, read_set, pair_text, comma_pair_text, pairs_text, set_text}
-use Rattle.label_sets.proofs.ReadPairs.{past-only, pair_shape}
+use Rattle.label_sets.specs.Notation.{is_name, is_name_start, is_name_byte, Walk, rest_past, pair_at, pairs_at, on_pair, with_label, after_pair, at_comma, end_at, at_end, at_brace, after_brace, stopped_at, walk_at, repeats, name_at, name_length, conclusion, read_set, pair_text, comma_pair_text, pairs_text, set_text}
+use Rattle.label_sets.proofs.ReadPairs.{rest_past-only, pair_shape}
 use Rattle.label_sets.proofs.ReadSets.{pair_steps}
 use Rattle.label_sets.proofs.LabelValues.{by_bool}
 use Rattle.std.specs.Char.{is_ascii_digit}
@@ -98,16 +98,16 @@ pub record StopsBehind (text : List ℕ) (labels : List Label) (stop : LabelRefu
   pub rest : List ℕ
   pub behind : BehindPairs text labels rest
   pub stop_is : stop ≡ (BadText (length rest), [])
-  pub no_comma : IsErr (past 44 rest)
-  pub no_end : IsErr (past 125 rest)
+  pub no_comma : IsErr (rest_past 44 rest)
+  pub no_end : IsErr (rest_past 125 rest)
 
 abbrev pub WalkEnds : List ℕ → List Label → Result (List ℕ) (LabelRefusal × List ℕ) → Type 0
 WalkEnds text labels (Ok after) = BehindPairs text labels (125 ∷ after)
 WalkEnds text labels (Err stop) = StopsInPair text labels stop ⊎ StopsBehind text labels stop
 
-end_ends : (text : List ℕ) (labels : List Label) (rest : List ℕ) (r : Result (List ℕ) LabelRefusal) → BehindPairs text labels rest → IsErr (past 44 rest) → past 125 rest ≡ r → WalkEnds text (labels ++ (at_end rest r).0) (at_end rest r).1
+end_ends : (text : List ℕ) (labels : List Label) (rest : List ℕ) (r : Result (List ℕ) LabelRefusal) → BehindPairs text labels rest → IsErr (rest_past 44 rest) → rest_past 125 rest ≡ r → WalkEnds text (labels ++ (at_end rest r).0) (at_end rest r).1
 unfolding at_end stopped_at
-end_ends text labels _ (Ok after) b c p = subst (λ ls. BehindPairs text ls (125 ∷ after)) (sym (append-nil labels)) (subst (BehindPairs text labels) (past-only _ _ _ p) b)
+end_ends text labels _ (Ok after) b c p = subst (λ ls. BehindPairs text ls (125 ∷ after)) (sym (append-nil labels)) (subst (BehindPairs text labels) (rest_past-only _ _ _ p) b)
 end_ends text labels rest (Err d) b c p = subst (λ ls. WalkEnds text ls (Err (BadText (length rest), []))) (sym (append-nil labels)) (inr (record { rest = rest; behind = b; stop_is = refl; no_comma = c; no_end = ap is_err p }))
 
 -- a walk goes on from what is left, behind these labels
@@ -115,10 +115,10 @@ abbrev GoesOn : (List ℕ → Walk) → List ℕ → ℕ → Type 0
 GoesOn more text n = (labels : List Label) (next : List ℕ) → length next < n → HasPairs text labels next → WalkEnds text (labels ++ (more next).0) (more next).1
 
 comma_ends : (more : List ℕ → Walk) (text : List ℕ) (front : List Label) (l : Label) (rest : List ℕ) (r : Result (List ℕ) LabelRefusal) → HasPairs text front (pair_text l ++ rest) → ArePairs (front ++ l ∷ []) → GoesOn more text (length rest)
-    → past 44 rest ≡ r → WalkEnds text ((front ++ l ∷ []) ++ (at_comma more rest r).0) (at_comma more rest r).1
+    → rest_past 44 rest ≡ r → WalkEnds text ((front ++ l ∷ []) ++ (at_comma more rest r).0) (at_comma more rest r).1
 unfolding at_comma end_at
 comma_ends _ _ front l rest (Ok next) p are go e =
-    let is = past-only _ _ _ e in
+    let is = rest_past-only _ _ _ e in
     go (front ++ l ∷ []) next (omega (arith, ap length is)) (record {
       begins = p.begins ∙ ap (λ t. 123 ∷ t) (ap (λ t. flat_map pair_comma_text front ++ (pair_text l ++ t)) is ∙ sym (commas_more _ l _));
       lawful = are;
@@ -130,7 +130,7 @@ on_pair_ends : (more : List ℕ → Walk) (text : List ℕ) (labels : List Label
     → pair_at pair ≡ r → WalkEnds text (labels ++ (on_pair more pair r).0) (on_pair more pair r).1
 unfolding on_pair with_label after_pair
 on_pair_ends more text labels _ (Ok read) p go e =
-    let w = at_comma more read.1 (past 44 read.1) in
+    let w = at_comma more read.1 (rest_past 44 read.1) in
     let found = pair_found _ _ _ e in
     let lawful = All-push (λ l. (is_name l.name ≡ true) × (l.value ≢ [])) _ _ p.lawful (pair_written _ _ _ e) in
     subst (λ ls. WalkEnds text ls w.1) (append_assoc labels (read.0 ∷ []) w.0)
@@ -145,26 +145,26 @@ pairs_end (suc n) text labels pair few p = on_pair_ends _ _ _ _ _ p (λ ls next 
 
 -- pairs behind the opening brace
 abbrev pub InBraces : List ℕ → List Label → Result (List ℕ) (LabelRefusal × List ℕ) → Type 0
-InBraces text labels end = ((inside : List ℕ) → text ≡ 123 ∷ inside → IsErr (past 125 inside)) × WalkEnds text labels end
+InBraces text labels end = ((inside : List ℕ) → text ≡ 123 ∷ inside → IsErr (rest_past 125 inside)) × WalkEnds text labels end
 
 -- what a walk comes to: no opening brace, a set without labels, or pairs
 abbrev pub IsWalk : List ℕ → Walk → Type 0
-IsWalk text w = (IsErr (past 123 text) × (w ≡ stopped_at text)) ⊎ (((after : List ℕ) × (text ≡ 123 ∷ 125 ∷ after) × (w ≡ ([], Ok after))) ⊎ InBraces text w.0 w.1)
+IsWalk text w = (IsErr (rest_past 123 text) × (w ≡ stopped_at text)) ⊎ (((after : List ℕ) × (text ≡ 123 ∷ 125 ∷ after) × (w ≡ ([], Ok after))) ⊎ InBraces text w.0 w.1)
 
 same_inside : (inside other : List ℕ) → 123 ∷ inside ≡ 123 ∷ other → inside ≡ other
 same_inside _ _ e = cc
 
-brace_walk : (text inside : List ℕ) (r : Result (List ℕ) LabelRefusal) → text ≡ 123 ∷ inside → past 125 inside ≡ r → IsWalk text (after_brace inside r)
+brace_walk : (text inside : List ℕ) (r : Result (List ℕ) LabelRefusal) → text ≡ 123 ∷ inside → rest_past 125 inside ≡ r → IsWalk text (after_brace inside r)
 unfolding after_brace
-brace_walk _ _ (Ok after) shape p = inr (inl (after, shape ∙ ap (λ t. 123 ∷ t) (past-only _ _ _ p), refl))
+brace_walk _ _ (Ok after) shape p = inr (inl (after, shape ∙ ap (λ t. 123 ∷ t) (rest_past-only _ _ _ p), refl))
 brace_walk _ inside (Err d) shape p = inr (inr (
-  (λ other e. subst (λ t. IsErr (past 125 t)) (same_inside _ _ (sym shape ∙ e)) (ap is_err p)),
+  (λ other e. subst (λ t. IsErr (rest_past 125 t)) (same_inside _ _ (sym shape ∙ e)) (ap is_err p)),
   pairs_end _ _ [] inside (omega arith) (record { begins = shape; lawful = All-nil (λ l. (is_name l.name ≡ true) × (l.value ≢ [])) }),
 ))
 
-start_walk : (text : List ℕ) (r : Result (List ℕ) LabelRefusal) → past 123 text ≡ r → IsWalk text (at_brace text r)
+start_walk : (text : List ℕ) (r : Result (List ℕ) LabelRefusal) → rest_past 123 text ≡ r → IsWalk text (at_brace text r)
 unfolding at_brace
-start_walk _ (Ok inside) p = brace_walk _ _ _ (past-only _ _ _ p) refl
+start_walk _ (Ok inside) p = brace_walk _ _ _ (rest_past-only _ _ _ p) refl
 start_walk _ (Err d) p = inl (ap is_err p, refl)
 
 pub walk_is : (text : List ℕ) → IsWalk text (walk_at text)

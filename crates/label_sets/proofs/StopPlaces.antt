@@ -12,9 +12,9 @@ use Rattle.reading_core.proofs.Binds.{bind_err, err_is}
 use Rattle.label_sets.specs.declared.label.Label.{Label}
 use Rattle.label_sets.specs.declared.label_refusal.LabelRefusal.{LabelRefusal}
 use Rattle.label_sets.specs.declared.label_refusal.LabelRefusal.TheVariants.{EmptyName, EmptyValue, BadText}
-use Rattle.label_sets.specs.Notation.{is_name, is_name_byte, name_length, name_at, past, with_byte, value_at, pair_at, quoted}
+use Rattle.label_sets.specs.Notation.{is_name, is_name_byte, name_length, name_at, rest_past, with_byte, value_at, pair_at, quoted}
 use Rattle.list_core.proofs.Lists.{cons_parts, nil_not_cons}
-use Rattle.label_sets.proofs.ReadPairs.{past-only, value_is_quoted}
+use Rattle.label_sets.proofs.ReadPairs.{rest_past-only, value_is_quoted}
 use Rattle.label_sets.proofs.ReadSets.{with_value, after_quote, after_equals}
 use Rattle.label_sets.proofs.SetsFound.{name_read}
 use Rattle.label_sets.proofs.SetsAgain.{name_again, value_some, pair_named}
@@ -50,12 +50,12 @@ at_once : {A : Type 0} {read : List ℕ → Result A LabelRefusal} {Well : A →
 at_once {text = text} more x r w p h = record { front = []; after = text; whole = refl; place_is = p; so_far = (more, x, r, w); here = h }
 
 -- whether a byte is good does not depend on what follows it
-pub past_first : (byte c : ℕ) (others more : List ℕ) → IsErr (past byte (c ∷ others)) → IsErr (past byte (c ∷ more))
-unfolding past
+pub past_first : (byte c : ℕ) (others more : List ℕ) → IsErr (rest_past byte (c ∷ others)) → IsErr (rest_past byte (c ∷ more))
+unfolding rest_past
 past_first byte c others more = elim (eqb c byte) as (λ b. IsErr (cond b (Ok others) (Err (BadText (length (c ∷ others))))) → IsErr (cond b (Ok more) (Err (BadText (length (c ∷ more)))))) [ true ↦ λ h. h | false ↦ λ h. h ]
 
-past_bad : (byte : ℕ) (text : List ℕ) (e : LabelRefusal) → past byte text ≡ Err e → e ≡ BadText (length text)
-unfolding past
+past_bad : (byte : ℕ) (text : List ℕ) (e : LabelRefusal) → rest_past byte text ≡ Err e → e ≡ BadText (length text)
+unfolding rest_past
 past_bad _ [] e h = sym (err_is _ e h)
 past_bad byte (c ∷ text) e h = elim (cases_Bool (eqb c byte)) [
   | inl t ↦ absurd (true≢false (sym (ap is_err (rw t at h))))
@@ -135,7 +135,7 @@ PairRefused fresh text e =
 
 -- what follows the equals sign
 abbrev after_sign : List ℕ → List ℕ → Result (Label × List ℕ) LabelRefusal
-after_sign name after = past 34 after >>= after_quote name
+after_sign name after = rest_past 34 after >>= after_quote name
 
 unless_err : {B : Type 0} (b : Bool) (d e : LabelRefusal) (r : Result B LabelRefusal) → (unless b d >> r) ≡ Err e → ((b ≡ false) × (d ≡ e)) ⊎ ((b ≡ true) × (r ≡ Err e))
 unless_err true d e r h = inr (refl, h)
@@ -146,7 +146,7 @@ no_more n none = grind (arith, nat_tests)
 
 -- with a name
 named_refused : (fresh text after : List ℕ) (e : LabelRefusal) → is_name (name_at text) ≡ true → text ≡ name_at text ++ 61 ∷ after → after_sign (name_at text) after ≡ Err e → PairRefused fresh text e
-unfolding after_quote with_value past value_at with_byte quoted
+unfolding after_quote with_value rest_past value_at with_byte quoted
 named_refused fresh text after e is shape h =
     let name : List ℕ = name_at text in
     let used : List ℕ = name ++ 61 ∷ [] in
@@ -154,11 +154,11 @@ named_refused fresh text after e is shape h =
     let stops : Stops (after_sign name) (HasName name fresh) after e → PairRefused fresh text e = λ s. inr (inr
     (subst (λ t. Stops pair_at (HasName name fresh) t e) (append_assoc name (61 ∷ []) after ∙ sym shape)
     (later used (λ t y r w. (y, step t ∙ r, w)) (λ t bad. subst IsErr (sym (step t)) bad) s))) in
-    elim (bind_err (past 34 after) (after_quote name) e h) [
+    elim (bind_err (rest_past 34 after) (after_quote name) e h) [
       | inl stop ↦ stops (at_once (34 ∷ 120 ∷ 34 ∷ []) (record { name = name; value = 120 ∷ [] }, []) refl (refl, inl refl) (past_bad 34 after e stop)
-          (λ c others more n. bind_bad (past 34 (c ∷ more)) (after_quote name) (past_first _ c _ _ (subst (λ t. IsErr (past 34 t)) n (ap is_err stop)))))
+          (λ c others more n. bind_bad (rest_past 34 (c ∷ more)) (after_quote name) (past_first _ c _ _ (subst (λ t. IsErr (rest_past 34 t)) n (ap is_err stop)))))
       | inr x ↦
-          let quote = past-only _ _ _ x.1 in
+          let quote = rest_past-only _ _ _ x.1 in
           elim (bind_err _ _ e x.2) [
             | inl stop ↦ stops (subst (λ t. Stops (after_sign name) (HasName name fresh) t e) (sym quote) (later (34 ∷ [])
                 (λ t y r w. ((record { name = name; value = y.0 }, y.1), rw (r, value_some y.0 w.0), (w.1, inl refl)))
@@ -195,7 +195,7 @@ abbrev ending : List ℕ
 ending = 61 ∷ 34 ∷ 120 ∷ 34 ∷ []
 
 short_pair : (name : List ℕ) → is_name name ≡ true → pair_at (name ++ ending) ≡ Ok (record { name = name; value = 120 ∷ [] }, [])
-unfolding after_quote with_value past value_at with_byte
+unfolding after_quote with_value rest_past value_at with_byte
 short_pair _ is = pair_named _ _ _ is refl
 
 pub pair_refused : (fresh text : List ℕ) (e : LabelRefusal) → is_name fresh ≡ true → pair_at text ≡ Err e → PairRefused fresh text e
@@ -204,7 +204,7 @@ pair_refused fresh text e is h =
     let n : ℕ = name_length text in
     let rest : List ℕ = drop n text in
     let whole : text ≡ name_at text ++ rest = sym (take-append-drop n text) in
-    elim (bind_err (past 61 rest) _ e h) [
+    elim (bind_err (rest_past 61 rest) _ e h) [
       | inl stop ↦ inr (inr (record {
         front = name_at text;
         after = rest;
@@ -218,11 +218,11 @@ pair_refused fresh text e is h =
             let next = name_at text ++ c ∷ more in
             let d = drop_at (name_at text) (c ∷ more) (name_length next) (sym (name_stays _ c others more f)) in
             bind_bad _ _
-            (subst (λ t. IsErr (past 61 t)) (sym d) (past_first _ c _ _ (subst (λ t. IsErr (past 61 t)) f (ap is_err stop))));
+            (subst (λ t. IsErr (rest_past 61 t)) (sym d) (past_first _ c _ _ (subst (λ t. IsErr (rest_past 61 t)) f (ap is_err stop))));
       }))
       | inr x ↦
-          let sign = past-only _ rest x.0 x.1 in
-          elim (unless_err (nat_lt 0 n) EmptyName e (past 34 x.0 >>= after_quote (name_at text)) x.2) [
+          let sign = rest_past-only _ rest x.0 x.1 in
+          elim (unless_err (nat_lt 0 n) EmptyName e (rest_past 34 x.0 >>= after_quote (name_at text)) x.2) [
             | inl none ↦ inl (sym none.1, (x.0, ap (λ k. drop k text) (sym (no_more n none.0)) ∙ sign))
             | inr named ↦ named_refused _ _ _ e (name_read _ named.0) (whole ∙ ap (λ t. name_at text ++ t) sign) named.1
           ]

@@ -5,6 +5,7 @@ use Rattle.std.specs.declared.cmp.Ordering.TheVariants.{Less}
 use Rattle.std.specs.Ordering.{nat_cmp, ordering_then, is_lt}
 use Rattle.std.specs.Cmp.Lexicographic.{slice_cmp}
 use Rattle.std.specs.Str.{bytes_eq}
+use Rattle.std.specs.List.{AllByRecursion}
 use Rattle.label_sets.specs.declared.label.Label.{Label}
 use Rattle.label_sets.specs.declared.label_refusal.LabelRefusal.{LabelRefusal}
 use Rattle.label_sets.specs.declared.label_refusal.LabelRefusal.TheVariants.{EmptyName, EmptyValue, Repeated}
@@ -17,6 +18,10 @@ compare_texts = slice_cmp nat_cmp
 -- one text stands before another
 abbrev pub ComesBefore : List ℕ → List ℕ → Type 0
 ComesBefore one other = compare_texts one other ≡ Less
+
+-- the same as a test
+abbrev pub is_lesser_text : List ℕ → List ℕ → Bool
+is_lesser_text one other = is_lt (compare_texts one other)
 
 -- the order of labels: by name and then by value
 abbrev pub compare_labels : Label → Label → Ordering
@@ -32,8 +37,7 @@ has_lesser_name one other = is_lt (compare_texts one.name other.name)
 
 -- the name stands before the name of each of these labels
 abbrev pub StandsBefore : List ℕ → List Label → Type 0
-StandsBefore name [] = Unit {0}
-StandsBefore name (l ∷ ls) = ComesBefore name l.name × StandsBefore name ls
+StandsBefore name labels = AllByRecursion (λ (label : Label). ComesBefore name label.name) labels
 
 -- A label set: the names strictly ascend, and no name and no value is empty.
 abbrev pub IsLabelSet : List Label → Type 0

@@ -2,12 +2,14 @@ pub use Rattle.reading_core.specs.Reading
 pub use Rattle.reading_core.specs.Decimal
 pub mod Ordered
 pub mod Labels
+pub mod Characters
 pub mod Limits
 pub mod Finals
 pub mod Notation
 pub mod SetText
 pub mod SetRefusals
 pub mod SampleText
+pub mod SampleFields
 pub mod Triples
 pub mod Counts
 pub mod Times

@@ -6,6 +6,8 @@ use Rattle.std.specs.Prelude.{ℕ, zero, suc, ◌-◌, List, [], ◌∷◌, ◌+
 use Rattle.std.specs.Char.{is_ascii_alphabetic, is_ascii_digit}
 use Rattle.std.specs.List.{prefix_len, flat_map, list_all}
 use Rattle.reading_core.specs.Reading.{◌>>=◌, ◌>>◌, unless}
+use Rattle.reading_core.specs.Lines.{line_feed}
+use Rattle.label_sets.specs.Characters.{double_quote, comma, equals_sign, backslash, underscore, letter_n, open_brace, close_brace}
 use Rattle.label_sets.specs.declared.label.Label.{Label}
 use Rattle.label_sets.specs.declared.label_refusal.LabelRefusal.{LabelRefusal}
 use Rattle.label_sets.specs.declared.label_refusal.LabelRefusal.TheVariants.{EmptyName, EmptyValue, Repeated, BadText, NoMemory}
@@ -16,7 +18,7 @@ use Rattle.label_sets.specs.Finals.{is_among}
 -- ---- the text of a set
 
 abbrev pub is_name_start : ℕ → Bool
-is_name_start byte = is_ascii_alphabetic byte || byte == 95
+is_name_start byte = is_ascii_alphabetic byte || byte == underscore
 
 abbrev pub is_name_byte : ℕ → Bool
 is_name_byte byte = is_name_start byte || is_ascii_digit byte
@@ -28,9 +30,9 @@ is_name (byte ∷ bytes) = is_name_start byte && list_all is_name_byte bytes
 -- what stands in quotes for a byte of a value
 unfoldable pub quoted_byte : ℕ → List ℕ
 quoted_byte byte =
-    if byte == 92 then 92 ∷ 92 ∷ []
-    else (if byte == 34 then 92 ∷ 34 ∷ []
-    else (if byte == 10 then 92 ∷ 110 ∷ []
+    if byte == backslash then backslash ∷ backslash ∷ []
+    else (if byte == double_quote then backslash ∷ double_quote ∷ []
+    else (if byte == line_feed then backslash ∷ letter_n ∷ []
     else byte ∷ []))
 
 -- what stands in quotes for a value
@@ -39,11 +41,11 @@ quoted value = flat_map quoted_byte value
 
 -- `name="value"`
 unfoldable pub pair_text : Label → List ℕ
-pair_text label = label.name ++ 61 ∷ 34 ∷ quoted label.value ++ 34 ∷ []
+pair_text label = label.name ++ equals_sign ∷ double_quote ∷ quoted label.value ++ double_quote ∷ []
 
 -- the same after a comma
 unfoldable pub comma_pair_text : Label → List ℕ
-comma_pair_text label = 44 ∷ pair_text label
+comma_pair_text label = comma ∷ pair_text label
 
 -- the pairs, with a comma before each but the first
 unfoldable pub pairs_text : List Label → List ℕ
@@ -52,14 +54,14 @@ pairs_text (label ∷ labels) = pair_text label ++ flat_map comma_pair_text labe
 
 -- the labels in braces, in this order
 unfoldable pub set_text : List Label → List ℕ
-set_text labels = 123 ∷ pairs_text labels ++ 125 ∷ []
+set_text labels = open_brace ∷ pairs_text labels ++ close_brace ∷ []
 
 -- ---- reading
 
 -- goes on past this byte
-unfoldable pub past : ℕ → List ℕ → Result (List ℕ) LabelRefusal
-past byte [] = Err (BadText 0)
-past byte (first ∷ text) = if first == byte then Ok text else Err (BadText (length (first ∷ text)))
+unfoldable pub rest_past : ℕ → List ℕ → Result (List ℕ) LabelRefusal
+rest_past byte [] = Err (BadText 0)
+rest_past byte (first ∷ text) = if first == byte then Ok text else Err (BadText (length (first ∷ text)))
 
 -- how long the longest name at the front of a text is
 unfoldable pub name_length : List ℕ → ℕ
@@ -80,21 +82,21 @@ with_byte byte (Err refusal) = Err refusal
 unfoldable pub value_at : Bool → List ℕ → Result (List ℕ × List ℕ) LabelRefusal
 value_at escaping [] = Err (BadText 0)
 value_at true (byte ∷ text) =
-    if byte == 110 then with_byte 10 (value_at false text)
-    else (if byte == 92 || byte == 34 then with_byte byte (value_at false text)
+    if byte == letter_n then with_byte line_feed (value_at false text)
+    else (if byte == backslash || byte == double_quote then with_byte byte (value_at false text)
     else Err (BadText (length (byte ∷ text))))
 value_at false (byte ∷ text) =
-    if byte == 34 then Ok ([], text)
-    else (if byte == 10 then Err (BadText (length (byte ∷ text)))
-    else (if byte == 92 then value_at true text
+    if byte == double_quote then Ok ([], text)
+    else (if byte == line_feed then Err (BadText (length (byte ∷ text)))
+    else (if byte == backslash then value_at true text
     else with_byte byte (value_at false text)))
 
 -- the label of the pair at the front of a text, and what follows the pair
 unfoldable pub pair_at : List ℕ → Result (Label × List ℕ) LabelRefusal
 pair_at text = do
-  after ← past 61 (drop (name_length text) text)
+  after ← rest_past equals_sign (drop (name_length text) text)
   unless (nat_lt 0 (name_length text)) EmptyName
-  inside ← past 34 after
+  inside ← rest_past double_quote after
   value ← value_at false inside
   unless (nat_lt 0 (length value.0)) EmptyValue
   Ok (record { name = name_at text; value = value.0 }, value.1)
@@ -117,14 +119,14 @@ at_end text (Ok after) = ([], Ok after)
 at_end text (Err refusal) = stopped_at text
 
 unfoldable pub end_at : List ℕ → Walk
-end_at text = at_end text (past 125 text)
+end_at text = at_end text (rest_past close_brace text)
 
 unfoldable pub at_comma : (List ℕ → Walk) → List ℕ → Result (List ℕ) LabelRefusal → Walk
 at_comma more text (Ok next) = more next
 at_comma more text (Err refusal) = end_at text
 
 unfoldable pub after_pair : (List ℕ → Walk) → List ℕ → Walk
-after_pair more text = at_comma more text (past 44 text)
+after_pair more text = at_comma more text (rest_past comma text)
 
 unfoldable pub on_pair : (List ℕ → Walk) → List ℕ → Result (Label × List ℕ) LabelRefusal → Walk
 on_pair more text (Ok read) = with_label read.0 (after_pair more read.1)
@@ -141,12 +143,12 @@ after_brace text (Ok after) = ([], Ok after)
 after_brace text (Err refusal) = pairs_at (suc (length text)) text
 
 unfoldable pub at_brace : List ℕ → Result (List ℕ) LabelRefusal → Walk
-at_brace text (Ok inside) = after_brace inside (past 125 inside)
+at_brace text (Ok inside) = after_brace inside (rest_past close_brace inside)
 at_brace text (Err refusal) = stopped_at text
 
 -- the whole set
 unfoldable pub walk_at : List ℕ → Walk
-walk_at text = at_brace text (past 123 text)
+walk_at text = at_brace text (rest_past open_brace text)
 
 -- whether some name stands twice
 unfoldable pub repeats : List (List ℕ) → Bool

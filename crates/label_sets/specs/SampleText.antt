@@ -1,6 +1,6 @@
 -- Samples and series as text: `TIME:PATTERN`, and a label set with its samples after it, each after a space.
 use Rattle.std.specs.Prelude.{ℕ, ℤ, List, ◌∷◌, ◌++◌, map, length, Bool, ◌&&◌, ◌||◌, ◌==◌, Option, Some, None, Result, Ok, Err, if◌then◌else◌}
-use Rattle.std.specs.Char.{digit_char}
+use Rattle.std.specs.Char.{digit_char, is_ascii_digit}
 use Rattle.std.specs.Int.{is_in_range}
 use Rattle.std.specs.List.{flat_map, list_all, before_first, after_first}
 use Rattle.std.specs.Str.Parse.{digits_value}
@@ -8,6 +8,7 @@ use Rattle.reading_core.specs.Decimal.{signed_text, signed_of}
 use Rattle.reading_core.specs.FixedDigits.{fixed_digits}
 use Rattle.reading_core.specs.declared.refusal.NumberRefusal.{NumberRefusal}
 use Rattle.reading_core.specs.declared.refusal.NumberRefusal.TheVariants.{NotANumber, TooLarge}
+use Rattle.label_sets.specs.Characters.{space, colon, letter_a, letter_f}
 use Rattle.label_sets.specs.declared.sample.Sample.{Sample}
 use Rattle.label_sets.specs.declared.sample_refusal.SampleRefusal.{SampleRefusal}
 use Rattle.label_sets.specs.declared.sample_refusal.SampleRefusal.TheVariants.{NotASample, OutOfRange}
@@ -28,14 +29,14 @@ pattern_text pattern = hex_text 16 pattern
 
 -- `TIME:PATTERN`
 unfoldable pub timed_text : ℤ → ℕ → List ℕ
-timed_text time pattern = signed_text time ++ 58 ∷ pattern_text pattern
+timed_text time pattern = signed_text time ++ colon ∷ pattern_text pattern
 
 unfoldable pub sample_text : Sample → List ℕ
 sample_text sample = timed_text sample.time sample.pattern
 
 -- the same after a space
 unfoldable pub spaced_sample_text : Sample → List ℕ
-spaced_sample_text sample = 32 ∷ sample_text sample
+spaced_sample_text sample = space ∷ sample_text sample
 
 -- LABELS, and ` TIME:PATTERN` for each sample
 unfoldable pub series_text : Series → List ℕ
@@ -43,8 +44,9 @@ series_text series = set_text series.labels ++ flat_map spaced_sample_text serie
 
 -- ---- reading
 
+-- such a sign: a digit, or a letter from a to f
 unfoldable pub is_hex_sign : ℕ → Bool
-is_hex_sign byte = is_in_range 48 57 byte || is_in_range 97 102 byte
+is_hex_sign byte = is_ascii_digit byte || is_in_range letter_a letter_f byte
 
 unfoldable pub hex_number : List ℕ → ℕ
 hex_number digits = digits_value 16 digits
@@ -61,7 +63,7 @@ sample_with (Some pattern) (Err NotANumber) = Err NotASample
 sample_with (Some pattern) (Err TooLarge) = Err OutOfRange
 
 abbrev pub is_colon : ℕ → Bool
-is_colon byte = byte == 58
+is_colon byte = byte == colon
 
 -- what reading a sample gives: it is cut at its first colon
 unfoldable pub sample_of : List ℕ → Result Sample SampleRefusal

@@ -206,7 +206,7 @@ pub fn final_labels(
 }
 
 /// A series' own labels without the names of the external labels and without the replica labels.
-pub fn reduced(
+pub fn reduced_labels(
     alloc: Global,
     labels: &LabelSet,
     external: &LabelSet,

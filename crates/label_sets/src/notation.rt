@@ -7,12 +7,12 @@ ghost use Rattle.reading_core.specs.Reading.{Gives, Answers};
 ghost use Rattle.label_sets.specs.declared.label.Label.{Label};
 ghost use Rattle.std.specs.List.Sorted.{IsSortedBy};
 ghost use Rattle.label_sets.specs.Labels.{names_of, has_lesser_name};
-ghost use Rattle.label_sets.specs.Notation.{read_set, conclusion, repeats, is_name_byte, name_length, past, with_byte, value_at, pair_at, pairs_at, end_at, walk_at, placed_at, quoted_byte, quoted, pair_text, comma_pair_text, pairs_text, set_text};
+ghost use Rattle.label_sets.specs.Notation.{read_set, conclusion, repeats, is_name_byte, name_length, rest_past, with_byte, value_at, pair_at, pairs_at, end_at, walk_at, placed_at, quoted_byte, quoted, pair_text, comma_pair_text, pairs_text, set_text};
 
 use crate::label_set::sort_by_name;
 use crate::name::{is_name_byte, is_name_start};
 use crate::{Label, LabelRefusal, Text};
-use list_core::NoMemory;
+use list_core::{NoMemory, cut_on_err};
 use std::alloc::Global;
 
 /// A refusal, and what is left of the text from the refused pair on.
@@ -108,13 +108,13 @@ fn read_braces(alloc: Global, text: &[u8]) -> Walk<'_>
     ensures refused { IfErr result.end (λ stop. (stop.refusal ≡ LabelRefusal.NoMemory)
         ⊎ (walk_at text.now ≡ (result.labels.items, Err (stop.refusal, stop.pair.now)))) }
 {
-    let Ok(inside) = past(b'{', text) else {
+    let Ok(inside) = rest_past(b'{', text) else {
         return Walk {
             labels: Vec::new(alloc),
             end: Err(stop_at(text)),
         };
     };
-    match past(b'}', inside) {
+    match rest_past(b'}', inside) {
         Ok(after) => Walk {
             labels: Vec::new(alloc),
             end: Ok(after),
@@ -144,7 +144,7 @@ fn read_pairs(alloc: Global, text: &[u8]) -> Walk<'_>
                 };
             }
         };
-        match past(b',', rest) {
+        match rest_past(b',', rest) {
             Ok(next) => pair = next,
             Err(_) => {
                 return Walk {
@@ -163,7 +163,7 @@ fn end_at(text: &[u8]) -> Result<&[u8], Stop<'_>>
     ensures refused { IfErr result (λ stop.
         end_at text.now ≡ ([], Err (stop.refusal, stop.pair.now))) }
 {
-    match past(b'}', text) {
+    match rest_past(b'}', text) {
         Ok(after) => Ok(after),
         Err(_) => Err(stop_at(text)),
     }
@@ -209,11 +209,11 @@ fn read_pair(alloc: Global, text: &[u8]) -> Result<(Label, &[u8]), LabelRefusal>
     ensures utf8 { IfOk result (λ read. IsUtf8 read.1.now) }
 {
     let (name, rest) = text.split_at(name_length(text));
-    let after = past(b'=', rest)?;
+    let after = rest_past(b'=', rest)?;
     if name.is_empty() {
         return Err(LabelRefusal::EmptyName);
     }
-    let inside = past(b'"', after)?;
+    let inside = rest_past(b'"', after)?;
     let (value, rest) = read_value(alloc, inside)?;
     if value.is_empty() {
         return Err(LabelRefusal::EmptyValue);
@@ -226,9 +226,9 @@ fn read_pair(alloc: Global, text: &[u8]) -> Result<(Label, &[u8]), LabelRefusal>
 }
 
 /// What follows this byte at the front of a text.
-#[tactic(auto, unfolding(crate::specs::Notation::past))]
-fn past(byte: u8, text: &[u8]) -> Result<&[u8], LabelRefusal>
-    ensures answers { Answers (λ rest. rest.now) result (past byte text.now) }
+#[tactic(auto, unfolding(crate::specs::Notation::rest_past))]
+fn rest_past(byte: u8, text: &[u8]) -> Result<&[u8], LabelRefusal>
+    ensures answers { Answers (λ rest. rest.now) result (rest_past byte text.now) }
 {
     match text {
         [first, rest @ ..] if *first == byte => Ok(rest),
@@ -270,7 +270,7 @@ fn value_byte(text: &[u8]) -> Result<(Option<u8>, &[u8]), LabelRefusal>
         b'"' => Ok((None, after)),
         b'\n' => Err(LabelRefusal::BadText(text.len())),
         b'\\' => {
-            let (byte, after) = unescaped(after)?;
+            let (byte, after) = unescaped_byte(after)?;
             Ok((Some(byte), after))
         }
         byte => Ok((Some(byte), after)),
@@ -279,7 +279,7 @@ fn value_byte(text: &[u8]) -> Result<(Option<u8>, &[u8]), LabelRefusal>
 
 /// The byte for which a backslash and what follows it stand.
 #[tactic(auto, unfolding(crate::specs::Notation::value_at))]
-fn unescaped(text: &[u8]) -> Result<(u8, &[u8]), LabelRefusal>
+fn unescaped_byte(text: &[u8]) -> Result<(u8, &[u8]), LabelRefusal>
     ensures read { IfOk result (λ read.
         (value_at true text.now ≡ with_byte read.0 (value_at false read.1.now))
         × (length read.1.now < length text.now)) }
@@ -363,10 +363,7 @@ pub(crate) fn put_labels(out: &mut Vec<u8>, labels: &[Label]) -> Result<(), NoMe
 {
     let start = out.len();
     let put = put_braces(out, labels);
-    if put.is_err() {
-        out.truncate(start);
-    }
-    put
+    cut_on_err(out, start, put)
 }
 
 /// Appends the same, or a part of it where memory runs out.

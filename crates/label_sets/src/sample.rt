@@ -1,16 +1,19 @@
-ghost use Rattle.std.specs.Prelude.{◌≡◌, ◌≢◌, ◌↔◌, ◌<◌, ◌^◌, ℕ, ℤ, map, IsTrue, IfOk, Err, Ok};
+ghost use Rattle.std.specs.Prelude.{◌≡◌, ◌≢◌, ◌↔◌, ◌<◌, ◌^◌, ℕ, ℤ, length, true, IsTrue, IfOk, Err, Ok};
+ghost use Rattle.std.specs.Char.{digit_value};
 ghost use Rattle.std.specs.Int.{w64};
 ghost use Rattle.std.specs.Int.RustNames.{FitsSigned};
 ghost use Rattle.std.specs.List.{list_all};
 ghost use Rattle.std.specs.List.Sorted.{IsStrictlySortedBy};
 ghost use Rattle.std.specs.Ordering.{int_cmp};
+ghost use Rattle.std.specs.Str.Parse.{digits_value};
 ghost use Rattle.label_sets.specs.SampleText.{timed_text, sample_text, is_hex_sign, pattern_of, sample_of};
+ghost use Rattle.label_sets.specs.Times.{is_within, times_of};
 
 use crate::SampleRefusal;
 use list_core::{List, NoMemory, TryCopy};
 use reading_core::{NumberRefusal, read_signed};
 
-/// How far from 0 the times of blocks and scripts may be.
+/// How far from 0 the times of blocks and scripts may be, in milliseconds.
 pub const TIME_LIMIT: i64 = 1 << 62;
 
 /// A time in milliseconds and a value, which is a pattern of 64 bits.
@@ -54,9 +57,16 @@ impl Sample {
 
 /// Whether each time is after the one before.
 pub fn times_ascend(samples: &[Sample]) -> bool
-    ensures { IsTrue result ↔ IsStrictlySortedBy int_cmp (map (λ s. s.time) samples.now) }
+    ensures { IsTrue result ↔ IsStrictlySortedBy int_cmp (times_of samples.now) }
 {
     samples.is_sorted_by(|one, next| one.time < next.time)
+}
+
+/// Whether a sample was taken at the first time or after it, and before the last.
+pub fn is_within(sample: &Sample, first: i64, last: i64) -> bool
+    ensures { result ≡ is_within first last sample.now }
+{
+    first <= sample.time && sample.time < last
 }
 
 #[tactic(auto, unfolding(crate::specs::SampleText::sample_of, crate::specs::SampleText::sample_with))]
@@ -77,14 +87,40 @@ fn read_sample(text: &str) -> Result<Sample, SampleRefusal>
 }
 
 /// Reads 16 digits.
-#[tactic(auto, using(crate::proofs::HexTexts::pattern_parsed, crate::proofs::HexTexts::pattern_unread), unfolding(crate::specs::SampleText::pattern_of))]
+#[tactic(auto, using(crate::proofs::HexTexts::pattern_read, crate::proofs::HexTexts::pattern_unread), unfolding(crate::specs::SampleText::pattern_of))]
 fn read_pattern(digits: &str) -> Option<u64>
     ensures { result ≡ pattern_of digits.now }
 {
-    if digits.len() == 16 && are_hex_signs(digits.as_bytes()) {
-        u64::from_str_radix(digits, 16).ok()
+    let signs = digits.as_bytes();
+    if signs.len() == 16 && are_hex_signs(signs) {
+        Some(hex_number(signs))
     } else {
         None
+    }
+}
+
+/// The number of 16 digits, made with no test.
+fn hex_number(signs: &[u8]) -> u64
+    requires count { length signs.now ≡ 16 }
+    requires hex { list_all is_hex_sign signs.now ≡ true }
+    ensures { result ≡ digits_value 16 signs.now }
+{
+    let mut number = 0u64;
+    for sign in signs {
+        number = number * 16 + u64::from(hex_digit(*sign));
+    }
+    number
+}
+
+#[tactic(auto, using(crate::proofs::HexTexts::figure_value, crate::proofs::HexTexts::letter_least, crate::proofs::HexTexts::letter_value))]
+fn hex_digit(sign: u8) -> u8
+    requires { is_hex_sign sign ≡ true }
+    ensures { result ≡ digit_value sign }
+{
+    if sign.is_ascii_digit() {
+        sign - b'0'
+    } else {
+        sign - b'a' + 10
     }
 }
 

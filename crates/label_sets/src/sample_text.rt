@@ -1,16 +1,28 @@
-//! The samples of a series as text. Each is written to the end of a field, from its last sign to its first, and is then copied at once.
+//! The samples of a series as text. A few at a time are written to the end of a field, from the last sign to the first, and are then
+//! copied at once.
 
-ghost use Rattle.std.specs.Prelude.{◌≡◌, ◌+◌, ◌/◌, ◌%◌, ◌<◌, ◌≤◌, ◌∷◌, ◌++◌, drop, take, length, OnOk, OnErr};
+ghost use Rattle.std.specs.Prelude.{◌≡◌, ◌+◌, ◌/◌, ◌%◌, ◌<◌, ◌≤◌, ◌∷◌, ◌++◌, drop, take, length, OnOk};
 ghost use Rattle.std.specs.Fmt.{signed_decimal};
 ghost use Rattle.std.specs.List.{flat_map};
+ghost use Rattle.label_sets.specs.Characters.{space};
+ghost use Rattle.label_sets.specs.SampleFields.{field_length, most_at_once, sample_room};
 ghost use Rattle.label_sets.specs.SampleText.{hex_sign, pattern_text, spaced_sample_text, timed_text};
 
 use crate::Sample;
 use itoa::write_digits;
 use list_core::NoMemory;
 
-/// The length of a field: a space, a sign, 19 digits, a colon and 16 signs of the pattern, and some room before them.
-const FIELD: usize = 40;
+/// How much room each sample has in a field: for a space, a sign, 19 digits, a colon and 16 signs of the pattern, and some more.
+const ROOM: usize = 40;
+
+/// How many samples a field has room for.
+const AT_ONCE: usize = 12;
+
+/// The length of a field.
+const FIELD: usize = AT_ONCE * ROOM;
+
+/// How many signs a pattern has.
+const PATTERN: usize = 16;
 
 /// The two signs of each number below 256 in base 16.
 static SIGNS: [u8; 512] = *b"\
@@ -37,59 +49,73 @@ pub(crate) fn put_samples(out: &mut Vec<u8>, samples: &[Sample]) -> Result<(), N
         (out.new.items ≡ out.old.items ++ flat_map spaced_sample_text samples.now) }
     ensures kept { take (length out.old.items) out.new.items ≡ out.old.items }
 {
-    for sample in samples {
-        put_sample(out, *sample)?;
+    let mut field = [b' '; FIELD];
+    let mut left = samples;
+    while !left.is_empty() {
+        let (part, after) = left.split_at(left.len().min(AT_ONCE));
+        let start = write_samples(part, &mut field);
+        out.extend_from_slice(&field[start..])?;
+        left = after;
     }
     Ok(())
 }
 
+/// Writes samples, each after a space, so that they end where the field does, and gives where they begin.
+fn write_samples(samples: &[Sample], field: &mut [u8; FIELD]) -> usize
+    requires { length samples.now ≤ most_at_once }
+    ensures within { result ≤ field_length }
+    ensures written { drop result field.new ≡ flat_map spaced_sample_text samples.now }
+{
+    let mut start = FIELD;
+    for place in (0..samples.len()).rev() {
+        start = write_sample(samples[place], field, start);
+    }
+    start
+}
+
+/// Writes a sample after a space before what stands from a place on, and gives where it begins.
 #[inline(always)]
 #[tactic(auto, unfolding(crate::specs::SampleText::spaced_sample_text, crate::specs::SampleText::sample_text))]
-fn put_sample(out: &mut Vec<u8>, sample: Sample) -> Result<(), NoMemory>
-    ensures ok { OnOk result (out.new.items ≡ out.old.items ++ spaced_sample_text sample) }
-    ensures err { OnErr result (out.new.items ≡ out.old.items) }
+fn write_sample(sample: Sample, field: &mut [u8; FIELD], end: usize) -> usize
+    requires room { sample_room ≤ end }
+    requires within { end ≤ field_length }
+    ensures before { result ≤ end }
+    ensures near { end ≤ result + sample_room }
+    ensures written { drop result field.new ≡ spaced_sample_text sample ++ drop end field.old }
 {
-    put_timed(out, sample.time, sample.pattern)
+    write_timed(sample.time, sample.pattern, field, end)
 }
 
-/// Appends a time and a pattern after a space.
+/// Writes a time and a pattern after a space before what stands from a place on, and gives where they begin.
 #[inline(always)]
-fn put_timed(out: &mut Vec<u8>, time: i64, pattern: u64) -> Result<(), NoMemory>
-    ensures ok { OnOk result (out.new.items ≡ out.old.items ++ (32 ∷ timed_text time pattern)) }
-    ensures err { OnErr result (out.new.items ≡ out.old.items) }
+fn write_timed(time: i64, pattern: u64, field: &mut [u8; FIELD], end: usize) -> usize
+    requires room { sample_room ≤ end }
+    requires within { end ≤ field_length }
+    ensures before { result ≤ end }
+    ensures near { end ≤ result + sample_room }
+    ensures written { drop result field.new ≡ (space ∷ timed_text time pattern) ++ drop end field.old }
 {
-    let (field, start) = timed_field(time, pattern);
-    out.extend_from_slice(&field[start..])?;
-    Ok(())
-}
-
-/// A field that ends with a time and a pattern after a space, and where they begin.
-#[inline(always)]
-fn timed_field(time: i64, pattern: u64) -> ([u8; FIELD], usize)
-    ensures within { result.1 ≤ length result.0 }
-    ensures text { drop result.1 result.0 ≡ 32 ∷ timed_text time pattern }
-{
-    let mut field = pattern_field(pattern);
-    field[23] = b':';
-    let start = write_time(time, &mut field);
+    let place = end - PATTERN;
+    write_pattern(pattern, field, place);
+    field[place - 1] = b':';
+    let start = write_time(time, field, place - 1);
     field[start - 1] = b' ';
-    (field, start - 1)
+    start - 1
 }
 
-/// A field that ends with the signs of a pattern.
+/// Writes the signs of a pattern from a place on.
 #[inline(always)]
-fn pattern_field(pattern: u64) -> [u8; FIELD]
-    ensures { drop 24 result ≡ pattern_text pattern }
+fn write_pattern(pattern: u64, field: &mut [u8; FIELD], place: usize)
+    requires { place + 16 ≤ field_length }
+    ensures { drop place field.new ≡ pattern_text pattern ++ drop (place + 16) field.old }
 {
-    let mut field = [b' '; FIELD];
     let mut rest = pattern;
     for pair in (0..8).rev() {
         let (high, low) = sign_pair(rest % 256);
-        field[25 + 2 * pair] = low;
-        field[24 + 2 * pair] = high;
+        field[place + 2 * pair + 1] = low;
+        field[place + 2 * pair] = high;
         rest /= 256;
     }
-    field
 }
 
 /// The two signs of a number.
@@ -103,14 +129,16 @@ fn sign_pair(number: u64) -> (u8, u8)
     (SIGNS[place], SIGNS[place + 1])
 }
 
-/// Writes a time's text before what stands from place 23 on, and gives where it begins.
+/// Writes a time's text before what stands from a place on, and gives where it begins.
 #[inline(always)]
-fn write_time(time: i64, field: &mut [u8; FIELD]) -> usize
-    ensures within { result ≤ 23 }
-    ensures room { 0 < result }
-    ensures written { drop result field.new ≡ signed_decimal time ++ drop 23 field.old }
+fn write_time(time: i64, field: &mut [u8; FIELD], end: usize) -> usize
+    requires room { 20 < end }
+    requires within { end ≤ field_length }
+    ensures before { result ≤ end }
+    ensures near { end ≤ result + 20 }
+    ensures written { drop result field.new ≡ signed_decimal time ++ drop end field.old }
 {
-    let start = write_digits(time.unsigned_abs(), field, 23);
+    let start = write_digits(time.unsigned_abs(), field, end);
     if time >= 0 {
         return start;
     }

@@ -6,7 +6,7 @@ ghost use Rattle.label_sets.specs.SampleText.{series_text, spaced_sample_text};
 
 use crate::sample_text::put_samples;
 use crate::{LabelSet, Sample, SampleList};
-use list_core::{List, NoMemory, TryCopy};
+use list_core::{List, NoMemory, TryCopy, cut_on_err};
 
 /// Samples under one label set.
 #[derive(Drop)]
@@ -36,10 +36,7 @@ impl Series {
     {
         let start = out.len();
         let put = put_series(out, &self.labels, self.samples.members());
-        if put.is_err() {
-            out.truncate(start);
-        }
-        put
+        cut_on_err(out, start, put)
     }
 }
 

@@ -19,7 +19,7 @@ use Rattle.regex.specs.Strings.{regex_pattern, regex_source, regex_config, IsRea
 use Rattle.regex.specs.declared.error.Error.{Error}
 use Rattle.regex.specs.declared.error.Error.TheVariants.{Syntax, CompiledTooBig, Internal, OutOfMemory}
 use Rattle.regex.specs.declared.string.regex.Regex.{Regex}
-use Rattle.matchers.specs.Patterns.{anchored, is_pattern, is_matched, refusal_of}
+use Rattle.matchers.specs.Patterns.{anchored_text, is_pattern, is_matched, refusal_of}
 use Rattle.matchers.specs.Searches.{SearchesFor}
 use Rattle.matchers.specs.declared.pattern_refusal.PatternRefusal.{PatternRefusal}
 use Rattle.matchers.specs.declared.pattern_refusal.PatternRefusal.TheVariants.{BadPattern, PatternSize}
@@ -50,7 +50,7 @@ found_deep None most deep = refl
 found_deep (Some re) most deep = let far : most < re.0.depth = deep in grind (arith, nat_tests)
 
 -- what `Regex::new` ensures of the built text
-module _ (r : Regex) (source text : List ℕ) (composed : source ≡ anchored text) (is_source : regex_source r ≡ source) (is_default : regex_config r ≡ default_config)
+module _ (r : Regex) (source text : List ℕ) (composed : source ≡ anchored_text text) (is_source : regex_source r ≡ source) (is_default : regex_config r ≡ default_config)
     (is_read : IsReadFromSource r) where
   pub searches : SearchesFor (regex_pattern r) text
   unfolding Reads is_matched
@@ -60,31 +60,31 @@ module _ (r : Regex) (source text : List ℕ) (composed : source ≡ anchored te
   unfolding Reads is_pattern
   read_is_pattern = found_flat _ _ _ _ (rw (is_source, is_default, composed) at is_read)
 
-refuses_none : (text : List ℕ) (k : ErrorKind) → Refuses default_config (anchored text) k → k ≢ kind.OutOfMemory → is_pattern text ≡ false
+refuses_none : (text : List ℕ) (k : ErrorKind) → Refuses default_config (anchored_text text) k → k ≢ kind.OutOfMemory → is_pattern text ≡ false
 unfolding Refuses is_pattern
 refuses_none text k (inl wants) not_memory = absurd (not_memory wants)
 refuses_none text k (inr (inl none)) not_memory = rw none
 refuses_none text k (inr (inr deep)) not_memory = found_deep _ _ deep.1
 
-pub refused_is_none : (e : Error) (source text : List ℕ) → source ≡ anchored text → IsRefusal default_config source e →
+pub refused_is_none : (e : Error) (source text : List ℕ) → source ≡ anchored_text text → IsRefusal default_config source e →
     IsRightKind default_config source e → refusal_of e ≡ BadPattern → is_pattern text ≡ false
 refused_is_none (Syntax x) source text composed refusal right same = refuses_none text x.kind (rw composed at (refusal x refl)) right
 refused_is_none CompiledTooBig source text composed refusal right same = absurd cc
 refused_is_none Internal source text composed refusal right same = absurd cc
 refused_is_none OutOfMemory source text composed refusal right same = absurd cc
 
-reads_is_pattern : (text : List ℕ) (tree : _) (names : Names) → Reads default_config (anchored text) tree names → is_pattern text ≡ true
+reads_is_pattern : (text : List ℕ) (tree : _) (names : Names) → Reads default_config (anchored_text text) tree names → is_pattern text ≡ true
 unfolding Reads is_pattern
 reads_is_pattern text tree names reads = found_flat _ _ _ _ reads
 
-pub too_big_is_pattern : (e : Error) (source text : List ℕ) → source ≡ anchored text → IsRightKind default_config source e →
+pub too_big_is_pattern : (e : Error) (source text : List ℕ) → source ≡ anchored_text text → IsRightKind default_config source e →
     refusal_of e ≡ PatternSize → is_pattern text ≡ true
 too_big_is_pattern (Syntax x) source text composed right same = absurd cc
 too_big_is_pattern CompiledTooBig source text composed right same =
-    let p : IsPattern default_config (anchored text) = rw composed at right in
+    let p : IsPattern default_config (anchored_text text) = rw composed at right in
     reads_is_pattern text p.0 p.1 p.2
 too_big_is_pattern Internal source text composed right same =
-    let p : IsPattern default_config (anchored text) = rw composed at right in
+    let p : IsPattern default_config (anchored_text text) = rw composed at right in
     reads_is_pattern text p.0 p.1 p.2
 too_big_is_pattern OutOfMemory source text composed right same = absurd cc
 

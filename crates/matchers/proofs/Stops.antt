@@ -14,7 +14,7 @@ use Rattle.label_sets.specs.Notation.{is_name_start, is_name_byte}
 use Rattle.matchers.specs.Selectors.{is_metric_start, is_metric_byte, is_metric_name, metric_matcher}
 use Rattle.matchers.specs.SelectorText.{metric_part, IsSelectorText}
 use Rattle.matchers.specs.SelectorRefusals.{BeginsASelector, StopsAt}
-use Rattle.matchers.specs.Stages.{Next, matcher_of, selector_of, nothing_read, after_start, after_metric, after_comma, after_name, after_exclamation, after_equals, after_sign, in_value, after_backslash, after_quote, step_from, step, ended_from, ended, read_from, read_whole}
+use Rattle.matchers.specs.Stages.{Next, matcher_of, selector_of, nothing_read, after_start, after_metric, after_comma, after_name, after_exclamation, after_equals, after_sign, in_value, after_backslash, after_quote, step_from, step, ended_from, ended_draft, read_from, read_whole}
 use Rattle.matchers.proofs.StageTexts.{IsClosed, Reached}
 use Rattle.matchers.proofs.StageSteps.{step_reaches}
 use Rattle.matchers.proofs.Completions.{can_be_completed, closed_text}
@@ -46,7 +46,7 @@ one_longer : (front : List ℕ) (byte : ℕ) → length front + 1 ≡ length (fr
 one_longer front byte = omega (arith, length-append front (byte ∷ []))
 
 whole_from : (bytes front : List ℕ) (d next : Draft) → Reached d.stage d front → read_from d (length front) bytes ≡ Ok next → IsWhole next (front ++ bytes)
-unfolding read_from ended
+unfolding read_from ended_draft
 whole_from [] front d next r e = subst (IsWhole next) (sym (append-nil front)) (ended_whole d.stage d next (length front) front r e)
 whole_from (byte ∷ bytes) front d next r e =
     let x = bind_ok (step d (length front) byte) (λ one. read_from one (length front + 1) bytes) next e in
@@ -125,7 +125,7 @@ passed_step : (r : Next) (f : Draft → Next) (x : Draft) → r ≡ Ok x → is_
 passed_step r f x h is = ap (λ (s : Next). is_err (s >>= f)) h ∙ is
 
 stopped_from : (bytes front : List ℕ) (d : Draft) (e : SelectorRefusal) → Reached d.stage d front → read_from d (length front) bytes ≡ Err e → Stopped d front bytes e
-unfolding read_from ended step
+unfolding read_from ended_draft step
 stopped_from [] front d e r h = record {
   passed = [];
   left = [];

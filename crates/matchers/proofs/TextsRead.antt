@@ -22,7 +22,7 @@ use Rattle.matchers.specs.declared.stage.Stage.{Stage}
 use Rattle.matchers.specs.declared.stage.Stage.TheVariants.{Metric, Comma, Name, Exclamation, Equals, Sign, Value, Backslash, Quote, End}
 use Rattle.matchers.specs.Selectors.{metric_matcher, is_metric_name, is_metric_start, is_metric_byte}
 use Rattle.matchers.specs.SelectorText.{sign_of, asked_by, matcher_text, comma_text, commas_text, metric_part, IsSelectorText}
-use Rattle.matchers.specs.Stages.{Next, condition_of, matcher_of, selector_of, nothing_asked, nothing_read, after_start, after_metric, after_comma, after_name, after_exclamation, after_equals, after_sign, in_value, after_backslash, after_quote, step, ended, read_from, read_whole}
+use Rattle.matchers.specs.Stages.{Next, condition_of, matcher_of, selector_of, nothing_asked, nothing_read, after_start, after_metric, after_comma, after_name, after_exclamation, after_equals, after_sign, in_value, after_backslash, after_quote, step, ended_draft, read_from, read_whole}
 use Rattle.matchers.proofs.StageTexts.{commas_more}
 
 -- ---- reading goes on past these bytes
@@ -255,14 +255,14 @@ pub record IsRead (text : List ℕ) (selector : List Matcher) : Type 0 where
   pub is_read : read_whole text ≡ Ok draft
   pub gives : selector_of draft ≡ selector
 
-whole_passed : (text : List ℕ) (d : Draft) → Passes nothing_read 0 text d → ended d (length text) ≡ Ok d → read_whole text ≡ Ok d
+whole_passed : (text : List ℕ) (d : Draft) → Passes nothing_read 0 text d → ended_draft d (length text) ≡ Ok d → read_whole text ≡ Ok d
 unfolding read_from
 whole_passed text d passes ends =
     let place : 0 + length text ≡ length text = omega arith in
-    ap (read_from nothing_read 0) (sym (append-nil text)) ∙ passes [] ∙ ap (ended d) place ∙ ends
+    ap (read_from nothing_read 0) (sym (append-nil text)) ∙ passes [] ∙ ap (ended_draft d) place ∙ ends
 
 metric_read : (text : List ℕ) → is_metric_name text ≡ true → IsRead text (metric_matcher text ∷ [])
-unfolding is_metric_name ended
+unfolding is_metric_name ended_draft
 metric_read [] is = absurd cc
 metric_read (byte ∷ bytes) is = record {
   draft = at_stage Metric (byte ∷ bytes) [] nothing_asked;
@@ -274,7 +274,7 @@ metric_read (byte ∷ bytes) is = record {
 closes : (text metric inside : List ℕ) (ms : List Matcher) (listed : List Asked) → text ≡ metric ++ 123 ∷ (inside ++ 125 ∷ []) → (metric ≡ []) ⊎ (is_metric_name metric ≡ true)
     → Passes (at_stage Comma metric [] nothing_asked) (length (metric ++ 123 ∷ [])) (inside ++ 125 ∷ []) (at_stage End metric listed nothing_asked) → map matcher_of listed ≡ ms
     → IsRead text (metric_part metric ++ ms)
-unfolding ended
+unfolding ended_draft
 closes text metric inside ms listed e is passes same = record {
   draft = at_stage End metric listed nothing_asked;
   is_read = whole_passed text (at_stage End metric listed nothing_asked)

@@ -9,18 +9,18 @@ use Rattle.matchers.specs.declared.pattern_refusal.PatternRefusal.{PatternRefusa
 use Rattle.matchers.specs.declared.pattern_refusal.PatternRefusal.TheVariants.{BadPattern, PatternSize, NoMemory}
 
 -- the text that is built of a pattern, so that it has to match a value from its first to its last byte
-abbrev pub anchored : List ℕ → List ℕ
-anchored text = codes "^(?:" ++ text ++ codes ")$"
+abbrev pub anchored_text : List ℕ → List ℕ
+anchored_text text = codes "^(?:" ++ text ++ codes ")$"
 
 -- The grammar of `regex` reads the built text, within the limit on nesting.
 unfoldable pub is_pattern : List ℕ → Bool
 is_pattern text =
-    is_some_and (read default_config (chars (anchored text))) (λ (re, names). nat_le re.depth default_config.nest_limit)
+    is_some_and (read default_config (chars (anchored_text text))) (λ (re, names). nat_le re.depth default_config.nest_limit)
 
 -- The definition of `regex` finds, in the value, what its grammar reads in the built text.
 unfoldable pub is_matched : List ℕ → List ℕ → Bool
 is_matched text value =
-    is_some_and (read default_config (chars (anchored text))) (λ (re, names). is_some (find_str re.value value 0))
+    is_some_and (read default_config (chars (anchored_text text))) (λ (re, names). is_some (find_str re.value value 0))
 
 -- the refusal for one of `regex`
 abbrev pub refusal_of : Error → PatternRefusal

@@ -1,5 +1,6 @@
 -- Why a text is not read as a selector, by what stands in it.
 use Rattle.std.specs.Prelude.{◌≡◌, ℕ, ◌<◌, ◌≤◌, suc, List, [], ◌∷◌, ◌++◌, length, take, true, false, IsTrue}
+use Rattle.label_sets.specs.Characters.{double_quote, open_brace}
 use Rattle.matchers.specs.declared.matcher.Matcher.{Matcher}
 use Rattle.matchers.specs.declared.selector_refusal.SelectorRefusal.{SelectorRefusal}
 use Rattle.matchers.specs.declared.selector_refusal.SelectorRefusal.TheVariants.{BadSelector, BadPattern, PatternSize, ReplicaNamed, NoMemory}
@@ -34,9 +35,9 @@ pub record HasPatternAt (text : List ℕ) (place : ℕ) (m : Matcher) : Type 0 w
   pub others : List Matcher
   pub is_text : IsSelectorText text (metric_part metric ++ (before ++ m ∷ others))
   pub rest : List ℕ
-  pub stands : text ≡ (metric ++ 123 ∷ (commas_text before ++ opening_text m)) ++ 34 ∷ rest
+  pub stands : text ≡ (metric ++ open_brace ∷ (commas_text before ++ opening_text m)) ++ double_quote ∷ rest
   pub is_metric : IsMetric metric
-  pub place_is : place ≡ length (metric ++ 123 ∷ (commas_text before ++ opening_text m))
+  pub place_is : place ≡ length (metric ++ open_brace ∷ (commas_text before ++ opening_text m))
   pub lawful : IsTrue (are_lawful before)
   pub has_pattern : IsTrue (has_pattern m.condition)
 

@@ -3,6 +3,7 @@
 -- after the last.
 use Rattle.std.specs.Prelude.{◌≡◌, ◌⊎◌, ℕ, List, [], ◌∷◌, ◌++◌, map, Bool, true, All, IsTrue, codes}
 use Rattle.std.specs.List.{filter, flat_map, list_all}
+use Rattle.label_sets.specs.Characters.{double_quote, comma, open_brace, close_brace}
 use Rattle.label_sets.specs.Finals.{is_among}
 use Rattle.label_sets.specs.Notation.{is_name, quoted}
 use Rattle.matchers.specs.declared.condition.Condition.{Condition}
@@ -10,6 +11,14 @@ use Rattle.matchers.specs.declared.condition.Condition.TheVariants.{Equal, NotEq
 use Rattle.matchers.specs.declared.matcher.Matcher.{Matcher}
 use Rattle.matchers.specs.Patterns.{is_pattern}
 use Rattle.matchers.specs.Selectors.{is_metric_name, metric_matcher}
+
+-- `!`, which an operator may begin with
+abbrev pub exclamation : ℕ
+exclamation = 33
+
+-- `~`, which an operator may end with
+abbrev pub tilde : ℕ
+tilde = 126
 
 -- the operator of a condition
 abbrev pub sign_of : Condition → List ℕ
@@ -31,18 +40,18 @@ opening_text m = m.name ++ sign_of m.condition
 
 -- `name="value"`
 unfoldable pub matcher_text : Matcher → List ℕ
-matcher_text m = opening_text m ++ 34 ∷ (quoted (asked_by m.condition) ++ 34 ∷ [])
+matcher_text m = opening_text m ++ double_quote ∷ (quoted (asked_by m.condition) ++ double_quote ∷ [])
 
 -- matchers with a comma after each
 abbrev pub comma_text : Matcher → List ℕ
-comma_text m = matcher_text m ++ 44 ∷ []
+comma_text m = matcher_text m ++ comma ∷ []
 
 abbrev pub commas_text : List Matcher → List ℕ
 commas_text matchers = flat_map comma_text matchers
 
 -- What stands in braces: the matchers with a comma after each, of which the last one may lack.
 abbrev pub AreListed : List ℕ → List Matcher → Type 0
-AreListed inside matchers = (inside ≡ commas_text matchers) ⊎ (inside ++ 44 ∷ [] ≡ commas_text matchers)
+AreListed inside matchers = (inside ≡ commas_text matchers) ⊎ (inside ++ comma ∷ [] ≡ commas_text matchers)
 
 -- a metric name, or none
 abbrev pub IsMetric : List ℕ → Type 0
@@ -58,7 +67,7 @@ pub record HasBraces (text : List ℕ) (selector : List Matcher) : Type 0 where
   pub metric : List ℕ
   pub matchers : List Matcher
   pub inside : List ℕ
-  pub written : text ≡ metric ++ 123 ∷ (inside ++ 125 ∷ [])
+  pub written : text ≡ metric ++ open_brace ∷ (inside ++ close_brace ∷ [])
   pub is_metric : IsMetric metric
   pub listed : AreListed inside matchers
   pub named : All (λ m. IsTrue (is_name m.name)) matchers

@@ -4,6 +4,7 @@ use Rattle.std.specs.Char.{is_ascii_alphabetic, is_ascii_digit}
 use Rattle.std.specs.List.{list_all}
 use Rattle.std.specs.Str.{bytes_eq}
 use lib.Chars.{codes}
+use Rattle.label_sets.specs.Characters.{colon, underscore}
 use Rattle.label_sets.specs.declared.label.Label.{Label}
 use Rattle.label_sets.specs.Labels.{value_of}
 use Rattle.matchers.specs.declared.matcher.Matcher.{Matcher}
@@ -42,7 +43,7 @@ unfoldable pub is_plain : List Matcher → Bool
 is_plain matchers = list_all (λ matcher. not (has_pattern matcher.condition)) matchers
 
 abbrev pub is_metric_start : ℕ → Bool
-is_metric_start byte = is_ascii_alphabetic byte || byte == 95 || byte == 58
+is_metric_start byte = is_ascii_alphabetic byte || byte == underscore || byte == colon
 
 abbrev pub is_metric_byte : ℕ → Bool
 is_metric_byte byte = is_metric_start byte || is_ascii_digit byte

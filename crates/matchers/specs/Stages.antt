@@ -3,6 +3,8 @@
 use Rattle.std.specs.Prelude.{ℕ, ◌+◌, List, [], ◌∷◌, ◌++◌, map, All, ◌||◌, ◌==◌, Result, Ok, Err, if◌then◌else◌}
 use Rattle.std.specs.Str.{IsUtf8}
 use Rattle.reading_core.specs.Reading.{◌>>=◌}
+use Rattle.reading_core.specs.Lines.{line_feed}
+use Rattle.label_sets.specs.Characters.{double_quote, comma, equals_sign, backslash, letter_n, open_brace, close_brace}
 use Rattle.label_sets.specs.Notation.{is_name_start, is_name_byte}
 use Rattle.matchers.specs.declared.asked.Asked.{Asked}
 use Rattle.matchers.specs.declared.condition.Condition.{Condition}
@@ -16,7 +18,7 @@ use Rattle.matchers.specs.declared.selector_refusal.SelectorRefusal.TheVariants.
 use Rattle.matchers.specs.declared.stage.Stage.{Stage}
 use Rattle.matchers.specs.declared.stage.Stage.TheVariants.{Start, Metric, Comma, Name, Exclamation, Equals, Sign, Value, Backslash, Quote, End}
 use Rattle.matchers.specs.Selectors.{is_metric_start, is_metric_byte}
-use Rattle.matchers.specs.SelectorText.{metric_part}
+use Rattle.matchers.specs.SelectorText.{exclamation, tilde, metric_part}
 
 -- ---- what was read
 
@@ -76,66 +78,66 @@ with_asked stage draft =
 
 unfoldable pub after_start : Draft → ℕ → ℕ → Next
 after_start draft place byte =
-    if byte == 123 then goes_to Comma draft
+    if byte == open_brace then goes_to Comma draft
     else (if is_metric_start byte then with_metric byte draft
     else Err (BadSelector place))
 
 unfoldable pub after_metric : Draft → ℕ → ℕ → Next
 after_metric draft place byte =
-    if byte == 123 then goes_to Comma draft
+    if byte == open_brace then goes_to Comma draft
     else (if is_metric_byte byte then with_metric byte draft
     else Err (BadSelector place))
 
 -- after the opening brace or a comma
 unfoldable pub after_comma : Draft → ℕ → ℕ → Next
 after_comma draft place byte =
-    if byte == 125 then goes_to End draft
+    if byte == close_brace then goes_to End draft
     else (if is_name_start byte then with_name byte draft
     else Err (BadSelector place))
 
 unfoldable pub after_name : Draft → ℕ → ℕ → Next
 after_name draft place byte =
-    if byte == 61 then with_operator Equal Equals draft
-    else (if byte == 33 then goes_to Exclamation draft
+    if byte == equals_sign then with_operator Equal Equals draft
+    else (if byte == exclamation then goes_to Exclamation draft
     else (if is_name_byte byte then with_name byte draft
     else Err (BadSelector place)))
 
 unfoldable pub after_exclamation : Draft → ℕ → ℕ → Next
 after_exclamation draft place byte =
-    if byte == 61 then with_operator NotEqual Sign draft
-    else (if byte == 126 then with_operator MatchesNot Sign draft
+    if byte == equals_sign then with_operator NotEqual Sign draft
+    else (if byte == tilde then with_operator MatchesNot Sign draft
     else Err (BadSelector place))
 
 unfoldable pub after_equals : Draft → ℕ → ℕ → Next
 after_equals draft place byte =
-    if byte == 34 then with_quote place draft
-    else (if byte == 126 then with_operator Matches Sign draft
+    if byte == double_quote then with_quote place draft
+    else (if byte == tilde then with_operator Matches Sign draft
     else Err (BadSelector place))
 
 -- after an operator that no byte can make longer
 unfoldable pub after_sign : Draft → ℕ → ℕ → Next
 after_sign draft place byte =
-    if byte == 34 then with_quote place draft
+    if byte == double_quote then with_quote place draft
     else Err (BadSelector place)
 
 unfoldable pub in_value : Draft → ℕ → ℕ → Next
 in_value draft place byte =
-    if byte == 34 then goes_to Quote draft
-    else (if byte == 92 then goes_to Backslash draft
-    else (if byte == 10 then Err (BadSelector place)
+    if byte == double_quote then goes_to Quote draft
+    else (if byte == backslash then goes_to Backslash draft
+    else (if byte == line_feed then Err (BadSelector place)
     else with_value byte draft))
 
 unfoldable pub after_backslash : Draft → ℕ → ℕ → Next
 after_backslash draft place byte =
-    if byte == 110 then with_value 10 draft
-    else (if byte == 92 || byte == 34 then with_value byte draft
+    if byte == letter_n then with_value line_feed draft
+    else (if byte == backslash || byte == double_quote then with_value byte draft
     else Err (BadSelector place))
 
 -- after a closing quote
 unfoldable pub after_quote : Draft → ℕ → ℕ → Next
 after_quote draft place byte =
-    if byte == 44 then with_asked Comma draft
-    else (if byte == 125 then with_asked End draft
+    if byte == comma then with_asked Comma draft
+    else (if byte == close_brace then with_asked End draft
     else Err (BadSelector place))
 
 abbrev pub step_from : Stage → Draft → ℕ → ℕ → Next
@@ -161,12 +163,12 @@ ended_from Metric draft place = Ok draft
 ended_from End draft place = Ok draft
 ended_from other draft place = Err (BadSelector place)
 
-unfoldable pub ended : Draft → ℕ → Next
-ended draft place = ended_from draft.stage draft place
+unfoldable pub ended_draft : Draft → ℕ → Next
+ended_draft draft place = ended_from draft.stage draft place
 
 -- all bytes from a place on
 unfoldable pub read_from : Draft → ℕ → List ℕ → Next
-read_from draft place [] = ended draft place
+read_from draft place [] = ended_draft draft place
 read_from draft place (byte ∷ bytes) = step draft place byte >>= λ next. read_from next (place + 1) bytes
 
 -- What reading a whole text gives.

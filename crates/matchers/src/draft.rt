@@ -3,7 +3,7 @@ ghost use Rattle.std.specs.Prelude.{◌≡◌, [], ◌∷◌, ◌++◌, Ok, IfOk
 ghost use Rattle.std.specs.Str.{IsUtf8};
 ghost use Rattle.reading_core.specs.Reading.{Gives};
 ghost use Rattle.matchers.specs.declared.selector_refusal.SelectorRefusal.{SelectorRefusal};
-ghost use Rattle.matchers.specs.Stages.{nothing_read, goes_to, with_metric, with_name, with_operator, with_quote, with_value, with_asked, after_start, after_metric, after_comma, after_name, after_exclamation, after_equals, after_sign, in_value, after_backslash, after_quote, step, ended, read_whole, AreTexts};
+ghost use Rattle.matchers.specs.Stages.{nothing_read, goes_to, with_metric, with_name, with_operator, with_quote, with_value, with_asked, after_start, after_metric, after_comma, after_name, after_exclamation, after_equals, after_sign, in_value, after_backslash, after_quote, step, ended_draft, read_whole, AreTexts};
 
 use crate::SelectorRefusal;
 use crate::asked::Asked;
@@ -34,7 +34,7 @@ pub(crate) fn read_draft(alloc: Global, text: &[u8]) -> Result<Draft, SelectorRe
     for place in 0..text.len() {
         draft.step(alloc, place, text[place])?;
     }
-    draft.ended(text.len())
+    draft.ended_draft(text.len())
 }
 
 impl Draft {
@@ -50,9 +50,9 @@ impl Draft {
     }
 
     /// The draft, where a selector may end here.
-    #[tactic(auto, unfolding(crate::specs::Stages::ended))]
-    fn ended(self, place: usize) -> Result<Draft, SelectorRefusal>
-        ensures { Gives SelectorRefusal.NoMemory (λ draft. draft) result (ended self place) }
+    #[tactic(auto, unfolding(crate::specs::Stages::ended_draft))]
+    fn ended_draft(self, place: usize) -> Result<Draft, SelectorRefusal>
+        ensures { Gives SelectorRefusal.NoMemory (λ draft. draft) result (ended_draft self place) }
     {
         match self.stage {
             Stage::Metric | Stage::End => Ok(self),

@@ -1,7 +1,7 @@
 ghost use Rattle.std.specs.Prelude.{◌≡◌, ◌++◌, List, ℕ, Err, IfOk, OnOk, true, false, codes};
 ghost use Rattle.std.specs.String.{string_bytes};
 ghost use Rattle.regex.specs.Strings.{regex_pattern};
-ghost use Rattle.matchers.specs.Patterns.{anchored, is_pattern, is_matched};
+ghost use Rattle.matchers.specs.Patterns.{anchored_text, is_pattern, is_matched};
 ghost use Rattle.matchers.specs.Searches.{SearchesFor};
 ghost use Rattle.matchers.specs.declared.pattern_refusal.PatternRefusal.TheVariants.{BadPattern, PatternSize};
 
@@ -36,7 +36,7 @@ impl Pattern {
         ensures bad { result ≡ Err BadPattern → is_pattern text.now ≡ false }
         ensures size { result ≡ Err PatternSize → is_pattern text.now ≡ true }
     {
-        let composed = anchored(alloc, text)?;
+        let composed = anchored_text(alloc, text)?;
         let regex = Regex::new(alloc, composed.as_str())?;
         Ok(Pattern {
             alloc,
@@ -66,8 +66,8 @@ impl Pattern {
 }
 
 /// The text that is built of a pattern.
-fn anchored(alloc: Global, text: &str) -> Result<String, NoMemory>
-    ensures { IfOk result (λ made. string_bytes made ≡ anchored text.now) }
+fn anchored_text(alloc: Global, text: &str) -> Result<String, NoMemory>
+    ensures { IfOk result (λ made. string_bytes made ≡ anchored_text text.now) }
 {
     let mut made = String::from_str(alloc, "^(?:")?;
     made.push_str(text)?;

@@ -12,3 +12,4 @@ pub mod Printed
 pub mod DigitLoop
 pub mod Bound
 pub mod FirstLaws
+pub mod FewDigits

@@ -17,7 +17,7 @@ pub unsigned_not : (text : List ℕ) → is_decimal text ≡ false → unsigned_
 unfolding unsigned_of
 unsigned_not _ e = rw e refl
 
-fits : (text : List ℕ) → is_decimal text ≡ true → digits_value 10 text < 2 ^ 64 → unsigned_of text ≡ Ok (digits_value 10 text)
+pub fits : (text : List ℕ) → is_decimal text ≡ true → digits_value 10 text < 2 ^ 64 → unsigned_of text ≡ Ok (digits_value 10 text)
 unfolding unsigned_of
 fits _ e small = let test = lt-ltb _ _ small in rw (e, test) refl
 

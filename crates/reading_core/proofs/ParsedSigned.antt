@@ -24,7 +24,7 @@ pub signed_not : (text : List ℕ) → is_signed_decimal text ≡ false → sign
 unfolding signed_of
 signed_not _ e = rw e refl
 
-fits : (text : List ℕ) → is_signed_decimal text ≡ true → FitsSigned w64 (signed_digits_value 10 text) → signed_of text ≡ Ok (signed_digits_value 10 text)
+pub fits : (text : List ℕ) → is_signed_decimal text ≡ true → FitsSigned w64 (signed_digits_value 10 text) → signed_of text ≡ Ok (signed_digits_value 10 text)
 unfolding signed_of
 fits _ e small = let test = test_from_fits _ small in rw (e, test) refl
 

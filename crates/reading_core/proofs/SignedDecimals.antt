@@ -54,7 +54,7 @@ signed_text_of_value (c ∷ cs) e =
       | inr p ↦ plain_back _ p
     ]
 
-plain_again : (text : List ℕ) → is_decimal text ≡ true → (is_signed_decimal text ≡ true) × (signed_digits_value 10 text ≡ pos (digits_value 10 text))
+pub plain_again : (text : List ℕ) → is_decimal text ≡ true → (is_signed_decimal text ≡ true) × (signed_digits_value 10 text ≡ pos (digits_value 10 text))
 unfolding is_signed_decimal
 plain_again text e =
     let p = plain_first _ e in

@@ -4,6 +4,9 @@ ghost use Rattle.std.specs.List.{list_all};
 ghost use Rattle.std.specs.Str.Parse.{digits_value};
 ghost use Rattle.reading_core.specs.ShortNumber.{number_of};
 
+/// Each number of so many digits fits into every integer of 64 bits.
+pub(crate) const FEW_DIGITS: usize = 15;
+
 /// The number of 1 to `most` decimal digits, of which the first may be zeros.
 pub fn short_number(digits: &[u8], most: usize) -> Option<u64>
     requires { most ≤ 15 }
@@ -22,7 +25,8 @@ pub fn all_digits(text: &[u8]) -> bool
     text.iter().all(|byte| byte.is_ascii_digit())
 }
 
-fn value_of(digits: &[u8]) -> u64
+/// The number of at most `FEW_DIGITS` digits, made with no test.
+pub(crate) fn value_of(digits: &[u8]) -> u64
     requires count { length digits.now ≤ 15 }
     requires decimal { list_all is_ascii_digit digits.now ≡ true }
     ensures { result ≡ digits_value 10 digits.now }

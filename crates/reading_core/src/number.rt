@@ -1,10 +1,11 @@
-ghost use Rattle.std.specs.Prelude.{◌≡◌, ◌++◌, ◌^◌, ◌<◌, ◌≤◌, ◌≢◌, ◌↔◌, ◌==◌, ℕ, ℤ, not, IsTrue, IfOk, OnOk, OnErr, Ok, Err};
+ghost use Rattle.std.specs.Prelude.{◌≡◌, ◌++◌, ◌^◌, ◌<◌, ◌≤◌, ◌≢◌, ◌↔◌, ◌==◌, ℕ, ℤ, true, not, IsTrue, IfOk, IfSome, OnOk, OnErr, Ok, Err};
 ghost use Rattle.std.specs.Int.{w64};
 ghost use Rattle.std.specs.Int.RustNames.{FitsSigned};
+ghost use Rattle.std.specs.Str.Parse.{digits_value};
 ghost use Rattle.reading_core.specs.Decimal.{is_decimal, is_signed_decimal, unsigned_of, signed_of, decimal_text, signed_text};
 
 use crate::NumberRefusal;
-use crate::digits::all_digits;
+use crate::digits::{FEW_DIGITS, all_digits, value_of};
 use itoa::Buffer;
 use list_core::NoMemory;
 
@@ -67,7 +68,11 @@ pub fn put_signed(out: &mut Vec<u8>, n: i64) -> Result<(), NoMemory>
 fn unsigned_exact(text: &str) -> Result<u64, NumberRefusal>
     ensures { result ≡ unsigned_of text.now }
 {
-    if !are_digits(text.as_bytes()) {
+    let bytes = text.as_bytes();
+    if let Some(number) = few_digits(bytes) {
+        return Ok(number);
+    }
+    if !are_digits(bytes) {
         return Err(NumberRefusal::NotANumber);
     }
     text.parse().or(Err(NumberRefusal::TooLarge))
@@ -76,10 +81,27 @@ fn unsigned_exact(text: &str) -> Result<u64, NumberRefusal>
 fn signed_exact(text: &str) -> Result<i64, NumberRefusal>
     ensures { result ≡ signed_of text.now }
 {
-    if !are_signed_digits(text.as_bytes()) {
+    let bytes = text.as_bytes();
+    if let Some(number) = few_digits(bytes) {
+        return Ok(number as i64);
+    }
+    if !are_signed_digits(bytes) {
         return Err(NumberRefusal::NotANumber);
     }
     text.parse().or(Err(NumberRefusal::TooLarge))
+}
+
+/// The number of a text of few digits, as most are. What it does not take is left to `parse`, which tests after each digit
+/// whether the number still fits.
+#[tactic(auto, using(crate::proofs::FewDigits::digits_of_decimal, crate::proofs::FewDigits::few_small))]
+fn few_digits(text: &[u8]) -> Option<u64>
+    ensures { IfSome result (λ n. (is_decimal text.now ≡ true) × (n ≡ digits_value 10 text.now) × (n < 2 ^ 63)) }
+{
+    if text.len() <= FEW_DIGITS && are_digits(text) {
+        Some(value_of(text))
+    } else {
+        None
+    }
 }
 
 #[tactic(auto, unfolding(crate::specs::Decimal::is_decimal))]

@@ -18,8 +18,8 @@ use Rattle.script_core.specs.declared.body.Body.TheVariants.{Inline, OnShelf}
 use Rattle.script_fields.specs.declared.line_kind.LineKind.TheVariants as kinds
 use Rattle.script_fields.specs.Fields.{is_empty, is_space, after_space}
 use Rattle.script_fields.specs.Values.{is_time}
-use Rattle.script_fields.specs.Samples.{is_colon, texts_of, are_whole, is_small_number, has_small_number, have_small_numbers, samples_from, are_within, are_rising}
-use Rattle.script_core.specs.Lines.{fields_line, first_labels, series_line}
+use Rattle.script_fields.specs.Samples.{is_colon, texts_of, are_whole, is_small_number, has_small_number, have_small_numbers, samples_from, are_within}
+use Rattle.script_core.specs.Lines.{fields_line, first_labels, series_line, times_ascend}
 use Rattle.script_core.specs.State.{State, Last, block_of, with_last, add_series, test_block, with_series, has_series, insert_series, script_of_state}
 use Rattle.script_core.specs.Spelling.{SoFar, inside, spaced, IsSampleField, AreSampleFields, SeriesLine}
 use Rattle.std.proofs.lemmas.Bool.{and_parts}
@@ -29,7 +29,7 @@ use Rattle.script_core.proofs.Kept.{Kept, so_far_of}
 use Rattle.script_core.proofs.LineTools.{is_some_field}
 use Rattle.script_core.proofs.FoundSeries.{sample_time, added, last_there}
 use Rattle.script_core.proofs.AgainSetup.{IsRead, starts_again}
-use Rattle.script_core.proofs.SpelledValues.{near_tested, rise_tested, within_tested}
+use Rattle.script_core.proofs.SpelledValues.{near_tested, ascend_tested, within_tested}
 use Rattle.script_core.proofs.SpelledSeries.{place_fresh, place_inserted}
 use Rattle.list_core.proofs.Lists.{pushed_not_nil}
 
@@ -152,7 +152,7 @@ add_again st series block is test =
     let tested : test_block st.continues st.last series.labels series.samples ≡ Ok tt = ap (λ l. test_block st.continues l series.labels series.samples) is ∙ test in
     rw tested refl
 
-pub read_series : (st : State) (left : List ℕ) (labels : List Label) (texts : List ℕ) (samples : List Sample) (after : State) → first_labels (Some left) ≡ Ok (labels, texts) → are_whole texts ≡ true → have_small_numbers texts ≡ true → samples_from (texts_of texts) ≡ Ok samples → are_rising samples ≡ true → add_series st (record { labels = labels; samples = samples }) ≡ Ok after → series_line st (Some left) ≡ Ok after
+pub read_series : (st : State) (left : List ℕ) (labels : List Label) (texts : List ℕ) (samples : List Sample) (after : State) → first_labels (Some left) ≡ Ok (labels, texts) → are_whole texts ≡ true → have_small_numbers texts ≡ true → samples_from (texts_of texts) ≡ Ok samples → times_ascend samples ≡ true → add_series st (record { labels = labels; samples = samples }) ≡ Ok after → series_line st (Some left) ≡ Ok after
 unfolding series_line
 read_series st left labels texts samples after front whole small read rising adds = rw (front, whole, small, read, rising) adds
 
@@ -175,7 +175,7 @@ series_line_again st number line next kept says =
       left = Some (says.labels_text ++ 32 ∷ texts);
       after = after;
       cut = starts_again line kinds.Series (says.labels_text ++ 32 ∷ texts) says.spelled;
-      read = read_series st (says.labels_text ++ 32 ∷ texts) says.labels texts says.samples after (first_labels_again says.labels_text texts says.labels (set_text_again says.labels_text (32 ∷ texts) says.labels says.are_labels)) whole small read (rise_tested says.samples says.rising) (add_again st series last.block last.is test);
+      read = read_series st (says.labels_text ++ 32 ∷ texts) says.labels texts says.samples after (first_labels_again says.labels_text texts says.labels (set_text_again says.labels_text (32 ∷ texts) says.labels says.are_labels)) whole small read (ascend_tested says.samples says.rising) (add_again st series last.block last.is test);
       next_is = added st series last.block none last.is says.in_block ∙ (λ i. inside (record (script_of_state st) { blocks = last.others_is i ++ record { ulid = last.ulid_is i; labels = last.labels_is i; body = Inline (last.min_is i) (last.max_is i) (insert_series (last.series_is i) series) } ∷ [] }))
           ∙ ap (λ s. inside (record (script_of_state st) { blocks = says.others ++ record { ulid = says.ulid; labels = says.block_labels; body = Inline says.min_time says.max_time s } ∷ [] })) (place_inserted says.lesser says.greater series says.ascend)
           ∙ sym says.adds;

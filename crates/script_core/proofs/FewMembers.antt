@@ -8,6 +8,7 @@ use Rattle.std.proofs.lemmas.List.{length-append}
 use Rattle.std.proofs.lemmas.List.Concat.{flat_map-cons}
 use Rattle.std.proofs.lemmas.List.Sums.{sum_by-append, sum_by-cons}
 use Rattle.std.proofs.lemmas.List.Splits.{join_with_byte-slice_split}
+use Rattle.label_sets.specs.Characters.{space}
 use Rattle.label_sets.specs.declared.sample.Sample.{Sample}
 use Rattle.label_sets.specs.declared.series.Series.{Series}
 use Rattle.label_sets.proofs.SetSizes.{longer_text}
@@ -18,7 +19,7 @@ use Rattle.script_core.specs.declared.block.Block.{Block}
 use Rattle.script_core.specs.declared.body.Body.TheVariants.{Inline, OnShelf}
 use Rattle.script_core.specs.declared.script.Script.{Script}
 use Rattle.script_core.specs.Counts.{members_of_name, members_of_series, members_of_block, members_of_selector, members_of_phase, members_of_script}
-use Rattle.script_fields.specs.Fields.{lines_of, is_silent, space}
+use Rattle.script_fields.specs.Fields.{lines_of, is_silent}
 use Rattle.script_core.specs.GivenUp.{GivesUnless, IsWholeGivenUp}
 use Rattle.script_core.specs.Reading.{script_of}
 use Rattle.script_core.specs.Spelling.{spaced, IsField, AreSampleFields, SoFar, nothing, GatewayLine, BlockLine, ShelfLine, SeriesLine, AtLine, AddsTask, UploadLine, SyncLine, CompactLine, CleanLine, QueryLine, RuleLine, ReplicaLine, RetentionLine, Says, Say, Spells}

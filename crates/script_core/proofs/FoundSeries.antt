@@ -25,8 +25,8 @@ use Rattle.script_fields.specs.declared.cause.LineCause.TheVariants as causes
 use Rattle.script_fields.specs.declared.line_refusal.LineRefusal.TheVariants.{Bad}
 use Rattle.script_fields.specs.Fields.{is_empty, is_space, after_space}
 use Rattle.script_fields.specs.Values.{is_time}
-use Rattle.script_fields.specs.Samples.{is_colon, texts_of, are_whole, is_small_number, has_small_number, have_small_numbers, samples_from, samples_of, are_rising, are_within}
-use Rattle.script_core.specs.Lines.{first_labels, line_samples, series_line}
+use Rattle.script_fields.specs.Samples.{is_colon, texts_of, are_whole, is_small_number, has_small_number, have_small_numbers, samples_from, samples_of, are_within}
+use Rattle.script_core.specs.Lines.{first_labels, line_samples, series_line, times_ascend}
 use Rattle.script_core.specs.State.{State, Last, block_of, with_last, all_blocks, add_series, test_block, with_series, has_series, script_of_state}
 use Rattle.script_core.specs.Spelling.{spaced, inside, IsSampleField, AreSampleFields, SeriesLine}
 use Rattle.script_fields.proofs.FieldLaws.{no_space, space_is}
@@ -36,7 +36,7 @@ use Rattle.script_core.proofs.FoundSetup.{Starts}
 use Rattle.std.specs.List.Sorted.{IsStrictlySortedBy}
 use Rattle.label_sets.specs.Labels.{compare_sets}
 use Rattle.script_core.proofs.LawfulParts.{labels_of, sorted_insert}
-use Rattle.script_core.proofs.SpelledValues.{near_spelled, rise_spelled, within_spelled}
+use Rattle.script_core.proofs.SpelledValues.{near_spelled, ascend_spelled, within_spelled}
 use Rattle.script_core.proofs.SpelledSeries.{place_spelled}
 
 -- ---- the label set at the front
@@ -134,14 +134,14 @@ samples_found (text ∷ texts) samples free whole small h =
     subst (AreSampleFields (text ∷ texts)) (ok_is _ _ b.2) all
 
 line_samples_found : (texts : List ℕ) (samples : List Sample) → line_samples texts ≡ Ok samples
-    → (are_whole texts ≡ true) × (have_small_numbers texts ≡ true) × (samples_of texts ≡ Ok samples) × (are_rising samples ≡ true)
+    → (are_whole texts ≡ true) × (have_small_numbers texts ≡ true) × (samples_of texts ≡ Ok samples) × (times_ascend samples ≡ true)
 line_samples_found texts samples h =
     let whole = unless_ok (are_whole texts) (Bad causes.BadShape) _ _ h in
     let small = unless_ok (have_small_numbers texts) (Bad causes.BadNumber) _ _ whole.1 in
     let read = bind_ok _ _ _ small.1 in
-    let rising = unless_ok (are_rising read.0) (Bad causes.FallingTimes) _ _ read.2 in
+    let rising = unless_ok (times_ascend read.0) (Bad causes.FallingTimes) _ _ read.2 in
     let same : read.0 ≡ samples = ok_is _ _ rising.1 in
-    (whole.0, small.0, refused_as_ok _ _ _ read.1 ∙ ap Ok same, subst (λ s. are_rising s ≡ true) same rising.0)
+    (whole.0, small.0, refused_as_ok _ _ _ read.1 ∙ ap Ok same, subst (λ s. times_ascend s ≡ true) same rising.0)
 
 -- ---- the last block
 
@@ -207,7 +207,7 @@ series_line_found st after line left kept starts h =
         are_labels = set.are_labels;
         some = some_pieces a.0.1;
         are_samples = samples_found texts d.0 (pieces_free a.0.1) read.0 read.1 read.2;
-        rising = rise_spelled d.0 read.3;
+        rising = ascend_spelled d.0 read.3;
         in_block = last.follows;
         others = st.blocks;
         ulid = last.block.ulid;

@@ -42,16 +42,12 @@ at script in_block = record { script = script; in_block = in_block }
 abbrev pub so_far_of : State → SoFar
 so_far_of st = at (script_of_state st) st.continues
 
--- whether a ULID is among those that are kept
-abbrev pub among : List ℕ → ℕ → Bool
-among ulids ulid = list_any (is_at (nat_cmp ulid)) ulids
-
 -- the ULIDs are those of the blocks, and the shelf's blocks stand behind an inline one that has ended
 pub record KeepsBlocks (blocks : List Block) (last : Option Last) (shelved : List Block) (ulids : List ℕ) : Type 0 where
   pub no_last : last ≡ None → blocks ≡ []
   pub on_shelf : All (λ (b : Block). b.body ≡ OnShelf) shelved
   pub ended : shelved ≢ [] → has_ended last ≡ Ok tt
-  pub declared : (ulid : ℕ) → among ulids ulid ≡ declares (all_blocks blocks last shelved) ulid
+  pub declared : (ulid : ℕ) → list_any (is_at (nat_cmp ulid)) ulids ≡ declares (all_blocks blocks last shelved) ulid
   pub count : length ulids ≡ length (all_blocks blocks last shelved)
   pub ascend : (block : Last) → last ≡ Some block → IsStrictlySortedBy compare_sets (labels_of block.series)
 
@@ -90,28 +86,28 @@ twice true b = refl
 twice false true = refl
 twice false false = refl
 
-insert_by : (ulid new first : ℕ) (ulids : List ℕ) (o : Ordering) → nat_cmp new first ≡ o → among (insert_key nat_cmp ulids new) ulid ≡ (among ulids ulid || (new == ulid)) → among (match_ordering o (new ∷ first ∷ ulids) (first ∷ ulids) (first ∷ insert_key nat_cmp ulids new)) ulid ≡ (among (first ∷ ulids) ulid || (new == ulid))
+insert_by : (ulid new first : ℕ) (ulids : List ℕ) (o : Ordering) → nat_cmp new first ≡ o → list_any (is_at (nat_cmp ulid)) (insert_key nat_cmp ulids new) ≡ (list_any (is_at (nat_cmp ulid)) ulids || (new == ulid)) → list_any (is_at (nat_cmp ulid)) (match_ordering o (new ∷ first ∷ ulids) (first ∷ ulids) (first ∷ insert_key nat_cmp ulids new)) ≡ (list_any (is_at (nat_cmp ulid)) (first ∷ ulids) || (new == ulid))
 insert_by ulid new first ulids Less is later =
-    ap (λ b. b || among (first ∷ ulids) ulid) (equal_number ulid new) ∙ or_comm (new == ulid) (among (first ∷ ulids) ulid)
+    ap (λ b. b || list_any (is_at (nat_cmp ulid)) (first ∷ ulids)) (equal_number ulid new) ∙ or_comm (new == ulid) (list_any (is_at (nat_cmp ulid)) (first ∷ ulids))
 insert_by ulid new first ulids Equal is later =
     let same : first ≡ new = sym (same-from_Equal new first is) in
     let e : is_eq (nat_cmp ulid first) ≡ (new == ulid) = equal_number ulid first ∙ ap (λ n. n == ulid) same in
-    rw e (twice (new == ulid) (among ulids ulid))
+    rw e (twice (new == ulid) (list_any (is_at (nat_cmp ulid)) ulids))
 insert_by ulid new first ulids Greater is later =
-    ap (λ b. is_eq (nat_cmp ulid first) || b) later ∙ sym (or_assoc (is_eq (nat_cmp ulid first)) (among ulids ulid) (new == ulid))
+    ap (λ b. is_eq (nat_cmp ulid first) || b) later ∙ sym (or_assoc (is_eq (nat_cmp ulid first)) (list_any (is_at (nat_cmp ulid)) ulids) (new == ulid))
 
-among-insert : (ulid new : ℕ) (ulids : List ℕ) → among (insert_key nat_cmp ulids new) ulid ≡ (among ulids ulid || (new == ulid))
+among-insert : (ulid new : ℕ) (ulids : List ℕ) → list_any (is_at (nat_cmp ulid)) (insert_key nat_cmp ulids new) ≡ (list_any (is_at (nat_cmp ulid)) ulids || (new == ulid))
 among-insert ulid new [] = ap (λ b. b || false) (equal_number ulid new) ∙ or-false (new == ulid)
 among-insert ulid new (first ∷ ulids) = insert_by ulid new first ulids (nat_cmp new first) refl (among-insert ulid new ulids)
 
-longer_by : (new first : ℕ) (ulids : List ℕ) (o : Ordering) → nat_cmp new first ≡ o → among (first ∷ ulids) new ≡ false → (among ulids new ≡ false → length (insert_key nat_cmp ulids new) ≡ length ulids + 1) → length (match_ordering o (new ∷ first ∷ ulids) (first ∷ ulids) (first ∷ insert_key nat_cmp ulids new)) ≡ length (first ∷ ulids) + 1
+longer_by : (new first : ℕ) (ulids : List ℕ) (o : Ordering) → nat_cmp new first ≡ o → list_any (is_at (nat_cmp new)) (first ∷ ulids) ≡ false → (list_any (is_at (nat_cmp new)) ulids ≡ false → length (insert_key nat_cmp ulids new) ≡ length ulids + 1) → length (match_ordering o (new ∷ first ∷ ulids) (first ∷ ulids) (first ∷ insert_key nat_cmp ulids new)) ≡ length (first ∷ ulids) + 1
 longer_by new first ulids Less is fresh later = omega arith
-longer_by new first ulids Equal is fresh later = let taken : among (first ∷ ulids) new ≡ true = rw is refl in absurd cc
+longer_by new first ulids Equal is fresh later = let taken : list_any (is_at (nat_cmp new)) (first ∷ ulids) ≡ true = rw is refl in absurd cc
 longer_by new first ulids Greater is fresh later =
-    let fresh_later : among ulids new ≡ false = ap (λ o. is_eq o || among ulids new) (sym is) ∙ fresh in
+    let fresh_later : list_any (is_at (nat_cmp new)) ulids ≡ false = ap (λ o. is_eq o || list_any (is_at (nat_cmp new)) ulids) (sym is) ∙ fresh in
     omega (arith, later fresh_later)
 
-length-insert : (new : ℕ) (ulids : List ℕ) → among ulids new ≡ false → length (insert_key nat_cmp ulids new) ≡ length ulids + 1
+length-insert : (new : ℕ) (ulids : List ℕ) → list_any (is_at (nat_cmp new)) ulids ≡ false → length (insert_key nat_cmp ulids new) ≡ length ulids + 1
 length-insert new [] fresh = refl
 length-insert new (first ∷ ulids) fresh = longer_by new first ulids (nat_cmp new first) refl fresh (length-insert new ulids)
 
@@ -127,7 +123,7 @@ module _ (blocks : List Block) (last : Option Last) (shelved : List Block) (ulid
   all = all_blocks blocks last shelved
 
   -- one more inline block
-  pub block_kept : (new : Last) → new.series ≡ [] → among ulids new.ulid ≡ false → KeepsBlocks all (Some new) [] (insert_key nat_cmp ulids new.ulid)
+  pub block_kept : (new : Last) → new.series ≡ [] → list_any (is_at (nat_cmp new.ulid)) ulids ≡ false → KeepsBlocks all (Some new) [] (insert_key nat_cmp ulids new.ulid)
   block_kept new none fresh =
       record {
         no_last = λ none. absurd cc;
@@ -139,7 +135,7 @@ module _ (blocks : List Block) (last : Option Last) (shelved : List Block) (ulid
       }
 
   -- one more block of the shelf
-  pub shelf_kept : (new : Block) → new.body ≡ OnShelf → has_ended last ≡ Ok tt → among ulids new.ulid ≡ false → KeepsBlocks blocks last (shelved ++ new ∷ []) (insert_key nat_cmp ulids new.ulid)
+  pub shelf_kept : (new : Block) → new.body ≡ OnShelf → has_ended last ≡ Ok tt → list_any (is_at (nat_cmp new.ulid)) ulids ≡ false → KeepsBlocks blocks last (shelved ++ new ∷ []) (insert_key nat_cmp ulids new.ulid)
   shelf_kept new is ends fresh =
       let more : all ++ new ∷ [] ≡ all_blocks blocks last (shelved ++ new ∷ []) = append_assoc (with_last blocks last) shelved (new ∷ []) in
       record {

@@ -19,7 +19,7 @@ use Rattle.moment_core.specs.declared.rules.Rules.{Rules}
 use Rattle.moment_core.specs.declared.span.Span.{Span}
 use Rattle.moment_core.specs.Limits.{moment_limit}
 use Rattle.list_core.proofs.Order.{sorted_nil}
-use Rattle.list_core.proofs.Lists.{last_or_none, pushed_not_nil}
+use Rattle.list_core.proofs.Lists.{last_or_none, pushed_not_nil, nil_not_middle}
 use Rattle.script_core.specs.declared.block.Block.{Block}
 use Rattle.script_core.specs.declared.body.Body.TheVariants.{Inline, OnShelf}
 use Rattle.script_workers.specs.declared.phase.Phase.{Phase}
@@ -63,15 +63,12 @@ pub record InOrder (so_far : SoFar) : Type 0 where
   pub phases : AreLawfulPhases so_far.script.gateways so_far.script.blocks (length so_far.script.selectors) so_far.script.phases
   pub early : so_far.in_block ≡ true → so_far.script.phases ≡ []
 
-no_query : (before after : List Work) (work : Work) → [] ≡ before ++ work ∷ after → ⊥
-no_query before after work e = omega (arith, ap length e, length-append before (work ∷ after))
-
 no_phases : (gateways : List (List ℕ)) (blocks : List Block) (selectors : ℕ) → AreLawfulPhases gateways blocks selectors []
 no_phases gateways blocks selectors = record {
   each = All-nil (IsLawfulPhase gateways blocks selectors);
   moments = λ i j d below inside. absurd (omega arith);
   few_tasks = omega arith;
-  synced = λ before after low high selector gateway is below. absurd (no_query before after (Query low high selector) is);
+  synced = λ before after low high selector gateway is below. absurd (nil_not_middle (Query low high selector) before after is);
 }
 
 early_phases : (gateways : List (List ℕ)) (blocks : List Block) (selectors : ℕ) (phases : List Phase) → phases ≡ [] → AreLawfulPhases gateways blocks selectors phases

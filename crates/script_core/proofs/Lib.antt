@@ -13,6 +13,7 @@ pub mod SeatLaws
 pub mod SpelledRules
 pub mod FoundSetup
 pub mod FoundSeries
+pub mod ReadFields
 pub mod FoundPhases
 pub mod FoundLines
 pub mod LawfulParts

@@ -6,13 +6,14 @@ use Rattle.std.proofs.lemmas.Bool.Decides.{nat_tests}
 use Rattle.std.proofs.lemmas.List.{length-append, length-take, get_or-take}
 use Rattle.std.proofs.lemmas.List.Splits.{slice_split_at}
 use Rattle.std.proofs.lemmas.List.Sums.{AllPass-from_list_all, list_all-from_AllPass, split_at_first, passes_at_first, fails_before_first}
+use Rattle.reading_core.specs.Lines.{line_feed}
 use Rattle.reading_core.specs.Reading.{Gives}
 use Rattle.moment_core.specs.StandardRules.{standard_rules}
 use Rattle.script_core.specs.declared.part_reader.PartReader.{PartReader}
 use Rattle.script_core.specs.declared.script.Script.{Script}
 use Rattle.script_fields.specs.declared.script_refusal.ScriptRefusal.{ScriptRefusal}
 use Rattle.script_fields.specs.declared.script_refusal.ScriptRefusal.TheVariants.{NoMemory}
-use Rattle.script_fields.specs.Fields.{is_newline, lines_of, newline}
+use Rattle.script_fields.specs.Fields.{is_newline, lines_of}
 use Rattle.script_core.specs.Lawful.{IsLawfulScript}
 use Rattle.script_fields.specs.Limits.{longest_text}
 use Rattle.script_core.specs.Parts.{Leaves, HasRead, Reads, IsOneLine}
@@ -35,7 +36,7 @@ around text inside =
     split_at_first is_newline text 0 inside ∙ ap (λ byte. before_first is_newline text ++ byte ∷ after_first is_newline text) (newline_is (get_or text (position_or_len is_newline text) 0) (passes_at_first is_newline text 0 inside))
 
 -- a line that is shorter than the text before which it is cut ends with a newline
-pub cut_line_is : (text line rest : List ℕ) → line ≡ before_first is_newline text → rest ≡ after_first is_newline text → length line < length text → text ≡ (line ++ newline ∷ []) ++ rest
+pub cut_line_is : (text line rest : List ℕ) → line ≡ before_first is_newline text → rest ≡ after_first is_newline text → length line < length text → text ≡ (line ++ line_feed ∷ []) ++ rest
 cut_line_is text line rest line_is rest_is shorter =
     let inside : position_or_len is_newline text < length text = omega (arith, ap length line_is, length-take (position_or_len is_newline text) text) in
     around text inside ∙ (λ i. sym line_is i ++ 10 ∷ sym rest_is i) ∙ sym (append_assoc line (10 ∷ []) rest)
@@ -47,16 +48,16 @@ shorter_by text line is other =
 
 -- ---- what is left to the lines behind
 
-leaves_more : (text line : List ℕ) (count : ℕ) (st after : State) → Leaves text count st → ((more : List ℕ) → lines_of (line ++ newline ∷ more) ≡ line ∷ lines_of more) → line_at st (count + 1) line ≡ Ok after → Leaves (text ++ (line ++ newline ∷ [])) (count + 1) after
+leaves_more : (text line : List ℕ) (count : ℕ) (st after : State) → Leaves text count st → ((more : List ℕ) → lines_of (line ++ line_feed ∷ more) ≡ line ∷ lines_of more) → line_at st (count + 1) line ≡ Ok after → Leaves (text ++ (line ++ line_feed ∷ [])) (count + 1) after
 unfolding lines_at
 leaves_more text line count st after so_far cut read more =
-    let parts : (text ++ (line ++ newline ∷ [])) ++ more ≡ text ++ (line ++ newline ∷ more) = append_assoc text (line ++ newline ∷ []) more ∙ ap (λ t. text ++ t) (append_assoc line (newline ∷ []) more) in
+    let parts : (text ++ (line ++ line_feed ∷ [])) ++ more ≡ text ++ (line ++ line_feed ∷ more) = append_assoc text (line ++ line_feed ∷ []) more ∙ ap (λ t. text ++ t) (append_assoc line (line_feed ∷ []) more) in
     let first : lines_at st (count + 1) (line ∷ lines_of more) ≡ lines_at after (count + 1 + 1) (lines_of more) = rw read refl in
-    ap (λ t. lines_at (start standard_rules) 1 (lines_of t)) parts ∙ so_far (line ++ newline ∷ more) ∙ ap (lines_at st (count + 1)) (cut more) ∙ first
+    ap (λ t. lines_at (start standard_rules) 1 (lines_of t)) parts ∙ so_far (line ++ line_feed ∷ more) ∙ ap (lines_at st (count + 1)) (cut more) ∙ first
 
-pub cut_one : (line : List ℕ) → IsOneLine line → (more : List ℕ) → lines_of (line ++ newline ∷ more) ≡ line ∷ lines_of more
+pub cut_one : (line : List ℕ) → IsOneLine line → (more : List ℕ) → lines_of (line ++ line_feed ∷ more) ≡ line ∷ lines_of more
 cut_one line one more =
-    slice_split_at is_newline line newline more (λ k d below. not-true _ (AllPass-from_list_all (λ byte. not (is_newline byte)) line one k d below)) refl
+    slice_split_at is_newline line line_feed more (λ k d below. not-true _ (AllPass-from_list_all (λ byte. not (is_newline byte)) line one k d below)) refl
 
 -- a line that was cut off has no newline in it
 pub before_one : (text line : List ℕ) → line ≡ before_first is_newline text → IsOneLine line
@@ -75,13 +76,13 @@ nothing_read reader st none empty = record {
 }
 
 module _ (before after : PartReader) (line : List ℕ) (bytes : ℕ) (one : IsOneLine line) (read : line_at (state_of before.draft) (before.lines + 1) line ≡ Ok (state_of after.draft)) (lines_is : after.lines ≡ before.lines + 1) (bytes_is : after.bytes ≡ before.bytes + bytes) (fits : length line + 1 ≤ bytes) (near : bytes ≤ 2 * (length line + 1)) where
-  pub line_reads : Reads before after (line ++ newline ∷ [])
+  pub line_reads : Reads before after (line ++ line_feed ∷ [])
   line_reads text has =
       let more = leaves_more text line before.lines (state_of before.draft) (state_of after.draft) has.leaves (cut_one line one) read in
       record {
-        leaves = subst (λ n. Leaves (text ++ (line ++ newline ∷ [])) n (state_of after.draft)) (sym lines_is) more;
-        size = omega (arith, has.size, bytes_is, fits, length-append text (line ++ newline ∷ []), length-append line (newline ∷ []));
-        near = omega (arith, has.near, bytes_is, near, length-append text (line ++ newline ∷ []), length-append line (newline ∷ []));
+        leaves = subst (λ n. Leaves (text ++ (line ++ line_feed ∷ [])) n (state_of after.draft)) (sym lines_is) more;
+        size = omega (arith, has.size, bytes_is, fits, length-append text (line ++ line_feed ∷ []), length-append line (line_feed ∷ []));
+        near = omega (arith, has.near, bytes_is, near, length-append text (line ++ line_feed ∷ []), length-append line (line_feed ∷ []));
       }
 
 -- and nothing more
@@ -118,16 +119,16 @@ module _ (old now next : PartReader) (text left line rest : List ℕ) (so_far : 
       let cut = cut_line_is left line rest line_is rest_is shorter in
       let place : old.lines + 1 + length so_far.lines ≡ now.lines + 1 = omega (arith, so_far.count) in
       record {
-        front = so_far.front ++ (line ++ newline ∷ []);
+        front = so_far.front ++ (line ++ line_feed ∷ []);
         lines = so_far.lines ++ line ∷ [];
-        cut = λ more. ap lines_of (append_assoc so_far.front (line ++ newline ∷ []) more ∙ ap (λ t. so_far.front ++ t) (append_assoc line (newline ∷ []) more))
-            ∙ so_far.cut (line ++ newline ∷ more)
+        cut = λ more. ap lines_of (append_assoc so_far.front (line ++ line_feed ∷ []) more ∙ ap (λ t. so_far.front ++ t) (append_assoc line (line_feed ∷ []) more))
+            ∙ so_far.cut (line ++ line_feed ∷ more)
             ∙ ap (λ ls. so_far.lines ++ ls) (cut_one line free more)
             ∙ sym (append_assoc so_far.lines (line ∷ []) (lines_of more));
-        whole = so_far.whole ∙ ap (λ t. so_far.front ++ t) cut ∙ sym (append_assoc so_far.front (line ++ newline ∷ []) rest);
+        whole = so_far.whole ∙ ap (λ t. so_far.front ++ t) cut ∙ sym (append_assoc so_far.front (line ++ line_feed ∷ []) rest);
         count = omega (arith, so_far.count, lines_is, length-append so_far.lines (line ∷ []));
         lead = lines_at-push (state_of old.draft) (state_of now.draft) (state_of next.draft) (old.lines + 1) so_far.lines line so_far.lead (ap (λ n. line_at (state_of now.draft) n line) place ∙ read);
-        reads = reads_both old now next so_far.front (line ++ newline ∷ []) so_far.reads (line_reads now next line (length line + 1) free read lines_is bytes_is (omega arith) (omega arith));
+        reads = reads_both old now next so_far.front (line ++ line_feed ∷ []) so_far.reads (line_reads now next line (length line + 1) free read lines_is bytes_is (omega arith) (omega arith));
       }
 
 pub whole_front : (old now : PartReader) (text left : List ℕ) → ReadFront old now text left → (length left == 0) ≡ true → Reads old now text

@@ -3,6 +3,7 @@ use Rattle.std.proofs.Common.{◌≡◌, ◌⊎◌, ℕ, ◌+◌, ◌*◌, ◌<�
 use Rattle.std.specs.List.{before_first, after_first, position_or_len}
 use Rattle.std.proofs.lemmas.Bool.{and_parts}
 use Rattle.std.proofs.lemmas.List.{length-append, length-take, take_all}
+use Rattle.reading_core.specs.Lines.{line_feed}
 use Rattle.label_sets.specs.declared.label.Label.{Label}
 use Rattle.label_sets.specs.declared.sample.Sample.{Sample}
 use Rattle.moment_core.specs.StandardRules.{standard_rules}
@@ -12,7 +13,7 @@ use Rattle.script_fields.specs.declared.line_refusal.LineRefusal.TheVariants as 
 use Rattle.script_core.specs.declared.part_reader.PartReader.{PartReader}
 use Rattle.script_fields.specs.declared.script_refusal.ScriptRefusal.{ScriptRefusal}
 use Rattle.script_fields.specs.declared.script_refusal.ScriptRefusal.TheVariants.{NoMemory, TooLong}
-use Rattle.script_fields.specs.Fields.{is_newline, lines_of, newline}
+use Rattle.script_fields.specs.Fields.{is_newline, lines_of}
 use Rattle.script_core.specs.GivenUp.{IsLineGivenUp}
 use Rattle.script_fields.specs.Limits.{longest_text}
 use Rattle.script_core.specs.Parts.{AreNextGivenUp, AreRefused, AreSeriesParts, IsEnded, IsOneLine, IsPartRefused, Reads, is_long, no_script, series_front, series_text}
@@ -22,6 +23,7 @@ use Rattle.script_core.specs.State.{add_series, start}
 use Rattle.script_core.specs.View.{state_of}
 use Rattle.script_core.proofs.PartLaws.{ReadFront, before_one, cut_line_is, cut_one}
 use Rattle.script_core.proofs.SeriesParts.{series_least, series_one_line, series_refused}
+use Rattle.script_core.proofs.SpelledValues.{ascend_tested}
 
 too_long : (before : PartReader) (text : List ℕ) (refusal : ScriptRefusal) (bytes : ℕ) → refusal ≡ TooLong → longest_text < before.bytes + bytes → bytes ≤ 2 * length text → IsPartRefused before text refusal
 too_long before text refusal bytes is long least =
@@ -29,12 +31,12 @@ too_long before text refusal bytes is long least =
 
 -- ---- lines that are refused, whatever follows
 
-line_refused : (before : PartReader) (line : List ℕ) (refusal : ScriptRefusal) → IsOneLine line → line_at (state_of before.draft) (before.lines + 1) line ≡ Err refusal → AreRefused before (line ++ newline ∷ []) refusal
+line_refused : (before : PartReader) (line : List ℕ) (refusal : ScriptRefusal) → IsOneLine line → line_at (state_of before.draft) (before.lines + 1) line ≡ Err refusal → AreRefused before (line ++ line_feed ∷ []) refusal
 unfolding lines_at
 line_refused before line refusal one refused read more has =
     let st = state_of before.draft in
     let first : lines_at st (before.lines + 1) (line ∷ lines_of more) ≡ Err refusal = rw refused refl in
-    ap (λ t. lines_at (start standard_rules) 1 (lines_of (read ++ t))) (append_assoc line (newline ∷ []) more) ∙ has.leaves (line ++ newline ∷ more)
+    ap (λ t. lines_at (start standard_rules) 1 (lines_of (read ++ t))) (append_assoc line (line_feed ∷ []) more) ∙ has.leaves (line ++ line_feed ∷ more)
     ∙ ap (lines_at st (before.lines + 1)) (cut_one line one more)
     ∙ first
 
@@ -68,10 +70,10 @@ module _ (old now : PartReader) (text left line rest : List ℕ) (so_far : ReadF
       ))
 
   module _ (shorter : length line < length left) where
-    left_is : left ≡ line ++ newline ∷ rest
-    left_is = cut_line_is left line rest line_is rest_is shorter ∙ append_assoc line (newline ∷ []) rest
+    left_is : left ≡ line ++ line_feed ∷ rest
+    left_is = cut_line_is left line rest line_is rest_is shorter ∙ append_assoc line (line_feed ∷ []) rest
 
-    whole_is : text ≡ so_far.front ++ ((line ++ newline ∷ []) ++ rest)
+    whole_is : text ≡ so_far.front ++ ((line ++ line_feed ∷ []) ++ rest)
     whole_is =
         so_far.whole ∙ ap (λ t. so_far.front ++ t) (cut_line_is left line rest line_is rest_is shorter)
 
@@ -101,7 +103,7 @@ module _ (old now : PartReader) (text left line rest : List ℕ) (so_far : ReadF
     not_read refusal (inl given_up) = inl (line_given_up refusal given_up)
     not_read refusal (inr refused) =
         let one = line_refused now line refusal (before_one left line line_is) refused in
-        inr (no_script (subst (λ t. AreRefused old t refusal) (sym whole_is) (refused_behind old now so_far.front ((line ++ newline ∷ []) ++ rest) refusal so_far.reads (refused_before now (line ++ newline ∷ []) rest refusal one))))
+        inr (no_script (subst (λ t. AreRefused old t refusal) (sym whole_is) (refused_behind old now so_far.front ((line ++ line_feed ∷ []) ++ rest) refusal so_far.reads (refused_before now (line ++ line_feed ∷ []) rest refusal one))))
 
     pub text_refused : (draft : Draft) (number : ℕ) (refusal : ScriptRefusal) → draft ≡ now.draft → number ≡ now.lines + 1 → IsLineGivenUp (state_of draft) number line refusal ⊎ (line_at (state_of draft) number line ≡ Err refusal) → AreNextGivenUp old text refusal ⊎ IsPartRefused old text refusal
     text_refused draft number refusal same is why =
@@ -112,7 +114,7 @@ module _ (old now : PartReader) (text left line rest : List ℕ) (so_far : ReadF
 unended : (front left : List ℕ) → IsOneLine left → 0 < length left → IsEnded (front ++ left) → ⊥
 unended front [] one some ended = omega (arith, some)
 unended front (byte ∷ []) one some ended =
-    let bad : IsOneLine (newline ∷ []) = subst (λ b. IsOneLine (b ∷ [])) (ended front byte refl) one in absurd cc
+    let bad : IsOneLine (line_feed ∷ []) = subst (λ b. IsOneLine (b ∷ [])) (ended front byte refl) one in absurd cc
 unended front (byte ∷ next ∷ rest) one some ended =
     unended (front ++ byte ∷ []) (next ∷ rest) (and_parts _ _ one).1 (omega arith) (subst IsEnded (sym (append_assoc front (byte ∷ []) (next ∷ rest))) ended)
 
@@ -128,7 +130,7 @@ module _ (before : PartReader) (labels : List ℕ) (set : List Label) (samples :
   line_long : (refusal : ScriptRefusal) (bytes : ℕ) → refusal ≡ TooLong → longest_text < before.bytes + bytes → bytes ≤ 8 + length labels + 38 * length samples → IsPartRefused before (series_text labels samples) refusal
   unfolding series_text
   line_long refusal bytes is long fits =
-      too_long before (series_text labels samples) refusal bytes is long (omega (arith, fits, series_least labels samples, length-append (series_front labels samples) (newline ∷ [])))
+      too_long before (series_text labels samples) refusal bytes is long (omega (arith, fits, series_least labels samples, length-append (series_front labels samples) (line_feed ∷ [])))
 
   pub size_refused : (refusal : ScriptRefusal) → refusal ≡ TooLong → longest_text < 8 + length labels + 38 * length samples → IsPartRefused before (series_text labels samples) refusal
   size_refused refusal is long =
@@ -142,7 +144,7 @@ module _ (before : PartReader) (labels : List ℕ) (set : List Label) (samples :
   line_by refusal (inl memory) = inl (ap (of_line (before.lines + 1)) memory)
   line_by refusal (inr refuses) =
       let line = series_front labels samples in
-      inr (no_script (line_refused before line (of_line (before.lines + 1) refusal) (series_one_line labels samples are.fields are.one_line) (series_refused labels set samples are.is_set are.utf8 are.some are.fields (state_of before.draft) (before.lines + 1) refusal are.rising refuses)))
+      inr (no_script (line_refused before line (of_line (before.lines + 1) refusal) (series_one_line labels samples are.fields are.one_line) (series_refused labels set samples are.is_set are.utf8 are.some are.fields (state_of before.draft) (before.lines + 1) refusal (ascend_tested samples are.ascend) refuses)))
 
   pub put_refused : (draft : Draft) (number : ℕ) (refusal : LineRefusal) → draft ≡ before.draft → number ≡ before.lines + 1 → (refusal ≡ lines.NoMemory) ⊎ (add_series (state_of draft) (record { labels = set; samples = samples }) ≡ Err refusal) → (of_line number refusal ≡ NoMemory) ⊎ IsPartRefused before (series_text labels samples) (of_line number refusal)
   put_refused draft number refusal same is why =

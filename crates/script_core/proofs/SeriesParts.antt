@@ -23,11 +23,11 @@ use Rattle.script_fields.specs.declared.cause.LineCause.{LineCause}
 use Rattle.script_fields.specs.declared.cause.LineCause.TheVariants as causes
 use Rattle.script_fields.specs.declared.line_refusal.LineRefusal.{LineRefusal}
 use Rattle.script_fields.specs.declared.line_refusal.LineRefusal.TheVariants as lines
-use Rattle.script_core.specs.Lines.{fields_line, first_labels, last_labels, series_line}
+use Rattle.script_core.specs.Lines.{fields_line, first_labels, last_labels, series_line, times_ascend}
 use Rattle.script_core.specs.Parts.{HasField, IsOneLine, has_field, test_samples, series_front}
 use Rattle.script_fields.specs.LineRefusals.{of_line}
 use Rattle.script_core.specs.Reading.{kind_line, line_at, spoken_line, text_line}
-use Rattle.script_fields.specs.Samples.{texts_of, are_whole, has_small_number, have_small_numbers, samples_from, are_rising}
+use Rattle.script_fields.specs.Samples.{texts_of, are_whole, has_small_number, have_small_numbers, samples_from}
 use Rattle.script_core.specs.Spelling.{AreSampleFields}
 use Rattle.script_core.specs.State.{State, add_series}
 use Rattle.script_fields.specs.Values.{is_time}
@@ -114,7 +114,7 @@ module _ (text : List ℕ) (labels : List Label) (samples : List Sample) (are_la
   silent : is_silent (series_front text samples) ≡ false
   silent = ap is_silent spelled ∙ speaks (codes "eries" ++ 32 ∷ (text ++ 32 ∷ joined samples))
 
-  pub series_read : (st after : State) (number : ℕ) → are_rising samples ≡ true → add_series st (record { labels = labels; samples = samples }) ≡ Ok after → line_at st number (series_front text samples) ≡ Ok after
+  pub series_read : (st after : State) (number : ℕ) → times_ascend samples ≡ true → add_series st (record { labels = labels; samples = samples }) ≡ Ok after → line_at st number (series_front text samples) ≡ Ok after
   unfolding fields_line
   series_read st after number rising adds =
       let line = series_front text samples in
@@ -128,12 +128,12 @@ module _ (text : List ℕ) (labels : List Label) (samples : List Sample) (are_la
       } in
       spoken_again st after number line silent front_utf8 (text_read st st number line kinds.Series (so_far_of after) refl is)
 
-  refused_line : (st : State) (refusal : LineRefusal) → are_rising samples ≡ true → add_series st (record { labels = labels; samples = samples }) ≡ Err refusal → series_line st (Some (text ++ 32 ∷ joined samples)) ≡ Err refusal
+  refused_line : (st : State) (refusal : LineRefusal) → times_ascend samples ≡ true → add_series st (record { labels = labels; samples = samples }) ≡ Err refusal → series_line st (Some (text ++ 32 ∷ joined samples)) ≡ Err refusal
   unfolding series_line
   refused_line st refusal rising refuses = rw (front, whole, small, read, rising) refuses
 
   -- a line that does not fit those before it
-  pub series_refused : (st : State) (number : ℕ) (refusal : LineRefusal) → are_rising samples ≡ true → add_series st (record { labels = labels; samples = samples }) ≡ Err refusal → line_at st number (series_front text samples) ≡ Err (of_line number refusal)
+  pub series_refused : (st : State) (number : ℕ) (refusal : LineRefusal) → times_ascend samples ≡ true → add_series st (record { labels = labels; samples = samples }) ≡ Err refusal → line_at st number (series_front text samples) ≡ Err (of_line number refusal)
   series_refused st number refusal rising refuses =
       spoken_refused st number (series_front text samples) (text ++ 32 ∷ joined samples) refusal silent front_utf8 (starts_again (series_front text samples) kinds.Series (text ++ 32 ∷ joined samples) spelled) (refused_line st refusal rising refuses)
 
@@ -171,7 +171,7 @@ on_ok (Ok done) holds = holds
 on_ok (Err refusal) holds = tt
 
 module _ (text : List ℕ) (labels : List Label) (samples : List Sample) (are_labels : IsSetText text labels) (utf8 : is_utf8 text ≡ true) (some : samples ≢ []) (all : All HasField samples) where
-  pub put_reads : (st after : State) (result : Result (Unit {0}) LineRefusal) → are_rising samples ≡ true → Gives lines.NoMemory (λ _. after) result (add_series st (record { labels = labels; samples = samples })) → OnOk result ((number : ℕ) → line_at st number (series_front text samples) ≡ Ok after)
+  pub put_reads : (st after : State) (result : Result (Unit {0}) LineRefusal) → times_ascend samples ≡ true → Gives lines.NoMemory (λ _. after) result (add_series st (record { labels = labels; samples = samples })) → OnOk result ((number : ℕ) → line_at st number (series_front text samples) ≡ Ok after)
   put_reads st after (Ok done) rising adds = λ number. series_read text labels samples are_labels utf8 some all st after number rising adds
   put_reads st after (Err refusal) rising refused = tt
 
@@ -189,11 +189,11 @@ some_not_none [] some none = absurd cc
 some_not_none (sample ∷ samples) some none = absurd cc
 
 -- samples that pass the tests
-pub samples_tested : (samples : List Sample) → test_samples samples ≡ Ok tt → (samples ≢ []) × All HasField samples × (are_rising samples ≡ true)
+pub samples_tested : (samples : List Sample) → test_samples samples ≡ Ok tt → (samples ≢ []) × All HasField samples × (times_ascend samples ≡ true)
 samples_tested samples tested =
     let some = unless_ok (not (length samples == 0)) (lines.Bad causes.BadShape) _ _ tested in
     let fields = unless_ok (list_all has_field samples) (lines.Bad causes.BadNumber) _ _ some.1 in
-    (λ none. some_not_none samples some.0 none, all_fields samples fields.0, unless_is (are_rising samples) _ fields.1)
+    (λ none. some_not_none samples some.0 none, all_fields samples fields.0, unless_is (times_ascend samples) _ fields.1)
 
 text_known : (text inner : List ℕ) (b : Bool) → cond b (Some text) None ≡ Some inner → text ≡ inner
 text_known text inner true is = same_Some _ _ is
@@ -237,10 +237,10 @@ some_by : (samples : List Sample) → samples ≢ [] → not (length samples == 
 some_by [] some = absurd (some refl)
 some_by (sample ∷ samples) some = grind (arith, nat_tests)
 
-samples_pass : (samples : List Sample) → samples ≢ [] → All HasField samples → are_rising samples ≡ true → test_samples samples ≡ Ok tt
+samples_pass : (samples : List Sample) → samples ≢ [] → All HasField samples → times_ascend samples ≡ true → test_samples samples ≡ Ok tt
 samples_pass samples some all rising = rw (some_by samples some, have_all samples all, rising) refl
 
-pub none_refused : (samples : List Sample) (refusal : LineRefusal) → samples ≢ [] → All HasField samples → are_rising samples ≡ true → test_samples samples ≡ Err refusal → ⊥
+pub none_refused : (samples : List Sample) (refusal : LineRefusal) → samples ≢ [] → All HasField samples → times_ascend samples ≡ true → test_samples samples ≡ Err refusal → ⊥
 none_refused samples refusal some all rising refused =
     ok_not_err tt refusal (test_samples samples) (samples_pass samples some all rising) refused
 

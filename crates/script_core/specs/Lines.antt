@@ -2,6 +2,8 @@
 -- what it leaves to the next line.
 use Rattle.std.specs.Prelude.{ℕ, List, [], length, drop, Bool, not, ◌&&◌, ◌==◌, nat_le, int_lt, ok_or, unwrap_or, Option, None, Some, is_none, is_some, Result, Ok, Err, ℤ, codes}
 use Rattle.std.specs.Str.{bytes_eq}
+use Rattle.std.specs.Ordering.{int_cmp}
+use Rattle.list_core.specs.Order.{are_in_order_after, comes_after}
 use Rattle.reading_core.specs.Reading.{◌>>=◌, ◌>>◌, unless, refused_as}
 use Rattle.label_sets.specs.declared.label.Label.{Label}
 use Rattle.label_sets.specs.declared.label_refusal.LabelRefusal.{LabelRefusal}
@@ -23,12 +25,13 @@ use Rattle.script_workers.specs.declared.phase.Phase.{Phase}
 use Rattle.script_workers.specs.declared.work.Work.TheVariants as works
 use Rattle.script_fields.specs.Fields.{is_empty, next_field, only_field, after_space, rule_kind}
 use Rattle.script_fields.specs.Values.{time_field, moment_field, ulid_field, stop_count, is_reserved, apply_rule, agree}
-use Rattle.script_fields.specs.Samples.{are_whole, have_small_numbers, samples_of, are_rising}
+use Rattle.script_fields.specs.Samples.{are_whole, have_small_numbers, samples_of}
 use Rattle.script_fields.specs.LineRefusals.{bad}
 use Rattle.script_core.specs.State.{State, gateway_named, add_gateway, is_declared, begin_block, add_shelf, add_series, begin_phase, add_task, add_query, note_sync, are_all_synced, phase_compacts}
 use Rattle.matchers.specs.SelectorText.{are_lawful, named_replicas}
 use Rattle.matchers.specs.Stages.{read_whole, selector_of}
 use Rattle.label_sets.specs.Notation.{is_name, read_set}
+use Rattle.label_sets.specs.Times.{times_of}
 
 -- before the first phase, and after its beginning
 abbrev pub is_early : State → Bool
@@ -135,13 +138,17 @@ first_labels left = do
   texts ← bad (after_space (drop found.1 (unwrap_or left [])))
   Ok (found.0, texts)
 
+-- whether each time is after the one before
+abbrev pub times_ascend : List Sample → Bool
+times_ascend samples = are_in_order_after (comes_after int_cmp) None (times_of samples)
+
 -- TIME:PATTERN TIME:PATTERN ..
 abbrev pub line_samples : List ℕ → Result (List Sample) LineRefusal
 line_samples texts = do
   unless (are_whole texts) (Bad causes.BadShape)
   unless (have_small_numbers texts) (Bad causes.BadNumber)
   samples ← bad (samples_of texts)
-  unless (are_rising samples) (Bad causes.FallingTimes)
+  unless (times_ascend samples) (Bad causes.FallingTimes)
   Ok samples
 
 -- series LABELS TIME:PATTERN TIME:PATTERN ..

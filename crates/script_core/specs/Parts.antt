@@ -1,9 +1,13 @@
 -- A script that comes part by part.
 use Rattle.std.specs.Prelude.{◌≡◌, ◌≢◌, ℕ, ◌+◌, ◌-◌, ◌*◌, ◌<◌, ◌≤◌, ◌^◌, Bool, ◌&&◌, ◌==◌, nat_le, List, [], ◌∷◌, ◌++◌, length, not, All, IsTrue, Result, Err, codes}
 use Rattle.std.specs.List.{flat_map, list_all}
+use Rattle.std.specs.List.Sorted.{IsStrictlySortedBy}
+use Rattle.std.specs.Ordering.{int_cmp}
 use Rattle.std.specs.Str.{is_utf8}
+use Rattle.reading_core.specs.Lines.{line_feed}
 use Rattle.label_sets.specs.SampleText.{spaced_sample_text}
 use Rattle.label_sets.specs.SetText.{IsSetText}
+use Rattle.label_sets.specs.Times.{times_of}
 use Rattle.label_sets.specs.declared.label.Label.{Label}
 use Rattle.label_sets.specs.declared.sample.Sample.{Sample}
 use Rattle.moment_core.specs.StandardRules.{standard_rules}
@@ -11,11 +15,11 @@ use Rattle.reading_core.specs.Reading.{◌>>◌, unless}
 use Rattle.script_fields.specs.declared.cause.LineCause.TheVariants.{BadNumber, BadShape, FallingTimes}
 use Rattle.script_fields.specs.declared.line_refusal.LineRefusal.{LineRefusal}
 use Rattle.script_fields.specs.declared.line_refusal.LineRefusal.TheVariants.{Bad}
-use Rattle.script_fields.specs.Fields.{lines_of, newline, is_newline}
+use Rattle.script_fields.specs.Fields.{lines_of, is_newline}
 use Rattle.script_core.specs.GivenUp.{AreLinesGivenUp}
+use Rattle.script_core.specs.Lines.{times_ascend}
 use Rattle.script_fields.specs.Limits.{longest_text}
 use Rattle.script_core.specs.Reading.{lines_at}
-use Rattle.script_fields.specs.Samples.{are_rising}
 use Rattle.script_core.specs.Spelling.{IsNear}
 use Rattle.script_core.specs.State.{State, start}
 use Rattle.script_fields.specs.Values.{is_time}
@@ -45,7 +49,7 @@ series_front labels samples = codes "series " ++ labels ++ flat_map spaced_sampl
 
 -- and with it
 unfoldable pub series_text : List ℕ → List Sample → List ℕ
-series_text labels samples = series_front labels samples ++ newline ∷ []
+series_text labels samples = series_front labels samples ++ line_feed ∷ []
 
 -- a text of one line, without its newline
 abbrev pub IsOneLine : List ℕ → Type 0
@@ -65,7 +69,7 @@ abbrev pub test_samples : List Sample → Result (Unit {0}) LineRefusal
 test_samples samples = do
   unless (not (length samples == 0)) (Bad BadShape)
   unless (list_all has_field samples) (Bad BadNumber)
-  unless (are_rising samples) (Bad FallingTimes)
+  unless (times_ascend samples) (Bad FallingTimes)
 
 -- labels and samples of which there is a series line, whether or not it fits the lines before it
 pub record AreSeriesParts (labels : List ℕ) (set : List Label) (samples : List Sample) : Type 0 where
@@ -74,11 +78,11 @@ pub record AreSeriesParts (labels : List ℕ) (set : List Label) (samples : List
   pub one_line : IsOneLine labels
   pub some : samples ≢ []
   pub fields : All HasField samples
-  pub rising : IsTrue (are_rising samples)
+  pub ascend : IsStrictlySortedBy int_cmp (times_of samples)
 
 -- a text of whole lines: its last byte is a newline, if it has one
 abbrev pub IsEnded : List ℕ → Type 0
-IsEnded text = (front : List ℕ) (byte : ℕ) → text ≡ front ++ byte ∷ [] → byte ≡ newline
+IsEnded text = (front : List ℕ) (byte : ℕ) → text ≡ front ++ byte ∷ [] → byte ≡ line_feed
 
 -- ---- refusals
 

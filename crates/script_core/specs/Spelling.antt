@@ -8,6 +8,7 @@ use Rattle.std.specs.List.{list_all, join_with_byte}
 use Rattle.std.specs.List.Sorted.{IsStrictlySortedBy}
 use Rattle.std.specs.Ordering.{int_cmp}
 use Rattle.std.specs.Str.{is_utf8, bytes_eq}
+use Rattle.label_sets.specs.Characters.{space}
 use Rattle.reading_core.specs.Decimal.{decimal_text, signed_text}
 use Rattle.label_sets.specs.Labels.{compare_sets}
 use Rattle.label_sets.specs.Notation.{is_name}
@@ -17,7 +18,7 @@ use Rattle.label_sets.specs.declared.label.Label.{Label}
 use Rattle.label_sets.specs.declared.sample.Sample.{Sample}
 use Rattle.label_sets.specs.declared.series.Series.{Series}
 use Rattle.label_sets.specs.Limits.{time_limit}
-use Rattle.label_sets.specs.Times.{times_of}
+use Rattle.label_sets.specs.Times.{times_of, IsWithin}
 use Rattle.matchers.specs.SelectorRefusals.{IsReadable}
 use Rattle.matchers.specs.declared.matcher.Matcher.{Matcher}
 use Rattle.moment_core.specs.MomentText.{IsMomentText}
@@ -29,6 +30,7 @@ use Rattle.moment_core.specs.declared.rules.Rules.{Rules}
 use Rattle.moment_core.specs.declared.span.Span.{Span}
 use Rattle.ulid_core.specs.UlidText.{IsUlidText}
 use Rattle.ulid_core.specs.Reserved.{least_reserved}
+use Rattle.ulid_core.specs.Limits.{entropy_count}
 use Rattle.moment_core.specs.Limits.{longest_tick, one_second}
 use Rattle.script_fields.specs.Limits.{longest_text, most_gateways, most_blocks, most_tasks, latest_stop, most_names}
 use Rattle.script_core.specs.declared.block.Block.{Block}
@@ -39,7 +41,7 @@ use Rattle.script_fields.specs.declared.rule_name.RuleName.TheVariants as names
 use Rattle.script_core.specs.declared.script.Script.{Script}
 use Rattle.script_workers.specs.declared.work.Work.{Work}
 use Rattle.script_workers.specs.declared.work.Work.TheVariants.{Upload, Sync, Compact, Clean, Query}
-use Rattle.script_fields.specs.Fields.{lines_of, is_silent, space, is_space}
+use Rattle.script_fields.specs.Fields.{lines_of, is_silent, is_space}
 use Rattle.script_workers.specs.Hands.{gateway_count}
 use Rattle.script_workers.specs.Whose.{FewWorkers}
 use Rattle.script_workers.specs.Works.{works_of, has_sync, has_compaction}
@@ -72,7 +74,7 @@ pub record IsTimeText (text : List ℕ) (time : ℤ) : Type 0 where
 pub record IsUlidField (text : List ℕ) (ulid : ℕ) : Type 0 where
   pub field : IsField text
   pub written : IsUlidText text ulid
-  pub not_reserved : ulid % 2 ^ 80 < least_reserved
+  pub not_reserved : ulid % entropy_count < least_reserved
 
 -- TIME:PATTERN
 pub record IsSampleField (text : List ℕ) (sample : Sample) : Type 0 where
@@ -87,11 +89,6 @@ AreSampleFields [] [] = Unit {0}
 AreSampleFields [] (sample ∷ samples) = ⊥
 AreSampleFields (text ∷ texts) [] = ⊥
 AreSampleFields (text ∷ texts) (sample ∷ samples) = IsSampleField text sample × AreSampleFields texts samples
-
--- a time from the first on and below the last
-pub record IsWithin (first last : ℤ) (sample : Sample) : Type 0 where
-  pub from : first ≤ℤ sample.time
-  pub below : sample.time <ℤ last
 
 -- ---- rules
 

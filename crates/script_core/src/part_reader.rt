@@ -32,7 +32,6 @@ impl PartReader {
     ghost use Rattle.script_core.specs.Reading.{script_of};
     ghost use Rattle.script_fields.specs.declared.script_refusal.ScriptRefusal.TheVariants as refusals;
     ghost use Rattle.std.specs.List.{list_all};
-    ghost use Rattle.script_fields.specs.Fields.{newline};
     ghost use Rattle.script_core.specs.Lawful.{IsLawfulScript};
     ghost use Rattle.script_core.specs.Parts.{AreNextGivenUp, AreSeriesParts, HasRead, IsEnded, IsPartRefused, Reads, series_text};
     ghost use Rattle.script_core.specs.Spelling.{Spells};

@@ -17,11 +17,11 @@ ghost use Rattle.script_fields.specs.declared.script_refusal.ScriptRefusal.TheVa
 use crate::draft::Draft;
 use crate::reader::{LONGEST_TEXT, text_of};
 use crate::setup_lines::last_labels;
-use label_sets::{LabelSet, Sample, SampleList, Series};
-use script_fields::{LineCause, LineRefusal, ScriptRefusal, are_rising, is_time};
+use label_sets::{LabelSet, Sample, SampleList, Series, times_ascend};
+use script_fields::{LineCause, LineRefusal, ScriptRefusal, is_time};
 use std::alloc::Global;
 
-/// How many bytes a sample of a series line has at most: a space, a sign, 19 digits of a time, a colon and 16 of a pattern.
+/// How many bytes a sample of a series line has at most, in a script or a report: a space, a sign, 19 digits of a time, a colon and 16 of a pattern.
 pub const LONGEST_SAMPLE: usize = 38;
 
 /// How many bytes a series line has at most, with its newline.
@@ -83,7 +83,7 @@ fn test_samples(samples: &[Sample]) -> Result<(), LineRefusal>
 {
     LineCause::BadShape.unless(!samples.is_empty())?;
     LineCause::BadNumber.unless(have_fields(samples))?;
-    LineCause::FallingTimes.unless(are_rising(samples))
+    LineCause::FallingTimes.unless(times_ascend(samples))
 }
 
 fn is_one_line(text: &[u8]) -> bool
@@ -93,7 +93,7 @@ fn is_one_line(text: &[u8]) -> bool
 }
 
 /// Whether a series line can have each of these samples.
-fn have_fields(samples: &[Sample]) -> bool
+pub(crate) fn have_fields(samples: &[Sample]) -> bool
     ensures { result ≡ list_all has_field samples.now }
 {
     samples.iter().all(|sample| has_field(*sample))

@@ -1,19 +1,22 @@
 //! The lines before the first phase: rules, gateways, blocks with their series, and blocks of the shelf.
 
-ghost use Rattle.std.specs.Prelude.{◌≡◌, option_copied};
+ghost use Rattle.std.specs.Prelude.{◌≡◌, ◌↔◌, IsOkAnd, IsTrue, option_copied};
+ghost use Rattle.std.specs.List.{list_all};
 ghost use Rattle.reading_core.specs.Reading.{Gives};
 ghost use Rattle.script_fields.specs.declared.line_refusal.LineRefusal.TheVariants as line_refusals;
 ghost use Rattle.script_core.specs.Lines.{rule_line, partition_field, gateway_line, block_head, test_head, block_line, test_shelf, shelf_line, last_labels, line_samples, series_line, first_labels};
+ghost use Rattle.script_core.specs.Parts.{has_field};
 ghost use Rattle.script_core.specs.View.{state_of};
 
 use crate::draft::Draft;
 use crate::inline_block::{BlockHead, InlineBlock};
+use crate::series_parts::have_fields;
 use crate::{Block, Body};
-use label_sets::{LabelRefusal, LabelSet, SampleList, Series, Text, is_name};
+use label_sets::{LabelRefusal, LabelSet, SampleList, Series, Text, is_name, times_ascend};
 use moment_core::Partition;
 use script_fields::{
-    LineCause, LineRefusal, RuleKind, after_space, are_rising, are_whole, have_small_numbers,
-    is_reserved, next_field, only_field, read_samples, time, ulid,
+    LineCause, LineRefusal, RuleKind, after_space, are_whole, have_small_numbers, is_reserved,
+    next_field, only_field, read_samples, time, ulid,
 };
 use std::alloc::Global;
 use ulid_core::Ulid;
@@ -187,15 +190,29 @@ pub(crate) fn series_line(
     draft.add_series(Series { labels, samples })
 }
 
-/// The samples of a series line, whose times rise.
+/// The samples of a series line, whose times ascend.
 fn line_samples(alloc: Global, texts: &str) -> Result<SampleList, LineRefusal>
     ensures { Gives line_refusals.NoMemory (λ samples. samples) result (line_samples texts.now) }
 {
-    LineCause::BadShape.unless(are_whole(texts))?;
-    LineCause::BadNumber.unless(have_small_numbers(texts))?;
-    let samples = read_samples(alloc, texts)?;
-    LineCause::FallingTimes.unless(are_rising(samples.members()))?;
+    let read = read_samples(alloc, texts);
+    // Where a line can have the samples that were read, both tests pass. Each would walk all texts once more.
+    if !are_fields(&read) {
+        LineCause::BadShape.unless(are_whole(texts))?;
+        LineCause::BadNumber.unless(have_small_numbers(texts))?;
+    }
+    let samples = read?;
+    LineCause::FallingTimes.unless(times_ascend(samples.members()))?;
     Ok(samples)
+}
+
+/// Whether samples were read, each of which a series line can have.
+fn are_fields(read: &Result<SampleList, LineRefusal>) -> bool
+    ensures { IsTrue result ↔ IsOkAnd read.now (λ samples. IsTrue (list_all has_field samples)) }
+{
+    match read {
+        Ok(samples) => have_fields(samples.members()),
+        Err(_) => false,
+    }
 }
 
 /// The label set at the front of what is left of a line, and the text behind the space after it.

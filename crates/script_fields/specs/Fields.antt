@@ -4,6 +4,8 @@ use Rattle.std.specs.List.{slice_split, position_or_len, before_first, after_fir
 use Rattle.std.specs.Str.{byte as code, bytes_eq}
 use Rattle.std.specs.Map.{lookup}
 use Rattle.reading_core.specs.Reading.{◌>>◌, unless}
+use Rattle.reading_core.specs.Lines.{line_feed}
+use Rattle.label_sets.specs.Characters.{space}
 use Rattle.script_fields.specs.declared.cause.LineCause.{LineCause}
 use Rattle.script_fields.specs.declared.cause.LineCause.TheVariants.{BadShape}
 use Rattle.script_fields.specs.declared.line_kind.LineKind.{LineKind}
@@ -13,14 +15,8 @@ use Rattle.script_fields.specs.declared.rule_kind.RuleKind.TheVariants.{Valued, 
 use Rattle.script_fields.specs.declared.rule_name.RuleName.{RuleName}
 use Rattle.script_fields.specs.declared.rule_name.RuleName.TheVariants as names
 
-abbrev pub newline : ℕ
-newline = 10
-
-abbrev pub space : ℕ
-space = 32
-
 abbrev pub is_newline : ℕ → Bool
-is_newline b = b == newline
+is_newline b = b == line_feed
 
 abbrev pub is_space : ℕ → Bool
 is_space b = b == space

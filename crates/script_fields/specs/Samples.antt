@@ -1,5 +1,5 @@
 -- The samples of a series line, which single spaces keep apart.
-use Rattle.std.specs.Prelude.{ℕ, List, [], ◌∷◌, length, Bool, true, false, not, ◌&&◌, ◌==◌, nat_lt, Result, Ok, Err, ℤ, int_lt, if◌then◌else◌}
+use Rattle.std.specs.Prelude.{ℕ, List, [], ◌∷◌, length, Bool, true, false, not, ◌==◌, nat_lt, Result, Ok, Err, ℤ, if◌then◌else◌}
 use Rattle.std.specs.List.{list_all, slice_split, position_or_len, before_first}
 use Rattle.std.specs.Str.{byte}
 use Rattle.reading_core.specs.Reading.{◌>>=◌, refused_as}
@@ -12,6 +12,7 @@ use Rattle.script_fields.specs.declared.cause.LineCause.TheVariants.{BadSample}
 use Rattle.script_fields.specs.Fields.{is_space, is_empty}
 use Rattle.script_fields.specs.Values.{is_time}
 use Rattle.label_sets.specs.SampleText.{sample_of}
+use Rattle.label_sets.specs.Times.{is_within}
 
 -- the texts of the samples
 abbrev pub texts_of : List ℕ → List (List ℕ)
@@ -49,18 +50,6 @@ samples_from (text ∷ texts) = do
 abbrev pub samples_of : List ℕ → Result (List Sample) LineCause
 samples_of texts = samples_from (texts_of texts)
 
--- each time is above the one before it
-abbrev pub rise_after : Sample → List Sample → Bool
-rise_after last [] = true
-rise_after last (sample ∷ samples) = int_lt last.time sample.time && rise_after sample samples
-
-abbrev pub are_rising : List Sample → Bool
-are_rising [] = true
-are_rising (sample ∷ samples) = rise_after sample samples
-
--- a time is at least the first and below the last
-abbrev pub is_within : ℤ → ℤ → Sample → Bool
-is_within first last sample = not (int_lt sample.time first) && int_lt sample.time last
-
+-- each is at the first time or after it, and before the last
 abbrev pub are_within : ℤ → ℤ → List Sample → Bool
 are_within first last samples = list_all (is_within first last) samples

@@ -1,9 +1,10 @@
 -- The numbers, times, spans and ULIDs that stand in fields.
-use Rattle.std.specs.Prelude.{ℕ, ◌+◌, ◌%◌, ◌^◌, List, [], ◌∷◌, ◌++◌, Bool, ◌&&◌, ◌==◌, nat_le, nat_lt, Option, None, Some, option_map, ok_or, Result, Ok, ℤ, pos, negsuc, if◌then◌else◌}
+use Rattle.std.specs.Prelude.{ℕ, ◌+◌, ◌%◌, List, [], ◌∷◌, ◌++◌, Bool, ◌&&◌, ◌==◌, nat_le, nat_lt, Option, None, Some, option_map, ok_or, Result, Ok, ℤ, pos, negsuc, if◌then◌else◌}
 use Rattle.reading_core.specs.Reading.{◌>>=◌, ◌>>◌, unless, refused_as}
 use Rattle.reading_core.specs.Decimal.{unsigned_of, signed_of}
 use Rattle.ulid_core.specs.UlidText.{ulid_of}
 use Rattle.ulid_core.specs.Reserved.{least_reserved}
+use Rattle.ulid_core.specs.Limits.{entropy_count}
 use Rattle.label_sets.specs.Notation.{is_name}
 use Rattle.label_sets.specs.Limits.{time_limit}
 use Rattle.moment_core.specs.declared.span.Span.{Span}
@@ -67,7 +68,7 @@ ulid_field field = refused_as (λ _. BadUlidText) (ulid_of field)
 
 -- The last ULIDs of each millisecond are kept for compacted blocks.
 abbrev pub is_reserved : ℕ → Bool
-is_reserved ulid = nat_le least_reserved (ulid % 2 ^ 80)
+is_reserved ulid = nat_le least_reserved (ulid % entropy_count)
 
 -- what a text says of a rule's value, a span by its milliseconds
 unfoldable pub value_field : RuleName → List ℕ → Result ℕ LineCause

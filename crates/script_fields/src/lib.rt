@@ -17,7 +17,7 @@ pub use fields::{after_space, cut_line, is_silent, next_field, only_field};
 pub use line_kind::LineKind;
 pub use line_refusal::LineRefusal;
 pub use rule_kind::RuleKind;
-pub use samples::{are_rising, are_whole, are_within, have_small_numbers, read_samples};
+pub use samples::{are_whole, are_within, have_small_numbers, read_samples};
 pub use script_refusal::ScriptRefusal;
 pub use texts::text_place;
 pub use values::{is_reserved, is_time, stop_count, time, ulid};

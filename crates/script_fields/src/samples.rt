@@ -5,14 +5,14 @@ ghost use Rattle.reading_core.specs.Reading.{Gives, refused_as};
 ghost use Rattle.label_sets.specs.SampleText.{sample_of};
 ghost use Rattle.script_fields.specs.declared.cause.LineCause.TheVariants.{BadSample};
 ghost use Rattle.script_fields.specs.declared.line_refusal.LineRefusal.TheVariants as line_refusals;
-ghost use Rattle.script_fields.specs.Samples.{are_whole, has_small_number, have_small_numbers, samples_of, are_rising, rise_after, are_within, is_within};
+ghost use Rattle.script_fields.specs.Samples.{are_whole, has_small_number, have_small_numbers, samples_of, are_within};
 ghost use Rattle.script_fields.specs.LineRefusals.{bad};
 
 use crate::LineCause;
 use crate::fields::next_field;
 use crate::line_refusal::LineRefusal;
 use crate::values::is_time;
-use label_sets::{Sample, SampleList};
+use label_sets::{Sample, SampleList, is_within};
 use reading_core::{NumberRefusal, read_signed};
 use std::alloc::Global;
 
@@ -65,38 +65,9 @@ fn read_sample(text: &str) -> Result<Sample, LineCause>
     Sample::read(text).map_err(|_| LineCause::BadSample)
 }
 
-/// Whether each time is above the one before it.
-pub fn are_rising(samples: &[Sample]) -> bool
-    ensures { result ≡ are_rising samples.now }
-{
-    match samples {
-        [] => true,
-        [first, others @ ..] => rise_after(first, others),
-    }
-}
-
-fn rise_after(first: &Sample, others: &[Sample]) -> bool
-    ensures { result ≡ rise_after first.now others.now }
-{
-    let mut last = first;
-    for sample in others {
-        if sample.time <= last.time {
-            return false;
-        }
-        last = sample;
-    }
-    true
-}
-
 /// Whether each time is at least `first` and below `last`.
 pub fn are_within(samples: &[Sample], first: i64, last: i64) -> bool
     ensures { result ≡ are_within first last samples.now }
 {
     samples.iter().all(|sample| is_within(sample, first, last))
-}
-
-fn is_within(sample: &Sample, first: i64, last: i64) -> bool
-    ensures { result ≡ is_within first last sample.now }
-{
-    first <= sample.time && sample.time < last
 }

@@ -1,5 +1,5 @@
 use Rattle.std.proofs.Common.{ap, arith, inl, inr, length}
-use Rattle.label_sets.proofs.ReadPairs.{past-only}
+use Rattle.label_sets.proofs.ReadPairs.{rest_past-only}
 use Rattle.label_sets.proofs.ReadWalks.{on_the_way_refused, on_the_way_more, ended_ok, ended_err, past_utf8}
 use Rattle.label_sets.proofs.notation.read_pairs.Goals as goal
 
@@ -10,16 +10,16 @@ returns-in-Err-clause-refused c = elim c.in-Err.ensures.refused [
 ]
 
 pub loop-rest-smaller : goal.loop-rest-smaller
-loop-rest-smaller c = omega (arith, c.in-Ok.ensures.shorter, ap length (past-only _ _ _ c.in-Ok-past.ensures.answers))
+loop-rest-smaller c = omega (arith, c.in-Ok.ensures.shorter, ap length (rest_past-only _ _ _ c.in-Ok-rest_past.ensures.answers))
 
 pub loop-rest-preserved : goal.loop-rest-preserved
 loop-rest-preserved c = record {
-  way = on_the_way_more _ _ _ _ _ _ _ c.loop-rest.invariant.way c.in-Ok.ensures.added.1 c.in-Ok.ensures.added.2 c.in-Ok-past.ensures.answers c.in-Ok.ensures.shorter;
-  utf8 = past_utf8 _ _ _ (omega arith) c.in-Ok-past.ensures.answers c.in-Ok.ensures.utf8;
+  way = on_the_way_more _ _ _ _ _ _ _ c.loop-rest.invariant.way c.in-Ok.ensures.added.1 c.in-Ok.ensures.added.2 c.in-Ok-rest_past.ensures.answers c.in-Ok.ensures.shorter;
+  utf8 = past_utf8 _ _ _ (omega arith) c.in-Ok-rest_past.ensures.answers c.in-Ok.ensures.utf8;
 }
 
-pub returns-in-Err-past-clause-read : goal.returns-in-Err-past-clause-read
-returns-in-Err-past-clause-read c = ended_ok _ _ _ _ _ _ _ _ _ c.loop-rest.invariant.way c.in-Ok.ensures.added.1 c.in-Ok.ensures.added.2 c.in-Err-past.ensures.answers c.end_at.ensures.read
+pub returns-in-Err-rest_past-clause-read : goal.returns-in-Err-rest_past-clause-read
+returns-in-Err-rest_past-clause-read c = ended_ok _ _ _ _ _ _ _ _ _ c.loop-rest.invariant.way c.in-Ok.ensures.added.1 c.in-Ok.ensures.added.2 c.in-Err-rest_past.ensures.answers c.end_at.ensures.read
 
-pub returns-in-Err-past-clause-refused : goal.returns-in-Err-past-clause-refused
-returns-in-Err-past-clause-refused c = ended_err _ _ _ _ _ _ _ _ _ _ c.loop-rest.invariant.way c.in-Ok.ensures.added.1 c.in-Ok.ensures.added.2 c.in-Err-past.ensures.answers c.end_at.ensures.refused
+pub returns-in-Err-rest_past-clause-refused : goal.returns-in-Err-rest_past-clause-refused
+returns-in-Err-rest_past-clause-refused c = ended_err _ _ _ _ _ _ _ _ _ _ c.loop-rest.invariant.way c.in-Ok.ensures.added.1 c.in-Ok.ensures.added.2 c.in-Err-rest_past.ensures.answers c.end_at.ensures.refused

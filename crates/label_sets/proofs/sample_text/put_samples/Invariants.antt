@@ -1,7 +1,12 @@
-use Rattle.std.proofs.Common.{◌≡◌, ◌++◌, take}
-use Rattle.std.specs.List.{flat_map}
-use Rattle.label_sets.specs.SampleText.{spaced_sample_text}
+use Rattle.std.proofs.Common.{◌≡◌, length}
+use Rattle.label_sets.proofs.SampleParts.{SoFar}
 use Rattle.label_sets.proofs.sample_text.put_samples.Given as goal
 
-abbrev pub invariant-loop-sample : goal.invariant-loop-sample
-invariant-loop-sample l = l.out.items ≡ l.initial.out.items ++ flat_map spaced_sample_text (take l.sample-index l.samples)
+abbrev pub invariant-loop-left : goal.invariant-loop-left
+invariant-loop-left l = record {
+  size : length l.field ≡ 480;
+  so_far : SoFar l.initial.out.items l.out.items l.samples l.left;
+}
+
+abbrev pub decreases-loop-left : goal.decreases-loop-left
+decreases-loop-left l = length l.left

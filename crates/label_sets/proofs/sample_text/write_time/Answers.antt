@@ -13,11 +13,11 @@ overflow_sub-field c = omega (arith, length-decimal-le 19 c.unsigned_abs.result 
 pub overflow_sub-result : goal.overflow_sub-result
 overflow_sub-result c = omega (arith, length-decimal-le 19 c.unsigned_abs.result (omega arith) (omega arith) (omega arith))
 
-pub returns-then-time-ge0-clause-room : goal.returns-then-time-ge0-clause-room
-returns-then-time-ge0-clause-room c = omega (arith, length-decimal-le 19 c.unsigned_abs.result (omega arith) (omega arith) (omega arith))
+pub returns-then-time-ge0-clause-near : goal.returns-then-time-ge0-clause-near
+returns-then-time-ge0-clause-near c = omega (arith, length-decimal-le 19 c.unsigned_abs.result (omega arith) (omega arith) (omega arith))
 
-pub returns-clause-room : goal.returns-clause-room
-returns-clause-room c = omega (arith, length-decimal-le 19 c.unsigned_abs.result (omega arith) (omega arith) (omega arith))
+pub returns-clause-near : goal.returns-clause-near
+returns-clause-near c = omega (arith, length-decimal-le 19 c.unsigned_abs.result (omega arith) (omega arith) (omega arith))
 
 pub returns-clause-written : goal.returns-clause-written
 returns-clause-written c =
@@ -26,4 +26,4 @@ returns-clause-written c =
     let e : w.result - 1 + 1 ≡ w.result = omega arith in
     let back = to_z-of_z c.ranges.time in
     rw (drop-set w.new.buf (w.result - 1) 45 (omega arith), e, w.ensures.written, c.unsigned_abs.ensures.value, back)
-    (ap (λ text. text ++ drop 23 c.args.field.now) (minus_first _ (rw back at c.if-time-ge0.false)))
+    (ap (λ text. text ++ drop c.args.end c.args.field.now) (minus_first _ (rw back at c.if-time-ge0.false)))

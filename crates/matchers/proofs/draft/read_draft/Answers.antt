@@ -10,9 +10,9 @@ pub loop-place-preserved : goal.loop-place-preserved
 loop-place-preserved c = byte_more c.loop-place.draft _ c.loop-place.place c.args.text.now _ (omega (arith, c.loop-place-test.true)) refl c.loop-place.invariant c.in_ok-step.ensures
 
 pub returns-clause-gives : goal.returns-clause-gives
-returns-clause-gives c = bytes_end (λ x. x) c.ended.result c.loop-place.draft c.loop-place.place c.args.text.now (omega (arith, c.loop-place-test.false)) c.loop-place.invariant c.ended.ensures (omega (arith, c.loop-place-test.false, c.loop-place.auto.place-end))
+returns-clause-gives c = bytes_end (λ x. x) c.ended_draft.result c.loop-place.draft c.loop-place.place c.args.text.now (omega (arith, c.loop-place-test.false)) c.loop-place.invariant c.ended_draft.ensures (omega (arith, c.loop-place-test.false, c.loop-place.auto.place-end))
 
 pub returns-clause-texts : goal.returns-clause-texts
-returns-clause-texts c = texts_of c.ended.result c.args.text.now
-    (bytes_end (λ x. x) c.ended.result c.loop-place.draft c.loop-place.place c.args.text.now (omega (arith, c.loop-place-test.false)) c.loop-place.invariant c.ended.ensures (omega (arith, c.loop-place-test.false, c.loop-place.auto.place-end)))
+returns-clause-texts c = texts_of c.ended_draft.result c.args.text.now
+    (bytes_end (λ x. x) c.ended_draft.result c.loop-place.draft c.loop-place.place c.args.text.now (omega (arith, c.loop-place-test.false)) c.loop-place.invariant c.ended_draft.ensures (omega (arith, c.loop-place-test.false, c.loop-place.auto.place-end)))
     c.requires

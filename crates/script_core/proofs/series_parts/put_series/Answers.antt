@@ -2,6 +2,7 @@ use Rattle.std.proofs.Common.{◌≡◌, Ok, Err, inl, sym, subst}
 use Rattle.std.proofs.lemmas.Result.{err_from_is_err_and}
 use Rattle.script_core.specs.Parts.{test_samples}
 use Rattle.script_core.proofs.SeriesParts.{on_ok, series_one_line, series_size, put_reads, samples_tested, none_refused, adding_refused}
+use Rattle.script_core.proofs.SpelledValues.{ascend_tested}
 use Rattle.script_core.proofs.series_parts.put_series.Goals as goal
 
 pub returns-clause-line : goal.returns-clause-line
@@ -27,7 +28,7 @@ returns-in_err-set-clause-refused c = λ set are.
 pub returns-in_err-test_samples-clause-refused : goal.returns-in_err-test_samples-clause-refused
 returns-in_err-test_samples-clause-refused c = λ set are.
     let refusal = c.in_err-test_samples.field-0.0 in
-    absurd (none_refused c.args.samples refusal are.some are.fields are.rising (subst (λ s. test_samples s ≡ Err refusal) c.members.ensures (sym c.in_err-test_samples.ensures)))
+    absurd (none_refused c.args.samples refusal are.some are.fields (ascend_tested c.args.samples are.ascend) (subst (λ s. test_samples s ≡ Err refusal) c.members.ensures (sym c.in_err-test_samples.ensures)))
 
 pub returns-clause-refused : goal.returns-clause-refused
 returns-clause-refused c = λ set are.

@@ -2,7 +2,7 @@ use Rattle.std.proofs.Common.{ap, ◌∙◌, sym, subst}
 use Rattle.label_sets.specs.Labels.{IsLabelSet}
 use Rattle.label_sets.specs.Finals.{without, final_of}
 use Rattle.label_sets.proofs.FinalLabels.{reduced_alone, IsLabelSet-reduced, final_from_reduced}
-use Rattle.label_sets.proofs.label_set.reduced.Goals as goal
+use Rattle.label_sets.proofs.label_set.reduced_labels.Goals as goal
 
 pub invariant_of-result : goal.invariant_of-result
 invariant_of-result c = subst IsLabelSet (sym (reduced_alone c.new-kept.ensures.items c.labels.ensures.value c.labels-2.ensures.value c.members.ensures c.in_ok-copy_kept.ensures))

@@ -2,7 +2,7 @@ use Rattle.std.proofs.Common.{[]}
 use Rattle.generated_day.specs.Day.{day_text}
 use Rattle.generated_day.proofs.DayScripts.{day_spells}
 use Rattle.generated_day.proofs.Wanting.{script_wants, whole_wants}
-use Rattle.generated_day.proofs.day.generated.Goals as goal
+use Rattle.generated_day.proofs.day.generated_script.Goals as goal
 
 pub returns-in-Ok-clause-spelled : goal.returns-in-Ok-clause-spelled
 returns-in-Ok-clause-spelled c =
