@@ -7,7 +7,7 @@ use Rattle.std.proofs.lemmas.Int.{ints}
 use Rattle.reading_core.specs.Reading.{◌>>◌, unless, Gives}
 use Rattle.reading_core.proofs.Binds.{ok_is}
 use Rattle.label_sets.specs.declared.sample.Sample.{Sample}
-use Rattle.label_sets.specs.Times.{times_of}
+use Rattle.label_sets.specs.Times.{times_of, is_within}
 use Rattle.index_parts.specs.declared.chunk_place.ChunkPlace.{ChunkPlace}
 use Rattle.block_meta.specs.declared.meta.Meta.{Meta}
 use Rattle.xor_chunks.specs.declared.refusal.XorRefusal.{XorRefusal}
@@ -19,7 +19,7 @@ use Rattle.xor_chunks.specs.Grammar.{AreOthers, IsText, Follows}
 use Rattle.chunk_files.specs.declared.refusal.ChunkRefusal.{ChunkRefusal}
 use Rattle.block_content.specs.Content.{HaveTimesOf}
 use Rattle.reading_core.specs.Firsts.{first_at}
-use Rattle.block_content.specs.ContentReading.{data_of, part_at, samples_at, chunk_at, is_within, outside_of, first_time, lies_within, LieBetween}
+use Rattle.block_content.specs.ContentReading.{data_of, part_at, samples_at, chunk_at, outside_of, first_time, lies_within, LieBetween}
 use Rattle.block_content.specs.declared.chunk_cause.ChunkCause.{ChunkCause}
 use Rattle.block_content.specs.declared.chunk_cause.ChunkCause.TheVariants.{File, Data, NoSamples, TimesDiffer}
 use Rattle.reading_core.proofs.FirstLaws.{some_is}
@@ -167,7 +167,7 @@ text_between place content (s ∷ ss) is timed =
 
 -- ---- a place within the block's times
 
-between_within : (meta : Meta) (place : ChunkPlace) (s : Sample) → lies_within meta place ≡ true → Between place.min place.max s → is_within meta s ≡ true
+between_within : (meta : Meta) (place : ChunkPlace) (s : Sample) → lies_within meta place ≡ true → Between place.min place.max s → is_within meta.min_time meta.max_time s ≡ true
 between_within meta place s lies is =
     let p = and_parts _ _ lies in
     let low : meta.min_time ≤ℤ place.min = record { le = T_from_true _ p.0 } in

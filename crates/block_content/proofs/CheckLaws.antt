@@ -1,10 +1,10 @@
 -- Which blocks pass: what the functions give is what the relations say.
 use Rattle.std.proofs.Common.{◌≡◌, ℕ, ◌*◌, ◌≤◌, sum_by, List, [], ◌∷◌, length, Bool, true, false, Result, Ok, Err, pos, refl, sym, ap, subst, ◌∙◌, ◌⊎◌, inl, inr}
-use Rattle.std.specs.Prelude.{IfOk, IfErr, IsErrAnd, ◌≢◌, ◌==◌}
+use Rattle.std.specs.Prelude.{IfOk, IfErr, IsErrAnd, ◌≢◌}
 use Rattle.std.specs.List.{AllByRecursion, AllZip}
 use Rattle.std.specs.Ordering.{int_eq}
 use Rattle.std.proofs.lemmas.Bool.Decides.{Decides-int_eq, Decides-eqb}
-use Rattle.std.proofs.lemmas.Bool.{false_from_ne_true, eq-eqb}
+use Rattle.std.proofs.lemmas.Bool.{false_from_ne_true, eq-eqb, ne_eqb}
 use Rattle.reading_core.specs.Reading.{◌>>◌, unless, refused_as}
 use Rattle.reading_core.specs.Grammar.{IsBytes}
 use Rattle.reading_core.proofs.Binds.{bind_ok, bind_err, then_ok, err_is, unless_is, refused_as_ok, one_answer}
@@ -223,13 +223,10 @@ module _ (files : BlockFiles) (bytes : IsBytes files.index) (are : AllByRecursio
   unfolding check_at
   own_stop ulid e refused = rw refused refl
 
-  other_number : (n m : ℕ) → n ≢ m → (n == m) ≡ false
-  other_number n m differ = false_from_ne_true (n == m) (λ e. differ ((Decides-eqb n m).0 e))
-
   pub check_refuses : (ulid : ℕ) (e : CheckRefusal) → RefusesBlock ulid files e → check_at ulid files.meta files.index files.segments ≡ Err e
   unfolding own_at
-  check_refuses ulid UlidDiffers differ = own_stop ulid UlidDiffers (rw (other_number files.meta.ulid ulid differ) refl)
-  check_refuses ulid NotLevelOne (same, differ) = own_stop ulid NotLevelOne (rw (eq-eqb files.meta.ulid ulid same, other_number files.meta.level 1 differ) refl)
+  check_refuses ulid UlidDiffers differ = own_stop ulid UlidDiffers (rw (ne_eqb files.meta.ulid ulid differ) refl)
+  check_refuses ulid NotLevelOne (same, differ) = own_stop ulid NotLevelOne (rw (eq-eqb files.meta.ulid ulid same, ne_eqb files.meta.level 1 differ) refl)
   check_refuses ulid SourcesNotSelf (same, first, differ) =
       own_stop ulid SourcesNotSelf (rw (eq-eqb files.meta.ulid ulid same, eq-eqb files.meta.level 1 first, false_from_ne_true (is_alone ulid files.meta.sources) (λ e. differ (alone_found ulid files.meta.sources e))) refl)
   check_refuses ulid Downsampled (same, first, one, differ) =

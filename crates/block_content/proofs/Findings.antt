@@ -4,11 +4,12 @@ use Rattle.std.specs.Prelude.{option_map}
 use Rattle.std.proofs.lemmas.List.{drop_more, drop_all}
 use Rattle.label_sets.specs.declared.sample.Sample.{Sample}
 use Rattle.label_sets.specs.declared.series.Series.{Series}
+use Rattle.label_sets.specs.Times.{is_within}
 use Rattle.index_parts.specs.declared.chunk_place.ChunkPlace.{ChunkPlace}
 use Rattle.index_file.specs.declared.index_series.IndexSeries.{IndexSeries}
 use Rattle.block_meta.specs.declared.meta.Meta.{Meta}
 use Rattle.reading_core.specs.Firsts.{first_at}
-use Rattle.block_content.specs.ContentReading.{is_within, outside_of, first_time, first_outside, begins_after, follow, repeated_in, fitted}
+use Rattle.block_content.specs.ContentReading.{outside_of, first_time, first_outside, begins_after, follow, repeated_in, fitted}
 use Rattle.reading_core.proofs.FirstLaws.{none_step, some_stop, none_end}
 use Rattle.block_content.proofs.ChunkWalks.{fitted_more}
 
@@ -17,20 +18,20 @@ use Rattle.block_content.proofs.ChunkWalks.{fitted_more}
 abbrev pub NoneOutside : Meta → List Sample → ℕ → Type 0
 NoneOutside meta samples i = first_at (outside_of meta) (take i samples) ≡ None
 
-inside : (meta : Meta) (sample : Sample) (r : Bool) → r ≡ is_within meta sample → r ≡ true → outside_of meta sample ≡ None
+inside : (meta : Meta) (sample : Sample) (r : Bool) → r ≡ is_within meta.min_time meta.max_time sample → r ≡ true → outside_of meta sample ≡ None
 inside meta sample r is passed = rw (sym is ∙ passed) refl
 
-beside : (meta : Meta) (sample : Sample) (r : Bool) → r ≡ is_within meta sample → r ≡ false → outside_of meta sample ≡ Some sample.time
+beside : (meta : Meta) (sample : Sample) (r : Bool) → r ≡ is_within meta.min_time meta.max_time sample → r ≡ false → outside_of meta sample ≡ Some sample.time
 beside meta sample r is failed = rw (sym is ∙ failed) refl
 
 pub time_start : (meta : Meta) (samples : List Sample) → NoneOutside meta samples 0
 unfolding first_at
 time_start meta samples = refl
 
-pub time_step : (meta : Meta) (samples : List Sample) (i : ℕ) (sample d : Sample) (r : Bool) → NoneOutside meta samples i → i < length samples → sample ≡ get_or samples i d → r ≡ is_within meta sample → r ≡ true → NoneOutside meta samples (i + 1)
+pub time_step : (meta : Meta) (samples : List Sample) (i : ℕ) (sample d : Sample) (r : Bool) → NoneOutside meta samples i → i < length samples → sample ≡ get_or samples i d → r ≡ is_within meta.min_time meta.max_time sample → r ≡ true → NoneOutside meta samples (i + 1)
 time_step meta samples i sample d r none lt at is passed = none_step (outside_of meta) samples i sample d none lt at (inside meta sample r is passed)
 
-pub time_stop : (meta : Meta) (samples : List Sample) (i : ℕ) (sample d : Sample) (r : Bool) → NoneOutside meta samples i → i < length samples → sample ≡ get_or samples i d → r ≡ is_within meta sample → r ≡ false → Some sample.time ≡ first_time meta samples
+pub time_stop : (meta : Meta) (samples : List Sample) (i : ℕ) (sample d : Sample) (r : Bool) → NoneOutside meta samples i → i < length samples → sample ≡ get_or samples i d → r ≡ is_within meta.min_time meta.max_time sample → r ≡ false → Some sample.time ≡ first_time meta samples
 time_stop meta samples i sample d r none lt at is failed = sym (ap (option_map (λ (q : ℕ × ℤ). q.1)) (some_stop (outside_of meta) samples i sample d sample.time none lt at (beside meta sample r is failed)))
 
 pub time_end : (meta : Meta) (samples : List Sample) (i : ℕ) → NoneOutside meta samples i → length samples ≤ i → None ≡ first_time meta samples

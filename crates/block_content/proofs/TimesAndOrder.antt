@@ -5,7 +5,8 @@ use Rattle.std.proofs.lemmas.Bool.{and_parts, true≢false, and_from, false_from
 use Rattle.std.proofs.lemmas.Float.{T_from_true}
 use Rattle.reading_core.specs.Grammar.{IsBytes}
 use Rattle.reading_core.proofs.Binds.{bind_ok}
-use Rattle.label_sets.specs.declared.sample.Sample.{Sample}
+use Rattle.label_sets.proofs.TimesWithin.{within_found, within_again}
+use Rattle.label_sets.specs.Times.{IsWithin, is_within}
 use Rattle.index_parts.specs.Turns.{InOrderAfter}
 use Rattle.index_parts.specs.declared.chunk_place.ChunkPlace.{ChunkPlace}
 use Rattle.index_file.specs.declared.index_series.IndexSeries.{IndexSeries}
@@ -15,8 +16,8 @@ use Rattle.index_v2.proofs.OpeningLaws.{opened_found, opened_again}
 use Rattle.index_v2.proofs.WholeRead.{whole_found, whole_again}
 use Rattle.block_meta.specs.declared.meta.Meta.{Meta}
 use Rattle.reading_core.specs.Firsts.{IsFirstAt}
-use Rattle.block_content.specs.Content.{BeginsAfter, IsApart, IsWithin, AreWithin}
-use Rattle.block_content.specs.ContentReading.{is_within, outside_of, first_outside, begins_after, follow, repeated_in, index_at}
+use Rattle.block_content.specs.Content.{BeginsAfter, IsApart, AreWithin}
+use Rattle.block_content.specs.ContentReading.{outside_of, first_outside, begins_after, follow, repeated_in, index_at}
 use Rattle.block_content.specs.ContentRefusals.{IsOutside}
 use Rattle.reading_core.proofs.FirstLaws.{Finds, all_good, all_pass, first_found, first_again}
 use Rattle.list_core.proofs.Options.{option_map-Some}
@@ -40,12 +41,6 @@ index_again bytes list are is =
 
 -- ---- samples within the block's times
 
-within_found : (meta : Meta) (sample : Sample) → is_within meta sample ≡ true → IsWithin meta sample
-within_found meta sample e = let p = and_parts _ _ e in (record { le = T_from_true _ p.0 }, record { lt = T_from_true _ p.1 })
-
-within_again : (meta : Meta) (sample : Sample) → IsWithin meta sample → is_within meta sample ≡ true
-within_again meta sample is = and_from _ _ (true-from_T _ is.0.le) (true-from_T _ is.1.lt)
-
 -- a test that finds something where it does not hold
 chosen_none : {X : Type 0} (b : Bool) (x : X) → (if b then None else Some x) ≡ None → b ≡ true
 chosen_none true x e = refl
@@ -55,23 +50,23 @@ chosen_some : {X : Type 0} (b : Bool) (x y : X) → (if b then None else Some x)
 chosen_some true x y e = absurd cc
 chosen_some false x y e = (refl, cc)
 
-sample_finds : (meta : Meta) → Finds (outside_of meta) (IsWithin meta) (λ sample time. IsOutside meta time sample)
+sample_finds : (meta : Meta) → Finds (outside_of meta) (IsWithin meta.min_time meta.max_time) (λ sample time. IsOutside meta time sample)
 sample_finds meta = record {
-  none = λ sample e. within_found meta sample (chosen_none _ _ e);
-  passes = λ sample is. rw (within_again meta sample is) refl;
-  some = λ sample time e. let c = chosen_some _ _ _ e in record { outside = λ is. true≢false (sym (within_again meta sample is) ∙ c.0); at = sym c.1 };
-  finds = λ sample time is. rw (false_from_ne_true (is_within meta sample) (λ e. is.outside (within_found meta sample e))) (ap (λ (t : ℤ). Some t) (sym is.at));
+  none = λ sample e. within_found meta.min_time meta.max_time sample (chosen_none _ _ e);
+  passes = λ sample is. rw (within_again meta.min_time meta.max_time sample is) refl;
+  some = λ sample time e. let c = chosen_some _ _ _ e in record { outside = λ is. true≢false (sym (within_again meta.min_time meta.max_time sample is) ∙ c.0); at = sym c.1 };
+  finds = λ sample time is. rw (false_from_ne_true (is_within meta.min_time meta.max_time sample) (λ e. is.outside (within_found meta.min_time meta.max_time sample e))) (ap (λ (t : ℤ). Some t) (sym is.at));
 }
 
 mapped_none : {X Y : Type 0} (f : X → Y) (o : Option X) → option_map f o ≡ None → o ≡ None
 mapped_none f None e = refl
 mapped_none f (Some x) e = absurd cc
 
-pub times_find : (meta : Meta) → Finds (first_outside meta) (AreWithin meta) (λ series time. (place : ℕ) × IsFirstAt (IsWithin meta) (IsOutside meta time) series.samples place)
+pub times_find : (meta : Meta) → Finds (first_outside meta) (AreWithin meta) (λ series time. (place : ℕ) × IsFirstAt (IsWithin meta.min_time meta.max_time) (IsOutside meta time) series.samples place)
 times_find meta = record {
   none = λ series e. all_good _ _ _ (sample_finds meta) series.samples (mapped_none _ _ e);
   passes = λ series all. rw (all_pass _ _ _ (sample_finds meta) series.samples all) refl;
-  some = λ series time e. let r = option_map-Some _ _ _ e in (r.0.0, subst (λ (t : ℤ). IsFirstAt (IsWithin meta) (IsOutside meta t) series.samples r.0.0) r.2 (first_found _ _ _ (sample_finds meta) series.samples r.0 r.1));
+  some = λ series time e. let r = option_map-Some _ _ _ e in (r.0.0, subst (λ (t : ℤ). IsFirstAt (IsWithin meta.min_time meta.max_time) (IsOutside meta t) series.samples r.0.0) r.2 (first_found _ _ _ (sample_finds meta) series.samples r.0 r.1));
   finds = λ series time is. rw (first_again _ _ _ (sample_finds meta) series.samples is.0 time is.1) refl;
 }
 

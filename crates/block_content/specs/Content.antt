@@ -1,10 +1,11 @@
 -- What a block's files hold, apart from how it is read: series, each with its labels and its samples.
-use Rattle.std.specs.Prelude.{◌≡◌, ℕ, ◌-◌, List, length, slice_get, Option, None, Some, ℤ, ◌<ℤ◌, ◌≤ℤ◌}
+use Rattle.std.specs.Prelude.{◌≡◌, ℕ, ◌-◌, List, length, slice_get, Option, None, Some, ℤ, ◌<ℤ◌}
 use Rattle.std.specs.List.{AllByRecursion, flat_map, AllZip}
 use Rattle.label_sets.specs.declared.sample.Sample.{Sample}
 use Rattle.label_sets.specs.declared.series.Series.{Series}
-use Rattle.label_sets.specs.Times.{times_of}
+use Rattle.label_sets.specs.Times.{times_of, IsWithin}
 use Rattle.xor_chunks.specs.Grammar.{IsText}
+use Rattle.xor_chunks.specs.Widths.{stored_filling}
 use Rattle.chunk_files.specs.Chunk.{IsPlace}
 use Rattle.index_parts.specs.Turns.{InOrder}
 use Rattle.index_parts.specs.declared.chunk_place.ChunkPlace.{ChunkPlace}
@@ -30,7 +31,7 @@ pub record HaveTimesOf (place : ChunkPlace) (samples : List Sample) : Type 0 whe
 pub record IsChunkOf (segments : List (List ℕ)) (place : ChunkPlace) (samples : List Sample) : Type 0 where
   pub content : List ℕ
   pub stands : StandsAt segments place content
-  pub reads : IsText 8 content samples
+  pub reads : IsText stored_filling content samples
   pub timed : HaveTimesOf place samples
 
 -- ---- a series
@@ -53,12 +54,9 @@ IsApart indexed = InOrder BeginsAfter indexed.chunks
 
 -- ---- the block
 
--- The sample lies within the block's times, of which the last is not its own.
-abbrev pub IsWithin : Meta → Sample → Type 0
-IsWithin meta sample = (meta.min_time ≤ℤ sample.time) × (sample.time <ℤ meta.max_time)
-
+-- The samples lie within the block's times, of which the last is not its own.
 abbrev pub AreWithin : Meta → Series → Type 0
-AreWithin meta series = AllByRecursion (IsWithin meta) series.samples
+AreWithin meta series = AllByRecursion (IsWithin meta.min_time meta.max_time) series.samples
 
 -- The files hold these series: those of the index, in its order, each of whose chunks is read, whose times lie within the
 -- block's, and whose chunks follow one another in time.

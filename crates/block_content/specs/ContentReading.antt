@@ -6,9 +6,11 @@ use Rattle.list_core.specs.Lists.{joined}
 use Rattle.reading_core.specs.Reading.{◌>>=◌, ◌>>◌, unless, refused_as}
 use Rattle.label_sets.specs.declared.sample.Sample.{Sample}
 use Rattle.label_sets.specs.declared.series.Series.{Series}
+use Rattle.label_sets.specs.Times.{is_within}
 use Rattle.xor_chunks.specs.Data.{data_at}
 use Rattle.xor_chunks.specs.declared.refusal.XorRefusal.TheVariants as xor
 use Rattle.xor_chunks.specs.declared.sample_span.SampleSpan.{SampleSpan}
+use Rattle.xor_chunks.specs.Widths.{stored_filling}
 use Rattle.chunk_files.specs.declared.refusal.ChunkRefusal.{ChunkRefusal}
 use Rattle.chunk_files.specs.declared.refusal.ChunkRefusal.TheVariants.{Short}
 use Rattle.chunk_files.specs.ChunkReading.{segment_at}
@@ -59,7 +61,7 @@ part_at place samples = unless (are_some samples) NoSamples >> unless (have_time
 -- the samples that the data of a chunk stands for
 unfoldable pub samples_at : ChunkPlace → List ℕ → Result (List Sample) ChunkCause
 samples_at place content = do
-  samples ← refused_as Data (data_at 8 content)
+  samples ← refused_as Data (data_at stored_filling content)
   unless (are_some samples) NoSamples
   unless (have_times_of place samples) TimesDiffer
   Ok samples
@@ -129,12 +131,9 @@ list_of (one ∷ indexed) (first ∷ parts) = series_of one first ∷ list_of in
 
 -- ---- times and order
 
-abbrev pub is_within : Meta → Sample → Bool
-is_within meta sample = int_le meta.min_time sample.time && int_lt sample.time meta.max_time
-
 -- the time of a sample outside the block's times
 abbrev pub outside_of : Meta → Sample → Option ℤ
-outside_of meta sample = if is_within meta sample then None else Some sample.time
+outside_of meta sample = if is_within meta.min_time meta.max_time sample then None else Some sample.time
 
 -- the first such time
 abbrev pub first_time : Meta → List Sample → Option ℤ

@@ -3,16 +3,18 @@ use Rattle.std.specs.Prelude.{◌≡◌, ◌≢◌, ℕ, List, [], Err, ℤ}
 use Rattle.std.specs.List.{AllByRecursion, AllZip}
 use Rattle.label_sets.specs.declared.sample.Sample.{Sample}
 use Rattle.label_sets.specs.declared.series.Series.{Series}
+use Rattle.label_sets.specs.Times.{IsWithin}
 use Rattle.xor_chunks.specs.Grammar.{IsText}
 use Rattle.xor_chunks.specs.Data.{data_at}
 use Rattle.xor_chunks.specs.declared.refusal.XorRefusal.TheVariants as xor
+use Rattle.xor_chunks.specs.Widths.{stored_filling}
 use Rattle.index_parts.specs.declared.chunk_place.ChunkPlace.{ChunkPlace}
 use Rattle.index_file.specs.declared.index_series.IndexSeries.{IndexSeries}
 use Rattle.index_file.specs.IndexFile.{IsIndex}
 use Rattle.index_v2.specs.declared.refusal.IndexRefusal.TheVariants as index
 use Rattle.block_meta.specs.declared.meta.Meta.{Meta}
 use Rattle.reading_core.specs.Firsts.{IsFirstAt}
-use Rattle.block_content.specs.Content.{StandsAt, HaveTimesOf, IsChunkOf, HoldsSeries, IsApart, IsWithin, AreWithin}
+use Rattle.block_content.specs.Content.{StandsAt, HaveTimesOf, IsChunkOf, HoldsSeries, IsApart, AreWithin}
 use Rattle.block_content.specs.ContentReading.{index_at, data_of, fitted}
 use Rattle.block_files.specs.declared.block_files.BlockFiles.{BlockFiles}
 use Rattle.block_content.specs.declared.chunk_cause.ChunkCause.{ChunkCause}
@@ -26,10 +28,10 @@ use Rattle.block_content.specs.declared.check_refusal.CheckRefusal.TheVariants.{
 -- the place tells.
 abbrev pub RefusesChunk : List (List ℕ) → ChunkPlace → ChunkCause → Type 0
 RefusesChunk segments place (File refusal) = data_of segments place ≡ Err refusal
-RefusesChunk segments place (Data refusal) = (content : List ℕ) × StandsAt segments place content × (data_at 8 content ≡ Err refusal)
-RefusesChunk segments place NoSamples = (content : List ℕ) × StandsAt segments place content × IsText 8 content []
+RefusesChunk segments place (Data refusal) = (content : List ℕ) × StandsAt segments place content × (data_at stored_filling content ≡ Err refusal)
+RefusesChunk segments place NoSamples = (content : List ℕ) × StandsAt segments place content × IsText stored_filling content []
 RefusesChunk segments place TimesDiffer =
-    (content : List ℕ) × (samples : List Sample) × StandsAt segments place content × IsText 8 content samples × (samples ≢ []) × (HaveTimesOf place samples → ⊥)
+    (content : List ℕ) × (samples : List Sample) × StandsAt segments place content × IsText stored_filling content samples × (samples ≢ []) × (HaveTimesOf place samples → ⊥)
 
 -- the chunk at the place has samples
 abbrev pub IsChunk : List (List ℕ) → ChunkPlace → Type 0
@@ -48,13 +50,13 @@ IsFirstBadChunk segments indexed series chunk cause =
 
 -- a sample at this time, outside the block's times
 pub record IsOutside (meta : Meta) (time : ℤ) (sample : Sample) : Type 0 where
-  pub outside : IsWithin meta sample → ⊥
+  pub outside : IsWithin meta.min_time meta.max_time sample → ⊥
   pub at : time ≡ sample.time
 
 -- in this series stands the first sample outside the block's times, and it is at this time
 abbrev pub IsFirstOutside : Meta → List Series → ℕ → ℤ → Type 0
 IsFirstOutside meta list series time =
-    IsFirstAt (AreWithin meta) (λ one. (place : ℕ) × IsFirstAt (IsWithin meta) (IsOutside meta time) one.samples place) list series
+    IsFirstAt (AreWithin meta) (λ one. (place : ℕ) × IsFirstAt (IsWithin meta.min_time meta.max_time) (IsOutside meta time) one.samples place) list series
 
 -- this series is the first whose chunks do not follow one another in time
 abbrev pub IsFirstRepeated : List IndexSeries → ℕ → Type 0

@@ -1,5 +1,5 @@
 //! The samples of one chunk.
-ghost use Rattle.std.specs.Prelude.{◌≡◌, ◌+◌, ◌*◌, ◌≤◌, ◌++◌, ◌&&◌, List, length, option_copied, IfOk, MatchResult};
+ghost use Rattle.std.specs.Prelude.{◌≡◌, ◌+◌, ◌*◌, ◌≤◌, ◌++◌, ◌&&◌, List, length, option_copied, IfOk};
 ghost use Rattle.std.specs.Ordering.{int_eq};
 ghost use Rattle.label_sets.specs.declared.sample.Sample.{Sample};
 ghost use Rattle.xor_chunks.specs.Data.{with_samples};
@@ -9,8 +9,9 @@ ghost use Rattle.block_content.specs.ContentReading.{data_of, is_time, have_time
 use crate::{CheckRefusal, ChunkCause};
 use chunk_files::{ChunkRefusal, read_chunk};
 use index_parts::ChunkPlace;
+use index_v2::spend;
 use label_sets::Sample;
-use list_core::behind;
+use list_core::members_behind;
 use wire_bytes::Blob;
 use xor_chunks::{SampleSpan, XorRefusal, append_stored, span_stored};
 
@@ -70,7 +71,7 @@ fn append_samples(
 {
     let before = samples.len();
     let all = append_stored(samples, content)?;
-    test_part(behind(all.as_slice(), before), place)?;
+    test_part(members_behind(all.as_slice(), before), place)?;
     Ok(all)
 }
 
@@ -101,13 +102,6 @@ fn count_samples(content: &[u8], place: &ChunkPlace) -> Result<u16, ChunkCause>
     test_span(span, place)
 }
 
-/// What is left of a budget behind so many bytes.
-fn spend(left: usize, bytes: usize) -> Result<usize, XorRefusal>
-    ensures { MatchResult result (λ rest. rest + bytes ≡ left) (λ e. e ≡ XorRefusal.NoMemory) }
-{
-    left.checked_sub(bytes).ok_or(XorRefusal::NoMemory)
-}
-
 /// Reads the samples of the chunk at a place, behind others; with them comes what is left of a budget of bytes behind its data.
 pub(crate) fn append_chunk(
     samples: Vec<Sample>,
@@ -125,7 +119,7 @@ pub(crate) fn append_chunk(
         × (read.0.items ≡ samples.items ++ part) × LieBetween place part) }
 {
     let content = data_of(segments, place)?;
-    let rest = spend(left, content.len())?;
+    let rest = spend(left, content.len()).map_err(|_| XorRefusal::NoMemory)?;
     let all = append_samples(samples, content, &place)?;
     Ok((all, rest))
 }
@@ -142,7 +136,7 @@ pub(crate) fn count_chunk(
     ensures spent { IfOk result (λ counted. counted.1 + chunk_bytes segments.now place ≡ left) }
 {
     let content = data_of(segments, place)?;
-    let rest = spend(left, content.len())?;
+    let rest = spend(left, content.len()).map_err(|_| XorRefusal::NoMemory)?;
     let count = count_samples(content, &place)?;
     Ok((count, rest))
 }

@@ -7,12 +7,13 @@ ghost use Rattle.list_core.specs.Lists.{joined};
 ghost use Rattle.reading_core.specs.Grammar.{IsBytes};
 ghost use Rattle.reading_core.specs.Reading.{Gives, refused_as};
 ghost use Rattle.label_sets.specs.declared.series.Series.{Series};
+ghost use Rattle.label_sets.specs.Times.{is_within};
 ghost use Rattle.index_file.specs.declared.index_series.IndexSeries.{IndexSeries};
 ghost use Rattle.index_file.specs.IndexFile.{IsIndex};
 ghost use Rattle.reading_core.specs.Firsts.{first_at};
 ghost use Rattle.block_content.specs.Content.{IsContent};
 ghost use Rattle.block_content.specs.ContentRefusals.{RefusesContent};
-ghost use Rattle.block_content.specs.ContentReading.{index_at, refused_index, list_of, series_bytes, chunk_bytes, is_within, first_time, first_outside, begins_after, follow, repeated_in, fitted, contents_at, content_at, AreFew, ListsFew, WalksChunks, WalksSeries};
+ghost use Rattle.block_content.specs.ContentReading.{index_at, refused_index, list_of, series_bytes, chunk_bytes, first_time, first_outside, begins_after, follow, repeated_in, fitted, contents_at, content_at, AreFew, ListsFew, WalksChunks, WalksSeries};
 
 use crate::CheckRefusal;
 use crate::chunk_reading::{append_chunk, refused_chunk};
@@ -20,7 +21,7 @@ use block_files::BlockFiles;
 use block_meta::Meta;
 use index_parts::ChunkPlace;
 use index_v2::{IndexReader, IndexRefusal, IndexSeries, IndexSeriesList, LentSeries};
-use label_sets::{Sample, Series, SeriesList};
+use label_sets::{Sample, Series, SeriesList, is_within};
 use list_core::List;
 use std::alloc::Global;
 use wire_bytes::Blob;
@@ -152,10 +153,11 @@ fn all_series(
     Ok(made)
 }
 
-fn is_within(meta: &Meta, sample: &Sample) -> bool
-    ensures { result ≡ is_within meta.now sample.now }
+/// Whether a sample lies within the block's times.
+fn is_of_block(meta: &Meta, sample: &Sample) -> bool
+    ensures { result ≡ is_within meta.now.min_time meta.now.max_time sample.now }
 {
-    meta.min_time <= sample.time && sample.time < meta.max_time
+    is_within(sample, meta.min_time, meta.max_time)
 }
 
 fn time_of(sample: &Sample) -> i64
@@ -171,7 +173,7 @@ pub(crate) fn first_time(meta: &Meta, samples: &[Sample]) -> Option<i64>
     ensures fits { IfSome result (λ time. FitsSigned w64 time) }
 {
     for sample in samples {
-        if !is_within(meta, sample) {
+        if !is_of_block(meta, sample) {
             return Some(time_of(sample));
         }
     }

@@ -6,7 +6,7 @@ use Rattle.list_core.proofs.Lists.{AllByRecursion-append, AllByRecursion-weaker}
 use Rattle.reading_core.proofs.Binds.{ok_is}
 use Rattle.label_sets.specs.declared.sample.Sample.{Sample}
 use Rattle.label_sets.specs.declared.series.Series.{Series}
-use Rattle.label_sets.specs.Times.{times_of}
+use Rattle.label_sets.specs.Times.{IsWithin}
 use Rattle.block_meta.specs.declared.block_plan.BlockPlan.{BlockPlan}
 use Rattle.block_meta.specs.MetaFields.{MetaFields}
 use Rattle.xor_chunks.specs.Grammar.{IsText}
@@ -15,12 +15,11 @@ use Rattle.xor_chunks.specs.declared.refusal.XorRefusal.{XorRefusal}
 use Rattle.index_parts.specs.declared.chunk_place.ChunkPlace.{ChunkPlace}
 use Rattle.index_file.specs.declared.index_series.IndexSeries.{IndexSeries}
 use Rattle.block_files.specs.declared.block_files.BlockFiles.{BlockFiles}
-use Rattle.block_writing.specs.Put.{PutChunk, PutSeries, PlanFields, Put, IsWithin, IsStored, IsEnded, IsPut}
+use Rattle.block_writing.specs.Put.{PutChunk, PutSeries, PlanFields, Put, IsStored, IsEnded, IsPut}
 use Rattle.block_writing.specs.WrittenMeta.{meta_with, IsWritten}
 use Rattle.block_writing.specs.Built.{IsPutAs, IsBuilt, StandsFor}
 use Rattle.block_writing.proofs.Parts.{texts_of}
 use Rattle.block_content.specs.Content.{HaveTimesOf, IsChunkOf, HoldsSeries, IsApart, AreWithin, IsContent}
-use Rattle.block_content.specs.Content as content
 use Rattle.block_content.specs.declared.check_refusal.CheckRefusal.{CheckRefusal}
 use Rattle.block_content.proofs.ContentLaws.{content_again}
 use Rattle.block_laws.specs.PutContent.{IsSeriesOf, AreSeriesOf, AreBytes}
@@ -42,8 +41,8 @@ chunk_held plan segments chunk place part stored is text =
     let same : stored.samples ≡ part = text_once chunk.content stored.samples part stored.text_is text in
     record { content = chunk.content; stands = is.stands; reads = text; timed = subst (HaveTimesOf place) same (chunk_times plan segments chunk place stored is) }
 
-part_within : (plan : PlanFields) (chunk : PutChunk) (part : List Sample) → IsStored plan chunk → IsText 8 chunk.content part → AllByRecursion (IsWithin plan) part
-part_within plan chunk part stored text = subst (AllByRecursion (IsWithin plan)) (text_once chunk.content stored.samples part stored.text_is text) stored.within
+part_within : (plan : PlanFields) (chunk : PutChunk) (part : List Sample) → IsStored plan chunk → IsText 8 chunk.content part → AllByRecursion (IsWithin plan.min_time plan.max_time) part
+part_within plan chunk part stored text = subst (AllByRecursion (IsWithin plan.min_time plan.max_time)) (text_once chunk.content stored.samples part stored.text_is text) stored.within
 
 -- ---- a series
 
@@ -55,11 +54,11 @@ chunks_held plan segments (c ∷ chunks) [] parts stored each texts = absurd eac
 chunks_held plan segments (c ∷ chunks) (p ∷ places) [] stored each texts = absurd texts
 chunks_held plan segments (c ∷ chunks) (p ∷ places) (x ∷ parts) stored each texts = (chunk_held plan segments c p x stored.0 each.0 texts.0, chunks_held plan segments chunks places parts stored.1 each.1 texts.1)
 
-samples_within : (plan : PlanFields) (chunks : List PutChunk) (parts : List (List Sample)) → AllByRecursion (IsStored plan) chunks → AllZip StandsFor chunks parts → AllByRecursion (IsWithin plan) (flat_map (λ part. part) parts)
+samples_within : (plan : PlanFields) (chunks : List PutChunk) (parts : List (List Sample)) → AllByRecursion (IsStored plan) chunks → AllZip StandsFor chunks parts → AllByRecursion (IsWithin plan.min_time plan.max_time) (flat_map (λ part. part) parts)
 samples_within plan [] [] stored texts = tt
 samples_within plan [] (x ∷ parts) stored texts = absurd texts
 samples_within plan (c ∷ chunks) [] stored texts = absurd texts
-samples_within plan (c ∷ chunks) (x ∷ parts) stored texts = AllByRecursion-append (IsWithin plan) x (flat_map (λ part. part) parts) (part_within plan c x stored.0 texts.0) (samples_within plan chunks parts stored.1 texts.1)
+samples_within plan (c ∷ chunks) (x ∷ parts) stored texts = AllByRecursion-append (IsWithin plan.min_time plan.max_time) x (flat_map (λ part. part) parts) (part_within plan c x stored.0 texts.0) (samples_within plan chunks parts stored.1 texts.1)
 
 series_held : (plan : PlanFields) (segments : List (List ℕ)) (put : PutSeries) (indexed : IndexSeries) (series : Series) → IsEnded plan put → IsPlaced segments put indexed → IsSeriesOf put series → HoldsSeries segments indexed series
 series_held plan segments put indexed series ended placed is = record {
@@ -69,8 +68,8 @@ series_held plan segments put indexed series ended placed is = record {
   samples_are = is.samples_are;
 }
 
-series_within : (plan : PlanFields) (put : PutSeries) (series : Series) → IsEnded plan put → IsSeriesOf put series → AllByRecursion (IsWithin plan) series.samples
-series_within plan put series ended is = subst (AllByRecursion (IsWithin plan)) (sym is.samples_are) (samples_within plan put.chunks is.parts ended.chunks.stored is.chunks_are)
+series_within : (plan : PlanFields) (put : PutSeries) (series : Series) → IsEnded plan put → IsSeriesOf put series → AllByRecursion (IsWithin plan.min_time plan.max_time) series.samples
+series_within plan put series ended is = subst (AllByRecursion (IsWithin plan.min_time plan.max_time)) (sym is.samples_are) (samples_within plan put.chunks is.parts ended.chunks.stored is.chunks_are)
 
 -- ---- all series
 
@@ -82,7 +81,7 @@ all_held plan segments (p ∷ puts) [] list ended each are = absurd each
 all_held plan segments (p ∷ puts) (i ∷ indexed) [] ended each are = absurd are
 all_held plan segments (p ∷ puts) (i ∷ indexed) (s ∷ list) ended each are = (series_held plan segments p i s ended.0 each.0 are.0, all_held plan segments puts indexed list ended.1 each.1 are.1)
 
-all_within : (plan : PlanFields) (puts : List PutSeries) (list : List Series) → AllByRecursion (IsEnded plan) puts → AreSeriesOf puts list → AllByRecursion (λ s. AllByRecursion (IsWithin plan) s.samples) list
+all_within : (plan : PlanFields) (puts : List PutSeries) (list : List Series) → AllByRecursion (IsEnded plan) puts → AreSeriesOf puts list → AllByRecursion (λ s. AllByRecursion (IsWithin plan.min_time plan.max_time) s.samples) list
 all_within plan [] [] ended are = tt
 all_within plan [] (s ∷ list) ended are = absurd are
 all_within plan (p ∷ puts) [] ended are = absurd are
@@ -104,7 +103,7 @@ pub max_is : (put : Put) (files : BlockFiles) → IsWritten put files → files.
 unfolding meta_with
 max_is put files is = ap (λ (f : MetaFields). f.max_time) is.meta
 
-sample_within : (put : Put) (files : BlockFiles) → IsWritten put files → (s : Sample) → IsWithin put.plan s → content.IsWithin files.meta s
+sample_within : (put : Put) (files : BlockFiles) → IsWritten put files → (s : Sample) → IsWithin put.plan.min_time put.plan.max_time s → IsWithin files.meta.min_time files.meta.max_time s
 sample_within put files is s within =
     (subst (λ (t : ℤ). t ≤ℤ s.time) (sym (min_is put files is)) within.0, subst (λ (t : ℤ). s.time <ℤ t) (sym (max_is put files is)) within.1)
 
@@ -117,8 +116,8 @@ written_holds put files list is are =
       indexed = is.files.listed;
       index_is = is.indexed;
       series_are = all_held put.plan files.segments put.series is.files.listed list is.lawful.series placed are;
-      within = AllByRecursion-weaker (λ (s : Series). AllByRecursion (IsWithin put.plan) s.samples) (AreWithin files.meta)
-          (λ s. AllByRecursion-weaker (IsWithin put.plan) (content.IsWithin files.meta) (sample_within put files is) s.samples) list (all_within put.plan put.series list is.lawful.series are);
+      within = AllByRecursion-weaker (λ (s : Series). AllByRecursion (IsWithin put.plan.min_time put.plan.max_time) s.samples) (AreWithin files.meta)
+          (λ s. AllByRecursion-weaker (IsWithin put.plan.min_time put.plan.max_time) (IsWithin files.meta.min_time files.meta.max_time) (sample_within put files is) s.samples) list (all_within put.plan put.series list is.lawful.series are);
       apart = all_apart put.plan files.segments put.series is.files.listed is.lawful.series placed;
     }
 

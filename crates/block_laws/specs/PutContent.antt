@@ -5,13 +5,14 @@ use Rattle.reading_core.specs.Grammar.{IsBytes}
 use Rattle.label_sets.specs.declared.sample.Sample.{Sample}
 use Rattle.label_sets.specs.declared.series.Series.{Series}
 use Rattle.xor_chunks.specs.Grammar.{IsText}
+use Rattle.xor_chunks.specs.Widths.{stored_filling}
 use Rattle.block_files.specs.declared.block_files.BlockFiles.{BlockFiles}
 use Rattle.block_writing.specs.Put.{PutSeries, PlanFields}
 
 -- A series has the labels of one that was put, and the samples for which that one's chunks stand, one after another.
 pub record IsSeriesOf (put : PutSeries) (series : Series) : Type 0 where
   pub parts : List (List Sample)
-  pub chunks_are : AllZip (λ chunk part. IsText 8 chunk.content part) put.chunks parts
+  pub chunks_are : AllZip (λ chunk part. IsText stored_filling chunk.content part) put.chunks parts
   pub labels_are : series.labels ≡ put.labels
   pub samples_are : series.samples ≡ flat_map (λ part. part) parts
 

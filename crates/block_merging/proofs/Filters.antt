@@ -6,7 +6,7 @@ use Rattle.std.specs.List.Sorted.{ties}
 use Rattle.std.proofs.lemmas.Bool.{true≢false}
 use Rattle.list_core.specs.Ordered.{placed, in_order}
 use Rattle.list_core.proofs.Bools.{by_bool}
-use Rattle.list_core.proofs.StableSorts.{NoneLess, Rises, Rises-in_order, filter-in_order, same_in_order}
+use Rattle.list_core.proofs.StableSorts.{NoneLess, Rises, Rises-in_order, filter-in_order, same_in_order, NoneLess-chain}
 use Rattle.list_core.proofs.Lists.{filter_hit, filter_miss}
 
 module _ {A : Type 0} (less : A → A → Bool) (o : IsStrictWeakOrder less) where
@@ -29,10 +29,6 @@ module _ {A : Type 0} (less : A → A → Bool) (o : IsStrictWeakOrder less) whe
   placed-none x [] n = refl
   placed-none x (y ∷ ys) n = ap (λ b. cond b (y ∷ placed less x ys) (x ∷ y ∷ ys)) n.0
 
-  chain : (x y : A) (ws : List A) → less y x ≡ false → NoneLess less y ws → NoneLess less x ws
-  chain x y [] n h = tt
-  chain x y (w ∷ ws) n h = (o.chain w y x h.0 n, chain x y ws n h.1)
-
   placed_here : (x y : A) (ys : List A) → less y x ≡ false → placed less x (y ∷ ys) ≡ x ∷ y ∷ ys
   unfolding placed
   placed_here x y ys f = ap (λ b. cond b (y ∷ placed less x ys) (x ∷ y ∷ ys)) f
@@ -49,7 +45,7 @@ module _ {A : Type 0} (less : A → A → Bool) (o : IsStrictWeakOrder less) whe
       (λ u. filter_hit q y (placed less x ys) u ∙ ap (λ l. y ∷ l) (filter_kept q x ys r.1 k) ∙ sym (ap (placed less x) (filter_hit q y ys u) ∙ placed_later x y (filter q ys) t))
       (λ u. filter_miss q y (placed less x ys) u ∙ filter_kept q x ys r.1 k ∙ sym (ap (placed less x) (filter_miss q y ys u))))
       (λ f. ap (filter q) (placed_here x y ys f) ∙ filter_hit q x (y ∷ ys) k
-      ∙ sym (placed-none x (filter q (y ∷ ys)) (none-filter q x (y ∷ ys) (f, chain x y ys f r.0))))
+      ∙ sym (placed-none x (filter q (y ∷ ys)) (none-filter q x (y ∷ ys) (f, NoneLess-chain less o x y ys f r.0))))
 
   filter_lost : (q : A → Bool) (x : A) (ys : List A) → q x ≡ false → filter q (placed less x ys) ≡ filter q ys
   unfolding placed

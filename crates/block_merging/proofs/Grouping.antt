@@ -64,8 +64,9 @@ none_of_group group s none among = no_chunks s.chunks (λ c here. no_member c (s
 
 -- ---- a group more
 
-abbrev IsAmong : List PutSeries → PutSeries → Type 0
-IsAmong merged s = s.chunks ≢ [] → Contains (map (λ (m : PutSeries). m.labels) merged) s.labels
+-- a series with chunks has its labels among those of the merged ones
+abbrev pub HasItsLabels : List PutSeries → PutSeries → Type 0
+HasItsLabels merged s = s.chunks ≢ [] → Contains (map (λ (m : PutSeries). m.labels) merged) s.labels
 
 module _ (done group : List PutSeries) (labels : List Label) (same : AllByRecursion (λ s. s.labels ≡ labels) group) (later : AllByRecursion (λ s. compare_sets s.labels labels ≡ Less) done) where
   under_group : chunks_under labels (done ++ group) ≡ chunks_of group
@@ -101,7 +102,7 @@ module _ (done group : List PutSeries) (labels : List Label) (same : AllByRecurs
       ascend = h.ascend;
       some = old_some;
       each = old_each;
-      complete = AllByRecursion-append (IsAmong merged) done group h.complete (all_members (IsAmong merged) group (λ s among some. absurd (some (none_of_group group s none among))));
+      complete = AllByRecursion-append (HasItsLabels merged) done group h.complete (all_members (HasItsLabels merged) group (λ s among some. absurd (some (none_of_group group s none among))));
     }
 
     pub merged_more : (put : PutSeries) → chunks_of group ≢ [] → IsMergedSeries labels (chunks_of group) put → AreMerges (done ++ group) (merged ++ put ∷ [])
@@ -115,9 +116,9 @@ module _ (done group : List PutSeries) (labels : List Label) (same : AllByRecurs
           some = AllByRecursion-append (λ s. chunks_under s.labels (done ++ group) ≢ []) merged (put ∷ []) old_some ((λ none. some (sym alike ∙ none)), tt);
           each = AllByRecursion-append (λ s. IsMergedSeries s.labels (chunks_under s.labels (done ++ group)) s) merged (put ∷ []) old_each
               (subst (λ l. IsMergedSeries l (chunks_under l (done ++ group)) put) (sym is.labels_are) (subst (λ c. IsMergedSeries labels c put) (sym under_group) is), tt);
-          complete = AllByRecursion-append (IsAmong (merged ++ put ∷ [])) done group
-              (AllByRecursion-weaker (IsAmong merged) (IsAmong (merged ++ put ∷ [])) (λ s w chunks. subst (λ l. Contains l s.labels) (sym named) (Contains-append_left (map (λ (m : PutSeries). m.labels) merged) (put.labels ∷ []) s.labels (w chunks))) done h.complete)
-              (AllByRecursion-weaker (λ s. s.labels ≡ labels) (IsAmong (merged ++ put ∷ [])) (λ s e chunks. subst (λ l. Contains l s.labels) (sym named)
+          complete = AllByRecursion-append (HasItsLabels (merged ++ put ∷ [])) done group
+              (AllByRecursion-weaker (HasItsLabels merged) (HasItsLabels (merged ++ put ∷ [])) (λ s w chunks. subst (λ l. Contains l s.labels) (sym named) (Contains-append_left (map (λ (m : PutSeries). m.labels) merged) (put.labels ∷ []) s.labels (w chunks))) done h.complete)
+              (AllByRecursion-weaker (λ s. s.labels ≡ labels) (HasItsLabels (merged ++ put ∷ [])) (λ s e chunks. subst (λ l. Contains l s.labels) (sym named)
               (Contains-append_right (map (λ (m : PutSeries). m.labels) merged) (put.labels ∷ []) s.labels (subst (Contains (put.labels ∷ [])) (is.labels_are ∙ sym e) (contains_first put.labels [])))) group same);
         }
 

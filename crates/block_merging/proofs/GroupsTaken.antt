@@ -1,5 +1,5 @@
 -- Series that are taken in the order of their labels, one group of equal labels after another.
-use Rattle.std.proofs.Common.{◌≡◌, ◌≢◌, ℕ, ◌+◌, ◌<◌, ◌-◌, ◌^◌, false, cond, List, [], ◌∷◌, ◌++◌, length, length-append, map, refl, sym, ap, subst, ◌∙◌, append-nil, append_assoc, arith, inl, inr}
+use Rattle.std.proofs.Common.{◌≡◌, ◌≢◌, ℕ, ◌+◌, ◌<◌, ◌-◌, ◌^◌, false, cond, List, [], ◌∷◌, ◌++◌, length, length-append, refl, sym, ap, subst, ◌∙◌, append-nil, append_assoc, arith, inl, inr}
 use Rattle.std.specs.Prelude.{Contains}
 use Rattle.std.specs.Cmp.{IsStrictWeakOrder}
 use Rattle.std.specs.List.{AllByRecursion, filter, flat_map, sum_by}
@@ -33,7 +33,7 @@ use Rattle.block_merging.specs.MergedBlock.{has_labels, chunks_under, AreMerges}
 use Rattle.block_merging.specs.MergeSteps.{HasGroup, HasAll}
 use Rattle.block_merging.specs.Queues.{have_lesser_labels, AreAlike, chunks_of, IsLeastOf, IsFrontOf, TakesGroup}
 use Rattle.block_merging.proofs.Filters.{filter_in_order}
-use Rattle.block_merging.proofs.Grouping.{same_labels, are_same, not_itself, not_same, under_some, merged_same, merged_more, merges_none}
+use Rattle.block_merging.proofs.Grouping.{same_labels, are_same, not_itself, not_same, under_some, merged_same, merged_more, merges_none, HasItsLabels}
 
 -- ---- the order of labels
 
@@ -101,9 +101,6 @@ in_order_alike xs = λ labels.
     filter_in_order have_lesser_labels labels_ranked (has_labels labels) xs
     ∙ in_place labels (filter (has_labels labels) xs) (all_members (λ (x : PutSeries). x.labels ≡ labels) (filter (has_labels labels) xs) (λ x among. same_labels x.labels labels (member_passes (has_labels labels) xs x among)))
 
-abbrev IsAmong : List PutSeries → PutSeries → Type 0
-IsAmong merged s = s.chunks ≢ [] → Contains (map (λ (m : PutSeries). m.labels) merged) s.labels
-
 chunks_alike : (one other : List PutSeries) → AreAlike one other → (labels : List Label) → chunks_under labels one ≡ chunks_under labels other
 chunks_alike one other alike labels = ap (flat_map (λ (s : PutSeries). s.chunks)) (alike labels)
 
@@ -114,7 +111,7 @@ merges_alike one other merged alike h = record {
   some = AllByRecursion-weaker (λ s. chunks_under s.labels one ≢ []) (λ s. chunks_under s.labels other ≢ []) (λ s some none. some (chunks_alike one other alike s.labels ∙ none)) merged h.some;
   each = AllByRecursion-weaker (λ s. IsMergedSeries s.labels (chunks_under s.labels one) s) (λ s. IsMergedSeries s.labels (chunks_under s.labels other) s)
       (λ s each. subst (λ l. IsMergedSeries s.labels l s) (chunks_alike one other alike s.labels) each) merged h.each;
-  complete = all_members (IsAmong merged) other (λ s among. each_member (IsAmong merged) one s h.complete (member_alike other one s (alike_back one other alike) among));
+  complete = all_members (HasItsLabels merged) other (λ s among. each_member (HasItsLabels merged) one s h.complete (member_alike other one s (alike_back one other alike) among));
 }
 
 -- ---- a group that is taken

@@ -3,7 +3,6 @@ pub mod Chains
 pub mod Spans
 pub mod PlacedOrders
 pub mod Sweeps
-pub mod PartRuns
 pub mod Putting
 pub mod OneMerge
 pub mod Merged

@@ -15,17 +15,18 @@ use Rattle.label_sets.specs.declared.label.Label.{Label}
 use Rattle.label_sets.specs.declared.sample.Sample.{Sample}
 use Rattle.label_sets.specs.declared.series.Series.{Series}
 use Rattle.label_sets.specs.Triples.{triples_under}
+use Rattle.label_sets.specs.Times.{IsWithin}
 use Rattle.vertical_merge.specs.Merged.{IsMerge}
 use Rattle.index_parts.specs.declared.chunk_place.ChunkPlace.{ChunkPlace}
 use Rattle.block_content.specs.Content.{HaveTimesOf}
 use Rattle.block_content.proofs.Appending.{text_between}
-use Rattle.block_writing.specs.Put.{PlanFields, PutChunk, Put, IsWithin, IsStored, IsAfter, IsAfterChunks}
-use Rattle.block_writing.specs.Built.{AreOfBlock, BeginAfter, StandsFor}
+use Rattle.block_writing.specs.Put.{PlanFields, PutChunk, Put, IsStored, IsAfter, IsAfterChunks}
+use Rattle.block_writing.specs.Built.{AreOfBlock, BeginAfter, HasParts, StandsFor}
 use Rattle.block_writing.proofs.Parts.{texts_of}
 use Rattle.block_merging.specs.declared.placed_chunk.PlacedChunk.{PlacedChunk}
 use Rattle.block_merging.specs.Placed.{placed_chunk, stands_before}
 use Rattle.block_merging.specs.MergedSeries.{AreMerged, Becomes}
-use Rattle.block_merging.specs.Steps.{run_in, HasParts, HasRun}
+use Rattle.block_merging.specs.Steps.{run_in, HasRun}
 use Rattle.block_merging.proofs.OneMerge.{first_labels, kept_ascend, kept_given}
 
 le_lt : (a b c : ℤ) → a ≤ℤ b → b <ℤ c → a <ℤ c
@@ -44,8 +45,8 @@ timed chunk plan part stored same = subst (HaveTimesOf (place_of chunk)) same (r
 pub part_inside : (plan : PlanFields) (chunk : PutChunk) (part : List Sample) → IsStored plan chunk → StandsFor chunk part → AllByRecursion (IsInside chunk) part
 part_inside plan chunk part stored text = text_between (place_of chunk) chunk.content part text (timed chunk plan part stored (text_once chunk.content stored.samples part stored.text_is text))
 
-part_within : (plan : PlanFields) (chunk : PutChunk) (part : List Sample) → IsStored plan chunk → StandsFor chunk part → AllByRecursion (IsWithin plan) part
-part_within plan chunk part stored text = subst (AllByRecursion (IsWithin plan)) (text_once chunk.content stored.samples part stored.text_is text) stored.within
+part_within : (plan : PlanFields) (chunk : PutChunk) (part : List Sample) → IsStored plan chunk → StandsFor chunk part → AllByRecursion (IsWithin plan.min_time plan.max_time) part
+part_within plan chunk part stored text = subst (AllByRecursion (IsWithin plan.min_time plan.max_time)) (text_once chunk.content stored.samples part stored.text_is text) stored.within
 
 pub chunk_sample : (plan : PlanFields) (chunk : PutChunk) (part : List Sample) → IsStored plan chunk → StandsFor chunk part → (s : Sample) × Contains part s
 chunk_sample plan chunk part stored text =
@@ -53,12 +54,12 @@ chunk_sample plan chunk part stored text =
     let w = of_map (λ (s : Sample). s.time) part chunk.min (contains_place (map (λ (s : Sample). s.time) part) 0 chunk.min t.begins) in (w.0, w.1)
 
 pub samples_inside : (plan : PlanFields) (chunks : List PutChunk) (parts : List (List Sample)) (s : Sample) → AllByRecursion (IsStored plan) chunks → AllZip StandsFor chunks parts → Contains (joined parts) s
-    → (c : PutChunk) × Contains chunks c × IsInside c s × IsWithin plan s
+    → (c : PutChunk) × Contains chunks c × IsInside c s × IsWithin plan.min_time plan.max_time s
 samples_inside plan [] [] s stored each among = absurd (no_member s among)
 samples_inside plan [] (p ∷ parts) s stored each among = absurd each
 samples_inside plan (c ∷ chunks) [] s stored each among = absurd each
 samples_inside plan (c ∷ chunks) (p ∷ parts) s stored each among = elim (Contains-append_cases p (joined parts) s among) [
-  | inl own ↦ (c, contains_first c chunks, each_member (IsInside c) p s (part_inside plan c p stored.0 each.0) own, each_member (IsWithin plan) p s (part_within plan c p stored.0 each.0) own)
+  | inl own ↦ (c, contains_first c chunks, each_member (IsInside c) p s (part_inside plan c p stored.0 each.0) own, each_member (IsWithin plan.min_time plan.max_time) p s (part_within plan c p stored.0 each.0) own)
   | inr later ↦ let w = samples_inside plan chunks parts s stored.1 each.1 later in (w.0, contains_later c w.0 chunks w.1, w.2, w.3)
 ]
 
@@ -115,7 +116,7 @@ samples_some plan (x ∷ xs) samples many stored (parts, each, is) none =
 
 pub kept_inside : (plan : PlanFields) (labels : List Label) (run : List PlacedChunk) (samples : List Sample) (kept : Series) (s : Sample) → AllByRecursion (IsStored plan) (map placed_chunk run)
     → ((parts : List (List Sample)) × AllZip StandsFor (run_in run) parts × (samples ≡ joined parts)) → IsMerge (triples_under labels samples) (kept ∷ []) → Contains kept.samples s
-    → (c : PutChunk) × Contains (run_in run) c × IsInside c s × IsWithin plan s
+    → (c : PutChunk) × Contains (run_in run) c × IsInside c s × IsWithin plan.min_time plan.max_time s
 kept_inside plan labels run samples kept s stored (parts, each, is) merged among =
     let g = kept_given labels samples kept s merged among in
     let w = samples_inside plan (run_in run) parts g.0 (in_run (IsStored plan) run stored) each (subst (λ (l : List Sample). Contains l g.0) is g.1) in
@@ -126,7 +127,7 @@ pub kept_of_block : (plan : PlanFields) (labels : List Label) (run : List Placed
 kept_of_block plan labels run samples kept stored read merged = record {
   some = some-length kept.samples (merged.inhabited 0 kept (omega arith));
   ascend = kept_ascend labels samples kept merged;
-  within = all_members (IsWithin plan) kept.samples (λ s among. (kept_inside plan labels run samples kept s stored read merged among).3);
+  within = all_members (IsWithin plan.min_time plan.max_time) kept.samples (λ s among. (kept_inside plan labels run samples kept s stored read merged among).3);
 }
 
 after_later : (before : Option PutChunk) (a b : ℤ) → a ≤ℤ b → IsAfter before a → IsAfter before b

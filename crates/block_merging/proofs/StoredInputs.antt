@@ -10,6 +10,7 @@ use Rattle.reading_core.specs.Grammar.{IsBytes}
 use Rattle.reading_core.proofs.Binds.{ok_is}
 use Rattle.label_sets.specs.declared.label.Label.{Label}
 use Rattle.label_sets.specs.declared.sample.Sample.{Sample}
+use Rattle.label_sets.specs.Times.{IsWithin}
 use Rattle.xor_chunks.specs.Grammar.{IsText}
 use Rattle.index_parts.specs.declared.chunk_place.ChunkPlace.{ChunkPlace}
 use Rattle.index_file.specs.declared.index_series.IndexSeries.{IndexSeries}
@@ -17,9 +18,9 @@ use Rattle.index_file.specs.IndexFile.{IsIndex}
 use Rattle.index_v2.specs.declared.refusal.IndexRefusal.{IndexRefusal}
 use Rattle.block_meta.specs.declared.block_plan.BlockPlan.{BlockPlan}
 use Rattle.block_files.specs.declared.block_files.BlockFiles.{BlockFiles}
-use Rattle.block_content.specs.Content.{StandsAt, IsChunkOf, HoldsSeries, IsWithin as IsWithinMeta, AreWithin}
+use Rattle.block_content.specs.Content.{StandsAt, IsChunkOf, HoldsSeries, AreWithin}
 use Rattle.block_content.proofs.TimesAndOrder.{index_again}
-use Rattle.block_writing.specs.Put.{PutChunk, PutSeries, IsWithin, IsStored}
+use Rattle.block_writing.specs.Put.{PutChunk, PutSeries, IsStored}
 use Rattle.block_writing.specs.Standing.{content_at}
 use Rattle.block_writing.specs.Writing.{plan_fields, part_of, chunk_in}
 use Rattle.block_writing.proofs.Placed.{read_there}
@@ -77,15 +78,15 @@ lie_within low high min max time begin end here = (omega (arith, ints, begin, he
 pub data_there : (segments : List (List ℕ)) (place : ChunkPlace) (content : List ℕ) → StandsAt segments place content → content_at segments (part_of place) ≡ content
 data_there segments place content at = read_there segments (part_of place) content (record { segment = at.segment; named = at.named; stands = at.stands })
 
-chunk_stored : (plan : BlockPlan) (block : BlockFiles) (place : ChunkPlace) (part : List Sample) → LiesWithin plan block → IsChunkOf block.segments place part → AllByRecursion (IsWithinMeta block.meta) part
+chunk_stored : (plan : BlockPlan) (block : BlockFiles) (place : ChunkPlace) (part : List Sample) → LiesWithin plan block → IsChunkOf block.segments place part → AllByRecursion (IsWithin block.meta.min_time block.meta.max_time) part
     → IsStored (plan_fields plan) (chunk_in block.segments place)
 chunk_stored plan block place part lies is within = record {
   samples = part;
   text_is = subst (λ c. IsText 8 c part) (sym (data_there block.segments place is.content is.stands)) is.reads;
   begins = is.timed.begins;
   ends = is.timed.ends;
-  within = all_members (IsWithin (plan_fields plan)) part (λ s among.
-      lie_within plan.min_time plan.max_time block.meta.min_time block.meta.max_time s.time lies.begin lies.end (each_member (IsWithinMeta block.meta) part s within among));
+  within = all_members (IsWithin plan.min_time plan.max_time) part (λ s among.
+      lie_within plan.min_time plan.max_time block.meta.min_time block.meta.max_time s.time lies.begin lies.end (each_member (IsWithin block.meta.min_time block.meta.max_time) part s within among));
 }
 
 from_stored : (plan : BlockPlan) (block : BlockFiles) (indexed : List IndexSeries) (one : IndexSeries) (c : PutChunk) → LiesWithin plan block → HasContent block → IsBytes block.index → IsIndex block.index indexed
@@ -95,10 +96,10 @@ from_stored plan block indexed one c lies (list, content) bytes index_is one_in 
     let s = zip_member (HoldsSeries block.segments) content.indexed list one content.series_are (subst (λ l. Contains l one) same one_in) in
     let p = of_map (chunk_in block.segments) one.chunks c among in
     let part = zip_member (IsChunkOf block.segments) one.chunks s.2.parts p.0 s.2.chunks_are p.1 in
-    let within : AllByRecursion (IsWithinMeta block.meta) s.0.samples = each_member (AreWithin block.meta) list s.0 content.within s.1 in
+    let within : AllByRecursion (IsWithin block.meta.min_time block.meta.max_time) s.0.samples = each_member (AreWithin block.meta) list s.0 content.within s.1 in
     subst (IsStored (plan_fields plan)) p.2
-    (chunk_stored plan block p.0 part.0 lies part.2 (all_members (IsWithinMeta block.meta) part.0 (λ x here.
-    each_member (IsWithinMeta block.meta) s.0.samples x within (subst (λ l. Contains l x) (sym s.2.samples_are) (into_flat_map (λ (q : List Sample). q) s.2.parts part.0 x part.1 here)))))
+    (chunk_stored plan block p.0 part.0 lies part.2 (all_members (IsWithin block.meta.min_time block.meta.max_time) part.0 (λ x here.
+    each_member (IsWithin block.meta.min_time block.meta.max_time) s.0.samples x within (subst (λ l. Contains l x) (sym s.2.samples_are) (into_flat_map (λ (q : List Sample). q) s.2.parts part.0 x part.1 here)))))
 
 pub taken_stored : (plan : BlockPlan) (replicas : List (List ℕ)) (blocks : List BlockFiles) (all : List PutSeries) (s : PutSeries) (c : PutChunk) → AllByRecursion (LiesWithin plan) blocks → AllByRecursion HasContent blocks → AllByRecursion (λ block. IsBytes block.index) blocks
     → AreTaken plan.labels replicas blocks all → Contains all s → Contains s.chunks c → IsStored (plan_fields plan) c

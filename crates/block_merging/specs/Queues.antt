@@ -2,8 +2,7 @@
 use Rattle.std.specs.Prelude.{◌≡◌, ◌≢◌, ℕ, ◌+◌, ◌<◌, ◌≤◌, nat_lt, List, [], ◌∷◌, ◌++◌, map, drop, length, slice_index_or, Bool, false, ◌&&◌, Option, None, Some, Contains, if◌then◌else◌}
 use Rattle.std.specs.List.{filter, flat_map, AllByRecursion}
 use Rattle.std.specs.Ordering.{is_lt, is_eq}
-use Rattle.list_core.specs.Ordered.{in_order}
-use Rattle.list_core.proofs.StableSorts.{Rises}
+use Rattle.list_core.specs.Ordered.{in_order, Rises}
 use Rattle.list_core.specs.Lists.{joined}
 use Rattle.reading_core.specs.Grammar.{IsBytes}
 use Rattle.label_sets.specs.declared.label.Label.{Label}

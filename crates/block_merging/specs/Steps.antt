@@ -3,11 +3,10 @@ use Rattle.std.specs.Prelude.{◌≡◌, ◌+◌, List, [], ◌∷◌, ◌++◌,
 use Rattle.std.specs.List.{AllByRecursion, AllZip}
 use Rattle.label_sets.specs.declared.label.Label.{Label}
 use Rattle.label_sets.specs.declared.sample.Sample.{Sample}
-use Rattle.index_parts.specs.Turns.{InOrder}
 use Rattle.list_core.specs.Ordered.{in_order}
 use Rattle.list_core.specs.Lists.{joined}
 use Rattle.block_writing.specs.Put.{PutChunk, Put, IsAfterChunks, fitted}
-use Rattle.block_writing.specs.Built.{IsPart, IsEncoded, StandsFor}
+use Rattle.block_writing.specs.Built.{StandsFor}
 use Rattle.block_merging.specs.declared.placed_chunk.PlacedChunk.{PlacedChunk}
 use Rattle.block_merging.specs.Placed.{placed_chunk, stands_before}
 use Rattle.block_merging.specs.Runs.{AreConnected, AreRuns}
@@ -16,19 +15,6 @@ use Rattle.block_merging.specs.MergedSeries.{Becomes}
 -- chunks in the order in which they were given
 abbrev pub run_in : List PlacedChunk → List PutChunk
 run_in run = map placed_chunk (in_order stands_before run)
-
--- samples were put, part by part as chunks
-pub record HasParts (old : Put) (samples : List Sample) (new : Put) : Type 0 where
-  pub parts : List (List Sample)
-  pub whole : joined parts ≡ samples
-  pub cut : InOrder IsPart parts
-  pub made : List PutChunk
-  pub chunks : AllZip IsEncoded parts made
-  pub plan_is : new.plan ≡ old.plan
-  pub series_are : new.series ≡ old.series
-  pub chunks_are : new.chunks ≡ old.chunks ++ made
-  pub samples_are : new.samples ≡ fitted (old.samples + length samples)
-  pub behind : (time : ℤ) → AllByRecursion (λ s. s.time <ℤ time) samples → IsAfterChunks new.chunks time
 
 -- what becomes of a run was put
 pub record HasRun (old : Put) (labels : List Label) (run : List PutChunk) (new : Put) : Type 0 where

@@ -1,7 +1,7 @@
 //! The merge of blocks.
 ghost use Rattle.std.specs.Prelude.{◌≡◌, ◌⊎◌, ℕ, ◌<◌, ◌≤◌, ◌^◌, [], map, length, sum_by, Err, IfOk, IfErr, OnOk};
 ghost use Rattle.std.specs.List.{AllByRecursion};
-ghost use Rattle.list_core.proofs.StableSorts.{Rises};
+ghost use Rattle.list_core.specs.Ordered.{Rises};
 ghost use Rattle.list_core.specs.Lists.{joined};
 ghost use Rattle.label_sets.specs.Labels.{IsLabelSet};
 ghost use Rattle.index_v2.specs.LentLabels.{as_label};

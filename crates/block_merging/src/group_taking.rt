@@ -1,7 +1,7 @@
 //! The series that come next in the order of their labels, of all blocks.
 ghost use Rattle.std.specs.Prelude.{◌≡◌, map, option_map, IfOk, OnOk};
 ghost use Rattle.std.specs.List.{AllByRecursion};
-ghost use Rattle.list_core.proofs.StableSorts.{Rises};
+ghost use Rattle.list_core.specs.Ordered.{Rises};
 ghost use Rattle.list_core.specs.Lists.{joined};
 ghost use Rattle.index_v2.specs.LentLabels.{as_label};
 ghost use Rattle.block_merging.specs.Placed.{chunk_of};
@@ -50,7 +50,7 @@ fn least_labels<'q, 'a>(
 }
 
 /// The labels, in the memory of others.
-fn copied<'a>(
+fn labels_in_room<'a>(
     labels: &[LentLabel<'a>],
     room: Vec<LentLabel<'a>>,
 ) -> Result<Vec<LentLabel<'a>>, NoMemory>
@@ -76,7 +76,7 @@ pub(crate) fn next_group<'a>(
         (joined (lefts_in external.now replicas.now queues.now))) }
 {
     match least_labels(external, replicas, queues) {
-        Some(labels) => Ok(Some(copied(labels, room)?)),
+        Some(labels) => Ok(Some(labels_in_room(labels, room)?)),
         None => Ok(None),
     }
 }

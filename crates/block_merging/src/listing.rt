@@ -103,7 +103,7 @@ fn listed_one<'s, 'a>(
 }
 
 /// Series under their reduced labels, each with its number.
-fn listed<'s, 'a>(
+fn listed_series<'s, 'a>(
     alloc: Global,
     external: &LabelSet,
     replicas: &TextList,
@@ -171,7 +171,7 @@ pub(crate) fn ordered_places<'a>(
     if keep_all(indexed, external, replicas) {
         return places_as_listed(alloc, numbers, indexed);
     }
-    let mut series = listed(alloc, external, replicas, numbers, indexed)?;
+    let mut series = listed_series(alloc, external, replicas, numbers, indexed)?;
     sort_by_labels(&mut series)?;
     places_of(alloc, series.as_slice())
 }

@@ -14,7 +14,7 @@ pub(crate) struct PlacedChunk<'a> {
     pub(crate) place: usize,
 }
 
-pub(crate) fn placed<'a>(
+pub(crate) fn placed_chunks<'a>(
     alloc: Global,
     chunks: &[InputChunk<'a>],
 ) -> Result<Vec<PlacedChunk<'a>>, NoMemory>

@@ -44,7 +44,10 @@ fn all_numbers(alloc: Global, reader: &IndexReader<'_>) -> Result<NumberList, No
 }
 
 /// An index that was read before, and the numbers of its series in their order.
-fn opened<'a>(alloc: Global, index: &'a [u8]) -> Result<(IndexReader<'a>, NumberList), NoMemory>
+fn reader_and_numbers<'a>(
+    alloc: Global,
+    index: &'a [u8],
+) -> Result<(IndexReader<'a>, NumberList), NoMemory>
     ensures { (bytes : List ℕ) (list : List IndexSeries) (is : IsIndex bytes list)
         → bytes ≡ index.now
         → IfOk result (λ made. IsOpenedIndex is.opened is.listed made.0 made.1) }
@@ -65,7 +68,7 @@ fn queue_of<'a>(
     ensures has { IfOk result (HasQueue external.now replicas.now block.now) }
 {
     let indexed = test_content(alloc, block)?;
-    let (reader, numbers) = opened(alloc, block.index.bytes())?;
+    let (reader, numbers) = reader_and_numbers(alloc, block.index.bytes())?;
     let listed = numbers.members();
     let members = indexed.members();
     let places = ordered_places(alloc, external, replicas, listed, members)?;

@@ -8,17 +8,18 @@ ghost use Rattle.label_sets.specs.declared.series.Series.{Series};
 ghost use Rattle.label_sets.specs.Triples.{triples_under};
 ghost use Rattle.vertical_merge.specs.Merged.{IsMerge};
 ghost use Rattle.xor_chunks.specs.Grammar.{IsText};
+ghost use Rattle.xor_chunks.specs.Widths.{stored_filling};
 ghost use Rattle.block_meta.specs.Lawful.{AreLawfulTimes};
 ghost use Rattle.block_writing.specs.Put.{IsStored, IsAfterChunks, IsAfterSeries, with_chunk};
-ghost use Rattle.block_writing.specs.Built.{AreOfBlock, BeginAfter, StandsFor};
+ghost use Rattle.block_writing.specs.Built.{StandsFor};
 ghost use Rattle.block_merging.specs.Placed.{chunk_of, placed_chunk, AreByBegin};
 ghost use Rattle.block_merging.specs.MergedSeries.{HasMerged};
-ghost use Rattle.block_merging.specs.Steps.{run_in, HasParts, HasRun, HasRuns, HasSwept};
+ghost use Rattle.block_merging.specs.Steps.{run_in, HasRun, HasRuns, HasSwept};
 
 use crate::input_chunk::InputChunk;
-use crate::placed_chunk::{PlacedChunk, placed, sort_by_begin, sort_by_place};
+use crate::placed_chunk::{PlacedChunk, placed_chunks, sort_by_begin, sort_by_place};
 use crate::runs::first_run;
-use block_writing::{BlockWriter, LONGEST_PART, put_part};
+use block_writing::{BlockWriter, put_parts};
 use label_sets::{LabelSet, Sample, Series, SeriesList};
 use list_core::{List, NoMemory, TryCopy};
 use std::alloc::Global;
@@ -57,7 +58,7 @@ fn put_runs(
     requires counted { writer.old.samples < 2 ^ 64 }
     ensures { OnOk result (HasRuns writer.old labels.now (map chunk_of chunks.now) writer.new) }
 {
-    let mut placed = placed(alloc, chunks)?;
+    let mut placed = placed_chunks(alloc, chunks)?;
     sort_by_begin(&mut placed)?;
     put_sorted(alloc, writer, labels, placed.as_slice())
 }
@@ -136,14 +137,15 @@ fn put_merged(
 {
     let samples = run_samples(alloc, run)?;
     let kept = first_of_each(alloc, labels, samples)?;
-    put_samples(alloc, writer, kept.samples.members())
+    put_parts(alloc, writer, kept.samples.members())
 }
 
 fn carry(writer: &mut BlockWriter, chunk: &InputChunk<'_>) -> Result<(), NoMemory>
     requires stored { IsStored writer.old.plan (chunk_of chunk.now) }
     requires after { IsAfterChunks writer.old.chunks chunk.now.min }
-    ensures { (samples : List Sample) → IsText 8 chunk.now.bytes.now samples → OnOk result
-        (writer.new ≡ with_chunk writer.old (chunk_of chunk.now) (length samples)) }
+    ensures { (samples : List Sample) → IsText stored_filling chunk.now.bytes.now samples
+        → OnOk result (writer.new ≡ with_chunk writer.old (chunk_of chunk.now)
+        (length samples)) }
 {
     writer.chunk_summed(chunk.bytes, chunk.sum, chunk.min, chunk.max)
 }
@@ -164,7 +166,7 @@ fn run_samples(alloc: Global, run: &[PlacedChunk<'_>]) -> Result<Vec<Sample>, No
 
 /// Reads the samples of a chunk behind others. Stored data are refused for want of memory alone.
 fn append_samples(samples: Vec<Sample>, bytes: &[u8]) -> Result<Vec<Sample>, NoMemory>
-    ensures { IfOk result (λ all. (read : List Sample) × IsText 8 bytes.now read
+    ensures { IfOk result (λ all. (read : List Sample) × IsText stored_filling bytes.now read
         × (all.items ≡ samples.items ++ read)) }
 {
     match append_stored(samples, bytes) {
@@ -194,21 +196,4 @@ fn only_member(list: SeriesList) -> Series
         Some(series) => series,
         None => unreachable!(),
     }
-}
-
-/// Puts samples, part by part as chunks.
-fn put_samples(alloc: Global, writer: &mut BlockWriter, samples: &[Sample]) -> Result<(), NoMemory>
-    requires samples { AreOfBlock writer.old.plan samples.now }
-    requires times { AreLawfulTimes writer.old.plan.min_time writer.old.plan.max_time }
-    requires after { BeginAfter writer.old.chunks samples.now }
-    requires counted { writer.old.samples < 2 ^ 64 }
-    ensures { OnOk result (HasParts writer.old samples.now writer.new) }
-{
-    let mut left = samples;
-    while !left.is_empty() {
-        let (part, after) = left.split_at(left.len().min(LONGEST_PART));
-        put_part(alloc, writer, part)?;
-        left = after;
-    }
-    Ok(())
 }

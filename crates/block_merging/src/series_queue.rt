@@ -1,7 +1,7 @@
 //! The series of one block that are still to be merged.
 ghost use Rattle.std.specs.Prelude.{◌≡◌, ◌<◌, ℕ, List, length, map, option_map, IfOk, OnOk};
 ghost use Rattle.std.specs.List.{AllByRecursion};
-ghost use Rattle.list_core.proofs.StableSorts.{Rises};
+ghost use Rattle.list_core.specs.Ordered.{Rises};
 ghost use Rattle.label_sets.specs.declared.label.Label.{Label};
 ghost use Rattle.index_file.specs.IndexFile.{IsSeriesOf};
 ghost use Rattle.index_v2.specs.LentLabels.{as_label};

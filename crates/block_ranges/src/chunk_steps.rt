@@ -15,7 +15,7 @@ use chunk_ranges::{
     ChunkRow, Glimpse, GroupShown, Pending, all_shown, glimpses, have_keys, places_of, read_behind,
     row_of_one, sorted_places, taken_places,
 };
-use index_parts::ChunkPlace;
+use index_parts::{ChunkPlace, OFFSET_COUNT};
 use index_v2::IndexSeries;
 use list_core::NoMemory;
 use read_ranges::{Asked, GroupRead, groups_to_read, references_of};
@@ -163,7 +163,7 @@ fn go_on_chunks(
         } => Ok(Step::Wait(
             Op::GetRange(
                 Key::Segment(asked.ulid, group.segment),
-                reference % 0x1_0000_0000,
+                reference % OFFSET_COUNT,
                 len,
             ),
             Work::Single(

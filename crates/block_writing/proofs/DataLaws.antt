@@ -1,5 +1,5 @@
 -- Stored chunk data are no longer than a segment can hold, and their times rise.
-use Rattle.std.proofs.Common.{◌≡◌, ℕ, ◌+◌, ◌-◌, ◌*◌, ◌≤◌, Bool, false, List, [], ◌∷◌, ◌++◌, length, map, replicate, Option, Some, refl, sym, ap, ◌∙◌, length-append, arith, ℤ, pos, ◌+ℤ◌}
+use Rattle.std.proofs.Common.{◌≡◌, ℕ, ◌+◌, ◌-◌, ◌*◌, ◌≤◌, Bool, false, List, [], ◌∷◌, ◌++◌, length, replicate, Option, Some, refl, sym, ap, ◌∙◌, length-append, arith, ℤ, pos, ◌+ℤ◌}
 use Rattle.std.specs.Prelude.{slice_get, ◌≤ℤ◌}
 use Rattle.std.specs.Int.{w32, to_be_bytes}
 use Rattle.std.proofs.lemmas.Int.{ints}
@@ -8,6 +8,7 @@ use Rattle.wire_bytes.specs.Crc.{crc}
 use Rattle.wire_bytes.specs.Written.{uvarint_text}
 use Rattle.wire_bytes.proofs.GroupTexts.{few_groups}
 use Rattle.label_sets.specs.declared.sample.Sample.{Sample}
+use Rattle.label_sets.specs.Times.{times_of}
 use Rattle.wire_bits.specs.Bits.{bits_of}
 use Rattle.xor_chunks.specs.State.{State}
 use Rattle.xor_chunks.specs.Window.{Window}
@@ -77,13 +78,10 @@ data_fit plan chunk h =
 pub same_some : (s t : ℤ) → ◌≡◌ {A = Option ℤ} (Some s) (Some t) → s ≡ t
 same_some s t e = cc
 
-abbrev times : List Sample → List ℤ
-times samples = map (λ s. s.time) samples
-
 later : (s t : ℤ) (delta : ℕ) → t ≡ s +ℤ pos delta → s ≤ℤ t
 later s t delta e = omega (arith, ints)
 
-others_rise : (samples : List Sample) (first : Sample) (last : State) (text : List Bool) (time : ℤ) → AreOthers last text samples → last.time ≡ first.time → slice_get (times (first ∷ samples)) (length samples) ≡ Some time → first.time ≤ℤ time
+others_rise : (samples : List Sample) (first : Sample) (last : State) (text : List Bool) (time : ℤ) → AreOthers last text samples → last.time ≡ first.time → slice_get (times_of (first ∷ samples)) (length samples) ≡ Some time → first.time ≤ℤ time
 others_rise [] first last text time h same at = let e : first.time ≡ time = same_some _ _ at in omega (arith, ints)
 others_rise (s ∷ ss) first last text time h same at =
     let own : s.time ≡ h.0.time = ap (λ (x : Sample). x.time) h.5 in
@@ -91,7 +89,7 @@ others_rise (s ∷ ss) first last text time h same at =
     let rest : s.time ≤ℤ time = others_rise ss s h.0 h.2 time h.6 (sym own) at in
     omega (arith, ints)
 
-samples_rise : (bytes : List ℕ) (samples : List Sample) (left : List Bool) (min max : ℤ) → AreSamples bytes samples left → slice_get (times samples) 0 ≡ Some min → slice_get (times samples) (length samples - 1) ≡ Some max → min ≤ℤ max
+samples_rise : (bytes : List ℕ) (samples : List Sample) (left : List Bool) (min max : ℤ) → AreSamples bytes samples left → slice_get (times_of samples) 0 ≡ Some min → slice_get (times_of samples) (length samples - 1) ≡ Some max → min ≤ℤ max
 samples_rise bytes [] left min max h begins ends = absurd cc
 samples_rise bytes (first ∷ []) left min max h begins ends =
     let low : first.time ≡ min = same_some _ _ begins in
@@ -101,7 +99,7 @@ samples_rise bytes (first ∷ second ∷ others) left min max h begins ends =
     let low : first.time ≡ min = same_some _ _ begins in
     let step : first.time ≤ℤ second.time = later first.time second.time h.rest_are.gap h.rest_are.follows.later in
     let place : length (first ∷ second ∷ others) - 1 ≡ length (second ∷ others) = omega arith in
-    let at : slice_get (times (second ∷ others)) (length others) ≡ Some max = ap (slice_get (times (first ∷ second ∷ others))) (sym place) ∙ ends in
+    let at : slice_get (times_of (second ∷ others)) (length others) ≡ Some max = ap (slice_get (times_of (first ∷ second ∷ others))) (sym place) ∙ ends in
     let rest : second.time ≤ℤ max = others_rise others second _ h.rest_are.rest max h.rest_are.others_are refl at in
     omega (arith, ints)
 

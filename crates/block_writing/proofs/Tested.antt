@@ -9,7 +9,8 @@ use Rattle.list_core.proofs.Lists.{AllByRecursion-push, length-some}
 use Rattle.label_sets.specs.Labels.{compare_sets}
 use Rattle.label_sets.specs.declared.sample.Sample.{Sample}
 use Rattle.label_sets.specs.declared.series.Series.{Series}
-use Rattle.block_writing.specs.Put.{PlanFields, IsWithin}
+use Rattle.label_sets.specs.Times.{IsWithin}
+use Rattle.block_writing.specs.Put.{PlanFields}
 use Rattle.block_writing.specs.Built.{AreOfBlock, AreBuildable}
 
 module _ {A : Type 0} (P : A → Type 0) where
@@ -46,12 +47,12 @@ pub none_refused : (plan : PlanFields) (samples : List Sample) (b : Bool) → b 
 none_refused plan [] b is e = never (AreOfBlock plan []) (λ are. absurd (omega (arith, are.some)))
 none_refused plan (s ∷ samples) b is e = let some : (length (s ∷ samples) == 0) ≡ false = length-some (s ∷ samples) (λ none. absurd cc) in absurd cc
 
-pub sample_refused : (plan : PlanFields) (samples : List Sample) (k : ℕ) (x d : Sample) (b : Bool) → k < length samples → x ≡ get_or samples k d → IsTrue b ↔ IsWithin plan x → b ≡ false → IsTrue false ↔ AreOfBlock plan samples
-sample_refused plan samples k x d b within at is e = never (AreOfBlock plan samples) (λ are. not_told b (IsWithin plan x) is e (refused_at (IsWithin plan) samples k x d within at are.within))
+pub sample_refused : (plan : PlanFields) (samples : List Sample) (k : ℕ) (x d : Sample) (b : Bool) → k < length samples → x ≡ get_or samples k d → IsTrue b ↔ IsWithin plan.min_time plan.max_time x → b ≡ false → IsTrue false ↔ AreOfBlock plan samples
+sample_refused plan samples k x d b within at is e = never (AreOfBlock plan samples) (λ are. not_told b (IsWithin plan.min_time plan.max_time x) is e (refused_at (IsWithin plan.min_time plan.max_time) samples k x d within at are.within))
 
-pub samples_tested : (plan : PlanFields) (samples : List Sample) (k : ℕ) (b c : Bool) → b ≡ (length samples == 0) → b ≡ false → length samples ≤ k → AllByRecursion (IsWithin plan) (take k samples) → IsTrue c ↔ IsStrictlySortedBy int_cmp (map (λ s. s.time) samples) → IsTrue c ↔ AreOfBlock plan samples
+pub samples_tested : (plan : PlanFields) (samples : List Sample) (k : ℕ) (b c : Bool) → b ≡ (length samples == 0) → b ≡ false → length samples ≤ k → AllByRecursion (IsWithin plan.min_time plan.max_time) (take k samples) → IsTrue c ↔ IsStrictlySortedBy int_cmp (map (λ s. s.time) samples) → IsTrue c ↔ AreOfBlock plan samples
 samples_tested plan samples k b c empty e all tested rises =
-    (λ yes. record { some = some_there samples b empty e; ascend = rises.0 yes; within = tested_all (IsWithin plan) samples k all tested }, λ are. rises.1 are.ascend)
+    (λ yes. record { some = some_there samples b empty e; ascend = rises.0 yes; within = tested_all (IsWithin plan.min_time plan.max_time) samples k all tested }, λ are. rises.1 are.ascend)
 
 -- ---- series of a block
 

@@ -1,21 +1,24 @@
 -- What a block that is built of samples is put together from.
-use Rattle.std.specs.Prelude.{◌≡◌, ◌+◌, ◌-◌, ◌<◌, ◌≤◌, List, [], ◌∷◌, ◌++◌, length, map, slice_get, Option, None, Some, ℤ, ℕ}
+use Rattle.std.specs.Prelude.{◌≡◌, ◌+◌, ◌-◌, ◌<◌, ◌≤◌, List, [], ◌∷◌, ◌++◌, length, map, slice_get, Option, None, Some, ℤ, ◌<ℤ◌}
 use Rattle.std.specs.Ordering.{int_cmp}
-use Rattle.std.specs.List.{flat_map, AllByRecursion, AllZip}
+use Rattle.std.specs.List.{AllByRecursion, AllZip}
 use Rattle.std.specs.List.Sorted.{IsStrictlySortedBy}
+use Rattle.list_core.specs.Lists.{joined}
 use Rattle.reading_core.specs.Grammar.{IsBytes}
 use Rattle.label_sets.specs.Counts.{sample_count}
 use Rattle.label_sets.specs.Labels.{compare_sets}
 use Rattle.label_sets.specs.declared.sample.Sample.{Sample}
 use Rattle.label_sets.specs.declared.series.Series.{Series}
+use Rattle.label_sets.specs.Times.{IsWithin, times_of}
 use Rattle.wire_bits.specs.Bits.{bits_in, filled}
 use Rattle.xor_chunks.specs.Grammar.{IsText}
-use Rattle.xor_chunks.specs.Written.{written}
+use Rattle.xor_chunks.specs.Written.{written, usual_count}
+use Rattle.xor_chunks.specs.Widths.{stored_filling, filling}
 use Rattle.block_meta.specs.declared.block_plan.BlockPlan.{BlockPlan}
 use Rattle.index_parts.specs.Turns.{InOrder}
 use Rattle.block_files.specs.declared.block_files.BlockFiles.{BlockFiles}
 use Rattle.block_writing.specs.Files.{HaveNoIndex}
-use Rattle.block_writing.specs.Put.{PutChunk, PutSeries, PlanFields, Put, IsWithin, IsAfterChunks, fitted}
+use Rattle.block_writing.specs.Put.{PutChunk, PutSeries, PlanFields, Put, IsAfterChunks, fitted}
 use Rattle.block_writing.specs.Writing.{plan_fields}
 use Rattle.block_writing.specs.WrittenMeta.{IsWritten}
 
@@ -24,8 +27,8 @@ use Rattle.block_writing.specs.WrittenMeta.{IsWritten}
 -- There are samples, whose times rise and lie within the block's.
 pub record AreOfBlock (plan : PlanFields) (samples : List Sample) : Type 0 where
   pub some : 0 < length samples
-  pub ascend : IsStrictlySortedBy int_cmp (map (λ s. s.time) samples)
-  pub within : AllByRecursion (IsWithin plan) samples
+  pub ascend : IsStrictlySortedBy int_cmp (times_of samples)
+  pub within : AllByRecursion (IsWithin plan.min_time plan.max_time) samples
 
 -- The series ascend by their labels.
 pub record AreBuildable (plan : PlanFields) (series : List Series) : Type 0 where
@@ -34,31 +37,44 @@ pub record AreBuildable (plan : PlanFields) (series : List Series) : Type 0 wher
 
 -- ---- the chunks of a series
 
--- how many samples a part has at most
-abbrev pub longest_part : ℕ
-longest_part = 120
-
--- A part has samples, no more than that, and as many where another follows.
+-- A part has samples, no more than a chunk has as a rule, and as many where another follows.
 abbrev pub IsPart : Option (List Sample) → List Sample → Type 0
-IsPart None part = (0 < length part) × (length part ≤ longest_part)
-IsPart (Some before) part = (length before ≡ longest_part) × (0 < length part) × (length part ≤ longest_part)
+IsPart None part = (0 < length part) × (length part ≤ usual_count)
+IsPart (Some before) part = (length before ≡ usual_count) × (0 < length part) × (length part ≤ usual_count)
 
 -- The chunk has the one text of the samples, and their times.
 pub record IsEncoded (samples : List Sample) (chunk : PutChunk) : Type 0 where
-  pub text_is : IsText 7 chunk.content samples
+  pub text_is : IsText filling chunk.content samples
   pub bytes : IsBytes chunk.content
   pub bits : bits_in chunk.content ≡ filled (written samples)
-  pub begins : slice_get (map (λ s. s.time) samples) 0 ≡ Some chunk.min
-  pub ends : slice_get (map (λ s. s.time) samples) (length samples - 1) ≡ Some chunk.max
+  pub begins : slice_get (times_of samples) 0 ≡ Some chunk.min
+  pub ends : slice_get (times_of samples) (length samples - 1) ≡ Some chunk.max
 
 -- The chunk stands for the samples of a part.
 abbrev pub StandsFor : PutChunk → List Sample → Type 0
-StandsFor chunk part = IsText 8 chunk.content part
+StandsFor chunk part = IsText stored_filling chunk.content part
+
+-- The samples begin after the last chunk, if there is one.
+abbrev pub BeginAfter : List PutChunk → List Sample → Type 0
+BeginAfter chunks samples = (time : ℤ) → slice_get (times_of samples) 0 ≡ Some time → IsAfterChunks chunks time
+
+-- Samples were put, part by part as chunks. What comes after all of them comes after the last of these.
+pub record HasParts (old : Put) (samples : List Sample) (new : Put) : Type 0 where
+  pub parts : List (List Sample)
+  pub whole : joined parts ≡ samples
+  pub cut : InOrder IsPart parts
+  pub made : List PutChunk
+  pub chunks : AllZip IsEncoded parts made
+  pub plan_is : new.plan ≡ old.plan
+  pub series_are : new.series ≡ old.series
+  pub chunks_are : new.chunks ≡ old.chunks ++ made
+  pub samples_are : new.samples ≡ fitted (old.samples + length samples)
+  pub behind : (time : ℤ) → AllByRecursion (λ s. s.time <ℤ time) samples → IsAfterChunks new.chunks time
 
 -- A series falls into parts, each of which is a chunk.
 pub record IsPutAs (series : Series) (put : PutSeries) : Type 0 where
   pub parts : List (List Sample)
-  pub whole : flat_map (λ part. part) parts ≡ series.samples
+  pub whole : joined parts ≡ series.samples
   pub cut : InOrder IsPart parts
   pub chunks : AllZip IsEncoded parts put.chunks
   pub labels : put.labels ≡ series.labels
@@ -73,10 +89,6 @@ pub record HasMore (old : Put) (series : Series) (new : Put) : Type 0 where
   pub series_is : new.series ≡ old.series ++ put ∷ []
   pub nothing_left : new.chunks ≡ []
   pub samples_is : new.samples ≡ fitted (old.samples + length series.samples)
-
--- The samples begin after the last chunk, if there is one.
-abbrev pub BeginAfter : List PutChunk → List Sample → Type 0
-BeginAfter chunks samples = (time : ℤ) → slice_get (map (λ s. s.time) samples) 0 ≡ Some time → IsAfterChunks chunks time
 
 -- ---- the block
 

@@ -1,13 +1,15 @@
 -- What is put into a block that is being written: its plan, series, and of each series chunks.
-use Rattle.std.specs.Prelude.{◌≢◌, ◌≡◌, ℕ, ◌+◌, ◌-◌, ◌^◌, min, List, [], ◌∷◌, ◌++◌, length, map, slice_get, Option, None, Some, ℤ, ◌<ℤ◌, ◌≤ℤ◌}
+use Rattle.std.specs.Prelude.{◌≢◌, ◌≡◌, ℕ, ◌+◌, ◌-◌, ◌^◌, min, List, [], ◌∷◌, ◌++◌, length, map, slice_get, Option, None, Some, ℤ, ◌<ℤ◌}
 use Rattle.std.specs.List.{flat_map, AllByRecursion}
 use Rattle.std.specs.List.Sorted.{IsStrictlySortedBy}
 use Rattle.std.specs.declared.cmp.Ordering.TheVariants.{Less}
 use Rattle.label_sets.specs.Labels.{compare_sets}
 use Rattle.label_sets.specs.declared.label.Label.{Label}
 use Rattle.label_sets.specs.declared.sample.Sample.{Sample}
+use Rattle.label_sets.specs.Times.{IsWithin, times_of}
 use Rattle.block_meta.specs.declared.parent.Parent.{Parent}
 use Rattle.xor_chunks.specs.Grammar.{IsText}
+use Rattle.xor_chunks.specs.Widths.{stored_filling}
 use Rattle.index_parts.specs.Turns.{InOrder}
 
 -- a chunk: its data, and the times of its first and its last sample
@@ -40,18 +42,14 @@ pub record Put : Type 0 where
 
 -- ---- what may be put
 
--- The sample lies within the block's times, of which the last is not its own.
-abbrev pub IsWithin : PlanFields → Sample → Type 0
-IsWithin plan sample = (plan.min_time ≤ℤ sample.time) × (sample.time <ℤ plan.max_time)
-
 -- The data stand for samples, as a block stores them. The first is at the chunk's one time, the last at the other, and all
--- lie within the block's times.
+-- lie within the block's times, of which the last is not its own.
 pub record IsStored (plan : PlanFields) (chunk : PutChunk) : Type 0 where
   pub samples : List Sample
-  pub text_is : IsText 8 chunk.content samples
-  pub begins : slice_get (map (λ s. s.time) samples) 0 ≡ Some chunk.min
-  pub ends : slice_get (map (λ s. s.time) samples) (length samples - 1) ≡ Some chunk.max
-  pub within : AllByRecursion (IsWithin plan) samples
+  pub text_is : IsText stored_filling chunk.content samples
+  pub begins : slice_get (times_of samples) 0 ≡ Some chunk.min
+  pub ends : slice_get (times_of samples) (length samples - 1) ≡ Some chunk.max
+  pub within : AllByRecursion (IsWithin plan.min_time plan.max_time) samples
 
 -- The time comes after the chunk ends, if there is one.
 abbrev pub IsAfter : Option PutChunk → ℤ → Type 0

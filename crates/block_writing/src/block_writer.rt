@@ -2,6 +2,7 @@ ghost use Rattle.std.specs.Prelude.{◌≡◌, ◌≢◌, ◌⊎◌, [], ◌∷�
 ghost use Rattle.label_sets.specs.declared.sample.Sample.{Sample};
 ghost use Rattle.wire_bytes.specs.Crc.{crc};
 ghost use Rattle.xor_chunks.specs.Grammar.{IsText};
+ghost use Rattle.xor_chunks.specs.Widths.{stored_filling};
 ghost use Rattle.chunk_files.specs.Layout.{xor};
 ghost use Rattle.block_writing.specs.Put.{IsStored, IsAfterChunks, IsAfterSeries, nothing_put, with_chunk, with_series};
 ghost use Rattle.block_writing.specs.Files.{HaveNoIndex};
@@ -51,7 +52,8 @@ impl Model for BlockWriter {
 
 /// How many samples chunk data say that they have.
 fn count_of(bytes: &[u8]) -> u16
-    ensures { (samples : List Sample) → IsText 8 bytes.now samples → result ≡ length samples }
+    ensures { (samples : List Sample) → IsText stored_filling bytes.now samples
+        → result ≡ length samples }
 {
     let mut cursor = Cursor::new(bytes);
     cursor.take_u16().unwrap_or(0)
@@ -86,9 +88,9 @@ impl BlockWriter {
         requires stored { IsStored self.old.plan
             (record { content = bytes.now; min = min; max = max }) }
         requires after { IsAfterChunks self.old.chunks min }
-        ensures ok { (samples : List Sample) → IsText 8 bytes.now samples → OnOk result (self.new
-            ≡ with_chunk self.old (record { content = bytes.now; min = min; max = max })
-            (length samples)) }
+        ensures ok { (samples : List Sample) → IsText stored_filling bytes.now samples
+            → OnOk result (self.new ≡ with_chunk self.old
+            (record { content = bytes.now; min = min; max = max }) (length samples)) }
         ensures err { OnErr result (self.new ≡ self.old) }
     {
         self.put_chunk(bytes, None, min, max)
@@ -106,9 +108,9 @@ impl BlockWriter {
         requires stored { IsStored self.old.plan
             (record { content = bytes.now; min = min; max = max }) }
         requires after { IsAfterChunks self.old.chunks min }
-        ensures ok { (samples : List Sample) → IsText 8 bytes.now samples → OnOk result (self.new
-            ≡ with_chunk self.old (record { content = bytes.now; min = min; max = max })
-            (length samples)) }
+        ensures ok { (samples : List Sample) → IsText stored_filling bytes.now samples
+            → OnOk result (self.new ≡ with_chunk self.old
+            (record { content = bytes.now; min = min; max = max }) (length samples)) }
         ensures err { OnErr result (self.new ≡ self.old) }
     {
         self.put_chunk(bytes, Some(sum), min, max)
@@ -125,9 +127,9 @@ impl BlockWriter {
         requires stored { IsStored self.old.plan
             (record { content = bytes.now; min = min; max = max }) }
         requires after { IsAfterChunks self.old.chunks min }
-        ensures ok { (samples : List Sample) → IsText 8 bytes.now samples → OnOk result (self.new
-            ≡ with_chunk self.old (record { content = bytes.now; min = min; max = max })
-            (length samples)) }
+        ensures ok { (samples : List Sample) → IsText stored_filling bytes.now samples
+            → OnOk result (self.new ≡ with_chunk self.old
+            (record { content = bytes.now; min = min; max = max }) (length samples)) }
         ensures err { OnErr result (self.new ≡ self.old) }
     {
         self.chunks.reserve(1)?;

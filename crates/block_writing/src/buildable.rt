@@ -2,12 +2,12 @@
 ghost use Rattle.std.specs.Prelude.{IsTrue, ◌↔◌, map};
 ghost use Rattle.std.specs.List.Sorted.{IsStrictlySortedBy};
 ghost use Rattle.label_sets.specs.Labels.{compare_sets};
+ghost use Rattle.label_sets.specs.Times.{IsWithin};
 ghost use Rattle.block_writing.specs.Built.{AreBuildable, AreOfBlock};
-ghost use Rattle.block_writing.specs.Put.{IsWithin};
 ghost use Rattle.block_writing.specs.Writing.{plan_fields};
 
 use block_meta::BlockPlan;
-use label_sets::{Sample, Series, SeriesList, times_ascend};
+use label_sets::{Sample, Series, SeriesList, is_within, times_ascend};
 
 /// Whether each series comes after the one before, by its labels.
 fn ascend(series: &[Series]) -> bool
@@ -16,10 +16,11 @@ fn ascend(series: &[Series]) -> bool
     series.is_sorted_by(|one, next| one.labels < next.labels)
 }
 
-fn is_within(plan: &BlockPlan, sample: &Sample) -> bool
-    ensures { IsTrue result ↔ IsWithin (plan_fields plan.now) sample.now }
+/// Whether a sample lies within the plan's times.
+fn is_of_block(plan: &BlockPlan, sample: &Sample) -> bool
+    ensures { IsTrue result ↔ IsWithin plan.now.min_time plan.now.max_time sample.now }
 {
-    plan.min_time <= sample.time && sample.time < plan.max_time
+    is_within(sample, plan.min_time, plan.max_time)
 }
 
 /// Whether these are samples that a series of the plan's block can have.
@@ -30,7 +31,7 @@ fn are_of_block(plan: &BlockPlan, samples: &[Sample]) -> bool
         return false;
     }
     for sample in samples {
-        if !is_within(plan, sample) {
+        if !is_of_block(plan, sample) {
             return false;
         }
     }

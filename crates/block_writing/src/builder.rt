@@ -1,9 +1,10 @@
 ghost use Rattle.std.specs.Prelude.{◌≡◌, ◌⊎◌, ◌^◌, ◌<◌, [], length, Err, IfOk, OnOk};
 ghost use Rattle.std.specs.List.{AllByRecursion};
+ghost use Rattle.label_sets.specs.Times.{IsWithin};
 ghost use Rattle.block_meta.specs.Lawful.{AreLawfulTimes};
 ghost use Rattle.xor_chunks.specs.Written.{AreOfChunk};
-ghost use Rattle.block_writing.specs.Built.{AreBuildable, AreOfBlock, BeginAfter, IsEncoded, HasMore, IsBuilt, HaveNoBlock};
-ghost use Rattle.block_writing.specs.Put.{PutChunk, IsWithin, IsAfterSeries, with_chunk};
+ghost use Rattle.block_writing.specs.Built.{AreBuildable, AreOfBlock, BeginAfter, HasParts, IsEncoded, HasMore, IsBuilt, HaveNoBlock};
+ghost use Rattle.block_writing.specs.Put.{PutChunk, IsAfterSeries, with_chunk};
 ghost use Rattle.block_writing.specs.Writing.{plan_fields};
 
 use crate::BlockWriter;
@@ -12,15 +13,13 @@ use block_meta::BlockPlan;
 use label_sets::{Sample, Series, SeriesList};
 use list_core::{NoMemory, TryCopy};
 use std::alloc::Global;
-use xor_chunks::encode;
-
-/// How many samples `build` and a merge put into a chunk, but for the last one of a series or of a run.
-pub const LONGEST_PART: usize = 120;
+use xor_chunks::{USUAL_COUNT, encode};
 
 /// Puts samples as a chunk, with the times of the first and the last of them.
-pub fn put_part(alloc: Global, writer: &mut BlockWriter, part: &[Sample]) -> Result<(), NoMemory>
+fn put_part(alloc: Global, writer: &mut BlockWriter, part: &[Sample]) -> Result<(), NoMemory>
     requires fits { AreOfChunk part.now }
-    requires within { AllByRecursion (IsWithin writer.old.plan) part.now }
+    requires within { AllByRecursion (IsWithin writer.old.plan.min_time
+        writer.old.plan.max_time) part.now }
     requires after { BeginAfter writer.old.chunks part.now }
     ensures { OnOk result ((chunk : PutChunk) × IsEncoded part.now chunk
         × (writer.new ≡ with_chunk writer.old chunk (length part.now))) }
@@ -29,7 +28,28 @@ pub fn put_part(alloc: Global, writer: &mut BlockWriter, part: &[Sample]) -> Res
     writer.chunk(data.bytes(), part[0].time, part[part.len() - 1].time)
 }
 
-/// Puts the samples of a series, part by part as chunks, and ends it.
+/// Puts samples of a series, part by part as chunks.
+pub fn put_parts(
+    alloc: Global,
+    writer: &mut BlockWriter,
+    samples: &[Sample],
+) -> Result<(), NoMemory>
+    requires samples { AreOfBlock writer.old.plan samples.now }
+    requires times { AreLawfulTimes writer.old.plan.min_time writer.old.plan.max_time }
+    requires after { BeginAfter writer.old.chunks samples.now }
+    requires counted { writer.old.samples < 2 ^ 64 }
+    ensures { OnOk result (HasParts writer.old samples.now writer.new) }
+{
+    let mut left = samples;
+    while !left.is_empty() {
+        let (part, after) = left.split_at(left.len().min(USUAL_COUNT));
+        put_part(alloc, writer, part)?;
+        left = after;
+    }
+    Ok(())
+}
+
+/// Puts the samples of a series, and ends it.
 fn put_series(alloc: Global, writer: &mut BlockWriter, series: &Series) -> Result<(), NoMemory>
     requires samples { AreOfBlock writer.old.plan series.now.samples }
     requires times { AreLawfulTimes writer.old.plan.min_time writer.old.plan.max_time }
@@ -38,12 +58,7 @@ fn put_series(alloc: Global, writer: &mut BlockWriter, series: &Series) -> Resul
     requires counted { writer.old.samples < 2 ^ 64 }
     ensures { OnOk result (HasMore writer.old series.now writer.new) }
 {
-    let mut left = series.samples.members();
-    while !left.is_empty() {
-        let (part, after) = left.split_at(left.len().min(LONGEST_PART));
-        put_part(alloc, writer, part)?;
-        left = after;
-    }
+    put_parts(alloc, writer, series.samples.members())?;
     writer.series(series.labels.copy()?)
 }
 

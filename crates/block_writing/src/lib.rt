@@ -13,5 +13,5 @@ mod written_meta;
 pub use block_files::{BlobList, BlockFiles, BuildRefusal};
 pub use block_writer::BlockWriter;
 pub use buildable::may_build;
-pub use builder::{LONGEST_PART, build, put_part};
+pub use builder::{build, put_parts};
 pub use segment_place::SegmentPlace;

@@ -6,7 +6,7 @@ pub(crate) const MAGIC: u32 = 0x85BD_40DD;
 
 pub(crate) const VERSION: u8 = 1;
 
-/// The length of a segment's header, before which no chunk begins.
+/// The length of a segment's header, in which no chunk begins.
 pub const HEADER_SIZE: u64 = 8;
 
 /// How many bytes a chunk has beside its length and its data: its encoding, and the sum.

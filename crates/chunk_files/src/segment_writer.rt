@@ -7,7 +7,7 @@ ghost use Rattle.chunk_files.specs.Layout.{greatest, xor};
 
 use crate::SegmentRefusal;
 use crate::layout::{FRAME_SIZE, GREATEST, MAGIC, VERSION, XOR};
-use list_core::NoMemory;
+use list_core::{NoMemory, cut_on_err};
 use std::alloc::Global;
 use std::marker::Model;
 use wire_bytes::{Blob, crc_of, put_bytes, put_u8, put_u32, put_uvarint};
@@ -105,13 +105,8 @@ fn put_chunk(out: &mut Vec<u8>, content: &[u8], sum: Option<u32>) -> Result<(), 
     ensures err { OnErr result (out.new.items ≡ out.old.items) }
 {
     let filled = out.len();
-    match put_parts(out, content, sum) {
-        Ok(()) => Ok(()),
-        Err(cause) => {
-            out.truncate(filled);
-            Err(cause)
-        }
-    }
+    let put = put_parts(out, content, sum);
+    cut_on_err(out, filled, put)
 }
 
 impl SegmentWriter {

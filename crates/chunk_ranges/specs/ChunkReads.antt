@@ -10,6 +10,7 @@ use Rattle.block_keys.specs.declared.key.Key.TheVariants.{Segment}
 use Rattle.world_core.specs.Plans.{Plan, ends, finds, choose}
 use Rattle.world_core.specs.declared.op.Op.TheVariants.{GetRange}
 use Rattle.xor_chunks.specs.Data.{data_at}
+use Rattle.xor_chunks.specs.Widths.{stored_filling}
 use Rattle.chunk_files.specs.Layout.{header_size, greatest, frame_size}
 use Rattle.chunk_files.specs.ChunkReading.{chunk_at}
 use Rattle.index_parts.specs.Placed.{at_place}
@@ -42,7 +43,7 @@ is_chunk_of block samples place =
 unfoldable pub stored_at : List ℕ → Result (List Sample) (Unit {0})
 stored_at bytes = do
   content ← refused_as (λ _. tt) (chunk_at bytes)
-  refused_as (λ _. tt) (data_at 8 content)
+  refused_as (λ _. tt) (data_at stored_filling content)
 
 -- the same, where it is the chunk of each of these places
 unfoldable pub chunk_samples_at : Block → List ChunkPlace → List ℕ → Result (List Sample) (Unit {0})

@@ -14,9 +14,7 @@ use index_parts::{ChunkPlace, reference_of};
 use label_sets::SampleList;
 use list_core::NoMemory;
 use read_ranges::Asked;
-
-/// How many samples most chunks have.
-const SAMPLES: usize = 120;
+use xor_chunks::USUAL_COUNT;
 
 /// For how many samples there is room in a new row at most.
 const MOST_ROOM: usize = 65_536;
@@ -80,7 +78,7 @@ fn new_row(asked: &Asked<'_>, series: &[IndexSeries], reference: u64) -> Result<
         Some(own) => count_met(asked, own.chunks.members()),
         None => 0,
     };
-    let room = count.saturating_mul(SAMPLES).min(MOST_ROOM);
+    let room = count.saturating_mul(USUAL_COUNT).min(MOST_ROOM);
     Ok(ChunkRow {
         chunks: Vec::with_capacity(asked.alloc, count)?,
         samples: Vec::with_capacity(asked.alloc, room)?,

@@ -11,7 +11,7 @@ use block_content::have_times_of;
 use chunk_files::{FRAME_SIZE, GREATEST, HEADER_SIZE, take_chunk};
 use index_parts::ChunkPlace;
 use label_sets::{Sample, SampleList};
-use list_core::{NoMemory, behind};
+use list_core::{NoMemory, members_behind};
 use read_ranges::Asked;
 use wire_bytes::Cursor;
 use xor_chunks::{XorRefusal, append_stored};
@@ -119,7 +119,7 @@ pub(crate) fn append_chunk(
         Some(all) => all,
         None => return Ok(None),
     };
-    if !are_chunks_of(asked, behind(all.as_slice(), before), places) {
+    if !are_chunks_of(asked, members_behind(all.as_slice(), before), places) {
         return Ok(None);
     }
     Ok(Some(all))

@@ -15,7 +15,7 @@ use crate::chunks::{chunk_len, chunk_samples};
 use index_file::IndexSeries;
 use index_parts::{ChunkPlace, reference_of};
 use label_sets::SampleList;
-use list_core::{NoMemory, behind};
+use list_core::{NoMemory, members_behind};
 use read_ranges::{Asked, GroupRead};
 use std::collections::VecDeque;
 
@@ -125,7 +125,7 @@ fn add_glimpse(
         let made = with_pending(shown, reference, Glimpse::SticksOut(len))?;
         return Ok(Some(made));
     }
-    let rest = behind(bytes, at as usize);
+    let rest = members_behind(bytes, at as usize);
     add_chunk(asked, series, places, rest, reference, shown)
 }
 

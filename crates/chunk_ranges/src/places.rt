@@ -1,9 +1,9 @@
 //! The chunk places that a call takes.
-ghost use Rattle.std.specs.Prelude.{◌≡◌, ◌++◌, ◌*◌, ◌^◌, ◌<◌, nat_lt, All, IsTrue, OnOk, IfOk};
+ghost use Rattle.std.specs.Prelude.{◌≡◌, ◌++◌, ◌*◌, ◌<◌, nat_lt, All, IsTrue, OnOk, IfOk};
 ghost use Rattle.std.specs.List.{filter, flat_map};
 ghost use Rattle.std.specs.List.Sorted.{IsPermutation, IsNonDecreasingBy};
 ghost use Rattle.block_keys.specs.Keys.{segment_limit};
-ghost use Rattle.index_parts.specs.SeriesEntry.{reference_of};
+ghost use Rattle.index_parts.specs.SeriesEntry.{reference_of, offset_count};
 ghost use Rattle.read_ranges.specs.ChunkRanges.{meets};
 ghost use Rattle.chunk_ranges.specs.ChunkReads.{have_keys};
 ghost use Rattle.chunk_ranges.specs.BlockReads.{taken};
@@ -55,7 +55,7 @@ fn add_taken(
 pub fn have_keys(places: &[ChunkPlace]) -> bool
     ensures value { result ≡ have_keys places.now }
     ensures small { IsTrue result
-        → All (λ place. reference_of place < segment_limit * 2 ^ 32) places.now }
+        → All (λ place. reference_of place < segment_limit * offset_count) places.now }
 {
     for place in places {
         if !has_key(place) {
@@ -68,7 +68,7 @@ pub fn have_keys(places: &[ChunkPlace]) -> bool
 /// Whether the segment of a place has such a number.
 fn has_key(place: &ChunkPlace) -> bool
     ensures value { result ≡ nat_lt place.now.segment segment_limit }
-    ensures small { IsTrue result → reference_of place.now < segment_limit * 2 ^ 32 }
+    ensures small { IsTrue result → reference_of place.now < segment_limit * offset_count }
 {
     let _offset = place.offset;
     place.segment < SEGMENT_LIMIT

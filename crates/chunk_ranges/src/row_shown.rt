@@ -191,7 +191,7 @@ fn series_of(
         &asked.meta.labels,
         asked.replicas,
     )?;
-    let mut kept = within(asked, samples);
+    let mut kept = samples_in_range(asked, samples);
     kept.shrink_to_fit();
     Ok(Series {
         labels,
@@ -200,7 +200,7 @@ fn series_of(
 }
 
 /// The samples in the range. As a rule these are all, and then nothing is moved.
-fn within(asked: &Asked<'_>, samples: Vec<Sample>) -> Vec<Sample>
+fn samples_in_range(asked: &Asked<'_>, samples: Vec<Sample>) -> Vec<Sample>
     ensures { result.items
         ≡ filter (λ s. is_between asked.now.low asked.now.high s.time) samples.items }
 {

@@ -144,7 +144,7 @@ front_is word count n _ b lt few h =
     ]
 
 -- what the next eight bytes add
-pub by_word : (word count k next : ℕ) (bytes : List ℕ) → IsBuffer word count → count ≤ 55 → k ≡ (63 - count) / 8 → next < 2 ^ 64 → next ≡ from_be_bytes w64 bytes → IsBytes bytes → 8 ≤ length bytes
+pub by_word : (word count k next : ℕ) (bytes : List ℕ) → IsBuffer word count → count < 56 → k ≡ (63 - count) / 8 → next < 2 ^ 64 → next ≡ from_be_bytes w64 bytes → IsBytes bytes → 8 ≤ length bytes
     → IsBuffer (bit_or word (next / 2 ^ (64 - 8 * k) * 2 ^ (64 - (count + 8 * k)) % 2 ^ 64)) (count + 8 * k)
     × (buffered (bit_or word (next / 2 ^ (64 - 8 * k) * 2 ^ (64 - (count + 8 * k)) % 2 ^ 64)) (count + 8 * k) (take (length bytes - k) (drop k bytes)) ≡ buffered word count bytes)
 by_word word count k next bytes b room k-is lt next-is are long =

@@ -6,6 +6,10 @@ use Rattle.wire_bits.specs.Bits.{bits_of, bits_in, number_of}
 abbrev pub top : ℕ → ℕ → List Bool
 top word count = bits_of count (word / 2 ^ (64 - count))
 
+-- how many bits wait at least in a word that has no room for one byte more, so that so many can be peeked at
+abbrev pub peek_limit : ℕ
+peek_limit = 56
+
 -- fewer than 64 bits wait, and the rest of the word is clear
 pub record IsBuffer (word count : ℕ) : Type 0 where
   pub part : count < 64

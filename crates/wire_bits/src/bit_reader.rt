@@ -1,6 +1,6 @@
 ghost use Rattle.std.specs.Prelude.{◌≡◌, ◌↔◌, ◌*◌, ◌-◌, ◌^◌, ◌<◌, ◌≤◌, ◌++◌, min, length, IsErr, IfOk, OnErr};
 ghost use Rattle.wire_bits.specs.Bits.{bits_of, bits_in};
-ghost use Rattle.wire_bits.specs.Buffer.{Shows};
+ghost use Rattle.wire_bits.specs.Buffer.{Shows, peek_limit};
 
 use crate::ShortBits;
 use crate::refill::refill_word;
@@ -90,7 +90,7 @@ impl<'a> BitReader<'a> {
     /// A word at whose top stand the next bits, as many as are asked for, with zero bits past the end.
     #[inline(always)]
     pub fn peek(&mut self, count: u32) -> u64
-        requires { count ≤ 56 }
+        requires { count ≤ peek_limit }
         ensures same { self.new ≡ self.old }
         ensures bits { Shows result count self.old }
     {

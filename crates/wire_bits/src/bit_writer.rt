@@ -39,7 +39,7 @@ impl BitWriter {
     }
 
     /// A writer behind these bytes.
-    pub fn behind(bytes: Vec<u8>) -> BitWriter
+    pub fn from_bytes(bytes: Vec<u8>) -> BitWriter
         ensures { result ≡ bits_in bytes.items }
     {
         BitWriter {

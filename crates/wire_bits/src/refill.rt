@@ -1,10 +1,13 @@
 ghost use Rattle.std.specs.Prelude.{◌≡◌, ◌+◌, ◌<◌, ◌≤◌, [], length, ◌⊎◌};
-ghost use Rattle.wire_bits.specs.Buffer.{IsBuffer, buffered};
+ghost use Rattle.wire_bits.specs.Buffer.{IsBuffer, buffered, peek_limit};
+
+/// How many bits wait at least in a word that has no room for one byte more.
+const PEEK_LIMIT: u32 = 56;
 
 /// A word in which as many bits wait as are needed, or all that are left, and the bytes after them.
 #[inline(always)]
 pub(crate) fn refill_word(need: u32, word: u64, count: u32, bytes: &[u8]) -> (u64, u32, &[u8])
-    requires few { need ≤ 56 }
+    requires few { need ≤ peek_limit }
     requires buffer { IsBuffer word count }
     ensures same { buffered result.0 result.1 result.2.now ≡ buffered word count bytes.now }
     ensures buffer { IsBuffer result.0 result.1 }
@@ -25,7 +28,7 @@ fn refill_at_end(word: u64, count: u32, bytes: &[u8]) -> (u64, u32, &[u8])
     requires { IsBuffer word count }
     ensures same { buffered result.0 result.1 result.2.now ≡ buffered word count bytes.now }
     ensures buffer { IsBuffer result.0 result.1 }
-    ensures full { (55 < result.1) ⊎ (result.2.now ≡ []) }
+    ensures full { (peek_limit ≤ result.1) ⊎ (result.2.now ≡ []) }
 {
     let (word, count, bytes) = refill_by_bytes(word, count, bytes);
     (word, count, bytes)
@@ -34,11 +37,11 @@ fn refill_at_end(word: u64, count: u32, bytes: &[u8]) -> (u64, u32, &[u8])
 #[inline(always)]
 fn refill_by_word(word: u64, count: u32, bytes: &[u8]) -> (u64, u32, &[u8])
     requires buffer { IsBuffer word count }
-    requires room { count ≤ 55 }
+    requires room { count < peek_limit }
     requires bytes { 8 ≤ length bytes.now }
     ensures same { buffered result.0 result.1 result.2.now ≡ buffered word count bytes.now }
     ensures buffer { IsBuffer result.0 result.1 }
-    ensures full { 55 < result.1 }
+    ensures full { peek_limit ≤ result.1 }
 {
     let next = u64::from_be_bytes([
         bytes[0], bytes[1], bytes[2], bytes[3], bytes[4], bytes[5], bytes[6], bytes[7],
@@ -59,9 +62,9 @@ fn refill_by_bytes(mut word: u64, mut count: u32, mut bytes: &[u8]) -> (u64, u32
     requires { IsBuffer word count }
     ensures same { buffered result.0 result.1 result.2.now ≡ buffered word count bytes.now }
     ensures buffer { IsBuffer result.0 result.1 }
-    ensures full { (55 < result.1) ⊎ (result.2.now ≡ []) }
+    ensures full { (peek_limit ≤ result.1) ⊎ (result.2.now ≡ []) }
 {
-    while count < 56 {
+    while count < PEEK_LIMIT {
         if bytes.is_empty() {
             break;
         }

@@ -8,7 +8,7 @@ use Rattle.reading_core.specs.Reading.{◌>>=◌}
 use Rattle.xor_chunks.specs.State.{State, with_pattern}
 use Rattle.wire_bits.specs.Bits.{bits_of, bits_in, number_of, EndWith}
 use Rattle.wire_bits.specs.Buffer.{front, Shows}
-use Rattle.xor_chunks.specs.Window.{Window, told_by, IsInside, is_inside, changed}
+use Rattle.xor_chunks.specs.Window.{Window, told_by, IsInside, is_inside, changed_pattern}
 use Rattle.xor_chunks.specs.Steps.{take_at, behind, change_at, within_at, value_at, time_after, next_at}
 use Rattle.xor_chunks.specs.Spans.{end_at}
 use Rattle.wire_bits.proofs.BitLists.{length-bits_of, bits_of-append, length-bits_in}
@@ -82,27 +82,27 @@ pub pass_same : (known : ℕ) (window : Window) (pattern passed : ℕ) (bits : L
 pass_same _ window pattern _ bits e is long =
     (pattern, same_behind _ _ _ _ _ _ e (taken_whole _ _ long) ∙ ap (λ n. Ok ((pattern, window), drop n bits)) (sym is))
 
-within_passed : (pattern known : ℕ) (window : Window) (bits : List Bool) → known + window.width ≤ length bits → within_at pattern window (drop known bits) ≡ Ok ((changed pattern window (front window.width (drop known bits)), window), drop (known + window.width) bits)
+within_passed : (pattern known : ℕ) (window : Window) (bits : List Bool) → known + window.width ≤ length bits → within_at pattern window (drop known bits) ≡ Ok ((changed_pattern pattern window (front window.width (drop known bits)), window), drop (known + window.width) bits)
 unfolding within_at
 within_passed pattern known window bits long =
     let taken = taken_whole window.width (drop known bits) (omega (arith, length-drop known bits)) in
-    rw taken (ap (λ (l : List Bool). Ok ((changed pattern window (front window.width (drop known bits)), window), l)) (drop-drop window.width known bits))
+    rw taken (ap (λ (l : List Bool). Ok ((changed_pattern pattern window (front window.width (drop known bits)), window), l)) (drop-drop window.width known bits))
 
 pub pass_within : (known : ℕ) (window : Window) (pattern passed : ℕ) (bits : List Bool) → front 2 (drop known bits) ≡ 2 → passed ≡ known + 2 + window.width → passed ≤ length bits → IsPassed known window pattern bits window passed
 pass_within known window pattern passed bits e is long = (
-  changed pattern window (front window.width (drop (known + 2) bits)),
+  changed_pattern pattern window (front window.width (drop (known + 2) bits)),
   within_behind pattern _ _ _ _ _ e (taken_whole _ _ (omega arith))
-      ∙ within_passed _ (known + 2) window bits (omega (arith, long)) ∙ ap (λ n. Ok ((changed pattern window (front window.width (drop (known + 2) bits)), window), drop n bits)) (sym is),
+      ∙ within_passed _ (known + 2) window bits (omega (arith, long)) ∙ ap (λ n. Ok ((changed_pattern pattern window (front window.width (drop (known + 2) bits)), window), drop n bits)) (sym is),
 )
 
 pub pass_told : (known word : ℕ) (window told : Window) (pattern passed : ℕ) (bits : List Bool) → front 2 (drop known bits) ≡ 3 → word ≡ front (known + 13) bits → told ≡ told_by word → passed ≡ known + 13 + told.width → passed ≤ length bits
     → IsPassed known window pattern bits told passed
 pass_told known _ _ told pattern _ bits e word_is told_is is long =
     let same = ap told_by (sym word_is) ∙ sym told_is in (
-      changed pattern told (front told.width (drop (known + 13) bits)),
+      changed_pattern pattern told (front told.width (drop (known + 13) bits)),
       opened_behind _ _ _ _ _ _ e (taken_whole _ _ (omega arith))
           ∙ ap (λ w. within_at pattern w (drop (known + 13) bits)) same ∙ within_passed _ _ told bits (omega (arith, long))
-          ∙ ap (λ (n : ℕ). Ok ((changed pattern told (front told.width (drop (known + 13) bits)), told), drop n bits)) (sym is),
+          ∙ ap (λ (n : ℕ). Ok ((changed_pattern pattern told (front told.width (drop (known + 13) bits)), told), drop n bits)) (sym is),
     )
 
 -- ---- a sample

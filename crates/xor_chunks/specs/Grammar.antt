@@ -7,7 +7,8 @@ use Rattle.label_sets.specs.declared.sample.Sample.{Sample}
 use Rattle.xor_chunks.specs.State.{State}
 use Rattle.wire_bits.specs.Bits.{bits_of, bits_in}
 use Rattle.xor_chunks.specs.Samples.{sample_of}
-use Rattle.xor_chunks.specs.Window.{Window, whole, IsInside, changed}
+use Rattle.xor_chunks.specs.Widths.{narrow_field, middle_field, wide_field, lead_field, width_field}
+use Rattle.xor_chunks.specs.Window.{Window, whole, IsInside, changed_pattern}
 
 -- A field of so many bits stands for itself; above the middle, for itself less 2 to its width.
 abbrev pub StandsFor : ℕ → ℕ → ℤ → Type 0
@@ -30,9 +31,9 @@ pub record IsLongRow (front : List Bool) (bits : List Bool) (z : ℤ) : Type 0 w
 -- by how much a step is longer than the step before it
 pub data IsChange (bits : List Bool) (z : ℤ) : Type 0 where
   unchanged : bits ≡ false ∷ [] → z ≡ pos 0 → IsChange bits z
-  row_14 : IsRow (true ∷ false ∷ []) 14 bits z → IsChange bits z
-  row_17 : IsRow (true ∷ true ∷ false ∷ []) 17 bits z → IsChange bits z
-  row_20 : IsRow (true ∷ true ∷ true ∷ false ∷ []) 20 bits z → IsChange bits z
+  row_14 : IsRow (true ∷ false ∷ []) narrow_field bits z → IsChange bits z
+  row_17 : IsRow (true ∷ true ∷ false ∷ []) middle_field bits z → IsChange bits z
+  row_20 : IsRow (true ∷ true ∷ true ∷ false ∷ []) wide_field bits z → IsChange bits z
   row_64 : IsLongRow (true ∷ true ∷ true ∷ true ∷ []) bits z → IsChange bits z
 
 -- a pattern that differs from the one before it in the bits of a window alone, by this text of them
@@ -40,7 +41,7 @@ pub record IsWithin (window : Window) (before : ℕ) (bits : List Bool) (pattern
   pub field : ℕ
   pub fits : field < 2 ^ window.width
   pub text : bits ≡ bits_of window.width field
-  pub value : pattern ≡ changed before window field
+  pub value : pattern ≡ changed_pattern before window field
   pub inside : IsInside window
 
 -- a window that is told first: five bits of lead, and six of width, in which 64 stands as 0
@@ -49,7 +50,7 @@ pub record IsOpened (before : ℕ) (bits : List Bool) (pattern : ℕ) (window : 
   pub some : 0 < window.width
   pub few : window.width ≤ 64
   pub within : List Bool
-  pub text : bits ≡ bits_of 5 window.lead ++ bits_of 6 window.width ++ within
+  pub text : bits ≡ bits_of lead_field window.lead ++ bits_of width_field window.width ++ within
   pub field : IsWithin window before within pattern
 
 -- A pattern after another, where this window was set, and the window that is set then.

@@ -1,4 +1,5 @@
 pub mod Window
+pub mod Widths
 pub mod Refusals
 pub mod State
 pub mod Known

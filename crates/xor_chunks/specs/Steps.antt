@@ -8,7 +8,8 @@ use Rattle.xor_chunks.specs.State.{State}
 use Rattle.xor_chunks.specs.declared.refusal.XorRefusal.{XorRefusal}
 use Rattle.xor_chunks.specs.declared.refusal.XorRefusal.TheVariants.{Short, Falling, OutOfRange}
 use Rattle.wire_bits.specs.Bits.{number_of}
-use Rattle.xor_chunks.specs.Window.{Window, width_of, is_inside, changed}
+use Rattle.xor_chunks.specs.Widths.{narrow_field, middle_field, wide_field, lead_field, width_field}
+use Rattle.xor_chunks.specs.Window.{Window, width_of, is_inside, changed_pattern}
 
 -- A function that reads from a reader of bits gave what the reading function gives, and left the reader at the bits after it.
 abbrev pub Reads : {X Y : Type 0} → (X → Y) → List Bool → Result X XorRefusal → Result (Y × List Bool) XorRefusal → Type 0
@@ -41,24 +42,24 @@ whole_field_at bits = do
 -- by how much a sample comes later after the last one than that one came after the one before it
 unfoldable pub change_at : List Bool → Result (ℤ × List Bool) XorRefusal
 change_at (false ∷ bits) = Ok (pos 0, bits)
-change_at (true ∷ false ∷ bits) = field_at 14 bits
-change_at (true ∷ true ∷ false ∷ bits) = field_at 17 bits
-change_at (true ∷ true ∷ true ∷ false ∷ bits) = field_at 20 bits
+change_at (true ∷ false ∷ bits) = field_at narrow_field bits
+change_at (true ∷ true ∷ false ∷ bits) = field_at middle_field bits
+change_at (true ∷ true ∷ true ∷ false ∷ bits) = field_at wide_field bits
 change_at (true ∷ true ∷ true ∷ true ∷ bits) = whole_field_at bits
 change_at _ = Err Short
 
 -- a field in a window that is told first
 unfoldable pub opened_at : ℕ → List Bool → Result ((ℕ × Window) × List Bool) XorRefusal
 opened_at pattern bits = do
-  lead ← take_at 5 bits
-  width ← take_at 6 lead.1
+  lead ← take_at lead_field bits
+  width ← take_at width_field lead.1
   field ← take_at (width_of width.0) width.1
-  Ok ((changed pattern (record { lead = lead.0; width = width_of width.0 }) field.0, record { lead = lead.0; width = width_of width.0 }), field.1)
+  Ok ((changed_pattern pattern (record { lead = lead.0; width = width_of width.0 }) field.0, record { lead = lead.0; width = width_of width.0 }), field.1)
 
 unfoldable pub within_at : ℕ → Window → List Bool → Result ((ℕ × Window) × List Bool) XorRefusal
 within_at pattern window bits = do
   field ← take_at window.width bits
-  Ok ((changed pattern window field.0, window), field.1)
+  Ok ((changed_pattern pattern window field.0, window), field.1)
 
 -- the next pattern, and the window after it
 unfoldable pub value_at : ℕ → Window → List Bool → Result ((ℕ × Window) × List Bool) XorRefusal

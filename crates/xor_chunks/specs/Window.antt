@@ -18,8 +18,8 @@ abbrev pub is_inside : Window → Bool
 is_inside window = nat_le (window.lead + window.width) 64
 
 -- the pattern with the field put over the window's bits
-abbrev pub changed : ℕ → Window → ℕ → ℕ
-changed pattern window field = bit_xor pattern (field * 2 ^ (64 - (window.lead + window.width)))
+abbrev pub changed_pattern : ℕ → Window → ℕ → ℕ
+changed_pattern pattern window field = bit_xor pattern (field * 2 ^ (64 - (window.lead + window.width)))
 
 -- six bits hold a width up to 64, which stands as 0
 abbrev pub width_of : ℕ → ℕ

@@ -1,16 +1,22 @@
 -- The one text of samples that the writer puts.
-use Rattle.std.specs.Prelude.{ℕ, suc, ◌+◌, ◌-◌, ◌/◌, ◌^◌, ◌<◌, ◌==◌, ◌&&◌, min, Bool, true, false, List, [], ◌∷◌, ◌++◌, length, map, All, if◌then◌else◌, nat_le, nat_lt, ℤ, pos, negsuc, ◌-ℤ◌, ◌≤ℤ◌, ◌<ℤ◌, unsigned_abs, bit_xor}
+use Rattle.std.specs.Prelude.{ℕ, suc, ◌+◌, ◌-◌, ◌/◌, ◌^◌, ◌<◌, ◌==◌, ◌&&◌, min, Bool, true, false, List, [], ◌∷◌, ◌++◌, length, All, if◌then◌else◌, nat_le, nat_lt, ℤ, pos, negsuc, ◌-ℤ◌, ◌≤ℤ◌, ◌<ℤ◌, unsigned_abs, bit_xor}
 use Rattle.std.specs.Int.{cast_unsigned, w64, leading_zeros, trailing_zeros}
 use Rattle.std.specs.Ordering.{int_eq, int_cmp}
 use Rattle.std.specs.List.Sorted.{IsStrictlySortedBy}
 use Rattle.wire_bytes.specs.Written.{uvarint_text, varint_text}
 use Rattle.label_sets.specs.declared.sample.Sample.{Sample}
 use Rattle.label_sets.specs.Limits.{time_limit}
+use Rattle.label_sets.specs.Times.{times_of}
 use Rattle.wire_bits.specs.Bits.{bits_of, bits_in}
+use Rattle.xor_chunks.specs.Widths.{narrow_field, middle_field, wide_field, lead_field, width_field}
 use Rattle.xor_chunks.specs.Window.{Window}
 use Rattle.xor_chunks.specs.declared.last_written.LastWritten.{LastWritten}
 use Rattle.xor_chunks.specs.declared.window_setting.WindowSetting.{WindowSetting}
 use Rattle.xor_chunks.specs.declared.window_setting.WindowSetting.TheVariants.{Unset, Set}
+
+-- how many samples a chunk has as a rule: a series is cut into chunks of as many
+abbrev pub usual_count : ℕ
+usual_count = 120
 
 -- a time from -2^62 to 2^62 - 1
 abbrev pub IsChunkTime : ℤ → Type 0
@@ -20,7 +26,7 @@ IsChunkTime time = (negsuc (time_limit - 1) ≤ℤ time) × (time <ℤ pos time_
 pub record AreOfChunk (samples : List Sample) : Type 0 where
   pub some : 0 < length samples
   pub few : length samples < 2 ^ 16
-  pub ascend : IsStrictlySortedBy int_cmp (map (λ s. s.time) samples)
+  pub ascend : IsStrictlySortedBy int_cmp (times_of samples)
   pub times : All (λ s. IsChunkTime s.time) samples
 
 -- Each pattern is one of 64 bits.
@@ -39,9 +45,9 @@ field_of width z = bits_of width (cast_unsigned w64 z)
 unfoldable pub change_bits : ℤ → List Bool
 change_bits change =
     if int_eq change (pos 0) then false ∷ []
-    else (if fits_field 14 change then true ∷ false ∷ field_of 14 change
-    else (if fits_field 17 change then true ∷ true ∷ false ∷ field_of 17 change
-    else (if fits_field 20 change then true ∷ true ∷ true ∷ false ∷ field_of 20 change
+    else (if fits_field narrow_field change then true ∷ false ∷ field_of narrow_field change
+    else (if fits_field middle_field change then true ∷ true ∷ false ∷ field_of middle_field change
+    else (if fits_field wide_field change then true ∷ true ∷ true ∷ false ∷ field_of wide_field change
     else true ∷ true ∷ true ∷ true ∷ field_of 64 change)))
 
 -- how many bits a window leaves behind it
@@ -68,7 +74,7 @@ reused (Set window) change = if is_round window change then Set window else Unse
 -- a change in the window that was set, or in a new one
 abbrev pub coded : WindowSetting → ℕ → List Bool
 coded (Set window) change = true ∷ false ∷ in_window window change
-coded Unset change = true ∷ true ∷ (bits_of 5 (window_round change).lead ++ bits_of 6 (window_round change).width ++ in_window (window_round change) change)
+coded Unset change = true ∷ true ∷ (bits_of lead_field (window_round change).lead ++ bits_of width_field (window_round change).width ++ in_window (window_round change) change)
 
 -- the bits of a change of the pattern, where this window was set or none was
 unfoldable pub value_bits : WindowSetting → ℕ → List Bool

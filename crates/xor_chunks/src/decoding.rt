@@ -1,6 +1,7 @@
 ghost use Rattle.std.specs.Prelude.{◌≡◌, ◌+◌, ◌≤◌, ◌*◌, ◌⊎◌, ◌++◌, ◌∷◌, [], length, List, IfOk, MatchResult, Ok, Err};
 ghost use Rattle.std.specs.Result.{IsOkAnd};
 ghost use Rattle.label_sets.specs.declared.sample.Sample.{Sample};
+ghost use Rattle.xor_chunks.specs.Widths.{filling, stored_filling};
 ghost use Rattle.xor_chunks.specs.Grammar.{IsText};
 ghost use Rattle.xor_chunks.specs.Known.{state_of};
 ghost use Rattle.reading_core.specs.Reading.{Answers, Gives};
@@ -10,6 +11,7 @@ ghost use Rattle.xor_chunks.specs.Data.{count_at, first_at, gap_at, others_at, r
 use crate::XorRefusal;
 use crate::last::Last;
 use crate::step::{follow, next};
+use crate::widths::{FILLING, STORED_FILLING};
 use label_sets::{Sample, SampleList};
 use list_core::List;
 use std::alloc::Global;
@@ -188,45 +190,47 @@ fn data_of(alloc: Global, bytes: &[u8], most: u32) -> Result<SampleList, XorRefu
 /// The samples of XOR data.
 pub fn decode(alloc: Global, bytes: &[u8]) -> Result<SampleList, XorRefusal>
     // What is read is what the bytes stand for, and bytes that stand for samples are read.
-    ensures found { IfOk result (λ samples. IsText 7 bytes.now samples) }
-    ensures only { (samples : List Sample) → IsText 7 bytes.now samples
+    ensures found { IfOk result (λ samples. IsText filling bytes.now samples) }
+    ensures only { (samples : List Sample) → IsText filling bytes.now samples
         → (result ≡ Ok samples) ⊎ (result ≡ Err XorRefusal.NoMemory) }
 
     // A refusal is that of the first sample that cannot be read, by its first case.
-    ensures exact { Gives XorRefusal.NoMemory (λ samples. samples) result (data_at 7 bytes.now) }
+    ensures exact { Gives XorRefusal.NoMemory (λ samples. samples) result
+        (data_at filling bytes.now) }
     ensures few { IfOk result (λ samples. length samples ≤ 8 * length bytes.now) }
 {
-    data_of(alloc, bytes, 7)
+    data_of(alloc, bytes, FILLING)
 }
 
 /// The samples of XOR data as Prometheus stores it, which may end with a byte of zeros more.
 pub fn decode_stored(alloc: Global, bytes: &[u8]) -> Result<SampleList, XorRefusal>
     // What is read is what the bytes stand for, and bytes that stand for samples are read.
-    ensures found { IfOk result (λ samples. IsText 8 bytes.now samples) }
-    ensures only { (samples : List Sample) → IsText 8 bytes.now samples
+    ensures found { IfOk result (λ samples. IsText stored_filling bytes.now samples) }
+    ensures only { (samples : List Sample) → IsText stored_filling bytes.now samples
         → (result ≡ Ok samples) ⊎ (result ≡ Err XorRefusal.NoMemory) }
 
     // A refusal is that of the first sample that cannot be read, by its first case.
-    ensures exact { Gives XorRefusal.NoMemory (λ samples. samples) result (data_at 8 bytes.now) }
+    ensures exact { Gives XorRefusal.NoMemory (λ samples. samples) result
+        (data_at stored_filling bytes.now) }
     ensures few { IfOk result (λ samples. length samples ≤ 8 * length bytes.now) }
 {
-    data_of(alloc, bytes, 8)
+    data_of(alloc, bytes, STORED_FILLING)
 }
 
 /// Reads stored XOR data, as `decode_stored` does, and puts its samples behind others. The others are lost where it is refused.
 pub fn append_stored(samples: Vec<Sample>, bytes: &[u8]) -> Result<Vec<Sample>, XorRefusal>
     // What is put behind is what the bytes stand for, and bytes that stand for samples are read.
-    ensures found { IfOk result (λ all. (read : List Sample) × IsText 8 bytes.now read
+    ensures found { IfOk result (λ all. (read : List Sample) × IsText stored_filling bytes.now read
         × (all.items ≡ samples.items ++ read)) }
-    ensures only { (read : List Sample) → IsText 8 bytes.now read
+    ensures only { (read : List Sample) → IsText stored_filling bytes.now read
         → IsOkAnd result (λ all. all.items ≡ samples.items ++ read)
         ⊎ (result ≡ Err XorRefusal.NoMemory) }
 
     // A refusal is that of the first sample that cannot be read, by its first case.
     ensures exact { Gives XorRefusal.NoMemory
-        (λ all. all.items) result (with_samples samples.items (data_at 8 bytes.now)) }
+        (λ all. all.items) result (with_samples samples.items (data_at stored_filling bytes.now)) }
     ensures few { IfOk result
         (λ all. length all.items ≤ length samples.items + 8 * length bytes.now) }
 {
-    push_data(samples, bytes, 8)
+    push_data(samples, bytes, STORED_FILLING)
 }

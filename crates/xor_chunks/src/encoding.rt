@@ -1,4 +1,5 @@
 ghost use Rattle.std.specs.Prelude.{◌≡◌, ◌++◌, ◌∷◌, ℕ, pos, negsuc, ◌≤ℤ◌, ◌<ℤ◌, ◌-ℤ◌, ◌^◌, ◌<◌, ◌≤◌, length, IfOk, OnOk, bit_xor};
+ghost use Rattle.xor_chunks.specs.Widths.{wide_field, change_limit, filling};
 ghost use Rattle.xor_chunks.specs.Written.{fits_field, change_bits, reused, value_bits, window_after, CanFollow, put_after, next_bits, AreToCome, ArePatterns, others_bits, rest_bits, put_first, written, AreOfChunk};
 ghost use Rattle.wire_bytes.specs.Written.{varint_text};
 ghost use Rattle.xor_chunks.specs.Grammar.{IsText};
@@ -7,6 +8,7 @@ ghost use Rattle.wire_bits.specs.Bits.{bits_of, bits_in, filled};
 
 use crate::last_written::LastWritten;
 use crate::pending_bits::PendingBits;
+use crate::widths::{LEAD_FIELD, MIDDLE_FIELD, NARROW_FIELD, WIDE_FIELD, WIDTH_FIELD};
 use crate::window::Window;
 use crate::window_setting::WindowSetting;
 use label_sets::Sample;
@@ -30,9 +32,9 @@ fn fits_field(width: u32, number: i64) -> bool
 #[inline(always)]
 fn row(known: u64, count: u32, width: u32, number: u64) -> PendingBits
     requires few { count ≤ 4 }
-    requires short { width ≤ 20 }
+    requires short { width ≤ wide_field }
     ensures bits { result ≡ bits_of count known ++ bits_of width number }
-    ensures length { length result ≤ 24 }
+    ensures length { length result ≤ change_limit }
 {
     PendingBits::none()
         .and_field(count, known)
@@ -43,20 +45,20 @@ fn row(known: u64, count: u32, width: u32, number: u64) -> PendingBits
 #[inline(always)]
 fn put_change(writer: &mut BitWriter, change: i64) -> Result<PendingBits, NoMemory>
     ensures bits { IfOk result (λ code. writer.new ++ code ≡ writer.old ++ change_bits change) }
-    ensures short { IfOk result (λ code. length code ≤ 24) }
+    ensures short { IfOk result (λ code. length code ≤ change_limit) }
 {
     let bits = change.cast_unsigned();
     if change == 0 {
         return Ok(row(0, 1, 0, 0));
     }
-    if fits_field(14, change) {
-        return Ok(row(0b10, 2, 14, bits));
+    if fits_field(NARROW_FIELD, change) {
+        return Ok(row(0b10, 2, NARROW_FIELD, bits));
     }
-    if fits_field(17, change) {
-        return Ok(row(0b110, 3, 17, bits));
+    if fits_field(MIDDLE_FIELD, change) {
+        return Ok(row(0b110, 3, MIDDLE_FIELD, bits));
     }
-    if fits_field(20, change) {
-        return Ok(row(0b1110, 4, 20, bits));
+    if fits_field(WIDE_FIELD, change) {
+        return Ok(row(0b1110, 4, WIDE_FIELD, bits));
     }
     writer.put_bits(0b1111, 4)?;
     writer.put_bits(bits, 64)?;
@@ -83,7 +85,7 @@ fn put_value(
     change: u64,
     window: WindowSetting,
 ) -> Result<WindowSetting, NoMemory>
-    requires { length code ≤ 24 }
+    requires { length code ≤ change_limit }
     ensures bits { OnOk result (writer.new ≡ writer.old ++ code ++ value_bits window change) }
     ensures window { IfOk result (λ after. after ≡ window_after window change) }
 {
@@ -98,8 +100,8 @@ fn put_value(
     }
     let set = Window::round(change);
     code.and_field(2, 0b11)
-        .and_field(5, u64::from(set.lead()))
-        .and_field(6, u64::from(set.width()))
+        .and_field(LEAD_FIELD, u64::from(set.lead()))
+        .and_field(WIDTH_FIELD, u64::from(set.width()))
         .put(writer)?;
     writer.put_bits(set.field(change), set.width())?;
     Ok(WindowSetting::Set(set))
@@ -174,7 +176,7 @@ fn put_from_second(
     ensures patterns { OnOk result (ArePatterns (second ∷ others.now)) }
 {
     put_uvarint(&mut bytes, second.time.abs_diff(first.time))?;
-    let mut writer = BitWriter::behind(bytes);
+    let mut writer = BitWriter::from_bytes(bytes);
     let change = first.pattern ^ second.pattern;
     let window = put_value(
         &mut writer,
@@ -200,7 +202,7 @@ fn put_rest(bytes: Vec<u8>, first: Sample, samples: &[Sample]) -> Result<BitWrit
 {
     match samples.split_first() {
         Some((second, others)) => put_from_second(bytes, first, *second, others),
-        None => Ok(BitWriter::behind(bytes)),
+        None => Ok(BitWriter::from_bytes(bytes)),
     }
 }
 
@@ -224,7 +226,7 @@ pub fn encode(alloc: Global, samples: &[Sample]) -> Result<Blob, NoMemory>
     ensures exact { IfOk result (λ blob. bits_in blob ≡ filled (written samples.now)) }
 
     // The bytes stand for the samples, so that they are decoded to them.
-    ensures text { IfOk result (λ blob. IsText 7 blob samples.now) }
+    ensures text { IfOk result (λ blob. IsText filling blob samples.now) }
     ensures bytes { IfOk result (λ blob. IsBytes blob) }
 {
     let first = samples[0];

@@ -3,6 +3,9 @@ ghost use Rattle.xor_chunks.specs.Written.{IsChunkTime, AreOfChunk};
 
 use label_sets::{Sample, TIME_LIMIT, times_ascend};
 
+/// How many samples a chunk has as a rule. A series is cut into chunks of as many.
+pub const USUAL_COUNT: usize = 120;
+
 fn is_chunk_time(time: i64) -> bool
     ensures { IsTrue result ↔ IsChunkTime time }
 {

@@ -12,12 +12,13 @@ mod refusal;
 mod sample_span;
 mod spanning;
 mod step;
+mod widths;
 mod window;
 mod window_setting;
 
 pub use decoding::{append_stored, decode, decode_stored};
 pub use encoding::encode;
-pub use fitting::fit_a_chunk;
+pub use fitting::{USUAL_COUNT, fit_a_chunk};
 pub use refusal::XorRefusal;
 pub use sample_span::SampleSpan;
 pub use spanning::span_stored;

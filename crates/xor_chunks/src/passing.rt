@@ -5,12 +5,14 @@ ghost use Rattle.wire_bits.specs.Bits.{bits_of, bits_in, EndWith};
 ghost use Rattle.wire_bits.specs.Buffer.{Shows};
 ghost use Rattle.xor_chunks.specs.State.{State, with_pattern};
 ghost use Rattle.xor_chunks.specs.Window.{Window as WindowParts, IsInside};
+ghost use Rattle.xor_chunks.specs.Widths.{change_limit, head_limit, peeked, sample_limit, sample_room};
 ghost use Rattle.xor_chunks.specs.Known.{state_of};
 ghost use Rattle.xor_chunks.specs.Steps.{behind, change_at, value_at, next_at};
 ghost use Rattle.xor_chunks.specs.Spans.{end_at};
 
 use crate::last::Last;
 use crate::step::{near_time, short_change};
+use crate::widths::HEAD_LIMIT;
 use crate::window::Window;
 use wire_bits::BitReader;
 
@@ -47,9 +49,9 @@ fn word_at(bytes: &[u8], place: usize) -> u64
 /// By how much a step has changed, and how many bits tell it, where fewer than 64 bits do.
 #[inline(always)]
 fn change_in(word: u64) -> Option<(i64, u32)>
-    ensures told { IfSome result (λ x. (bits : List Bool) → Shows word 24 bits
+    ensures told { IfSome result (λ x. (bits : List Bool) → Shows word change_limit bits
         → change_at bits ≡ behind x.1 (λ after. Ok (x.0, after)) bits) }
-    ensures few { IfSome result (λ x. x.1 ≤ 24) }
+    ensures few { IfSome result (λ x. x.1 ≤ change_limit) }
 {
     if word >> 63 == 0 {
         return Some((0, 1));
@@ -60,10 +62,10 @@ fn change_in(word: u64) -> Option<(i64, u32)>
 /// The window of the next value, whose bits begin behind `known` others in a word, and how many bits there are with it.
 #[inline(always)]
 fn pass_value(word: u64, known: u32, window: Window) -> (Window, u32)
-    requires { known ≤ 24 }
-    ensures few { result.1 ≤ 101 }
-    ensures passed { (bits : List Bool) (pattern : ℕ) → Shows word (known + 13) bits
-        → 101 ≤ length bits → (after : ℕ) × (behind known (value_at pattern window) bits
+    requires { known ≤ change_limit }
+    ensures few { result.1 ≤ sample_limit }
+    ensures passed { (bits : List Bool) (pattern : ℕ) → Shows word (known + head_limit) bits
+        → sample_limit ≤ length bits → (after : ℕ) × (behind known (value_at pattern window) bits
         ≡ Ok ((after, result.0), drop result.1 bits)) }
 {
     let head = word << known;
@@ -73,17 +75,17 @@ fn pass_value(word: u64, known: u32, window: Window) -> (Window, u32)
     if head >> 62 == 0b10 {
         return (window, known + 2 + window.width());
     }
-    let told = Window::told_by(word >> (51 - known));
-    (told, known + 13 + told.width())
+    let told = Window::told_by(word >> (64 - (known + HEAD_LIMIT)));
+    (told, known + HEAD_LIMIT + told.width())
 }
 
 /// The next sample, but for its pattern, and how many bits it takes. Nothing is told of what is refused, and of what is rare: a
 /// change that takes 64 bits, and a time that is far from all others.
 #[inline(always)]
 fn pass_one(word: u64, last: &Last) -> Option<(Last, u32)>
-    ensures few { IfSome result (λ x. x.1 ≤ 101) }
-    ensures passed { IfSome result (λ x. (bits : List Bool) → Shows word 37 bits
-        → 101 ≤ length bits → (pattern : ℕ) × (next_at (state_of last.now) bits
+    ensures few { IfSome result (λ x. x.1 ≤ sample_limit) }
+    ensures passed { IfSome result (λ x. (bits : List Bool) → Shows word peeked bits
+        → sample_limit ≤ length bits → (pattern : ℕ) × (next_at (state_of last.now) bits
         ≡ Ok (with_pattern pattern (state_of x.0), drop x.1 bits))) }
     ensures steps { IfSome result (λ x. (0 < x.0.delta) × (x.0.delta < 2 ^ 62)) }
     ensures inside { IfSome result (λ x. IsInside x.0.window) }
@@ -119,12 +121,12 @@ fn is_steady(word: u64, time: i64) -> bool
 /// told last, which is so wide.
 #[inline(always)]
 fn pass_kept(word: u64, known: u32, width: u32) -> Option<u32>
-    requires known { known ≤ 24 }
+    requires known { known ≤ change_limit }
     requires width { width ≤ 64 }
-    ensures few { IfSome result (λ passed. passed ≤ 101) }
+    ensures few { IfSome result (λ passed. passed ≤ sample_limit) }
     ensures passed { IfSome result (λ passed. (bits : List Bool) (pattern : ℕ)
-        (window : WindowParts) → window.width ≡ width → Shows word (known + 13) bits
-        → 101 ≤ length bits → (after : ℕ) × (behind known (value_at pattern window) bits
+        (window : WindowParts) → window.width ≡ width → Shows word (known + head_limit) bits
+        → sample_limit ≤ length bits → (after : ℕ) × (behind known (value_at pattern window) bits
         ≡ Ok ((after, window), drop passed bits))) }
 {
     let head = word << known;
@@ -142,10 +144,10 @@ fn pass_kept(word: u64, known: u32, width: u32) -> Option<u32>
 #[inline(always)]
 fn pass_within(word: u64, time: i64, delta: u64, width: u32) -> Option<(i64, u64, u32)>
     requires { width ≤ 64 }
-    ensures few { IfSome result (λ x. x.2 ≤ 101) }
+    ensures few { IfSome result (λ x. x.2 ≤ sample_limit) }
     ensures passed { IfSome result (λ x. (bits : List Bool) (last : State) → last.time ≡ time
         → last.delta ≡ delta → last.window.width ≡ width → IsInside last.window
-        → Shows word 37 bits → 101 ≤ length bits → (pattern : ℕ) × (next_at last bits
+        → Shows word peeked bits → sample_limit ≤ length bits → (pattern : ℕ) × (next_at last bits
         ≡ Ok (
           record { time = x.0; delta = x.1; pattern = pattern; window = last.window },
           drop x.2 bits,
@@ -162,7 +164,7 @@ fn pass_within(word: u64, time: i64, delta: u64, width: u32) -> Option<(i64, u64
 /// window.
 #[inline(always)]
 fn pass_window(count: u16, second: Last, bytes: &[u8], begin: usize) -> (u16, Last, usize)
-    requires room { 16 ≤ length bytes.now }
+    requires room { sample_room ≤ length bytes.now }
     requires few { length bytes.now < 2 ^ 32 }
     requires within { begin ≤ 8 * length bytes.now }
     requires steps { (0 < second.delta) × (second.delta < 2 ^ 62) }
@@ -209,7 +211,7 @@ fn pass_window(count: u16, second: Last, bytes: &[u8], begin: usize) -> (u16, La
 /// the place behind it. It stands alone, so that its loops have the registers to themselves.
 #[inline(never)]
 fn pass_near(count: u16, second: Last, bytes: &[u8], begin: usize) -> (u16, Last, usize)
-    requires room { 16 ≤ length bytes.now }
+    requires room { sample_room ≤ length bytes.now }
     requires few { length bytes.now < 2 ^ 32 }
     requires within { begin ≤ 8 * length bytes.now }
     ensures end { end_at count (state_of second) (drop begin (bits_in bytes.now))

@@ -3,6 +3,7 @@ ghost use Rattle.std.specs.Prelude.{◌≡◌, ◌≤◌, ◌<◌, ◌-◌, ℕ,
 ghost use Rattle.label_sets.specs.declared.sample.Sample.{Sample};
 ghost use Rattle.reading_core.specs.Reading.{Answers};
 ghost use Rattle.reading_core.specs.Grammar.{IsBytes};
+ghost use Rattle.xor_chunks.specs.Widths.{stored_filling};
 ghost use Rattle.xor_chunks.specs.Grammar.{IsText};
 ghost use Rattle.wire_bits.specs.Bits.{bits_in, EndWith};
 ghost use Rattle.xor_chunks.specs.Known.{state_of};
@@ -13,6 +14,7 @@ use crate::decoding::{count_of, first_of, gap_of, is_filling};
 use crate::last::Last;
 use crate::passing::pass_most;
 use crate::step::{follow, next};
+use crate::widths::STORED_FILLING;
 use crate::{SampleSpan, XorRefusal};
 use label_sets::Sample;
 use wire_bits::BitReader;
@@ -109,13 +111,13 @@ fn span_data(bytes: &[u8], most: u32) -> Result<Option<SampleSpan>, XorRefusal>
 /// `decode_stored` reads and refuses what it refuses, and takes no memory.
 pub fn span_stored(bytes: &[u8]) -> Result<Option<SampleSpan>, XorRefusal>
     // What is told is told of the samples that the bytes stand for, and bytes that stand for samples are told of.
-    ensures found { IfOk result (λ span. (samples : List Sample) × IsText 8 bytes.now samples
-        × (span ≡ span_of samples)) }
-    ensures only { (samples : List Sample) → IsText 8 bytes.now samples
+    ensures found { IfOk result (λ span. (samples : List Sample)
+        × IsText stored_filling bytes.now samples × (span ≡ span_of samples)) }
+    ensures only { (samples : List Sample) → IsText stored_filling bytes.now samples
         → result ≡ Ok (span_of samples) }
 
     // A refusal is that of the first sample that cannot be read, by its first case.
-    ensures exact { Answers (λ span. span) result (span_at 8 bytes.now) }
+    ensures exact { Answers (λ span. span) result (span_at stored_filling bytes.now) }
 {
-    span_data(bytes, 8)
+    span_data(bytes, STORED_FILLING)
 }

@@ -2,11 +2,13 @@ ghost use Rattle.std.specs.Prelude.{◌≡◌, pos, negsuc, ◌+ℤ◌, ◌-ℤ�
 ghost use Rattle.reading_core.specs.Reading.{Answers};
 ghost use Rattle.wire_bytes.specs.Fields.{field_value};
 ghost use Rattle.wire_bits.specs.Buffer.{front, Shows};
+ghost use Rattle.xor_chunks.specs.Widths.{wide_field, change_limit, head_limit};
 ghost use Rattle.xor_chunks.specs.Known.{state_of};
 ghost use Rattle.xor_chunks.specs.Steps.{Reads, take_at, behind, change_at, value_at, within_at, time_after, follow_at, next_at};
 
 use crate::XorRefusal;
 use crate::last::Last;
+use crate::widths::{HEAD_LIMIT, MIDDLE_FIELD, NARROW_FIELD, PEEKED, WIDE_FIELD};
 use crate::window::Window;
 use wire_bits::BitReader;
 use wire_bytes::field_value;
@@ -114,7 +116,7 @@ fn take_within(
     ensures { Reads (λ x. x) reader.new result (within_at pattern window reader.old) }
 {
     let field = take(reader, window.width())?;
-    Ok((window.changed(pattern, field), window))
+    Ok((window.changed_pattern(pattern, field), window))
 }
 
 /// The next pattern, and the window after it, behind bits that were read from a word.
@@ -126,8 +128,8 @@ fn take_value(
     pattern: u64,
     window: Window,
 ) -> Result<(u64, Window), XorRefusal>
-    requires known { known ≤ 24 }
-    requires word { Shows word (known + 13) reader.old }
+    requires known { known ≤ change_limit }
+    requires word { Shows word (known + head_limit) reader.old }
     ensures { Reads (λ x. x) reader.new result (behind known (value_at pattern window) reader.old) }
 {
     let head = word << known;
@@ -139,7 +141,7 @@ fn take_value(
         take_peeked(reader, known + 2)?;
         return take_within(reader, pattern, window);
     }
-    let told = take_peeked(reader, known + 13)?;
+    let told = take_peeked(reader, known + HEAD_LIMIT)?;
     take_within(reader, pattern, Window::told_by(told))
 }
 
@@ -152,8 +154,8 @@ fn follow_known(
     last: Last,
     change: i128,
 ) -> Result<Last, XorRefusal>
-    requires known { known ≤ 24 }
-    requires word { Shows word (known + 13) reader.old }
+    requires known { known ≤ change_limit }
+    requires word { Shows word (known + head_limit) reader.old }
     requires low { negsuc (2 ^ 64) ≤ℤ change }
     requires high { change ≤ℤ pos (2 ^ 64) }
     ensures { Reads state_of reader.new result
@@ -183,7 +185,7 @@ pub(crate) fn follow(
     requires high { change ≤ℤ pos (2 ^ 64) }
     ensures { Reads state_of reader.new result (follow_at (state_of last) change reader.old) }
 {
-    let word = reader.peek(13);
+    let word = reader.peek(HEAD_LIMIT);
     follow_known(reader, word, 0, last, change)
 }
 
@@ -192,7 +194,7 @@ pub(crate) fn follow(
 fn row_in(word: u64, known: u32, width: u32) -> (i64, u32)
     requires known { known ≤ 4 }
     requires some { 0 < width }
-    requires few { width ≤ 20 }
+    requires few { width ≤ wide_field }
     ensures change { result.0 ≡ field_value width (word / 2 ^ (64 - (known + width)) % 2 ^ width) }
     ensures length { result.1 ≡ known + width }
 {
@@ -204,17 +206,17 @@ fn row_in(word: u64, known: u32, width: u32) -> (i64, u32)
 #[inline(always)]
 pub(crate) fn short_change(word: u64) -> Option<(i64, u32)>
     requires { word / 2 ^ 63 ≡ 1 }
-    ensures told { IfSome result (λ x. (bits : List Bool) → Shows word 24 bits
+    ensures told { IfSome result (λ x. (bits : List Bool) → Shows word change_limit bits
         → change_at bits ≡ behind x.1 (λ after. Ok (x.0, after)) bits) }
-    ensures few { IfSome result (λ x. x.1 ≤ 24) }
+    ensures few { IfSome result (λ x. x.1 ≤ change_limit) }
     ensures none { IfNone result (word / 2 ^ 60 ≡ 15) }
 {
     if word >> 62 == 0b10 {
-        Some(row_in(word, 2, 14))
+        Some(row_in(word, 2, NARROW_FIELD))
     } else if word >> 61 == 0b110 {
-        Some(row_in(word, 3, 17))
+        Some(row_in(word, 3, MIDDLE_FIELD))
     } else if word >> 60 == 0b1110 {
-        Some(row_in(word, 4, 20))
+        Some(row_in(word, 4, WIDE_FIELD))
     } else {
         None
     }
@@ -239,7 +241,7 @@ pub(crate) fn next<'a>(
 ) -> Result<(Last, BitReader<'a>), XorRefusal>
     ensures { Answers (λ x. (state_of x.0, x.1)) result (next_at (state_of last) reader.entry) }
 {
-    let word = reader.peek(37);
+    let word = reader.peek(PEEKED);
     if word >> 63 == 0 {
         let after = follow_known(&mut reader, word, 1, last, 0)?;
         return Ok((after, reader));

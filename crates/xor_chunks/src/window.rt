@@ -24,7 +24,7 @@ impl Model for Window {
 
 impl Window {
     ghost use Rattle.xor_chunks.specs.Written.{window_round, is_round, trail};
-    ghost use Rattle.xor_chunks.specs.Window.{whole, told_by, is_inside, changed};
+    ghost use Rattle.xor_chunks.specs.Window.{whole, told_by, is_inside, changed_pattern};
 
     /// All bits of a pattern.
     pub(crate) fn whole() -> Window
@@ -64,9 +64,9 @@ impl Window {
 
     /// The pattern with a field of the window's width put over the window's bits.
     #[inline(always)]
-    pub(crate) fn changed(self, pattern: u64, field: u64) -> u64
+    pub(crate) fn changed_pattern(self, pattern: u64, field: u64) -> u64
         requires { field < 2 ^ self.width }
-        ensures { result ≡ changed pattern self field }
+        ensures { result ≡ changed_pattern pattern self field }
     {
         pattern ^ (field << self.trail())
     }

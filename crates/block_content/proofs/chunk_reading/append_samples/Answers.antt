@@ -13,17 +13,17 @@ returns-in_err-all-clause-exact c = stops (λ all. all.items) (with_samples c.ar
 
 pub returns-in_err-test_part-clause-exact : goal.returns-in_err-test_part-clause-exact
 returns-in_err-test_part-clause-exact c = stops (λ all. all.items) (with_samples c.args.samples.items (samples_at c.args.place.now c.args.content.now)) c.from_residual-in_err-test_part.result c.in_err-test_part.field-0.0 c.from_residual-in_err-test_part.ensures.1
-    (inr (test_stopped c.args.place.now c.args.content.now c.args.samples.items c.in_ok-all.all.items c.behind.result.now c.len-before.result c.in_ok-all.ensures.exact (c.len-before.ensures ∙ c.args.samples.ok.0)
-    (c.behind.ensures ∙ ap (λ (xs : List Sample). drop c.len-before.result xs) c.as_slice.ensures.value) c.in_err-test_part.field-0.0 c.in_err-test_part.ensures))
+    (inr (test_stopped c.args.place.now c.args.content.now c.args.samples.items c.in_ok-all.all.items c.members_behind.result.now c.len-before.result c.in_ok-all.ensures.exact (c.len-before.ensures ∙ c.args.samples.ok.0)
+    (c.members_behind.ensures ∙ ap (λ (xs : List Sample). drop c.len-before.result xs) c.as_slice.ensures.value) c.in_err-test_part.field-0.0 c.in_err-test_part.ensures))
 
 pub returns-clause-exact : goal.returns-clause-exact
 returns-clause-exact c =
-    (test_passed c.args.place.now c.args.content.now c.args.samples.items c.in_ok-all.all.items c.behind.result.now c.len-before.result c.in_ok-all.ensures.exact (c.len-before.ensures ∙ c.args.samples.ok.0)
-    (c.behind.ensures ∙ ap (λ (xs : List Sample). drop c.len-before.result xs) c.as_slice.ensures.value) c.in_ok-test_part.ensures).0
+    (test_passed c.args.place.now c.args.content.now c.args.samples.items c.in_ok-all.all.items c.members_behind.result.now c.len-before.result c.in_ok-all.ensures.exact (c.len-before.ensures ∙ c.args.samples.ok.0)
+    (c.members_behind.ensures ∙ ap (λ (xs : List Sample). drop c.len-before.result xs) c.as_slice.ensures.value) c.in_ok-test_part.ensures).0
 
 pub returns-clause-between : goal.returns-clause-between
 returns-clause-between c =
     let whole = parts_of_whole c.args.samples.items c.in_ok-all.all.items (data_at 8 c.args.content.now) c.in_ok-all.ensures.exact in
     between_of c.args.place.now c.args.content.now c.args.samples.items c.in_ok-all.all.items whole.0 c.in_ok-all.ensures.found whole.2
-    (test_passed c.args.place.now c.args.content.now c.args.samples.items c.in_ok-all.all.items c.behind.result.now c.len-before.result c.in_ok-all.ensures.exact (c.len-before.ensures ∙ c.args.samples.ok.0)
-    (c.behind.ensures ∙ ap (λ (xs : List Sample). drop c.len-before.result xs) c.as_slice.ensures.value) c.in_ok-test_part.ensures).1
+    (test_passed c.args.place.now c.args.content.now c.args.samples.items c.in_ok-all.all.items c.members_behind.result.now c.len-before.result c.in_ok-all.ensures.exact (c.len-before.ensures ∙ c.args.samples.ok.0)
+    (c.members_behind.ensures ∙ ap (λ (xs : List Sample). drop c.len-before.result xs) c.as_slice.ensures.value) c.in_ok-test_part.ensures).1

@@ -6,17 +6,17 @@ use Rattle.block_merging.proofs.series_merge.put_merged.Goals as goal
 pub first_of_each-requires : goal.first_of_each-requires
 first_of_each-requires c = samples_some c.args.writer.now.plan c.args.run.now c.in_ok-samples.samples.items c.requires.many c.requires.stored c.in_ok-samples.ensures
 
-pub put_samples-requires-clause-samples : goal.put_samples-requires-clause-samples
-put_samples-requires-clause-samples c =
+pub put_parts-requires-clause-samples : goal.put_parts-requires-clause-samples
+put_parts-requires-clause-samples c =
     subst (AreOfBlock c.args.writer.now.plan) (sym c.members.ensures)
     (kept_of_block c.args.writer.now.plan c.args.labels.now c.args.run.now c.in_ok-samples.samples.items c.in_ok-kept.kept c.requires.stored c.in_ok-samples.ensures c.in_ok-kept.ensures)
 
-pub put_samples-requires-clause-after : goal.put_samples-requires-clause-after
-put_samples-requires-clause-after c =
+pub put_parts-requires-clause-after : goal.put_parts-requires-clause-after
+put_parts-requires-clause-after c =
     subst (BeginAfter c.args.writer.now.chunks) (sym c.members.ensures)
     (kept_after c.args.writer.now.plan c.args.writer.now.chunks c.args.labels.now c.args.run.now c.in_ok-samples.samples.items c.in_ok-kept.kept c.requires.stored c.requires.after c.in_ok-samples.ensures c.in_ok-kept.ensures)
 
 pub returns : goal.returns
 returns c =
-    merged_told c.put_samples.result c.args.writer.now c.put_samples.new.writer c.args.labels.now c.args.run.now c.in_ok-samples.samples.items c.members.result.now c.in_ok-kept.kept c.requires.many c.requires.stored c.in_ok-samples.ensures c.in_ok-kept.ensures
-    c.members.ensures c.put_samples.ensures
+    merged_told c.put_parts.result c.args.writer.now c.put_parts.new.writer c.args.labels.now c.args.run.now c.in_ok-samples.samples.items c.members.result.now c.in_ok-kept.kept c.requires.many c.requires.stored c.in_ok-samples.ensures c.in_ok-kept.ensures
+    c.members.ensures c.put_parts.ensures

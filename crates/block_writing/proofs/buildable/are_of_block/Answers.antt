@@ -1,5 +1,5 @@
 use Rattle.std.proofs.Common.{refl}
-use Rattle.block_writing.specs.Put.{IsWithin}
+use Rattle.label_sets.specs.Times.{IsWithin}
 use Rattle.block_writing.specs.Writing.{plan_fields}
 use Rattle.block_writing.proofs.Tested.{told, tested_more, none_refused, sample_refused, samples_tested}
 use Rattle.block_writing.proofs.buildable.are_of_block.Goals as goal
@@ -12,11 +12,11 @@ loop-sample-init c = tt
 
 pub loop-sample-preserved : goal.loop-sample-preserved
 loop-sample-preserved c =
-    tested_more (IsWithin (plan_fields c.args.plan.now)) c.args.samples.now c.loop-sample.sample-index _ _ c.loop-sample-test.true refl c.loop-sample.invariant (told _ _ c.is_within.ensures c.if-not-is_within.false)
+    tested_more (IsWithin c.args.plan.now.min_time c.args.plan.now.max_time) c.args.samples.now c.loop-sample.sample-index _ _ c.loop-sample-test.true refl c.loop-sample.invariant (told _ _ c.is_of_block.ensures c.if-not-is_of_block.false)
 
-pub returns-then-not-is_within : goal.returns-then-not-is_within
-returns-then-not-is_within c =
-    sample_refused (plan_fields c.args.plan.now) c.args.samples.now c.loop-sample.sample-index _ _ c.is_within.result c.loop-sample-test.true refl c.is_within.ensures c.if-not-is_within.true
+pub returns-then-not-is_of_block : goal.returns-then-not-is_of_block
+returns-then-not-is_of_block c =
+    sample_refused (plan_fields c.args.plan.now) c.args.samples.now c.loop-sample.sample-index _ _ c.is_of_block.result c.loop-sample-test.true refl c.is_of_block.ensures c.if-not-is_of_block.true
 
 pub returns : goal.returns
 returns c =

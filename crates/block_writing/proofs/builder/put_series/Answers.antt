@@ -1,32 +1,24 @@
-use Rattle.std.proofs.Common.{◌≡◌, ◌<◌, List, length, rules, subst, sym}
-use Rattle.std.specs.Prelude.{min}
-use Rattle.xor_chunks.specs.Written.{AreOfChunk}
-use Rattle.std.specs.List.{AllByRecursion}
-use Rattle.block_writing.specs.Put.{PutSeries, IsWithin, IsAfterSeries}
-use Rattle.block_writing.proofs.Parts.{of_chunk, part_within, part_more, has_chunks}
+use Rattle.std.proofs.Common.{◌<◌, List, length, subst, sym}
+use Rattle.label_sets.specs.declared.sample.Sample.{Sample}
+use Rattle.block_writing.specs.Built.{AreOfBlock}
+use Rattle.block_writing.specs.Put.{PutSeries, IsAfterSeries}
+use Rattle.block_writing.proofs.Parts.{begin_after, have_chunks, series_more}
 use Rattle.block_writing.proofs.builder.put_series.Goals as goal
 
-pub put_part-requires-clause-fits : goal.put_part-requires-clause-fits
-put_part-requires-clause-fits c =
-    let some : 0 < length c.loop-left.left.now = search rules in
-    let few : c.min.result ≡ min (length c.loop-left.left.now) 120 = search rules in
-    subst AreOfChunk (sym c.split_at.ensures.front) (of_chunk c.args.writer.now c.args.series.now.samples c.loop-left.left.now c.loop-left.writer c.min.result c.requires.times c.loop-left.invariant some few)
+pub put_parts-requires-clause-samples : goal.put_parts-requires-clause-samples
+put_parts-requires-clause-samples c = subst (AreOfBlock c.args.writer.now.plan) (sym c.members.ensures) c.requires.samples
 
-pub put_part-requires-clause-within : goal.put_part-requires-clause-within
-put_part-requires-clause-within c =
-    subst (AllByRecursion (IsWithin c.loop-left.writer.plan)) (sym c.split_at.ensures.front) (part_within c.args.writer.now c.args.series.now.samples c.loop-left.left.now c.loop-left.writer c.min.result c.loop-left.invariant)
-
-pub loop-left-preserved : goal.loop-left-preserved
-loop-left-preserved c =
-    let some : 0 < length c.loop-left.left.now = search rules in
-    let few : c.min.result ≡ min (length c.loop-left.left.now) 120 = search rules in
-    part_more c.args.writer.now c.args.series.now.samples c.loop-left.left.now c.split_at.result.0.now c.split_at.result.1.now c.loop-left.writer c.put_part.new.writer c.min.result c.loop-left.invariant some few c.split_at.ensures.front c.split_at.ensures.back c.in_ok-put_part.ensures
+pub put_parts-requires-clause-after : goal.put_parts-requires-clause-after
+put_parts-requires-clause-after c = begin_after c.args.writer.now.chunks c.members.result.now c.requires.nothing_left
 
 pub series-requires-clause-some : goal.series-requires-clause-some
 series-requires-clause-some c empty =
-    let none : length c.loop-left.left.now ≡ 0 = search rules in
-    has_chunks c.args.writer.now c.args.series.now.samples c.loop-left.left.now c.loop-left.writer c.loop-left.invariant none c.requires.samples empty
+    have_chunks c.args.writer.now c.members.result.now c.put_parts.new.writer c.in_ok-put_parts.ensures c.requires.nothing_left (subst (λ (l : List Sample). 0 < length l) (sym c.members.ensures) c.requires.samples.some) empty
 
 pub series-requires-clause-greater : goal.series-requires-clause-greater
 series-requires-clause-greater c =
-    subst (IsAfterSeries c.loop-left.writer.series) (sym c.in_ok-copy.ensures) (subst (λ (l : List PutSeries). IsAfterSeries l c.args.series.now.labels) (sym c.loop-left.invariant.series_is) c.requires.greater)
+    subst (IsAfterSeries c.put_parts.new.writer.series) (sym c.in_ok-copy.ensures) (subst (λ (l : List PutSeries). IsAfterSeries l c.args.series.now.labels) (sym c.in_ok-put_parts.ensures.series_are) c.requires.greater)
+
+pub returns : goal.returns
+returns c =
+    series_more c.series.result c.args.writer.now c.put_parts.new.writer c.series.new.self c.args.series.now c.members.result.now _ c.members.ensures c.in_ok-copy.ensures c.requires.nothing_left c.in_ok-put_parts.ensures c.series.ensures.ok

@@ -9,13 +9,13 @@ returns-in-None c = chunk_stops (block_asked c.args.asked.now) c.args.places.now
     (none_behind (λ all. all.items) c.args.samples.items _ c.in_ok-all.field-0 c.in-None.is c.in_ok-all.ensures)
 
 pub returns-then-not-are_chunks_of : goal.returns-then-not-are_chunks_of
-returns-then-not-are_chunks_of c = chunk_fails (block_asked c.args.asked.now) c.args.places.now c.args.bytes.now c.args.samples.items c.in-Some.all.items c.behind.result.now c.len-before.result
+returns-then-not-are_chunks_of c = chunk_fails (block_asked c.args.asked.now) c.args.places.now c.args.bytes.now c.args.samples.items c.in-Some.all.items c.members_behind.result.now c.len-before.result
     (some_behind (λ all. all.items) c.args.samples.items _ c.in_ok-all.field-0 c.in-Some.all c.in-Some.is c.in_ok-all.ensures)
-    (c.len-before.ensures ∙ c.args.samples.ok.0) (c.behind.ensures ∙ ap (λ (xs : List Sample). drop c.len-before.result xs) c.as_slice.ensures.value)
+    (c.len-before.ensures ∙ c.args.samples.ok.0) (c.members_behind.ensures ∙ ap (λ (xs : List Sample). drop c.len-before.result xs) c.as_slice.ensures.value)
     (sym c.are_chunks_of.ensures ∙ c.if-not-are_chunks_of.true)
 
 pub returns : goal.returns
-returns c = chunk_behind (block_asked c.args.asked.now) c.args.places.now c.args.bytes.now c.args.samples.items c.in-Some.all.items c.behind.result.now c.len-before.result
+returns c = chunk_behind (block_asked c.args.asked.now) c.args.places.now c.args.bytes.now c.args.samples.items c.in-Some.all.items c.members_behind.result.now c.len-before.result
     (some_behind (λ all. all.items) c.args.samples.items _ c.in_ok-all.field-0 c.in-Some.all c.in-Some.is c.in_ok-all.ensures)
-    (c.len-before.ensures ∙ c.args.samples.ok.0) (c.behind.ensures ∙ ap (λ (xs : List Sample). drop c.len-before.result xs) c.as_slice.ensures.value)
+    (c.len-before.ensures ∙ c.args.samples.ok.0) (c.members_behind.ensures ∙ ap (λ (xs : List Sample). drop c.len-before.result xs) c.as_slice.ensures.value)
     (sym c.are_chunks_of.ensures ∙ c.if-not-are_chunks_of.false)

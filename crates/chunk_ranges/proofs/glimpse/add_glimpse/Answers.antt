@@ -16,4 +16,4 @@ returns-then-at-len c = λ up. out_measured (tests_at (block_asked c.args.asked.
 
 pub returns : goal.returns
 returns c = λ up. within_measured (tests_at (block_asked c.args.asked.now) c.args.places.now) (group_read c.args.group.now) c.args.bytes.now c.args.reference c.saturating_sub-at.result c.chunk_len.result
-    c.saturating_sub-at.ensures c.chunk_len.ensures.value c.in-Some.len c.in-Some.is (shown_so c.args.shown) c.behind-rest.result.now c.add_chunk.result (omega (arith, c.if-at-len.false)) c.behind-rest.ensures (c.add_chunk.ensures up)
+    c.saturating_sub-at.ensures c.chunk_len.ensures.value c.in-Some.len c.in-Some.is (shown_so c.args.shown) c.members_behind-rest.result.now c.add_chunk.result (omega (arith, c.if-at-len.false)) c.members_behind-rest.ensures (c.add_chunk.ensures up)

@@ -10,9 +10,9 @@ put_others-requires c = subst (λ p. AreToCome p c.args.others.now) (sym (second
 
 pub returns-clause-bits : goal.returns-clause-bits
 returns-clause-bits c =
-    IfOk-weaker c.put_others.result _ _ (λ w h. rest_put c.args.first c.args.second c.args.others.now _ c.args.bytes.items c.put_uvarint.new.out.items _ c.none.result c.behind-writer.result c.put_value.new.writer w
+    IfOk-weaker c.put_others.result _ _ (λ w h. rest_put c.args.first c.args.second c.args.others.now _ c.args.bytes.items c.put_uvarint.new.out.items _ c.none.result c.from_bytes-writer.result c.put_value.new.writer w
     (second_put _ _ _ (search rules) (search rules) c.requires.next c.in_ok-window.ensures.window)
-    c.in_ok-put_uvarint.ensures.ok (gap_text _ c.args.second.time c.abs_diff.result (search rules) (search rules) c.abs_diff.ensures) c.behind-writer.ensures c.none.ensures c.in_ok-window.ensures.bits h)
+    c.in_ok-put_uvarint.ensures.ok (gap_text _ c.args.second.time c.abs_diff.result (search rules) (search rules) c.abs_diff.ensures) c.from_bytes-writer.ensures c.none.ensures c.in_ok-window.ensures.bits h)
     c.put_others.ensures.bits
 
 pub returns-clause-patterns : goal.returns-clause-patterns

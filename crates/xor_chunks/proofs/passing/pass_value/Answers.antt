@@ -1,4 +1,4 @@
-use Rattle.std.proofs.Common.{◌≡◌, ◌+◌, ◌-◌, ◌/◌, ◌^◌, refl, sym, ap, ◌∙◌, arith}
+use Rattle.std.proofs.Common.{◌+◌, refl, sym, ◌∙◌, arith}
 use Rattle.xor_chunks.proofs.Peeks.{head_is, eleven}
 use Rattle.xor_chunks.proofs.BitPlaces.{pass_same, pass_within, pass_told}
 use Rattle.xor_chunks.proofs.passing.pass_value.Goals as goal
@@ -16,6 +16,5 @@ returns-then-head-eq2-clause-passed c = λ bits pattern shows long.
 pub returns-clause-passed : goal.returns-clause-passed
 returns-clause-passed c = λ bits pattern shows long.
     let head = head_is _ _ 2 _ (omega arith) (shows.first (c.args.known + 2) (omega arith)) in
-    let shift : 51 - c.args.known ≡ 64 - (c.args.known + 13) = omega arith in
-    pass_told _ _ _ _ _ _ _ (eleven _ _ (omega arith) head c.if-head-eq0.false c.if-head-eq2.false) (ap (λ n. c.args.word / 2 ^ n) shift ∙ shows.first (c.args.known + 13) (omega arith)) c.told_by-told.ensures
+    pass_told _ _ _ _ _ _ _ (eleven _ _ (omega arith) head c.if-head-eq0.false c.if-head-eq2.false) (shows.first (c.args.known + 13) (omega arith)) c.told_by-told.ensures
     (omega arith) (omega arith)

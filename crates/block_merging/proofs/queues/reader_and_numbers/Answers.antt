@@ -1,6 +1,6 @@
 use Rattle.std.proofs.Common.{◌∙◌}
 use Rattle.block_merging.proofs.QueueSteps.{opened_index}
-use Rattle.block_merging.proofs.queues.opened.Goals as goal
+use Rattle.block_merging.proofs.queues.reader_and_numbers.Goals as goal
 
 pub returns : goal.returns
 returns c = λ bytes list is same. opened_index bytes list is c.in_ok-reader.reader c.in_ok-numbers.numbers (λ opened at begins. c.in_ok-reader.ensures opened (at ∙ same) begins) c.in_ok-numbers.ensures.rises c.in_ok-numbers.ensures.agrees

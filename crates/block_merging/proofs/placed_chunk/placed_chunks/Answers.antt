@@ -3,7 +3,7 @@ use Rattle.std.proofs.lemmas.List.{take_all}
 use Rattle.block_merging.specs.declared.input_chunk.InputChunk.{InputChunk}
 use Rattle.block_merging.specs.Placed.{placed_from}
 use Rattle.block_merging.proofs.PlacedOrders.{pushed_more, placed_length}
-use Rattle.block_merging.proofs.placed_chunk.placed.Goals as goal
+use Rattle.block_merging.proofs.placed_chunk.placed_chunks.Goals as goal
 
 pub loop-place-preserved : goal.loop-place-preserved
 loop-place-preserved c =

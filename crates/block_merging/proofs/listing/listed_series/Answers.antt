@@ -1,7 +1,7 @@
 use Rattle.std.proofs.Common.{◌<◌, ◌^◌, ◌∙◌, arith}
 use Rattle.std.proofs.lemmas.List.Elements.{All-get_or}
 use Rattle.block_merging.proofs.QueueSteps.{listed_none, listed_more, listed_all}
-use Rattle.block_merging.proofs.listing.listed.Goals as goal
+use Rattle.block_merging.proofs.listing.listed_series.Goals as goal
 
 pub loop-place-init : goal.loop-place-init
 loop-place-init c = listed_none c.args.external.now c.args.replicas.now c.args.numbers.now c.args.indexed.now c.new-made.result.items c.new-made.ensures.items

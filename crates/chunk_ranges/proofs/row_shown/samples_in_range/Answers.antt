@@ -4,7 +4,7 @@ use Rattle.std.proofs.lemmas.Fn.{filter_same}
 use Rattle.label_sets.specs.declared.sample.Sample.{Sample}
 use Rattle.matchers.specs.Selected.{is_between}
 use Rattle.chunk_ranges.proofs.RowSamples.{all_kept}
-use Rattle.chunk_ranges.proofs.row_shown.within.Goals as goal
+use Rattle.chunk_ranges.proofs.row_shown.samples_in_range.Goals as goal
 
 pub returns-then-are_within : goal.returns-then-are_within
 returns-then-are_within c = all_kept (λ (s : Sample). is_between c.args.asked.now.low c.args.asked.now.high s.time) c.args.samples.items

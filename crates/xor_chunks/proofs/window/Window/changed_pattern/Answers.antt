@@ -1,6 +1,6 @@
 use Rattle.std.proofs.Common.{◌*◌, ◌^◌, bit_xor, ap, ◌∙◌}
 use Rattle.std.proofs.lemmas.Nat.{shl_whole}
-use Rattle.xor_chunks.proofs.window.Window.changed.Goals as goal
+use Rattle.xor_chunks.proofs.window.Window.changed_pattern.Goals as goal
 
 pub returns : goal.returns
 returns c =
