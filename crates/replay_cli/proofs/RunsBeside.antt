@@ -75,6 +75,11 @@ lines_told script lines outcomes (done, left, is, are) = (
   are.flag,
 )
 
+-- what a report tells that has such lines, its lines tell
+pub told_by : {P : Type 0} (lines : P → Lines) (script : Script) (report : P) (outcomes : List Outcome) (came : Result (Unit {0}) Broken)
+    → HasToldFirst (λ (p : P). AreLinesOf (lines p)) script report outcomes came → HasToldFirst AreLinesOf script (lines report) outcomes came
+told_by lines script report outcomes came (told, same, first) = (lines told, (λ never. ap lines (same never)), first)
+
 module _ (setting : Setting) (lawful : IsLawfulScript setting.script) (journal : List Entry) (bytes : IsOfBytes journal) (outcomes : List Outcome) (report : Lines) (lines : report.text.items ≡ report_of setting.script (tasks_of setting.script.phases) outcomes) (flag : report.as_asked ≡ list_all is_as_asked outcomes) where
   -- the script was done to its end
   pub whole_beside : HasRunBeside setting journal outcomes (Ok tt) → (v : Verdict) → EndsReport setting.script journal report v → IsRun IsInPhases setting (Some nothing) ⊥ (Some journal) v

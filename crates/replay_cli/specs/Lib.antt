@@ -1,6 +1,8 @@
 pub mod Calls
 pub mod Days
 pub mod Endings
+pub mod Sharing
+pub mod TextParts
 pub mod InPhases
 pub mod ToldAnswers
 pub mod Ways

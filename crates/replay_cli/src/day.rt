@@ -12,7 +12,7 @@ use bucket_core::{Bucket, FailList, MemoryBucket};
 use call_verdicts::report_lines::{Tally, put_breach_of};
 use call_verdicts::script_running::Broken;
 use call_verdicts::{Conclusion, Ended, Verdict};
-use generated_day::generated;
+use generated_day::generated_script;
 use line_running::do_in_line;
 use list_core::NoMemory;
 use run_notes::{Finished, RunNote};
@@ -50,7 +50,7 @@ fn run_alone(alloc: Global, number: u64) -> (Verdict, Journal, Option<RunNote<Me
     ensures came { IsDayRun number result.1 result.0 }
     ensures noted { IsDayNoted result.0 (Some result.1) result.2 }
 {
-    let Ok(script) = generated(alloc, number) else {
+    let Ok(script) = generated_script(alloc, number) else {
         return (Verdict::NoMemory, Journal::empty(alloc), None);
     };
     let bucket = MemoryBucket::new(alloc, FailList::new(alloc));

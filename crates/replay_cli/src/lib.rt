@@ -8,6 +8,8 @@ mod preparing;
 mod replay;
 mod runner;
 mod standard;
+mod telling;
+mod text_parts;
 mod tool;
 
 pub use call_verdicts::report_lines::CheckOutcome;

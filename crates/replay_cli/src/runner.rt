@@ -6,9 +6,10 @@ ghost use Rattle.script_core.specs.Lawful.{IsLawfulScript};
 ghost use Rattle.replay_cli.specs.Endings.{EndsReport};
 ghost use Rattle.replay_cli.specs.Ways.{HasRun, MayRun, beside, in_line};
 
+use crate::telling::Beside;
 use bucket_core::Bucket;
 use call_verdicts::Verdict;
-use call_verdicts::report_lines::{Lines, put_breach_of};
+use call_verdicts::report_lines::{Lines, LinesBy, SeriesWay, put_breach_of};
 use call_verdicts::script_running::{Broken, ShelfBlock, run_beside};
 use line_running::do_in_line;
 use list_core::NoMemory;
@@ -52,14 +53,32 @@ pub(crate) fn run_with_threads<B: Bucket + Send, G: Gate + Sync, T: Threads + Wa
     ensures { HasRun beside B.asked B.faults script.now shelf.now world
         result.0 result.1.world result.1.note }
 {
-    let mut report = Lines::new(alloc);
+    run_telling(rt, alloc, gate, script, shelf, world, Beside { rt })
+}
+
+/// The same, with the lines of answers' series put in this way.
+fn run_telling<B: Bucket + Send, G: Gate + Sync, T: Threads + Wait + Sync, W: SeriesWay + Drop>(
+    rt: &T,
+    alloc: Global,
+    gate: &G,
+    script: &Script,
+    shelf: &[ShelfBlock],
+    world: World<B>,
+    way: W,
+) -> (Verdict, Finished<B>)
+    requires may { MayRun B.asked script.now shelf.now world }
+    requires way { W.can_put way }
+    ensures { HasRun beside B.asked B.faults script.now shelf.now world
+        result.0 result.1.world result.1.note }
+{
+    let mut report = LinesBy::new(alloc, way);
     match run_beside(rt, alloc, script, shelf, world, gate, &mut report) {
         Ok((end, closed)) => {
-            let came = with_wanted(end.came, closed.wanted());
+            let came = with_wanted(end.came, closed.wanted_memory());
             drop(end);
             let world = closed.world();
             let journal = world.journal();
-            let verdict = verdict_of(alloc, script, journal.entries(), came, report);
+            let verdict = verdict_of(alloc, script, journal.entries(), came, report.lines);
             (verdict, Finished::of_closed(closed))
         }
         Err(world) => (Verdict::NoMemory, Finished::unbegun(world)),

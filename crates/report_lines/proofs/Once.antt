@@ -14,9 +14,6 @@ use Rattle.list_core.proofs.Bools.{Equal-from_is_eq, or_or_false}
 abbrev is_same : List Label → List Label → Bool
 is_same one other = is_eq (compare_sets one other)
 
-abbrev among : List Label → List (List Label) → Bool
-among set sets = list_any (λ (other : List Label). is_eq (compare_sets set other)) sets
-
 same_by : (one other : List Label) (there back : Bool) → is_same one other ≡ there → is_same other one ≡ back → there ≡ back
 same_by one other true true first second = refl
 same_by one other false false first second = refl
@@ -31,9 +28,9 @@ same_by one other false true first second =
 same_back : (one other : List Label) → is_same one other ≡ is_same other one
 same_back one other = same_by one other (is_same one other) (is_same other one) refl refl
 
-among_more : (set new : List Label) (sets : List (List Label)) → among set (sets ++ new ∷ []) ≡ (among set sets || is_same set new)
+among_more : (set new : List Label) (sets : List (List Label)) → list_any (is_same set) (sets ++ new ∷ []) ≡ (list_any (is_same set) sets || is_same set new)
 among_more set new sets =
-    list_any-append (λ (other : List Label). is_eq (compare_sets set other)) sets (new ∷ []) ∙ or_or_false (among set sets) (is_same set new)
+    list_any-append (λ (other : List Label). is_eq (compare_sets set other)) sets (new ∷ []) ∙ or_or_false (list_any (is_same set) sets) (is_same set new)
 
 -- a set more at the end, by whether it is the first, whether the first comes again, and whether the new one does
 step : (first : List Label) (once more : List (List Label)) (again same seen : Bool) → (same ≡ true → again ≡ seen) → length more ≡ length once + (if seen then 0 else 1) → length (if again || same then more else first ∷ more) ≡ length (if again then once else first ∷ once) + (if same || seen then 0 else 1)
@@ -46,15 +43,15 @@ step first once more false true false equal sizes = omega (arith, sizes)
 step first once more false false true equal sizes = omega (arith, sizes)
 step first once more false false false equal sizes = omega (arith, sizes)
 
-once_more : (sets : List (List Label)) (new : List Label) → length (each_once (sets ++ new ∷ [])) ≡ length (each_once sets) + (if among new sets then 0 else 1)
+once_more : (sets : List (List Label)) (new : List Label) → length (each_once (sets ++ new ∷ [])) ≡ length (each_once sets) + (if list_any (is_same new) sets then 0 else 1)
 unfolding each_once
 once_more [] new = refl
 once_more (first ∷ sets) new =
     let once = each_once sets in
     let more = each_once (sets ++ new ∷ []) in
     ap (λ (b : Bool). length (if b then more else first ∷ more)) (among_more first new sets)
-    ∙ step first once more (among first sets) (is_same first new) (among new sets) (λ is. ap (λ (s : List Label). among s sets) (same_set first new (Equal-from_is_eq (compare_sets first new) is))) (once_more sets new)
-    ∙ ap (λ (b : Bool). length (if among first sets then once else first ∷ once) + (if b || among new sets then 0 else 1)) (same_back first new)
+    ∙ step first once more (list_any (is_same first) sets) (is_same first new) (list_any (is_same new) sets) (λ is. ap (λ (s : List Label). list_any (is_same s) sets) (same_set first new (Equal-from_is_eq (compare_sets first new) is))) (once_more sets new)
+    ∙ ap (λ (b : Bool). length (if list_any (is_same first) sets then once else first ∷ once) + (if b || list_any (is_same new) sets then 0 else 1)) (same_back first new)
 
 count_by : (seen added : Bool) (new old once more : ℕ) → added ≡ not seen → new ≡ old + (if added then 1 else 0) → old ≡ once → more ≡ once + (if seen then 0 else 1) → new ≡ more
 count_by true true new old once more is news olds mores = absurd cc
@@ -71,13 +68,13 @@ or_by false false = refl
 pub none_each : (keys : List (List Label)) → keys ≡ [] → HasEach keys []
 unfolding each_once
 none_each keys none =
-    record { count = ap (length {A = List Label}) none; same = λ set. ap (among set) none }
+    record { count = ap (length {A = List Label}) none; same = λ set. ap (list_any (is_same set)) none }
 
 -- a set with one more
-pub more_each : (old new sets : List (List Label)) (set : List Label) (added : Bool) → HasEach old sets → added ≡ not (among set old) → length new ≡ length old + (if added then 1 else 0) → ((q : List Label) → among q new ≡ cond (is_same set q) true (among q old)) → HasEach new (sets ++ set ∷ [])
+pub more_each : (old new sets : List (List Label)) (set : List Label) (added : Bool) → HasEach old sets → added ≡ not (list_any (is_same set) old) → length new ≡ length old + (if added then 1 else 0) → ((q : List Label) → list_any (is_same q) new ≡ cond (is_same set q) true (list_any (is_same q) old)) → HasEach new (sets ++ set ∷ [])
 more_each old new sets set added has is_new size has_it = record {
-  count = count_by (among set sets) added (length new) (length old) (length (each_once sets)) (length (each_once (sets ++ set ∷ []))) (is_new ∙ ap not (has.same set)) size has.count (once_more sets set);
+  count = count_by (list_any (is_same set) sets) added (length new) (length old) (length (each_once sets)) (length (each_once (sets ++ set ∷ []))) (is_new ∙ ap not (has.same set)) size has.count (once_more sets set);
   same = λ q.
-      has_it q ∙ ap (cond (is_same set q) true) (has.same q) ∙ or_by (is_same set q) (among q sets) ∙ ap (λ b. among q sets || b) (same_back set q)
+      has_it q ∙ ap (cond (is_same set q) true) (has.same q) ∙ or_by (is_same set q) (list_any (is_same q) sets) ∙ ap (λ b. list_any (is_same q) sets || b) (same_back set q)
       ∙ sym (among_more q set sets);
 }

@@ -4,8 +4,8 @@ ghost use Rattle.std.specs.Prelude.{◌≡◌, ◌≢◌, ◌++◌, ◌&&◌, []
 ghost use Rattle.report_lines.specs.Reports.{activity_text};
 ghost use Rattle.script_running.specs.Outcomes.{is_as_asked};
 
-use crate::PhaseReport;
 use crate::report::put_activity;
+use crate::{InTurn, PhaseReport, SeriesWay};
 use list_core::NoMemory;
 use script_core::{Script, Task};
 use script_running::{Broken, Outcome, Report};
@@ -46,15 +46,22 @@ impl Lines {
         }
     }
 
-    /// Adds the lines of one activity.
-    fn tell(&mut self, script: &Script, task: &Task, outcome: &Outcome) -> Result<(), NoMemory>
+    /// Adds the lines of one activity. Those of an answer's series are put in this way.
+    pub fn tell<W: SeriesWay>(
+        &mut self,
+        script: &Script,
+        task: &Task,
+        outcome: &Outcome,
+        way: &W,
+    ) -> Result<(), NoMemory>
+        requires way { W.can_put way.now }
         ensures text { OnOk result
             (self.new.text.items
             ≡ self.old.text.items ++ activity_text script.now task.now.work outcome.now) }
         ensures asked { OnOk result
             (self.new.as_asked ≡ self.old.as_asked && is_as_asked outcome.now) }
     {
-        put_activity(&mut self.text, script, task, outcome)?;
+        put_activity(&mut self.text, script, task, outcome, way)?;
         self.as_asked = self.as_asked && outcome.is_as_asked();
         Ok(())
     }
@@ -66,7 +73,7 @@ impl Report for Lines {
     ghost tells = { AreLinesOf };
 
     fn add(&mut self, script: &Script, task: &Task, outcome: &Outcome) -> Result<(), NoMemory> {
-        self.tell(script, task, outcome)
+        self.tell(script, task, outcome, &InTurn)
     }
 }
 

@@ -1,12 +1,15 @@
-ghost use Rattle.std.specs.Prelude.{◌≡◌, ◌++◌, ◌∷◌, [], codes, length, OnOk};
+ghost use Rattle.std.specs.Prelude.{◌≡◌, ◌++◌, ◌∷◌, ◌*◌, ◌-◌, ◌^◌, [], codes, length, min, OnOk};
 ghost use Rattle.std.specs.List.{flat_map, list_any};
 ghost use Rattle.reading_core.specs.Decimal.{decimal_text, signed_text};
 ghost use Rattle.reading_core.specs.Lines.{newline};
 ghost use Rattle.ulid_core.specs.UlidText.{text_of};
+ghost use Rattle.label_sets.specs.Counts.{sample_count};
+ghost use Rattle.script_fields.specs.Limits.{longest_sample};
 ghost use Rattle.report_lines.specs.CheckLines.{check_line};
 ghost use Rattle.report_lines.specs.Reports.{activity_text, gateway_name, upload_line, sync_line, compact_line, expired_words, clean_line, query_line, query_text, no_answer_words, answer_text, parted_text, counts_text, source_line, named_line, named_lines, named_count, is_part, series_line};
 ghost use Rattle.report_lines.specs.BreachLines.{between, breach_line, breach_text, rule_word};
 
+use crate::SeriesWay;
 use crate::check_outcome::CheckOutcome;
 use breach_finding::{Breach, BreachRule};
 use label_sets::{Series, SeriesList, sample_count};
@@ -20,14 +23,16 @@ use script_running::{
 };
 use ulid_core::{Ulid, UlidList};
 
-/// Appends the lines of one activity, or a part of them where memory runs out.
+/// Appends the lines of one activity, or a part of them where memory runs out. Those of an answer's series are put in this way.
 #[tactic(auto, unfolding(crate::specs::Reports::activity_text))]
-pub fn put_activity(
+pub fn put_activity<W: SeriesWay>(
     out: &mut Vec<u8>,
     script: &Script,
     task: &Task,
     outcome: &Outcome,
+    way: &W,
 ) -> Result<(), NoMemory>
+    requires { W.can_put way.now }
     ensures { OnOk result
         (out.new.items ≡ out.old.items ++ activity_text script.now task.now.work outcome.now) }
 {
@@ -41,7 +46,7 @@ pub fn put_activity(
         }
         (Work::Clean(_), Outcome::Clean(end)) => put_clean(out, end),
         (Work::Query { low, high, .. }, Outcome::Query(end)) => {
-            put_query(out, script, *low, *high, end)
+            put_query(out, script, *low, *high, end, way)
         }
         _ => Ok(()),
     }
@@ -224,13 +229,15 @@ fn between(rule: BreachRule) -> &'static str
     }
 }
 
-fn put_query(
+fn put_query<W: SeriesWay>(
     out: &mut Vec<u8>,
     script: &Script,
     low: i64,
     high: i64,
     end: &QueryOutcome,
+    way: &W,
 ) -> Result<(), NoMemory>
+    requires { W.can_put way.now }
     ensures { OnOk result
         (out.new.items ≡ out.old.items ++ query_line script.now low high end.now) }
 {
@@ -239,19 +246,25 @@ fn put_query(
     put_text(out, " ")?;
     put_signed(out, high)?;
     put_text(out, ": ")?;
-    put_query_end(out, script, end)
+    put_query_end(out, script, end, way)
 }
 
 #[tactic(auto, unfolding(crate::specs::Reports::query_text))]
-fn put_query_end(out: &mut Vec<u8>, script: &Script, end: &QueryOutcome) -> Result<(), NoMemory>
+fn put_query_end<W: SeriesWay>(
+    out: &mut Vec<u8>,
+    script: &Script,
+    end: &QueryOutcome,
+    way: &W,
+) -> Result<(), NoMemory>
+    requires { W.can_put way.now }
     ensures { OnOk result (out.new.items ≡ out.old.items ++ query_text script.now end.now) }
 {
     match end {
         QueryOutcome::Answer(answer, names) => {
             if are_parted(script.partitions.members()) {
-                put_parted(out, script, &answer.series, names)
+                put_parted(out, script, &answer.series, names, way)
             } else {
-                put_answer(out, &answer.series, &answer.sources)
+                put_answer(out, &answer.series, &answer.sources, way)
             }
         }
         QueryOutcome::NoAnswer(gateway, why) => {
@@ -294,28 +307,36 @@ fn is_part(partition: &Partition) -> bool
 
 /// Appends an answer with the sources of all gateways together.
 #[tactic(auto, unfolding(crate::specs::Reports::answer_text))]
-fn put_answer(out: &mut Vec<u8>, series: &SeriesList, sources: &UlidList) -> Result<(), NoMemory>
+fn put_answer<W: SeriesWay>(
+    out: &mut Vec<u8>,
+    series: &SeriesList,
+    sources: &UlidList,
+    way: &W,
+) -> Result<(), NoMemory>
+    requires { W.can_put way.now }
     ensures { OnOk result (out.new.items ≡ out.old.items ++ answer_text series.now sources.now) }
 {
     put_counts(out, series, sources.len() as u64)?;
     put_sources(out, sources.members())?;
-    put_all_series(out, series.members())
+    way.put_all(out, series.members())
 }
 
 /// Appends an answer with the sources of each gateway.
 #[tactic(auto, unfolding(crate::specs::Reports::parted_text))]
-fn put_parted(
+fn put_parted<W: SeriesWay>(
     out: &mut Vec<u8>,
     script: &Script,
     series: &SeriesList,
     names: &NamesList,
+    way: &W,
 ) -> Result<(), NoMemory>
+    requires { W.can_put way.now }
     ensures { OnOk result
         (out.new.items ≡ out.old.items ++ parted_text script.now series.now names.now) }
 {
     put_counts(out, series, named_count(names.members()))?;
     put_all_named(out, script, names.members())?;
-    put_all_series(out, series.members())
+    way.put_all(out, series.members())
 }
 
 /// How many uploads gateways name together.
@@ -402,20 +423,29 @@ fn put_named_source(
     put_text(out, "\n")
 }
 
-/// Appends a line for each series. Room for all samples is made at once, so that a long answer is not copied while it grows. Where there
-/// is none, the text grows as it needs.
-fn put_all_series(out: &mut Vec<u8>, series: &[Series]) -> Result<(), NoMemory>
+/// Appends a line for each series, or a part of the lines where memory runs out. Room for all is made before.
+pub fn put_all_series(out: &mut Vec<u8>, series: &[Series]) -> Result<(), NoMemory>
     ensures { OnOk result (out.new.items ≡ out.old.items ++ flat_map series_line series.now) }
 {
-    let _ = out.reserve(samples_size(series));
+    make_room(out, series);
     for one in series {
         put_series(out, one)?;
     }
     Ok(())
 }
 
+/// Makes room for all samples of these series at once, so that a long answer is not copied while it grows. Where there is none, the text
+/// grows as it needs.
+pub fn make_room(out: &mut Vec<u8>, series: &[Series])
+    ensures { out.new.items ≡ out.old.items }
+{
+    let _ = out.reserve(samples_size(series));
+}
+
 /// How many bytes the samples of these series take at most.
-fn samples_size(series: &[Series]) -> usize {
+fn samples_size(series: &[Series]) -> usize
+    ensures { result ≡ min (sample_count series.now * longest_sample) (2 ^ 64 - 1) }
+{
     (sample_count(series) as usize).saturating_mul(LONGEST_SAMPLE)
 }
 

@@ -8,7 +8,7 @@ ghost use Rattle.report_lines.specs.Tallies.{AddsUp, AreTallied, IsOneMore, amis
 
 use crate::summing::summary_of;
 use crate::sums::{NOTHING, added_by, put_counts};
-use crate::{PhaseReport, Sums, put_activity};
+use crate::{InTurn, PhaseReport, Sums, put_activity};
 use generated_day::QueryCounts;
 use list_core::NoMemory;
 use script_core::{Script, Task};
@@ -126,7 +126,7 @@ fn put_amiss(
     if outcome.is_as_asked() {
         return Ok(());
     }
-    put_activity(out, script, task, outcome)
+    put_activity(out, script, task, outcome, &InTurn)
 }
 
 impl Report for Tally {
