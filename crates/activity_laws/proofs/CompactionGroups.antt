@@ -20,7 +20,7 @@ use Rattle.world_core.specs.declared.entry.Entry.{Entry}
 use Rattle.sync_filters.specs.Filters.{is_consistent, is_covered, is_in_partition, is_unmarked}
 use Rattle.sync_filters.specs.declared.found.Found.{Found}
 use Rattle.meta_fetcher.specs.Sightings.{IsView, Sighting, kept_by, passed_by}
-use Rattle.meta_fetcher.specs.Syncs.{Ascend, Course, IsEnd, SyncRun, Synced}
+use Rattle.meta_fetcher.specs.Syncs.{SightingsAscend, Course, IsEnd, SyncRun, Synced}
 use Rattle.meta_fetcher.specs.Syncs as sync_told
 use Rattle.meta_fetcher.specs.declared.rules.SyncRules.{SyncRules}
 use Rattle.meta_fetcher.specs.declared.sync_end.SyncEnd.TheVariants as fetched
@@ -163,7 +163,7 @@ module _ (rules : SyncRules) (entries : List Entry) (view : View) where
         named = named;
       }
 
-  by_end : (last : Synced) (course : Option Course) → Ascend (last, course) → IsEnd rules (last, course) (fetched.View view) → ((f : Found) → Contains view.kept f → f.meta.ulid ≡ f.ulid) → IsOfPassed view
+  by_end : (last : Synced) (course : Option Course) → SightingsAscend (last, course) → IsEnd rules (last, course) (fetched.View view) → ((f : Found) → Contains view.kept f → f.meta.ulid ≡ f.ulid) → IsOfPassed view
   by_end (sync_told.sighted sightings) (Some course) up (other, is, v) named = by_view course sightings up other (cc (is)) v named
   by_end (sync_told.sighted sightings) None up is named = absurd is
   by_end (sync_told.fault number) course up is named = absurd (cc (is))

@@ -1,10 +1,12 @@
 -- What walks of pages and deletes ask for, where something is known of the entries before and stays so.
 use Rattle.std.proofs.Common.{◌≡◌, ℕ, zero, suc, List, [], ◌∷◌, ◌++◌, length, refl}
 use Rattle.std.specs.Prelude.{nat_le, nat_lt, unwrap_or}
+use Rattle.list_core.specs.Order.{are_in_order_after, comes_after}
+use Rattle.label_sets.specs.Labels.{compare_texts}
 use Rattle.block_keys.specs.declared.key.Key.{Key}
 use Rattle.world_core.specs.Limits.{most_listed}
 use Rattle.world_core.specs.Plans.{Plan, after_delete, deletes, ends}
-use Rattle.world_core.specs.Walks.{WalkEnds, after_page, ascends, last_listed, pages}
+use Rattle.world_core.specs.Walks.{WalkEnds, after_page, last_listed, pages}
 use Rattle.world_core.specs.declared.op.Op.{Op}
 use Rattle.world_core.specs.declared.op.Op.TheVariants.{Delete}
 use Rattle.world_core.specs.declared.reply.Reply.{Reply}
@@ -37,7 +39,7 @@ module _ {E : Type 0} (ways : WalkEnds E) (ask : List ℕ → Op) (limit : ℕ) 
     where
       by : (made : List Entry) → J made → (e : Entry) (r : Reply) → ((names : List (List ℕ)) → AsksFor Is made (pages ways ask limit next more names)) → AsksFor Is made (after_page ways limit listed e.seq r next (pages ways ask limit next more))
       by made j e (reply.Names names) on =
-          chosen (AsksFor Is made) (ascends (last_listed listed) names) _ _
+          chosen (AsksFor Is made) (are_in_order_after (comes_after compare_texts) (last_listed listed) names) _ _
           (λ up. chosen (AsksFor Is made) (nat_lt (length names) limit) _ _ (λ short. then made (listed ++ names) j)
           (λ full. chosen (AsksFor Is made) (nat_le most_listed (length (listed ++ names))) _ _ (λ many. tt) (λ few. on (listed ++ names))))
           (λ down. tt)

@@ -6,11 +6,11 @@ use Rattle.std.proofs.lemmas.Bool.{ltb-true}
 use Rattle.std.proofs.lemmas.List.Elements.{All-from_recursion, Contains-append_left, Contains-push, recursion_from_All}
 use Rattle.list_core.proofs.Membership.{contains_first, contains_later}
 use Rattle.ulid_core.specs.UlidText.{text_of}
+use Rattle.label_sets.specs.Labels.{ComesBefore}
 use Rattle.block_keys.specs.declared.key.Key.TheVariants as key
 use Rattle.block_meta.specs.MetaFields.{MarkFields, MetaFields}
 use Rattle.block_meta.specs.OfBlocks.{block_meta}
 use Rattle.moment_core.specs.declared.moment.Moment.{Moment}
-use Rattle.bucket_core.specs.Pages.{Before}
 use Rattle.world_core.specs.Walks.{last_listed}
 use Rattle.world_core.specs.declared.op.Op.TheVariants as op
 use Rattle.world_core.specs.declared.reply.Reply.{Reply}
@@ -186,8 +186,8 @@ module _ (ulid : ℕ) (small : ulid < 2 ^ 128) where
     missed = λ made sightings u ulids e came. met_missed sightings u ulids (λ same. (came.given).met (came.asks ∙ ap (λ n. op.Get (key.Meta n)) same) came.shows) came.before;
   }
 
-  on_page : (limit : ℕ) (listed names : List (List ℕ)) (page : Entry) → Comes (ShowsBlock ulid) (IsToBeListed listed (text_of ulid)) (page_after limit listed) (reply.Names names) page → Before (unwrap_or (last_listed listed) []) (text_of ulid)
-      → Contains names (text_of ulid) ⊎ ((length names ≡ limit) × All (λ name. Before name (text_of ulid)) names)
+  on_page : (limit : ℕ) (listed names : List (List ℕ)) (page : Entry) → Comes (ShowsBlock ulid) (IsToBeListed listed (text_of ulid)) (page_after limit listed) (reply.Names names) page → ComesBefore (unwrap_or (last_listed listed) []) (text_of ulid)
+      → Contains names (text_of ulid) ⊎ ((length names ≡ limit) × All (λ name. ComesBefore name (text_of ulid)) names)
   on_page limit listed names page came less = (came.given).listed (unwrap_or (last_listed listed) []) limit names came.asks came.shows less
 
   met_pages : (limit : ℕ) → KeptByPages (ShowsBlock ulid) (IsMet ulid) limit (λ made listed. IsToBeListed listed (text_of ulid)) (λ made listed. Contains listed (text_of ulid))

@@ -1,10 +1,10 @@
 -- What a sync saw that gave a view.
 use Rattle.std.specs.Prelude.{◌≡◌, ◌≢◌, ◌⊎◌, ℕ, ◌<◌, ◌^◌, List, ◌∷◌, ◌++◌, All, Contains, Option, Some, None, option_map, length}
 use Rattle.ulid_core.specs.UlidText.{text_of}
+use Rattle.label_sets.specs.Labels.{ComesBefore}
 use Rattle.block_keys.specs.declared.key.Key.TheVariants as key
 use Rattle.block_meta.specs.MetaFields.{MarkFields, fields_of, mark_fields_of}
 use Rattle.block_meta.specs.OfBlocks.{block_mark, block_meta}
-use Rattle.bucket_core.specs.Pages.{Before}
 use Rattle.world_core.specs.declared.op.Op.TheVariants as op
 use Rattle.world_core.specs.declared.reply.Reply.{Reply}
 use Rattle.world_core.specs.declared.reply.Reply.TheVariants as reply
@@ -39,8 +39,8 @@ pub record IsSeen (entries : List Entry) (found : Found) : Type 0 where
 
 -- The entry, if it is a root page, lists the block where it is due; and if it is a read of its meta, it finds one.
 pub record ShowsBlock (ulid : ℕ) (e : Entry) : Type 0 where
-  pub listed : (after : List ℕ) (limit : ℕ) (names : List (List ℕ)) → e.op ≡ op.RootPage after limit → e.reply ≡ reply.Names names → Before after (text_of ulid)
-      → Contains names (text_of ulid) ⊎ ((length names ≡ limit) × All (λ name. Before name (text_of ulid)) names)
+  pub listed : (after : List ℕ) (limit : ℕ) (names : List (List ℕ)) → e.op ≡ op.RootPage after limit → e.reply ≡ reply.Names names → ComesBefore after (text_of ulid)
+      → Contains names (text_of ulid) ⊎ ((length names ≡ limit) × All (λ name. ComesBefore name (text_of ulid)) names)
   pub met : e.op ≡ op.Get (key.Meta ulid) → e.reply ≢ reply.Absent
 
 -- What a sync that gave a view saw: the blocks that it found, of which the view keeps those that pass, and among them each that all

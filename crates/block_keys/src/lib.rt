@@ -7,6 +7,6 @@ mod object;
 mod refusal;
 
 pub use key::{Key, SEGMENT_LIMIT};
-pub use names::six_digits;
+pub use names::{six_digits, text_in_block};
 pub use object::{Object, ObjectList};
 pub use refusal::NotAKey;

@@ -1,10 +1,13 @@
-ghost use Rattle.std.specs.Prelude.{◌≡◌, ◌++◌, ◌+◌, ◌%◌, ◌≤◌, OnOk, codes};
+ghost use Rattle.std.specs.Prelude.{◌≡◌, ◌++◌, ◌+◌, ◌%◌, ◌≤◌, IfOk, OnOk, codes};
+ghost use Rattle.std.specs.String.{string_bytes};
+ghost use Rattle.ulid_core.specs.UlidText.{IsUlidText, text_of};
 ghost use Rattle.block_keys.specs.Keys.{segment_limit};
 ghost use Rattle.block_keys.specs.KeyText.{key_of, key_named, number_of, segment_of, six_digits};
 
 use crate::Key;
 use list_core::NoMemory;
 use reading_core::all_digits;
+use std::alloc::Global;
 use ulid_core::Ulid;
 
 /// Appends `chunks/` and the six digits of a segment's number.
@@ -37,6 +40,18 @@ fn digit_of(number: u32) -> u8
     ensures { result ≡ 48 + number % 10 }
 {
     b'0' + (number % 10) as u8
+}
+
+/// The text under which the block's object with that name stands in a bucket.
+pub fn text_in_block(alloc: Global, ulid: Ulid, name: &str) -> Result<String, NoMemory>
+    ensures value { IfOk result
+        (λ text. string_bytes text ≡ text_of ulid ++ codes "/" ++ name.now) }
+    ensures block { OnOk result (IsUlidText (text_of ulid) ulid) }
+{
+    let mut text = ulid.to_string(alloc)?;
+    text.push_str("/")?;
+    text.push_str(name)?;
+    Ok(text)
 }
 
 #[tactic(auto, unfolding(crate::specs::KeyText::key_of))]

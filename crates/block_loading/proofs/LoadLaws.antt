@@ -23,6 +23,7 @@ use Rattle.block_loading.specs.declared.load_refusal.LoadRefusal.{LoadRefusal}
 use Rattle.block_loading.specs.declared.load_refusal.LoadRefusal.TheVariants.{Refused}
 use Rattle.block_loading.proofs.FileLaws.{RefusesFile, file_found, file_again, file_refused, file_absent, file_large}
 use Rattle.block_loading.proofs.SegmentLaws.{segments_found, segments_again, segments_refused, segments_refuses}
+use Rattle.block_loading.proofs.LoadSteps.{no_meta, no_index, without_meta}
 
 -- ---- refusals as the block's
 
@@ -196,10 +197,6 @@ module _ (told : Contents) (ulid : ℕ) where
 
   -- ---- what is refused
 
-  stops_at_meta : (e : LoadRefusal) → meta_at told ulid ≡ Err e → load_at told ulid ≡ Err e
-  unfolding load_at
-  stops_at_meta e h = rw h refl
-
   stops_at_index : (meta : MetaFields) (e : LoadRefusal) → HasMeta told ulid meta → index_in told ulid ≡ Err e → load_at told ulid ≡ Err e
   unfolding load_at
   stops_at_index meta e has h = rw (meta_again meta has, h) refl
@@ -209,14 +206,6 @@ module _ (told : Contents) (ulid : ℕ) where
   stops_at_segment number e reached h =
       let refused : segments_at told ulid 1 (last_segment reached.indexed) ≡ Err e = segments_refuses told ulid (last_segment reached.indexed) number reached.before e reached.before_are reached.all_before reached.named h in
       rw (meta_again reached.meta reached.meta_is, index_again reached.index reached.indexed reached.index_is, refused) refl
-
-  no_meta : (e : LoadRefusal) → file_at told (Meta ulid) ≡ Err e → meta_at told ulid ≡ Err e
-  unfolding meta_at
-  no_meta e h = rw h refl
-
-  no_index : (e : LoadRefusal) → file_at told (Index ulid) ≡ Err e → index_in told ulid ≡ Err e
-  unfolding index_in
-  no_index e h = rw h refl
 
   bad_meta : (text : List ℕ) (refusal : MetaRefusal) → HasFile told (Meta ulid) text → meta_of_text text ≡ Err refusal → refusal ≢ meta.NoMemory → meta_at told ulid ≡ Err (Refused (BadMeta refusal))
   unfolding meta_at
@@ -228,15 +217,15 @@ module _ (told : Contents) (ulid : ℕ) where
 
   -- a file that is reached and is not read stops the loading
   stops_at : (key : Key) (e : LoadRefusal) → Reaches told ulid key → file_at told key ≡ Err e → load_at told ulid ≡ Err e
-  stops_at (Meta owner) e same h = stops_at_meta e (no_meta e (ap (λ (u : ℕ). file_at told (Meta u)) (sym same) ∙ h))
-  stops_at (Index owner) e (same, (meta, has)) h = stops_at_index meta e has (no_index e (ap (λ (u : ℕ). file_at told (Index u)) (sym same) ∙ h))
+  stops_at (Meta owner) e same h = without_meta told ulid e (no_meta told ulid e (ap (λ (u : ℕ). file_at told (Meta u)) (sym same) ∙ h))
+  stops_at (Index owner) e (same, (meta, has)) h = stops_at_index meta e has (no_index told ulid e (ap (λ (u : ℕ). file_at told (Index u)) (sym same) ∙ h))
   stops_at (Segment owner number) e (same, reached) h = stops_at_segment number e reached (ap (λ (u : ℕ). file_at told (Segment u number)) (sym same) ∙ h)
   stops_at (Mark owner) e never h = absurd never
 
   pub load_refuses : (refusal : CheckRefusal) → RefusesLoad told ulid refusal → load_at told ulid ≡ Err (Refused refusal)
   load_refuses (NoFile key) (reached, none) = stops_at key (Refused (NoFile key)) reached (file_absent told key none)
   load_refuses (TooLarge key) (reached, large) = stops_at key (Refused (TooLarge key)) reached (file_large told key large)
-  load_refuses (BadMeta refusal) (text, is, refused, other) = stops_at_meta (Refused (BadMeta refusal)) (bad_meta text refusal is refused other)
+  load_refuses (BadMeta refusal) (text, is, refused, other) = without_meta told ulid (Refused (BadMeta refusal)) (bad_meta text refusal is refused other)
   load_refuses (BadIndex refusal) (fields, bytes, has, is, refused, other) = stops_at_index fields (Refused (BadIndex refusal)) has (bad_index bytes refusal is refused other)
   load_refuses UlidDiffers never = absurd never
   load_refuses NotLevelOne never = absurd never

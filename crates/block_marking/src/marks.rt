@@ -1,4 +1,5 @@
 ghost use Rattle.std.specs.Prelude.{◌≡◌, ◌+◌, ◌-◌, ◌*◌, ◌^◌, ◌<◌, ℕ, List, length, Option, Some, IsSomeAnd};
+ghost use Rattle.ulid_core.specs.Limits.{ulid_time_limit};
 ghost use Rattle.world_core.specs.Machines.{Falls};
 ghost use Rattle.world_core.specs.Operations.{IsAnswer, entry_of};
 ghost use Rattle.world_core.specs.Plans.{Runs};
@@ -89,7 +90,7 @@ impl Marks {
     /// Asks for the put of the mark of a block that had none at a moment.
     fn put_mark(&mut self, ulid: Ulid, looked: Moment) -> Result<Act<MarksEnd>, NoMemory>
         requires stage { self.old.stage ≡ MarkStage.Looking ulid }
-        requires moment { looked.ms < 2 ^ 48 }
+        requires moment { looked.ms < ulid_time_limit }
         ensures leads { LeadsBy left_of asked_mark (left_at (MarkStage.Putting ulid looked)
             self.old.reason self.old.put self.old.waiting.items) result self.new }
         ensures falls { Falls (2 * length self.old.waiting.items + 2) result (count_of self.new) }

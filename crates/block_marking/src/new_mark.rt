@@ -1,5 +1,6 @@
 //! The texts of new deletion marks.
-ghost use Rattle.std.specs.Prelude.{◌≡◌, ◌<◌, ◌^◌, IfOk};
+ghost use Rattle.std.specs.Prelude.{◌≡◌, ◌<◌, IfOk};
+ghost use Rattle.ulid_core.specs.Limits.{ulid_time_limit};
 ghost use Rattle.block_marking.specs.NewMarks.{new_mark_text};
 
 use block_meta::DeletionMark;
@@ -17,7 +18,7 @@ pub(crate) fn new_mark(
     looked: Moment,
     details: &str,
 ) -> Result<Blob, NoMemory>
-    requires { looked.ms < 2 ^ 48 }
+    requires { looked.ms < ulid_time_limit }
     ensures { IfOk result (λ text. text ≡ new_mark_text ulid looked details.now) }
 {
     let mark = DeletionMark {

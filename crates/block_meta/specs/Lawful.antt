@@ -14,6 +14,10 @@ pub record AreLawfulTimes (min max : ℤ) : Type 0 where
 unfoldable pub are_lawful_times : ℤ → ℤ → Bool
 are_lawful_times min max = int_le (neg_ℤ (pos time_limit)) min && int_lt min max && int_le max (pos time_limit)
 
+-- the least number that is no level
+abbrev pub level_limit : ℕ
+level_limit = 2 ^ 32
+
 -- a mark's second of deletion is below this one
 abbrev pub deletion_limit : ℕ
 deletion_limit = 2 ^ 46

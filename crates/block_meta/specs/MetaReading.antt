@@ -1,6 +1,6 @@
 -- How a meta and a deletion mark are read: their fields in the order in which they are tested, so that the first refused
 -- one decides. Members that have no field here are passed over.
-use Rattle.std.specs.Prelude.{ℕ, ℤ, ◌^◌, nat_lt, pos, List, [], Ok, codes}
+use Rattle.std.specs.Prelude.{ℕ, ℤ, nat_lt, pos, List, [], Ok, codes}
 use Rattle.std.specs.Option.{ok_or}
 use Rattle.reading_core.specs.Reading.{◌>>=◌, ◌>>◌, unless, refused_as}
 use Rattle.serde_json.specs.Data.{Data, Members, no_members, member}
@@ -14,7 +14,7 @@ use Rattle.block_meta.specs.declared.times.Times.{Times}
 use Rattle.block_meta.specs.declared.stats.Stats.{Stats}
 use Rattle.block_meta.specs.declared.compaction.Compaction.{Compaction}
 use Rattle.block_meta.specs.declared.thanos.Thanos.{Thanos}
-use Rattle.block_meta.specs.Lawful.{are_lawful_times, ascending, deletion_limit}
+use Rattle.block_meta.specs.Lawful.{are_lawful_times, ascending, deletion_limit, level_limit}
 use Rattle.block_meta.specs.Members.{Read, object_of, member_of, needed_of, section_of, of_kind, unsigned_of, signed_of, whole_of, text_of, ulid_of, version_of, count_of, list_of, or_absent}
 use Rattle.block_meta.specs.MetaFields.{MetaFields, MarkFields, no_thanos}
 
@@ -44,7 +44,7 @@ stats_of meta = do
 unfoldable pub level_of : Data → Read ℕ
 level_of compaction = do
   level ← needed_of (codes "level") compaction >>= unsigned_of (codes "level")
-  unless (nat_lt level (2 ^ 32)) (WrongKind (codes "level"))
+  unless (nat_lt level level_limit) (WrongKind (codes "level"))
   Ok level
 
 -- ULIDs in any order, each any number of times

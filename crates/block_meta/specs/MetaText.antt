@@ -1,6 +1,6 @@
 -- Which texts are texts of a meta or of a deletion mark, apart from how they are read and written. A text is one JSON object.
 -- A member that is not named here may stand in it too, and a member that is null counts as absent.
-use Rattle.std.specs.Prelude.{◌≡◌, ◌≢◌, ◌⊎◌, ◌↔◌, ◌<◌, ◌^◌, ℕ, ℤ, pos, List, [], ◌∷◌, Some, None, option_map, Contains, codes}
+use Rattle.std.specs.Prelude.{◌≡◌, ◌≢◌, ◌⊎◌, ◌↔◌, ◌<◌, ℕ, ℤ, pos, List, [], ◌∷◌, Some, None, option_map, Contains, codes}
 use Rattle.std.specs.Str.{IsUtf8}
 use Rattle.std.specs.List.Sorted.{IsStrictlyIncreasing}
 use Rattle.ulid_core.specs.UlidText.{IsUlidText}
@@ -11,7 +11,7 @@ use Rattle.serde_json.specs.Read.{read}
 use Rattle.serde_json.specs.Find.{get, get_member, as_i64, as_integer}
 use Rattle.block_meta.specs.declared.parent.Parent.{Parent}
 use Rattle.block_meta.specs.declared.file_size.FileSize.{FileSize}
-use Rattle.block_meta.specs.Lawful.{AreLawfulTimes, deletion_limit}
+use Rattle.block_meta.specs.Lawful.{AreLawfulTimes, deletion_limit, level_limit}
 use Rattle.block_meta.specs.declared.stats.Stats.{Stats}
 use Rattle.block_meta.specs.declared.compaction.Compaction.{Compaction}
 use Rattle.block_meta.specs.declared.thanos.Thanos.{Thanos}
@@ -115,7 +115,7 @@ pub record AreStats (value : Data) (part : Stats) : Type 0 where
 pub record IsCompaction (value : Data) (part : Compaction) : Type 0 where
   pub is_object : IsObject value
   pub level : Has IsUnsigned (codes "level") value part.level
-  pub fits : part.level < 2 ^ 32
+  pub fits : part.level < level_limit
   pub sources : HasOr [] AreSources (codes "sources") value part.sources
   pub parents : HasOr [] (IsList IsParent) (codes "parents") value part.parents
 

@@ -8,7 +8,7 @@ ghost use Rattle.block_meta.specs.MetaValue.{compaction_value};
 ghost use Rattle.block_meta.specs.Lawful.{ascending};
 
 use crate::item::{read_list, write_list};
-use crate::json_values::{missing, needed, section, unsigned, wrong_kind};
+use crate::json_values::{as_unsigned, missing, needed_member, section, wrong_kind};
 use crate::sources::read_sources;
 use crate::{MetaRefusal, ParentList};
 use serde_json::{Map, Value, put};
@@ -53,16 +53,16 @@ impl Compaction {
 fn read_level(alloc: Global, compaction: &Value) -> Result<u32, MetaRefusal>
     ensures { Gives NoMemory (λ level. level) result (level_of (view compaction.now)) }
 {
-    let number = unsigned(alloc, needed(alloc, compaction, "level")?, "level")?;
-    if number < LEVELS {
+    let number = as_unsigned(alloc, needed_member(alloc, compaction, "level")?, "level")?;
+    if number < LEVEL_LIMIT {
         Ok(number as u32)
     } else {
         Err(wrong_kind(alloc, "level"))
     }
 }
 
-/// 2^32
-const LEVELS: u64 = 0x1_0000_0000;
+/// The least number that is no level.
+const LEVEL_LIMIT: u64 = 1 << 32;
 
 /// The member `compaction`. No parents are left out.
 #[tactic(auto, unfolding(crate::specs::MetaValue::compaction_value), using(crate::proofs::Again::compaction_again, crate::proofs::Again::compaction_again_alone))]

@@ -3,7 +3,9 @@ ghost use Rattle.block_meta.specs.Lawful.{deletion_limit};
 
 use crate::MetaRefusal;
 use crate::item::Item;
-use crate::json_values::{VERSION, needed, read_object, ulid, unsigned, version, wrong_kind};
+use crate::json_values::{
+    VERSION, as_unsigned, needed_member, read_object, ulid, version, wrong_kind,
+};
 use crate::sources::write_ulid;
 use crate::thanos::read_text_or_empty;
 use label_sets::Text;
@@ -59,9 +61,9 @@ impl DeletionMark {
     fn of_value(alloc: Global, value: &Value) -> Result<DeletionMark, MetaRefusal>
         ensures { Gives WithoutMemory mark_fields_of result (mark_of (view value.now)) }
     {
-        version(needed(alloc, value, "version")?)?;
+        version(needed_member(alloc, value, "version")?)?;
         Ok(DeletionMark {
-            id: ulid(alloc, needed(alloc, value, "id")?, "id")?,
+            id: ulid(alloc, needed_member(alloc, value, "id")?, "id")?,
             deletion_time: DeletionMark::read_time(alloc, value)?,
             details: read_text_or_empty(alloc, value, "details")?,
         })
@@ -73,9 +75,9 @@ impl DeletionMark {
             (deletion_time_of (view mark.now)) }
         ensures early { IfOk result (λ time. time < deletion_limit) }
     {
-        let time = unsigned(
+        let time = as_unsigned(
             alloc,
-            needed(alloc, mark, "deletion_time")?,
+            needed_member(alloc, mark, "deletion_time")?,
             "deletion_time",
         )?;
         if time < LIMIT {

@@ -2,7 +2,7 @@ ghost use Rattle.std.specs.Prelude.{◌≡◌};
 
 use crate::MetaRefusal;
 use crate::item::Item;
-use crate::json_values::{count, needed, text, wrong_kind};
+use crate::json_values::{count, needed_member, text, wrong_kind};
 use label_sets::Text;
 use list_core::{List, NoMemory, TryCopy};
 use serde_json::{Map, Value, put};
@@ -42,7 +42,7 @@ impl Item for FileSize {
             return Err(wrong_kind(alloc, list));
         }
         Ok(FileSize {
-            path: text(alloc, needed(alloc, value, "rel_path")?, "rel_path")?,
+            path: text(alloc, needed_member(alloc, value, "rel_path")?, "rel_path")?,
             bytes: count(alloc, value, "size_bytes")?,
         })
     }

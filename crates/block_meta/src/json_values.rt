@@ -53,7 +53,7 @@ pub(crate) fn member<'v>(object: &'v Value, name: &str) -> Option<&'v Value>
 
 /// The member of that name, which has to be there.
 #[tactic(auto, unfolding(crate::specs::Members::needed_of))]
-pub(crate) fn needed<'v>(
+pub(crate) fn needed_member<'v>(
     alloc: Global,
     object: &'v Value,
     name: &str,
@@ -98,7 +98,7 @@ pub(crate) fn version(value: &Value) -> Result<(), MetaRefusal>
 }
 
 #[tactic(auto, unfolding(crate::specs::Members::unsigned_of, crate::specs::Members::of_kind))]
-pub(crate) fn unsigned(alloc: Global, value: &Value, name: &str) -> Result<u64, MetaRefusal>
+pub(crate) fn as_unsigned(alloc: Global, value: &Value, name: &str) -> Result<u64, MetaRefusal>
     ensures { Gives NoMemory (λ n. n) result (unsigned_of name.now (view value.now)) }
 {
     match value.as_u64() {
@@ -108,7 +108,7 @@ pub(crate) fn unsigned(alloc: Global, value: &Value, name: &str) -> Result<u64, 
 }
 
 #[tactic(auto, unfolding(crate::specs::Members::signed_of, crate::specs::Members::of_kind))]
-pub(crate) fn signed(alloc: Global, value: &Value, name: &str) -> Result<i64, MetaRefusal>
+pub(crate) fn as_signed(alloc: Global, value: &Value, name: &str) -> Result<i64, MetaRefusal>
     ensures { Gives NoMemory (λ n. n) result (signed_of name.now (view value.now)) }
 {
     match value.as_i64() {
@@ -176,7 +176,7 @@ pub(crate) fn count(alloc: Global, object: &Value, name: &str) -> Result<u64, Me
     ensures { Gives NoMemory (λ n. n) result (count_of name.now (view object.now)) }
 {
     match member(object, name) {
-        Some(value) => unsigned(alloc, value, name),
+        Some(value) => as_unsigned(alloc, value, name),
         None => Ok(0),
     }
 }

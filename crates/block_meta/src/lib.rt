@@ -24,4 +24,4 @@ pub use meta::{Meta, later_end};
 pub use of_blocks::{mark_of, meta_of};
 pub use parent::{Parent, ParentList};
 pub use refusal::MetaRefusal;
-pub use ulid_sets::{add_all, ulids_in};
+pub use ulid_sets::{HasSources, union_of_sources};

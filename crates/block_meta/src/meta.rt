@@ -5,7 +5,7 @@ ghost use Rattle.block_meta.specs.Lawful.{AreLawfulTimes};
 
 use crate::compaction::{Compaction, write_compaction};
 use crate::item::{Item, write_list};
-use crate::json_values::{VERSION, needed, read_object, ulid, version};
+use crate::json_values::{VERSION, needed_member, read_object, ulid, version};
 use crate::sources::write_ulid;
 use crate::stats::{Stats, write_stats};
 use crate::thanos::{Thanos, write_downsample, write_labels};
@@ -82,8 +82,8 @@ impl Meta {
     fn of_value(alloc: Global, value: &Value) -> Result<Meta, MetaRefusal>
         ensures { Gives WithoutMemory fields_of result (meta_of (view value.now)) }
     {
-        version(needed(alloc, value, "version")?)?;
-        let ulid = ulid(alloc, needed(alloc, value, "ulid")?, "ulid")?;
+        version(needed_member(alloc, value, "version")?)?;
+        let ulid = ulid(alloc, needed_member(alloc, value, "ulid")?, "ulid")?;
         let times = Times::read(alloc, value)?;
         let stats = Stats::read(alloc, value)?;
         let compaction = Compaction::read(alloc, value)?;

@@ -2,7 +2,7 @@ ghost use Rattle.std.specs.Prelude.{◌≡◌};
 
 use crate::MetaRefusal;
 use crate::item::Item;
-use crate::json_values::{needed, signed, ulid, wrong_kind};
+use crate::json_values::{as_signed, needed_member, ulid, wrong_kind};
 use crate::sources::write_ulid;
 use list_core::{List, NoMemory, TryCopy};
 use serde_json::{Map, Value, put};
@@ -40,9 +40,9 @@ impl Item for Parent {
             return Err(wrong_kind(alloc, list));
         }
         Ok(Parent {
-            ulid: ulid(alloc, needed(alloc, value, "ulid")?, "ulid")?,
-            min_time: signed(alloc, needed(alloc, value, "minTime")?, "minTime")?,
-            max_time: signed(alloc, needed(alloc, value, "maxTime")?, "maxTime")?,
+            ulid: ulid(alloc, needed_member(alloc, value, "ulid")?, "ulid")?,
+            min_time: as_signed(alloc, needed_member(alloc, value, "minTime")?, "minTime")?,
+            max_time: as_signed(alloc, needed_member(alloc, value, "maxTime")?, "maxTime")?,
         })
     }
 

@@ -10,7 +10,7 @@ ghost use Rattle.block_meta.specs.MetaReading.{thanos_of, thanos_members_of, res
 ghost use Rattle.block_meta.specs.MetaValue.{downsample_value, label_members};
 
 use crate::item::{Item, read_list};
-use crate::json_values::{member, section, signed, text, version, wrong_kind};
+use crate::json_values::{as_signed, member, section, text, version, wrong_kind};
 use crate::{FileSizeList, MetaRefusal};
 use label_sets::{Label, LabelRefusal, LabelSet, Text, TextList};
 use serde_json::{Map, Value, put};
@@ -99,7 +99,7 @@ fn read_resolution(alloc: Global, thanos: &Value) -> Result<i64, MetaRefusal>
         return Ok(0);
     };
     match member(downsample, "resolution") {
-        Some(value) => signed(alloc, value, "resolution"),
+        Some(value) => as_signed(alloc, value, "resolution"),
         None => Ok(0),
     }
 }

@@ -7,7 +7,7 @@ ghost use Rattle.block_meta.specs.Lawful.{AreLawfulTimes, are_lawful_times};
 ghost use Rattle.block_meta.specs.MetaReading.{times_of};
 
 use crate::MetaRefusal;
-use crate::json_values::{needed, whole};
+use crate::json_values::{needed_member, whole};
 use label_sets::TIME_LIMIT;
 use serde_json::Value;
 use std::alloc::Global;
@@ -28,12 +28,12 @@ impl Times {
         ensures gives { Gives NoMemory (λ times. times) result (times_of (view meta.now)) }
         ensures lawful { IfOk result (λ times. AreLawfulTimes times.min times.max) }
     {
-        let min = whole(alloc, needed(alloc, meta, "minTime")?, "minTime")?;
-        let max = whole(alloc, needed(alloc, meta, "maxTime")?, "maxTime")?;
+        let min = whole(alloc, needed_member(alloc, meta, "minTime")?, "minTime")?;
+        let max = whole(alloc, needed_member(alloc, meta, "maxTime")?, "maxTime")?;
         if are_lawful(min, max) {
             Ok(Times {
-                min: narrow(min),
-                max: narrow(max),
+                min: narrow_time(min),
+                max: narrow_time(max),
             })
         } else {
             Err(MetaRefusal::BadTimes)
@@ -41,7 +41,7 @@ impl Times {
     }
 }
 
-fn narrow(time: i128) -> i64
+fn narrow_time(time: i128) -> i64
     requires low { neg_ℤ (pos time_limit) ≤ℤ time }
     requires high { time ≤ℤ pos time_limit }
     ensures { result ≡ time }

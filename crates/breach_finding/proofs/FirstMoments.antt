@@ -1,9 +1,10 @@
 -- When the first entry of each seat was made.
-use Rattle.std.proofs.Common.{◌≡◌, inl, inr, ℕ, ◌==◌, Bool, true, false, cond, List, [], ◌∷◌, ◌++◌, Some, refl, sym, ◌∙◌, ap, subst}
+use Rattle.std.proofs.Common.{◌≡◌, inl, inr, ℕ, true, false, cond, List, [], ◌∷◌, ◌++◌, Some, refl, sym, ◌∙◌, ap, subst}
 use Rattle.std.specs.Prelude.{is_some}
 use Rattle.std.specs.BTreeMap.{get}
 use Rattle.std.specs.Ordering.{is_eq, nat_cmp}
-use Rattle.std.proofs.lemmas.Bool.{cases_Bool, eqb-true}
+use Rattle.std.proofs.lemmas.Bool.{cases_Bool}
+use Rattle.std.specs.Cmp.{unsigned_ties}
 use Rattle.world_core.specs.declared.entry.Entry.{Entry}
 use Rattle.world_core.specs.Journals.{of_seat}
 use Rattle.breach_finding.specs.Tables.{Numbers}
@@ -22,13 +23,9 @@ first_is [] e none = refl
 first_is (x ∷ own) e none = cc (none)
 
 module _ (front : List Entry) (e : Entry) where
-  not_same : (seat : ℕ) → is_eq (nat_cmp e.seat seat) ≡ false → (b : Bool) → (e.seat == seat) ≡ b → (e.seat == seat) ≡ false
-  not_same seat other true same = cc (other, num_itself e.seat seat (eqb-true e.seat seat same))
-  not_same seat other false is = is
-
   -- at another seat nothing changes
   elsewhere : (seat : ℕ) → is_eq (nat_cmp e.seat seat) ≡ false → moment_of_first (of_seat seat (front ++ e ∷ [])) ≡ moment_of_first (of_seat seat front)
-  elsewhere seat other = ap moment_of_first (other_more front e seat (not_same seat other (e.seat == seat) refl))
+  elsewhere seat other = ap moment_of_first (other_more front e seat (unsigned_ties e.seat seat ∙ other))
 
   module _ (old : Numbers) (known : (seat : ℕ) → get nat_cmp old seat ≡ moment_of_first (of_seat seat front)) where
     -- the seat has a first entry already

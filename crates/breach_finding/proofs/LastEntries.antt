@@ -1,13 +1,14 @@
 -- Which entry of a seat is its last one.
 use Rattle.list_core.proofs.Membership.{contains_first, contains_later}
 use Rattle.list_core.proofs.Bools.{same-from_is_eq}
-use Rattle.std.proofs.Common.{◌≡◌, ◌≢◌, inl, inr, ℕ, ◌<◌, ◌≤◌, ◌==◌, Bool, true, false, cond, List, [], ◌∷◌, ◌++◌, Contains, Option, Some, None, refl, sym, ◌∙◌, ap, subst, arith}
+use Rattle.std.proofs.Common.{◌≡◌, ◌≢◌, inl, inr, ℕ, ◌<◌, ◌≤◌, ◌==◌, cond, List, [], ◌∷◌, ◌++◌, Contains, Option, Some, None, refl, sym, ◌∙◌, ap, subst, arith}
 use Rattle.std.specs.Prelude.{option_map}
 use Rattle.std.specs.BTreeMap.{get}
 use Rattle.std.specs.List.{last_or}
 use Rattle.std.specs.Ordering.{is_eq, nat_cmp}
-use Rattle.std.proofs.lemmas.Bool.{cases_Bool, eqb-true, eq-eqb}
+use Rattle.std.proofs.lemmas.Bool.{cases_Bool, eq-eqb}
 use Rattle.std.proofs.lemmas.List.Elements.{All-contains}
+use Rattle.std.specs.Cmp.{unsigned_ties}
 use Rattle.world_core.specs.declared.entry.Entry.{Entry}
 use Rattle.world_core.specs.Journals.{of_seat}
 use Rattle.lifecycle_core.proofs.journals.Positions.{filtered}
@@ -31,16 +32,12 @@ module _ (old new : Numbers) (front : List Entry) (e : Entry) (updates : (q : �
       updates e.seat ∙ ap (λ b. cond b (Some e.seq) (get nat_cmp old e.seat)) (num_itself e.seat e.seat refl)
       ∙ sym (ap number_of_last (seat_more front e) ∙ ap (option_map (λ (x : Entry). x.seq)) (last_added (of_seat e.seat front) e None))
 
-  not_same : (seat : ℕ) → is_eq (nat_cmp e.seat seat) ≡ false → (b : Bool) → (e.seat == seat) ≡ b → (e.seat == seat) ≡ false
-  not_same seat other true same = cc (other, num_itself e.seat seat (eqb-true e.seat seat same))
-  not_same seat other false is = is
-
   pub last_more : (seat : ℕ) → get nat_cmp new seat ≡ number_of_last (of_seat seat (front ++ e ∷ []))
   last_more seat = elim (cases_Bool (is_eq (nat_cmp e.seat seat))) [
     | inl same ↦ subst (λ (n : ℕ). get nat_cmp new n ≡ number_of_last (of_seat n (front ++ e ∷ []))) (same-from_is_eq e.seat seat same) own_last
     | inr other ↦
         updates seat ∙ ap (λ b. cond b (Some e.seq) (get nat_cmp old seat)) other ∙ known seat
-        ∙ sym (ap number_of_last (other_more front e seat (not_same seat other (e.seat == seat) refl)))
+        ∙ sym (ap number_of_last (other_more front e seat (unsigned_ties e.seat seat ∙ other)))
   ]
 
 -- ---- whether an entry is the last

@@ -1,13 +1,15 @@
 -- A sync that is told of no meta of a block goes on as it would, and gives a view where it would.
 use Rattle.std.proofs.Common.{◌≡◌, inl, inr, ℕ, zero, suc, Bool, true, false, cond, List, [], ◌∷◌, ◌++◌, length, Option, Some, None, refl, sym, ap, subst}
 use Rattle.std.specs.Prelude.{is_some, map, nat_le, nat_lt, unwrap_or}
+use Rattle.list_core.specs.Order.{are_in_order_after, comes_after}
+use Rattle.label_sets.specs.Labels.{compare_texts}
 use Rattle.block_keys.specs.declared.key.Key.TheVariants as key
 use Rattle.block_meta.specs.MetaFields.{MarkFields, MetaFields}
 use Rattle.block_meta.specs.OfBlocks.{block_mark, block_meta}
 use Rattle.moment_core.specs.declared.moment.Moment.{Moment}
 use Rattle.world_core.specs.Limits.{most_listed}
 use Rattle.world_core.specs.Plans.{Plan, Runs, after_get, asks, choose, ends, never, noting}
-use Rattle.world_core.specs.Walks.{after_page, ascends, last_listed, ulids_in}
+use Rattle.world_core.specs.Walks.{after_page, last_listed, ulids_in}
 use Rattle.world_core.specs.declared.entry.Entry.{Entry}
 use Rattle.world_core.specs.declared.op.Op.{Op}
 use Rattle.world_core.specs.declared.op.Op.TheVariants as op
@@ -159,7 +161,7 @@ follows_page limit listed seq given shown next more same nexts mores = subst (λ
   where
     by : (r : Reply) → Same (after_page walk_ends limit listed seq r next more)
     by (reply.Names names) =
-        follows_choose (ascends (last_listed listed) names) _ _ _ _
+        follows_choose (are_in_order_after (comes_after compare_texts) (last_listed listed) names) _ _ _ _
         (follows_choose (nat_lt (length names) limit) _ _ _ _ (nexts (listed ++ names)) (follows_choose (nat_le most_listed (length (listed ++ names))) _ _ _ _ (follows_end too_many too_many tt) (mores (listed ++ names))))
         (follows_end (damaged seq) (damaged seq) refl)
     by (reply.Failed landed) = failing seq

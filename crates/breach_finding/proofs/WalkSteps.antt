@@ -1,9 +1,10 @@
 -- A walk goes on with an entry that is kept.
-use Rattle.std.proofs.Common.{◌≡◌, inl, inr, ℕ, ◌≤◌, ◌==◌, Bool, true, false, cond, List, [], ◌∷◌, ◌++◌, Option, refl, sym, ◌∙◌, ap, subst, append-nil}
+use Rattle.std.proofs.Common.{◌≡◌, inl, inr, ℕ, ◌≤◌, ◌==◌, false, cond, List, [], ◌∷◌, ◌++◌, Option, refl, sym, ◌∙◌, ap, subst, append-nil}
 use Rattle.std.specs.BTreeMap.{get}
 use Rattle.std.specs.Ordering.{is_eq, nat_cmp}
 use Rattle.std.proofs.lemmas.Bool.{cases_Bool, eqb-true, eq-eqb}
 use Rattle.std.proofs.lemmas.List.Elements.{filter-append}
+use Rattle.std.specs.Cmp.{unsigned_ties}
 use Rattle.list_core.proofs.Lists.{filter_hit, filter_miss}
 use Rattle.list_core.proofs.Bools.{same-from_is_eq}
 use Rattle.world_core.specs.Journals.{Each, of_seat}
@@ -77,16 +78,12 @@ module _ (setting : Setting) (before : List Entry) (e : Entry) (old new : UnderW
         (subst (λ (es : List Entry). IsWatched (sync_rules setting gateway) es (get nat_cmp new e.seat)) (sym (seat_more before e))
         (subst (IsWatched (sync_rules setting gateway) (of_seat e.seat before ++ e ∷ [])) (sym here) stepped.0))
 
-    apart : (seat : ℕ) → is_eq (nat_cmp e.seat seat) ≡ false → (b : Bool) → (e.seat == seat) ≡ b → (e.seat == seat) ≡ false
-    apart seat other true same = cc (other, num_itself e.seat seat (eqb-true e.seat seat same))
-    apart seat other false is = is
-
     pub watched_on : AreWatched (before ++ e ∷ []) new
     watched_on other seat sits' = elim (cases_Bool (is_eq (nat_cmp e.seat seat))) [
       | inl same ↦ (let own : e.seat ≡ seat = same-from_is_eq e.seat seat same in
           subst (λ (n : ℕ). IsWatched (sync_rules setting other) (of_seat n (before ++ e ∷ [])) (get nat_cmp new n)) own (at_own other (subst (IsSeatOf setting other) (sym own) sits')))
       | inr differs ↦ (let past : get nat_cmp new seat ≡ get nat_cmp old seat = w.seats seat ∙ ap (λ b. cond b w.turn.under (get nat_cmp old seat)) differs in
-          subst (λ (es : List Entry). IsWatched (sync_rules setting other) es (get nat_cmp new seat)) (sym (other_more before e seat (apart seat differs (e.seat == seat) refl)))
+          subst (λ (es : List Entry). IsWatched (sync_rules setting other) es (get nat_cmp new seat)) (sym (other_more before e seat (unsigned_ties e.seat seat ∙ differs)))
           (subst (IsWatched (sync_rules setting other) (of_seat seat before)) (sym past) (watched other seat sits')))
     ]
 

@@ -1,6 +1,7 @@
-ghost use Rattle.std.specs.Prelude.{◌≡◌, ◌↔◌, ◌+◌, ◌≤◌, ◌<◌, ◌^◌, ℕ, List, Some, None, IfOk, IsTrue, OnOk, slice_get};
+ghost use Rattle.std.specs.Prelude.{◌≡◌, ◌↔◌, ◌+◌, ◌≤◌, ◌<◌, ℕ, List, Some, None, IfOk, IsTrue, OnOk, slice_get};
 ghost use Rattle.std.specs.BTreeMap.{get};
 ghost use Rattle.std.specs.Ordering.{is_eq, nat_cmp};
+ghost use Rattle.ulid_core.specs.Limits.{ulid_time_limit};
 ghost use Rattle.bucket_core.specs.Contents.{Contents};
 ghost use Rattle.world_core.specs.Operations.{IsLawful, IsReplyTo};
 ghost use Rattle.world_core.specs.Standing.{left_by, stands};
@@ -18,7 +19,7 @@ ghost use Rattle.breach_finding.specs.Watching.{IsWaiting};
 
 use crate::found::{BreachRule, Refusal};
 use crate::lies::lie;
-use crate::puts::{landed, mark_breach, upload_breach};
+use crate::puts::{has_landed, mark_breach, upload_breach};
 use crate::times::{lateness, reads_samples, sync_lateness};
 use crate::watching::{Came, Told, UnderWay, take_turn};
 use list_core::NoMemory;
@@ -102,7 +103,7 @@ fn watch(
 ) -> Result<Option<Told>, NoMemory>
     requires limit { 1 ≤ rules.page_limit }
     requires kind { IsReplyTo entry.now.op entry.now.reply }
-    requires small { entry.now.moment.ms < 2 ^ 48 }
+    requires small { entry.now.moment.ms < ulid_time_limit }
     requires waits { (seat : ℕ) → IsWaiting (get nat_cmp unders.old seat) }
     ensures { IfOk result (IsWatchTurn rules unders.old unders.new entry.now) }
 {
@@ -132,7 +133,7 @@ fn keep_under(
 }
 
 /// When the sync began that gave a view with an entry.
-fn given(told: Option<Told>) -> Option<u64>
+fn begin_of_view(told: Option<Told>) -> Option<u64>
     ensures { result ≡ given_by told }
 {
     let told = told?;
@@ -153,7 +154,7 @@ fn keep_view(
         ≡ gateway_or (given_by told) (is_eq (nat_cmp gateway other))
         (get nat_cmp views.old other)) }
 {
-    if let Some(begin) = given(told) {
+    if let Some(begin) = begin_of_view(told) {
         views.insert(gateway, begin)?;
     }
     Ok(())
@@ -176,7 +177,7 @@ fn staleness(
     entry: &Entry,
     rules: &Rules,
 ) -> Option<(u64, u64)>
-    requires small { entry.now.moment.ms < 2 ^ 48 }
+    requires small { entry.now.moment.ms < ulid_time_limit }
     requires span { rules.now.ignore.ms ≤ longest_span }
     ensures read { ReadsSamples entry.now → IsViewAnswer (get nat_cmp views.now gateway)
         (entry.now.moment.ms + rules.now.ignore.ms) rules.now.delete.ms result }
@@ -211,7 +212,7 @@ pub(crate) fn late_refusal(
 ) -> Result<Option<Refusal>, NoMemory>
     requires lawful { AreLawfulRules script.now.rules }
     requires kind { IsReplyTo entry.now.op entry.now.reply }
-    requires small { entry.now.moment.ms < 2 ^ 48 }
+    requires small { entry.now.moment.ms < ulid_time_limit }
     requires waits { (seat : ℕ) → IsWaiting (get nat_cmp unders.old seat) }
     ensures { IfOk result (IsLateTold script.now lasts.now unders.old unders.new views.old views.new
         gateway entry.now) }
@@ -234,7 +235,7 @@ pub(crate) fn stand(standing: &mut Standing, entry: &Entry, place: usize) -> Res
         → slice_get entries place ≡ Some entry.now → IsStanding entries standing.old contents
         → IsStanding entries standing.new (left_by entry.now.op entry.now.reply contents)) }
 {
-    if !landed(&entry.reply) {
+    if !has_landed(&entry.reply) {
         return Ok(());
     }
     match &entry.op {

@@ -15,6 +15,7 @@ use list_core::NoMemory;
 use standing_objects::Standing;
 use std::alloc::Global;
 use ulid_core::Ulid;
+use wire_bytes::range_in;
 use world_core::{Entry, Op, Reply};
 
 /// The letter with which the text of a found object begins, that of an absent one, and that of names.
@@ -74,23 +75,13 @@ pub(crate) fn names_lie(
     }
 }
 
-/// A part of an object's bytes: from a place on, at most so many.
-fn part_of(bytes: &[u8], from: u64, len: u64) -> &[u8]
-    ensures { result.now ≡ range_of from len bytes.now }
-{
-    let start = (from as usize).min(bytes.len());
-    let rest = &bytes[start..];
-    let count = (len as usize).min(rest.len());
-    &rest[..count]
-}
-
 /// How a reply differs from what is owed of a part of an object.
 fn part_lie(reply: &Reply, owed: Option<&[u8]>, from: u64, len: u64) -> Option<(u64, u64)>
     ensures { IsShownWrong (shown_by reply.now)
         (object_text (option_map (range_of from len) (option_copied owed.entry))) result }
 {
     match owed {
-        Some(bytes) => found_lie(reply, part_of(bytes, from, len)),
+        Some(bytes) => found_lie(reply, range_in(bytes, from, len)),
         None => absent_lie(reply),
     }
 }

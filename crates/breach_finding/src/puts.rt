@@ -108,7 +108,7 @@ fn late_mark(
 }
 
 /// Whether a put or a delete took effect.
-pub(crate) fn landed(reply: &Reply) -> bool
+pub(crate) fn has_landed(reply: &Reply) -> bool
     ensures { result ≡ has_landed reply.now }
 {
     match reply {
@@ -120,7 +120,7 @@ pub(crate) fn landed(reply: &Reply) -> bool
 }
 
 /// The block of a mark's key, if it is one.
-fn marked(key: &Key) -> Option<Ulid>
+fn marked_block(key: &Key) -> Option<Ulid>
     ensures mark { IfSome result (λ ulid. key.now ≡ Key.Mark ulid) }
     ensures none { result ≡ None → (ulid : ℕ) → key.now ≢ Key.Mark ulid }
 {
@@ -144,7 +144,7 @@ pub(crate) fn mark_breach(
 {
     match &entry.op {
         Op::Put(key, bytes) => {
-            if marked(key).is_none() || !landed(&entry.reply) {
+            if marked_block(key).is_none() || !has_landed(&entry.reply) {
                 return Ok(None);
             }
             late_mark(alloc, bytes.bytes(), entry.moment.ms, rules.ignore.ms)

@@ -1,7 +1,8 @@
-ghost use Rattle.std.specs.Prelude.{◌≡◌, ◌↔◌, ◌/◌, ◌<◌, ◌^◌, IsTrue, Some};
+ghost use Rattle.std.specs.Prelude.{◌≡◌, ◌↔◌, ◌/◌, ◌<◌, IsTrue, Some};
 ghost use Rattle.std.specs.BTreeMap.{get};
 ghost use Rattle.std.specs.BTreeSet.{contains};
 ghost use Rattle.std.specs.Ordering.{nat_cmp};
+ghost use Rattle.ulid_core.specs.Limits.{ulid_time_limit};
 ghost use Rattle.block_keys.specs.declared.key.Key.{Key};
 ghost use Rattle.lifecycle_core.specs.Breaches.{HoldsSamples, IsReading, read_key};
 ghost use Rattle.breach_finding.specs.Asked.{IsSyncAnswer, is_whole};
@@ -32,7 +33,7 @@ pub(crate) fn sync_lateness(
     moment: u64,
     span: u64,
 ) -> Option<(u64, u64)>
-    requires { moment < 2 ^ 48 }
+    requires { moment < ulid_time_limit }
     ensures { IsSyncAnswer told last moment span result }
 {
     let told = told?;

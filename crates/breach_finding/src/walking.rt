@@ -1,6 +1,7 @@
-ghost use Rattle.std.specs.Prelude.{◌≡◌, ◌<◌, ◌^◌, ℕ, List, length, Option, Some, IfOk, slice_get};
+ghost use Rattle.std.specs.Prelude.{◌≡◌, ◌<◌, ℕ, List, length, Option, Some, IfOk, slice_get};
 ghost use Rattle.std.specs.BTreeMap.{get};
 ghost use Rattle.std.specs.Ordering.{nat_cmp};
+ghost use Rattle.ulid_core.specs.Limits.{ulid_time_limit};
 ghost use Rattle.world_core.specs.Operations.{IsLawful, IsReplyTo};
 ghost use Rattle.world_core.specs.Worlds.{IsJournal, IsOfBytes};
 ghost use Rattle.script_core.specs.Lawful.{AreLawfulRules, IsLawfulScript};
@@ -58,7 +59,7 @@ fn entry_refusal(
     requires rules { AreLawfulRules script.now.rules }
     requires lawful { IsLawful entry.now.op }
     requires kind { IsReplyTo entry.now.op entry.now.reply }
-    requires small { entry.now.moment.ms < 2 ^ 48 }
+    requires small { entry.now.moment.ms < ulid_time_limit }
     requires waits { (seat : ℕ) → IsWaiting (get nat_cmp unders.old seat) }
     ensures { IfOk result (IsEntryTold script.now journal.now standing.now tables.now
         unders.old unders.new views.old views.new entry.now) }
@@ -83,7 +84,7 @@ fn watched_refusal(
 ) -> Result<Option<Refusal>, NoMemory>
     requires rules { AreLawfulRules script.now.rules }
     requires kind { IsReplyTo entry.now.op entry.now.reply }
-    requires small { entry.now.moment.ms < 2 ^ 48 }
+    requires small { entry.now.moment.ms < ulid_time_limit }
     requires waits { (seat : ℕ) → IsWaiting (get nat_cmp unders.old seat) }
     ensures { IfOk result (IsWatchedTold script.now tables.now
         unders.old unders.new views.old views.new entry.now) }

@@ -1,4 +1,5 @@
-ghost use Rattle.std.specs.Prelude.{◌≡◌, ◌↔◌, ◌≤◌, ◌<◌, ◌^◌, ℕ, List, [], ◌∷◌, Some, Ok, IfOk, IsTrue};
+ghost use Rattle.std.specs.Prelude.{◌≡◌, ◌↔◌, ◌≤◌, ◌<◌, ℕ, List, [], ◌∷◌, Some, Ok, IfOk, IsTrue};
+ghost use Rattle.ulid_core.specs.Limits.{ulid_time_limit};
 ghost use Rattle.world_core.specs.Machines.{GoesOn};
 ghost use Rattle.world_core.specs.Operations.{IsReplyTo};
 ghost use Rattle.world_core.specs.declared.entry.Entry.{Entry};
@@ -93,7 +94,7 @@ fn came_to(end: &SyncEnd) -> Came
 }
 
 /// A sync before its first entry.
-fn opened(alloc: Global, rules: SyncRules, begin: u64) -> Result<UnderWay, NoMemory>
+fn opened_sync(alloc: Global, rules: SyncRules, begin: u64) -> Result<UnderWay, NoMemory>
     requires { 1 ≤ rules.page_limit }
     ensures at { IfOk result (λ w. IsAt rules [] w.machine w.asks) }
     ensures asks { IfOk result (λ w. w.asks ≡ op.RootPage [] rules.page_limit) }
@@ -138,10 +139,10 @@ fn passed_on(alloc: Global, done: &Op, reply: &Reply) -> Result<Reply, NoMemory>
 }
 
 /// What a sync comes to with the entry that it waits for.
-fn answered(alloc: Global, machine: &mut Sync, e: &Entry) -> Result<Act<SyncEnd>, NoMemory>
+fn act_with_entry(alloc: Global, machine: &mut Sync, e: &Entry) -> Result<Act<SyncEnd>, NoMemory>
     requires waits { ⟦<Sync as Machine>⟧.asked machine.old ≡ Some e.now.op }
     requires kind { IsReplyTo e.now.op e.now.reply }
-    requires small { e.now.moment.ms < 2 ^ 48 }
+    requires small { e.now.moment.ms < ulid_time_limit }
     ensures { IfOk result (λ act.
         GoesOn ⟦<Sync as Machine>⟧.may ⟦<Sync as Machine>⟧.asked machine.old
         (as_passed e.now ∷ []) (Ok act) machine.new) }
@@ -158,7 +159,7 @@ fn answered(alloc: Global, machine: &mut Sync, e: &Entry) -> Result<Act<SyncEnd>
 fn goes_on(alloc: Global, w: UnderWay, e: &Entry) -> Result<Turn, NoMemory>
     requires waits { ⟦<Sync as Machine>⟧.asked w.machine ≡ Some e.now.op }
     requires kind { IsReplyTo e.now.op e.now.reply }
-    requires small { e.now.moment.ms < 2 ^ 48 }
+    requires small { e.now.moment.ms < ulid_time_limit }
     ensures went { IfOk result (λ turn. (rules : SyncRules) (made : List Entry)
         → IsAt rules made w.machine w.asks → Went rules made e.now w.begin turn) }
     ensures waits { IfOk result (λ turn. IsWaiting turn.under) }
@@ -168,7 +169,7 @@ fn goes_on(alloc: Global, w: UnderWay, e: &Entry) -> Result<Turn, NoMemory>
         asks: _,
         begin,
     } = w;
-    let Ok(act) = answered(alloc, &mut machine, e) else {
+    let Ok(act) = act_with_entry(alloc, &mut machine, e) else {
         drop(machine);
         return Err(NoMemory);
     };
@@ -200,7 +201,7 @@ fn goes_on(alloc: Global, w: UnderWay, e: &Entry) -> Result<Turn, NoMemory>
 fn begins(alloc: Global, rules: SyncRules, e: &Entry) -> Result<Turn, NoMemory>
     requires limit { 1 ≤ rules.page_limit }
     requires kind { IsReplyTo e.now.op e.now.reply }
-    requires small { e.now.moment.ms < 2 ^ 48 }
+    requires small { e.now.moment.ms < ulid_time_limit }
     ensures turn { IfOk result (Begins rules e.now) }
     ensures waits { IfOk result (λ turn. IsWaiting turn.under) }
 {
@@ -210,7 +211,7 @@ fn begins(alloc: Global, rules: SyncRules, e: &Entry) -> Result<Turn, NoMemory>
             told: None,
         });
     }
-    let w = opened(alloc, rules, e.moment.ms)?;
+    let w = opened_sync(alloc, rules, e.moment.ms)?;
     goes_on(alloc, w, e)
 }
 
@@ -223,7 +224,7 @@ pub(crate) fn take_turn(
 ) -> Result<Turn, NoMemory>
     requires limit { 1 ≤ rules.page_limit }
     requires kind { IsReplyTo e.now.op e.now.reply }
-    requires small { e.now.moment.ms < 2 ^ 48 }
+    requires small { e.now.moment.ms < ulid_time_limit }
     requires waits { IsWaiting under }
     ensures turn { IfOk result (IsTurn rules under e.now) }
     ensures waits { IfOk result (λ turn. IsWaiting turn.under) }

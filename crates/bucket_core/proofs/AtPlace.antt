@@ -9,14 +9,14 @@ use Rattle.std.proofs.Math.Seq.{drop-cons}
 use Rattle.list_core.proofs.Bools.{bytes_eq-itself, bytes_eq-same}
 use Rattle.bucket_core.specs.Contents.{is_key}
 use Rattle.bucket_core.specs.declared.stored.Stored.{Stored}
-use Rattle.bucket_core.specs.Stored.{is_before, in_order, have_keys, object_in, updated, IsPlace, IsUpdated, StandsAt}
-use Rattle.bucket_core.proofs.Edits.{replaced_behind, inserted_behind, removed_behind, in_order-drop, found_behind, nothing_here, after_all, comes_after}
+use Rattle.bucket_core.specs.Stored.{is_before, keys_ascend, have_keys, object_in, updated, IsPlace, IsUpdated, StandsAt}
+use Rattle.bucket_core.proofs.Edits.{replaced_behind, inserted_behind, removed_behind, keys_ascend-drop, found_behind, nothing_here, after_all, comes_after}
 
 -- a list around the element at a place
 around : {X : Type 0} (xs : List X) (i : ℕ) (d : X) → i < length xs → take i xs ++ get_or xs i d ∷ drop (suc i) xs ≡ xs
 around xs i d lt = ap (λ b. take i xs ++ b) (sym (drop-cons _ i d lt)) ∙ take-append-drop i _
 
-pub replaced_at : (key : List ℕ) (objects : List Stored) (place : ℕ) (v : Stored) → in_order objects ≡ true → have_keys objects ≡ true
+pub replaced_at : (key : List ℕ) (objects : List Stored) (place : ℕ) (v : Stored) → keys_ascend objects ≡ true → have_keys objects ≡ true
     → IsPlace key objects place → StandsAt key objects place → v.key ≡ key → IsUpdated key (Some v.bytes) objects (set objects place v)
 replaced_at key objects place v ordered keys at stands vk =
     let o = get_or objects place v in
@@ -26,11 +26,11 @@ replaced_at key objects place v ordered keys at stands vk =
     subst P whole
     (subst Q (sym (set_split _ _ v stands.0))
     (replaced_behind _ _ o v _
-    (ap in_order whole ∙ ordered) (ap have_keys whole ∙ keys)
-    (ap in_order (sym (drop-cons _ _ v stands.0)) ∙ in_order-drop place objects ordered)
+    (ap keys_ascend whole ∙ ordered) (ap have_keys whole ∙ keys)
+    (ap keys_ascend (sym (drop-cons _ _ v stands.0)) ∙ keys_ascend-drop place objects ordered)
     at.front (stands.1 v) vk))
 
-pub removed_at : (key : List ℕ) (objects : List Stored) (place : ℕ) (d : Stored) → in_order objects ≡ true → have_keys objects ≡ true
+pub removed_at : (key : List ℕ) (objects : List Stored) (place : ℕ) (d : Stored) → keys_ascend objects ≡ true → have_keys objects ≡ true
     → IsPlace key objects place → StandsAt key objects place → IsUpdated key None objects (remove objects place)
 removed_at key objects place d ordered keys at stands =
     let o : Stored = get_or objects place d in
@@ -38,8 +38,8 @@ removed_at key objects place d ordered keys at stands =
     let P : List Stored → Type 0 = λ old. IsUpdated key None old (remove objects place) in
     subst P whole
     (removed_behind _ _ o _
-    (ap in_order whole ∙ ordered) (ap have_keys whole ∙ keys)
-    (ap in_order (sym (drop-cons _ _ d stands.0)) ∙ in_order-drop place objects ordered)
+    (ap keys_ascend whole ∙ ordered) (ap have_keys whole ∙ keys)
+    (ap keys_ascend (sym (drop-cons _ _ d stands.0)) ∙ keys_ascend-drop place objects ordered)
     at.front (stands.1 d))
 
 -- what is first behind a place is not under the key, where none stands at the place
@@ -54,37 +54,37 @@ head_fails p (x ∷ xs) zero d lt all = all.0
 head_fails p (x ∷ xs) (suc n) d lt all = head_fails p _ n d (omega arith) all
 
 -- where no object under the key stands at its place, what is behind the place comes after the key
-behind_free : (v : Stored) (objects : List Stored) (place : ℕ) → in_order objects ≡ true → IsPlace v.key objects place
+behind_free : (v : Stored) (objects : List Stored) (place : ℕ) → keys_ascend objects ≡ true → IsPlace v.key objects place
     → (StandsAt v.key objects place → ⊥) → list_all (λ l. is_before l.key v) (drop place objects) ≡ true
 behind_free v objects place ordered at free =
     elim (cases_lt place (length objects)) [
       | inl lt ↦ (let o : Stored = get_or objects place v in
           let here : drop place objects ≡ o ∷ drop (suc place) objects = drop-cons objects _ v lt in
-          let there : in_order (o ∷ drop (suc place) objects) ≡ true = ap in_order (sym here) ∙ in_order-drop place _ ordered in
+          let there : keys_ascend (o ∷ drop (suc place) objects) ≡ true = ap keys_ascend (sym here) ∙ keys_ascend-drop place _ ordered in
           let after = comes_after o _ (head_fails _ _ _ v lt at.back) (first_differs _ _ _ v lt free) in
           ap (λ l. list_all (λ l'. is_before l'.key v) l) here
           ∙ and_from _ _ after (after_all v.key o _ there after))
       | inr past ↦ ap (λ l. list_all (λ l'. is_before l'.key v) l) (drop_all _ _ past)
     ]
 
-pub inserted_at : (v : Stored) (objects : List Stored) (place : ℕ) → in_order objects ≡ true → have_keys objects ≡ true
+pub inserted_at : (v : Stored) (objects : List Stored) (place : ℕ) → keys_ascend objects ≡ true → have_keys objects ≡ true
     → is_key v.key ≡ true → IsPlace v.key objects place → (StandsAt v.key objects place → ⊥)
     → IsUpdated v.key (Some v.bytes) objects (insert objects place v)
 inserted_at v objects place ordered keys key at free =
     let whole : take place objects ++ drop place objects ≡ objects = take-append-drop place objects in
     let P : List Stored → Type 0 = λ old. IsUpdated v.key (Some v.bytes) old (insert objects place v) in
     subst P whole
-    (inserted_behind v (take place objects) (drop place objects) (ap in_order whole ∙ ordered) (ap have_keys whole ∙ keys)
-    (in_order-drop place objects ordered) key at.front (behind_free v _ _ ordered at free))
+    (inserted_behind v (take place objects) (drop place objects) (ap keys_ascend whole ∙ ordered) (ap have_keys whole ∙ keys)
+    (keys_ascend-drop place objects ordered) key at.front (behind_free v _ _ ordered at free))
 
-none_behind : (key : List ℕ) (objects : List Stored) (place : ℕ) → in_order objects ≡ true → IsPlace key objects place
+none_behind : (key : List ℕ) (objects : List Stored) (place : ℕ) → keys_ascend objects ≡ true → IsPlace key objects place
     → (StandsAt key objects place → ⊥) → object_in (drop place objects) key ≡ None
 none_behind key objects place ordered at free =
     elim (cases_lt place (length objects)) [
       | inl lt ↦ (let d : Stored = record { key = key; bytes = [] } in
           let o : Stored = get_or objects place d in
           let here : drop place objects ≡ o ∷ drop (suc place) objects = drop-cons objects place d lt in
-          let there : in_order (o ∷ drop (suc place) objects) ≡ true = ap in_order (sym here) ∙ in_order-drop place _ ordered in
+          let there : keys_ascend (o ∷ drop (suc place) objects) ≡ true = ap keys_ascend (sym here) ∙ keys_ascend-drop place _ ordered in
           ap (λ l. object_in l key) here
           ∙ nothing_here _ o _ there (head_fails _ _ _ d lt at.back) (first_differs _ _ _ d lt free))
       | inr past ↦ ap (λ l. object_in l key) (drop_all _ _ past)
@@ -106,7 +106,7 @@ found_at key objects place d at stands =
     ∙ found_behind _ _ _ at.front
     ∙ ap (λ b. cond b (Some o.bytes) (object_in (drop (suc place) objects) key)) (ap (λ k. bytes_eq k key) (stands.1 d) ∙ bytes_eq-itself key)
 
-pub absent_at : (key : List ℕ) (objects : List Stored) (place : ℕ) → in_order objects ≡ true → IsPlace key objects place
+pub absent_at : (key : List ℕ) (objects : List Stored) (place : ℕ) → keys_ascend objects ≡ true → IsPlace key objects place
     → (StandsAt key objects place → ⊥) → object_in objects key ≡ None
 absent_at key _ _ ordered at free =
     ap (λ l. object_in l key) (sym (take-append-drop _ _))
@@ -114,7 +114,7 @@ absent_at key _ _ ordered at free =
     ∙ none_behind _ _ _ ordered at free
 
 -- an update that changes nothing
-pub untouched : (key : List ℕ) (objects : List Stored) → in_order objects ≡ true → have_keys objects ≡ true → object_in objects key ≡ None
+pub untouched : (key : List ℕ) (objects : List Stored) → keys_ascend objects ≡ true → have_keys objects ≡ true → object_in objects key ≡ None
     → IsUpdated key None objects objects
 untouched key objects ordered keys none = record {
   ordered = ordered;

@@ -12,7 +12,7 @@ use Rattle.std.proofs.lemmas.Slice.Eq.{bytes_eq-Decides}
 use Rattle.list_core.proofs.Bools.{Less-from_is_lt, bytes_eq-same, swap_tests}
 use Rattle.bucket_core.specs.Contents.{is_key}
 use Rattle.bucket_core.specs.declared.stored.Stored.{Stored}
-use Rattle.bucket_core.specs.Stored.{key_cmp, is_before, in_order, have_keys, object_in, updated, IsUpdated}
+use Rattle.bucket_core.specs.Stored.{key_cmp, is_before, keys_ascend, have_keys, object_in, updated, IsUpdated}
 use Rattle.bucket_core.proofs.Places.{key_total, keys_equal}
 
 not_before_itself : (key : List ℕ) → is_lt (key_cmp key key) ≡ false
@@ -75,46 +75,46 @@ none_before key (o ∷ os) all =
     ap (λ b. cond b (Some o.bytes) (object_in os key)) differs ∙ none_before key os parts.1
 
 -- those behind an object that is not before the key come after the key
-pub after_all : (key : List ℕ) (o : Stored) (os : List Stored) → in_order (o ∷ os) ≡ true → is_lt (key_cmp key o.key) ≡ true
+pub after_all : (key : List ℕ) (o : Stored) (os : List Stored) → keys_ascend (o ∷ os) ≡ true → is_lt (key_cmp key o.key) ≡ true
     → list_all (λ l. is_lt (key_cmp key l.key)) os ≡ true
 after_all key o os ordered lt =
     all_since _ _ os
     (λ l before. ap is_lt (key_total.trans key o.key l.key (Less-from_is_lt _ lt) (Less-from_is_lt _ before)))
-    (and_parts (list_all (λ later. is_before later.key o) os) (in_order os) ordered).0
+    (and_parts (list_all (λ later. is_before later.key o) os) (keys_ascend os) ordered).0
 
 -- behind the object under a key nothing else is under it
-pub alone : (key : List ℕ) (o : Stored) (os : List Stored) → in_order (o ∷ os) ≡ true → o.key ≡ key → object_in os key ≡ None
+pub alone : (key : List ℕ) (o : Stored) (os : List Stored) → keys_ascend (o ∷ os) ≡ true → o.key ≡ key → object_in os key ≡ None
 alone key o os ordered same =
     none_before key os
     (subst (λ k. list_all (λ l. is_lt (key_cmp k l.key)) os ≡ true) same
-    (and_parts (list_all (λ later. is_before later.key o) os) (in_order os) ordered).0)
+    (and_parts (list_all (λ later. is_before later.key o) os) (keys_ascend os) ordered).0)
 
 -- nothing is under a key that is not before the first object nor its own
-pub nothing_here : (key : List ℕ) (o : Stored) (os : List Stored) → in_order (o ∷ os) ≡ true → is_before key o ≡ false
+pub nothing_here : (key : List ℕ) (o : Stored) (os : List Stored) → keys_ascend (o ∷ os) ≡ true → is_before key o ≡ false
     → bytes_eq o.key key ≡ false → object_in (o ∷ os) key ≡ None
 nothing_here key o os ordered before differs =
     ap (λ b. cond b (Some o.bytes) (object_in os key)) differs
     ∙ none_before key _ (after_all key o _ ordered (comes_after o _ before differs))
 
-pub in_order-drop : (n : ℕ) (os : List Stored) → in_order os ≡ true → in_order (drop n os) ≡ true
-in_order-drop zero [] ordered = refl
-in_order-drop zero (o ∷ os) ordered = ordered
-in_order-drop (suc n) [] ordered = refl
-in_order-drop (suc n) (o ∷ os) ordered =
-    in_order-drop n _ (and_parts (list_all (λ later. is_before later.key o) os) (in_order os) ordered).1
+pub keys_ascend-drop : (n : ℕ) (os : List Stored) → keys_ascend os ≡ true → keys_ascend (drop n os) ≡ true
+keys_ascend-drop zero [] ordered = refl
+keys_ascend-drop zero (o ∷ os) ordered = ordered
+keys_ascend-drop (suc n) [] ordered = refl
+keys_ascend-drop (suc n) (o ∷ os) ordered =
+    keys_ascend-drop n _ (and_parts (list_all (λ later. is_before later.key o) os) (keys_ascend os) ordered).1
 
 -- a back that fits behind every object before the key keeps the order
-pub order_behind : (key : List ℕ) (front back back' : List Stored) → in_order (front ++ back) ≡ true → in_order back' ≡ true
+pub order_behind : (key : List ℕ) (front back back' : List Stored) → keys_ascend (front ++ back) ≡ true → keys_ascend back' ≡ true
     → ((f : Stored) → is_before key f ≡ true → list_all (λ l. is_before l.key f) back ≡ true → list_all (λ l. is_before l.key f) back' ≡ true)
-    → AllByRecursion (λ o. is_before key o ≡ true) front → in_order (front ++ back') ≡ true
+    → AllByRecursion (λ o. is_before key o ≡ true) front → keys_ascend (front ++ back') ≡ true
 order_behind _ [] _ _ ordered there fits all = there
 order_behind key (f ∷ front) back back' ordered there fits all =
-    let parts = and_parts (list_all (λ later. is_before later.key f) (front ++ back)) (in_order (front ++ back)) ordered in
+    let parts = and_parts (list_all (λ later. is_before later.key f) (front ++ back)) (keys_ascend (front ++ back)) ordered in
     let split = and_parts (list_all (λ later. is_before later.key f) front) (list_all (λ later. is_before later.key f) back) (sym (list_all-append (λ later. is_before later.key f) front back) ∙ parts.0) in
     let joined : list_all (λ later. is_before later.key f) (front ++ back') ≡ true =
     list_all-append (λ later. is_before later.key f) front _
     ∙ and_from _ _ split.0 (fits f all.0 split.1) in
-    and_from _ (in_order (front ++ back')) joined
+    and_from _ (keys_ascend (front ++ back')) joined
     (order_behind key front _ _ parts.1 there fits all.1)
 
 -- a back with keys behind a front with keys
@@ -130,15 +130,15 @@ cond_within false x y z = refl
 
 -- an object in the place of another one under its key
 pub replaced_behind : (key : List ℕ) (front : List Stored) (o v : Stored) (os : List Stored)
-    → in_order (front ++ o ∷ os) ≡ true → have_keys (front ++ o ∷ os) ≡ true → in_order (o ∷ os) ≡ true
+    → keys_ascend (front ++ o ∷ os) ≡ true → have_keys (front ++ o ∷ os) ≡ true → keys_ascend (o ∷ os) ≡ true
     → AllByRecursion (λ f. is_before key f ≡ true) front → o.key ≡ key → v.key ≡ key
     → IsUpdated key (Some v.bytes) (front ++ o ∷ os) (front ++ v ∷ os)
 replaced_behind key front o v os ordered keys there all ok vk =
-    let parts = and_parts (list_all (λ l. is_before l.key o) os) (in_order os) there in
+    let parts = and_parts (list_all (λ l. is_before l.key o) os) (keys_ascend os) there in
     let same = ok ∙ sym vk in
     record {
       ordered = order_behind key front (o ∷ os) (v ∷ os) ordered
-          (and_from (list_all (λ l. is_before l.key v) os) (in_order os)
+          (and_from (list_all (λ l. is_before l.key v) os) (keys_ascend os)
           (subst (λ k. list_all (λ l. is_lt (key_cmp k l.key)) os ≡ true) same parts.0) parts.1)
           (λ f before fits. subst (λ k. (is_before k f && list_all (λ l. is_before l.key f) os) ≡ true) same fits) all;
       keys = keys_behind front (o ∷ os) (v ∷ os) keys (λ k. subst (λ k'. (is_key k' && have_keys os) ≡ true) same k);
@@ -150,7 +150,7 @@ replaced_behind key front o v os ordered keys there all ok vk =
 
 -- an object between those before its key and those after it
 pub inserted_behind : (v : Stored) (front back : List Stored)
-    → in_order (front ++ back) ≡ true → have_keys (front ++ back) ≡ true → in_order back ≡ true → is_key v.key ≡ true
+    → keys_ascend (front ++ back) ≡ true → have_keys (front ++ back) ≡ true → keys_ascend back ≡ true → is_key v.key ≡ true
     → AllByRecursion (λ f. is_before v.key f ≡ true) front → list_all (λ l. is_before l.key v) back ≡ true
     → IsUpdated v.key (Some v.bytes) (front ++ back) (front ++ v ∷ back)
 inserted_behind v front back ordered keys there key all after = record {
@@ -160,7 +160,7 @@ inserted_behind v front back ordered keys there key all after = record {
   stands = λ i q. updated_behind v.key (Some v.bytes) front back (v ∷ back) q all refl i;
 }
 
-removed_head : (key : List ℕ) (o : Stored) (os : List Stored) (q : List ℕ) → in_order (o ∷ os) ≡ true → o.key ≡ key
+removed_head : (key : List ℕ) (o : Stored) (os : List Stored) (q : List ℕ) → keys_ascend (o ∷ os) ≡ true → o.key ≡ key
     → object_in os q ≡ updated key None (object_in (o ∷ os)) q
 removed_head key o os q there ok =
     elim (cases_Bool (bytes_eq key q)) [
@@ -172,11 +172,11 @@ removed_head key o os q there ok =
 
 -- what is left without an object
 pub removed_behind : (key : List ℕ) (front : List Stored) (o : Stored) (os : List Stored)
-    → in_order (front ++ o ∷ os) ≡ true → have_keys (front ++ o ∷ os) ≡ true → in_order (o ∷ os) ≡ true
+    → keys_ascend (front ++ o ∷ os) ≡ true → have_keys (front ++ o ∷ os) ≡ true → keys_ascend (o ∷ os) ≡ true
     → AllByRecursion (λ f. is_before key f ≡ true) front → o.key ≡ key
     → IsUpdated key None (front ++ o ∷ os) (front ++ os)
 removed_behind key front o os ordered keys there all ok =
-    let parts = and_parts (list_all (λ l. is_before l.key o) os) (in_order os) there in
+    let parts = and_parts (list_all (λ l. is_before l.key o) os) (keys_ascend os) there in
     record {
       ordered = order_behind key front (o ∷ os) os ordered parts.1
           (λ f before fits. (and_parts (is_before o.key f) (list_all (λ l. is_before l.key f) os) fits).1) all;

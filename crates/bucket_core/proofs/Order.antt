@@ -8,8 +8,8 @@ use Rattle.std.specs.declared.cmp.Ordering.{Ordering}
 use Rattle.std.specs.declared.cmp.Ordering.TheVariants.{Less, Equal, Greater}
 use Rattle.std.proofs.lemmas.Bool.{cases_Bool}
 use Rattle.std.proofs.lemmas.Cmp.{nat_cmp_total, nat_list_cmp_total, tied_itself, ranked}
-use Rattle.bucket_core.specs.Stored.{first_part, key_cmp, is_below, name_of, text_after}
-use Rattle.bucket_core.specs.Pages.{Before}
+use Rattle.label_sets.specs.Labels.{ComesBefore, is_lesser_text}
+use Rattle.bucket_core.specs.Stored.{first_part, key_cmp, name_of, text_after}
 use Rattle.bucket_core.proofs.Names.{append-text_after, text_after-append}
 use Rattle.bucket_core.proofs.Picks.{below_cases}
 
@@ -34,30 +34,30 @@ first_part-folder (x ∷ w) a b =
     ∙ ap (λ r. cond (x == 47) [] (x ∷ r)) (first_part-folder w a b)
     ∙ sym (before_first-cons (λ y. y == 47) x (w ++ 47 ∷ b))
 
-below_head : (x : ℕ) (a b : List ℕ) → is_below (x ∷ a) (x ∷ b) ≡ is_below a b
+below_head : (x : ℕ) (a b : List ℕ) → is_lesser_text (x ∷ a) (x ∷ b) ≡ is_lesser_text a b
 below_head x a b = ap (λ o. is_lt (ordering_then o (slice_cmp nat_cmp a b))) (tied_itself nat_cmp_total x)
 
 -- a first part is not greater than the text
-first_part_small : (text : List ℕ) → is_below text (first_part text) ≡ false
+first_part_small : (text : List ℕ) → is_lesser_text text (first_part text) ≡ false
 first_part_small [] = refl
 first_part_small (x ∷ text) =
-    ap (is_below (x ∷ text)) (before_first-cons (λ y. y == 47) x text)
+    ap (is_lesser_text (x ∷ text)) (before_first-cons (λ y. y == 47) x text)
     ∙ (elim (cases_Bool (x == 47)) [
-      | inl slash ↦ ap (λ b. is_below (x ∷ text) (cond b [] (x ∷ first_part text))) slash
-      | inr other ↦ ap (λ b. is_below (x ∷ text) (cond b [] (x ∷ first_part text))) other ∙ below_head x text (first_part text) ∙ first_part_small text
+      | inl slash ↦ ap (λ b. is_lesser_text (x ∷ text) (cond b [] (x ∷ first_part text))) slash
+      | inr other ↦ ap (λ b. is_lesser_text (x ∷ text) (cond b [] (x ∷ first_part text))) other ∙ below_head x text (first_part text) ∙ first_part_small text
     ])
 
 -- a text that is not greater is not below
-pub not_below : (n m : List ℕ) → (n ≡ m) ⊎ Before n m → is_below m n ≡ false
-not_below n m (inl same) = ap (λ k. is_below k n) (sym same) ∙ ap is_lt (tied_itself nat_list_cmp_total n)
+pub not_below : (n m : List ℕ) → (n ≡ m) ⊎ ComesBefore n m → is_lesser_text m n ≡ false
+not_below n m (inl same) = ap (λ k. is_lesser_text k n) (sym same) ∙ ap is_lt (tied_itself nat_list_cmp_total n)
 not_below n m (inr before) = ap is_lt (nat_list_cmp_total.antisymm m n ∙ ap ordering_reverse before)
 
-pub upto : (a b c : List ℕ) → is_below b a ≡ false → is_below c b ≡ false → is_below c a ≡ false
+pub upto : (a b c : List ℕ) → is_lesser_text b a ≡ false → is_lesser_text c b ≡ false → is_lesser_text c a ≡ false
 upto a b c ab bc =
     elim (below_cases a b ab) [
-      | inl same ↦ ap (is_below c) same ∙ bc
+      | inl same ↦ ap (is_lesser_text c) same ∙ bc
       | inr before ↦ elim (below_cases b c bc) [
-        | inl same ↦ ap (λ k. is_below k a) (sym same) ∙ ab
+        | inl same ↦ ap (λ k. is_lesser_text k a) (sym same) ∙ ab
         | inr after ↦ not_below a c (inr (nat_list_cmp_total.trans a b c before after))
       ]
     ]
@@ -68,11 +68,11 @@ first_lt Equal p e = refl
 first_lt Greater p e = cc
 
 -- the first parts of keys in order do not fall
-pub first_rises : (a b : List ℕ) → key_cmp a b ≡ Less → is_below (first_part b) (first_part a) ≡ false
+pub first_rises : (a b : List ℕ) → key_cmp a b ≡ Less → is_lesser_text (first_part b) (first_part a) ≡ false
 first_rises a b e = ap is_lt (nat_list_cmp_total.antisymm (first_part b) (first_part a)) ∙ first_lt _ _ e
 
 -- a key before the cursor has no greater first part
-pub root_skipped : (key after : List ℕ) → key_cmp key after ≡ Less → is_below after (first_part key) ≡ false
+pub root_skipped : (key after : List ℕ) → key_cmp key after ≡ Less → is_lesser_text after (first_part key) ≡ false
 root_skipped key after e = upto (first_part key) (first_part after) after (first_rises key after e) (first_part_small after)
 
 -- the keys of one folder are in the order of their names
@@ -90,11 +90,11 @@ pub folder_name : (w name : List ℕ) → text_after (w ++ 47 ∷ []) (w ++ 47 �
 folder_name w name = ap (text_after (w ++ 47 ∷ [])) (sym (append_assoc w (47 ∷ []) name)) ∙ text_after-append (w ++ 47 ∷ []) _
 
 -- the names of keys in order do not fall
-pub names_rise : (within a b n m : List ℕ) → key_cmp a b ≡ Less → name_of within a ≡ Some n → name_of within b ≡ Some m → is_below m n ≡ false
+pub names_rise : (within a b n m : List ℕ) → key_cmp a b ≡ Less → name_of within a ≡ Some n → name_of within b ≡ Some m → is_lesser_text m n ≡ false
 names_rise [] a b n m e an bm =
     let na : first_part a ≡ n = cc in
     let mb : first_part b ≡ m = cc in
-    ap (λ k. is_below k n) (sym mb) ∙ ap (is_below (first_part b)) (sym na) ∙ first_rises a b e
+    ap (λ k. is_lesser_text k n) (sym mb) ∙ ap (is_lesser_text (first_part b)) (sym na) ∙ first_rises a b e
 names_rise (x ∷ w) a b n m e an bm =
     let ka = folder_key (x ∷ w) a n an in
     let kb = folder_key (x ∷ w) b m bm in

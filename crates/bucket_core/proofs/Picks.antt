@@ -1,5 +1,5 @@
 -- What is picked from a rising list of names.
-use Rattle.std.proofs.Common.{◌≡◌, ◌⊎◌, ℕ, ◌≤◌, ◌-◌, zero, suc, true, false, cond, List, [], ◌∷◌, length, refl, sym, ◌∙◌, ap, subst, inl, inr, arith}
+use Rattle.std.proofs.Common.{◌≡◌, ◌⊎◌, ℕ, ◌≤◌, ◌-◌, zero, suc, true, false, cond, List, [], ◌∷◌, length, Some, refl, sym, ◌∙◌, ap, subst, inl, inr, arith}
 use Rattle.std.specs.Prelude.{◌==◌, Contains}
 use Rattle.std.specs.List.{AllByRecursion}
 use Rattle.std.specs.Ordering.{is_lt, ordering_reverse}
@@ -8,38 +8,21 @@ use Rattle.std.specs.declared.cmp.Ordering.TheVariants.{Less, Equal, Greater}
 use Rattle.std.proofs.lemmas.Bool.{cases_Bool, ne_eqb}
 use Rattle.std.proofs.lemmas.Cmp.{nat_list_cmp_total}
 use Rattle.list_core.proofs.Bools.{Less-from_is_lt}
-use Rattle.bucket_core.specs.Pages.{Before, Ascends}
-use Rattle.bucket_core.specs.Stored.{is_below, picked}
+use Rattle.list_core.specs.Order.{InOrderAfter, ComesAfter}
+use Rattle.list_core.specs.Ordered.{Rises}
+use Rattle.list_core.proofs.Membership.{contains_first, contains_later, each_member, member_cases, no_member}
+use Rattle.label_sets.specs.Labels.{ComesBefore, compare_texts, is_lesser_text}
+use Rattle.bucket_core.specs.Stored.{picked}
 use Rattle.bucket_core.proofs.Places.{texts_equal}
 
--- x is in the list
-abbrev pub Among : {X : Type 0} → X → List X → Type 0
-Among x [] = ⊥
-Among x (y ∷ ys) = (y ≡ x) ⊎ Among x ys
-
-pub contains_among : {X : Type 0} (x : X) (xs : List X) → Among x xs → Contains xs x
-contains_among x [] among = absurd among
-contains_among x (y ∷ xs) (inl same) = (0, omega arith, same)
-contains_among x (y ∷ xs) (inr among) = let found = contains_among x xs among in (suc found.0, omega arith, found.2)
-
-pub at_among : {X : Type 0} (P : X → Type 0) (x : X) (xs : List X) → AllByRecursion P xs → Among x xs → P x
-at_among P x [] all among = absurd among
-at_among P x (y ∷ xs) all (inl same) = subst P same all.0
-at_among P x (y ∷ xs) all (inr among) = at_among P x xs all.1 among
-
--- no name is less than one before it
-abbrev pub Rises : List (List ℕ) → Type 0
-Rises [] = Unit {0}
-Rises (name ∷ names) = AllByRecursion (λ later. is_below later name ≡ false) names × Rises names
-
 -- the three outcomes of picking from a list with a first name
-picked_pass : (last : List ℕ) (limit : ℕ) (n : List ℕ) (ns : List (List ℕ)) → is_below last n ≡ false → picked last limit (n ∷ ns) ≡ picked last limit ns
+picked_pass : (last : List ℕ) (limit : ℕ) (n : List ℕ) (ns : List (List ℕ)) → is_lesser_text last n ≡ false → picked last limit (n ∷ ns) ≡ picked last limit ns
 picked_pass last limit n ns e = ap (λ b. cond b (cond (limit == 0) [] (n ∷ picked n (limit - 1) ns)) (picked last limit ns)) e
 
-picked_full : (last : List ℕ) (n : List ℕ) (ns : List (List ℕ)) → is_below last n ≡ true → picked last 0 (n ∷ ns) ≡ []
+picked_full : (last : List ℕ) (n : List ℕ) (ns : List (List ℕ)) → is_lesser_text last n ≡ true → picked last 0 (n ∷ ns) ≡ []
 picked_full last n ns e = ap (λ b. cond b [] (picked last 0 ns)) e
 
-picked_take : (last : List ℕ) (k : ℕ) (n : List ℕ) (ns : List (List ℕ)) → is_below last n ≡ true → picked last (suc k) (n ∷ ns) ≡ n ∷ picked n k ns
+picked_take : (last : List ℕ) (k : ℕ) (n : List ℕ) (ns : List (List ℕ)) → is_lesser_text last n ≡ true → picked last (suc k) (n ∷ ns) ≡ n ∷ picked n k ns
 picked_take last k n ns e =
     ap (λ b. cond b (cond (suc k == 0) [] (n ∷ picked n (suc k - 1) ns)) (picked last (suc k) ns)) e
     ∙ ap (λ b. cond b [] (n ∷ picked n (suc k - 1) ns)) (ne_eqb (suc k) 0 (λ same. omega arith))
@@ -47,9 +30,9 @@ picked_take last k n ns e =
 
 -- a property of what is picked, by these outcomes
 by_picked : (P : List (List ℕ) → Type 0) (last : List ℕ) (limit : ℕ) (n : List ℕ) (ns : List (List ℕ))
-    → (is_below last n ≡ false → P (picked last limit ns))
-    → (is_below last n ≡ true → limit ≡ 0 → P [])
-    → ((k : ℕ) → is_below last n ≡ true → limit ≡ suc k → P (n ∷ picked n k ns))
+    → (is_lesser_text last n ≡ false → P (picked last limit ns))
+    → (is_lesser_text last n ≡ true → limit ≡ 0 → P [])
+    → ((k : ℕ) → is_lesser_text last n ≡ true → limit ≡ suc k → P (n ∷ picked n k ns))
     → P (picked last limit (n ∷ ns))
 by_picked P _ zero n _ pass full take =
     elim (cases_Bool _) [
@@ -62,10 +45,10 @@ by_picked P _ (suc k) n _ pass full take =
       | inr not_below ↦ subst P (sym (picked_pass _ _ n _ not_below)) (pass not_below)
     ]
 
-pub picked_ascends : (last : List ℕ) (limit : ℕ) (ns : List (List ℕ)) → Ascends last (picked last limit ns)
+pub picked_ascends : (last : List ℕ) (limit : ℕ) (ns : List (List ℕ)) → InOrderAfter (ComesAfter compare_texts) (Some last) (picked last limit ns)
 picked_ascends _ _ [] = tt
 picked_ascends last limit (n ∷ ns) =
-    by_picked (Ascends last) last limit n ns (λ pass. picked_ascends last limit ns) (λ below e. tt)
+    by_picked (InOrderAfter (ComesAfter compare_texts) (Some last)) last limit n ns (λ pass. picked_ascends last limit ns) (λ below e. tt)
     (λ k below e. (Less-from_is_lt _ below, picked_ascends n k ns))
 
 pub picked_few : (last : List ℕ) (limit : ℕ) (ns : List (List ℕ)) → length (picked last limit ns) ≤ limit
@@ -82,36 +65,38 @@ picked_within P last limit (n ∷ ns) all =
 
 -- where a name of the list stands to what is picked: in it, or behind all of it where it is full
 abbrev pub IsCovered : ℕ → List ℕ → List (List ℕ) → Type 0
-IsCovered limit name picks = Among name picks ⊎ ((length picks ≡ limit) × AllByRecursion (λ n. Before n name) picks)
+IsCovered limit name picks = Contains picks name ⊎ ((length picks ≡ limit) × AllByRecursion (λ n. ComesBefore n name) picks)
 
 equal_or_less : (o p : Ordering) → p ≡ ordering_reverse o → is_lt o ≡ false → (o ≡ Equal) ⊎ (p ≡ Less)
 equal_or_less Less p e lt = cc
 equal_or_less Equal p e lt = inl refl
 equal_or_less Greater p e lt = inr e
 
-pub below_cases : (n m : List ℕ) → is_below m n ≡ false → (n ≡ m) ⊎ Before n m
+pub below_cases : (n m : List ℕ) → is_lesser_text m n ≡ false → (n ≡ m) ⊎ ComesBefore n m
 below_cases n m e =
     elim (equal_or_less _ _ (nat_list_cmp_total.antisymm n m) e) [
       | inl equal ↦ inl (sym (texts_equal m n equal))
       | inr less ↦ inr less
     ]
 
-pub picked_whole : (last : List ℕ) (limit : ℕ) (ns : List (List ℕ)) (m : List ℕ) → Rises ns → Among m ns → is_below last m ≡ true
+pub picked_whole : (last : List ℕ) (limit : ℕ) (ns : List (List ℕ)) (m : List ℕ) → Rises is_lesser_text ns → Contains ns m → is_lesser_text last m ≡ true
     → IsCovered limit m (picked last limit ns)
-picked_whole _ _ [] m rises among below = absurd among
-picked_whole last limit (n ∷ ns) m rises (inl same) below =
-    by_picked (IsCovered limit m) last limit n ns
-    (λ pass. absurd (let e : is_below last n ≡ true = ap (is_below last) same ∙ below in cc))
-    (λ b e. inr (sym e, tt))
-    (λ k b e. inl (inl same))
-picked_whole last limit (n ∷ ns) m rises (inr among) below =
-    by_picked (IsCovered limit m) last limit n _
-    (λ pass. picked_whole last limit ns m rises.1 among below)
-    (λ b e. inr (sym e, tt))
-    (λ k b e. elim (below_cases n m (at_among _ m _ rises.0 among)) [
-      | inl same ↦ inl (inl same)
-      | inr before ↦ elim (picked_whole n k ns m rises.1 among (ap is_lt before)) [
-        | inl found ↦ inl (inr found)
-        | inr full ↦ inr (omega arith, (before, full.1))
-      ]
-    ])
+picked_whole _ _ [] m rises among below = absurd (no_member m among)
+picked_whole last limit (n ∷ ns) m rises among below = elim (member_cases n m ns among) [
+  | inl same ↦
+      by_picked (IsCovered limit m) last limit n ns
+      (λ pass. absurd (let e : is_lesser_text last n ≡ true = ap (is_lesser_text last) same ∙ below in cc))
+      (λ b e. inr (sym e, tt))
+      (λ k b e. inl (subst (Contains (n ∷ picked n k ns)) same (contains_first n (picked n k ns))))
+  | inr later ↦
+      by_picked (IsCovered limit m) last limit n ns
+      (λ pass. picked_whole last limit ns m rises.1 later below)
+      (λ b e. inr (sym e, tt))
+      (λ k b e. elim (below_cases n m (each_member (λ (x : List ℕ). is_lesser_text x n ≡ false) ns m rises.0 later)) [
+        | inl same ↦ inl (subst (Contains (n ∷ picked n k ns)) same (contains_first n (picked n k ns)))
+        | inr before ↦ elim (picked_whole n k ns m rises.1 later (ap is_lt before)) [
+          | inl found ↦ inl (contains_later n m (picked n k ns) found)
+          | inr full ↦ inr (omega arith, (before, full.1))
+        ]
+      ])
+]

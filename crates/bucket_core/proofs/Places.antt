@@ -13,7 +13,7 @@ use Rattle.std.proofs.lemmas.Map.Text.{is_eq-slice_cmp}
 use Rattle.std.proofs.lemmas.Slice.Eq.{bytes_eq-Decides}
 use Rattle.list_core.proofs.Bools.{Less-from_is_lt}
 use Rattle.bucket_core.specs.declared.stored.Stored.{Stored}
-use Rattle.bucket_core.specs.Stored.{first_part, key_cmp, is_before, in_order, IsPlace}
+use Rattle.bucket_core.specs.Stored.{first_part, key_cmp, is_before, keys_ascend, IsPlace}
 
 -- the order of keys is total
 pub key_total : IsTotalOrder key_cmp
@@ -42,15 +42,15 @@ at_place p (x ∷ xs) zero d all lt = (and_parts (p x) (list_all p xs) all).0
 at_place p (x ∷ xs) (suc i) d all lt = at_place p xs i d (and_parts (p x) (list_all p xs) all).1 (omega arith)
 
 -- objects in order have those before a key in front
-pub partitioned : (key : List ℕ) (objects : List Stored) → in_order objects ≡ true → IsPartitionedBy (is_before key) objects
+pub partitioned : (key : List ℕ) (objects : List Stored) → keys_ascend objects ≡ true → IsPartitionedBy (is_before key) objects
 partitioned _ [] ordered i j d le lt at = absurd (omega arith)
 partitioned _ (o ∷ os) ordered zero zero d le lt at = at
 partitioned key (o ∷ os) ordered zero (suc j) d le lt at =
-    let parts = and_parts (list_all (λ later. is_before later.key o) os) (in_order os) ordered in
+    let parts = and_parts (list_all (λ later. is_before later.key o) os) (keys_ascend os) ordered in
     before_trans o (get_or os j d).key key (at_place (λ later. is_before later.key o) os j d parts.0 (omega arith)) at
 partitioned _ (o ∷ os) ordered (suc i) zero d le lt at = absurd (omega arith)
 partitioned key (o ∷ os) ordered (suc i) (suc j) d le lt at =
-    partitioned key os (and_parts (list_all (λ later. is_before later.key o) os) (in_order os) ordered).1 i j d (omega arith) (omega arith) at
+    partitioned key os (and_parts (list_all (λ later. is_before later.key o) os) (keys_ascend os) ordered).1 i j d (omega arith) (omega arith) at
 
 -- what holds of each element below a place holds of the front
 front_of : {X : Type 0} (P : X → Type 0) (xs : List X) (n : ℕ) → AllWithin P xs 0 n → n ≤ length xs → AllByRecursion P (take n xs)

@@ -1,22 +1,12 @@
 -- A page of names, by the objects that stand.
 use Rattle.std.specs.Prelude.{◌≡◌, ◌⊎◌, ◌==◌, ℕ, ◌≤◌, List, [], ◌∷◌, ◌++◌, length, All, Contains, Some, IsSome}
 use Rattle.std.specs.List.{before_first}
-use Rattle.std.specs.Ordering.{nat_cmp}
-use Rattle.std.specs.Cmp.Lexicographic.{slice_cmp}
-use Rattle.std.specs.declared.cmp.Ordering.TheVariants.{Less}
 use Rattle.wire_bytes.specs.Files.{slash}
 use Rattle.list_core.specs.Order.{InOrderAfter, ComesAfter}
+use Rattle.label_sets.specs.Labels.{ComesBefore, compare_texts}
 use Rattle.bucket_core.specs.Contents.{Contents}
 use Rattle.bucket_core.specs.declared.answer.PageAnswer.{PageAnswer}
 use Rattle.bucket_core.specs.declared.answer.PageAnswer.TheVariants.{Names, Failed, NoMemory}
-
--- one text is less than another, in byte order
-abbrev pub Before : List ℕ → List ℕ → Type 0
-Before one other = slice_cmp nat_cmp one other ≡ Less
-
--- each text is greater than the one before it, the first one than this
-abbrev pub Ascends : List ℕ → List (List ℕ) → Type 0
-Ascends after names = InOrderAfter (ComesAfter (slice_cmp nat_cmp)) (Some after) names
 
 -- the name under which a folder lists a key: the text after the folder and a slash, and where no folder is
 -- given the key's part before its first slash
@@ -30,12 +20,12 @@ IsName contents within name = (key : List ℕ) × IsSome (contents key) × Lists
 
 -- the least names greater than the cursor, as many as there are up to the limit
 pub record IsPage (contents : Contents) (within after : List ℕ) (limit : ℕ) (names : List (List ℕ)) : Type 0 where
-  pub ascend : Ascends after names
+  pub ascend : InOrderAfter (ComesAfter compare_texts) (Some after) names
   pub few : length names ≤ limit
   pub stand : All (IsName contents within) names
   -- a name that is not on the page comes after a page that is full
-  pub whole : (name : List ℕ) → IsName contents within name → Before after name →
-      Contains names name ⊎ ((length names ≡ limit) × All (λ listed. Before listed name) names)
+  pub whole : (name : List ℕ) → IsName contents within name → ComesBefore after name →
+      Contains names name ⊎ ((length names ≡ limit) × All (λ listed. ComesBefore listed name) names)
 
 -- what a page may answer
 abbrev pub ShowsPage : Contents → List ℕ → List ℕ → ℕ → PageAnswer → Type 0

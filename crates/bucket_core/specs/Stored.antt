@@ -2,11 +2,11 @@
 use Rattle.std.specs.Prelude.{◌≡◌, ◌==◌, ℕ, ◌≤◌, ◌<◌, ◌-◌, ◌++◌, Option, Bool, true, false, ◌&&◌, if◌then◌else◌, List, [], ◌∷◌, length, take, drop, Some, None}
 use Rattle.std.specs.List.{slice_index_or, before_first, list_all, AllByRecursion}
 use Rattle.std.specs.Option.{option_map_or}
-use Rattle.std.specs.Ordering.{nat_cmp, ordering_then, is_lt}
-use Rattle.std.specs.Cmp.Lexicographic.{slice_cmp}
+use Rattle.std.specs.Ordering.{ordering_then, is_lt}
 use Rattle.std.specs.Str.{bytes_eq}
 use Rattle.std.specs.declared.cmp.Ordering.{Ordering}
 use Rattle.wire_bytes.specs.Files.{slash}
+use Rattle.label_sets.specs.Labels.{compare_texts, is_lesser_text}
 use Rattle.bucket_core.specs.Contents.{Contents, is_key}
 use Rattle.bucket_core.specs.Pages.{IsPage}
 use Rattle.bucket_core.specs.declared.stored.Stored.{Stored}
@@ -17,7 +17,7 @@ first_part key = before_first (λ byte. byte == slash) key
 
 -- keys are ordered by their first parts, and where these agree by their texts: so the first parts ascend too
 abbrev pub key_cmp : List ℕ → List ℕ → Ordering
-key_cmp one other = ordering_then (slice_cmp nat_cmp (first_part one) (first_part other)) (slice_cmp nat_cmp one other)
+key_cmp one other = ordering_then (compare_texts (first_part one) (first_part other)) (compare_texts one other)
 
 -- whether the object's key comes before this one
 abbrev pub is_before : List ℕ → Stored → Bool
@@ -29,9 +29,9 @@ object_in [] key = None
 object_in (object ∷ objects) key = if bytes_eq object.key key then Some object.bytes else object_in objects key
 
 -- each object's key comes before those of all that follow
-abbrev pub in_order : List Stored → Bool
-in_order [] = true
-in_order (object ∷ objects) = list_all (λ later. is_before later.key object) objects && in_order objects
+abbrev pub keys_ascend : List Stored → Bool
+keys_ascend [] = true
+keys_ascend (object ∷ objects) = list_all (λ later. is_before later.key object) objects && keys_ascend objects
 
 -- each object stands under a key
 abbrev pub have_keys : List Stored → Bool
@@ -49,7 +49,7 @@ updated key object contents = λ other. if bytes_eq key other then object else c
 
 -- the new list is in order and stands for the old one's contents but at this key
 pub record IsUpdated (key : List ℕ) (object : Option (List ℕ)) (old new : List Stored) : Type 0 where
-  pub ordered : in_order new ≡ true
+  pub ordered : keys_ascend new ≡ true
   pub keys : have_keys new ≡ true
   pub stands : object_in new ≡ updated key object (object_in old)
 
@@ -73,15 +73,11 @@ abbrev pub names_of : List ℕ → List Stored → List (List ℕ)
 names_of within [] = []
 names_of within (object ∷ objects) = option_map_or (λ name. name ∷ names_of within objects) (name_of within object.key) []
 
--- whether one text is less than another
-abbrev pub is_below : List ℕ → List ℕ → Bool
-is_below one other = is_lt (slice_cmp nat_cmp one other)
-
 -- the first names in a rising list that are greater than the last one taken
 abbrev pub picked : List ℕ → ℕ → List (List ℕ) → List (List ℕ)
 picked last limit [] = []
 picked last limit (name ∷ names) =
-    if is_below last name then (if limit == 0 then [] else name ∷ picked name (limit - 1) names) else picked last limit names
+    if is_lesser_text last name then (if limit == 0 then [] else name ∷ picked name (limit - 1) names) else picked last limit names
 
 -- a place behind which each page of a folder is picked
 pub record IsStart (within after : List ℕ) (objects : List Stored) (place : ℕ) : Type 0 where

@@ -2,7 +2,7 @@ ghost use Rattle.std.specs.Prelude.{◌≡◌, ◌≤◌, [], option_map, IsTrue
 ghost use Rattle.bucket_core.specs.Calls.{next_call};
 ghost use Rattle.bucket_core.specs.Causes.{KeepsFaults, put_failed, get_failed, delete_failed, page_failed};
 ghost use Rattle.bucket_core.specs.Contents.{Contents, IsKey, nothing, with_object, without_object, range_of, Shows};
-ghost use Rattle.bucket_core.specs.Stored.{in_order, have_keys, object_in};
+ghost use Rattle.bucket_core.specs.Stored.{keys_ascend, have_keys, object_in};
 
 use crate::calls::failure_at;
 use crate::listing::page_of;
@@ -21,7 +21,7 @@ pub struct MemoryBucket {
     failing: FailList,
     calls: u64,
     faults: u64,
-    ghost ordered: { IsTrue (in_order objects.items) },
+    ghost ordered: { IsTrue (keys_ascend objects.items) },
     ghost keys: { IsTrue (have_keys objects.items) },
 }
 

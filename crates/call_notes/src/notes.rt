@@ -16,7 +16,7 @@ struct Spelling {
 }
 
 /// A text, for clauses alone. The loop over its bytes keeps nothing when the program runs.
-fn spelled(bytes: &[u8]) -> Option<Snapshot<Spelling>>
+fn spelling_of(bytes: &[u8]) -> Option<Snapshot<Spelling>>
     ensures { text_told result ≡ bytes.now }
 {
     let mut before = None;
@@ -69,29 +69,29 @@ impl CallNotes {
     pub fn note_put(&mut self, key: &str, bytes: &[u8])
         ensures { calls_told self.new ≡ calls_told self.old ++ puts key.now bytes.now ∷ [] }
     {
-        let key = spelled(key.as_bytes());
-        self.add(Asked::Put(key, spelled(bytes)));
+        let key = spelling_of(key.as_bytes());
+        self.add(Asked::Put(key, spelling_of(bytes)));
     }
 
     /// Notes the get of this key.
     pub fn note_get(&mut self, key: &str)
         ensures { calls_told self.new ≡ calls_told self.old ++ gets key.now ∷ [] }
     {
-        self.add(Asked::Get(spelled(key.as_bytes())));
+        self.add(Asked::Get(spelling_of(key.as_bytes())));
     }
 
     /// Notes the get of so many bytes of this key, from this place on.
     pub fn note_range(&mut self, key: &str, from: u64, len: u64)
         ensures { calls_told self.new ≡ calls_told self.old ++ gets_range key.now from len ∷ [] }
     {
-        self.add(Asked::GetRange(spelled(key.as_bytes()), from, len));
+        self.add(Asked::GetRange(spelling_of(key.as_bytes()), from, len));
     }
 
     /// Notes the deletion of this key.
     pub fn note_delete(&mut self, key: &str)
         ensures { calls_told self.new ≡ calls_told self.old ++ deletes key.now ∷ [] }
     {
-        self.add(Asked::Delete(spelled(key.as_bytes())));
+        self.add(Asked::Delete(spelling_of(key.as_bytes())));
     }
 
     /// Notes the page of at most so many names within this name and behind that one.
@@ -99,8 +99,8 @@ impl CallNotes {
         ensures { calls_told self.new
             ≡ calls_told self.old ++ lists within.now after.now limit ∷ [] }
     {
-        let within = spelled(within.as_bytes());
-        self.add(Asked::Page(within, spelled(after.as_bytes()), limit));
+        let within = spelling_of(within.as_bytes());
+        self.add(Asked::Page(within, spelling_of(after.as_bytes()), limit));
     }
 }
 
@@ -129,7 +129,7 @@ impl NameNotes {
     pub fn note(&mut self, name: &str)
         ensures { names_told self.new ≡ names_told self.old ++ name.now ∷ [] }
     {
-        let last = spelled(name.as_bytes());
+        let last = spelling_of(name.as_bytes());
         let before = self.names.take();
         self.names = Some(Snapshot::of(&Names { last, before }));
     }

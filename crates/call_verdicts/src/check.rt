@@ -10,7 +10,7 @@ ghost use Rattle.call_verdicts.specs.Words.{named_by};
 
 use crate::Verdict;
 use crate::conclusion::{Conclusion, Ended};
-use crate::opening::{open_shelf, refused};
+use crate::opening::{open_shelf, refusal_verdict};
 use block_content::{CheckRefusal, Checked};
 use block_keys::Key;
 use block_loading::{LoadRefusal, check_on_shelf};
@@ -55,7 +55,7 @@ pub fn check_block<S: Site>(
             }
         }
         Err(refusal) => Ended {
-            conclusion: Conclusion::without_bucket(refused(refusal)),
+            conclusion: Conclusion::without_bucket(refusal_verdict(refusal)),
             shelf: None,
             note: None,
         },

@@ -203,7 +203,7 @@ fn open_site<S: Site>(
         Ok(bucket) => open_behind(alloc, script, bucket, shelf, site),
         Err(refusal) => {
             Err(Ended {
-                conclusion: Conclusion::without_bucket(refused(refusal)),
+                conclusion: Conclusion::without_bucket(refusal_verdict(refusal)),
                 shelf: None,
                 note: None,
             })
@@ -325,13 +325,13 @@ fn open_world<B: Bucket>(
     match World::open(alloc, bucket, script.rules.tick) {
         Ok(world) => Ok(world),
         Err((refusal, store)) => {
-            Err(Conclusion::with_bucket(unopened(refusal), Journal::empty(alloc), store))
+            Err(Conclusion::with_bucket(unopened_verdict(refusal), Journal::empty(alloc), store))
         }
     }
 }
 
 /// What a call comes to whose bucket is not opened.
-fn unopened(refusal: OpenRefusal) -> Verdict
+fn unopened_verdict(refusal: OpenRefusal) -> Verdict
     ensures failed { refusal ≡ OpenRefusal.Failed → result ≡ Verdict.SiteFault }
     ensures not_empty { (name : List ℕ) → refusal ≡ OpenRefusal.NotEmpty name
         → result ≡ Verdict.NotEmpty name }
@@ -372,7 +372,7 @@ pub fn open_shelf<S: Site>(site: &mut S, word: &str) -> Result<Option<S::Files>,
 }
 
 /// What a call comes to for which the site refuses to open something.
-pub fn refused(refusal: SiteRefusal) -> Verdict
+pub fn refusal_verdict(refusal: SiteRefusal) -> Verdict
     ensures failed { refusal ≡ SiteRefusal.Failed → result ≡ Verdict.SiteFault }
     ensures none { refusal ≡ SiteRefusal.NoMemory → result ≡ Verdict.NoMemory }
     ensures early { IsEarly result }
@@ -398,5 +398,5 @@ pub fn without_shelf<B: Bucket>(alloc: Global, refusal: SiteRefusal, bucket: B) 
     ensures only_opened { WasAsked B.asked [] bucket
         → IfSome result.store (WasOnlyOpened B.asked) }
 {
-    Conclusion::with_bucket(refused(refusal), Journal::empty(alloc), bucket)
+    Conclusion::with_bucket(refusal_verdict(refusal), Journal::empty(alloc), bucket)
 }

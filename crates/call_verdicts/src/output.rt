@@ -3,7 +3,7 @@ ghost use Rattle.bucket_core.specs.Causes.{Rose};
 ghost use Rattle.call_verdicts.specs.Output.{IsWrittenInPart};
 
 use bucket_core::{Sink, WriteAnswer};
-use list_core::behind;
+use list_core::members_behind;
 
 /// The sink failed.
 #[derive(Clone, Copy, Debug, PartialEq, Eq)]
@@ -20,7 +20,7 @@ pub fn write_all<K: Sink>(out: &mut K, text: &[u8]) -> Result<(), SinkFault>
     let mut left = text;
     while !left.is_empty() {
         match out.write(left) {
-            WriteAnswer::Took(count) => left = behind(left, count),
+            WriteAnswer::Took(count) => left = members_behind(left, count),
             WriteAnswer::Failed => return Err(SinkFault),
         }
     }

@@ -1,9 +1,11 @@
 -- What a page of names leads to in a walk.
 use Rattle.std.proofs.Common.{◌≡◌, ℕ, zero, suc, ◌+◌, ◌<◌, ◌≤◌, Bool, true, false, List, [], ◌++◌, length, refl, sym, ◌∙◌, ap, subst, Option, Some, arith, length-append}
 use Rattle.std.specs.Prelude.{nat_lt, nat_le}
+use Rattle.list_core.specs.Order.{are_in_order_after, comes_after}
+use Rattle.label_sets.specs.Labels.{compare_texts}
 use Rattle.world_core.specs.Limits.{most_listed}
 use Rattle.world_core.specs.Plans.{Plan, Runs, ends, choose}
-use Rattle.world_core.specs.Walks.{after_page, ascends, last_listed}
+use Rattle.world_core.specs.Walks.{after_page, last_listed}
 use Rattle.world_core.specs.declared.reply.Reply.{Reply}
 use Rattle.world_core.specs.declared.reply.Reply.TheVariants as reply
 use Rattle.world_core.specs.declared.entry.Entry.{Entry}
@@ -40,10 +42,10 @@ pub page_follows : {A : Type 0} (read : List (List ℕ) → List A) (kept : List
     → Runs (after_page walk_ends limit names seq (reply.Names page) next others) entries end
 page_follows read kept limit seq walk names page left next others kind entries end listed is run =
     let all : length (names ++ page) ≡ walk.listed + length page = length-append names page ∙ ap (λ n. n + length page) listed.many in
-    let same : page_of limit walk.listed walk.last page ≡ page_by (ascends (last_listed names) page) (nat_lt (length page) limit) (nat_le most_listed (length (names ++ page))) =
-    ap (λ l. page_by (ascends l page) (nat_lt (length page) limit) (nat_le most_listed (walk.listed + length page))) (sym listed.ends)
-    ∙ ap (λ n. page_by (ascends (last_listed names) page) (nat_lt (length page) limit) (nat_le most_listed n)) (sym all) in
-    by_tests (ascends (last_listed names) page) (nat_lt (length page) limit) (nat_le most_listed (length (names ++ page))) seq (next (names ++ page)) (others (names ++ page)) entries end
+    let same : page_of limit walk.listed walk.last page ≡ page_by (are_in_order_after (comes_after compare_texts) (last_listed names) page) (nat_lt (length page) limit) (nat_le most_listed (length (names ++ page))) =
+    ap (λ l. page_by (are_in_order_after (comes_after compare_texts) l page) (nat_lt (length page) limit) (nat_le most_listed (walk.listed + length page))) (sym listed.ends)
+    ∙ ap (λ n. page_by (are_in_order_after (comes_after compare_texts) (last_listed names) page) (nat_lt (length page) limit) (nat_le most_listed n)) (sym all) in
+    by_tests (are_in_order_after (comes_after compare_texts) (last_listed names) page) (nat_lt (length page) limit) (nat_le most_listed (length (names ++ page))) seq (next (names ++ page)) (others (names ++ page)) entries end
     (subst (λ k. Runs (followed k seq (next (names ++ page)) (others (names ++ page))) entries end) (is ∙ same) run)
 
 -- the page came

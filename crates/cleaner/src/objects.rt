@@ -1,10 +1,8 @@
-ghost use Rattle.std.specs.Prelude.{◌≡◌, [], ◌∷◌, ◌++◌, drop, IsTrue, IfOk, IfSome, MatchOption, OnOk, codes};
-ghost use Rattle.std.specs.String.{string_bytes};
+ghost use Rattle.std.specs.Prelude.{◌≡◌, [], ◌∷◌, ◌++◌, drop, IsTrue, IfOk, IfSome, MatchOption, OnOk};
 ghost use Rattle.block_keys.specs.Keys.{is_lawful_key};
-ghost use Rattle.ulid_core.specs.UlidText.{IsUlidText, text_of};
 ghost use Rattle.cleaner.specs.Objects.{data_named, data_keys, have_lawful_keys, only_data as only_data_of};
 
-use block_keys::Key;
+use block_keys::{Key, text_in_block};
 use label_sets::Text;
 use list_core::NoMemory;
 use std::alloc::Global;
@@ -43,7 +41,7 @@ fn data_key(alloc: Global, ulid: Ulid, name: &str) -> Result<Option<Key>, NoMemo
     ensures value { IfOk result (λ key. key ≡ data_named ulid name.now) }
     ensures lawful { IfOk result (λ key. IfSome key (λ k. IsTrue (is_lawful_key k))) }
 {
-    let text = text_of_name(alloc, ulid, name)?;
+    let text = text_in_block(alloc, ulid, name)?;
     Ok(only_data(Key::read(text.as_str()).ok()))
 }
 
@@ -54,16 +52,4 @@ fn only_data(key: Option<Key>) -> Option<Key>
         Some(Key::Segment(_, _) | Key::Index(_)) => key,
         _ => None,
     }
-}
-
-/// The text under which the block's object with that name stands in a bucket.
-fn text_of_name(alloc: Global, ulid: Ulid, name: &str) -> Result<String, NoMemory>
-    ensures value { IfOk result
-        (λ text. string_bytes text ≡ text_of ulid ++ codes "/" ++ name.now) }
-    ensures block { OnOk result (IsUlidText (text_of ulid) ulid) }
-{
-    let mut text = ulid.to_string(alloc)?;
-    text.push_str("/")?;
-    text.push_str(name)?;
-    Ok(text)
 }

@@ -1,6 +1,7 @@
 -- The reads of blocks: of each its index, and then its segments.
-use Rattle.std.specs.Prelude.{ℕ, zero, suc, ◌+◌, ◌<◌, ◌≤◌, ◌^◌, List, [], ◌∷◌, ◌++◌, length, Option, Some, None}
+use Rattle.std.specs.Prelude.{ℕ, zero, suc, ◌+◌, ◌<◌, ◌≤◌, List, [], ◌∷◌, ◌++◌, length, Option, Some, None}
 use Rattle.std.specs.List.{AllByRecursion}
+use Rattle.ulid_core.specs.Limits.{ulid_time_limit}
 use Rattle.block_keys.specs.declared.key.Key.{Key}
 use Rattle.block_keys.specs.declared.key.Key.TheVariants as key
 use Rattle.block_meta.specs.declared.meta.Meta.{Meta}
@@ -76,7 +77,7 @@ block_of inputs waiting meta = reads_block read_ends meta (blocks_after inputs w
 
 -- the blocks that were read may be merged into one, and its upload may follow the last entry, whose moment fits a ULID
 pub record MayMerge (all : Gathered) : Type 0 where
-  pub moment : all.moment.ms < 2 ^ 48
+  pub moment : all.moment.ms < ulid_time_limit
   pub many : 2 ≤ length all.inputs
   pub few : AllByRecursion HasFew all.inputs
 

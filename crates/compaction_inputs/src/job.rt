@@ -3,7 +3,7 @@ ghost use Rattle.group_planner.specs.Members.{ulids_of as ulids_of_all};
 ghost use Rattle.compaction_inputs.specs.Jobs.{IsFor, Takes};
 
 use block_meta::Meta;
-use group_planner::{Group, planned};
+use group_planner::{Group, planned_metas};
 use label_sets::LabelSet;
 use list_core::{NoMemory, TryCopy};
 use std::alloc::Global;
@@ -43,7 +43,7 @@ fn job_of(alloc: Global, group: Group) -> Result<Option<Job>, NoMemory>
         labels,
         members,
     } = group;
-    let plan = planned(members.members());
+    let plan = planned_metas(members.members());
     let [first, others @ ..] = plan else {
         return Ok(None);
     };

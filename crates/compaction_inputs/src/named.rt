@@ -16,14 +16,14 @@ pub(crate) fn named_segments(alloc: Global, bytes: &[u8]) -> Result<Option<u32>,
     ensures few { IfOk result (λ count. IfSome count (λ n. n ≤ segment_limit)) }
 {
     match read_index(alloc, bytes) {
-        Ok(indexed) => Ok(within(last_named(indexed.members()))),
+        Ok(indexed) => Ok(as_segment_number(last_named(indexed.members()))),
         Err(CheckRefusal::NoMemory) => Err(NoMemory),
         Err(_) => Ok(None),
     }
 }
 
 /// The number as one of a segment, if it is.
-fn within(last: u64) -> Option<u32>
+fn as_segment_number(last: u64) -> Option<u32>
     ensures named { result ≡ if_few (nat_le last segment_limit) last }
     ensures few { IfSome result (λ n. n ≤ segment_limit) }
 {

@@ -1,4 +1,5 @@
-ghost use Rattle.std.specs.Prelude.{◌≡◌, ◌+◌, ◌*◌, ◌≤◌, ◌<◌, ◌^◌, ℕ, List, [], ◌∷◌, ◌++◌, length, Option, Some, IfOk, IsSomeAnd};
+ghost use Rattle.std.specs.Prelude.{◌≡◌, ◌+◌, ◌*◌, ◌≤◌, ◌<◌, ℕ, List, [], ◌∷◌, ◌++◌, length, Option, Some, IfOk, IsSomeAnd};
+ghost use Rattle.ulid_core.specs.Limits.{ulid_time_limit};
 ghost use Rattle.block_keys.specs.Keys.{segment_limit};
 ghost use Rattle.world_core.specs.Machines.{Falls};
 ghost use Rattle.world_core.specs.Operations.{IsAnswer, entry_of};
@@ -142,7 +143,7 @@ impl Reads {
     ) -> Result<Act<ReadsEnd>, NoMemory>
         requires many { 1 ≤ length self.old.inputs + length self.old.waiting.items }
         requires room { length input.segments + more ≤ segment_limit }
-        requires moment { moment.ms < 2 ^ 48 }
+        requires moment { moment.ms < ulid_time_limit }
         ensures leads { (last : Entry) → last.seq ≡ number → last.moment ≡ moment
             → LeadsBy left_of asked_read
             (segments_of self.old.inputs self.old.waiting.items input more last) result self.new }
@@ -163,7 +164,7 @@ impl Reads {
     /// Goes on to the next block, or ends where there is none.
     fn next_block(&mut self, number: u64, moment: Moment) -> Result<Act<ReadsEnd>, NoMemory>
         requires many { 2 ≤ length self.old.inputs + length self.old.waiting.items }
-        requires moment { moment.ms < 2 ^ 48 }
+        requires moment { moment.ms < ulid_time_limit }
         ensures leads { (last : Entry) → last.seq ≡ number → last.moment ≡ moment
             → LeadsBy left_of asked_read
             (blocks_of self.old.inputs self.old.waiting.items last) result self.new }

@@ -1,6 +1,7 @@
 -- What a page of a folder shows, whatever the folder holds, and what a read of a part of a file gives.
-use Rattle.std.specs.Prelude.{◌≡◌, ℕ, ◌≤◌, true, List, length, All}
-use Rattle.bucket_core.specs.Pages.{Ascends}
+use Rattle.std.specs.Prelude.{◌≡◌, ℕ, ◌≤◌, true, List, length, All, Some}
+use Rattle.list_core.specs.Order.{InOrderAfter, ComesAfter}
+use Rattle.label_sets.specs.Labels.{compare_texts}
 use Rattle.bucket_core.specs.declared.answer.GetAnswer.{GetAnswer}
 use Rattle.bucket_core.specs.declared.answer.GetAnswer.TheVariants as get
 use Rattle.bucket_core.specs.declared.answer.PageAnswer.{PageAnswer}
@@ -9,7 +10,7 @@ use Rattle.dir_bucket.specs.Names.{is_plain}
 
 -- names after this one, in order, at most so many, and each of them plain
 pub record IsListing (after : List ℕ) (limit : ℕ) (names : List (List ℕ)) : Type 0 where
-  pub ascend : Ascends after names
+  pub ascend : InOrderAfter (ComesAfter compare_texts) (Some after) names
   pub few : length names ≤ limit
   pub plain : All (λ name. is_plain name ≡ true) names
 

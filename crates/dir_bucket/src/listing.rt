@@ -1,7 +1,8 @@
 //! The names of files below a folder. Names with a part that begins with a dot are passed over, and so are those that are no
 //! text.
-ghost use Rattle.std.specs.Prelude.{◌≡◌, [], ◌∷◌, ◌++◌, IfOk, IsTrue, true};
-ghost use Rattle.bucket_core.specs.Pages.{Ascends};
+ghost use Rattle.std.specs.Prelude.{◌≡◌, [], ◌∷◌, ◌++◌, Some, IfOk, IsTrue, true};
+ghost use Rattle.list_core.specs.Order.{InOrderAfter, ComesAfter};
+ghost use Rattle.label_sets.specs.Labels.{compare_texts};
 ghost use Rattle.dir_bucket.specs.Listings.{IsListing};
 ghost use Rattle.dir_bucket.specs.Names.{is_plain as is_plain_name};
 
@@ -214,8 +215,8 @@ fn is_shown<R: Files + AllocGlobal + Clone + Drop>(
 
 /// Whether a name comes behind all that a page has, and behind `after`.
 fn is_behind(page: &TextList, after: &str, name: &str) -> bool
-    ensures { IsTrue result → Ascends after.now page.now
-        → Ascends after.now (page.now ++ name.now ∷ []) }
+    ensures { IsTrue result → InOrderAfter (ComesAfter compare_texts) (Some after.now) page.now
+        → InOrderAfter (ComesAfter compare_texts) (Some after.now) (page.now ++ name.now ∷ []) }
 {
     match page.members().last() {
         Some(last) => last.as_str() < name,

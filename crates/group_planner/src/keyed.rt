@@ -7,7 +7,7 @@ ghost use Rattle.group_planner.specs.Groups.{comes_before, compare_members as or
 ghost use Rattle.group_planner.specs.Cuts.{with_key as keyed_meta, key_of_keyed, has_lesser_key};
 
 use block_meta::Meta;
-use label_sets::{LabelSet, TextList, reduced};
+use label_sets::{LabelSet, TextList, reduced_labels};
 use list_core::{NoMemory, TryCopy};
 use std::alloc::Global;
 use std::cmp::Ordering;
@@ -89,7 +89,7 @@ fn without_replicas(
     ensures { IfOk result (λ made. made ≡ without replicas.now labels.now) }
 {
     let external = LabelSet::empty(alloc);
-    let made = reduced(alloc, labels, &external, replicas)?;
+    let made = reduced_labels(alloc, labels, &external, replicas)?;
     Ok(made)
 }
 

@@ -13,5 +13,5 @@ pub use group::{Group, GroupList, groups};
 pub use members::{MetaList, UlidListList};
 pub use overlap::overlapping;
 pub use parts::split_by_range;
-pub use planning::{plan, planned};
+pub use planning::{plan, planned_metas};
 pub use selection::select;

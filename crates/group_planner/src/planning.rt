@@ -6,7 +6,7 @@ ghost use Rattle.group_planner.specs.Plans.{IsPlan, without_last as all_but_last
 use crate::Group;
 use crate::members::ulids_of;
 use crate::overlap::overlap_of;
-use crate::selection::selected;
+use crate::selection::selection_in;
 use block_meta::Meta;
 use list_core::NoMemory;
 use std::alloc::Global;
@@ -22,16 +22,16 @@ pub fn plan(alloc: Global, group: &Group) -> Result<UlidList, NoMemory>
     ensures only { (one other : List Meta) → IsPlan group.now.members one
         → IsPlan group.now.members other → one ≡ other }
 {
-    ulids_of(alloc, planned(group.members.members()))
+    ulids_of(alloc, planned_metas(group.members.members()))
 }
 
 /// The same plan as the metas of its blocks, which stand next to each other among the members.
-pub fn planned(metas: &[Meta]) -> &[Meta]
+pub fn planned_metas(metas: &[Meta]) -> &[Meta]
     ensures { IsPlan metas.now result.now }
 {
     let overlaps = overlap_of(metas);
     if overlaps.is_empty() {
-        selected(without_last(metas))
+        selection_in(without_last(metas))
     } else {
         overlaps
     }

@@ -25,10 +25,10 @@ pub fn select(alloc: Global, metas: &MetaList) -> Result<UlidList, NoMemory>
     ensures only { (one other : List Meta) → IsSelection metas.now one
         → IsSelection metas.now other → one ≡ other }
 {
-    ulids_of(alloc, selected(metas.members()))
+    ulids_of(alloc, selection_in(metas.members()))
 }
 
-pub(crate) fn selected(metas: &[Meta]) -> &[Meta]
+pub(crate) fn selection_in(metas: &[Meta]) -> &[Meta]
     ensures { IsSelection metas.now result.now }
 {
     let Some(last) = metas.last() else {

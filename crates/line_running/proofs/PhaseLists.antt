@@ -35,7 +35,7 @@ use Rattle.report_lines.specs.lifecycle_core.specs.InLine.{InLine, IsInLine, in_
 use Rattle.report_lines.specs.lifecycle_core.specs.Setting.{Setting}
 use Rattle.report_lines.specs.lifecycle_core.specs.Tasks.{End}
 use Rattle.report_lines.specs.lifecycle_core.specs.Ways.{AreFinished, AreInTurn, AreUnfinished, BeginsPhase, IsOperationDue, PhasesRun}
-use Rattle.list_core.proofs.Lists.{take_none}
+use Rattle.list_core.proofs.Lists.{take_none, drop_none}
 
 -- ---- lists
 
@@ -251,10 +251,6 @@ no_run tells setting journal report none empty = record {
   told = subst (λ (ps : List Phase). PhasesDone setting 0 ps [] []) (sym (take_none setting.script.phases)) (refl, refl);
   report_is = subst (λ (ps : List Phase). tells report setting.script (tasks_of ps) []) (sym (take_none setting.script.phases)) empty;
 }
-
-drop_none : (phases : List Phase) → drop 0 phases ≡ phases
-drop_none [] = refl
-drop_none (p ∷ ps) = refl
 
 -- before the first phase
 pub reached_none : {R : Type 0} (tells : R → Script → List Task → List Outcome → Type 0) (setting : Setting) (gateways : List Sight) (journal : List Entry) (report : R) → All (λ (g : Sight). g ≡ no_sight) gateways → journal ≡ [] → tells report setting.script [] []

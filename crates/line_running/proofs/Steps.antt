@@ -9,6 +9,7 @@ use Rattle.std.proofs.lemmas.List.{append-nil, drop_all, length-map}
 use Rattle.std.proofs.lemmas.List.FromFn.{length-map-range_with_len}
 use Rattle.std.proofs.lemmas.Option.{slice_get_within}
 use Rattle.list_core.proofs.Lists.{drop_none, drop_place, slice_get-set_other}
+use Rattle.list_core.proofs.Pairs.{AllZip-push}
 use Rattle.world_core.specs.Operations.{entry_of}
 use Rattle.world_core.specs.declared.entry.Entry.{Entry}
 use Rattle.script_core.specs.Lawful.{IsLawfulScript, IsLawfulWork}
@@ -288,14 +289,8 @@ module _ (setting : Setting) (seat : Hand → ℕ) (place : ℕ) (task : Task) (
           (subst (λ (ds : List Duty). InLine setting seat f.after ds (p.made ++ entries) (end ∷ later) last) (sym next)
           (inl (p.made, entries, end, later, p.after, refl, p.seats, subst (λ (e : Option End). TaskRun setting (who_does seat hand) place task.work (holding_of f.after (gateway_of hand)) p.made e p.after) is p.run, refl, run)))));
       shows = p.shows;
-      all = zip_push (IsPart task.work) f.ends parts end one f.all by;
+      all = AllZip-push (IsPart task.work) f.ends parts end one f.all by;
     }
-      where
-        zip_push : {A B : Type 0} (R : A → B → Type 0) (xs : List A) (ys : List B) (x : A) (y : B) → AllZip R xs ys → R x y → AllZip R (xs ++ x ∷ []) (ys ++ y ∷ [])
-        zip_push R [] [] x y all is = (is, tt)
-        zip_push R [] (b ∷ ys) x y all is = absurd all
-        zip_push R (a ∷ xs) [] x y all is = absurd all
-        zip_push R (a ∷ xs) (b ∷ ys) x y all is = (all.0, zip_push R xs ys x y all.1 is)
 
     pub part_more : (came : Came) (one : Part) (made : List Part) → came ≡ Ok one → made ≡ parts ++ one ∷ [] → PartStep setting seat place task hand f.after gateways mid new came → Front (number + 1) gateways old new made
     part_more came one made ok is p =

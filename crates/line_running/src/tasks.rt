@@ -73,7 +73,7 @@ pub(crate) fn do_task<B: Bucket, R: Drop>(
             }
         }
     }
-    (gathered(alloc, parts), hand)
+    (gathered_outcome(alloc, parts), hand)
 }
 
 /// How many do a task, where there are so many gateways.
@@ -151,7 +151,7 @@ fn do_part<B: Bucket, R: Drop>(
 }
 
 /// How a task came out, by all its parts.
-fn gathered(alloc: Global, parts: Vec<Part>) -> Result<Outcome, Broken>
+fn gathered_outcome(alloc: Global, parts: Vec<Part>) -> Result<Outcome, Broken>
     requires few { length parts.items < 2 ^ 32 }
     ensures whole { (work : Work) → AreAllParts work parts.items
         → IfOk result (IsOutcomeOf work parts.items) }

@@ -1,22 +1,22 @@
 -- Strictly ascending lists: their places and parts, and lists whose members are told from the one before.
-use Rattle.std.proofs.Common.{◌≡◌, ℕ, zero, suc, ◌<◌, Bool, true, false, List, [], ◌∷◌, ◌++◌, get_or, take, drop, map, Option, Some, refl, sym, subst, arith, inl, inr, take-append-drop}
-use Rattle.std.specs.Prelude.{slice_get}
+use Rattle.std.proofs.Common.{◌≡◌, ℕ, zero, suc, ◌<◌, Bool, true, false, List, [], ◌∷◌, ◌++◌, get_or, take, drop, map, Option, Some, None, refl, sym, subst, arith, inl, inr, take-append-drop}
+use Rattle.std.specs.Prelude.{slice_get, ◌↔◌}
 use Rattle.std.specs.declared.cmp.Ordering.{Ordering}
 use Rattle.std.specs.declared.cmp.Ordering.TheVariants.{Less, Equal, Greater}
 use Rattle.std.specs.Cmp.{IsTotalOrder}
 use Rattle.std.specs.List.{AllByRecursion, AllPairs, Contains, IsDistinct}
 use Rattle.std.specs.Ordering.{is_lt, is_eq, eq_by_cmp, ordering_reverse}
-use Rattle.std.proofs.lemmas.Bool.{cases_Bool}
+use Rattle.std.proofs.lemmas.Bool.{cases_Bool, and_parts, and_from}
 use Rattle.std.specs.List.Sorted.{IsStrictlySortedBy}
 use Rattle.std.proofs.lemmas.List.Elements.{All-from_recursion, recursion_from_All, All-contains, Contains-append_left, Contains-append_right, Contains-append_cases}
 use Rattle.std.proofs.lemmas.List.Kept.{AllPairs-cons}
 use Rattle.std.proofs.lemmas.Map.Keys.{sorted_head, sorted_tail, Less-from_sorted, IsDistinct-head, IsDistinct-tail}
 use Rattle.std.proofs.lemmas.Map.Views.{All-before_last}
 use Rattle.std.proofs.lemmas.Option.{slice_get_within, get_or_from_slice_get, slice_get-get_or}
-use Rattle.list_core.specs.Order.{InOrderAfter, ComesAfter}
+use Rattle.list_core.specs.Order.{InOrderAfter, ComesAfter, are_in_order_after, comes_after}
 use Rattle.list_core.proofs.Lists.{AllByRecursion-append, AllByRecursion-weaker, AllByRecursion-map}
 use Rattle.list_core.proofs.Membership.{each_member, all_members, contains_first, contains_later, only_member, into_map, of_placed, of_in_order}
-use Rattle.list_core.proofs.Bools.{Less-from_is_lt}
+use Rattle.list_core.proofs.Bools.{Less-from_is_lt, is_lt-from_Less}
 use Rattle.list_core.specs.Ordered.{placed, in_order}
 
 -- ---- a relation that goes on, told from the one before
@@ -50,6 +50,19 @@ module _ {A : Type 0} (cmp : A → A → Ordering) where
   pub order_from_sorted : (before : Option A) (xs : List A) → AllByRecursion (ComesAfter cmp before) xs → IsStrictlySortedBy cmp xs → InOrderAfter (ComesAfter cmp) before xs
   order_from_sorted before [] all up = tt
   order_from_sorted before (x ∷ xs) all up = (all.0, order_from_sorted (Some x) xs (sorted_head cmp x xs up) (sorted_tail cmp x xs up))
+
+  -- ---- what the tests tell
+
+  pub comes_after_tells : (before : Option A) (x : A) → (comes_after cmp before x ≡ true) ↔ ComesAfter cmp before x
+  comes_after_tells None x = (λ test. tt, λ after. refl)
+  comes_after_tells (Some before) x = (Less-from_is_lt (cmp before x), is_lt-from_Less (cmp before x))
+
+  pub in_order_tells : (before : Option A) (xs : List A) → (are_in_order_after (comes_after cmp) before xs ≡ true) ↔ InOrderAfter (ComesAfter cmp) before xs
+  in_order_tells before [] = (λ test. tt, λ up. refl)
+  in_order_tells before (x ∷ xs) = (
+    λ test. let each = and_parts (comes_after cmp before x) (are_in_order_after (comes_after cmp) (Some x) xs) test in ((comes_after_tells before x).0 each.0, (in_order_tells (Some x) xs).0 each.1),
+    λ up. and_from (comes_after cmp before x) (are_in_order_after (comes_after cmp) (Some x) xs) ((comes_after_tells before x).1 up.0) ((in_order_tells (Some x) xs).1 up.1),
+  )
 
   -- ---- places
 

@@ -1,10 +1,11 @@
 -- A stable sort has one result, which `in_order` gives.
 use Rattle.std.proofs.Common.{◌≡◌, ℕ, suc, ◌<◌, ◌≤◌, Bool, true, false, not, ◌&&◌, cond, List, [], ◌∷◌, length, get_or, refl, sym, ap, ◌∙◌, subst, arith}
 use Rattle.std.specs.Cmp.{IsStrictWeakOrder}
-use Rattle.std.specs.List.{filter}
+use Rattle.std.specs.List.{AllByRecursion, filter}
 use Rattle.std.specs.List.Sorted.{IsSortedBy, IsStableBy, ties}
 use Rattle.std.proofs.lemmas.List.Sorted.{sorted_far}
 use Rattle.std.proofs.lemmas.Bool.{true≢false}
+pub use Rattle.list_core.specs.Ordered.{Rises}
 use Rattle.list_core.specs.Ordered.{placed, in_order}
 use Rattle.list_core.proofs.Bools.{by_bool}
 use Rattle.list_core.proofs.Lists.{cons_parts, filter_hit, filter_miss}
@@ -15,13 +16,7 @@ no_cycle false h = refl
 
 -- no member of the list is less than x
 abbrev pub NoneLess : {A : Type 0} → (A → A → Bool) → A → List A → Type 0
-NoneLess less x [] = Unit {0}
-NoneLess less x (y ∷ ys) = (less y x ≡ false) × NoneLess less x ys
-
--- no member is less than one before it
-abbrev pub Rises : {A : Type 0} → (A → A → Bool) → List A → Type 0
-Rises less [] = Unit {0}
-Rises less (x ∷ xs) = NoneLess less x xs × Rises less xs
+NoneLess less x xs = AllByRecursion (λ y. less y x ≡ false) xs
 
 NoneLess-from_reads : {A : Type 0} (less : A → A → Bool) (x : A) (ys : List A) → ((j : ℕ) → j < length ys → less (get_or ys j x) x ≡ false) → NoneLess less x ys
 NoneLess-from_reads less x [] h = tt
@@ -106,7 +101,7 @@ module _ {A : Type 0} (less : A → A → Bool) (o : IsStrictWeakOrder less) whe
     | false ↦ (n, h)
   ]
 
-  NoneLess-chain : (x y : A) (ws : List A) → less y x ≡ false → NoneLess less y ws → NoneLess less x ws
+  pub NoneLess-chain : (x y : A) (ws : List A) → less y x ≡ false → NoneLess less y ws → NoneLess less x ws
   NoneLess-chain x y [] n h = tt
   NoneLess-chain x y (w ∷ ws) n h = (o.chain w y x h.0 n, NoneLess-chain x y ws n h.1)
 

@@ -6,5 +6,5 @@ mod list;
 mod memory;
 
 pub use copy::TryCopy;
-pub use list::{List, behind};
-pub use memory::NoMemory;
+pub use list::{List, members_behind};
+pub use memory::{NoMemory, cut_on_err};

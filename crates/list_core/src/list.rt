@@ -89,8 +89,8 @@ impl<T: TryCopy> TryCopy for List<T> {
     }
 }
 
-/// The members of a slice behind so many.
-pub fn behind<T>(members: &[T], count: usize) -> &[T]
+/// The members of a slice behind so many, of which there are no fewer.
+pub fn members_behind<T>(members: &[T], count: usize) -> &[T]
     requires { count ≤ length members.now }
     ensures { result.now ≡ drop count members.now }
 {

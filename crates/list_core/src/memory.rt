@@ -1,4 +1,4 @@
-ghost use Rattle.std.specs.Prelude.{◌≡◌};
+ghost use Rattle.std.specs.Prelude.{◌≡◌, take, OnOk, OnErr};
 
 use std::alloc::{AllocError, AllocFailed};
 use std::fmt;
@@ -23,4 +23,21 @@ impl<T: Drop> From<AllocFailed<T>> for NoMemory {
     fn from(_: AllocFailed<T>) -> Self {
         NoMemory
     }
+}
+
+/// What putting something into a list gave. Where it ended for want of memory, what was put of it is cut off, so that the list
+/// has its first members, of which there were so many before.
+pub fn cut_on_err<T: Drop>(
+    list: &mut Vec<T>,
+    before: usize,
+    put: Result<(), NoMemory>,
+) -> Result<(), NoMemory>
+    ensures same { result ≡ put }
+    ensures ok { OnOk result (list.new.items ≡ list.old.items) }
+    ensures err { OnErr result (list.new.items ≡ take before list.old.items) }
+{
+    if put.is_err() {
+        list.truncate(before);
+    }
+    put
 }

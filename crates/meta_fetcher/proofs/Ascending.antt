@@ -12,17 +12,19 @@ use Rattle.std.proofs.lemmas.Cmp.{nat_list_cmp_total}
 use Rattle.std.proofs.lemmas.List.{map-append}
 use Rattle.std.proofs.lemmas.Map.Keys.{IsStrictlyIncreasing-from_sorted, sorted_from_strictly_increasing}
 use Rattle.list_core.proofs.Bools.{Less-from_is_lt}
+use Rattle.list_core.specs.Order.{are_in_order_after, comes_after}
 use Rattle.ulid_core.specs.UlidText.{IsUlidText, ulid_of, text_of}
 use Rattle.ulid_core.specs.declared.refusal.UlidRefusal.{UlidRefusal}
 use Rattle.ulid_core.proofs.UlidLaws.{IsUlidText-unique, slice_cmp-text_of, ulid_of-found}
+use Rattle.label_sets.specs.Labels.{compare_texts}
 use Rattle.world_core.specs.Plans.{Runs}
-use Rattle.world_core.specs.Walks.{ascends, is_after, ulids_in}
+use Rattle.world_core.specs.Walks.{ulids_in}
 use Rattle.world_core.specs.declared.entry.Entry.{Entry}
 use Rattle.world_core.proofs.PlanLaws.{nothing_given}
 use Rattle.sync_filters.specs.Filters.{is_consistent, is_covered, is_in_partition, is_unmarked}
 use Rattle.sync_filters.specs.declared.found.Found.{Found}
 use Rattle.meta_fetcher.specs.Sightings.{Sighting, sighting_of, passed_by, kept_by, covered_by}
-use Rattle.meta_fetcher.specs.Syncs.{Synced, sighted, fault, damaged, too_many, Course, sync, Ascend}
+use Rattle.meta_fetcher.specs.Syncs.{Synced, sighted, fault, damaged, too_many, Course, sync, SightingsAscend}
 use Rattle.meta_fetcher.specs.declared.rules.SyncRules.{SyncRules}
 use Rattle.meta_fetcher.proofs.SyncLaws.{KeptByPages, KeptByReads, sighting_at, told}
 
@@ -34,25 +36,25 @@ Ascending ulids = IsStrictlySortedBy nat_cmp ulids
 -- the text of each is greater than the one before it
 abbrev AreAfter : Option (List ℕ) → List ℕ → Type 0
 AreAfter bound [] = Unit {0}
-AreAfter bound (ulid ∷ ulids) = (is_after bound (text_of ulid) ≡ true) × (ulid < 2 ^ 128) × AreAfter (Some (text_of ulid)) ulids
+AreAfter bound (ulid ∷ ulids) = (comes_after compare_texts bound (text_of ulid) ≡ true) × (ulid < 2 ^ 128) × AreAfter (Some (text_of ulid)) ulids
 
-after_less : (bound : Option (List ℕ)) (name : List ℕ) (ulids : List ℕ) → is_after bound name ≡ true → AreAfter (Some name) ulids → AreAfter bound ulids
+after_less : (bound : Option (List ℕ)) (name : List ℕ) (ulids : List ℕ) → comes_after compare_texts bound name ≡ true → AreAfter (Some name) ulids → AreAfter bound ulids
 after_less bound name [] before all = tt
 after_less None name (ulid ∷ ulids) before all = (refl, all.1, all.2)
 after_less (Some x) name (ulid ∷ ulids) before all =
     (ap is_lt (nat_list_cmp_total.trans x name (text_of ulid) (Less-from_is_lt (slice_cmp nat_cmp x name) before) (Less-from_is_lt (slice_cmp nat_cmp name (text_of ulid)) all.0)), all.1, all.2)
 
-one_after : (bound : Option (List ℕ)) (name : List ℕ) (ulids : List ℕ) (r : Result ℕ UlidRefusal) → ((ulid : ℕ) → r ≡ Ok ulid → IsUlidText name ulid) → is_after bound name ≡ true
+one_after : (bound : Option (List ℕ)) (name : List ℕ) (ulids : List ℕ) (r : Result ℕ UlidRefusal) → ((ulid : ℕ) → r ≡ Ok ulid → IsUlidText name ulid) → comes_after compare_texts bound name ≡ true
     → AreAfter (Some name) ulids → AreAfter bound (cons_option (result_ok r) ulids)
 one_after bound name ulids (Ok ulid) found before all =
     let is : name ≡ text_of ulid = IsUlidText-unique name ulid (found ulid refl) in
-    (subst (λ text. is_after bound text ≡ true) is before, (found ulid refl).fits, subst (λ text. AreAfter (Some text) ulids) is all)
+    (subst (λ text. comes_after compare_texts bound text ≡ true) is before, (found ulid refl).fits, subst (λ text. AreAfter (Some text) ulids) is all)
 one_after bound name ulids (Err e) found before all = after_less bound name ulids before all
 
-ulids_after : (bound : Option (List ℕ)) (names : List (List ℕ)) → ascends bound names ≡ true → AreAfter bound (ulids_in names)
+ulids_after : (bound : Option (List ℕ)) (names : List (List ℕ)) → are_in_order_after (comes_after compare_texts) bound names ≡ true → AreAfter bound (ulids_in names)
 ulids_after bound [] up = tt
 ulids_after bound (name ∷ names) up =
-    let each = and_parts (is_after bound name) (ascends (Some name) names) up in
+    let each = and_parts (comes_after compare_texts bound name) (are_in_order_after (comes_after compare_texts) (Some name) names) up in
     one_after bound name (ulids_in names) (ulid_of name) (ulid_of-found name) each.0 (ulids_after (Some name) names each.1)
 
 all_above : (ulid : ℕ) (ulids : List ℕ) → ulid < 2 ^ 128 → AreAfter (Some (text_of ulid)) ulids → AllByRecursion (λ other. nat_cmp ulid other ≡ Less) ulids
@@ -69,11 +71,11 @@ after_ascending bound (ulid ∷ ulids) all = (all_above ulid ulids all.1 all.2, 
 
 -- ---- the names of a walk
 
-ascends_on : (before : Option (List ℕ)) (listed names : List (List ℕ)) → ascends before listed ≡ true → ascends (last_or before listed) names ≡ true → ascends before (listed ++ names) ≡ true
+ascends_on : (before : Option (List ℕ)) (listed names : List (List ℕ)) → are_in_order_after (comes_after compare_texts) before listed ≡ true → are_in_order_after (comes_after compare_texts) (last_or before listed) names ≡ true → are_in_order_after (comes_after compare_texts) before (listed ++ names) ≡ true
 ascends_on before [] names up more = more
 ascends_on before (name ∷ listed) names up more =
-    let each = and_parts (is_after before name) (ascends (Some name) listed) up in
-    and_from (is_after before name) (ascends (Some name) (listed ++ names)) each.0 (ascends_on (Some name) listed names each.1 more)
+    let each = and_parts (comes_after compare_texts before name) (are_in_order_after (comes_after compare_texts) (Some name) listed) up in
+    and_from (comes_after compare_texts before name) (are_in_order_after (comes_after compare_texts) (Some name) (listed ++ names)) each.0 (ascends_on (Some name) listed names each.1 more)
 
 -- ---- sightings
 
@@ -118,7 +120,7 @@ by_reads = record {
 }
 
 abbrev AreUp : List Entry → List (List ℕ) → Type 0
-AreUp made names = ascends None names ≡ true
+AreUp made names = are_in_order_after (comes_after compare_texts) None names ≡ true
 
 by_pages : (limit : ℕ) → KeptByPages AnyEntry IsInOrder limit AreUp AreUp
 by_pages limit = record {
@@ -130,12 +132,12 @@ by_pages limit = record {
 }
 
 -- what a sync comes to ascends
-pub sync_ascends : (rules : SyncRules) (entries : List Entry) (told : Synced × Option Course) → Runs (sync rules) entries (Some told) → Ascend told
+pub sync_ascends : (rules : SyncRules) (entries : List Entry) (told : Synced × Option Course) → Runs (sync rules) entries (Some told) → SightingsAscend told
 sync_ascends rules entries (last, course) run =
     in_order last course (told AnyEntry IsInOrder rules AreUp AreUp (λ made sightings ulids. Ascending (ulids_of sightings ++ ulids)) (by_pages rules.page_limit) by_reads refl
     (λ made names up. after_ascending None (ulids_in names) (ulids_after None names up)) entries last course (nothing_given entries) run).0
   where
-    in_order : (last : Synced) (course : Option Course) → IsInOrder entries last → Ascend (last, course)
+    in_order : (last : Synced) (course : Option Course) → IsInOrder entries last → SightingsAscend (last, course)
     in_order (sighted sightings) course up = IsStrictlyIncreasing-from_sorted (ulids_of sightings) up
     in_order (fault number) course up = tt
     in_order (damaged number) course up = tt

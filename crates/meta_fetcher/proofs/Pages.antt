@@ -3,9 +3,11 @@ use Rattle.std.proofs.Common.{◌≡◌, ℕ, zero, suc, ◌+◌, ◌-◌, ◌*�
 use Rattle.std.specs.Prelude.{nat_lt, nat_le, map}
 use Rattle.std.proofs.lemmas.Bool.{lt-leb, le-leb}
 use Rattle.list_core.specs.declared.memory.NoMemory.{NoMemory}
+use Rattle.list_core.specs.Order.{are_in_order_after, comes_after}
+use Rattle.label_sets.specs.Labels.{compare_texts}
 use Rattle.world_core.specs.Operations.{entry_of}
 use Rattle.world_core.specs.Plans.{Plan, choose}
-use Rattle.world_core.specs.Walks.{after_page, ascends, last_listed, ulids_in}
+use Rattle.world_core.specs.Walks.{after_page, last_listed, ulids_in}
 use Rattle.world_core.specs.declared.op.Op.{Op}
 use Rattle.world_core.specs.declared.reply.Reply.{Reply}
 use Rattle.world_core.specs.declared.reply.Reply.TheVariants as reply
@@ -46,10 +48,10 @@ page_follows rules course names page more seq given entries end is run = subst (
 
 -- its names do not ascend
 pub page_damaged : (rules : SyncRules) (course : Option Course) (last : Option (List ℕ)) (names page : List (List ℕ)) (more seq : ℕ) (given : Reply) → given ≡ reply.Names page → last_listed names ≡ last
-    → ascends last page ≡ false → Goes rules course (After rules names more seq given) [] (Some (Damaged seq))
+    → are_in_order_after (comes_after compare_texts) last page ≡ false → Goes rules course (After rules names more seq given) [] (Some (Damaged seq))
 page_damaged rules course last names page more seq given is listed down =
     page_follows rules course names page more seq given [] (Some (Damaged seq)) is
-    (goes_else rules course (ascends (last_listed names) page) _ _ [] (Some (Damaged seq)) (ap (λ l. ascends l page) listed ∙ down) (ended rules course _ (Damaged seq) refl))
+    (goes_else rules course (are_in_order_after (comes_after compare_texts) (last_listed names) page) _ _ [] (Some (Damaged seq)) (ap (λ l. are_in_order_after (comes_after compare_texts) l page) listed ∙ down) (ended rules course _ (Damaged seq) refl))
 
 -- the call failed
 pub page_failed : (rules : SyncRules) (course : Option Course) (names : List (List ℕ)) (more seq : ℕ) (landed : Bool) (given : Reply) → given ≡ reply.Failed landed
@@ -66,25 +68,25 @@ module _ (s : Sync) (seat : ℕ) (o : Op) (seen : Seen) where
 
   -- what follows its names, where they ascend
   abbrev ByNames : Option Course → List (List ℕ) → Onward
-  ByNames course page entries end = (last : Option (List ℕ)) (names : List (List ℕ)) (more seq : ℕ) → IsAfter last s names more → ascends last page ≡ true
+  ByNames course page entries end = (last : Option (List ℕ)) (names : List (List ℕ)) (more seq : ℕ) → IsAfter last s names more → are_in_order_after (comes_after compare_texts) last page ≡ true
       → Goes s.rules course (After s.rules names more seq (reply.Names page)) entries end
 
-  pub first_page : (page : List (List ℕ)) (r : Result (Act SyncEnd) NoMemory) (new : Sync) → seen.reply ≡ reply.Names page → ascends None page ≡ true
+  pub first_page : (page : List (List ℕ)) (r : Result (Act SyncEnd) NoMemory) (new : Sync) → seen.reply ≡ reply.Names page → are_in_order_after (comes_after compare_texts) None page ≡ true
       → Leads (ByNames Begun page) r new → Leads (goes_after Opening s (entry_of seat o seen)) r new
   first_page page r new is up leads =
       leads_as (ByNames Begun page) (goes_after Opening s (entry_of seat o seen)) r new
       (λ entries end run. λ names more listed. page_follows s.rules Begun names page more seen.seq seen.reply entries end is (run None names more seen.seq listed up)) leads
 
-  pub next_page : (page : List (List ℕ)) (r : Result (Act SyncEnd) NoMemory) (new : Sync) → seen.reply ≡ reply.Names page → ascends (Some s.after) page ≡ true
+  pub next_page : (page : List (List ℕ)) (r : Result (Act SyncEnd) NoMemory) (new : Sync) → seen.reply ≡ reply.Names page → are_in_order_after (comes_after compare_texts) (Some s.after) page ≡ true
       → Leads (ByNames Now page) r new → Leads (goes_after Listing s (entry_of seat o seen)) r new
   next_page page r new is up leads =
       leads_as (ByNames Now page) (goes_after Listing s (entry_of seat o seen)) r new
       (λ entries end run. λ names more listed. page_follows s.rules Now names page more seen.seq seen.reply entries end is (run (Some s.after) names more seen.seq listed up)) leads
 
-  pub first_damaged : (page : List (List ℕ)) → seen.reply ≡ reply.Names page → ascends None page ≡ false → goes_after Opening s (entry_of seat o seen) [] (Some (Damaged seen.seq))
+  pub first_damaged : (page : List (List ℕ)) → seen.reply ≡ reply.Names page → are_in_order_after (comes_after compare_texts) None page ≡ false → goes_after Opening s (entry_of seat o seen) [] (Some (Damaged seen.seq))
   first_damaged page is down = λ names more listed. page_damaged s.rules Begun None names page more seen.seq seen.reply is listed.ends down
 
-  pub next_damaged : (page : List (List ℕ)) → seen.reply ≡ reply.Names page → ascends (Some s.after) page ≡ false → goes_after Listing s (entry_of seat o seen) [] (Some (Damaged seen.seq))
+  pub next_damaged : (page : List (List ℕ)) → seen.reply ≡ reply.Names page → are_in_order_after (comes_after compare_texts) (Some s.after) page ≡ false → goes_after Listing s (entry_of seat o seen) [] (Some (Damaged seen.seq))
   next_damaged page is down = λ names more listed. page_damaged s.rules Now (Some s.after) names page more seen.seq seen.reply is listed.ends down
 
   pub first_failed : (landed : Bool) → seen.reply ≡ reply.Failed landed → goes_after Opening s (entry_of seat o seen) [] (Some (Fault seen.seq))
@@ -101,7 +103,7 @@ pub last_page : (s : Sync) (page : List (List ℕ)) (waiting : List ℕ) (entrie
     → Goes s.rules (Some (course_of s)) (reading (sightings_of s) waiting) entries end → goes_by_names s page entries end
 last_page s page waiting entries end added short run = λ last names more seq listed up.
     let course : Option Course = Some (course_of s) in
-    goes_if s.rules course (ascends (last_listed names) page) _ _ entries end (ap (λ l. ascends l page) listed.ends ∙ up)
+    goes_if s.rules course (are_in_order_after (comes_after compare_texts) (last_listed names) page) _ _ entries end (ap (λ l. are_in_order_after (comes_after compare_texts) l page) listed.ends ∙ up)
     (goes_if s.rules course (nat_lt (length page) s.rules.page_limit) _ _ entries end short
     (subst (λ l. Goes s.rules course (reading [] l) entries end) (all_wait s.waiting.items page names waiting added listed.blocks)
     (subst (λ (f : List Found). Goes s.rules course (reading (map sighting_of f) waiting) entries end) listed.unread run)))
@@ -123,7 +125,7 @@ full_page s page waiting count last entries end added full some counted few is r
     let course : Option Course = Some (course_of s) in
     let both : length (names ++ page) ≡ length names + length page = length-append names page in
     let many : length (names ++ page) ≡ count = both ∙ ap (λ n. n + length page) listed.many ∙ sym counted in
-    goes_if s.rules course (ascends (last_listed names) page) _ _ entries end (ap (λ l. ascends l page) listed.ends ∙ up)
+    goes_if s.rules course (are_in_order_after (comes_after compare_texts) (last_listed names) page) _ _ entries end (ap (λ l. are_in_order_after (comes_after compare_texts) l page) listed.ends ∙ up)
     (goes_else s.rules course (nat_lt (length page) s.rules.page_limit) _ _ entries end full
     (goes_else s.rules course (nat_le 1_000_000 (length (names ++ page))) _ _ entries end (lt-leb 1_000_000 (length (names ++ page)) (omega (arith, many, few)))
     (more_pages s course (names ++ page) last waiting count more entries end many few (last_listed-more names page last is)
@@ -135,7 +137,7 @@ pub too_many_names : (s : Sync) (page : List (List ℕ)) (count : ℕ) → nat_l
 too_many_names s page count full counted many = λ last names more seq listed up.
     let course : Option Course = Some (course_of s) in
     let all : length (names ++ page) ≡ s.listed + length page = length-append names page ∙ ap (λ n. n + length page) listed.many in
-    goes_if s.rules course (ascends (last_listed names) page) _ _ [] (Some TooMany) (ap (λ l. ascends l page) listed.ends ∙ up)
+    goes_if s.rules course (are_in_order_after (comes_after compare_texts) (last_listed names) page) _ _ [] (Some TooMany) (ap (λ l. are_in_order_after (comes_after compare_texts) l page) listed.ends ∙ up)
     (goes_else s.rules course (nat_lt (length page) s.rules.page_limit) _ _ [] (Some TooMany) full
     (goes_if s.rules course (nat_le 1_000_000 (length (names ++ page))) _ _ [] (Some TooMany) (le-leb 1_000_000 (length (names ++ page)) (omega (arith, all, counted, many)))
     (ended s.rules course _ TooMany refl)))

@@ -13,26 +13,20 @@ use Rattle.sync_filters.specs.Filters.{is_covered, Splits}
 use Rattle.sync_filters.specs.declared.found.Found.{Found}
 use Rattle.meta_fetcher.proofs.Ascending.{blocks_of}
 
-abbrev Ascend : List Found → Type 0
-Ascend blocks = IsStrictlySortedBy nat_cmp (blocks_of blocks)
-
-abbrev Rises : List Found → Type 0
-Rises = IsNonDecreasingBy (λ block. block.ulid)
-
-above : (block : Found) (blocks : List Found) (other : Found) → Ascend (block ∷ blocks) → Contains blocks other → block.ulid < other.ulid
+above : (block : Found) (blocks : List Found) (other : Found) → IsStrictlySortedBy nat_cmp (blocks_of (block ∷ blocks)) → Contains blocks other → block.ulid < other.ulid
 above block blocks other up among =
     lt-from_Less block.ulid other.ulid (each_member (λ x. nat_cmp block.ulid x ≡ Less) (blocks_of blocks) other.ulid (sorted_head nat_cmp block.ulid (blocks_of blocks) up)
     (into_map (λ (b : Found). b.ulid) blocks other among))
 
-not_less : (block : Found) (blocks : List Found) (other : Found) → Rises (block ∷ blocks) → Contains blocks other → block.ulid ≤ other.ulid
+not_less : (block : Found) (blocks : List Found) (other : Found) → IsNonDecreasingBy (λ (block : Found). block.ulid) (block ∷ blocks) → Contains blocks other → block.ulid ≤ other.ulid
 not_less block blocks other up (k, below, is) =
     let le : block.ulid ≤ (get_or blocks k other).ulid = up 0 (suc k) other (omega arith) (omega (arith, below)) in
     omega (arith, le, ap (λ (b : Found). b.ulid) is)
 
-tail_rises : (block : Found) (blocks : List Found) → Rises (block ∷ blocks) → Rises blocks
+tail_rises : (block : Found) (blocks : List Found) → IsNonDecreasingBy (λ (block : Found). block.ulid) (block ∷ blocks) → IsNonDecreasingBy (λ (block : Found). block.ulid) blocks
 tail_rises block blocks up i j d le lt = up (suc i) (suc j) d (omega (arith, le)) (omega (arith, lt))
 
-behind_first : (block : Found) (blocks : List Found) (least other : Found) → Rises (block ∷ blocks) → Contains (block ∷ blocks) least → least.ulid < other.ulid → Contains (block ∷ blocks) other → Contains blocks other
+behind_first : (block : Found) (blocks : List Found) (least other : Found) → IsNonDecreasingBy (λ (block : Found). block.ulid) (block ∷ blocks) → Contains (block ∷ blocks) least → least.ulid < other.ulid → Contains (block ∷ blocks) other → Contains blocks other
 behind_first block blocks least other up first higher among = elim (member_cases block other blocks among) [
   | inl same ↦ elim (member_cases block least blocks first) [
     | inl as_well ↦ absurd (omega (arith, ap (λ (b : Found). b.ulid) same, ap (λ (b : Found). b.ulid) as_well, higher))
@@ -42,7 +36,7 @@ behind_first block blocks least other up first higher among = elim (member_cases
 ]
 
 -- in order of their ULIDs, with the same blocks, whose ULIDs differ
-same_blocks : (listed found : List Found) → Rises listed → Ascend found → length listed ≡ length found → ((x : Found) → Contains found x → Contains listed x) → listed ≡ found
+same_blocks : (listed found : List Found) → IsNonDecreasingBy (λ (block : Found). block.ulid) listed → IsStrictlySortedBy nat_cmp (blocks_of found) → length listed ≡ length found → ((x : Found) → Contains found x → Contains listed x) → listed ≡ found
 same_blocks [] [] up rise same among = refl
 same_blocks [] (f ∷ fs) up rise same among = absurd (omega (arith, same))
 same_blocks (block ∷ blocks) [] up rise same among = absurd (omega (arith, same))
@@ -56,13 +50,13 @@ same_blocks (block ∷ blocks) (f ∷ fs) up rise same among =
     ]
 
 -- what is kept, and what is covered, ascends as the listed blocks do, whatever the found ones were
-pub stay_rises : (found stay leave : List Found) → Splits found stay leave → Rises stay
+pub stay_rises : (found stay leave : List Found) → Splits found stay leave → IsNonDecreasingBy (λ (block : Found). block.ulid) stay
 stay_rises found stay leave split =
-    subst Rises (sym split.kept) (IsNonDecreasingBy-filter (λ (b : Found). b.ulid) (λ block. not (is_covered split.listed block)) split.listed split.ascend)
+    subst (IsNonDecreasingBy (λ (block : Found). block.ulid)) (sym split.kept) (IsNonDecreasingBy-filter (λ (b : Found). b.ulid) (λ block. not (is_covered split.listed block)) split.listed split.ascend)
 
-pub leave_rises : (found stay leave : List Found) → Splits found stay leave → Rises leave
+pub leave_rises : (found stay leave : List Found) → Splits found stay leave → IsNonDecreasingBy (λ (block : Found). block.ulid) leave
 leave_rises found stay leave split =
-    subst Rises (sym split.covered) (IsNonDecreasingBy-filter (λ (b : Found). b.ulid) (is_covered split.listed) split.listed split.ascend)
+    subst (IsNonDecreasingBy (λ (block : Found). block.ulid)) (sym split.covered) (IsNonDecreasingBy-filter (λ (b : Found). b.ulid) (is_covered split.listed) split.listed split.ascend)
 
 module _ (found kept covered : List Found) (split : Splits found kept covered) (rise : IsStrictlyIncreasing (blocks_of found)) where
   listed_same : split.listed ≡ found

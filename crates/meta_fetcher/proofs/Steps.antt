@@ -14,7 +14,7 @@ use Rattle.world_core.specs.declared.act.Act.TheVariants.{Do}
 use Rattle.world_core.proofs.LeadSteps.{leads_kept, opens as begins, steps}
 use Rattle.world_core.proofs.PlanLaws.{breaks_off}
 use Rattle.meta_fetcher.specs.Sightings.{Sighting, IsView}
-use Rattle.meta_fetcher.specs.Syncs.{Synced, sighted, Course, with_entry, reading, IsEnd, Ascend}
+use Rattle.meta_fetcher.specs.Syncs.{Synced, sighted, Course, with_entry, reading, IsEnd, SightingsAscend}
 use Rattle.meta_fetcher.specs.SyncStates.{asked_at, asked_sync, course_at, left_at, HasListed, Onward, Goes, may_at, may_sync, goes_after, Leads}
 use Rattle.meta_fetcher.specs.contracts.sync.SyncMachine.TheImpl.{ghosts}
 use Rattle.meta_fetcher.specs.declared.rules.SyncRules.{SyncRules}
@@ -98,7 +98,7 @@ opens s new o fresh lawful waits onward = begins now asked_sync rests answers s 
 
 -- no block waits, and the view is that of the sightings
 pub over : (rules : SyncRules) (course : Course) (sightings : List Sighting) (ulids : List ℕ) (view : View) → ulids ≡ []
-    → (Ascend (sighted sightings, Some course) → IsView rules course.first course.begin course.end sightings view) → Goes rules (Some course) (reading sightings ulids) [] (Some (ends_in.View view))
+    → (SightingsAscend (sighted sightings, Some course) → IsView rules course.first course.begin course.end sightings view) → Goes rules (Some course) (reading sightings ulids) [] (Some (ends_in.View view))
 over rules course sightings ulids view none is =
     subst (λ l. Goes rules (Some course) (reading sightings l) [] (Some (ends_in.View view))) (sym none)
     ((sighted sightings, Some course), (refl, inr refl), λ ascend. (view, refl, is ascend))

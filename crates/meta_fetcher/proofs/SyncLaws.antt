@@ -2,12 +2,14 @@
 use Rattle.std.proofs.Common.{◌≡◌, ℕ, zero, suc, Bool, true, false, List, [], ◌∷◌, ◌++◌, length, Option, Some, None, refl, subst}
 use Rattle.std.specs.Prelude.{nat_le, nat_lt, unwrap_or, fold}
 use Rattle.std.specs.List.{AllByRecursion}
+use Rattle.list_core.specs.Order.{are_in_order_after, comes_after}
+use Rattle.label_sets.specs.Labels.{compare_texts}
 use Rattle.block_keys.specs.declared.key.Key.TheVariants as key
 use Rattle.block_meta.specs.MetaFields.{MetaFields, MarkFields}
 use Rattle.moment_core.specs.declared.moment.Moment.{Moment}
 use Rattle.world_core.specs.Limits.{most_listed}
 use Rattle.world_core.specs.Plans.{Plan, ends, Runs, after_get}
-use Rattle.world_core.specs.Walks.{after_page, ascends, last_listed, ulids_in}
+use Rattle.world_core.specs.Walks.{after_page, last_listed, ulids_in}
 use Rattle.world_core.specs.declared.entry.Entry.{Entry}
 use Rattle.world_core.specs.declared.op.Op.{Op}
 use Rattle.world_core.specs.declared.op.Op.TheVariants as op
@@ -138,12 +140,12 @@ pub record KeptByPages (Given : Entry → Type 0) (Is : List Entry → Synced �
   pub failed : (made : List Entry) (listed : List (List ℕ)) (page : Entry) (landed : Bool)
       → Comes Given (I made listed) (page_after limit listed) (reply.Failed landed) page → Is (made ++ page ∷ []) (fault page.seq)
   pub unordered : (made : List Entry) (listed names : List (List ℕ)) (page : Entry)
-      → Comes Given (I made listed) (page_after limit listed) (reply.Names names) page → ascends (last_listed listed) names ≡ false → Is (made ++ page ∷ []) (damaged page.seq)
+      → Comes Given (I made listed) (page_after limit listed) (reply.Names names) page → are_in_order_after (comes_after compare_texts) (last_listed listed) names ≡ false → Is (made ++ page ∷ []) (damaged page.seq)
   pub short : (made : List Entry) (listed names : List (List ℕ)) (page : Entry)
-      → Comes Given (I made listed) (page_after limit listed) (reply.Names names) page → ascends (last_listed listed) names ≡ true → nat_lt (length names) limit ≡ true
+      → Comes Given (I made listed) (page_after limit listed) (reply.Names names) page → are_in_order_after (comes_after compare_texts) (last_listed listed) names ≡ true → nat_lt (length names) limit ≡ true
       → L (made ++ page ∷ []) (listed ++ names)
   pub full : (made : List Entry) (listed names : List (List ℕ)) (page : Entry)
-      → Comes Given (I made listed) (page_after limit listed) (reply.Names names) page → ascends (last_listed listed) names ≡ true → nat_lt (length names) limit ≡ false
+      → Comes Given (I made listed) (page_after limit listed) (reply.Names names) page → are_in_order_after (comes_after compare_texts) (last_listed listed) names ≡ true → nat_lt (length names) limit ≡ false
       → I (made ++ page ∷ []) (listed ++ names)
   pub many : (made : List Entry) (names : List (List ℕ)) → I made names → nat_le most_listed (length names) ≡ true → Is made too_many
 
@@ -154,7 +156,7 @@ module _ (Given : Entry → Type 0) (Is : List Entry → Synced → Type 0) (rul
       → EndsAre Given Is (made ++ page ∷ []) (after_page walk_ends rules.page_limit listed page.seq r (λ names. reading [] (ulids_in names)) (listing rules more))
   page_ends more rest made listed page (reply.Names names) came =
       let now : List Entry = made ++ page ∷ [] in
-      chosen (EndsAre Given Is now) (ascends (last_listed listed) names) _ _
+      chosen (EndsAre Given Is now) (are_in_order_after (comes_after compare_texts) (last_listed listed) names) _ _
       (λ up. chosen (EndsAre Given Is now) (nat_lt (length names) rules.page_limit) _ _
       (λ short. goes now (listed ++ names) (kept.short made listed names page came up short))
       (λ full. let i = kept.full made listed names page came up full in

@@ -60,24 +60,24 @@ same_founds (x ∷ xs) (y ∷ ys) same =
     let first : x ≡ y = same_found x y (cc (same)) in
     let rest : xs ≡ ys = same_founds xs ys (cc (same)) in λ i. first i ∷ rest i
 
-abbrev Rises : List Found → Type 0
-Rises blocks = IsNonDecreasingBy (λ block. block.ulid) blocks
+abbrev AreByUlid : List Found → Type 0
+AreByUlid blocks = IsNonDecreasingBy (λ block. block.ulid) blocks
 
-rises_prop : (blocks : List Found) → IsProp (Rises blocks)
+rises_prop : (blocks : List Found) → IsProp (AreByUlid blocks)
 rises_prop blocks = hlevel props
 
-abbrev view_made : ℕ → Moment → Moment → (kept covered : List Found) → Rises kept → Rises covered → View
+abbrev view_made : ℕ → Moment → Moment → (kept covered : List Found) → AreByUlid kept → AreByUlid covered → View
 view_made first begin end kept covered kept_rise covered_rise =
     record { first = first; begin = begin; end = end; kept = kept; covered = covered; kept_rise = kept_rise; covered_rise = covered_rise }
 
-same_lists : (first : ℕ) (begin end : Moment) (kept kept' covered covered' : List Found) → kept ≡ kept' → covered ≡ covered' → (k : Rises kept) (c : Rises covered) (k' : Rises kept') (c' : Rises covered')
+same_lists : (first : ℕ) (begin end : Moment) (kept kept' covered covered' : List Found) → kept ≡ kept' → covered ≡ covered' → (k : AreByUlid kept) (c : AreByUlid covered) (k' : AreByUlid kept') (c' : AreByUlid covered')
     → view_made first begin end kept covered k c ≡ view_made first begin end kept' covered' k' c'
 same_lists first begin end kept kept' covered covered' same also k c =
-    subst (λ (ks : List Found). (k' : Rises ks) (c' : Rises covered') → view_made first begin end kept covered k c ≡ view_made first begin end ks covered' k' c') same
-    (subst (λ (cs : List Found). (k' : Rises kept) (c' : Rises cs) → view_made first begin end kept covered k c ≡ view_made first begin end kept cs k' c') also
-    (λ k' c'. ap (λ (x : Rises kept). view_made first begin end kept covered x c) (rises_prop kept k k') ∙ ap (λ (x : Rises covered). view_made first begin end kept covered k' x) (rises_prop covered c c')))
+    subst (λ (ks : List Found). (k' : AreByUlid ks) (c' : AreByUlid covered') → view_made first begin end kept covered k c ≡ view_made first begin end ks covered' k' c') same
+    (subst (λ (cs : List Found). (k' : AreByUlid kept) (c' : AreByUlid cs) → view_made first begin end kept covered k c ≡ view_made first begin end kept cs k' c') also
+    (λ k' c'. ap (λ (x : AreByUlid kept). view_made first begin end kept covered x c) (rises_prop kept k k') ∙ ap (λ (x : AreByUlid covered). view_made first begin end kept covered k' x) (rises_prop covered c c')))
 
-same_view : (first first' : ℕ) (begin begin' end end' : Moment) (kept covered : List Found) (k : Rises kept) (c : Rises covered) → first ≡ first' → begin ≡ begin' → end ≡ end'
+same_view : (first first' : ℕ) (begin begin' end end' : Moment) (kept covered : List Found) (k : AreByUlid kept) (c : AreByUlid covered) → first ≡ first' → begin ≡ begin' → end ≡ end'
     → view_made first begin end kept covered k c ≡ view_made first' begin' end' kept covered k c
 same_view first first' begin begin' end end' kept covered k c firsts begun ended = λ i. view_made (firsts i) (begun i) (ended i) kept covered k c
 

@@ -3,11 +3,13 @@ use Rattle.std.specs.Prelude.{◌≡◌, ℕ, suc, ◌+◌, ◌-◌, ◌*◌, �
 use Rattle.block_keys.specs.declared.key.Key.TheVariants as key
 use Rattle.block_meta.specs.MetaFields.{mark_fields_of}
 use Rattle.list_core.specs.declared.memory.NoMemory.{NoMemory}
+use Rattle.list_core.specs.Order.{are_in_order_after, comes_after}
+use Rattle.label_sets.specs.Labels.{compare_texts}
 use Rattle.world_core.specs.Leads as lead
 use Rattle.world_core.specs.Leads.{after_entry}
 use Rattle.world_core.specs.Limits.{most_listed}
 use Rattle.world_core.specs.Plans.{Plan, noting, ComesTo}
-use Rattle.world_core.specs.Walks.{ascends, after_page, last_listed, ulids_in}
+use Rattle.world_core.specs.Walks.{after_page, last_listed, ulids_in}
 use Rattle.world_core.specs.declared.op.Op.{Op}
 use Rattle.world_core.specs.declared.op.Op.TheVariants as op
 use Rattle.world_core.specs.declared.reply.Reply.TheVariants as reply
@@ -15,7 +17,7 @@ use Rattle.world_core.specs.declared.entry.Entry.{Entry}
 use Rattle.world_core.specs.declared.act.Act.{Act}
 use Rattle.sync_filters.specs.declared.found.Found.{Found}
 use Rattle.meta_fetcher.specs.Sightings.{Sighting, sighting_of}
-use Rattle.meta_fetcher.specs.Syncs.{Synced, Course, with_entry, reads_meta, reading, walk_ends, listing, IsEnd, Ascend}
+use Rattle.meta_fetcher.specs.Syncs.{Synced, Course, with_entry, reads_meta, reading, walk_ends, listing, IsEnd, SightingsAscend}
 use Rattle.meta_fetcher.specs.declared.rules.SyncRules.{SyncRules}
 use Rattle.meta_fetcher.specs.declared.stage.Stage.{Stage}
 use Rattle.meta_fetcher.specs.declared.stage.Stage.TheVariants.{Fresh, Opening, Listing, Marking, Reading}
@@ -99,7 +101,7 @@ Onward = List Entry → Option SyncEnd → Type 0
 -- A run of the plan, where the entries until now were made so. That its sightings ascend is known of the whole sync alone, and not
 -- of what is left of it; so an end is said of those that do.
 abbrev pub Goes : SyncRules → Option Course → Plan Synced → Onward
-Goes rules course plan = ComesTo (noting with_entry course plan) (λ told end. Ascend told → IsEnd rules told end)
+Goes rules course plan = ComesTo (noting with_entry course plan) (λ told end. SightingsAscend told → IsEnd rules told end)
 
 -- in a stage such a run, whatever names were listed
 abbrev pub GoesIn : Stage → Sync → Option Course → (List (List ℕ) → ℕ → Plan Synced) → Onward
@@ -120,7 +122,7 @@ goes_after stage sync e = GoesIn stage sync (with_entry (course_at stage sync) e
 -- a run of what is left after a page of these names, which ascend
 abbrev pub goes_by_names : Sync → List (List ℕ) → Onward
 goes_by_names sync page entries end =
-    (last : Option (List ℕ)) (names : List (List ℕ)) (more seq : ℕ) → IsAfter last sync names more → ascends last page ≡ true
+    (last : Option (List ℕ)) (names : List (List ℕ)) (more seq : ℕ) → IsAfter last sync names more → are_in_order_after (comes_after compare_texts) last page ≡ true
     → Goes sync.rules (Some (course_of sync))
     (after_page walk_ends sync.rules.page_limit names seq (reply.Names page) (λ all. reading [] (ulids_in all)) (listing sync.rules more)) entries end
 

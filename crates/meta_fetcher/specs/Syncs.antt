@@ -91,11 +91,11 @@ abbrev pub sync : SyncRules → Plan (Synced × Option Course)
 sync rules = noting with_entry None (listing rules most_listed [])
 
 -- the sightings ascend by ULID, if it came to any
-abbrev pub Ascend : Synced × Option Course → Type 0
-Ascend (sighted sightings, course) = IsStrictlyIncreasing (map (λ sighting. sighting.ulid) sightings)
-Ascend (fault number, course) = Unit {0}
-Ascend (damaged number, course) = Unit {0}
-Ascend (too_many, course) = Unit {0}
+abbrev pub SightingsAscend : Synced × Option Course → Type 0
+SightingsAscend (sighted sightings, course) = IsStrictlyIncreasing (map (λ sighting. sighting.ulid) sightings)
+SightingsAscend (fault number, course) = Unit {0}
+SightingsAscend (damaged number, course) = Unit {0}
+SightingsAscend (too_many, course) = Unit {0}
 
 -- what a sync comes to gives this end
 abbrev pub IsEnd : SyncRules → Synced × Option Course → SyncEnd → Type 0

@@ -1,7 +1,7 @@
 -- The limits of moments and rules, and the units of spans.
 use Rattle.std.specs.Prelude.{ℕ, ◌^◌}
 
--- the least number of milliseconds that is no moment
+-- A text or a clock line names a moment below this. Ticks may pass it.
 abbrev pub moment_limit : ℕ
 moment_limit = 2 ^ 47
 
@@ -20,6 +20,10 @@ span_digits = 12
 -- a day, the longest tick in milliseconds
 abbrev pub longest_tick : ℕ
 longest_tick = 86_400_000
+
+-- a millisecond, in nanoseconds
+abbrev pub one_millisecond : ℕ
+one_millisecond = 1_000_000
 
 -- ---- units, in milliseconds
 

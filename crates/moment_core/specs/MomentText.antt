@@ -5,12 +5,12 @@ use Rattle.std.specs.Bool.{MatchBool}
 use Rattle.std.specs.Str.Parse.{digits_value}
 use Rattle.jiff.specs.Words.{parse_timestamp, Error}
 use Rattle.reading_core.specs.ShortNumber.{is_number}
-use Rattle.moment_core.specs.Limits.{moment_limit, moment_digits}
+use Rattle.moment_core.specs.Limits.{moment_limit, moment_digits, one_millisecond}
 
 -- The text is that of the moment.
 pub record IsMomentText (text : List ℕ) (ms : ℕ) : Type 0 where
   pub below : ms < moment_limit
-  pub written : MatchBool (is_number moment_digits text) (ms ≡ digits_value 10 text) (parse_timestamp text ≡ Ok (pos (ms * 1_000_000)))
+  pub written : MatchBool (is_number moment_digits text) (ms ≡ digits_value 10 text) (parse_timestamp text ≡ Ok (pos (ms * one_millisecond)))
 
 -- milliseconds that are a moment
 abbrev pub moment_within : ℕ → Option ℕ
@@ -18,7 +18,7 @@ moment_within ms = if nat_lt ms moment_limit then Some ms else None
 
 -- the milliseconds of nanoseconds, if they are whole and a moment
 abbrev pub moment_at : ℤ → Option ℕ
-moment_at (pos nanoseconds) = if nanoseconds % 1_000_000 == 0 then moment_within (nanoseconds / 1_000_000) else None
+moment_at (pos nanoseconds) = if nanoseconds % one_millisecond == 0 then moment_within (nanoseconds / one_millisecond) else None
 moment_at (negsuc below) = None
 
 abbrev pub moment_of_timestamp : Result ℤ Error → Option ℕ

@@ -13,11 +13,11 @@ use std::alloc::Global;
 /// How many digits milliseconds have at most.
 const MOST_DIGITS: usize = 15;
 
-/// The least number of milliseconds that is no moment.
+/// A text or a clock line names a moment below this.
 const LIMIT: u64 = 1 << 47;
 
-/// How many nanoseconds a millisecond has.
-const NANOSECONDS: u128 = 1_000_000;
+/// A millisecond in nanoseconds.
+const MILLISECOND: u128 = 1_000_000;
 
 /// A moment in milliseconds since 1970.
 #[derive(Clone, Copy, Debug, PartialEq, Eq, PartialOrd, Ord)]
@@ -81,8 +81,8 @@ fn moment_at(nanoseconds: i128) -> Option<u64>
     ensures { result ≡ words.moment_at nanoseconds }
 {
     let nanoseconds = u128::try_from(nanoseconds).ok()?;
-    if nanoseconds % NANOSECONDS != 0 {
+    if nanoseconds % MILLISECOND != 0 {
         return None;
     }
-    moment_within(u64::try_from(nanoseconds / NANOSECONDS).ok()?)
+    moment_within(u64::try_from(nanoseconds / MILLISECOND).ok()?)
 }

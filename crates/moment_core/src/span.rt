@@ -8,11 +8,13 @@ use crate::BadSpan;
 use list_core::{NoMemory, TryCopy};
 use reading_core::short_number;
 
-/// The units of spans, in milliseconds.
+/// A second, in milliseconds.
 pub const SECOND: u64 = 1_000;
 
+/// A minute, in milliseconds.
 pub const MINUTE: u64 = 60 * SECOND;
 
+/// An hour, in milliseconds.
 pub const HOUR: u64 = 60 * MINUTE;
 
 /// How many digits the number of a span has at most.

@@ -1,16 +1,11 @@
 -- Seated workers are ready, and as many as the jobs.
-use Rattle.std.proofs.Common.{◌≡◌, ℕ, zero, suc, ◌+◌, ◌<◌, ◌++◌, List, [], ◌∷◌, length, Option, Some, None, slice_index_or, map, take, drop, refl, ap, arith}
+use Rattle.std.proofs.Common.{◌≡◌, ℕ, zero, suc, ◌+◌, ◌<◌, List, [], ◌∷◌, length, Option, Some, None, slice_index_or, map, refl, ap, arith}
 use Rattle.atomic_table.specs.Seated.{TableId}
 use Rattle.world_turn.specs.declared.pass.Pass.{Pass}
 use Rattle.world_turn.specs.declared.view.View.{View}
 use Rattle.phase_runner.specs.Phases.{AreSeated}
 use Rattle.phase_runner.specs.Works.{IsReady}
 use Rattle.phase_runner.specs.declared.work.Work.{Work}
-
-pub taken_whole : {A : Type 0} (ws items : List A) → length items ≡ length ws → take (length ws) (ws ++ drop (length ws) items) ≡ ws
-taken_whole [] items e = refl
-taken_whole (x ∷ ws) [] e = absurd (omega arith)
-taken_whole (x ∷ ws) (y ∷ items) e = ap (λ l. x ∷ l) (taken_whole ws items (omega arith))
 
 module _ {J : Type 0} (table : TableId) (v : View) where
   first : (seat : ℕ) (job : J) (jobs : List J) (j : Option J) (p : Option Pass) (ws : List (Option J × Option Pass)) → AreSeated table v seat (job ∷ jobs) ((j, p) ∷ ws) → IsReady table j p × AreSeated table v (seat + 1) jobs ws

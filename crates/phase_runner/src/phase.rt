@@ -59,10 +59,10 @@ where
 {
     let count = jobs.len();
     let Ok(mut works) = Vec::with_capacity(alloc, count) else {
-        return unbegun(alloc, root);
+        return unbegun_phase(alloc, root);
     };
     let Ok(mut ends) = Vec::with_capacity(alloc, count) else {
-        return unbegun(alloc, root);
+        return unbegun_phase(alloc, root);
     };
     let first = Snapshot::of(&root);
     let all = Snapshot::of(&jobs);
@@ -77,7 +77,7 @@ where
 }
 
 /// Memory was wanting before the first job.
-fn unbegun<E>(alloc: Global, root: Pass) -> PhaseEnd<E>
+fn unbegun_phase<E>(alloc: Global, root: Pass) -> PhaseEnd<E>
     ensures { (result.root ≡ root) × (result.ends.items ≡ []) × (result.memory ≡ true) }
 {
     PhaseEnd {

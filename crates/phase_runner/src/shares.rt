@@ -1,6 +1,6 @@
 //! Work on the places of a list, shared out among threads that the caller makes one after another.
 //!
-//! Where new threads make others, these wait until their makers come to run, which may be long after there was a free processor.
+//! Where new threads make others, these mostly begin on their makers' processors, and wait there while another processor is idle.
 ghost use Rattle.std.specs.Prelude.{◌≡◌, ℕ, ◌+◌, ◌^◌, ◌<◌, length};
 ghost use Rattle.std.specs.Fork.{AcceptsAt, ChangesAt, AcceptsEach, ChangesEach};
 ghost use Rattle.phase_runner.specs.Shares.{AcceptsFrom, ChangesFrom};
@@ -9,8 +9,8 @@ ghost use denote.Param.Send.{IsSync, IsSend};
 use std::thread;
 use std::thread::{Threads, join_mut};
 
-/// Calls f(i, &mut s[i]) at each place, in at most so many threads, and in no more than there are places. The caller makes all of the
-/// others, and does the last share.
+/// Calls f(i, &mut s[i]) at each place, in at most so many threads, and in no more than there are places. The caller makes all
+/// other threads, and does the last share.
 pub fn for_each_beside<R: Threads + Sync, T: Send, F: Fn(usize, &mut T) + Sync>(
     rt: &R,
     s: &mut [T],
@@ -98,7 +98,7 @@ fn at_one<T, F: Fn(usize, &mut T)>(f: &F, i: usize, it: &mut T)
     f(i, it);
 }
 
-/// How many processors there are; one, where the system does not tell.
+/// How many processors the process may use; one, where the system does not tell.
 pub fn processors<R: Threads>(rt: &R) -> usize
     ensures { 0 < result }
 {

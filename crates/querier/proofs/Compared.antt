@@ -1,8 +1,8 @@
 -- Answers that were compared with the first one: together they tell what they told before.
-use Rattle.std.proofs.Common.{◌≡◌, inl, inr, ℕ, suc, ◌<◌, List, [], ◌∷◌, ◌++◌, length, get_or, take, drop, refl, sym, ap, ◌∙◌, subst, arith}
+use Rattle.std.proofs.Common.{◌≡◌, inl, inr, ℕ, suc, ◌<◌, List, [], ◌∷◌, ◌++◌, length, get_or, drop, refl, sym, ap, ◌∙◌, subst, arith}
 use Rattle.std.specs.Prelude.{All, Contains, remove}
 use Rattle.std.specs.List.{find}
-use Rattle.std.proofs.lemmas.List.{append-nil, append_assoc, take-append-le, take_all}
+use Rattle.std.proofs.lemmas.List.{append-nil, append_assoc}
 use Rattle.std.proofs.lemmas.List.Elements.{All-contains, All-contains_itself, All-weaker, Contains-append_left}
 use Rattle.list_core.proofs.Lists.{split_place, take_none}
 use Rattle.list_core.proofs.Membership.{contains_first}
@@ -61,7 +61,3 @@ pub compared_told : (answers old new told : List Answer) (first : Answer) → 0 
 compared_told answers old new told first some is others many each same =
     subst (λ (xs : List Answer). TellTheSame xs told) (ap (λ (xs : List Answer). first ∷ xs) others ∙ first_and_others answers first some is)
     (told_through (first ∷ old) (first ∷ new) told (compared_rest first (first ∷ []) (first ∷ []) old new (contains_first first []) (told_itself (first ∷ [])) many each) same)
-
--- a list whose places were all written anew
-pub written_back : (count : ℕ) (after rest : List Answer) → length after ≡ count → take count (after ++ rest) ≡ after
-written_back count after rest long = take-append-le count after rest (omega (arith, long)) ∙ take_all count after (omega (arith, long))

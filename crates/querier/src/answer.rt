@@ -2,10 +2,11 @@ ghost use Rattle.std.specs.Prelude.{◌≡◌, []};
 ghost use Rattle.querier.specs.Gathered.{IsComparedWith};
 
 use crate::repeats::are_same;
+use block_meta::HasSources;
 use label_sets::SeriesList;
 use list_core::List;
 use std::alloc::Global;
-use ulid_core::UlidList;
+use ulid_core::{Ulid, UlidList};
 
 /// Samples that answer a query, or a gateway's part of it, and the uploads that they are of.
 #[derive(Drop)]
@@ -25,7 +26,7 @@ impl Answer {
         }
     }
 
-    /// Lets go what the answer has, if its series are those of the first one.
+    /// Lets go what the answer has, its sources too, if its series are those of the first one.
     pub fn empty_repeat(&mut self, alloc: Global, first: &Answer)
         ensures { IsComparedWith first.now self.old self.new }
     {
@@ -33,6 +34,14 @@ impl Answer {
         if are_same(first.series.members(), own) {
             *self = Answer::empty(alloc);
         }
+    }
+}
+
+impl HasSources for Answer {
+    ghost sources = { λ answer. answer.sources };
+
+    fn sources(&self) -> &[Ulid] {
+        self.sources.members()
     }
 }
 

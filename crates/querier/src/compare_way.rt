@@ -1,4 +1,4 @@
-//! Ways to compare gateways' answers with the first one: one after another, or as a caller does it.
+//! Ways to compare gateways' answers with the first one: by one thread, all or none, or as a caller does it.
 
 ghost use Rattle.std.specs.Prelude.{◌≡◌, ◌<◌, [], ℕ, length, slice_index_or};
 ghost use Rattle.querier.specs.Gathered.{IsComparedWith};
@@ -12,7 +12,7 @@ pub trait CompareWay {
     /// What has to hold for answers to be compared so, for example that what threads are lent may be shared.
     ghost can_compare: { Self → Type 0 };
 
-    /// Empties others that have the first one's series: all of these, or some, or none.
+    /// Empties others that have the first one's series: all of these, or some, or none. Their sources go too, so a caller takes these before.
     fn compare_all(&self, alloc: Global, first: &Answer, others: &mut [Answer])
         requires { can_compare self.now }
         ensures { (i : ℕ) (d : _) → i < length others.old

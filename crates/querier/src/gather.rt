@@ -1,18 +1,16 @@
 ghost use Rattle.std.specs.Prelude.{◌≡◌, [], ◌∷◌, ◌++◌, IfOk, OnOk, OnErr};
-ghost use Rattle.block_meta.specs.Lawful.{ascending};
 ghost use Rattle.label_sets.specs.Triples.{triples_of};
 ghost use Rattle.vertical_merge.specs.Merged.{IsMerge, IsDeduplication};
-ghost use Rattle.querier.specs.Gathered.{answer, gathered_samples, gathered_sources, IsGathered};
+ghost use Rattle.querier.specs.Gathered.{answer, gathered_samples, IsGathered};
 
 use crate::repeats::without_repeats;
 use crate::{Answer, AnswerList, CompareWay};
-use block_meta::{add_all, ulids_in};
+use block_meta::union_of_sources;
 use label_sets::SeriesList;
 use list_core::{NoMemory, TryCopy};
 use std::alloc::Global;
-use std::collections::BTreeSet;
 use std::marker::Model;
-use ulid_core::{Ulid, UlidList};
+use ulid_core::UlidList;
 use vertical_merge::Merger;
 
 /// The answers of gateways to one query, which make one answer. It is seen as the answers that were added, in that order.
@@ -61,7 +59,7 @@ impl Gather {
     }
 
     /// The answer of all together: at each label set and time the pattern of the first gateway that has one, and the sources of
-    /// them all. In this way the answers are compared before.
+    /// them all. The answers are compared with the first one in this way, and then merged.
     pub fn finish<W: CompareWay>(self, way: &W) -> Result<Answer, NoMemory>
         requires { W.can_compare way.now }
         ensures merged { IfOk result (IsGathered self) }
@@ -70,30 +68,13 @@ impl Gather {
     {
         let Gather { alloc, added } = self;
         let sources = union_of_sources(alloc, added.members())?;
-        let series = merged(alloc, added, way)?;
+        let series = merged_answers(alloc, added, way)?;
         Ok(Answer { series, sources })
     }
 }
 
-/// The sources of all answers, ascending, each once.
-fn union_of_sources(alloc: Global, answers: &[Answer]) -> Result<UlidList, NoMemory>
-    ensures { IfOk result (λ made. made ≡ ascending (gathered_sources answers.now)) }
-{
-    ulids_in(alloc, &set_of_sources(alloc, answers)?)
-}
-
-fn set_of_sources(alloc: Global, answers: &[Answer]) -> Result<BTreeSet<Ulid>, NoMemory>
-    ensures { IfOk result (λ set. set.keys ≡ ascending (gathered_sources answers.now)) }
-{
-    let mut set = BTreeSet::new(alloc);
-    for answer in answers {
-        add_all(&mut set, answer.sources.members())?;
-    }
-    Ok(set)
-}
-
 /// The series of all answers, merged.
-fn merged<W: CompareWay>(
+fn merged_answers<W: CompareWay>(
     alloc: Global,
     answers: AnswerList,
     way: &W,

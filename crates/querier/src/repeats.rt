@@ -9,8 +9,8 @@ use label_sets::{Sample, Series};
 use list_core::NoMemory;
 use std::alloc::Global;
 
-/// The answers, but for repeats: those whose series are those of the first one, as far as the way tells, have none any more, and each
-/// whose series are those of the one before it then is left out.
+/// The answers without repeats. The way empties some of those that have the first one's series; then each that has the series of the one
+/// before it is left out.
 pub(crate) fn without_repeats<W: CompareWay>(
     alloc: Global,
     answers: Vec<Answer>,

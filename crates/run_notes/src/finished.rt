@@ -26,8 +26,8 @@ impl<B: Bucket> Finished<B> {
         ensures world { result.world ≡ hand.world }
         ensures note { IsSomeAnd result.note (Tells hand.refused hand.wanted result.world) }
     {
-        let full = hand.refused();
-        let wanted = hand.wanted();
+        let full = hand.met_full();
+        let wanted = hand.wanted_memory();
         let world = hand.into_world();
         let note = RunNote::new(full, wanted, &world);
         Finished {
@@ -42,8 +42,8 @@ impl<B: Bucket> Finished<B> {
         ensures note { IsSomeAnd result.note (Tells (view_of closed.root.value).refused
             (view_of closed.root.value).wanted result.world) }
     {
-        let full = closed.refused();
-        let wanted = closed.wanted();
+        let full = closed.met_full();
+        let wanted = closed.wanted_memory();
         let world = closed.into_world();
         let note = RunNote::new(full, wanted, &world);
         Finished {

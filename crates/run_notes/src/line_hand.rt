@@ -69,14 +69,14 @@ impl<B: Bucket> LineHand<B> {
     }
 
     /// Whether an operation was answered that the journal is full.
-    pub(crate) fn refused(&self) -> bool
+    pub(crate) fn met_full(&self) -> bool
         ensures { result ≡ self.now.refused }
     {
         self.refused
     }
 
     /// Whether memory was wanted for an operation.
-    pub(crate) fn wanted(&self) -> bool
+    pub(crate) fn wanted_memory(&self) -> bool
         ensures { result ≡ self.now.wanted }
     {
         self.wanted

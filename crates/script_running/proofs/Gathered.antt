@@ -8,6 +8,7 @@ use Rattle.std.proofs.lemmas.Slice.Zip.{AllZip-long}
 use Rattle.list_core.proofs.Lists.{cons_same}
 use Rattle.list_core.proofs.Membership.{contains_first, contains_later, contains_place, member_cases, no_member, place_of_member}
 use Rattle.list_core.proofs.Pairs.{second_in_zip, beside_first}
+use Rattle.list_core.proofs.Options.{one_value}
 use Rattle.script_workers.specs.Hands.{gateway_count, gateway_of, hands_of, hands_of_task}
 use Rattle.script_workers.specs.Staff.{AreSeated, IsStaff, IsWorkerOf}
 use Rattle.script_workers.specs.Whose.{IsFor, IsTaskOf, asks, cleans, compacts, ships, syncs}
@@ -201,12 +202,9 @@ module _ (setting : Setting) (number : ℕ) (phase : Phase) (taken : ℕ)
     | inr (w, e, among, whose, here) ↦
         let c = comes setting phase.tasks before front after workers kept others ends lasts w e have left.own among in
         let came = part_at phase.tasks w.tasks ((c.has).was).own c.own e.parts.items place o ((c.has).was).are (c.has).parts here in
-        let same : came.task ≡ task = some_same came.task task (slice_get phase.tasks place) came.at at in
+        let same : came.task ≡ task = one_value came.task task (slice_get phase.tasks place) came.at at in
         (came.end, record { worker = w; own = c.own; among = c.among; is = sym whose; came = came.among }, subst (λ (x : Task). IsPart x.work came.end o) same came.is)
   ]
-    where
-      some_same : {X : Type 0} (x y : X) (o : Option X) → o ≡ Some x → o ≡ Some y → x ≡ y
-      some_same x y o one other = cc (one, other)
 
   -- whoever does a task has filled its slot
   is_filled : (h : Hand) (place : ℕ) (task : Task) → slice_get phase.tasks place ≡ Some task → IsFor gateways h place task.work → IsFilled new (gateway_of h) place

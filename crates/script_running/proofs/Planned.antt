@@ -8,6 +8,7 @@ use Rattle.list_core.proofs.Lists.{AllByRecursion-push}
 use Rattle.reading_core.specs.Grammar.{IsBytes}
 use Rattle.label_sets.specs.declared.sample.Sample.{Sample}
 use Rattle.label_sets.specs.declared.series.Series.{Series}
+use Rattle.label_sets.specs.Times.{IsWithin}
 use Rattle.block_keys.specs.declared.object.Object.{Object}
 use Rattle.block_meta.specs.MetaFields.{MetaFields, fields_of}
 use Rattle.block_meta.specs.MetaValue.{meta_text}
@@ -17,11 +18,10 @@ use Rattle.block_files.specs.declared.block_files.BlockFiles.{BlockFiles}
 use Rattle.block_files.specs.declared.build_refusal.BuildRefusal.{BuildRefusal}
 use Rattle.block_laws.specs.PutContent.{AreBytes}
 use Rattle.block_writing.specs.Built.{AreBuildable, AreOfBlock, HaveNoBlock, IsBuilt}
-use Rattle.block_writing.specs.Put.{PlanFields, IsWithin as IsInPlan}
+use Rattle.block_writing.specs.Put.{PlanFields}
 use Rattle.block_writing.specs.Writing.{plan_fields}
 use Rattle.block_writing.specs.WrittenMeta.{meta_with}
 use Rattle.script_core.specs.Lawful.{HasLawfulSamples, IsLawfulBlock, IsLawfulBody, IsLawfulInline}
-use Rattle.script_core.specs.Spelling.{IsWithin}
 use Rattle.script_core.specs.declared.block.Block.{Block}
 use Rattle.script_core.specs.declared.body.Body.{Body}
 use Rattle.script_core.specs.declared.body.Body.TheVariants.{Inline}
@@ -51,9 +51,9 @@ of_block : (min_time max_time : ℤ) (plan : PlanFields) (s : Series) → plan.m
 of_block min_time max_time plan s early late law = record {
   some = some_samples s.samples law.some;
   ascend = law.rising;
-  within = recursion_from_All (IsInPlan plan) s.samples
-      (All-weaker (IsWithin min_time max_time) (IsInPlan plan)
-      (λ x inside. (subst (λ z. z ≤ℤ x.time) (sym early) inside.from, subst (λ z. x.time <ℤ z) (sym late) inside.below)) s.samples (within_spelled min_time max_time s.samples law.within));
+  within = recursion_from_All (IsWithin plan.min_time plan.max_time) s.samples
+      (All-weaker (IsWithin min_time max_time) (IsWithin plan.min_time plan.max_time)
+      (λ x inside. (subst (λ z. z ≤ℤ x.time) (sym early) inside.0, subst (λ z. x.time <ℤ z) (sym late) inside.1)) s.samples (within_spelled min_time max_time s.samples law.within));
 }
 
 pub buildable : (block : Block) (min_time max_time : ℤ) (series : List Series) (plan : BlockPlan) → IsLawfulBlock block → block.body ≡ Inline min_time max_time series → IsPlanOf block min_time max_time plan → AreBuildable (plan_fields plan) series

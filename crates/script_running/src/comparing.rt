@@ -10,8 +10,11 @@ use querier::{Answer, CompareWay, InTurn};
 use std::alloc::Global;
 use std::thread::Threads;
 
-/// An answer of fewer samples is compared sooner than a thread is made.
+/// Answers like a first one of fewer samples are compared sooner than a thread is made.
 const LEAST_SAMPLES: u64 = 100_000;
+
+/// Two threads that compare one answer after another take as long as one that compares four at a time.
+const LEAST_THREADS: usize = 3;
 
 /// Beside each other, in threads.
 #[derive(Drop)]
@@ -28,7 +31,7 @@ impl<'a, T: Threads + Sync> CompareWay for Beside<'a, T> {
 }
 
 /// Compares each of the others with the first answer, in at most as many threads as there are processors, and lets go there what repeats
-/// it. Where there are fewer than two others, or the answers have few samples, no thread is started.
+/// it. Where there are fewer than two others or few processors, or the first answer has few samples, no thread is started.
 fn compare_beside<T: Threads + Sync>(rt: &T, alloc: Global, first: &Answer, others: &mut [Answer])
     ensures { (i : ℕ) (d : _) → i < length others.old
         → IsComparedWith first.now (slice_index_or others.old i d)
@@ -38,10 +41,15 @@ fn compare_beside<T: Threads + Sync>(rt: &T, alloc: Global, first: &Answer, othe
         InTurn.compare_all(alloc, first, others);
         return;
     }
+    let threads = processors(rt);
+    if threads < LEAST_THREADS {
+        InTurn.compare_all(alloc, first, others);
+        return;
+    }
     for_each_beside(
         rt,
         others,
-        processors(rt),
+        threads,
         &|_, other| { other.empty_repeat(alloc, first) },
     );
 }

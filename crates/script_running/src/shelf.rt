@@ -138,7 +138,7 @@ pub(crate) fn shelf_objects(shelf: &[ShelfBlock], ulid: Ulid) -> Result<ObjectLi
             Ok(objects) => Ok(objects),
             Err(_) => Err(Unshipped::NoMemory),
         },
-        Some(ShelfFound::Refused(number, _)) => Err(unshipped(*number)),
+        Some(ShelfFound::Refused(number, _)) => Err(unshipped_by(*number)),
         None => Err(Unshipped::Refused(1)),
     }
 }
@@ -161,7 +161,7 @@ fn find_read(shelf: &[ShelfBlock], ulid: Ulid) -> Option<&ShelfBlock>
 }
 
 /// Why a block has no objects, by the number of its cause.
-fn unshipped(number: Option<u8>) -> Unshipped
+fn unshipped_by(number: Option<u8>) -> Unshipped
     ensures { result ≡ numbered_by number }
 {
     match number {

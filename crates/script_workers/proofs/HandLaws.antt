@@ -1,5 +1,5 @@
 -- Who is among the hands of a phase: whoever does one of its tasks, each once, and nobody else.
-use Rattle.std.proofs.Common.{◌≡◌, ℕ, zero, suc, ◌+◌, ◌≤◌, Bool, true, false, ◌||◌, nat_lt, List, [], ◌∷◌, ◌++◌, length, fold, refl, sym, ap, ◌∙◌, subst, arith, ◌⊎◌, inl, inr, Option, Some}
+use Rattle.std.proofs.Common.{◌≡◌, ℕ, zero, suc, ◌+◌, ◌≤◌, true, false, ◌||◌, nat_lt, List, [], ◌∷◌, ◌++◌, length, fold, refl, sym, ap, ◌∙◌, subst, arith, ◌⊎◌, inl, inr, Option, Some}
 use Rattle.std.specs.Cmp.{IsEquivalence}
 use Rattle.std.specs.List.{Contains, list_any, range_with_len, IsDistinct}
 use Rattle.std.specs.Prelude.{slice_get}
@@ -43,14 +43,11 @@ pub hands_laws : IsEquivalence same_hand
 hands_laws =
     record { refl = itself; symm = swapped; congr = λ x y z same. ap (λ (h : Hand). same_hand h z) (hands_equal x y same) }
 
-abbrev pub has : List Hand → Hand → Bool
-has hands hand = list_any (same_hand hand) hands
-
 -- the test of a member, and that it is one
-pub tested : (hands : List Hand) (hand : Hand) → Contains hands hand → has hands hand ≡ true
+pub tested : (hands : List Hand) (hand : Hand) → Contains hands hand → list_any (same_hand hand) hands ≡ true
 tested hands hand = list_any-from_Contains hands_laws hand hands
 
-pub contained : (hands : List Hand) (hand : Hand) → has hands hand ≡ true → Contains hands hand
+pub contained : (hands : List Hand) (hand : Hand) → list_any (same_hand hand) hands ≡ true → Contains hands hand
 contained hands hand = Contains-from_any hands_equal hand hands
 
 -- ---- whose a task is
@@ -86,8 +83,8 @@ for_does gateways hand place work (asks low high selector gateway is who below) 
 
 -- ---- a hand that joins others
 
-pub with_by : (P : List Hand → Type 0) (others : List Hand) (new : Hand) → (has others new ≡ true → P others) → (has others new ≡ false → P (others ++ new ∷ [])) → P (with_hand others new)
-with_by P others new = cond_both (has others new) others (others ++ new ∷ []) P
+pub with_by : (P : List Hand → Type 0) (others : List Hand) (new : Hand) → (list_any (same_hand new) others ≡ true → P others) → (list_any (same_hand new) others ≡ false → P (others ++ new ∷ [])) → P (with_hand others new)
+with_by P others new = cond_both (list_any (same_hand new) others) others (others ++ new ∷ []) P
 
 with_keeps : (others : List Hand) (new hand : Hand) → Contains others hand → Contains (with_hand others new) hand
 with_keeps others new hand h =
@@ -210,7 +207,7 @@ few_spelled gateways tasks few =
 
 pub few_counted : (gateways : ℕ) (tasks : List Task) → FewWorkers gateways tasks → length (hands_of gateways tasks) ≤ most_workers
 few_counted gateways tasks is =
-    let within = λ (hand : Hand) (h : has (hands_of gateways tasks) hand ≡ true). let some = is_needed gateways tasks hand (contained (hands_of gateways tasks) hand h) in tested is.hands hand (is.enough hand some.0 some.1) in
+    let within = λ (hand : Hand) (h : list_any (same_hand hand) (hands_of gateways tasks) ≡ true). let some = is_needed gateways tasks hand (contained (hands_of gateways tasks) hand h) in tested is.hands hand (is.enough hand some.0 some.1) in
     let below : length (hands_of gateways tasks) ≤ length is.hands = length-le_from_is_member hands_laws (hands_of gateways tasks) is.hands (are_once gateways tasks) within in
     let few = is.few in
     omega (arith, below, few)

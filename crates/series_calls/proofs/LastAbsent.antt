@@ -1,7 +1,7 @@
 -- Where a call found an object missing it ended: no entry of a call but its last one finds nothing.
 use Rattle.std.proofs.Common.{◌≡◌, ◌≢◌, ◌⊎◌, ℕ, List, [], ◌∷◌, ◌++◌, Option, Some, None, refl, sym, ◌∙◌, ap, subst, inl, inr, append_assoc, append-nil}
 use Rattle.std.specs.List.{AllByRecursion}
-use Rattle.list_core.proofs.Lists.{AllByRecursion-append}
+use Rattle.list_core.proofs.Lists.{AllByRecursion-append, nil_not_middle}
 use Rattle.label_sets.specs.Triples.{Triple}
 use Rattle.label_sets.specs.declared.series.Series.{Series}
 use Rattle.world_core.specs.Plans.{Plan, Runs, after_get, ends}
@@ -146,12 +146,8 @@ first_shows query block blocks later taken cache entries end run = by_parts (par
 
 reading_shows : (query : Query) (blocks : List Block) → AllShow query blocks
 reading_shows query [] taken cache entries end (none, is) =
-    (subst OnlyLast (sym none) (λ front x y rest parts. absurd (not_nil front x (y ∷ rest) parts)), by end is)
+    (subst OnlyLast (sym none) (λ front x y rest parts. absurd (nil_not_middle x front (y ∷ rest) parts)), by end is)
   where
-    not_nil : (front : List Entry) (x : Entry) (rest : List Entry) → [] ≢ front ++ x ∷ rest
-    not_nil [] x rest parts = cc (parts)
-    not_nil (f ∷ front) x rest parts = cc (parts)
-
     by : (last : Option Called) → (last ≡ None) ⊎ (last ≡ Some (took taken cache)) → TookAll entries last
     by last (inl nothing) = subst (TookAll entries) (sym nothing) tt
     by last (inr same) = subst (TookAll entries) (sym same) (subst ArePresent (sym none) tt)

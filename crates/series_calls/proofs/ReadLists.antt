@@ -1,9 +1,11 @@
 -- Lists of what is read: members read one by one, groups of references, runs of series.
-use Rattle.std.proofs.Common.{◌≡◌, ℕ, ◌+◌, ◌-◌, ◌<◌, ◌≤◌, ◌*◌, Bool, true, false, List, [], ◌∷◌, ◌++◌, map, drop, Result, Ok, Err, refl, sym, ap, subst, ◌∙◌, arith}
+use Rattle.std.proofs.Common.{◌≡◌, ℕ, ◌+◌, ◌-◌, ◌≤◌, ◌*◌, Bool, true, false, List, [], ◌∷◌, ◌++◌, Some, None, map, drop, Result, Ok, Err, refl, sym, ap, subst, ◌∙◌, arith}
 use Rattle.std.specs.Prelude.{IsOk, nat_le, nat_lt}
 use Rattle.std.specs.List.{AllByRecursion, AllZip, flat_map, list_all}
 use Rattle.std.specs.List.Sorted.{IsStrictlyIncreasing}
 use Rattle.std.proofs.lemmas.Bool.{and_parts}
+use Rattle.std.specs.Ordering.{nat_cmp}
+use Rattle.std.proofs.lemmas.Map.Keys.{sorted_from_strictly_increasing}
 use Rattle.reading_core.proofs.Binds.{bind_ok}
 use Rattle.label_sets.specs.declared.sample.Sample.{Sample}
 use Rattle.index_parts.specs.declared.toc.Toc.{Toc}
@@ -14,8 +16,10 @@ use Rattle.chunk_ranges.specs.ChunkReads.{Tests, chunk_len_at, glimpse, glimpse_
 use Rattle.read_ranges.specs.IndexRanges.{AreRuns, Run, has_bytes, has_sections, run_of, section_piece}
 use Rattle.read_ranges.specs.Stretches.{AreJoined, IsJoined, Stretch, last_behind, last_of, members}
 use Rattle.series_calls.proofs.BlockFindings.{IsWithin}
-use Rattle.list_core.proofs.Bools.{and_first, and_second}
-use Rattle.list_core.proofs.Rising.{rest_rises}
+use Rattle.list_core.proofs.Bools.{and_first, and_second, lt-from_Less}
+use Rattle.list_core.specs.Order.{InOrderAfter, ComesAfter}
+use Rattle.list_core.proofs.Order.{order_from_sorted}
+use Rattle.list_core.proofs.Membership.{all_members}
 
 -- ---- members
 
@@ -29,26 +33,12 @@ each_read read xs ys is =
 
 -- ---- numbers that ascend
 
--- each is below the one behind it
-abbrev Up : ℕ → List ℕ → Type 0
-Up x [] = Unit {0}
-Up x (y ∷ ys) = (x < y) × Up y ys
+rises_up : (xs : List ℕ) → IsStrictlyIncreasing xs → InOrderAfter (ComesAfter nat_cmp) None xs
+rises_up xs rises = order_from_sorted nat_cmp None xs (all_members (ComesAfter nat_cmp None) xs (λ x among. tt)) (sorted_from_strictly_increasing xs rises)
 
-abbrev Rises : List ℕ → Type 0
-Rises [] = Unit {0}
-Rises (x ∷ xs) = Up x xs
-
-goes_up : (x : ℕ) (xs : List ℕ) → IsStrictlyIncreasing (x ∷ xs) → Up x xs
-goes_up x [] rises = tt
-goes_up x (y ∷ ys) rises = let first : x < y = rises 0 (omega arith) in (first, goes_up y ys (rest_rises x (y ∷ ys) rises))
-
-rises_up : (xs : List ℕ) → IsStrictlyIncreasing xs → Rises xs
-rises_up [] rises = tt
-rises_up (x ∷ xs) rises = goes_up x xs rises
-
-later_rises : (one : ℕ) (others rest : List ℕ) → Up one (others ++ rest) → Rises rest
+later_rises : (one : ℕ) (others rest : List ℕ) → InOrderAfter (ComesAfter nat_cmp) (Some one) (others ++ rest) → InOrderAfter (ComesAfter nat_cmp) None rest
 later_rises one [] [] up = tt
-later_rises one [] (x ∷ xs) up = up.1
+later_rises one [] (x ∷ xs) up = (tt, up.1)
 later_rises one (o ∷ others) rest up = later_rises o others rest up.1
 
 -- ---- runs of series
@@ -57,25 +47,25 @@ pub numbers_of : (toc : Toc) (size : ℕ) (all : List ℕ) (runs : List (Stretch
 numbers_of toc size all [] = refl
 numbers_of toc size all (run ∷ runs) = ap (λ l. members run ++ l) (numbers_of toc size all runs)
 
-behind_all : (first one : ℕ) (others rest : List ℕ) → first ≤ one → Up one (others ++ rest) → AllByRecursion (λ number. 16 * first ≤ 16 * number) others
+behind_all : (first one : ℕ) (others rest : List ℕ) → first ≤ one → InOrderAfter (ComesAfter nat_cmp) (Some one) (others ++ rest) → AllByRecursion (λ number. 16 * first ≤ 16 * number) others
 behind_all first one [] rest le up = tt
 behind_all first one (o ∷ others) rest le up =
-    let far : first ≤ o = omega (arith, le, up.0) in
+    let far : first ≤ o = omega (arith, le, lt-from_Less one o up.0) in
     let here : 16 * first ≤ 16 * o = omega (arith, far) in (here, behind_all first o others rest far up.1)
 
 -- each run begins with its first series
 pub hold_runs : (toc : Toc) (size : ℕ) (all numbers : List ℕ) (runs : List (Stretch ℕ)) → IsStrictlyIncreasing numbers → AreRuns all numbers runs
     → list_all (λ (run : Run). has_bytes run.piece) (map (run_of toc size all) runs) ≡ true
     → AllByRecursion (λ (run : Run). (has_bytes run.piece ≡ true) × AllByRecursion (λ number. run.piece.from ≤ 16 * number) run.numbers) (map (run_of toc size all) runs)
-hold_runs toc size all numbers runs rises cut have = each runs (subst Rises (sym cut.whole) (rises_up numbers rises)) have
+hold_runs toc size all numbers runs rises cut have = each runs (subst (InOrderAfter (ComesAfter nat_cmp) None) (sym cut.whole) (rises_up numbers rises)) have
   where
-    each : (runs : List (Stretch ℕ)) → Rises (flat_map members runs) → list_all (λ (run : Run). has_bytes run.piece) (map (run_of toc size all) runs) ≡ true
+    each : (runs : List (Stretch ℕ)) → InOrderAfter (ComesAfter nat_cmp) None (flat_map members runs) → list_all (λ (run : Run). has_bytes run.piece) (map (run_of toc size all) runs) ≡ true
         → AllByRecursion (λ (run : Run). (has_bytes run.piece ≡ true) × AllByRecursion (λ number. run.piece.from ≤ 16 * number) run.numbers) (map (run_of toc size all) runs)
     each [] up have = tt
     each (run ∷ runs) up have =
         let both = and_parts (has_bytes (run_of toc size all run).piece) (list_all (λ (r : Run). has_bytes r.piece) (map (run_of toc size all) runs)) have in
         let here : 16 * run.first ≤ 16 * run.first = omega arith in
-        ((both.0, (here, behind_all run.first run.first run.others (flat_map members runs) (omega arith) up)), each runs (later_rises run.first run.others (flat_map members runs) up) both.1)
+        ((both.0, (here, behind_all run.first run.first run.others (flat_map members runs) (omega arith) up.1)), each runs (later_rises run.first run.others (flat_map members runs) up.1) both.1)
 
 -- ---- sections
 
@@ -96,33 +86,33 @@ lists_some toc size has = and_second _ _ has
 
 -- ---- groups of references
 
-last_up : (one : ℕ) (others rest : List ℕ) → Up one (others ++ rest) → one ≤ last_behind one others
+last_up : (one : ℕ) (others rest : List ℕ) → InOrderAfter (ComesAfter nat_cmp) (Some one) (others ++ rest) → one ≤ last_behind one others
 last_up one [] rest up = omega arith
-last_up one (o ∷ others) rest up = let later = last_up o others rest up.1 in omega (arith, up.0, later)
+last_up one (o ∷ others) rest up = let later = last_up o others rest up.1 in omega (arith, lt-from_Less one o up.0, later)
 
-near_members : (stretch : Stretch ℕ) (one : ℕ) (others rest : List ℕ) → IsWithin stretch one → last_of stretch ≡ last_behind one others → AreJoined IsNear one others → Up one (others ++ rest)
+near_members : (stretch : Stretch ℕ) (one : ℕ) (others rest : List ℕ) → IsWithin stretch one → last_of stretch ≡ last_behind one others → AreJoined IsNear one others → InOrderAfter (ComesAfter nat_cmp) (Some one) (others ++ rest)
     → AllByRecursion (IsWithin stretch) others
 near_members stretch one [] rest within last joined up = tt
 near_members stretch one (o ∷ others) rest within last joined up =
     let most = last_up o others rest up.1 in
     let so : IsWithin stretch o = record {
       same_segment = within.same_segment ∙ joined.0.same_segment;
-      behind = omega (arith, within.behind, up.0);
+      behind = omega (arith, within.behind, lt-from_Less one o up.0);
       upto = omega (arith, most, last);
     } in (so, near_members stretch o others rest so last joined.1 up.1)
 
-near_cut : (groups : List (Stretch ℕ)) → AllByRecursion (IsJoined IsNear) groups → Rises (flat_map members groups) → AllByRecursion (λ stretch. AllByRecursion (IsWithin stretch) (members stretch)) groups
+near_cut : (groups : List (Stretch ℕ)) → AllByRecursion (IsJoined IsNear) groups → InOrderAfter (ComesAfter nat_cmp) None (flat_map members groups) → AllByRecursion (λ stretch. AllByRecursion (IsWithin stretch) (members stretch)) groups
 near_cut [] joined up = tt
 near_cut (stretch ∷ groups) joined up =
-    let most = last_up stretch.first stretch.others (flat_map members groups) up in
+    let most = last_up stretch.first stretch.others (flat_map members groups) up.1 in
     let here : IsWithin stretch stretch.first = record { same_segment = refl; behind = omega arith; upto = most } in (
-      (here, near_members stretch stretch.first stretch.others (flat_map members groups) here refl joined.0 up),
-      near_cut groups joined.1 (later_rises stretch.first stretch.others (flat_map members groups) up),
+      (here, near_members stretch stretch.first stretch.others (flat_map members groups) here refl joined.0 up.1),
+      near_cut groups joined.1 (later_rises stretch.first stretch.others (flat_map members groups) up.1),
     )
 
 pub near_groups : (references : List ℕ) (groups : List (Stretch ℕ)) → IsStrictlyIncreasing references → AreGroups references groups
     → AllByRecursion (λ stretch. AllByRecursion (IsWithin stretch) (members stretch)) groups
-near_groups references groups rises is = near_cut groups is.joined (subst Rises (sym is.whole) (rises_up references rises))
+near_groups references groups rises is = near_cut groups is.joined (subst (InOrderAfter (ComesAfter nat_cmp) None) (sym is.whole) (rises_up references rises))
 
 -- what holds of the members of all groups holds in each group
 front_each : {A : Type 0} (P : A → Type 0) (xs ys : List A) → AllByRecursion P (xs ++ ys) → AllByRecursion P xs × AllByRecursion P ys

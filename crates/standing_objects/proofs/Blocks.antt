@@ -13,13 +13,14 @@ use Rattle.std.proofs.Math.Seq.{take-append_seam}
 use Rattle.std.proofs.lemmas.List.{length-map}
 use Rattle.ulid_core.specs.UlidText.{IsUlidText, character, text_of}
 use Rattle.ulid_core.proofs.UlidLaws.{slice_cmp-ulid_texts, IsUlidText-unique}
+use Rattle.label_sets.specs.Labels.{ComesBefore}
 use Rattle.block_keys.specs.Keys.{key_cmp, key_kind, key_number, key_ulid}
 use Rattle.block_keys.specs.KeyText.{is_slash, key_text}
 use Rattle.block_keys.specs.declared.key.Key.{Key}
 use Rattle.block_keys.specs.declared.key.Key.TheVariants.{Meta, Index, Segment, Mark}
 use Rattle.block_keys.proofs.KeyLaws.{before_slash}
 use Rattle.bucket_core.specs.Contents.{Contents}
-use Rattle.bucket_core.specs.Pages.{Before, IsName}
+use Rattle.bucket_core.specs.Pages.{IsName}
 use Rattle.world_core.specs.declared.entry.Entry.{Entry}
 use Rattle.standing_objects.specs.Held.{HaveTexts, Holds, IsWritten, Places, bytes_at, put_under}
 use Rattle.standing_objects.specs.Next.{IsFirstKey, IsLeast, IsNextBlock, Stands}
@@ -39,10 +40,10 @@ module _ (u v : ℕ) (one : IsUlidText (text_of u) u) (other : IsUlidText (text_
   cmp_is : slice_cmp nat_cmp (text_of u) (text_of v) ≡ nat_cmp u v
   cmp_is = slice_cmp-ulid_texts (text_of u) (text_of v) u v one other
 
-  pub before_of : u < v → Before (text_of u) (text_of v)
+  pub before_of : u < v → ComesBefore (text_of u) (text_of v)
   before_of less = cmp_is ∙ nat_cmp-Less u v less
 
-  pub less_of : Before (text_of u) (text_of v) → u < v
+  pub less_of : ComesBefore (text_of u) (text_of v) → u < v
   less_of before = lt-from_Less u v (sym cmp_is ∙ before)
 
 -- something that stands under a key
@@ -64,10 +65,10 @@ module _ (entries : List Entry) (places : Places) (contents : Contents) (holds :
       let there = holds.there key stands in
       (key_text key, subst (λ (o : Option (List ℕ)). IsSome o) (sym (holds.under key there.0)) there.1, sym (root_name key there.0))
 
-  pub none_due : (after : List ℕ) → IsNextBlock places after None → (name : List ℕ) → IsName contents [] name → ¬ Before after name
+  pub none_due : (after : List ℕ) → IsNextBlock places after None → (name : List ℕ) → IsName contents [] name → ¬ ComesBefore after name
   none_due after none name named before =
       let found = block_named name named in
-      none found.0 found.1 (subst (Before after) found.3 before)
+      none found.0 found.1 (subst (ComesBefore after) found.3 before)
 
   up_to : (u v : ℕ) → u ≤ v → (u ≡ v) ⊎ (u < v)
   up_to u v least = elim (cases_lt u v) [ inl less ↦ inr less | inr most ↦ inl (omega (arith, least, most)) ]
@@ -78,11 +79,11 @@ module _ (entries : List Entry) (places : Places) (contents : Contents) (holds :
     due = due;
     least = λ name named later.
         let found = block_named name named in
-        let most : ulid ≤ key_ulid found.0 = least found.0 found.1 (subst (Before after) found.3 later) in
+        let most : ulid ≤ key_ulid found.0 = least found.0 found.1 (subst (ComesBefore after) found.3 later) in
         let own : IsUlidText (text_of ulid) ulid = subst (λ u. IsUlidText (text_of u) u) is (block_text first (holds.there first stands).0) in
         elim (up_to ulid (key_ulid found.0) most) [
           | inl same ↦ inl (ap text_of same ∙ sym found.3)
-          | inr less ↦ inr (subst (Before (text_of ulid)) (sym found.3) (before_of ulid (key_ulid found.0) own (block_text found.0 found.2) less))
+          | inr less ↦ inr (subst (ComesBefore (text_of ulid)) (sym found.3) (before_of ulid (key_ulid found.0) own (block_text found.0 found.2) less))
         ];
   }
 

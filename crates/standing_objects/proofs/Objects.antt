@@ -13,12 +13,13 @@ use Rattle.std.proofs.lemmas.List.{length-map}
 use Rattle.list_core.proofs.Bools.{Less-from_is_lt}
 use Rattle.ulid_core.specs.UlidText.{IsUlidText, character, text_of, ulid_of}
 use Rattle.ulid_core.proofs.UlidLaws.{IsUlidText-unique, length-text_of, ulid_of-only}
+use Rattle.label_sets.specs.Labels.{ComesBefore}
 use Rattle.block_keys.specs.Keys.{key_cmp, key_ulid}
 use Rattle.block_keys.specs.KeyText.{is_slash, key_text, name_of}
 use Rattle.block_keys.specs.declared.key.Key.{Key}
 use Rattle.block_keys.proofs.KeyLaws.{before_slash}
 use Rattle.bucket_core.specs.Contents.{Contents}
-use Rattle.bucket_core.specs.Pages.{Before, IsName, Lists}
+use Rattle.bucket_core.specs.Pages.{IsName, Lists}
 use Rattle.bucket_core.proofs.Order.{front_same}
 use Rattle.world_core.specs.declared.entry.Entry.{Entry}
 use Rattle.standing_objects.specs.Held.{Holds, IsWritten, Places, bytes_at}
@@ -95,17 +96,17 @@ module _ (entries : List Entry) (places : Places) (contents : Contents) (holds :
     cursor_cmp : (key : Key) → key_ulid key ≡ ulid → slice_cmp nat_cmp cursor (key_text key) ≡ slice_cmp nat_cmp after (name_of key)
     cursor_cmp key is = ap (λ (t : List ℕ). slice_cmp nat_cmp t (key_text key)) (starts ∙ ap (λ (u : ℕ). text_of u ++ 47 ∷ after) (sym is)) ∙ cmp_behind key after
 
-    is_due : (key : Key) → key_ulid key ≡ ulid → Before after (name_of key) → is_due_object ulid cursor key ≡ true
+    is_due : (key : Key) → key_ulid key ≡ ulid → ComesBefore after (name_of key) → is_due_object ulid cursor key ≡ true
     is_due key is before =
         ap (λ b. b && is_lt (slice_cmp nat_cmp cursor (key_text key))) (eq-eqb (key_ulid key) ulid is) ∙ ap is_lt (cursor_cmp key is ∙ before)
 
-    of_due : (key : Key) → is_due_object ulid cursor key ≡ true → (key_ulid key ≡ ulid) × Before after (name_of key)
+    of_due : (key : Key) → is_due_object ulid cursor key ≡ true → (key_ulid key ≡ ulid) × ComesBefore after (name_of key)
     of_due key due =
         let parts = and_parts (key_ulid key == ulid) (is_lt (slice_cmp nat_cmp cursor (key_text key))) due in
         let is : key_ulid key ≡ ulid = eqb-true (key_ulid key) ulid parts.0 in
         (is, sym (cursor_cmp key is) ∙ Less-from_is_lt _ parts.1)
 
-    name_order : (o : Ordering) (one other : Key) → key_cmp one other ≡ o → slice_cmp nat_cmp (name_of one) (name_of other) ≡ o → is_gt o ≡ false → (name_of one ≡ name_of other) ⊎ Before (name_of one) (name_of other)
+    name_order : (o : Ordering) (one other : Key) → key_cmp one other ≡ o → slice_cmp nat_cmp (name_of one) (name_of other) ≡ o → is_gt o ≡ false → (name_of one ≡ name_of other) ⊎ ComesBefore (name_of one) (name_of other)
     name_order Less one other is names low = inr names
     name_order Equal one other is names low = inl (ap name_of (same_key one other (ap is_eq is)))
     name_order Greater one other is names low = cc (low)
@@ -116,10 +117,10 @@ module _ (entries : List Entry) (places : Places) (contents : Contents) (holds :
         ∙ ap (λ (t : List ℕ). slice_cmp nat_cmp t (key_text other)) (ap (λ (u : ℕ). text_of u ++ 47 ∷ name_of one) (same ∙ sym block) ∙ sym (text_parts one))
         ∙ in_order one other is also
 
-    pub no_object_due : (r : Option Key) → IsFirstKey (IsDueAt ulid cursor) places r → r ≡ None → (name : List ℕ) → IsName contents (text_of ulid) name → ¬ Before after name
+    pub no_object_due : (r : Option Key) → IsFirstKey (IsDueAt ulid cursor) places r → r ≡ None → (name : List ℕ) → IsName contents (text_of ulid) name → ¬ ComesBefore after name
     no_object_due r first none name named before =
         let found = object_named name named in
-        (subst (IsFirstKey (IsDueAt ulid cursor) places) none first) found.0 found.1 (is_due found.0 found.3 (subst (Before after) found.4 before))
+        (subst (IsFirstKey (IsDueAt ulid cursor) places) none first) found.0 found.1 (is_due found.0 found.3 (subst (ComesBefore after) found.4 before))
 
     pub object_stands : (r : Option Key) (key : Key) → IsFirstKey (IsDueAt ulid cursor) places r → r ≡ Some key → Stands places key
     object_stands r key first some = (subst (IsFirstKey (IsDueAt ulid cursor) places) some first).0
@@ -133,6 +134,6 @@ module _ (entries : List Entry) (places : Places) (contents : Contents) (holds :
           least = λ name named later.
               let found = object_named name named in
               let names = names_cmp key found.0 (holds.there key first.0).0 found.2 due.0 found.3 in
-              let low = first.2 found.0 found.1 (is_due found.0 found.3 (subst (Before after) found.4 later)) in
-              subst (λ (n : List ℕ). (name_of key ≡ n) ⊎ Before (name_of key) n) (sym found.4) (name_order (key_cmp key found.0) key found.0 refl names low);
+              let low = first.2 found.0 found.1 (is_due found.0 found.3 (subst (ComesBefore after) found.4 later)) in
+              subst (λ (n : List ℕ). (name_of key ≡ n) ⊎ ComesBefore (name_of key) n) (sym found.4) (name_order (key_cmp key found.0) key found.0 refl names low);
         }

@@ -3,17 +3,18 @@ use Rattle.list_core.proofs.Membership.{contains_first, contains_later}
 use Rattle.std.proofs.Common.{◌≡◌, inl, inr, ℕ, suc, ◌+◌, ◌-◌, ◌<◌, ◌≤◌, List, [], ◌∷◌, ◌++◌, refl, sym, subst, arith, append_assoc, append-nil}
 use Rattle.std.specs.Prelude.{Contains}
 use Rattle.std.proofs.lemmas.List.Elements.{All-cons, All-nil}
+use Rattle.label_sets.specs.Labels.{ComesBefore}
 use Rattle.bucket_core.specs.Contents.{Contents}
-use Rattle.bucket_core.specs.Pages.{Before, IsName, IsPage}
+use Rattle.bucket_core.specs.Pages.{IsName, IsPage}
 use Rattle.standing_objects.specs.Next.{IsLeast}
 
 module _ (contents : Contents) (within : List ℕ) where
   -- no name is asked for
   pub page_full : (after : List ℕ) → IsPage contents within after 0 []
-  page_full after = record { ascend = tt; few = omega arith; stand = All-nil (IsName contents within); whole = λ name named due. inr (refl, All-nil (λ listed. Before listed name)) }
+  page_full after = record { ascend = tt; few = omega arith; stand = All-nil (IsName contents within); whole = λ name named due. inr (refl, All-nil (λ listed. ComesBefore listed name)) }
 
   -- no name is due
-  pub page_none : (after : List ℕ) (limit : ℕ) → ((name : List ℕ) → IsName contents within name → ¬ Before after name) → IsPage contents within after limit []
+  pub page_none : (after : List ℕ) (limit : ℕ) → ((name : List ℕ) → IsName contents within name → ¬ ComesBefore after name) → IsPage contents within after limit []
   page_none after limit none = record { ascend = tt; few = omega arith; stand = All-nil (IsName contents within); whole = λ name named due. absurd (none name named due) }
 
   -- the least name that is due, and the page after it
@@ -26,7 +27,7 @@ module _ (contents : Contents) (within : List ℕ) where
       | inl same ↦ inl (subst (Contains (name ∷ page)) same (contains_first name page))
       | inr later ↦ elim (others.whole other named later) [
         | inl there ↦ inl (contains_later name other page there)
-        | inr full ↦ inr (omega (arith, full.0), All-cons (λ listed. Before listed other) name page later full.1)
+        | inr full ↦ inr (omega (arith, full.0), All-cons (λ listed. ComesBefore listed other) name page later full.1)
       ]
     ];
   }
@@ -45,7 +46,7 @@ module _ (contents : Contents) (within after last : List ℕ) (limit count : ℕ
       let none : 0 ≡ limit - count = omega (arith, done) in
       subst (IsPage contents within after limit) (append-nil names) (completes [] (subst (λ n. IsPage contents within last n []) none (page_full contents within last)))
 
-  pub page_over : ((name : List ℕ) → IsName contents within name → ¬ Before last name) → IsPage contents within after limit names
+  pub page_over : ((name : List ℕ) → IsName contents within name → ¬ ComesBefore last name) → IsPage contents within after limit names
   page_over none = subst (IsPage contents within after limit) (append-nil names) (completes [] (page_none contents within last (limit - count) none))
 
 -- no name was taken yet

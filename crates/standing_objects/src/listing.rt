@@ -1,12 +1,12 @@
-ghost use Rattle.std.specs.Prelude.{◌≡◌, ◌↔◌, ◌==◌, ◌&&◌, ◌∷◌, ◌++◌, List, [], ℕ, IfOk, IsTrue, find, option_map};
+ghost use Rattle.std.specs.Prelude.{◌≡◌, ◌↔◌, ◌==◌, ◌&&◌, ◌∷◌, ◌++◌, List, [], ℕ, IfOk, IsTrue, find, option_map, Some};
 ghost use Rattle.std.specs.List.{after_first};
 ghost use Rattle.std.specs.String.{string_bytes};
 ghost use Rattle.std.specs.BTreeMap.{IsOrdered, keys};
-ghost use Rattle.std.specs.Cmp.Lexicographic.{slice_cmp};
 ghost use Rattle.std.specs.Option.{option_copied};
-ghost use Rattle.std.specs.Ordering.{is_lt, nat_cmp};
 ghost use Rattle.std.specs.declared.cmp.Ordering.TheVariants.{Less};
+ghost use Rattle.list_core.specs.Order.{comes_after};
 ghost use Rattle.ulid_core.specs.UlidText.{text_of};
+ghost use Rattle.label_sets.specs.Labels.{compare_texts};
 ghost use Rattle.block_keys.specs.Keys.{IsLawfulKey, key_cmp, key_ulid};
 ghost use Rattle.block_keys.specs.KeyText.{is_slash, key_text, name_of};
 ghost use Rattle.bucket_core.specs.Contents.{Contents};
@@ -18,7 +18,7 @@ ghost use Rattle.standing_objects.specs.Standings.{IsStanding};
 ghost use Rattle.world_core.specs.declared.entry.Entry.{Entry};
 
 use crate::Standing;
-use block_keys::{Key, SEGMENT_LIMIT};
+use block_keys::{Key, SEGMENT_LIMIT, text_in_block};
 use label_sets::{Text, TextList};
 use list_core::{List, NoMemory, TryCopy};
 use std::alloc::Global;
@@ -28,7 +28,7 @@ use ulid_core::Ulid;
 
 /// Whether a name comes after the cursor.
 fn comes_after(after: &[u8], name: &[u8]) -> bool
-    ensures { result ≡ is_lt (slice_cmp nat_cmp after.now name.now) }
+    ensures { result ≡ comes_after compare_texts (Some after.now) name.now }
 {
     after.cmp(name) == Ordering::Less
 }
@@ -65,7 +65,7 @@ fn object_comes_after(alloc: Global, ulid: Ulid, cursor: &str, key: &Key) -> Res
 /// The same by the key's text.
 fn is_due(ulid: Ulid, cursor: &str, key: &Key, text: &str) -> bool
     ensures { result
-        ≡ ((key_ulid key.now == ulid) && is_lt (slice_cmp nat_cmp cursor.now text.now)) }
+        ≡ ((key_ulid key.now == ulid) && comes_after compare_texts (Some cursor.now) text.now) }
 {
     key.ulid() == ulid && comes_after(cursor.as_bytes(), text.as_bytes())
 }
@@ -74,10 +74,7 @@ fn is_due(ulid: Ulid, cursor: &str, key: &Key, text: &str) -> bool
 fn cursor_of(alloc: Global, ulid: Ulid, after: &str) -> Result<String, NoMemory>
     ensures { IfOk result (λ text. string_bytes text ≡ text_of ulid ++ slash ∷ after.now) }
 {
-    let mut text = ulid.to_string(alloc)?;
-    text.push_str("/")?;
-    text.push_str(after)?;
-    Ok(text)
+    text_in_block(alloc, ulid, after)
 }
 
 /// What follows the slash in a text.

@@ -1,7 +1,7 @@
 ghost use Rattle.std.specs.Prelude.{◌≡◌};
 ghost use Rattle.sync_filters.specs.Holders.{digest_of, mixed, mark_of, with_bit as with_one, has_bits as has_each_bit};
 
-use ulid_core::Ulid;
+use ulid_core::{ENTROPY_COUNT, Ulid};
 
 /// An odd number whose bits are well mixed: 2^128 divided by the golden ratio.
 const MIXER: u128 = 0x9e37_79b9_7f4a_7c15_f39c_c060_5ced_c835;
@@ -27,7 +27,7 @@ fn mix(digest: u128, source: u128) -> u128
 pub(crate) fn number_of(ulid: Ulid) -> u128
     ensures { result ≡ ulid }
 {
-    u128::from(ulid.time()) * (1 << 80) + ulid.entropy()
+    u128::from(ulid.time()) * ENTROPY_COUNT + ulid.entropy()
 }
 
 /// A bit for each source, of 128 in all. A list that has all members of another has all its bits too.

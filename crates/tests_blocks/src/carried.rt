@@ -1,7 +1,8 @@
 //! A chunk that is put into a new block as it is.
 ghost use Rattle.std.specs.Prelude.{◌≡◌, ◌↔◌, IsTrue, FitsSigned};
 ghost use Rattle.std.specs.Int.{w64};
-ghost use Rattle.block_writing.specs.Put.{IsStored, IsWithin};
+ghost use Rattle.label_sets.specs.Times.{IsWithin};
+ghost use Rattle.block_writing.specs.Put.{IsStored};
 ghost use Rattle.block_writing.specs.Writing.{plan_fields};
 
 use crate::built::{print_totals, wide_plan};
@@ -18,7 +19,7 @@ use xor_chunks::decode_stored;
 
 /// Whether a sample lies within a plan's times.
 fn is_within(plan: &BlockPlan, sample: &Sample) -> bool
-    ensures { IsTrue result ↔ IsWithin (plan_fields plan.now) sample.now }
+    ensures { IsTrue result ↔ IsWithin plan.now.min_time plan.now.max_time sample.now }
 {
     plan.min_time <= sample.time && sample.time < plan.max_time
 }

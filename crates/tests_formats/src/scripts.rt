@@ -11,7 +11,7 @@ use crate::scripts::day::print_day;
 use crate::scripts::notation::spelled;
 use crate::scripts::parts::{PHASES, print_parts};
 use crate::scripts::words::print_words;
-use generated_day::generated;
+use generated_day::generated_script;
 use script_core::{Script, ScriptRefusal};
 
 pub(crate) fn print_call(rt: &HostRuntime, row: &str) {
@@ -19,7 +19,11 @@ pub(crate) fn print_call(rt: &HostRuntime, row: &str) {
     match word {
         "=words" => print_words(rt),
         "=parts" => print_read(rt, word, Script::read(rt.alloc(), PHASES.as_bytes())),
-        "=day" => print_read(rt, word, generated(rt.alloc(), number.parse().unwrap_or(0))),
+        "=day" => print_read(
+            rt,
+            word,
+            generated_script(rt.alloc(), number.parse().unwrap_or(0)),
+        ),
         _ => print_read(rt, "", Script::read(rt.alloc(), &spelled(rt.alloc(), row))),
     }
 }

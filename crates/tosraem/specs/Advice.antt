@@ -1,12 +1,13 @@
 -- What standard error is told of a call, by its status: nothing where there is a report or a verdict, how the program is
 -- called where the words are no form of a call, and else one line that says what to do.
-use Rattle.std.specs.Prelude.{ℕ, List, [], ◌∷◌, ◌++◌, codes}
+use Rattle.std.specs.Prelude.{ℕ, List, [], ◌++◌, codes}
+use Rattle.reading_core.specs.Lines.{newline}
 use Rattle.replay_cli.specs.call_verdicts.specs.declared.status.Status.{Status}
 use Rattle.replay_cli.specs.call_verdicts.specs.declared.status.Status.TheVariants.{Done, WordsRefused, ScriptRefused, SourceFault, SinkFault, ActivityFailed, NoMemory, BucketNotEmpty, JournalFull, SiteFault}
 
 -- a line of these words
 abbrev pub line : List ℕ → List ℕ
-line words = words ++ 10 ∷ []
+line words = words ++ newline
 
 -- how the program is called, a line a form
 abbrev pub usage : List ℕ

@@ -1,3 +1,4 @@
+pub mod Limits
 pub mod FixedDigits
 pub mod UlidText
 pub mod Times

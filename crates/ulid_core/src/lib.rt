@@ -8,4 +8,4 @@ mod ulid;
 
 pub use refusal::UlidRefusal;
 pub use reserved::{LEAST_RESERVED, RESERVED_COUNT};
-pub use ulid::{Ulid, UlidList};
+pub use ulid::{ENTROPY_COUNT, Ulid, UlidList};

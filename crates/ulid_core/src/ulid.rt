@@ -1,15 +1,19 @@
-ghost use Rattle.std.specs.Prelude.{◌≡◌, ◌≢◌, ◌↔◌, ℕ, ◌+◌, ◌*◌, ◌/◌, ◌%◌, ◌^◌, ◌<◌, ◌++◌, length, slice_index, Some, None, Ok, Err, IfOk, OnOk, OnErr};
+ghost use Rattle.std.specs.Prelude.{◌≡◌, ◌≢◌, ◌↔◌, ℕ, ◌+◌, ◌*◌, ◌/◌, ◌%◌, ◌<◌, ◌++◌, length, slice_index, Some, None, Ok, Err, IfOk, OnOk, OnErr};
 ghost use Rattle.std.specs.Str.{byte};
 ghost use Rattle.std.specs.String.{string_bytes};
 ghost use Rattle.std.specs.Cmp.Lexicographic.{slice_cmp};
 ghost use Rattle.std.specs.Ordering.{nat_cmp};
 ghost use Rattle.ulid_core.specs.UlidText.{IsUlidText, text_of, bad_place, ulid_of, text_length};
+ghost use Rattle.ulid_core.specs.Limits.{ulid_time_limit, entropy_count};
 
 use crate::UlidRefusal;
 use crate::characters::{TEXT_LENGTH, character, read_number};
 use list_core::{List, NoMemory, TryCopy};
 use std::alloc::Global;
 use std::marker::Model;
+
+/// How many ULIDs have the same time: one for each entropy.
+pub const ENTROPY_COUNT: u128 = 1 << 80;
 
 /// A ULID: 48 bits of milliseconds, then 80 bits of entropy.
 #[derive(Clone, Copy, Debug, PartialEq, Eq, PartialOrd, Ord)]
@@ -81,28 +85,28 @@ impl Ulid {
 
     /// Milliseconds since 1970.
     pub fn time(self) -> u64
-        ensures value { result ≡ self / 2 ^ 80 }
-        ensures bound { result < 2 ^ 48 }
+        ensures value { result ≡ self / entropy_count }
+        ensures bound { result < ulid_time_limit }
     {
         (self.number >> 80) as u64
     }
 
     /// The 80 bits behind the time, random ones where a server made the ULID.
     pub fn entropy(self) -> u128
-        ensures value { result ≡ self % 2 ^ 80 }
-        ensures bound { result < 2 ^ 80 }
+        ensures value { result ≡ self % entropy_count }
+        ensures bound { result < entropy_count }
     {
-        self.number % (1 << 80)
+        self.number % ENTROPY_COUNT
     }
 
     /// The ULID of milliseconds since 1970 and 80 bits behind them.
     pub fn from_parts(time: u64, entropy: u128) -> Ulid
-        requires time_fits { time < 2 ^ 48 }
-        requires entropy_fits { entropy < 2 ^ 80 }
-        ensures { result ≡ time * 2 ^ 80 + entropy }
+        requires time_fits { time < ulid_time_limit }
+        requires entropy_fits { entropy < entropy_count }
+        ensures { result ≡ time * entropy_count + entropy }
     {
         Ulid {
-            number: u128::from(time) * (1 << 80) + entropy,
+            number: u128::from(time) * ENTROPY_COUNT + entropy,
         }
     }
 

@@ -1,11 +1,11 @@
 -- What a block says of itself that was compacted from others.
-use Rattle.std.specs.Prelude.{◌≡◌, ℕ, ℤ, ◌≤◌, ◌≤ℤ◌, ◌+◌, min, List, map, All, Any, codes}
+use Rattle.std.specs.Prelude.{◌≡◌, ℕ, ℤ, ◌≤◌, ◌≤ℤ◌, ◌+◌, ◌-◌, min, List, map, All, Any, codes}
 use Rattle.std.specs.List.{flat_map}
 use Rattle.label_sets.specs.declared.label.Label.{Label}
 use Rattle.block_meta.specs.declared.block_plan.BlockPlan.{BlockPlan}
 use Rattle.block_meta.specs.declared.meta.Meta.{Meta}
 use Rattle.block_meta.specs.declared.parent.Parent.{Parent}
-use Rattle.block_meta.specs.Lawful.{ascending}
+use Rattle.block_meta.specs.Lawful.{ascending, level_limit}
 
 -- the time of one of the blocks, and none has an earlier one
 pub record IsLeast (time_of : Meta → ℤ) (metas : List Meta) (least : ℤ) : Type 0 where
@@ -22,11 +22,11 @@ pub record IsGreatestLevel (metas : List Meta) (greatest : ℕ) : Type 0 where
   pub one : Any (λ meta. meta.level ≡ greatest) metas
   pub none_above : All (λ meta. meta.level ≤ greatest) metas
 
--- one above the greatest level, or the greatest number of 32 bits
+-- one above the greatest level, or the greatest that there can be
 pub record IsNextLevel (metas : List Meta) (level : ℕ) : Type 0 where
   pub greatest : ℕ
   pub is_greatest : IsGreatestLevel metas greatest
-  pub next : level ≡ min (greatest + 1) 4294967295
+  pub next : level ≡ min (greatest + 1) (level_limit - 1)
 
 abbrev pub parent_of : Meta → Parent
 parent_of meta = record { ulid = meta.ulid; min_time = meta.min_time; max_time = meta.max_time }

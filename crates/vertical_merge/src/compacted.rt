@@ -1,16 +1,12 @@
 ghost use Rattle.std.specs.Prelude.{◌≡◌, ◌≤◌, ◌∷◌, map, length, IfOk};
 ghost use Rattle.std.specs.Int.{int_min};
-ghost use Rattle.std.specs.List.{flat_map};
-ghost use Rattle.std.specs.List.Sorted.{IsStrictlyIncreasing};
-ghost use Rattle.block_meta.specs.Lawful.{ascending};
 ghost use Rattle.vertical_merge.specs.Compacted.{IsCompactedPlan, IsLeast, IsGreatest, IsGreatestLevel, parent_of as to_parent};
 
-use block_meta::{BlockPlan, Meta, Parent, ParentList, add_all, later_end, ulids_in};
+use block_meta::{BlockPlan, Meta, Parent, ParentList, later_end, union_of_sources};
 use label_sets::{LabelSet, Text};
 use list_core::{List, NoMemory, TryCopy};
 use std::alloc::Global;
-use std::collections::BTreeSet;
-use ulid_core::{Ulid, UlidList};
+use ulid_core::Ulid;
 
 /// What the block will say of itself that is compacted from blocks of one group.
 pub fn compacted_plan(
@@ -74,26 +70,6 @@ fn greatest_level(first: &Meta, others: &[Meta]) -> u32
         greatest = meta.level.max(greatest);
     }
     greatest
-}
-
-/// The sources of all blocks, ascending, each once.
-fn union_of_sources(alloc: Global, metas: &[Meta]) -> Result<UlidList, NoMemory>
-    ensures value { IfOk result (λ made. made
-        ≡ ascending (flat_map (λ meta. meta.sources) metas.now)) }
-    ensures increasing { IfOk result (λ made. IsStrictlyIncreasing made) }
-{
-    ulids_in(alloc, &set_of_sources(alloc, metas)?)
-}
-
-fn set_of_sources(alloc: Global, metas: &[Meta]) -> Result<BTreeSet<Ulid>, NoMemory>
-    ensures { IfOk result (λ set. set.keys
-        ≡ ascending (flat_map (λ meta. meta.sources) metas.now)) }
-{
-    let mut set = BTreeSet::new(alloc);
-    for meta in metas {
-        add_all(&mut set, meta.sources.members())?;
-    }
-    Ok(set)
 }
 
 fn parents_of(alloc: Global, metas: &[Meta]) -> Result<ParentList, NoMemory>

@@ -134,20 +134,20 @@ fn join(made: &mut Vec<Parts>, next: Series) -> Result<(), NoMemory>
 {
     let alloc = *made.allocator();
     let Some(last) = made.pop() else {
-        made.push(alone(alloc, next)?)?;
+        made.push(parts_of_one(alloc, next)?)?;
         return Ok(());
     };
     if last.labels == next.labels {
         made.push(with_part(last, next.samples)?)?;
     } else {
         made.push(last)?;
-        made.push(alone(alloc, next)?)?;
+        made.push(parts_of_one(alloc, next)?)?;
     }
     Ok(())
 }
 
 /// A series of one part.
-fn alone(alloc: Global, series: Series) -> Result<Parts, NoMemory>
+fn parts_of_one(alloc: Global, series: Series) -> Result<Parts, NoMemory>
     ensures { IfOk result (λ made. series_of made ≡ series) }
 {
     let Series { labels, samples } = series;

@@ -45,20 +45,20 @@ fn first_samples(samples: SampleList) -> Result<SampleList, NoMemory>
     if fall(samples.as_slice()).is_none() {
         return Ok(SampleList::from_vec(samples));
     }
-    let made = merged(*samples.allocator(), samples.as_slice())?;
+    let made = merged_samples(*samples.allocator(), samples.as_slice())?;
     Ok(SampleList::from_vec(made))
 }
 
 /// The same of a slice. It is cut where the times fall, so that no part that ascends is cut, and the cuts lie near the middle.
-fn merged(alloc: Global, samples: &[Sample]) -> Result<Vec<Sample>, NoMemory>
+fn merged_samples(alloc: Global, samples: &[Sample]) -> Result<Vec<Sample>, NoMemory>
     ensures { IfOk result (λ made. made.items ≡ first_samples samples.now) }
 {
     let Some(place) = fall(samples) else {
         return Ok(Vec::from_slice(alloc, samples)?);
     };
     let (front, back) = samples.split_at(place);
-    let front = merged(alloc, front)?;
-    let back = merged(alloc, back)?;
+    let front = merged_samples(alloc, front)?;
+    let back = merged_samples(alloc, back)?;
     merge(front, back.as_slice())
 }
 
@@ -72,7 +72,7 @@ fn merge(samples: Vec<Sample>, others: &[Sample]) -> Result<Vec<Sample>, NoMemor
 {
     let start = start_of(samples.as_slice(), others);
     if start == samples.len() {
-        return appended(samples, others);
+        return with_appended(samples, others);
     }
     let (before, tail) = samples.as_slice().split_at(start);
     let mut made = Vec::with_capacity(*samples.allocator(), samples.len() + others.len())?;
@@ -81,7 +81,7 @@ fn merge(samples: Vec<Sample>, others: &[Sample]) -> Result<Vec<Sample>, NoMemor
 }
 
 /// Samples with others behind them, in no more memory than these take.
-fn appended(samples: Vec<Sample>, others: &[Sample]) -> Result<Vec<Sample>, NoMemory>
+fn with_appended(samples: Vec<Sample>, others: &[Sample]) -> Result<Vec<Sample>, NoMemory>
     ensures { IfOk result (λ made. made.items ≡ samples.items ++ others.now) }
 {
     let mut made = samples;

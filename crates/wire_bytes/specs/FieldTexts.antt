@@ -5,7 +5,7 @@ use Rattle.std.specs.Int.{Width, byte_len, to_be_bytes}
 use Rattle.reading_core.specs.Grammar.{HasFront}
 use Rattle.wire_bytes.specs.declared.refusal.WireRefusal.{WireRefusal}
 use Rattle.wire_bytes.specs.Position.{Position, left}
-use Rattle.wire_bytes.specs.Fields.{zigzag}
+use Rattle.wire_bytes.specs.Fields.{zigzag, group_base}
 
 -- A number of fixed width has one text: its bytes, the highest first.
 pub record IsFixed (w : Width) (text : List ℕ) (n : ℕ) : Type 0 where
@@ -16,8 +16,8 @@ pub record IsFixed (w : Width) (text : List ℕ) (n : ℕ) : Type 0 where
 -- that has 128 more where another follows. The highest groups may be zero, so that a number has several texts.
 abbrev pub IsGroups : List ℕ → ℕ → Type 0
 IsGroups [] n = ⊥
-IsGroups (last ∷ []) n = (last < 128) × (n ≡ last)
-IsGroups (low ∷ next ∷ others) n = (128 ≤ low) × (low < 256) × (high : ℕ) × (n + 128 ≡ low + 128 * high) × IsGroups (next ∷ others) high
+IsGroups (last ∷ []) n = (last < group_base) × (n ≡ last)
+IsGroups (low ∷ next ∷ others) n = (group_base ≤ low) × (low < 256) × (high : ℕ) × (n + group_base ≡ low + group_base * high) × IsGroups (next ∷ others) high
 
 -- one of 64 bits, in at most ten bytes
 pub record IsUvarint (text : List ℕ) (n : ℕ) : Type 0 where
@@ -31,12 +31,12 @@ IsVarint text n = IsUvarint text (zigzag n)
 
 -- The bytes end inside a number: each says that another follows.
 pub record EndsInside (bytes : List ℕ) : Type 0 where
-  pub follows : AllByRecursion (λ byte. 128 ≤ byte) bytes
+  pub follows : AllByRecursion (λ byte. group_base ≤ byte) bytes
   pub few : length bytes < 10
 
 -- Nine bytes say that another follows, and the tenth is above 1.
 pub record PassesLimit (bytes : List ℕ) : Type 0 where
-  pub follows : AllByRecursion (λ byte. 128 ≤ byte) (take 9 bytes)
+  pub follows : AllByRecursion (λ byte. group_base ≤ byte) (take 9 bytes)
   pub many : 9 < length bytes
   pub tenth : 1 < slice_index bytes 9
 

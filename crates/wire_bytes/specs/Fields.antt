@@ -17,14 +17,18 @@ number_at w p =
     then Err Short
     else Ok (from_be_bytes w (take (byte_len w) (left p)), further (byte_len w) p)
 
+-- How many values a group of seven bits can have. The byte of a group that another follows is as much greater than the group.
+abbrev pub group_base : ℕ
+group_base = 128
+
 -- groups of seven bits, the lowest first, and how many they are: at most so many more than one, the last of which is one bit
 unfoldable pub groups_of : ℕ → List ℕ → Result (ℕ × ℕ) WireRefusal
 groups_of more [] = Err Short
 groups_of zero (group ∷ groups) = if nat_lt group 2 then Ok (group, 1) else Err Overlong
 groups_of (suc more) (group ∷ groups) =
-    if nat_lt group 128
+    if nat_lt group group_base
     then Ok (group, 1)
-    else (groups_of more groups >>= λ high. Ok (group - 128 + 128 * high.0, high.1 + 1))
+    else (groups_of more groups >>= λ high. Ok (group - group_base + group_base * high.0, high.1 + 1))
 
 -- a number of 64 bits in base 128
 unfoldable pub uvarint_at : Position → Result (ℕ × Position) WireRefusal

@@ -88,7 +88,7 @@ impl Blob {
 }
 
 /// The bytes from a place on, at most `len` of them.
-fn range_in(bytes: &[u8], from: u64, len: u64) -> &[u8]
+pub fn range_in(bytes: &[u8], from: u64, len: u64) -> &[u8]
     ensures { result.now ≡ take len (drop from bytes.now) }
 {
     let start = (from as usize).min(bytes.len());

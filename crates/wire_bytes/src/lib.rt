@@ -10,7 +10,7 @@ mod put;
 mod refusal;
 mod varint;
 
-pub use blob::{Blob, NumberList};
+pub use blob::{Blob, NumberList, range_in};
 pub use crc::crc_of;
 pub use cursor::Cursor;
 pub use files::FILE_LIMIT;

@@ -1,10 +1,10 @@
 ghost use Rattle.std.specs.Prelude.{◌≡◌, ◌+◌, ◌%◌, ◌^◌, ◌<◌, ◌++◌, ◌∷◌, [], ◌≤◌, List, length, take, OnOk, OnErr, ℕ, ℤ};
 ghost use Rattle.std.specs.Int.{w16, w32, w64, to_be_bytes};
-ghost use Rattle.wire_bytes.specs.Fields.{zigzag};
+ghost use Rattle.wire_bytes.specs.Fields.{zigzag, group_base};
 ghost use Rattle.wire_bytes.specs.FieldTexts.{IsUvarint, IsVarint};
 ghost use Rattle.wire_bytes.specs.Written.{uvarint_text, varint_text};
 
-use crate::varint::{groups, zigzag};
+use crate::varint::{BASE, groups, zigzag};
 use list_core::NoMemory;
 
 /// Appends a byte.
@@ -60,9 +60,9 @@ pub fn put_uvarint(out: &mut Vec<u8>, n: u64) -> Result<(), NoMemory>
 /// The lowest group of a number, behind which others follow.
 #[inline(always)]
 fn low_group(n: u64) -> u8
-    ensures { result ≡ 128 + n % 128 }
+    ensures { result ≡ group_base + n % group_base }
 {
-    (128 + n % 128) as u8
+    (BASE + n % BASE) as u8
 }
 
 /// Appends a number of at most three groups. How many bytes are put is known in each branch, so no call copies them.
@@ -72,12 +72,15 @@ fn put_short(out: &mut Vec<u8>, n: u64) -> Result<(), NoMemory>
     ensures ok { OnOk result (out.new.items ≡ out.old.items ++ uvarint_text n) }
     ensures err { OnErr result (out.new.items ≡ out.old.items) }
 {
-    if n < 128 {
+    if n < BASE {
         put_bytes(out, &[n as u8])
     } else if n < 16_384 {
-        put_bytes(out, &[low_group(n), (n / 128) as u8])
+        put_bytes(out, &[low_group(n), (n / BASE) as u8])
     } else {
-        put_bytes(out, &[low_group(n), low_group(n / 128), (n / 16_384) as u8])
+        put_bytes(
+            out,
+            &[low_group(n), low_group(n / BASE), (n / 16_384) as u8],
+        )
     }
 }
 

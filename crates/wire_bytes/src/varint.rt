@@ -1,9 +1,15 @@
 ghost use Rattle.std.specs.Prelude.{◌≡◌, ◌≤◌, ◌<◌, ◌^◌, ◌*◌, ◌+◌, drop, Ok, suc, length, take, IfOk, IfSome, ℕ, ℤ};
 ghost use Rattle.reading_core.specs.Reading.{Answers};
-ghost use Rattle.wire_bytes.specs.Fields.{groups_of, field_value, zigzag, unzigzag};
+ghost use Rattle.wire_bytes.specs.Fields.{groups_of, field_value, zigzag, unzigzag, group_base};
 ghost use Rattle.wire_bytes.specs.Written.{uvarint_text};
 
 use crate::WireRefusal;
+
+/// How many values a group of seven bits can have.
+pub(crate) const BASE: u64 = 128;
+
+/// How much greater than its group a byte is where another group follows.
+const MORE: u8 = 128;
 
 /// A number in base 128 at the front of the bytes, and how many bytes it takes. A short one needs no call.
 #[inline(always)]
@@ -38,21 +44,21 @@ fn short_number(bytes: &[u8]) -> Option<(u64, usize)>
         return None;
     }
     let first = bytes[0];
-    if first < 128 {
+    if first < MORE {
         return Some((u64::from(first), 1));
     }
     if bytes.len() < 2 {
         return None;
     }
     let second = bytes[1];
-    if second < 128 {
-        return Some((u64::from(first - 128) + 128 * u64::from(second), 2));
+    if second < MORE {
+        return Some((u64::from(first - MORE) + BASE * u64::from(second), 2));
     }
-    if bytes.len() < 3 || bytes[2] >= 128 {
+    if bytes.len() < 3 || bytes[2] >= MORE {
         return None;
     }
-    let high = u64::from(second - 128) + 128 * u64::from(bytes[2]);
-    Some((u64::from(first - 128) + 128 * high, 3))
+    let high = u64::from(second - MORE) + BASE * u64::from(bytes[2]);
+    Some((u64::from(first - MORE) + BASE * high, 3))
 }
 
 fn groups_of(bytes: &[u8]) -> Result<(u64, usize), WireRefusal>
@@ -65,10 +71,10 @@ fn groups_of(bytes: &[u8]) -> Result<(u64, usize), WireRefusal>
             return Err(WireRefusal::Short);
         }
         let group = bytes[place] as u64;
-        if group < 128 {
+        if group < BASE {
             return Ok((with_group(n, group, place), place + 1));
         }
-        n = with_group(n, group - 128, place);
+        n = with_group(n, group - BASE, place);
     }
     let group = last_group(bytes)?;
     Ok((n + (group << 63), 10))
@@ -78,7 +84,7 @@ fn groups_of(bytes: &[u8]) -> Result<(u64, usize), WireRefusal>
 #[inline(always)]
 fn with_group(n: u64, group: u64, place: usize) -> u64
     requires low { n < 2 ^ (7 * place) }
-    requires group { group < 128 }
+    requires group { group < group_base }
     requires limit { place < 9 }
     ensures value { result ≡ n + group * 2 ^ (7 * place) }
     ensures below { result < 2 ^ (7 * (place + 1)) }
@@ -143,12 +149,12 @@ pub fn groups(n: u64) -> ([u8; 10], usize)
     let mut groups = [0; 10];
     let mut high = n;
     for i in 0..9 {
-        if high < 128 {
+        if high < BASE {
             groups[i] = high as u8;
             return (groups, i + 1);
         }
-        groups[i] = (128 + high % 128) as u8;
-        high /= 128;
+        groups[i] = (BASE + high % BASE) as u8;
+        high /= BASE;
     }
     groups[9] = high as u8;
     (groups, 10)

@@ -2,8 +2,9 @@
 use Rattle.std.proofs.Common.{◌≡◌, ◌==◌, ⊎_elim, ℕ, ◌+◌, ◌^◌, ◌<◌, ◌≤◌, Option, Some, None, IsSome, IfSome, List, [], ◌∷◌, length, refl, subst, arith}
 use Rattle.std.proofs.Math.Numerals.{one-add}
 use Rattle.std.specs.List.{before_first, slice_get}
+use Rattle.label_sets.specs.Labels.{ComesBefore}
 use Rattle.bucket_core.specs.Contents.{Contents, IsKey, nothing}
-use Rattle.bucket_core.specs.Pages.{Before, IsPage}
+use Rattle.bucket_core.specs.Pages.{IsPage}
 use Rattle.world_core.specs.Worlds.{IsTrueOf, IsCountedWorld}
 use Rattle.world_core.specs.Standing.{stands, Tells}
 use Rattle.world_core.specs.Operations.{IsLawful, IsReplyTo, PutsBytes, ShowsBytes}
@@ -13,7 +14,7 @@ use Rattle.world_core.specs.declared.entry.Entry.{Entry}
 use Rattle.moment_core.specs.Limits.{longest_tick}
 
 -- a key's name at the root is not empty
-named : (key : List ℕ) → IsKey key → Before [] (before_first (λ byte. byte == 47) key)
+named : (key : List ℕ) → IsKey key → ComesBefore [] (before_first (λ byte. byte == 47) key)
 named [] is_key = absurd (cc)
 named (first ∷ others) is_key = rw (is_key, one-add) refl
 

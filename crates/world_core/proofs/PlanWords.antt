@@ -1,12 +1,14 @@
 -- The words of plans: for what they ask, and to which ends they come, with replies told apart here alone.
 use Rattle.std.proofs.Common.{◌≡◌, ℕ, zero, suc, Bool, true, false, List, [], ◌∷◌, ◌++◌, length, unwrap_or, refl, ap}
 use Rattle.std.specs.Prelude.{nat_lt, nat_le}
+use Rattle.list_core.specs.Order.{are_in_order_after, comes_after}
+use Rattle.label_sets.specs.Labels.{compare_texts}
 use Rattle.block_keys.specs.declared.key.Key.{Key}
 use Rattle.world_core.proofs.PlanLaws.{AsksFor, EndsAre}
 use Rattle.world_core.specs.Limits.{most_listed}
 use Rattle.world_core.specs.Operations.{has_failed}
 use Rattle.world_core.specs.Plans.{Plan, Runs, Keeps, ends, asks as asks_for, and_then, choose, after_get, gets, after_put, puts}
-use Rattle.world_core.specs.Walks.{WalkEnds, after_page, ascends, last_listed, pages}
+use Rattle.world_core.specs.Walks.{WalkEnds, after_page, last_listed, pages}
 use Rattle.world_core.specs.declared.op.Op.{Op}
 use Rattle.world_core.specs.declared.op.Op.TheVariants.{Put, Get}
 use Rattle.world_core.specs.declared.reply.Reply.{Reply}
@@ -94,7 +96,7 @@ module _ {E : Type 0} (ways : WalkEnds E) (ask : List ℕ → Op) (limit : ℕ) 
     where
       by : (made : List Entry) (e : Entry) (r : Reply) → ((names : List (List ℕ)) → AsksFor Is made (pages ways ask limit next more names)) → AsksFor Is made (after_page ways limit listed e.seq r next (pages ways ask limit next more))
       by made e (Names names) on =
-          chosen (AsksFor Is made) (ascends (last_listed listed) names) _ _
+          chosen (AsksFor Is made) (are_in_order_after (comes_after compare_texts) (last_listed listed) names) _ _
           (λ up. chosen (AsksFor Is made) (nat_lt (length names) limit) _ _ (λ short. then made (listed ++ names))
           (λ full. chosen (AsksFor Is made) (nat_le most_listed (length (listed ++ names))) _ _ (λ many. tt) (λ few. on (listed ++ names))))
           (λ down. tt)
@@ -107,10 +109,10 @@ module _ {E : Type 0} (ways : WalkEnds E) (ask : List ℕ → Op) (limit : ℕ) 
 
   -- `Listed` is what the pages that were read say of the names
   module _ (Given : Entry → Type 0) (Is : List Entry → E → Type 0) (Listed : List Entry → List (List ℕ) → Type 0)
-      (goes : (made : List Entry) (listed names : List (List ℕ)) (e : Entry) → Listed made listed → e.op ≡ ask (unwrap_or (last_listed listed) []) → Given e → e.reply ≡ Names names → ascends (last_listed listed) names ≡ true → Listed (made ++ e ∷ []) (listed ++ names))
-      (comes : (made : List Entry) (listed names : List (List ℕ)) (e : Entry) → Listed made listed → e.op ≡ ask (unwrap_or (last_listed listed) []) → Given e → e.reply ≡ Names names → ascends (last_listed listed) names ≡ true → nat_lt (length names) limit ≡ true → EndsAre Given Is (made ++ e ∷ []) (next (listed ++ names)))
+      (goes : (made : List Entry) (listed names : List (List ℕ)) (e : Entry) → Listed made listed → e.op ≡ ask (unwrap_or (last_listed listed) []) → Given e → e.reply ≡ Names names → are_in_order_after (comes_after compare_texts) (last_listed listed) names ≡ true → Listed (made ++ e ∷ []) (listed ++ names))
+      (comes : (made : List Entry) (listed names : List (List ℕ)) (e : Entry) → Listed made listed → e.op ≡ ask (unwrap_or (last_listed listed) []) → Given e → e.reply ≡ Names names → are_in_order_after (comes_after compare_texts) (last_listed listed) names ≡ true → nat_lt (length names) limit ≡ true → EndsAre Given Is (made ++ e ∷ []) (next (listed ++ names)))
       (fails : (made : List Entry) (e : Entry) → Given e → has_failed e.reply ≡ true → Is (made ++ e ∷ []) (ways.fault e.seq))
-      (damages : (made : List Entry) (listed names : List (List ℕ)) (e : Entry) → Listed made listed → e.op ≡ ask (unwrap_or (last_listed listed) []) → Given e → e.reply ≡ Names names → ascends (last_listed listed) names ≡ false → Is (made ++ e ∷ []) (ways.damaged e.seq))
+      (damages : (made : List Entry) (listed names : List (List ℕ)) (e : Entry) → Listed made listed → e.op ≡ ask (unwrap_or (last_listed listed) []) → Given e → e.reply ≡ Names names → are_in_order_after (comes_after compare_texts) (last_listed listed) names ≡ false → Is (made ++ e ∷ []) (ways.damaged e.seq))
       (fills : (made : List Entry) → Is made ways.too_many) where
     pub pages_are : (more : ℕ) (made : List Entry) (listed : List (List ℕ)) → Listed made listed → EndsAre Given Is made (pages ways ask limit next more listed)
     pages_are zero made listed own = tt
@@ -120,7 +122,7 @@ module _ {E : Type 0} (ways : WalkEnds E) (ask : List ℕ → Op) (limit : ℕ) 
             → ((names : List (List ℕ)) → Listed (made ++ e ∷ []) names → EndsAre Given Is (made ++ e ∷ []) (pages ways ask limit next more names))
             → EndsAre Given Is (made ++ e ∷ []) (after_page ways limit listed e.seq r next (pages ways ask limit next more))
         by e is given (Names names) same on =
-            chosen (EndsAre Given Is (made ++ e ∷ [])) (ascends (last_listed listed) names) _ _
+            chosen (EndsAre Given Is (made ++ e ∷ [])) (are_in_order_after (comes_after compare_texts) (last_listed listed) names) _ _
             (λ up. chosen (EndsAre Given Is (made ++ e ∷ [])) (nat_lt (length names) limit) _ _ (λ short. comes made listed names e own is given same up short)
             (λ full. chosen (EndsAre Given Is (made ++ e ∷ [])) (nat_le most_listed (length (listed ++ names))) _ _ (λ many. fills (made ++ e ∷ []))
             (λ few. on (listed ++ names) (goes made listed names e own is given same up))))

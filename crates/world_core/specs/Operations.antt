@@ -1,7 +1,8 @@
 -- Which operations are lawful, and which replies an operation may have.
-use Rattle.std.specs.Prelude.{ℕ, ◌^◌, ◌<◌, ◌≤◌, Bool, true, false}
+use Rattle.std.specs.Prelude.{ℕ, ◌<◌, ◌≤◌, Bool, true, false}
 use Rattle.std.specs.List.{AllByRecursion}
 use Rattle.std.specs.Str.{IsUtf8}
+use Rattle.ulid_core.specs.Limits.{ulid_time_limit}
 use Rattle.reading_core.specs.Grammar.{IsBytes}
 use Rattle.block_keys.specs.Keys.{IsLawfulKey}
 use Rattle.moment_core.specs.Limits.{moment_limit}
@@ -12,7 +13,7 @@ use Rattle.world_core.specs.declared.reply.Reply.TheVariants.{Clocked, Stored, F
 use Rattle.world_core.specs.declared.seen.Seen.{Seen}
 use Rattle.world_core.specs.declared.entry.Entry.{Entry}
 
--- a clock is set to a moment, a key can be written, and a page has room for a name
+-- a clock is set below the limit of moments, a key can be written, and a page has room for a name
 abbrev pub IsLawful : Op → Type 0
 IsLawful (Clock moment) = moment.ms < moment_limit
 IsLawful (Put key bytes) = IsLawfulKey key
@@ -65,7 +66,7 @@ ShowsBytes (Failed landed) = Unit {0}
 -- what a machine may rely on when its operation was done: the reply's kind, and a moment that fits a ULID
 pub record IsAnswer (op : Op) (seen : Seen) : Type 0 where
   pub kind : IsReplyTo op seen.reply
-  pub moment : seen.moment.ms < 2 ^ 48
+  pub moment : seen.moment.ms < ulid_time_limit
 
 -- the entry of an operation that was answered so
 abbrev pub entry_of : ℕ → Op → Seen → Entry

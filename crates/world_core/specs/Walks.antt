@@ -1,26 +1,16 @@
 -- Walks of pages, which several machines use. A walk asks for page after page of names, each after the last name of the
 -- pages before it, until a page has fewer names than its limit.
-use Rattle.std.specs.Prelude.{ℕ, zero, suc, Bool, true, ◌&&◌, nat_lt, nat_le, List, [], ◌∷◌, ◌++◌, length, Option, None, Some, unwrap_or}
+use Rattle.std.specs.Prelude.{ℕ, zero, suc, nat_lt, nat_le, List, [], ◌++◌, length, Option, None, unwrap_or}
 use Rattle.std.specs.List.{last_or, filter_map}
-use Rattle.std.specs.Ordering.{is_lt, nat_cmp}
-use Rattle.std.specs.Cmp.Lexicographic.{slice_cmp}
 use Rattle.std.specs.Result.{result_ok}
+use Rattle.list_core.specs.Order.{are_in_order_after, comes_after}
 use Rattle.ulid_core.specs.UlidText.{ulid_of}
+use Rattle.label_sets.specs.Labels.{compare_texts}
 use Rattle.world_core.specs.Limits.{most_listed}
 use Rattle.world_core.specs.Plans.{Plan, ends, never, asks, choose}
 use Rattle.world_core.specs.declared.op.Op.{Op}
 use Rattle.world_core.specs.declared.reply.Reply.{Reply}
 use Rattle.world_core.specs.declared.reply.Reply.TheVariants.{Names, Failed}
-
--- a name is greater than the one before it, if there is one
-abbrev pub is_after : Option (List ℕ) → List ℕ → Bool
-is_after None name = true
-is_after (Some before) name = is_lt (slice_cmp nat_cmp before name)
-
--- each name is greater than the one before it
-abbrev pub ascends : Option (List ℕ) → List (List ℕ) → Bool
-ascends before [] = true
-ascends before (name ∷ names) = is_after before name && ascends (Some name) names
 
 -- the last name of those that were listed
 abbrev pub last_listed : List (List ℕ) → Option (List ℕ)
@@ -43,7 +33,7 @@ pub record WalkEnds (E : Type 0) : Type 0 where
 -- `next` follows the last page of a walk, and `more` any other.
 abbrev pub after_page : {E : Type 0} → WalkEnds E → ℕ → List (List ℕ) → ℕ → Reply → (List (List ℕ) → Plan E) → (List (List ℕ) → Plan E) → Plan E
 after_page ways limit listed seq (Names names) next more =
-    choose (ascends (last_listed listed) names)
+    choose (are_in_order_after (comes_after compare_texts) (last_listed listed) names)
     (choose (nat_lt (length names) limit)
     (next (listed ++ names))
     (choose (nat_le most_listed (length (listed ++ names))) (ends ways.too_many) (more (listed ++ names))))

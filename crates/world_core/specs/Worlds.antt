@@ -1,6 +1,7 @@
 -- What is seen of a world, and what holds of every one.
 use Rattle.std.specs.Prelude.{◌≡◌, ℕ, ◌+◌, ◌-◌, ◌*◌, ◌^◌, ◌<◌, ◌≤◌, min, List, length, count_by, Option, IfSome, refl}
 use Rattle.std.proofs.Common.{◌∙◌, arith}
+use Rattle.ulid_core.specs.Limits.{ulid_time_limit}
 use Rattle.bucket_core.specs.Contents.{Contents}
 use Rattle.world_core.specs.Operations.{IsLawful, IsReplyTo, PutsBytes, ShowsBytes, has_failed}
 use Rattle.world_core.specs.Journals.{Each, IsNumbered}
@@ -31,7 +32,7 @@ pub record IsJournal (tick : ℕ) (journal : List Entry) : Type 0 where
   pub lawful : Each (λ before e. IsLawful e.op) journal
   pub kinds : Each (λ before e. IsReplyTo e.op e.reply) journal
   pub moments : HasMoments tick journal
-  pub small : Each (λ before e. e.moment.ms < 2 ^ 48) journal
+  pub small : Each (λ before e. e.moment.ms < ulid_time_limit) journal
 
 -- all that the journal's entries put and show is bytes, and names in UTF-8
 abbrev pub IsOfBytes : List Entry → Type 0

@@ -1,7 +1,9 @@
 //! The names of a page, on which walks of pages go on.
 ghost use Rattle.std.specs.Prelude.{◌≡◌, ◌<◌, ◌^◌, ◌++◌, nat_lt, length, Some, IfOk, OnOk, IsTrue};
 ghost use Rattle.std.specs.Option.{option_copied};
-ghost use Rattle.world_core.specs.Walks.{ascends as do_ascend, is_after as comes_after, last_listed, ulids_in};
+ghost use Rattle.list_core.specs.Order.{are_in_order_after, comes_after};
+ghost use Rattle.label_sets.specs.Labels.{compare_texts};
+ghost use Rattle.world_core.specs.Walks.{last_listed, ulids_in};
 
 use label_sets::Text;
 use list_core::{NoMemory, TryCopy};
@@ -13,7 +15,8 @@ pub const MOST_LISTED: u64 = 1_000_000;
 
 /// Tells whether each name is greater than the one before it, where the first one may have one before it too.
 pub fn ascends(before: Option<&Text>, names: &[Text]) -> bool
-    ensures { result ≡ do_ascend (option_copied before.entry) names.now }
+    ensures { result
+        ≡ are_in_order_after (comes_after compare_texts) (option_copied before.entry) names.now }
 {
     let mut last = before;
     for name in names {
@@ -26,7 +29,7 @@ pub fn ascends(before: Option<&Text>, names: &[Text]) -> bool
 }
 
 fn is_after(before: Option<&Text>, name: &Text) -> bool
-    ensures { result ≡ comes_after (option_copied before.entry) name.now }
+    ensures { result ≡ comes_after compare_texts (option_copied before.entry) name.now }
 {
     match before {
         Some(before) => before.as_str() < name.as_str(),

@@ -1,4 +1,5 @@
-ghost use Rattle.std.specs.Prelude.{◌≡◌, false, ◌↔◌, ℕ, ◌+◌, ◌^◌, ◌≤◌, ◌<◌, IsTrue, [], ◌∷◌, ◌++◌, length, ◌≢◌, List, Some, slice_get, IfOk, IfErr, MatchResult, IfSome, option_map};
+ghost use Rattle.std.specs.Prelude.{◌≡◌, false, ◌↔◌, ℕ, ◌+◌, ◌≤◌, ◌<◌, IsTrue, [], ◌∷◌, ◌++◌, length, ◌≢◌, List, Some, slice_get, IfOk, IfErr, MatchResult, IfSome, option_map};
+ghost use Rattle.ulid_core.specs.Limits.{ulid_time_limit};
 ghost use Rattle.bucket_core.specs.Asking.{Call, Asks, AsksOnce};
 ghost use Rattle.bucket_core.specs.Contents.{nothing};
 ghost use Rattle.bucket_core.specs.Pages.{IsPage};
@@ -187,7 +188,7 @@ impl<B: Bucket> World<B> {
         requires lawful { IsLawful op.now }
         ensures value { result.ms
             ≡ moment_after self.now.tick (last_moment self.now.journal) op.now }
-        ensures bound { result.ms < 2 ^ 48 }
+        ensures bound { result.ms < ulid_time_limit }
     {
         match op {
             Op::Clock(moment) => self.last.max(*moment),

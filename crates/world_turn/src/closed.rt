@@ -26,14 +26,14 @@ impl<B: Bucket> Closed<B> {
     }
 
     /// Whether an operation of one of its passes was answered that the journal is full.
-    pub fn refused(&self) -> bool
+    pub fn met_full(&self) -> bool
         ensures { result ≡ (view_of self.now.root.value).refused }
     {
         self.refused
     }
 
     /// Whether memory was wanted in an operation of one of its passes.
-    pub fn wanted(&self) -> bool
+    pub fn wanted_memory(&self) -> bool
         ensures { result ≡ (view_of self.now.root.value).wanted }
     {
         self.wanted

@@ -50,7 +50,7 @@ impl<B: Bucket> Shared<B> {
         ensures err { IfErr result (λ e. e.1 ≡ world) }
     {
         let opened = Snapshot::of(&world);
-        let slots = slotted(alloc, world)?;
+        let slots = slots_of(alloc, world)?;
         match Table::new(alloc, &[0, 0], slots, &opened) {
             Ok((table, place)) => {
                 let root = Pass {
@@ -229,7 +229,7 @@ impl<B: Bucket> Shared<B> {
         let slot = closed.take(0);
         closed.free();
         Closed {
-            world: unslotted(slot),
+            world: world_in_slot(slot),
             root: known,
             refused,
             wanted,
@@ -238,7 +238,7 @@ impl<B: Bucket> Shared<B> {
 }
 
 /// The slots of the table: one, with the world. For want of memory the world comes back.
-fn slotted<W>(alloc: Global, world: W) -> Result<Vec<Option<W>>, (NoMemory, W)>
+fn slots_of<W>(alloc: Global, world: W) -> Result<Vec<Option<W>>, (NoMemory, W)>
     ensures { MatchResult result (λ slots. slots.items ≡ Some world ∷ []) (λ e. e.1 ≡ world) }
 {
     let mut slots = Vec::new(alloc);
@@ -247,7 +247,7 @@ fn slotted<W>(alloc: Global, world: W) -> Result<Vec<Option<W>>, (NoMemory, W)>
         Err(failed) => {
             let AllocFailed { value } = failed;
             slots.destroy_empty();
-            Err((NoMemory, unslotted(value)))
+            Err((NoMemory, world_in_slot(value)))
         }
     }
 }
@@ -258,10 +258,10 @@ fn taken_back<W>(mut slots: Vec<Option<W>>) -> W
 {
     let slot = slots.pop();
     slots.destroy_empty();
-    unslotted(unslotted(slot))
+    world_in_slot(world_in_slot(slot))
 }
 
-fn unslotted<W>(slot: Option<W>) -> W
+fn world_in_slot<W>(slot: Option<W>) -> W
     requires { (w : W) × (slot ≡ Some w) }
     ensures { slot ≡ Some result }
 {

@@ -13,10 +13,13 @@ use Rattle.std.proofs.lemmas.List.Elements.{All-contains, Contains-append_cases}
 use Rattle.std.proofs.lemmas.Map.Text.{is_eq-slice_cmp}
 use Rattle.std.proofs.lemmas.Slice.Eq.{bytes_eq-Decides}
 use Rattle.std.specs.Ordering.{is_eq, ordering_reverse}
+use Rattle.list_core.specs.Order.{InOrderAfter, ComesAfter}
 use Rattle.block_keys.specs.KeyText.{key_text}
 use Rattle.bucket_core.specs.Contents.{Contents, range_of}
-use Rattle.bucket_core.specs.Pages.{Ascends, Before, IsName, IsPage}
+use Rattle.bucket_core.specs.Pages.{IsName, IsPage}
 use Rattle.ulid_core.specs.UlidText.{text_of}
+use Rattle.label_sets.specs.Labels.{ComesBefore, compare_texts}
+use Rattle.label_sets.proofs.LabelValues.{before_trans}
 use Rattle.world_core.specs.Operations.{IsReplyTo}
 use Rattle.world_core.specs.Standing.{Tells, stands}
 use Rattle.world_core.specs.declared.entry.Entry.{Entry}
@@ -30,46 +33,43 @@ use Rattle.lifecycle_core.proofs.journals.OwedPages.{not_itself}
 
 -- ---- the order of names
 
-before_more : (x y z : List ℕ) → Before x y → Before y z → Before x z
-before_more x y z one other = nat_list_cmp_total.trans x y z one other
-
-member_before : (x : List ℕ) (front : List (List ℕ)) (y z : List ℕ) → Before x y → ((w : List ℕ) → Contains front w → Before w y) → Contains (x ∷ front) z → Before z y
-member_before x front y z less rest (zero, below, is) = subst (λ (w : List ℕ). Before w y) is less
+member_before : (x : List ℕ) (front : List (List ℕ)) (y z : List ℕ) → ComesBefore x y → ((w : List ℕ) → Contains front w → ComesBefore w y) → Contains (x ∷ front) z → ComesBefore z y
+member_before x front y z less rest (zero, below, is) = subst (λ (w : List ℕ). ComesBefore w y) is less
 member_before x front y z less rest (suc k, below, is) = rest z (k, omega (arith, below), is)
 
 -- what stands before and after a member of an ascending list
-front_before : (after : List ℕ) (front : List (List ℕ)) (y : List ℕ) (later : List (List ℕ)) → Ascends after (front ++ y ∷ later) → Before after y × ((z : List ℕ) → Contains front z → Before z y) × Ascends y later
+front_before : (after : List ℕ) (front : List (List ℕ)) (y : List ℕ) (later : List (List ℕ)) → InOrderAfter (ComesAfter compare_texts) (Some after) (front ++ y ∷ later) → ComesBefore after y × ((z : List ℕ) → Contains front z → ComesBefore z y) × InOrderAfter (ComesAfter compare_texts) (Some y) later
 front_before after [] y later up = (up.0, (λ z among. absurd (omega (arith, among.1))), up.1)
 front_before after (x ∷ front) y later up =
     let rest = front_before x front y later up.1 in
-    (before_more after x y up.0 rest.0, (λ z among. member_before x front y z rest.0 rest.1 among), rest.2)
+    (before_trans after x y up.0 rest.0, (λ z among. member_before x front y z rest.0 rest.1 among), rest.2)
 
-all_after : (y : List ℕ) (later : List (List ℕ)) (z : List ℕ) → Ascends y later → Contains later z → Before y z
+all_after : (y : List ℕ) (later : List (List ℕ)) (z : List ℕ) → InOrderAfter (ComesAfter compare_texts) (Some y) later → Contains later z → ComesBefore y z
 all_after y [] z up among = absurd (omega (arith, among.1))
-all_after y (x ∷ later) z up (zero, below, is) = subst (Before y) is up.0
-all_after y (x ∷ later) z up (suc k, below, is) = before_more y x z up.0 (all_after x later z up.1 (k, omega (arith, below), is))
+all_after y (x ∷ later) z up (zero, below, is) = subst (ComesBefore y) is up.0
+all_after y (x ∷ later) z up (suc k, below, is) = before_trans y x z up.0 (all_after x later z up.1 (k, omega (arith, below), is))
 
 -- ---- one page
 
-after_first : (x y : List ℕ) (later : List (List ℕ)) → Before x y → Ascends y later → (z : List ℕ) → Contains (y ∷ later) z → Before x z
-after_first x y later less up z (zero, below, is) = subst (Before x) is less
-after_first x y later less up z (suc k, below, is) = before_more x y z less (all_after y later z up (k, omega (arith, below), is))
+after_first : (x y : List ℕ) (later : List (List ℕ)) → ComesBefore x y → InOrderAfter (ComesAfter compare_texts) (Some y) later → (z : List ℕ) → Contains (y ∷ later) z → ComesBefore x z
+after_first x y later less up z (zero, below, is) = subst (ComesBefore x) is less
+after_first x y later less up z (suc k, below, is) = before_trans x y z less (all_after y later z up (k, omega (arith, below), is))
 
-nobody : (x z : List ℕ) → Contains [] z → Before x z
+nobody : (x z : List ℕ) → Contains [] z → ComesBefore x z
 nobody x z among = absurd (omega (arith, among.1))
 
 module _ (contents : Contents) (within after : List ℕ) (limit : ℕ) where
   abbrev Page : List (List ℕ) → Type 0
   Page names = IsPage contents within after limit names
 
-  no_room : (front one other : List (List ℕ)) (x : List ℕ) → length (front ++ x ∷ one) ≤ limit → length (front ++ other) ≡ limit → All (λ listed. Before listed x) (front ++ other) → ((z : List ℕ) → Contains other z → Before x z) → ⊥
+  no_room : (front one other : List (List ℕ)) (x : List ℕ) → length (front ++ x ∷ one) ≤ limit → length (front ++ other) ≡ limit → All (λ listed. ComesBefore listed x) (front ++ other) → ((z : List ℕ) → Contains other z → ComesBefore x z) → ⊥
   no_room front one [] x few full all greater = omega (arith, few, full, length-append front (x ∷ one), ap length (append-nil front))
   no_room front one (y ∷ other) x few full all greater =
-      let less = All-contains (λ listed. Before listed x) (front ++ y ∷ other) y all (stands_in front other y) in
-      not_itself x (before_more x y x (greater y (contains_first y other)) less)
+      let less = All-contains (λ listed. ComesBefore listed x) (front ++ y ∷ other) y all (stands_in front other y) in
+      not_itself x (before_trans x y x (greater y (contains_first y other)) less)
 
   -- a name of one page that is less than what another page, which begins as that one, has in its place
-  apart : (front one other : List (List ℕ)) (x : List ℕ) → Page (front ++ x ∷ one) → Page (front ++ other) → ((z : List ℕ) → Contains other z → Before x z) → ⊥
+  apart : (front one other : List (List ℕ)) (x : List ℕ) → Page (front ++ x ∷ one) → Page (front ++ other) → ((z : List ℕ) → Contains other z → ComesBefore x z) → ⊥
   apart front one other x own page greater =
       let at = front_before after front x one own.ascend in
       let name : IsName contents within x = All-contains (IsName contents within) (front ++ x ∷ one) x own.stand (stands_in front one x) in
@@ -82,7 +82,7 @@ module _ (contents : Contents) (within after : List ℕ) (limit : ℕ) where
   by_order x y one other front Less is a b rest =
       absurd (apart front one (y ∷ other) x a b (after_first x y other is (front_before after front y other b.ascend).2))
   by_order x y one other front Greater is a b rest =
-      let less : Before y x = nat_list_cmp_total.antisymm y x ∙ ap ordering_reverse is in
+      let less : ComesBefore y x = nat_list_cmp_total.antisymm y x ∙ ap ordering_reverse is in
       absurd (apart front other (x ∷ one) y b a (after_first y x one less (front_before after front x one a.ascend).2))
   by_order x y one other front Equal is a b rest =
       let same : x ≡ y = (bytes_eq-Decides x y).0 (sym (is_eq-slice_cmp x y) ∙ ap is_eq is) in cc (same, rest same)

@@ -14,47 +14,49 @@ use Rattle.std.proofs.lemmas.List.{append_cancel_left}
 use Rattle.std.proofs.lemmas.List.Elements.{All-from_recursion}
 use Rattle.std.proofs.lemmas.Map.Text.{is_eq-slice_cmp}
 use Rattle.std.proofs.lemmas.Slice.Eq.{bytes_eq-Decides}
+use Rattle.list_core.specs.Order.{InOrderAfter, ComesAfter}
+use Rattle.label_sets.specs.Labels.{ComesBefore, compare_texts}
 use Rattle.bucket_core.specs.Contents.{Contents}
-use Rattle.bucket_core.specs.Pages.{Ascends, Before, IsName, IsPage, Lists}
+use Rattle.bucket_core.specs.Pages.{IsName, IsPage, Lists}
 
 -- ---- the least names of a list
 
 -- of two texts the one is the other or less, or the other is less
-ordered_by : (x y : List ℕ) (o : Ordering) → slice_cmp nat_cmp x y ≡ o → ((x ≡ y) ⊎ Before x y) ⊎ Before y x
+ordered_by : (x y : List ℕ) (o : Ordering) → slice_cmp nat_cmp x y ≡ o → ((x ≡ y) ⊎ ComesBefore x y) ⊎ ComesBefore y x
 ordered_by x y Less is = inl (inr is)
 ordered_by x y Equal is = inl (inl ((bytes_eq-Decides x y).0 (sym (is_eq-slice_cmp x y) ∙ ap is_eq is)))
 ordered_by x y Greater is = inr (nat_list_cmp_total.antisymm y x ∙ ap ordering_reverse is)
 
-ordered : (x y : List ℕ) → ((x ≡ y) ⊎ Before x y) ⊎ Before y x
+ordered : (x y : List ℕ) → ((x ≡ y) ⊎ ComesBefore x y) ⊎ ComesBefore y x
 ordered x y = ordered_by x y (slice_cmp nat_cmp x y) refl
 
-pub not_itself : (x : List ℕ) → ¬ Before x x
+pub not_itself : (x : List ℕ) → ¬ ComesBefore x x
 not_itself x less = let turned : slice_cmp nat_cmp x x ≡ ordering_reverse (slice_cmp nat_cmp x x) = nat_list_cmp_total.antisymm x x in absurd (cc (less, turned))
 
-not_both : (x y : List ℕ) → (x ≡ y) ⊎ Before x y → ¬ Before y x
-not_both x y (inl same) less = not_itself x (subst (λ z. Before z x) (sym same) less)
+not_both : (x y : List ℕ) → (x ≡ y) ⊎ ComesBefore x y → ¬ ComesBefore y x
+not_both x y (inl same) less = not_itself x (subst (λ z. ComesBefore z x) (sym same) less)
 not_both x y (inr more) less = not_itself x (nat_list_cmp_total.trans x y x more less)
 
-then_before : (m x name : List ℕ) → (m ≡ x) ⊎ Before m x → (x ≡ name) ⊎ Before x name → (m ≡ name) ⊎ Before m name
+then_before : (m x name : List ℕ) → (m ≡ x) ⊎ ComesBefore m x → (x ≡ name) ⊎ ComesBefore x name → (m ≡ name) ⊎ ComesBefore m name
 then_before m x name (inl same) (inl also) = inl (same ∙ also)
-then_before m x name (inl same) (inr due) = inr (subst (λ y. Before y name) (sym same) due)
-then_before m x name (inr less) (inl same) = inr (subst (Before m) same less)
+then_before m x name (inl same) (inr due) = inr (subst (λ y. ComesBefore y name) (sym same) due)
+then_before m x name (inr less) (inl same) = inr (subst (ComesBefore m) same less)
 then_before m x name (inr less) (inr due) = inr (nat_list_cmp_total.trans m x name less due)
 
 -- the least name of a list that is greater than the cursor
 record IsLeast (after : List ℕ) (names : List (List ℕ)) (m : List ℕ) : Type 0 where
   among : Contains names m
-  due : Before after m
-  least : (name : List ℕ) → Contains names name → Before after name → (m ≡ name) ⊎ Before m name
+  due : ComesBefore after m
+  least : (name : List ℕ) → Contains names name → ComesBefore after name → (m ≡ name) ⊎ ComesBefore m name
 
 abbrev NoneDue : List ℕ → List (List ℕ) → Type 0
-NoneDue after names = (name : List ℕ) → Contains names name → ¬ Before after name
+NoneDue after names = (name : List ℕ) → Contains names name → ¬ ComesBefore after name
 
 abbrev Least : List ℕ → List (List ℕ) → Type 0
 Least after names = NoneDue after names ⊎ ((m : List ℕ) × IsLeast after names m)
 
 -- with one name more
-least_first : (after x : List ℕ) (xs : List (List ℕ)) → Before after x → ((name : List ℕ) → Contains xs name → Before after name → (x ≡ name) ⊎ Before x name) → Least after (x ∷ xs)
+least_first : (after x : List ℕ) (xs : List (List ℕ)) → ComesBefore after x → ((name : List ℕ) → Contains xs name → ComesBefore after name → (x ≡ name) ⊎ ComesBefore x name) → Least after (x ∷ xs)
 least_first after x xs due least = inr (
   x,
   record {
@@ -64,28 +66,28 @@ least_first after x xs due least = inr (
   },
 )
 
-least_later : (after x : List ℕ) (xs : List (List ℕ)) (m : List ℕ) → IsLeast after xs m → (Before after x → (m ≡ x) ⊎ Before m x) → Least after (x ∷ xs)
+least_later : (after x : List ℕ) (xs : List (List ℕ)) (m : List ℕ) → IsLeast after xs m → (ComesBefore after x → (m ≡ x) ⊎ ComesBefore m x) → Least after (x ∷ xs)
 least_later after x xs m is lower = inr (
   m,
   record {
     among = contains_later x m xs is.among;
     due = is.due;
     least = λ name among later. elim (member_cases x name xs among) [
-      | inl same ↦ subst (λ z. (m ≡ z) ⊎ Before m z) same (lower (subst (Before after) (sym same) later))
+      | inl same ↦ subst (λ z. (m ≡ z) ⊎ ComesBefore m z) same (lower (subst (ComesBefore after) (sym same) later))
       | inr there ↦ is.least name there later
     ];
   },
 )
 
-first_due : (after x : List ℕ) (xs : List (List ℕ)) → Before after x → Least after xs → Least after (x ∷ xs)
+first_due : (after x : List ℕ) (xs : List (List ℕ)) → ComesBefore after x → Least after xs → Least after (x ∷ xs)
 first_due after x xs due (inl none) = least_first after x xs due (λ name there later. absurd (none name there later))
 first_due after x xs due (inr (m, is)) = elim (ordered x m) [
   | inl low ↦ least_first after x xs due (λ name there later. then_before x m name low (is.least name there later))
   | inr less ↦ least_later after x xs m is (λ own. inr less)
 ]
 
-first_passed : (after x : List ℕ) (xs : List (List ℕ)) → ¬ Before after x → Least after xs → Least after (x ∷ xs)
-first_passed after x xs early (inl none) = inl (λ name among later. elim (member_cases x name xs among) [ inl same ↦ early (subst (Before after) (sym same) later) | inr there ↦ none name there later ])
+first_passed : (after x : List ℕ) (xs : List (List ℕ)) → ¬ ComesBefore after x → Least after xs → Least after (x ∷ xs)
+first_passed after x xs early (inl none) = inl (λ name among later. elim (member_cases x name xs among) [ inl same ↦ early (subst (ComesBefore after) (sym same) later) | inr there ↦ none name there later ])
 first_passed after x xs early (inr (m, is)) = least_later after x xs m is (λ own. absurd (early own))
 
 least_of : (after : List ℕ) (names : List (List ℕ)) → Least after names
@@ -97,10 +99,10 @@ least_of after (x ∷ xs) = elim (ordered x after) [
 
 -- the first names of a list that are greater than the cursor, in their order
 record IsFirstOf (names : List (List ℕ)) (after : List ℕ) (limit : ℕ) (page : List (List ℕ)) : Type 0 where
-  ascend : Ascends after page
+  ascend : InOrderAfter (ComesAfter compare_texts) (Some after) page
   few : length page ≤ limit
   own : AllByRecursion (Contains names) page
-  whole : (name : List ℕ) → Contains names name → Before after name → Contains page name ⊎ ((length page ≡ limit) × AllByRecursion (λ listed. Before listed name) page)
+  whole : (name : List ℕ) → Contains names name → ComesBefore after name → Contains page name ⊎ ((length page ≡ limit) × AllByRecursion (λ listed. ComesBefore listed name) page)
 
 with_least : (names : List (List ℕ)) (after m : List ℕ) (limit : ℕ) (page : List (List ℕ)) → IsLeast after names m → IsFirstOf names m limit page → IsFirstOf names after (suc limit) (m ∷ page)
 with_least names after m limit page is rest = record {
@@ -205,7 +207,7 @@ module _ (contents : Contents) (within : List ℕ) where
           stand = All-from_recursion (IsName contents within) first.0 (AllByRecursion-weaker (Contains names.0) (IsName contents within) are.stand first.0 is.own);
           whole = λ name named due. elim (is.whole name (are.all named.0 name (all named.0 named.1) named.1 named.2) due) [
             | inl there ↦ inl there
-            | inr full ↦ inr (full.0, All-from_recursion (λ listed. Before listed name) first.0 full.1)
+            | inr full ↦ inr (full.0, All-from_recursion (λ listed. ComesBefore listed name) first.0 full.1)
           ];
         },
       )

@@ -9,7 +9,9 @@ use Rattle.std.proofs.lemmas.Bool.{leb-true}
 use Rattle.std.proofs.lemmas.Cmp.{nat_list_cmp_total, tied_itself}
 use Rattle.std.proofs.lemmas.List.{length-append}
 use Rattle.std.proofs.lemmas.List.Elements.{All-append, All-cons, All-contains, All-contains_itself, All-nil, All-weaker, Contains-append_cases, Contains-append_left, Contains-append_right, recursion_from_All}
+use Rattle.list_core.specs.Order.{InOrderAfter, ComesAfter}
 use Rattle.ulid_core.specs.UlidText.{text_of}
+use Rattle.label_sets.specs.Labels.{ComesBefore, compare_texts}
 use Rattle.block_keys.specs.Keys.{key_ulid}
 use Rattle.block_keys.specs.declared.key.Key.{Key}
 use Rattle.block_keys.specs.declared.key.Key.TheVariants as key
@@ -19,7 +21,7 @@ use Rattle.block_meta.specs.MetaFields.{fields_of}
 use Rattle.block_meta.specs.MetaValue.{meta_text}
 use Rattle.moment_core.specs.declared.rules.Rules.{Rules}
 use Rattle.bucket_core.specs.Contents.{nothing}
-use Rattle.bucket_core.specs.Pages.{Ascends, Before, IsName}
+use Rattle.bucket_core.specs.Pages.{IsName}
 use Rattle.world_core.specs.Plans.{Runs, ends as comes_to}
 use Rattle.world_core.specs.Standing.{IsHonest, Tells, stands}
 use Rattle.world_core.specs.declared.entry.Entry.{Entry}
@@ -80,36 +82,36 @@ use Rattle.lifecycle_core.proofs.phases.TasksMade.{ends_are_made}
 -- ---- how many names ascend
 
 -- names that ascend after the last of others continue them
-ascends_joined : (before : Option (List ℕ)) (xs ys : List (List ℕ)) → Ascends (unwrap_or before []) xs → Ascends (unwrap_or (last_or before xs) []) ys → Ascends (unwrap_or before []) (xs ++ ys)
+ascends_joined : (before : Option (List ℕ)) (xs ys : List (List ℕ)) → InOrderAfter (ComesAfter compare_texts) (Some (unwrap_or before [])) xs → InOrderAfter (ComesAfter compare_texts) (Some (unwrap_or (last_or before xs) [])) ys → InOrderAfter (ComesAfter compare_texts) (Some (unwrap_or before [])) (xs ++ ys)
 ascends_joined before [] ys up next = next
 ascends_joined before (x ∷ xs) ys up next = (up.0, ascends_joined (Some x) xs ys up.1 next)
 
 -- a name is before each of those that ascend after it
-all_after : (name : List ℕ) (names : List (List ℕ)) → Ascends name names → All (Before name) names
-all_after name [] up = All-nil (Before name)
+all_after : (name : List ℕ) (names : List (List ℕ)) → InOrderAfter (ComesAfter compare_texts) (Some name) names → All (ComesBefore name) names
+all_after name [] up = All-nil (ComesBefore name)
 all_after name (x ∷ names) up =
-    All-cons (Before name) x names up.0 (All-weaker (Before x) (Before name) (λ y later. nat_list_cmp_total.trans name x y up.0 later) names (all_after x names up.1))
+    All-cons (ComesBefore name) x names up.0 (All-weaker (ComesBefore x) (ComesBefore name) (λ y later. nat_list_cmp_total.trans name x y up.0 later) names (all_after x names up.1))
 
-not_itself : (name : List ℕ) → Before name name → ⊥
+not_itself : (name : List ℕ) → ComesBefore name name → ⊥
 not_itself name less = cc (less, tied_itself nat_list_cmp_total name)
 
 -- another member is still one where that is taken out
-still_in : (front back : List (List ℕ)) (name x : List ℕ) → Before name x → Contains (front ++ name ∷ back) x → Contains (front ++ back) x
+still_in : (front back : List (List ℕ)) (name x : List ℕ) → ComesBefore name x → Contains (front ++ name ∷ back) x → Contains (front ++ back) x
 still_in front back name x less among = elim (Contains-append_cases front (name ∷ back) x among) [
   | inl first ↦ Contains-append_left front back x first
-  | inr (zero, below, is) ↦ absurd (not_itself name (subst (Before name) (sym is) less))
+  | inr (zero, below, is) ↦ absurd (not_itself name (subst (ComesBefore name) (sym is) less))
   | inr (suc k, below, is) ↦ Contains-append_right front back x (k, omega (arith, below), is)
 ]
 
 -- names that ascend are at most as many as the texts among which they are
-few_ascend : (after : List ℕ) (names texts : List (List ℕ)) → Ascends after names → ((x : List ℕ) → Contains names x → Contains texts x) → length names ≤ length texts
+few_ascend : (after : List ℕ) (names texts : List (List ℕ)) → InOrderAfter (ComesAfter compare_texts) (Some after) names → ((x : List ℕ) → Contains names x → Contains texts x) → length names ≤ length texts
 few_ascend after [] texts up among = omega arith
 few_ascend after (name ∷ names) texts up among =
     let at = parted texts name (among name (contains_first name names)) in
     let front = at.0 in
     let back = at.1 in
     let others : (x : List ℕ) → Contains names x → Contains (front ++ back) x = λ x inside.
-    still_in front back name x (All-contains (Before name) names x (all_after name names up.1) inside) (subst (λ ts. Contains ts x) at.2 (among x (contains_later name x names inside))) in
+    still_in front back name x (All-contains (ComesBefore name) names x (all_after name names up.1) inside) (subst (λ ts. Contains ts x) at.2 (among x (contains_later name x names inside))) in
     let rest : length names ≤ length (front ++ back) = few_ascend name names (front ++ back) up.1 others in
     omega (arith, rest, ap (length {A = List ℕ}) at.2, length-append front (name ∷ back), length-append front back)
 
@@ -257,7 +259,7 @@ IsKnown journal name = Contains (names_by put_name journal) name × Contains (na
 
 -- what was listed: names of such blocks, in order
 record AreListed (journal : List Entry) (names : List (List ℕ)) : Type 0 where
-  pub ascend : Ascends [] names
+  pub ascend : InOrderAfter (ComesAfter compare_texts) (Some []) names
   pub known : All (IsKnown journal) names
 
 too_few : (n : ℕ) → n ≤ 524_288 → nat_le 1_000_000 n ≡ true → ⊥
@@ -295,7 +297,7 @@ module _ (setting : Setting) (journal : List Entry) (deeds : AreDeeds setting jo
       ]
 
   page_shows : (page : Entry) (cursor : List ℕ) (limit : ℕ) (names : List (List ℕ)) → Contains journal page → page.op ≡ op.RootPage cursor limit → page.reply ≡ reply.Names names
-      → Ascends cursor names × All (IsKnown journal) names
+      → InOrderAfter (ComesAfter compare_texts) (Some cursor) names × All (IsKnown journal) names
   page_shows page cursor limit names among asked told =
       let at = parted journal page among in
       let tells : Tells (stands at.0) (op.RootPage cursor limit) (reply.Names names) =

@@ -3,6 +3,8 @@ use Rattle.std.proofs.Common.{◌≡◌, ◌≢◌, ℕ, zero, suc, ◌≤◌, f
 use Rattle.std.specs.Prelude.{nat_le, nat_lt, unwrap_or}
 use Rattle.std.specs.List.{AllByRecursion, last_or}
 use Rattle.std.proofs.lemmas.Bool.{ltb-false}
+use Rattle.list_core.specs.Order.{are_in_order_after, comes_after}
+use Rattle.label_sets.specs.Labels.{compare_texts}
 use Rattle.block_keys.specs.declared.key.Key.{Key}
 use Rattle.block_keys.specs.declared.key.Key.TheVariants as key
 use Rattle.block_meta.specs.MetaFields.{MetaFields, MarkFields}
@@ -10,7 +12,7 @@ use Rattle.block_meta.specs.OfBlocks.{block_meta, block_mark}
 use Rattle.moment_core.specs.declared.moment.Moment.{Moment}
 use Rattle.world_core.specs.Limits.{most_listed}
 use Rattle.world_core.specs.Plans.{Plan, Runs}
-use Rattle.world_core.specs.Walks.{after_page, ascends, last_listed, ulids_in}
+use Rattle.world_core.specs.Walks.{after_page, last_listed, ulids_in}
 use Rattle.world_core.specs.declared.entry.Entry.{Entry}
 use Rattle.world_core.specs.declared.op.Op.{Op}
 use Rattle.world_core.specs.declared.op.Op.TheVariants as op
@@ -118,7 +120,7 @@ module _ (rules : SyncRules) (low : 1 ≤ rules.page_limit) where
       → AsksFor Is (made ++ e ∷ []) (after_page walk_ends rules.page_limit listed e.seq r (λ names. reading [] (ulids_in names)) (listing rules more))
   after more made listed e (reply.Names names) shows has on =
       let now : List Entry = made ++ e ∷ [] in
-      chosen (AsksFor Is now) (ascends (last_listed listed) names) _ _
+      chosen (AsksFor Is now) (are_in_order_after (comes_after compare_texts) (last_listed listed) names) _ _
       (λ up. chosen (AsksFor Is now) (nat_lt (length names) rules.page_limit) _ _ (λ short. asked_reads (ulids_in (listed ++ names)) now [])
       (λ full. chosen (AsksFor Is now) (nat_le most_listed (length (listed ++ names))) _ _ (λ many. tt) (λ few. on (listed ++ names) (has names refl full))))
       (λ down. tt)

@@ -4,6 +4,8 @@ use Rattle.std.proofs.Common.{◌≡◌, ℕ, ◌+◌, ◌<◌, ◌^◌, List, [
 use Rattle.std.specs.Prelude.{fold}
 use Rattle.std.proofs.lemmas.Bool.{both_ways}
 use Rattle.std.proofs.lemmas.List.Elements.{All-contains_itself, All-weaker, Contains-append_left, recursion_from_All}
+use Rattle.list_core.specs.Order.{InOrderAfter, ComesAfter}
+use Rattle.label_sets.specs.Labels.{compare_texts}
 use Rattle.block_keys.specs.Keys.{IsLawfulKey, key_ulid}
 use Rattle.block_keys.specs.declared.key.Key.{Key}
 use Rattle.block_keys.specs.declared.key.Key.TheVariants as key
@@ -14,7 +16,6 @@ use Rattle.block_marking.specs.NewMarks.{new_mark}
 use Rattle.block_marking.specs.declared.reason.Reason.{Reason}
 use Rattle.block_marking.specs.declared.reason.Reason.TheVariants as reason_is
 use Rattle.moment_core.specs.declared.rules.Rules.{Rules}
-use Rattle.bucket_core.specs.Pages.{Ascends}
 use Rattle.world_core.specs.Limits.{most_listed}
 use Rattle.world_core.specs.Plans.{Plan, after_delete, choose, ends}
 use Rattle.world_core.specs.Standing.{IsHonest, Tells, stands}
@@ -139,10 +140,10 @@ module _ (setting : Setting) (journal : List Entry) (lawful : IsLawfulScript set
       let at = parted journal page among in
       (at.0, subst (λ x. Tells (stands at.0) x r) asked (subst (λ x. Tells (stands at.0) page.op x) told (honest at.0 at.1 page at.2)))
 
-  root_ascends : (page : Entry) (cursor : List ℕ) (limit : ℕ) (names : List (List ℕ)) → Contains journal page → page.op ≡ op.RootPage cursor limit → page.reply ≡ reply.Names names → Ascends cursor names
+  root_ascends : (page : Entry) (cursor : List ℕ) (limit : ℕ) (names : List (List ℕ)) → Contains journal page → page.op ≡ op.RootPage cursor limit → page.reply ≡ reply.Names names → InOrderAfter (ComesAfter compare_texts) (Some cursor) names
   root_ascends page cursor limit names among asked told = let one = shown page (op.RootPage cursor limit) (reply.Names names) among asked told in (one.1).ascend
 
-  block_ascends : (page : Entry) (ulid : ℕ) (cursor : List ℕ) (limit : ℕ) (names : List (List ℕ)) → Contains journal page → page.op ≡ op.BlockPage ulid cursor limit → page.reply ≡ reply.Names names → Ascends cursor names
+  block_ascends : (page : Entry) (ulid : ℕ) (cursor : List ℕ) (limit : ℕ) (names : List (List ℕ)) → Contains journal page → page.op ≡ op.BlockPage ulid cursor limit → page.reply ≡ reply.Names names → InOrderAfter (ComesAfter compare_texts) (Some cursor) names
   block_ascends page ulid cursor limit names among asked told = let one = shown page (op.BlockPage ulid cursor limit) (reply.Names names) among asked told in (one.1).ascend
 
   -- ---- syncs

@@ -11,7 +11,7 @@ use index_v2::IndexReader;
 
 /// Prints a call and its answer. `made` and a section, in the notation of `made_sections`, are the bytes that are written of
 /// it, `bytes FROM END` those of the index from a place on, up to its end where none is named, and `toc` is its table of
-/// contents. `symbols`, `table`, `list`, `raw` and `place` ask for a section of the index, `over` and `in` ask a reader over
+/// contents. `symbols`, `table`, `list` and `raw` ask for a section of the index, `over` and `in` ask a reader over
 /// parts of it, and the others ask its reader (`reader_calls`).
 ///
 /// Without the index, `selector TEXT` reads a selector, `replica NAME TEXT` reads one beside a replica label, and
@@ -39,7 +39,7 @@ fn print_answer(rt: &HostRuntime, index: &[u8], call: &str) {
             }
         }
         "toc" => show(rt, &read_toc(index)),
-        "symbols" | "table" | "list" | "raw" | "place" => print_section(rt, index, word, argument),
+        "symbols" | "table" | "list" | "raw" => print_section(rt, index, word, argument),
         "selector" => print_read(rt, "", argument, ""),
         "replica" => print_read(rt, first, rest, ""),
         "select" => print_read(rt, "", first, rest),

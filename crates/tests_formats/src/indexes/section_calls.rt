@@ -1,11 +1,10 @@
 use crate::indexes::chunk_notation::print_chunks;
 use crate::indexes::reader_calls::print_numbers;
 use crate::says::{cut_at, show, show_of};
-use index_parts::{label_place, read_postings, read_postings_table, read_series, read_symbols};
+use index_parts::{read_postings, read_postings_table, read_series, read_symbols};
 
 /// Prints what is read of the section at a place, by `WORD PLACE,NUMBER`: of `symbols` and `table` how many there are, and the
-/// one of the number, the numbers of `list`, the names, the values and the chunks of the series of `raw`, and of `place` where
-/// the symbol numbers of this label of the series stand.
+/// one of the number, the numbers of `list`, and the names, the values and the chunks of the series of `raw`.
 pub(crate) fn print_section(rt: &HostRuntime, index: &[u8], word: &str, argument: &str) {
     let alloc = rt.alloc();
     let (place, number) = cut_at(argument, ',');
@@ -21,7 +20,7 @@ pub(crate) fn print_section(rt: &HostRuntime, index: &[u8], word: &str, argument
             Err(refusal) => show(rt, &refusal),
         },
         "list" => print_numbers(rt, read_postings(alloc, index, place)),
-        "raw" => match read_series(alloc, index, place) {
+        _ => match read_series(alloc, index, place) {
             Ok(series) => {
                 let names = series.names.members();
                 let _ = print!(rt; "{names:?} {:?}", series.values.members());
@@ -29,6 +28,5 @@ pub(crate) fn print_section(rt: &HostRuntime, index: &[u8], word: &str, argument
             }
             Err(refusal) => show(rt, &refusal),
         },
-        _ => show(rt, &label_place(index, place, number)),
     }
 }

@@ -1,6 +1,6 @@
 use crate::says::{cut, put, put_labels, say, show, tell};
 use crate::texts::texts_of;
-use label_sets::{LabelSet, final_labels, reduced};
+use label_sets::{LabelSet, final_labels, reduced_labels};
 use list_core::{NoMemory, TryCopy};
 use std::alloc::Global;
 
@@ -39,7 +39,7 @@ pub(crate) fn print_final(rt: &HostRuntime, text: &str) {
     let external = set_of(rt.alloc(), external);
     let replicas = texts_of(rt.alloc(), replica);
     put_made(rt, final_labels(rt.alloc(), &own, &external, &replicas));
-    put_made(rt, reduced(rt.alloc(), &own, &external, &replicas));
+    put_made(rt, reduced_labels(rt.alloc(), &own, &external, &replicas));
     say(rt, "");
 }
 

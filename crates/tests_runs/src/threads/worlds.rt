@@ -31,12 +31,12 @@ pub fn are_in_order(entries: &[Entry], each: u64) -> bool {
         let Op::GetRange(_, from, _) = &entry.op else {
             return false;
         };
-        let made = if entry.seat == 1 {
-            &mut first
-        } else {
-            &mut second
+        let made = match entry.seat {
+            1 => &mut first,
+            2 => &mut second,
+            _ => return false,
         };
-        if entry.seat > 2 || *from != *made {
+        if *from != *made {
             return false;
         }
         *made = made.saturating_add(1);

@@ -3,13 +3,15 @@ use Rattle.std.proofs.Common.{◌≡◌, ◌≤◌, inl, inr, ℕ, true, List, [
 use Rattle.std.proofs.lemmas.List.Elements.{All-contains, All-from_recursion}
 use Rattle.std.proofs.lemmas.Slice.Eq.{bytes_eq-Decides}
 use Rattle.list_core.proofs.Membership.{contains_first, contains_later}
+use Rattle.list_core.specs.Order.{InOrderAfter, ComesAfter}
 use Rattle.ulid_core.specs.FixedDigits.{fixed_digits}
 use Rattle.ulid_core.specs.UlidText.{text_of, character, alphabet}
+use Rattle.label_sets.specs.Labels.{compare_texts}
 use Rattle.block_keys.specs.KeyText.{key_text, name_of, six_digits}
 use Rattle.block_keys.specs.declared.key.Key.TheVariants as key
 use Rattle.block_keys.specs.declared.object.Object.{Object}
 use Rattle.bucket_core.specs.Contents.{Contents, nothing, with_object}
-use Rattle.bucket_core.specs.Pages.{Ascends, IsName, IsPage}
+use Rattle.bucket_core.specs.Pages.{IsName, IsPage}
 use Rattle.tests_worked.specs.CompactedPair as row
 use Rattle.tests_worked.specs.SmallBlock as small
 use Rattle.tests_worked.proofs.small.Bucket.{first_part}
@@ -29,7 +31,7 @@ one_stands (o ∷ os) text some = elim (either_of (bytes_eq (key_text o.key) tex
 ]
 
 -- so a page of their folders' names has them all
-pub page_of_blocks : (os : List Object) (names : List (List ℕ)) → Ascends [] names → length names ≤ 1_000 → All (IsName (contents_of os) []) names → All (λ (o : Object). Contains names (first_part (key_text o.key))) os → IsPage (contents_of os) [] [] 1_000 names
+pub page_of_blocks : (os : List Object) (names : List (List ℕ)) → InOrderAfter (ComesAfter compare_texts) (Some []) names → length names ≤ 1_000 → All (IsName (contents_of os) []) names → All (λ (o : Object). Contains names (first_part (key_text o.key))) os → IsPage (contents_of os) [] [] 1_000 names
 unfolding first_part
 page_of_blocks os names ascend few stand folders = record {
   ascend = ascend;

@@ -18,7 +18,7 @@ use Rattle.index_parts.specs.PostingsReading.{posting_at}
 use Rattle.index_parts.specs.Placed.{text_at}
 use Rattle.index_parts.specs.RowsReading.{postings_table_at, row_at}
 use Rattle.index_parts.specs.SeriesEntry.{chunks_text, labels_text}
-use Rattle.index_parts.specs.SeriesReading.{begin_at, chunk_at, chunks_at, label_at, labels_at, labels_begin_at, later_at, reference_at, series_at}
+use Rattle.index_parts.specs.SeriesReading.{begin_at, chunk_at, chunks_at, label_at, labels_begin_at, later_at, reference_at, symbol_number_at}
 use Rattle.index_parts.specs.SymbolsReading.{symbol_at, symbols_at}
 use Rattle.index_parts.specs.declared.chunk_place.ChunkPlace.{ChunkPlace}
 use Rattle.index_parts.specs.declared.postings_row.PostingsRow.{PostingsRow}
@@ -34,7 +34,7 @@ use Rattle.index_writing.specs.Written.{label_index_places, label_rows, list_pla
 use Rattle.index_v2.specs.Held.{whole_file}
 use Rattle.index_v2.specs.Opening.{contents_at, opened_at}
 use Rattle.index_v2.specs.PostingsLists.{list_of, row_of}
-use Rattle.index_v2.specs.SeriesLabels.{label_of, labelled_at, labels_of, numbered_at}
+use Rattle.index_v2.specs.SeriesLabels.{label_of, labelled_at, labels_of, numbered_at, texts_at}
 use Rattle.index_v2.specs.WholeReading.{all_at, behind_at, belongs, gap_among, gap_from, gap_of, lists_at, present_at, stray_from, whole_at}
 use Rattle.index_v2.proofs.OpeningLaws.{opened_found}
 use Rattle.index_v2.proofs.WholeRead.{whole_found}
@@ -102,7 +102,7 @@ unfolding files.lists list_at turns_at framed_at summed_at members_at posting_at
 label_read = refl
 
 pub series_read : numbered_at (known (part 32 files.series)) texts 2 ≡ Ok listed
-unfolding files.series labelled_at labels_of label_of series_at labels_begin_at labels_at label_at chunks_at chunk_at begin_at later_at reference_at
+unfolding files.series labelled_at texts_at labels_of label_of labels_begin_at label_at symbol_number_at chunks_at chunk_at begin_at later_at reference_at
     turns_at members_at framed_at summed_at bytes_at number_at uvarint_at varint_at groups_of crc remainder
 series_read = refl
 
@@ -119,7 +119,7 @@ opened_read = refl
 pub whole_read : whole_at (whole_file opened) ≡ Ok (listed ∷ [])
 unfolding files.index files.symbols files.series files.label_index files.lists files.label_offsets files.table files.contents
     whole_at row_of present_at all_at behind_at lists_at stray_from gap_among gap_of gap_from belongs value_of
-    labelled_at labels_of label_of series_at labels_begin_at labels_at label_at chunks_at chunk_at begin_at later_at reference_at
+    labelled_at texts_at labels_of label_of labels_begin_at label_at symbol_number_at chunks_at chunk_at begin_at later_at reference_at
     list_at turns_at framed_at summed_at members_at posting_at bytes_at number_at uvarint_at varint_at groups_of crc remainder
 whole_read = refl
 

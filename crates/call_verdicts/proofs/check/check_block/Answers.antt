@@ -32,11 +32,11 @@ returns-in-Ok-clause-opened g c =
 pub returns-in-Err-clause-cause : goal.returns-in-Err-clause-cause
 returns-in-Err-clause-cause g c =
     unopened_caused (files_of (g.S.Site.next_shelf c.args.site.now) (named_by c.args.shelf.now)) c.args.block (SiteFailed g.S.Site.faults c.args.site.now c.open_shelf.new.site g.S.Files.Shelf.faults None)
-    c.in-Err.refusal c.without_bucket-in-Err.result.verdict (λ is. inl (c.in-Err.ensures.cause is)) (λ is. c.without_bucket-in-Err.ensures.verdict ∙ c.refused.ensures.failed is) (λ is. c.without_bucket-in-Err.ensures.verdict ∙ c.refused.ensures.none is)
+    c.in-Err.refusal c.without_bucket-in-Err.result.verdict (λ is. inl (c.in-Err.ensures.cause is)) (λ is. c.without_bucket-in-Err.ensures.verdict ∙ c.refusal_verdict.ensures.failed is) (λ is. c.without_bucket-in-Err.ensures.verdict ∙ c.refusal_verdict.ensures.none is)
 
 pub returns-in-Err-clause-opened : goal.returns-in-Err-clause-opened
 returns-in-Err-clause-opened g c = before_opening c.in-Err.refusal c.without_bucket-in-Err.result.verdict (is_some {T = g.row.S-Files.Denot} None ≡ is_some (named_by c.args.shelf.now))
-    (λ is. c.without_bucket-in-Err.ensures.verdict ∙ c.refused.ensures.failed is) (λ is. c.without_bucket-in-Err.ensures.verdict ∙ c.refused.ensures.none is)
+    (λ is. c.without_bucket-in-Err.ensures.verdict ∙ c.refusal_verdict.ensures.failed is) (λ is. c.without_bucket-in-Err.ensures.verdict ∙ c.refusal_verdict.ensures.none is)
 
 pub returns-in-Ok-clause-short : goal.returns-in-Ok-clause-short
 returns-in-Ok-clause-short g c =
@@ -45,7 +45,7 @@ returns-in-Ok-clause-short g c =
 
 pub returns-in-Err-clause-short : goal.returns-in-Err-clause-short
 returns-in-Err-clause-short g c =
-    short_refused c.in-Err.refusal c.without_bucket-in-Err.result.verdict _ (λ is. c.without_bucket-in-Err.ensures.verdict ∙ c.refused.ensures.failed is) (λ other. (c.in-Err.ensures.only other, tt))
+    short_refused c.in-Err.refusal c.without_bucket-in-Err.result.verdict _ (λ is. c.without_bucket-in-Err.ensures.verdict ∙ c.refusal_verdict.ensures.failed is) (λ other. (c.in-Err.ensures.only other, tt))
 
 pub returns-in-Ok-clause-asked : goal.returns-in-Ok-clause-asked
 returns-in-Ok-clause-asked g c =

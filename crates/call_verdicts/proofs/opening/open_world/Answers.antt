@@ -16,11 +16,11 @@ pub returns-in-Err-clause-cause : goal.returns-in-Err-clause-cause
 returns-in-Err-clause-cause g c =
     opened_told IsUndone (setting_of c.args.script.now) refl (g.B.Bucket.contents c.args.bucket) g.B.Bucket.faults c.args.bucket c.in-Err.store c.in-Err.refusal c.with_bucket.result.verdict c.empty.result c.with_bucket.result.journal c.with_bucket.result.store
     c.with_bucket.ensures.journal c.empty.ensures c.with_bucket.ensures.store c.in-Err.ensures.failed c.in-Err.ensures.not_empty
-    (λ is. c.with_bucket.ensures.verdict ∙ c.unopened.ensures.failed is) (λ name is. c.with_bucket.ensures.verdict ∙ c.unopened.ensures.not_empty name is) (λ is. c.with_bucket.ensures.verdict ∙ c.unopened.ensures.none is)
+    (λ is. c.with_bucket.ensures.verdict ∙ c.unopened_verdict.ensures.failed is) (λ name is. c.with_bucket.ensures.verdict ∙ c.unopened_verdict.ensures.not_empty name is) (λ is. c.with_bucket.ensures.verdict ∙ c.unopened_verdict.ensures.none is)
 
 pub returns-in-Err-clause-short : goal.returns-in-Err-clause-short
 returns-in-Err-clause-short g c =
-    short_unopened c.in-Err.refusal c.with_bucket.result.verdict _ (λ is. c.with_bucket.ensures.verdict ∙ c.unopened.ensures.failed is)
+    short_unopened c.in-Err.refusal c.with_bucket.result.verdict _ (λ is. c.with_bucket.ensures.verdict ∙ c.unopened_verdict.ensures.failed is)
     (λ other. unfailed_at g.B.Bucket.faults (g.B.Bucket.faults c.args.bucket) _ _ c.in-Err.store c.with_bucket.ensures.store (c.in-Err.ensures.only other))
 
 pub returns-in-Ok-clause-asked : goal.returns-in-Ok-clause-asked
@@ -29,7 +29,7 @@ returns-in-Ok-clause-asked g c = λ was. asked_first g.B.Bucket.asked c.args.buc
 pub returns-in-Err-clause-back_asked : goal.returns-in-Err-clause-back_asked
 returns-in-Err-clause-back_asked g c = λ was never.
     unopened_asked g.B.Bucket.asked c.args.bucket c.in-Err.store c.in-Err.refusal c.with_bucket.result.verdict c.with_bucket.result.journal c.with_bucket.result.store c.empty.result
-    c.with_bucket.ensures.journal c.empty.ensures c.with_bucket.ensures.store (λ is. c.with_bucket.ensures.verdict ∙ c.unopened.ensures.none is) c.in-Err.ensures.asks was never
+    c.with_bucket.ensures.journal c.empty.ensures c.with_bucket.ensures.store (λ is. c.with_bucket.ensures.verdict ∙ c.unopened_verdict.ensures.none is) c.in-Err.ensures.asks was never
 
 pub returns-in-Err-clause-only_opened : goal.returns-in-Err-clause-only_opened
 returns-in-Err-clause-only_opened g c = λ was.

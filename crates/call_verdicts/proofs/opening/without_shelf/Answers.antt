@@ -8,7 +8,7 @@ pub returns-clause-asked : goal.returns-clause-asked
 returns-clause-asked g c = λ was never.
     unshelved_asked g.B.Bucket.asked c.args.bucket c.args.refusal c.with_bucket.result.verdict c.with_bucket.result.journal c.with_bucket.result.store
     (c.with_bucket.ensures.journal ∙ ap (λ (entries : List Entry). Some entries) c.empty.ensures) c.with_bucket.ensures.store
-    (λ is. c.with_bucket.ensures.verdict ∙ c.refused.ensures.failed is) (λ is. c.with_bucket.ensures.verdict ∙ c.refused.ensures.none is) was never
+    (λ is. c.with_bucket.ensures.verdict ∙ c.refusal_verdict.ensures.failed is) (λ is. c.with_bucket.ensures.verdict ∙ c.refusal_verdict.ensures.none is) was never
 
 pub returns-clause-only_opened : goal.returns-clause-only_opened
 returns-clause-only_opened g c = λ was. back_opened g.B.Bucket.asked c.with_bucket.result.store c.args.bucket c.with_bucket.ensures.store (inl was)

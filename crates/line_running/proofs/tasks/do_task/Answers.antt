@@ -71,8 +71,8 @@ loop-number-preserved g c =
       room = (let a = c.loop-number.invariant.room in let b = c.push_reserved.ensures.capacity in omega arith);
     }
 
-pub gathered-requires : goal.gathered-requires
-gathered-requires g c = record {
+pub gathered_outcome-requires : goal.gathered_outcome-requires
+gathered_outcome-requires g c = record {
   few = (let few = c.requires.lawful.few_gateways in let i = c.loop-number.invariant.count in
       let count = counted c.args.means.now.script c.requires.lawful c.args.task.now.work c.args.place c.args.progress.now.gateways.items c.len.result c.hand_count-count.result c.requires.ready (let ok = c.args.progress.now.gateways.ok in omega (arith, c.len.ensures)) (c.hand_count-count.ensures c.args.place) in
       let most = few_parts c.args.task.now.work (gateway_count c.args.means.now.script.gateways) c.args.place (omega (arith, few)) in
@@ -84,9 +84,9 @@ returns-clause-step g c = λ views shows.
     let count = counted c.args.means.now.script c.requires.lawful c.args.task.now.work c.args.place c.args.progress.now.gateways.items c.len.result c.hand_count-count.result c.requires.ready (let ok = c.args.progress.now.gateways.ok in omega (arith, c.len.ensures)) (c.hand_count-count.ensures c.args.place) in
     let f = c.loop-number.invariant.done views shows in
     let whole : c.loop-number.number ≡ length (hands_of_task (gateway_count c.args.means.now.script.gateways) c.args.place c.args.task.now.work) = omega (arith, c.loop-number-test.false, c.loop-number.auto.number-end, count) in
-    all_done (setting_by c.args.means.now.script c.args.means.now.shelf) (seat_of c.args.seats.now.workers) c.args.place c.args.task.now views c.loop-number.number c.loop-number.progress.gateways.items c.args.hand.world.journal c.loop-number.hand.world.journal c.loop-number.parts.items c.gathered.result f
-    (whole ∙ sym (duties_long (setting_by c.args.means.now.script c.args.means.now.shelf) c.args.place c.args.task.now)) c.gathered.ensures.why
-    (gathered_is c.args.task.now.work c.loop-number.parts.items c.gathered.result (c.gathered.ensures.whole c.args.task.now.work (all_parts c.args.task.now.work (gateway_count c.args.means.now.script.gateways) c.args.place f.ends c.loop-number.parts.items (f.count ∙ whole) f.all)))
+    all_done (setting_by c.args.means.now.script c.args.means.now.shelf) (seat_of c.args.seats.now.workers) c.args.place c.args.task.now views c.loop-number.number c.loop-number.progress.gateways.items c.args.hand.world.journal c.loop-number.hand.world.journal c.loop-number.parts.items c.gathered_outcome.result f
+    (whole ∙ sym (duties_long (setting_by c.args.means.now.script c.args.means.now.shelf) c.args.place c.args.task.now)) c.gathered_outcome.ensures.why
+    (gathered_is c.args.task.now.work c.loop-number.parts.items c.gathered_outcome.result (c.gathered_outcome.ensures.whole c.args.task.now.work (all_parts c.args.task.now.work (gateway_count c.args.means.now.script.gateways) c.args.place f.ends c.loop-number.parts.items (f.count ∙ whole) f.all)))
 
 pub returns-in_default-clause-wanted : goal.returns-in_default-clause-wanted
 returns-in_default-clause-wanted g c = λ so. absurd (cc (subst IsTrue c.requires.unwanted so))

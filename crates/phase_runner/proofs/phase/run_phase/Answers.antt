@@ -1,9 +1,10 @@
-use Rattle.std.proofs.Common.{◌≡◌, ℕ, ◌+◌, ◌++◌, map, take, drop, length, vec_len, sym, ap, ◌∙◌, subst, arith}
+use Rattle.std.proofs.Common.{◌≡◌, ◌+◌, map, drop, length, vec_len, sym, ap, ◌∙◌, subst, arith}
+use Rattle.std.proofs.lemmas.List.{take-append-le, take_all}
 use Rattle.world_turn.specs.Closing.{AllJoined}
 use Rattle.world_turn.specs.Passes.{view_of}
 use Rattle.phase_runner.specs.Phases.{AreSeated, AreEnded, Runs}
 use Rattle.world_turn.specs.declared.pass.Pass.{Pass}
-use Rattle.phase_runner.proofs.Ready.{ready, as_many, taken_whole}
+use Rattle.phase_runner.proofs.Ready.{ready, as_many}
 use Rattle.phase_runner.proofs.Joined.{all_joined}
 use Rattle.phase_runner.proofs.Ending.{all_ended}
 use Rattle.phase_runner.proofs.phase.run_phase.Goals as goal
@@ -28,7 +29,7 @@ join_all-root-requires-clause-ended g c =
     let long : length after ≡ c.split_all-root.new.works.len = (let b = c.split_all-root.new.works.ok in omega (arith, same)) in
     let seated = subst (λ ws. AreSeated table (view_of c.args.root) (c.args.root.splits + 1) c.args.jobs.items (map (λ w. (w.job, w.pass)) ws)) (sym v) s.works in
     let ended = all_ended g.J.Job.may (record { full = g.J.Job.met_full; wanted = g.J.Job.wanted }) table (view_of c.args.root) (c.args.root.splits + 1) c.args.jobs.items before after (sym len) seated c.run_all.ensures in
-    let whole = subst (λ (n : ℕ). take n (after ++ drop (length after) items) ≡ after) long (taken_whole after items same) in
+    let whole = take-append-le c.split_all-root.new.works.len after (drop (length after) items) (omega (arith, long)) ∙ take_all c.split_all-root.new.works.len after (omega (arith, long)) in
     subst (λ l. AreEnded g.J.Job.may (record { full = g.J.Job.met_full; wanted = g.J.Job.wanted }) table (view_of c.of-first.result.value) (c.of-first.result.value.splits + 1) c.of-all.result.value.items (map (λ w. (w.pass, w.end)) l)) (sym whole)
     (subst (λ (p : Pass). AreEnded g.J.Job.may (record { full = g.J.Job.met_full; wanted = g.J.Job.wanted }) table (view_of p) (p.splits + 1) c.of-all.result.value.items (map (λ w. (w.pass, w.end)) after)) (sym c.of-first.ensures)
     (subst (λ js. AreEnded g.J.Job.may (record { full = g.J.Job.met_full; wanted = g.J.Job.wanted }) table (view_of c.args.root) (c.args.root.splits + 1) js (map (λ w. (w.pass, w.end)) after)) (ap (λ j. j.items) (sym c.of-all.ensures)) ended))
@@ -48,7 +49,7 @@ returns-clause-all g c =
 
 -- for want of memory the root is as it was
 pub returns-in_default-clause-all : goal.returns-in_default-clause-all
-returns-in_default-clause-all g c all = subst (λ (p : Pass). AllJoined (view_of p)) (sym c.unbegun.ensures.0) all
+returns-in_default-clause-all g c all = subst (λ (p : Pass). AllJoined (view_of p)) (sym c.unbegun_phase.ensures.0) all
 
 pub returns-in_default-with_capacity-clause-all : goal.returns-in_default-with_capacity-clause-all
-returns-in_default-with_capacity-clause-all g c all = subst (λ (p : Pass). AllJoined (view_of p)) (sym c.unbegun-in_default-with_capacity.ensures.0) all
+returns-in_default-with_capacity-clause-all g c all = subst (λ (p : Pass). AllJoined (view_of p)) (sym c.unbegun_phase-in_default-with_capacity.ensures.0) all

@@ -4,8 +4,8 @@ use Rattle.vertical_merge.proofs.TimesMerged.{tail_ascends, merged_from, all_beh
 use Rattle.vertical_merge.proofs.sample_merge.merge.Goals as goal
 
 pub returns-then-start-len : goal.returns-then-start-len
-returns-then-start-len c = IfOk-weaker c.appended.result _ _ (λ made is. all_behind made.items c.as_slice.result.now c.args.samples.items c.args.others.now c.start_of-start.result
-    c.requires.ascend c.requires.others (omega arith) c.as_slice.ensures.value c.start_of-start.ensures.before is) c.appended.ensures
+returns-then-start-len c = IfOk-weaker c.with_appended.result _ _ (λ made is. all_behind made.items c.as_slice.result.now c.args.samples.items c.args.others.now c.start_of-start.result
+    c.requires.ascend c.requires.others (omega arith) c.as_slice.ensures.value c.start_of-start.ensures.before is) c.with_appended.ensures
 
 pub with_merged-requires-clause-ascend : goal.with_merged-requires-clause-ascend
 with_merged-requires-clause-ascend c = tail_ascends _ _ _ _ c.requires.ascend

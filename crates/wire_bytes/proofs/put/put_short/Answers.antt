@@ -3,8 +3,8 @@ use Rattle.std.proofs.lemmas.Result.{on_ok_weaker}
 use Rattle.wire_bytes.proofs.GroupTexts.{one_put, two_put, three_put, two_groups, three_groups}
 use Rattle.wire_bytes.proofs.put.put_short.Goals as goal
 
-pub returns-then-n-lt128-clause-ok : goal.returns-then-n-lt128-clause-ok
-returns-then-n-lt128-clause-ok c = on_ok_weaker c.put_bytes.result (λ put. put ∙ ap (λ text. c.args.out.now.items ++ text) (sym (one_put _ c.if-n-lt128.true))) c.put_bytes.ensures.ok
+pub returns-then-n-lt-BASE-clause-ok : goal.returns-then-n-lt-BASE-clause-ok
+returns-then-n-lt-BASE-clause-ok c = on_ok_weaker c.put_bytes.result (λ put. put ∙ ap (λ text. c.args.out.now.items ++ text) (sym (one_put _ c.if-n-lt-BASE.true))) c.put_bytes.ensures.ok
 
 pub returns-then-n-lt16384-clause-ok : goal.returns-then-n-lt16384-clause-ok
 returns-then-n-lt16384-clause-ok c =

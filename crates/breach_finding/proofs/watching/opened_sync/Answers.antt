@@ -1,6 +1,6 @@
 use Rattle.std.proofs.Common.{Ok, [], ap, ◌∙◌}
 use Rattle.breach_finding.proofs.Steps.{at_first, first_asks, came_do, came_done, first_not_done}
-use Rattle.breach_finding.proofs.watching.opened.Goals as goal
+use Rattle.breach_finding.proofs.watching.opened_sync.Goals as goal
 
 pub unreachable-requires : goal.unreachable-requires
 unreachable-requires c =

@@ -1,5 +1,5 @@
 use Rattle.querier.proofs.ToldOnce.{is_merged, is_deduplicated}
-use Rattle.querier.proofs.gather.merged.Goals as goal
+use Rattle.querier.proofs.gather.merged_answers.Goals as goal
 
 pub returns-clause-merged : goal.returns-clause-merged
 returns-clause-merged g c = is_merged c.args.answers c.into_vec.result.items c.in_ok-told.told.items c.merged_all.result c.into_vec.ensures c.in_ok-told.ensures c.merged_all.ensures

@@ -1,7 +1,7 @@
 use Rattle.std.proofs.Common.{◌≡◌, eqb, false, length, arith}
 use Rattle.std.proofs.lemmas.Grind.{common_steps}
 use Rattle.group_planner.proofs.PlanLaws.{plan_of_overlap}
-use Rattle.group_planner.proofs.planning.planned.Goals as goal
+use Rattle.group_planner.proofs.planning.planned_metas.Goals as goal
 
 pub returns-else-is_empty : goal.returns-else-is_empty
 returns-else-is_empty c =

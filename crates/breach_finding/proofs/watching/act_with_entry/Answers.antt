@@ -1,5 +1,5 @@
 use Rattle.breach_finding.proofs.Steps.{step_ok}
-use Rattle.breach_finding.proofs.watching.answered.Goals as goal
+use Rattle.breach_finding.proofs.watching.act_with_entry.Goals as goal
 
 pub returns : goal.returns
 returns c =

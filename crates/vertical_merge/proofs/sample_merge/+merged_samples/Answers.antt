@@ -1,7 +1,7 @@
 use Rattle.std.proofs.lemmas.Result.{IfOk-weaker}
 use Rattle.vertical_merge.proofs.TimesMerged.{as_it_is}
 use Rattle.vertical_merge.proofs.FirstsJoined.{ascends_first, parts_joined}
-use Rattle.vertical_merge.proofs.sample_merge.+merged.Goals as goal
+use Rattle.vertical_merge.proofs.sample_merge.+merged_samples.Goals as goal
 
 pub returns-in_default : goal.returns-in_default
 returns-in_default t c = as_it_is _ _ c.in_ok-from_slice.ensures.items c.in_default.ensures

@@ -1,6 +1,6 @@
 use Rattle.std.proofs.Common.{◌≡◌, take}
 use Rattle.call_notes.specs.Spelled.{text_told}
-use Rattle.call_notes.proofs.notes.spelled.Given as goal
+use Rattle.call_notes.proofs.notes.spelling_of.Given as goal
 
 -- the text up to here
 abbrev pub invariant-loop-place : goal.invariant-loop-place
