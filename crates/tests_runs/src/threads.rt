@@ -16,7 +16,9 @@ use crate::threads::passes::passes_share_a_journal;
 use crate::threads::phases::{
     a_fault_stops_no_other, workers_are_watched, workers_share_a_journal,
 };
-use crate::threads::replays::{Stream, a_fault_stops_one_upload, fails_in_turn, uploads_meet};
+use crate::threads::replays::{
+    Stream, a_fault_stops_one_upload, a_large_answer_is_told, fails_in_turn, uploads_meet,
+};
 use crate::threads::scripts::print_script;
 use phase_runner::Open;
 use std::alloc::Global;
@@ -54,6 +56,7 @@ fn is_good<R: Threads + Wait + Sync>(rt: &R, alloc: Global, name: &str) -> bool 
         "numbers" => workers_are_watched(rt, alloc, false, 20),
         "fault" => a_fault_stops_no_other(rt, alloc),
         "uploads" => uploads_meet(rt, alloc),
+        "large" => a_large_answer_is_told(rt, alloc),
         "failing_call" => a_fault_stops_one_upload(rt, alloc),
         "source" => fails_in_turn(rt, alloc, Stream::Source),
         "sink" => fails_in_turn(rt, alloc, Stream::Sink),

@@ -40,6 +40,27 @@ source 0000000000000000000000000B
 series {a=\"x\"} 1000:0000000000000001 2000:0000000000000002 3000:0000000000000003
 ";
 
+/// What a script with a large answer says before its series.
+const LARGE_BLOCK: &str = "gateway g
+gateway h
+block 0000000000000000000000000A 0 7200000 {}";
+
+/// What it says behind them.
+const LARGE_QUERY: &str = "at 0
+upload 0000000000000000000000000A
+at 1800000
+sync g
+sync h
+query 0 7200000 {}";
+
+/// What its report says before its series.
+const LARGE_REPORT: &str = "upload 0000000000000000000000000A: ok 3 objects
+sync g: 1 blocks
+sync h: 1 blocks
+query 0 7200000: 12 series 126000 samples 1 sources
+source 0000000000000000000000000A
+";
+
 /// The call with threads, and its words.
 const REPLAY: (&str, &str) = ("replay", "memory none");
 
@@ -70,16 +91,12 @@ pub fn a_fault_stops_one_upload<R: Threads + Wait + Sync>(rt: &R, alloc: Global)
     };
     let files = FileList::new(alloc);
     let ended = end_over_memory(rt, alloc, REPLAY, files, TWO_BLOCKS, &setting, &Open);
-    let good = has_stopped_one(&ended);
+    let text = text_of(ended.out.bytes());
+    let good = ended.status == 5
+        && lines_with(text, "upload", ": fault ") == 1
+        && lines_with(text, "upload", ": ok 3 objects") == 1;
     drop(ended);
     good
-}
-
-fn has_stopped_one(ended: &Ended) -> bool {
-    let text = text_of(ended.out.bytes());
-    ended.status == 5
-        && lines_with(text, "upload", ": fault ") == 1
-        && lines_with(text, "upload", ": ok 3 objects") == 1
 }
 
 /// How many lines begin with the one and hold the other.
@@ -108,7 +125,12 @@ pub fn fails_in_turn<R: Threads + Wait + Sync>(rt: &R, alloc: Global, stream: St
         let files = FileList::new(alloc);
         let ended = end_over_memory(rt, alloc, REPLAY, files, ONE_BLOCK, &setting, &Open);
         let is_whole = has_told(&ended, ONE_BLOCK_REPORT);
-        let has_failed = tells_fault(&ended, stream);
+        let has_failed = match stream {
+            Stream::Source => {
+                ended.status == 3 && ended.out.bytes() == b"script read fault\n".as_slice()
+            }
+            Stream::Sink => ended.status == 4,
+        };
         drop(ended);
         if is_whole {
             return call > 1;
@@ -120,17 +142,44 @@ pub fn fails_in_turn<R: Threads + Wait + Sync>(rt: &R, alloc: Global, stream: St
     false
 }
 
-/// Whether a run ended as one whose source failed, or whose sink did.
-fn tells_fault(ended: &Ended, stream: Stream) -> bool {
-    match stream {
-        Stream::Source => {
-            ended.status == 3 && ended.out.bytes() == b"script read fault\n".as_slice()
-        }
-        Stream::Sink => ended.status == 4,
-    }
-}
-
 /// Whether a run ended as asked, with this report.
 fn has_told(ended: &Ended, report: &str) -> bool {
     ended.status == 0 && ended.out.bytes() == report.as_bytes()
+}
+
+/// Two gateways see one block and are asked for all of it. Their answers are so large that they are compared in threads, where there
+/// are three processors, and that the lines of the one that is told are put in threads, where there are two.
+pub fn a_large_answer_is_told<R: Threads + Wait + Sync>(rt: &R, alloc: Global) -> bool {
+    let series = large_series(alloc);
+    let Ok(script) = format!(in alloc;
+        "{LARGE_BLOCK}
+{series}{LARGE_QUERY}"
+    ) else {
+        return false;
+    };
+    let Ok(report) = format!(in alloc; "{LARGE_REPORT}{series}") else {
+        return false;
+    };
+    let files = FileList::new(alloc);
+    let ended = end_over_memory(rt, alloc, REPLAY, files, script.as_str(), &CALM, &Open);
+    let good = has_told(&ended, report.as_str());
+    drop(ended);
+    good
+}
+
+/// The lines of twelve series, each of which has a thousand samples more than the one before it. A report has the same lines.
+fn large_series(alloc: Global) -> String {
+    let mut lines = String::new(alloc);
+    for (place, letter) in "abcdefghijkl".chars().enumerate() {
+        if let Ok(front) = format!(in alloc; "series {{s=\"{letter}\"}}") {
+            let _ = lines.push_str(front.as_str());
+        }
+        for number in 0..5_000 + 1_000 * place {
+            if let Ok(sample) = format!(in alloc; " {}:{number:016}", 10 * number) {
+                let _ = lines.push_str(sample.as_str());
+            }
+        }
+        let _ = lines.push('\n');
+    }
+    lines
 }
