@@ -5,6 +5,7 @@ use Rattle.std.specs.List.{before_first, after_first, list_all}
 use Rattle.std.specs.Char.{is_ascii_digit}
 use Rattle.std.specs.Str.{bytes_eq, byte}
 use Rattle.std.specs.Str.Parse.{AllDigits, digits_value}
+use Rattle.reading_core.specs.Decimal.{digit_zero}
 use Rattle.reading_core.specs.FixedDigits.{fixed_digits}
 use Rattle.ulid_core.specs.UlidText.{IsUlidText, text_of, ulid_of}
 use Rattle.ulid_core.specs.declared.refusal.UlidRefusal.{UlidRefusal}
@@ -38,7 +39,7 @@ pub record IsKeyText (text : List ℕ) (key : Key) : Type 0 where
 
 -- six decimal digits of a number
 unfoldable pub six_digits : ℕ → List ℕ
-six_digits number = map (λ digit. 48 + digit) (fixed_digits 10 6 number)
+six_digits number = map (λ digit. digit_zero + digit) (fixed_digits 10 6 number)
 
 -- the one name of an object within its block
 unfoldable pub name_of : Key → List ℕ

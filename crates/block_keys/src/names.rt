@@ -1,5 +1,6 @@
 ghost use Rattle.std.specs.Prelude.{◌≡◌, ◌++◌, ◌+◌, ◌%◌, ◌≤◌, IfOk, OnOk, codes};
 ghost use Rattle.std.specs.String.{string_bytes};
+ghost use Rattle.reading_core.specs.Decimal.{digit_zero};
 ghost use Rattle.ulid_core.specs.UlidText.{IsUlidText, text_of};
 ghost use Rattle.block_keys.specs.Keys.{segment_limit};
 ghost use Rattle.block_keys.specs.KeyText.{key_of, key_named, number_of, segment_of, six_digits};
@@ -37,7 +38,7 @@ pub fn six_digits(number: u32) -> [u8; 6]
 }
 
 fn digit_of(number: u32) -> u8
-    ensures { result ≡ 48 + number % 10 }
+    ensures { result ≡ digit_zero + number % 10 }
 {
     b'0' + (number % 10) as u8
 }

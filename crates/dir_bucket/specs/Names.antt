@@ -2,10 +2,13 @@
 use Rattle.std.specs.Prelude.{◌==◌, ℕ, Bool, true, false, not, ◌&&◌, ◌||◌, List, [], ◌∷◌}
 use Rattle.wire_bytes.specs.Files.{slash}
 
+abbrev pub dot : ℕ
+dot = 46
+
 -- a part of a name begins here that is empty, or begins with a dot
 abbrev pub is_odd_start : List ℕ → Bool
 is_odd_start [] = true
-is_odd_start (byte ∷ rest) = (byte == slash) || (byte == 46)
+is_odd_start (byte ∷ rest) = (byte == slash) || (byte == dot)
 
 -- such a part begins behind some slash, or there is a byte 0, which no file's name has
 abbrev pub has_odd_part : List ℕ → Bool

@@ -22,6 +22,11 @@ compare_self name = tied_itself nat_list_cmp_total name
 pub before_differs : (one other : List ℕ) → ComesBefore one other → one ≢ other
 before_differs one _ b e = lesser_equal _ (subst (λ n. ComesBefore one n) (sym e) b) (compare_self one)
 
+pub above_nothing : (before name : List ℕ) → ComesBefore before name → name ≢ []
+above_nothing [] [] h e = cc
+above_nothing (b ∷ before) [] h e = cc
+above_nothing _ (n ∷ name) h e = cc
+
 pub before_trans : (a b c : List ℕ) → ComesBefore a b → ComesBefore b c → ComesBefore a c
 before_trans a b c p q = nat_list_cmp_total.trans a b c p q
 

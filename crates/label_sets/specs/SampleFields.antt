@@ -5,6 +5,10 @@ use Rattle.std.specs.Prelude.{ℕ}
 abbrev pub sample_room : ℕ
 sample_room = 40
 
+-- how many signs a time has at most: one of what is below zero, and nineteen digits
+abbrev pub time_length : ℕ
+time_length = 20
+
 -- how many samples there are at most
 abbrev pub most_at_once : ℕ
 most_at_once = 12

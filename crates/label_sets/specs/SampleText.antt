@@ -23,9 +23,13 @@ hex_sign digit = digit_char digit
 unfoldable pub hex_text : ℕ → ℕ → List ℕ
 hex_text count number = map hex_sign (fixed_digits 16 count number)
 
+-- how many signs a pattern has
+abbrev pub pattern_length : ℕ
+pattern_length = 16
+
 -- a pattern of 64 bits
 unfoldable pub pattern_text : ℕ → List ℕ
-pattern_text pattern = hex_text 16 pattern
+pattern_text pattern = hex_text pattern_length pattern
 
 -- `TIME:PATTERN`
 unfoldable pub timed_text : ℤ → ℕ → List ℕ
@@ -51,9 +55,9 @@ is_hex_sign byte = is_ascii_digit byte || is_in_range letter_a letter_f byte
 unfoldable pub hex_number : List ℕ → ℕ
 hex_number digits = digits_value 16 digits
 
--- the pattern of 16 digits
+-- the pattern of so many digits
 unfoldable pub pattern_of : List ℕ → Option ℕ
-pattern_of digits = if length digits == 16 && list_all is_hex_sign digits then Some (hex_number digits) else None
+pattern_of digits = if length digits == pattern_length && list_all is_hex_sign digits then Some (hex_number digits) else None
 
 -- a sample of a time and a pattern that were read
 unfoldable pub sample_with : Option ℕ → Result ℤ NumberRefusal → Result Sample SampleRefusal

@@ -6,10 +6,11 @@ ghost use Rattle.std.specs.List.{list_all};
 ghost use Rattle.std.specs.List.Sorted.{IsStrictlySortedBy};
 ghost use Rattle.std.specs.Ordering.{int_cmp};
 ghost use Rattle.std.specs.Str.Parse.{digits_value};
-ghost use Rattle.label_sets.specs.SampleText.{timed_text, sample_text, is_hex_sign, pattern_of, sample_of};
+ghost use Rattle.label_sets.specs.SampleText.{timed_text, sample_text, is_hex_sign, pattern_length, pattern_of, sample_of};
 ghost use Rattle.label_sets.specs.Times.{is_within, times_of};
 
 use crate::SampleRefusal;
+use crate::sample_text::PATTERN;
 use list_core::{List, NoMemory, TryCopy};
 use reading_core::{NumberRefusal, read_signed};
 
@@ -86,22 +87,22 @@ fn read_sample(text: &str) -> Result<Sample, SampleRefusal>
     }
 }
 
-/// Reads 16 digits.
+/// Reads the digits of a pattern.
 #[tactic(auto, using(crate::proofs::HexTexts::pattern_read, crate::proofs::HexTexts::pattern_unread), unfolding(crate::specs::SampleText::pattern_of))]
 fn read_pattern(digits: &str) -> Option<u64>
     ensures { result ≡ pattern_of digits.now }
 {
     let signs = digits.as_bytes();
-    if signs.len() == 16 && are_hex_signs(signs) {
+    if signs.len() == PATTERN && are_hex_signs(signs) {
         Some(hex_number(signs))
     } else {
         None
     }
 }
 
-/// The number of 16 digits, made with no test.
+/// The number of so many digits, made with no test.
 fn hex_number(signs: &[u8]) -> u64
-    requires count { length signs.now ≡ 16 }
+    requires count { length signs.now ≡ pattern_length }
     requires hex { list_all is_hex_sign signs.now ≡ true }
     ensures { result ≡ digits_value 16 signs.now }
 {

@@ -5,8 +5,8 @@ ghost use Rattle.std.specs.Prelude.{◌≡◌, ◌+◌, ◌/◌, ◌%◌, ◌<�
 ghost use Rattle.std.specs.Fmt.{signed_decimal};
 ghost use Rattle.std.specs.List.{flat_map};
 ghost use Rattle.label_sets.specs.Characters.{space};
-ghost use Rattle.label_sets.specs.SampleFields.{field_length, most_at_once, sample_room};
-ghost use Rattle.label_sets.specs.SampleText.{hex_sign, pattern_text, spaced_sample_text, timed_text};
+ghost use Rattle.label_sets.specs.SampleFields.{field_length, most_at_once, sample_room, time_length};
+ghost use Rattle.label_sets.specs.SampleText.{hex_sign, pattern_length, pattern_text, spaced_sample_text, timed_text};
 
 use crate::Sample;
 use itoa::write_digits;
@@ -22,7 +22,7 @@ const AT_ONCE: usize = 12;
 const FIELD: usize = AT_ONCE * ROOM;
 
 /// How many signs a pattern has.
-const PATTERN: usize = 16;
+pub(crate) const PATTERN: usize = 16;
 
 /// The two signs of each number below 256 in base 16.
 static SIGNS: [u8; 512] = *b"\
@@ -93,7 +93,8 @@ fn write_timed(time: i64, pattern: u64, field: &mut [u8; FIELD], end: usize) -> 
     requires within { end ≤ field_length }
     ensures before { result ≤ end }
     ensures near { end ≤ result + sample_room }
-    ensures written { drop result field.new ≡ (space ∷ timed_text time pattern) ++ drop end field.old }
+    ensures written { drop result field.new
+        ≡ (space ∷ timed_text time pattern) ++ drop end field.old }
 {
     let place = end - PATTERN;
     write_pattern(pattern, field, place);
@@ -106,8 +107,9 @@ fn write_timed(time: i64, pattern: u64, field: &mut [u8; FIELD], end: usize) -> 
 /// Writes the signs of a pattern from a place on.
 #[inline(always)]
 fn write_pattern(pattern: u64, field: &mut [u8; FIELD], place: usize)
-    requires { place + 16 ≤ field_length }
-    ensures { drop place field.new ≡ pattern_text pattern ++ drop (place + 16) field.old }
+    requires { place + pattern_length ≤ field_length }
+    ensures { drop place field.new
+        ≡ pattern_text pattern ++ drop (place + pattern_length) field.old }
 {
     let mut rest = pattern;
     for pair in (0..8).rev() {
@@ -132,10 +134,10 @@ fn sign_pair(number: u64) -> (u8, u8)
 /// Writes a time's text before what stands from a place on, and gives where it begins.
 #[inline(always)]
 fn write_time(time: i64, field: &mut [u8; FIELD], end: usize) -> usize
-    requires room { 20 < end }
+    requires room { time_length < end }
     requires within { end ≤ field_length }
     ensures before { result ≤ end }
-    ensures near { end ≤ result + 20 }
+    ensures near { end ≤ result + time_length }
     ensures written { drop result field.new ≡ signed_decimal time ++ drop end field.old }
 {
     let start = write_digits(time.unsigned_abs(), field, end);

@@ -117,8 +117,8 @@ same-from_is_eq n m e = same-from_Equal n m (Equal-from_is_eq (nat_cmp n m) e)
 
 -- ---- texts
 
-pub bytes_eq-same : (a b : List ℕ) → bytes_eq a b ≡ true → a ≡ b
-bytes_eq-same a b e = let d = bytes_eq-Decides a b in grind (arith, d)
+pub same_texts : (a b : List ℕ) → bytes_eq a b ≡ true → a ≡ b
+same_texts a b e = let d = bytes_eq-Decides a b in grind (arith, d)
 
 pub bytes_eq-itself : (a : List ℕ) → bytes_eq a a ≡ true
 bytes_eq-itself a = let d = bytes_eq-Decides a a in grind (arith, d)

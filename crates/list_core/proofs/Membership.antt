@@ -1,5 +1,5 @@
 -- Members of lists that were joined, mapped, flattened, filtered and put in order, and tests of members.
-use Rattle.std.proofs.Common.{◌≡◌, ◌⊎◌, inl, inr, ℕ, zero, suc, Bool, true, false, List, [], ◌∷◌, map, Some, refl, sym, ap, ◌∙◌, subst, arith}
+use Rattle.std.proofs.Common.{◌≡◌, ◌≢◌, ◌⊎◌, inl, inr, ℕ, zero, suc, Bool, true, false, List, [], ◌∷◌, map, Some, refl, sym, ap, ◌∙◌, subst, arith}
 use Rattle.std.specs.Prelude.{slice_get}
 use Rattle.std.specs.List.{Contains, All, AllByRecursion, filter, find, flat_map, list_any, list_all}
 use Rattle.std.proofs.lemmas.Bool.{cases_Bool, and_parts}
@@ -24,6 +24,10 @@ no_member x (k, below, at) = absurd (omega (arith, below))
 pub member_cases : {A : Type 0} (y x : A) (xs : List A) → Contains (y ∷ xs) x → (y ≡ x) ⊎ Contains xs x
 member_cases y x xs (zero, below, at) = inl at
 member_cases y x xs (suc k, below, at) = inr (k, omega (arith, below), at)
+
+pub some_member : {A : Type 0} (xs : List A) → xs ≢ [] → (x : A) × Contains xs x
+some_member [] some = absurd (some refl)
+some_member (x ∷ xs) some = (x, contains_first x xs)
 
 pub only_member : {A : Type 0} (y x : A) → Contains (y ∷ []) x → y ≡ x
 only_member y x among = elim (member_cases y x [] among) [ inl same ↦ same | inr later ↦ absurd (no_member x later) ]

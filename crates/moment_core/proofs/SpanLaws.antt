@@ -14,7 +14,7 @@ use Rattle.moment_core.specs.Limits.{longest_span}
 use Rattle.std.proofs.lemmas.Bool.{and_parts}
 use Rattle.std.proofs.lemmas.Option.{cond_some, none-some}
 use Rattle.std.proofs.Math.Numerals.{one-add}
-use Rattle.list_core.proofs.Bools.{bytes_eq-same}
+use Rattle.list_core.proofs.Bools.{same_texts}
 
 unwrap-test : (b : Bool) (k len : ℕ) → ltb k len ≡ b → k ≤ len → unwrap_or (cond b (Some k) None) len ≡ k
 unwrap-test true k len test low = refl
@@ -46,10 +46,10 @@ choice false x others n is = inr is
 unit_of-found : (unit : List ℕ) (each : ℕ) → unit_of unit ≡ Some each → IsUnit unit each
 unfolding unit_of
 unit_of-found unit each is =
-    ⊎_elim (λ one. inl (bytes_eq-same unit (codes "ms") one.0, one.1))
-    (λ more. ⊎_elim (λ one. inr (inl (bytes_eq-same unit (codes "s") one.0, one.1)))
-    (λ further. ⊎_elim (λ one. inr (inr (inl (bytes_eq-same unit (codes "m") one.0, one.1))))
-    (λ left. let last = cond_some (bytes_eq unit (codes "h")) 3_600_000 each left in inr (inr (inr (bytes_eq-same unit (codes "h") last.0, sym last.1))))
+    ⊎_elim (λ one. inl (same_texts unit (codes "ms") one.0, one.1))
+    (λ more. ⊎_elim (λ one. inr (inl (same_texts unit (codes "s") one.0, one.1)))
+    (λ further. ⊎_elim (λ one. inr (inr (inl (same_texts unit (codes "m") one.0, one.1))))
+    (λ left. let last = cond_some (bytes_eq unit (codes "h")) 3_600_000 each left in inr (inr (inr (same_texts unit (codes "h") last.0, sym last.1))))
     (choice (bytes_eq unit (codes "m")) 60_000 _ each further))
     (choice (bytes_eq unit (codes "s")) 1_000 _ each more))
     (choice (bytes_eq unit (codes "ms")) 1 _ each is)

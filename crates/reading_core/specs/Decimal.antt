@@ -8,26 +8,33 @@ use Rattle.std.specs.Str.Parse.{digits_value, signed_digits_value}
 use Rattle.reading_core.specs.declared.refusal.NumberRefusal.{NumberRefusal}
 use Rattle.reading_core.specs.declared.refusal.NumberRefusal.TheVariants.{NotANumber, TooLarge}
 
+-- the digit 0, which the others follow
+abbrev pub digit_zero : ℕ
+digit_zero = 48
+
+abbrev pub minus_sign : ℕ
+minus_sign = 45
+
 -- the one text of a number from zero on
 unfoldable pub decimal_text : ℕ → List ℕ
-decimal_text zero = 48 ∷ []
-decimal_text (suc n) = map (λ digit. 48 + digit) (digits_of 10 (suc n))
+decimal_text zero = digit_zero ∷ []
+decimal_text (suc n) = map (λ digit. digit_zero + digit) (digits_of 10 (suc n))
 
 -- the one text of a number on either side of zero
 unfoldable pub signed_text : ℤ → List ℕ
 signed_text (pos n) = decimal_text n
-signed_text (negsuc n) = 45 ∷ decimal_text (suc n)
+signed_text (negsuc n) = minus_sign ∷ decimal_text (suc n)
 
 -- What follows is how a reader tells such a text: `proofs/Decimals.antt` shows that it takes these texts and no others.
 
 -- digits, at least one, and `0` in front of no other
 unfoldable pub is_decimal : List ℕ → Bool
-is_decimal text = nat_lt 0 (length text) && (not (slice_index text 0 == 48) || (length text == 1)) && list_all is_ascii_digit text
+is_decimal text = nat_lt 0 (length text) && (not (slice_index text 0 == digit_zero) || (length text == 1)) && list_all is_ascii_digit text
 
 -- the same, or `-` before what does not begin with `0`
 unfoldable pub is_signed_decimal : List ℕ → Bool
 is_signed_decimal text =
-    if slice_index text 0 == 45 then not (slice_index text 1 == 48) && is_decimal (drop 1 text) else is_decimal text
+    if slice_index text 0 == minus_sign then not (slice_index text 1 == digit_zero) && is_decimal (drop 1 text) else is_decimal text
 
 -- what reading a number of 64 bits gives
 unfoldable pub unsigned_of : List ℕ → Result ℕ NumberRefusal

@@ -4,6 +4,10 @@ use Rattle.std.specs.Char.{is_ascii_digit}
 use Rattle.std.specs.List.{list_all}
 use Rattle.std.specs.Str.Parse.{digits_value}
 
+-- each number of so many digits fits into every integer of 64 bits
+abbrev pub few_digits : ℕ
+few_digits = 15
+
 -- 1 to so many decimal digits, and nothing else
 abbrev pub is_number : ℕ → List ℕ → Bool
 is_number most text = nat_le 1 (length text) && nat_le (length text) most && list_all is_ascii_digit text

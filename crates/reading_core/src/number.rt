@@ -95,7 +95,8 @@ fn signed_exact(text: &str) -> Result<i64, NumberRefusal>
 /// whether the number still fits.
 #[tactic(auto, using(crate::proofs::FewDigits::digits_of_decimal, crate::proofs::FewDigits::few_small))]
 fn few_digits(text: &[u8]) -> Option<u64>
-    ensures { IfSome result (λ n. (is_decimal text.now ≡ true) × (n ≡ digits_value 10 text.now) × (n < 2 ^ 63)) }
+    ensures { IfSome result (λ n.
+        (is_decimal text.now ≡ true) × (n ≡ digits_value 10 text.now) × (n < 2 ^ 63)) }
 {
     if text.len() <= FEW_DIGITS && are_digits(text) {
         Some(value_of(text))
