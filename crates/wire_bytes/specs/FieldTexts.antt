@@ -5,7 +5,7 @@ use Rattle.std.specs.Int.{Width, byte_len, to_be_bytes}
 use Rattle.reading_core.specs.Grammar.{HasFront}
 use Rattle.wire_bytes.specs.declared.refusal.WireRefusal.{WireRefusal}
 use Rattle.wire_bytes.specs.Position.{Position, left}
-use Rattle.wire_bytes.specs.Fields.{zigzag, group_base}
+use Rattle.wire_bytes.specs.Fields.{zigzag, group_base, group_count, low_group_count}
 
 -- A number of fixed width has one text: its bytes, the highest first.
 pub record IsFixed (w : Width) (text : List ℕ) (n : ℕ) : Type 0 where
@@ -19,10 +19,10 @@ IsGroups [] n = ⊥
 IsGroups (last ∷ []) n = (last < group_base) × (n ≡ last)
 IsGroups (low ∷ next ∷ others) n = (group_base ≤ low) × (low < 256) × (high : ℕ) × (n + group_base ≡ low + group_base * high) × IsGroups (next ∷ others) high
 
--- one of 64 bits, in at most ten bytes
+-- one of 64 bits, of no more groups than such a number can have
 pub record IsUvarint (text : List ℕ) (n : ℕ) : Type 0 where
   pub groups : IsGroups text n
-  pub few : length text ≤ 10
+  pub few : length text ≤ group_count
   pub fits : n < 2 ^ 64
 
 -- a signed one, by its place in the order 0, -1, 1, -2, 2
@@ -32,13 +32,13 @@ IsVarint text n = IsUvarint text (zigzag n)
 -- The bytes end inside a number: each says that another follows.
 pub record EndsInside (bytes : List ℕ) : Type 0 where
   pub follows : AllByRecursion (λ byte. group_base ≤ byte) bytes
-  pub few : length bytes < 10
+  pub few : length bytes < group_count
 
--- Nine bytes say that another follows, and the tenth is above 1.
+-- Each byte before the highest group that a number can have says that another follows, and that group is above 1.
 pub record PassesLimit (bytes : List ℕ) : Type 0 where
-  pub follows : AllByRecursion (λ byte. group_base ≤ byte) (take 9 bytes)
-  pub many : 9 < length bytes
-  pub tenth : 1 < slice_index bytes 9
+  pub follows : AllByRecursion (λ byte. group_base ≤ byte) (take low_group_count bytes)
+  pub many : low_group_count < length bytes
+  pub tenth : 1 < slice_index bytes low_group_count
 
 -- What was read from one position to another is a text of the value.
 abbrev pub Found : {V : Type 0} → (List ℕ → V → Type 0) → Position → Position → Result V WireRefusal → Type 0

@@ -21,6 +21,14 @@ number_at w p =
 abbrev pub group_base : ℕ
 group_base = 128
 
+-- how many groups a number of 64 bits has at most
+abbrev pub group_count : ℕ
+group_count = 10
+
+-- how many of these stand below the highest, which is one bit
+abbrev pub low_group_count : ℕ
+low_group_count = 9
+
 -- groups of seven bits, the lowest first, and how many they are: at most so many more than one, the last of which is one bit
 unfoldable pub groups_of : ℕ → List ℕ → Result (ℕ × ℕ) WireRefusal
 groups_of more [] = Err Short
@@ -33,7 +41,7 @@ groups_of (suc more) (group ∷ groups) =
 -- a number of 64 bits in base 128
 unfoldable pub uvarint_at : Position → Result (ℕ × Position) WireRefusal
 uvarint_at p = do
-  n ← groups_of 9 (left p)
+  n ← groups_of low_group_count (left p)
   Ok (n.0, further n.1 p)
 
 -- A field of so many bits: above the middle it stands for itself less 2 ^ width.

@@ -1,6 +1,6 @@
 -- The bytes that a writer puts for a value.
 use Rattle.std.specs.Prelude.{ℕ, zero, suc, ◌+◌, ◌/◌, ◌%◌, List, [], ◌∷◌, nat_lt, if◌then◌else◌, ℤ}
-use Rattle.wire_bytes.specs.Fields.{zigzag, group_base}
+use Rattle.wire_bytes.specs.Fields.{zigzag, group_base, low_group_count}
 
 -- a number in base 128 in as few groups as it takes, of at most so many more than one
 unfoldable pub groups_text : ℕ → ℕ → List ℕ
@@ -9,7 +9,7 @@ groups_text (suc more) n = if nat_lt n group_base then n ∷ [] else (group_base
 
 -- a number of 64 bits
 abbrev pub uvarint_text : ℕ → List ℕ
-uvarint_text n = groups_text 9 n
+uvarint_text n = groups_text low_group_count n
 
 -- a signed number of 64 bits
 unfoldable pub varint_text : ℤ → List ℕ

@@ -57,6 +57,9 @@ pub fn put_uvarint(out: &mut Vec<u8>, n: u64) -> Result<(), NoMemory>
     }
 }
 
+/// How many values two groups can have.
+const TWO_GROUPS: u64 = BASE * BASE;
+
 /// The lowest group of a number, behind which others follow.
 #[inline(always)]
 fn low_group(n: u64) -> u8
@@ -74,12 +77,12 @@ fn put_short(out: &mut Vec<u8>, n: u64) -> Result<(), NoMemory>
 {
     if n < BASE {
         put_bytes(out, &[n as u8])
-    } else if n < 16_384 {
+    } else if n < TWO_GROUPS {
         put_bytes(out, &[low_group(n), (n / BASE) as u8])
     } else {
         put_bytes(
             out,
-            &[low_group(n), low_group(n / BASE), (n / 16_384) as u8],
+            &[low_group(n), low_group(n / BASE), (n / TWO_GROUPS) as u8],
         )
     }
 }

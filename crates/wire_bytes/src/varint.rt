@@ -1,6 +1,6 @@
 ghost use Rattle.std.specs.Prelude.{◌≡◌, ◌≤◌, ◌<◌, ◌^◌, ◌*◌, ◌+◌, drop, Ok, suc, length, take, IfOk, IfSome, ℕ, ℤ};
 ghost use Rattle.reading_core.specs.Reading.{Answers};
-ghost use Rattle.wire_bytes.specs.Fields.{groups_of, field_value, zigzag, unzigzag, group_base};
+ghost use Rattle.wire_bytes.specs.Fields.{groups_of, field_value, zigzag, unzigzag, group_base, group_count, low_group_count};
 ghost use Rattle.wire_bytes.specs.Written.{uvarint_text};
 
 use crate::WireRefusal;
@@ -11,10 +11,16 @@ pub(crate) const BASE: u64 = 128;
 /// How much greater than its group a byte is where another group follows.
 const MORE: u8 = 128;
 
+/// How many groups a number of 64 bits has at most.
+pub const GROUP_COUNT: usize = 10;
+
+/// How many of these stand below the highest, which is one bit.
+const LOW_GROUP_COUNT: usize = 9;
+
 /// A number in base 128 at the front of the bytes, and how many bytes it takes. A short one needs no call.
 #[inline(always)]
 pub fn number_of(bytes: &[u8]) -> Result<(u64, usize), WireRefusal>
-    ensures exact { Answers (λ x. x) result (groups_of 9 bytes.now) }
+    ensures exact { Answers (λ x. x) result (groups_of low_group_count bytes.now) }
     ensures within { IfOk result (λ x. x.1 ≤ length bytes.now) }
 {
     match short_number(bytes) {
@@ -27,7 +33,7 @@ pub fn number_of(bytes: &[u8]) -> Result<(u64, usize), WireRefusal>
 /// short number needs no memory.
 #[inline(always)]
 fn long_number(bytes: &[u8]) -> Result<(u64, usize), WireRefusal>
-    ensures exact { Answers (λ x. x) result (groups_of 9 bytes.now) }
+    ensures exact { Answers (λ x. x) result (groups_of low_group_count bytes.now) }
     ensures within { IfOk result (λ x. x.1 ≤ length bytes.now) }
 {
     let (number, size) = groups_of(bytes)?;
@@ -37,7 +43,7 @@ fn long_number(bytes: &[u8]) -> Result<(u64, usize), WireRefusal>
 /// A number of at most three groups at the front of the bytes, and how many groups it has.
 #[inline(always)]
 fn short_number(bytes: &[u8]) -> Option<(u64, usize)>
-    ensures read { IfSome result (λ x. groups_of 9 bytes.now ≡ Ok x) }
+    ensures read { IfSome result (λ x. groups_of low_group_count bytes.now ≡ Ok x) }
     ensures within { IfSome result (λ x. x.1 ≤ length bytes.now) }
 {
     if bytes.is_empty() {
@@ -62,11 +68,11 @@ fn short_number(bytes: &[u8]) -> Option<(u64, usize)>
 }
 
 fn groups_of(bytes: &[u8]) -> Result<(u64, usize), WireRefusal>
-    ensures exact { Answers (λ x. x) result (groups_of 9 bytes.now) }
+    ensures exact { Answers (λ x. x) result (groups_of low_group_count bytes.now) }
     ensures within { IfOk result (λ x. x.1 ≤ length bytes.now) }
 {
     let mut n = 0;
-    for place in 0..9 {
+    for place in 0..LOW_GROUP_COUNT {
         if place >= bytes.len() {
             return Err(WireRefusal::Short);
         }
@@ -77,7 +83,7 @@ fn groups_of(bytes: &[u8]) -> Result<(u64, usize), WireRefusal>
         n = with_group(n, group - BASE, place);
     }
     let group = last_group(bytes)?;
-    Ok((n + (group << 63), 10))
+    Ok((n + (group << 63), GROUP_COUNT))
 }
 
 /// A group more above the low ones.
@@ -85,20 +91,21 @@ fn groups_of(bytes: &[u8]) -> Result<(u64, usize), WireRefusal>
 fn with_group(n: u64, group: u64, place: usize) -> u64
     requires low { n < 2 ^ (7 * place) }
     requires group { group < group_base }
-    requires limit { place < 9 }
+    requires limit { place < low_group_count }
     ensures value { result ≡ n + group * 2 ^ (7 * place) }
     ensures below { result < 2 ^ (7 * (place + 1)) }
 {
     n + (group << (7 * place))
 }
 
-/// The tenth group, which is one bit.
+/// The highest group, which is one bit.
 #[tactic(auto, unfolding(crate::specs::Fields::groups_of))]
 fn last_group(bytes: &[u8]) -> Result<u64, WireRefusal>
-    ensures exact { Answers (λ group. (group, 1)) result (groups_of 0 (drop 9 bytes.now)) }
-    ensures bit { IfOk result (λ group. (group < 2) × (9 < length bytes.now)) }
+    ensures exact { Answers (λ group. (group, 1)) result
+        (groups_of 0 (drop low_group_count bytes.now)) }
+    ensures bit { IfOk result (λ group. (group < 2) × (low_group_count < length bytes.now)) }
 {
-    match bytes.get(9) {
+    match bytes.get(LOW_GROUP_COUNT) {
         None => Err(WireRefusal::Short),
         Some(0) => Ok(0),
         Some(1) => Ok(1),
@@ -142,13 +149,13 @@ pub fn zigzag(n: i64) -> u64
 }
 
 /// A number in base 128, and how many groups it has.
-pub fn groups(n: u64) -> ([u8; 10], usize)
+pub fn groups(n: u64) -> ([u8; GROUP_COUNT], usize)
     ensures text { take result.1 result.0 ≡ uvarint_text n }
-    ensures count { result.1 ≤ 10 }
+    ensures count { result.1 ≤ group_count }
 {
-    let mut groups = [0; 10];
+    let mut groups = [0; GROUP_COUNT];
     let mut high = n;
-    for i in 0..9 {
+    for i in 0..LOW_GROUP_COUNT {
         if high < BASE {
             groups[i] = high as u8;
             return (groups, i + 1);
@@ -156,6 +163,6 @@ pub fn groups(n: u64) -> ([u8; 10], usize)
         groups[i] = (BASE + high % BASE) as u8;
         high /= BASE;
     }
-    groups[9] = high as u8;
-    (groups, 10)
+    groups[LOW_GROUP_COUNT] = high as u8;
+    (groups, GROUP_COUNT)
 }

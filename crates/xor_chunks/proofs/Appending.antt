@@ -9,7 +9,7 @@ use Rattle.label_sets.specs.declared.sample.Sample.{Sample}
 use Rattle.xor_chunks.specs.declared.refusal.XorRefusal.{XorRefusal}
 use Rattle.xor_chunks.specs.declared.refusal.XorRefusal.TheVariants.{Trailing, NoMemory}
 use Rattle.wire_bits.specs.Bits.{bits_in}
-use Rattle.xor_chunks.specs.Samples.{begun}
+use Rattle.xor_chunks.specs.Samples.{of_first}
 use Rattle.xor_chunks.specs.Data.{count_at, first_at, rest_at, samples_at, is_filling, data_at, with_front, with_samples}
 use Rattle.xor_chunks.specs.Grammar.{IsText}
 use Rattle.xor_chunks.proofs.TextsRead.{data_again, found, text_few}
@@ -34,7 +34,7 @@ no_first _ zero _ e some h = absurd (some refl)
 no_first _ (suc count) _ e some h = rw h refl
 
 -- the first sample, and those after it
-pub first_steps : (front more : List Sample) (count : ℕ) (first : Sample) (bytes after : List ℕ) → (count ≡ 0 → ⊥) → first_at bytes ≡ Ok (first, after) → more ≡ front ++ first ∷ [] → with_front more (rest_at (count - 1) (begun first) after) ≡ with_front front (samples_at count bytes)
+pub first_steps : (front more : List Sample) (count : ℕ) (first : Sample) (bytes after : List ℕ) → (count ≡ 0 → ⊥) → first_at bytes ≡ Ok (first, after) → more ≡ front ++ first ∷ [] → with_front more (rest_at (count - 1) (of_first first) after) ≡ with_front front (samples_at count bytes)
 unfolding samples_at
 first_steps _ _ zero _ _ _ some h pushed = absurd (some refl)
 first_steps _ _ (suc count) _ _ _ some h pushed =

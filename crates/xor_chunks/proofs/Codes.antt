@@ -11,7 +11,7 @@ use Rattle.xor_chunks.specs.declared.window_setting.WindowSetting.{WindowSetting
 use Rattle.xor_chunks.specs.declared.window_setting.WindowSetting.TheVariants.{Unset, Set}
 use Rattle.xor_chunks.specs.Window.{Window}
 use Rattle.wire_bits.specs.Bits.{bits_of}
-use Rattle.xor_chunks.specs.Written.{fits_field, change_bits, reused, value_bits, window_after, window_round, trail}
+use Rattle.xor_chunks.specs.Written.{fits_field, change_bits, reused, value_bits, window_after, window_around, trail}
 use Rattle.wire_bits.proofs.BitLists.{length-bits_of, bits_of-mod}
 use Rattle.wire_bits.proofs.Buffers.{bits_of-joined}
 use Rattle.xor_chunks.proofs.Takes.{masked}
@@ -86,7 +86,7 @@ pub value_within : (window : WindowSetting) (set : Window) (change : ℕ) → (c
 unfolding value_bits window_after bits_of
 value_within _ _ change some e = (rw (ne_eqb change 0 some, e) refl, rw (ne_eqb change 0 some, e) refl)
 
-pub value_opens : (window : WindowSetting) (set : Window) (change : ℕ) → (change ≡ 0 → ⊥) → reused window change ≡ Unset → set ≡ window_round change
+pub value_opens : (window : WindowSetting) (set : Window) (change : ℕ) → (change ≡ 0 → ⊥) → reused window change ≡ Unset → set ≡ window_around change
     → (((bits_of 2 3 ++ bits_of 5 set.lead) ++ bits_of 6 set.width) ++ bits_of set.width (change / 2 ^ trail set) ≡ value_bits window change) × (◌≡◌ {A = WindowSetting} (Set set) (window_after window change))
 unfolding value_bits window_after bits_of
 value_opens _ _ change some e round = (rw (ne_eqb change 0 some, e, round) refl, rw (ne_eqb change 0 some, e, round) refl)

@@ -8,7 +8,7 @@ use Rattle.xor_chunks.specs.declared.refusal.XorRefusal.{XorRefusal}
 use Rattle.wire_bits.specs.Bits.{bits_of}
 use Rattle.xor_chunks.specs.Steps.{field_at, whole_field_at, change_at, value_at, within_at, opened_at}
 use Rattle.xor_chunks.specs.Window.{Window, width_of, IsInside}
-use Rattle.xor_chunks.specs.Grammar.{StandsFor, IsRow, IsLongRow, IsChange, unchanged, row_14, row_17, row_20, row_64, IsWithin, IsOpened, IsValue, same_pattern, in_window, opens}
+use Rattle.xor_chunks.specs.Grammar.{StandsFor, IsRow, IsLongRow, IsChange, unchanged, row_14, row_17, row_20, row_64, IsInWindow, IsOpened, IsValue, same_pattern, in_window, opens}
 use Rattle.xor_chunks.proofs.Takes.{take_again, taken}
 use Rattle.reading_core.proofs.Bound.{OfValue, of_ok, of_err, of_weaker, of_bind}
 use Rattle.wire_bits.proofs.BitLists.{bits_of-high}
@@ -87,7 +87,7 @@ change_again text z _ (row_64 r) = rw r.text (long_again _ z _ r.fits r.value)
 
 -- ---- values
 
-within_found : (window : Window) (before : ℕ) (bits : List Bool) → Finds (λ text x. (x.1 ≡ window) × (IsInside window → IsWithin window before text x.0)) bits (within_at before window bits)
+within_found : (window : Window) (before : ℕ) (bits : List Bool) → Finds (λ text x. (x.1 ≡ window) × (IsInside window → IsInWindow window before text x.0)) bits (within_at before window bits)
 unfolding within_at
 within_found window _ _ =
     of_bind _ (taken _ _) (λ f t. of_ok (record {
@@ -96,7 +96,7 @@ within_found window _ _ =
       whole = t.0;
     }))
 
-within_again : (window : Window) (before : ℕ) (text : List Bool) (pattern : ℕ) (after : List Bool) → IsWithin window before text pattern → within_at before window (text ++ after) ≡ Ok ((pattern, window), after)
+within_again : (window : Window) (before : ℕ) (text : List Bool) (pattern : ℕ) (after : List Bool) → IsInWindow window before text pattern → within_at before window (text ++ after) ≡ Ok ((pattern, window), after)
 unfolding within_at
 within_again window _ text _ after h = rw (h.text, take_again window.width h.field after h.fits, h.value) refl
 
@@ -149,7 +149,7 @@ opened_again before text pattern window after h =
     ap (λ x. x ++ after) h.text ∙ append_assoc (bits_of 5 window.lead ++ bits_of 6 window.width) h.within after ∙ append_assoc (bits_of 5 window.lead) (bits_of 6 window.width) (h.within ++ after)
     ∙ ap (λ x. bits_of 5 window.lead ++ (x ++ (h.within ++ after))) width in
     let field =
-    within_again _ _ _ _ _ (subst (λ (v : Window). IsWithin v before h.within pattern) (sym same) h.field) ∙ ap (λ (v : Window). Ok ((pattern, v), after)) same in
+    within_again _ _ _ _ _ (subst (λ (v : Window). IsInWindow v before h.within pattern) (sym same) h.field) ∙ ap (λ (v : Window). Ok ((pattern, v), after)) same in
     rw (parts, take_again 5 window.lead (bits_of 6 w.0 ++ (h.within ++ after)) h.lead, take_again 6 w.0 (h.within ++ after) w.1) field
 
 pub value_found : (window : Window) (before : ℕ) (bits : List Bool) → Finds (λ text x. IsInside x.1 → IsValue window before text x.0 x.1) bits (value_at before window bits)

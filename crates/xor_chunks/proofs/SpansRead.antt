@@ -11,7 +11,7 @@ use Rattle.xor_chunks.specs.declared.refusal.XorRefusal.{XorRefusal}
 use Rattle.xor_chunks.specs.declared.refusal.XorRefusal.TheVariants.{Trailing}
 use Rattle.xor_chunks.specs.declared.sample_span.SampleSpan.{SampleSpan}
 use Rattle.wire_bits.specs.Bits.{bits_in}
-use Rattle.xor_chunks.specs.Samples.{begun, sample_of}
+use Rattle.xor_chunks.specs.Samples.{of_first, sample_of}
 use Rattle.xor_chunks.specs.Steps.{next_at, follow_at}
 use Rattle.xor_chunks.specs.Data.{count_at, first_at, gap_at, others_at, rest_at, samples_at, data_at, is_filling, with_front}
 use Rattle.xor_chunks.specs.Spans.{end_of, span_of, with_end, with_span, span_at}
@@ -109,7 +109,7 @@ unfolding samples_at
 span_no_first zero _ e some h = absurd (some refl)
 span_no_first (suc count) _ e some h = rw h refl
 
-module _ (count : ℕ) (first : Sample) (begin : State) (bytes after : List ℕ) (some : count ≡ 0 → ⊥) (read : first_at bytes ≡ Ok (first, after)) (begin_is : begin ≡ begun first) where
+module _ (count : ℕ) (first : Sample) (begin : State) (bytes after : List ℕ) (some : count ≡ 0 → ⊥) (read : first_at bytes ≡ Ok (first, after)) (begin_is : begin ≡ of_first first) where
   whole : with_front (first ∷ []) (rest_at (count - 1) begin after) ≡ with_front [] (samples_at count bytes)
   whole = ap (λ s. with_front (first ∷ []) (rest_at (count - 1) s after)) begin_is ∙ first_steps [] _ _ _ _ _ some read refl
 

@@ -21,7 +21,7 @@ use Rattle.xor_chunks.specs.State.{State}
 use Rattle.xor_chunks.specs.declared.refusal.XorRefusal.{XorRefusal}
 use Rattle.xor_chunks.specs.declared.refusal.XorRefusal.TheVariants.{NoMemory}
 use Rattle.wire_bits.specs.Bits.{bits_of, number_of}
-use Rattle.xor_chunks.specs.Samples.{begun}
+use Rattle.xor_chunks.specs.Samples.{of_first}
 use Rattle.xor_chunks.specs.Data.{count_at, first_at, sample_at, others_at, rest_at, samples_at, is_filling, data_at}
 use Rattle.xor_chunks.specs.Grammar.{AreOthers, AreRest, AreSamples, IsText}
 use Rattle.xor_chunks.specs.Window.{whole, IsInside}
@@ -41,7 +41,7 @@ others_at_again _ _ _ _ _ _ e = rw e refl
 
 -- ---- from the second sample on
 
-rest_found : (count : ℕ) (first : Sample) (bytes : List ℕ) → IsBytes bytes → OfValue (rest_at count (begun first) bytes) (λ x. (length x.0 ≡ count) × AreRest first bytes x.0 x.1)
+rest_found : (count : ℕ) (first : Sample) (bytes : List ℕ) → IsBytes bytes → OfValue (rest_at count (of_first first) bytes) (λ x. (length x.0 ≡ count) × AreRest first bytes x.0 x.1)
 unfolding rest_at
 rest_found zero _ _ are = of_ok (refl, refl)
 rest_found (suc count) _ bytes are =
@@ -62,13 +62,13 @@ rest_found (suc count) _ bytes are =
       },
     ))))
 
-rest_again : (first : Sample) (bytes : List ℕ) (samples : List Sample) (after : List Bool) → AreRest first bytes samples after → rest_at (length samples) (begun first) bytes ≡ Ok (samples, after)
+rest_again : (first : Sample) (bytes : List ℕ) (samples : List Sample) (after : List Bool) → AreRest first bytes samples after → rest_at (length samples) (of_first first) bytes ≡ Ok (samples, after)
 unfolding rest_at
 rest_again _ _ [] _ h = ap (λ (a : List Bool). Ok ([], a)) h
 rest_again first bytes (s ∷ ss) after h =
     let inside : IsInside whole = omega arith in
     let second : State = record { time = s.time; delta = h.gap; pattern = s.pattern; window = h.window } in
-    let read = follow_again (begun first) (pos h.gap) h.value second (h.rest ++ after) inside (omega (arith, ints)) h.follows h.shows in
+    let read = follow_again (of_first first) (pos h.gap) h.value second (h.rest ++ after) inside (omega (arith, ints)) h.follows h.shows in
     let others = others_again ss second h.rest after (value_inside whole first.pattern h.value s.pattern h.window inside h.shows) h.others_are in
     rw (gap_again bytes h.gap h.after h.gap_is, h.bits_are, read, others_at_again (length ss) second others.0 (h.rest ++ after) ss after others.1) refl
 

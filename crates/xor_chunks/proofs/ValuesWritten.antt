@@ -12,8 +12,8 @@ use Rattle.xor_chunks.specs.declared.window_setting.WindowSetting.{WindowSetting
 use Rattle.xor_chunks.specs.declared.window_setting.WindowSetting.TheVariants.{Unset, Set}
 use Rattle.wire_bits.specs.Bits.{bits_of}
 use Rattle.xor_chunks.specs.Window.{Window, whole, IsInside}
-use Rattle.xor_chunks.specs.Written.{fits_field, change_bits, trail, window_round, is_round, in_window, reused, coded, kept, value_bits, window_after}
-use Rattle.xor_chunks.specs.Grammar.{StandsFor, IsRow, IsChange, unchanged, row_14, row_17, row_20, row_64, IsWithin, IsValue, same_pattern, in_window as within_window, opens}
+use Rattle.xor_chunks.specs.Written.{fits_field, change_bits, trail, window_around, is_around, in_window, reused, coded, kept, value_bits, window_after}
+use Rattle.xor_chunks.specs.Grammar.{StandsFor, IsRow, IsChange, unchanged, row_14, row_17, row_20, row_64, IsInWindow, IsValue, same_pattern, in_window as within_window, opens}
 use Rattle.wire_bits.proofs.BitLists.{bits_of-mod}
 use Rattle.xor_chunks.proofs.Zeros.{trailing_low, leading_below, counts_apart}
 
@@ -31,12 +31,12 @@ no_change a b e = sym (xor_back a b) ∙ ap (bit_xor a) e ∙ xor_zero_r a
 -- ---- values
 
 -- a window that leaves no bit of the change out
-record IsRound (w : Window) (change : ℕ) : Type 0 where
+record IsAround (w : Window) (change : ℕ) : Type 0 where
   inside : IsInside w
   lead : w.lead ≤ leading_zeros w64 change
   trail : trail w ≤ trailing_zeros w64 change
 
-within_written : (w : Window) (before pattern : ℕ) → before < 2 ^ 64 → pattern < 2 ^ 64 → (bit_xor before pattern ≡ 0 → ⊥) → IsRound w (bit_xor before pattern) → IsWithin w before (in_window w (bit_xor before pattern)) pattern
+within_written : (w : Window) (before pattern : ℕ) → before < 2 ^ 64 → pattern < 2 ^ 64 → (bit_xor before pattern ≡ 0 → ⊥) → IsAround w (bit_xor before pattern) → IsInWindow w before (in_window w (bit_xor before pattern)) pattern
 within_written w before pattern b p some h =
     let change = bit_xor before pattern in
     let below = xor_lt 64 _ _ b p in
@@ -53,20 +53,20 @@ within_written w before pattern b p some h =
       inside = h.inside;
     }
 
-round_is : (change : ℕ) → change < 2 ^ 64 → (change ≡ 0 → ⊥) → IsRound (window_round change) change × ((window_round change).lead < 32) × (0 < (window_round change).width)
-round_is _ below some =
+around_is : (change : ℕ) → change < 2 ^ 64 → (change ≡ 0 → ⊥) → IsAround (window_around change) change × ((window_around change).lead < 32) × (0 < (window_around change).width)
+around_is _ below some =
     let apart = counts_apart _ (omega arith) below in
     (record { inside = omega arith; lead = omega arith; trail = omega arith }, omega arith, omega arith)
 
-opens_written : (window : Window) (before pattern : ℕ) → before < 2 ^ 64 → pattern < 2 ^ 64 → (bit_xor before pattern ≡ 0 → ⊥) → IsValue window before (coded Unset (bit_xor before pattern)) pattern (window_round (bit_xor before pattern))
+opens_written : (window : Window) (before pattern : ℕ) → before < 2 ^ 64 → pattern < 2 ^ 64 → (bit_xor before pattern ≡ 0 → ⊥) → IsValue window before (coded Unset (bit_xor before pattern)) pattern (window_around (bit_xor before pattern))
 opens_written window before pattern b p some =
     let change = bit_xor before pattern in
-    let round = round_is _ (xor_lt 64 _ _ b p) some in
+    let round = around_is _ (xor_lt 64 _ _ b p) some in
     opens _ refl (record {
       lead = round.1;
       some = round.2;
       few = omega arith;
-      within = in_window (window_round change) change;
+      within = in_window (window_around change) change;
       text = refl;
       field = within_written _ _ _ b p some round.0;
     })
@@ -76,7 +76,7 @@ abbrev pub IsSeen : WindowSetting → Type 0
 IsSeen Unset = Unit {0}
 IsSeen (Set w) = IsInside w
 
-set_written : (w : Window) (before pattern : ℕ) (round : Bool) → is_round w (bit_xor before pattern) ≡ round → IsInside w → before < 2 ^ 64 → pattern < 2 ^ 64 → (bit_xor before pattern ≡ 0 → ⊥)
+set_written : (w : Window) (before pattern : ℕ) (round : Bool) → is_around w (bit_xor before pattern) ≡ round → IsInside w → before < 2 ^ 64 → pattern < 2 ^ 64 → (bit_xor before pattern ≡ 0 → ⊥)
     → IsValue w before (coded (cond round (Set w) Unset) (bit_xor before pattern)) pattern (seen (kept (cond round (Set w) Unset) (bit_xor before pattern)))
 set_written w before pattern true e inside b p some =
     let change = bit_xor before pattern in
@@ -98,10 +98,10 @@ value_written _ before pattern h b p =
 
 kept_of : (w : Window) (before pattern : ℕ) (round : Bool) → IsInside w → before < 2 ^ 64 → pattern < 2 ^ 64 → (bit_xor before pattern ≡ 0 → ⊥) → IsSeen (kept (cond round (Set w) Unset) (bit_xor before pattern))
 kept_of w _ _ true h b p some = h
-kept_of w _ _ false h b p some = (round_is _ (xor_lt 64 _ _ b p) some).0.inside
+kept_of w _ _ false h b p some = (around_is _ (xor_lt 64 _ _ b p) some).0.inside
 
 kept_after : (set : WindowSetting) (before pattern : ℕ) → IsSeen set → before < 2 ^ 64 → pattern < 2 ^ 64 → (bit_xor before pattern ≡ 0 → ⊥) → IsSeen (kept (reused set (bit_xor before pattern)) (bit_xor before pattern))
-kept_after Unset before pattern h b p some = (round_is (bit_xor before pattern) (xor_lt 64 _ _ b p) some).0.inside
+kept_after Unset before pattern h b p some = (around_is (bit_xor before pattern) (xor_lt 64 _ _ b p) some).0.inside
 kept_after (Set w) _ _ h b p some = kept_of w _ _ _ h b p some
 
 pub kept_seen : (set : WindowSetting) (before pattern : ℕ) → IsSeen set → before < 2 ^ 64 → pattern < 2 ^ 64 → IsSeen (window_after set (bit_xor before pattern))

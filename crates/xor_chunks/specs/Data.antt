@@ -18,7 +18,7 @@ use Rattle.xor_chunks.specs.declared.refusal.XorRefusal.{XorRefusal}
 use Rattle.xor_chunks.specs.declared.refusal.XorRefusal.TheVariants.{Trailing}
 use Rattle.xor_chunks.specs.Refusals.{xor_refusal}
 use Rattle.wire_bits.specs.Bits.{bits_in, number_of}
-use Rattle.xor_chunks.specs.Samples.{begun, sample_of}
+use Rattle.xor_chunks.specs.Samples.{of_first, sample_of}
 use Rattle.xor_chunks.specs.Steps.{follow_at, next_at}
 
 -- how many samples there are, and the bytes after that
@@ -64,7 +64,7 @@ unfoldable pub samples_at : ℕ → List ℕ → Result (List Sample × List Boo
 samples_at zero bytes = Ok ([], bits_in bytes)
 samples_at (suc count) bytes = do
   first ← first_at bytes
-  rest ← rest_at count (begun first.0) first.1
+  rest ← rest_at count (of_first first.0) first.1
   Ok (first.0 ∷ rest.0, rest.1)
 
 -- at most so many bits, all zero

@@ -37,7 +37,7 @@ pub data IsChange (bits : List Bool) (z : ℤ) : Type 0 where
   row_64 : IsLongRow (true ∷ true ∷ true ∷ true ∷ []) bits z → IsChange bits z
 
 -- a pattern that differs from the one before it in the bits of a window alone, by this text of them
-pub record IsWithin (window : Window) (before : ℕ) (bits : List Bool) (pattern : ℕ) : Type 0 where
+pub record IsInWindow (window : Window) (before : ℕ) (bits : List Bool) (pattern : ℕ) : Type 0 where
   pub field : ℕ
   pub fits : field < 2 ^ window.width
   pub text : bits ≡ bits_of window.width field
@@ -51,12 +51,12 @@ pub record IsOpened (before : ℕ) (bits : List Bool) (pattern : ℕ) (window : 
   pub few : window.width ≤ 64
   pub within : List Bool
   pub text : bits ≡ bits_of lead_field window.lead ++ bits_of width_field window.width ++ within
-  pub field : IsWithin window before within pattern
+  pub field : IsInWindow window before within pattern
 
 -- A pattern after another, where this window was set, and the window that is set then.
 pub data IsValue (window : Window) (before : ℕ) (bits : List Bool) (pattern : ℕ) (after : Window) : Type 0 where
   same_pattern : bits ≡ false ∷ [] → pattern ≡ before → after ≡ window → IsValue window before bits pattern after
-  in_window : (within : List Bool) → bits ≡ true ∷ false ∷ within → after ≡ window → IsWithin window before within pattern → IsValue window before bits pattern after
+  in_window : (within : List Bool) → bits ≡ true ∷ false ∷ within → after ≡ window → IsInWindow window before within pattern → IsValue window before bits pattern after
   opens : (opened : List Bool) → bits ≡ true ∷ true ∷ opened → IsOpened before opened pattern after → IsValue window before bits pattern after
 
 -- The time comes so long after another, and is one of 64 bits.

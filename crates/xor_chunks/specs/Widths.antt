@@ -1,5 +1,5 @@
 -- How many bits the parts of a sample take.
-use Rattle.std.specs.Prelude.{ℕ}
+use Rattle.std.specs.Prelude.{ℕ, ◌^◌}
 
 -- the fields in which a change of a step may stand, of which the shortest that fits it is taken, and last one of 64 bits
 abbrev pub narrow_field : ℕ
@@ -38,6 +38,10 @@ sample_limit = 101
 -- in how many bytes such a sample has room, whichever bit of the first of them it begins with
 abbrev pub sample_room : ℕ
 sample_room = 16
+
+-- before this time a step of less than as much has its end in 64 bits
+abbrev pub soon_limit : ℕ
+soon_limit = 2 ^ 62
 
 -- the zero bits that fill the last byte of data, at most
 abbrev pub filling : ℕ

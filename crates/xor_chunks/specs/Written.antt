@@ -18,14 +18,18 @@ use Rattle.xor_chunks.specs.declared.window_setting.WindowSetting.TheVariants.{U
 abbrev pub usual_count : ℕ
 usual_count = 120
 
+-- the least number of samples that no chunk has: two bytes tell how many there are
+abbrev pub count_limit : ℕ
+count_limit = 2 ^ 16
+
 -- a time from -2^62 to 2^62 - 1
 abbrev pub IsChunkTime : ℤ → Type 0
 IsChunkTime time = (negsuc (time_limit - 1) ≤ℤ time) × (time <ℤ pos time_limit)
 
--- samples of one chunk: some, but no more than two bytes count, whose times ascend
+-- samples of one chunk: some, but no more than can be told, whose times ascend
 pub record AreOfChunk (samples : List Sample) : Type 0 where
   pub some : 0 < length samples
-  pub few : length samples < 2 ^ 16
+  pub few : length samples < count_limit
   pub ascend : IsStrictlySortedBy int_cmp (times_of samples)
   pub times : All (λ s. IsChunkTime s.time) samples
 
@@ -54,27 +58,27 @@ change_bits change =
 abbrev pub trail : Window → ℕ
 trail window = 64 - (window.lead + window.width)
 
--- the smallest window round the bits of a change, with at most 31 bits before it
-abbrev pub window_round : ℕ → Window
-window_round change = record { lead = min 31 (leading_zeros w64 change); width = 64 - (min 31 (leading_zeros w64 change) + trailing_zeros w64 change) }
+-- the smallest window around the bits of a change, with at most 31 bits before it
+abbrev pub window_around : ℕ → Window
+window_around change = record { lead = min 31 (leading_zeros w64 change); width = 64 - (min 31 (leading_zeros w64 change) + trailing_zeros w64 change) }
 
 -- The change has no bit outside the window.
-abbrev pub is_round : Window → ℕ → Bool
-is_round window change = nat_le window.lead (leading_zeros w64 change) && nat_le (trail window) (trailing_zeros w64 change)
+abbrev pub is_around : Window → ℕ → Bool
+is_around window change = nat_le window.lead (leading_zeros w64 change) && nat_le (trail window) (trailing_zeros w64 change)
 
 -- the change's bits in the window
 abbrev pub in_window : Window → ℕ → List Bool
 in_window window change = bits_of window.width (change / 2 ^ trail window)
 
--- the window that was set, where it is round the change
+-- the window that was set, where it is around the change
 abbrev pub reused : WindowSetting → ℕ → WindowSetting
 reused Unset change = Unset
-reused (Set window) change = if is_round window change then Set window else Unset
+reused (Set window) change = if is_around window change then Set window else Unset
 
 -- a change in the window that was set, or in a new one
 abbrev pub coded : WindowSetting → ℕ → List Bool
 coded (Set window) change = true ∷ false ∷ in_window window change
-coded Unset change = true ∷ true ∷ (bits_of lead_field (window_round change).lead ++ bits_of width_field (window_round change).width ++ in_window (window_round change) change)
+coded Unset change = true ∷ true ∷ (bits_of lead_field (window_around change).lead ++ bits_of width_field (window_around change).width ++ in_window (window_around change) change)
 
 -- the bits of a change of the pattern, where this window was set or none was
 unfoldable pub value_bits : WindowSetting → ℕ → List Bool
@@ -82,7 +86,7 @@ value_bits window change = if change == 0 then false ∷ [] else coded (reused w
 
 abbrev pub kept : WindowSetting → ℕ → WindowSetting
 kept (Set window) change = Set window
-kept Unset change = Set (window_round change)
+kept Unset change = Set (window_around change)
 
 -- the window that is set then
 unfoldable pub window_after : WindowSetting → ℕ → WindowSetting

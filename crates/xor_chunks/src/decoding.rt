@@ -139,7 +139,7 @@ fn push_samples(
     let (first, rest) = first_of(bytes)?;
     samples.reserve(room_for(count, bytes))?;
     samples.push(first)?;
-    push_rest(samples, count - 1, Last::begun(first), rest)
+    push_rest(samples, count - 1, Last::of_first(first), rest)
 }
 
 /// How many samples to make room for: each but the first two takes two bits at least.

@@ -65,13 +65,13 @@ fn put_change(writer: &mut BitWriter, change: i64) -> Result<PendingBits, NoMemo
     Ok(PendingBits::none())
 }
 
-/// The window that was set, where it is round a change.
+/// The window that was set, where it is around a change.
 #[inline(always)]
 fn window_to_reuse(window: WindowSetting, change: u64) -> WindowSetting
     ensures { result ≡ reused window change }
 {
     match window {
-        WindowSetting::Set(set) if set.is_round(change) => WindowSetting::Set(set),
+        WindowSetting::Set(set) if set.is_around(change) => WindowSetting::Set(set),
         _ => WindowSetting::Unset,
     }
 }
@@ -98,7 +98,7 @@ fn put_value(
         writer.put_bits(set.field(change), set.width())?;
         return Ok(WindowSetting::Set(set));
     }
-    let set = Window::round(change);
+    let set = Window::around(change);
     code.and_field(2, 0b11)
         .and_field(LEAD_FIELD, u64::from(set.lead()))
         .and_field(WIDTH_FIELD, u64::from(set.width()))

@@ -6,6 +6,9 @@ use label_sets::{Sample, TIME_LIMIT, times_ascend};
 /// How many samples a chunk has as a rule. A series is cut into chunks of as many.
 pub const USUAL_COUNT: usize = 120;
 
+/// The least number of samples that no chunk has.
+const COUNT_LIMIT: usize = 1 << 16;
+
 fn is_chunk_time(time: i64) -> bool
     ensures { IsTrue result ↔ IsChunkTime time }
 {
@@ -23,7 +26,7 @@ pub fn fit_a_chunk(samples: &[Sample]) -> bool
     ensures { IsTrue result ↔ AreOfChunk samples.now }
 {
     !samples.is_empty()
-        && samples.len() < 0x1_0000
+        && samples.len() < COUNT_LIMIT
         && times_ascend(samples)
         && have_chunk_times(samples)
 }

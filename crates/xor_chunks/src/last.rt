@@ -13,11 +13,11 @@ pub(crate) struct Last {
 impl Last {
     ghost use Rattle.std.specs.Prelude.{◌≡◌};
     ghost use Rattle.xor_chunks.specs.Known.{state_of};
-    ghost use Rattle.xor_chunks.specs.Samples.{begun, sample_of};
+    ghost use Rattle.xor_chunks.specs.Samples.{of_first, sample_of};
 
     /// The first sample, which comes after none.
-    pub(crate) fn begun(first: Sample) -> Last
-        ensures { state_of result ≡ begun first }
+    pub(crate) fn of_first(first: Sample) -> Last
+        ensures { state_of result ≡ of_first first }
     {
         Last {
             time: first.time,

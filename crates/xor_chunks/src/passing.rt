@@ -5,7 +5,7 @@ ghost use Rattle.wire_bits.specs.Bits.{bits_of, bits_in, EndWith};
 ghost use Rattle.wire_bits.specs.Buffer.{Shows};
 ghost use Rattle.xor_chunks.specs.State.{State, with_pattern};
 ghost use Rattle.xor_chunks.specs.Window.{Window as WindowParts, IsInside};
-ghost use Rattle.xor_chunks.specs.Widths.{change_limit, head_limit, peeked, sample_limit, sample_room};
+ghost use Rattle.xor_chunks.specs.Widths.{change_limit, head_limit, peeked, sample_limit, sample_room, soon_limit};
 ghost use Rattle.xor_chunks.specs.Known.{state_of};
 ghost use Rattle.xor_chunks.specs.Steps.{behind, change_at, value_at, next_at};
 ghost use Rattle.xor_chunks.specs.Spans.{end_at};
@@ -87,7 +87,7 @@ fn pass_one(word: u64, last: &Last) -> Option<(Last, u32)>
     ensures passed { IfSome result (λ x. (bits : List Bool) → Shows word peeked bits
         → sample_limit ≤ length bits → (pattern : ℕ) × (next_at (state_of last.now) bits
         ≡ Ok (with_pattern pattern (state_of x.0), drop x.1 bits))) }
-    ensures steps { IfSome result (λ x. (0 < x.0.delta) × (x.0.delta < 2 ^ 62)) }
+    ensures steps { IfSome result (λ x. (0 < x.0.delta) × (x.0.delta < soon_limit)) }
     ensures inside { IfSome result (λ x. IsInside x.0.window) }
 {
     let (change, known) = change_in(word)?;
@@ -112,7 +112,7 @@ fn pass_one(word: u64, last: &Last) -> Option<(Last, u32)>
 #[inline(always)]
 fn is_steady(word: u64, time: i64) -> bool
     ensures told { IsTrue result → word / 2 ^ 61 ≡ 2 }
-    ensures soon { IsTrue result → time <ℤ pos (2 ^ 62) }
+    ensures soon { IsTrue result → time <ℤ pos soon_limit }
 {
     word >> 61 == 0b010 && time < SOON
 }
@@ -152,7 +152,7 @@ fn pass_within(word: u64, time: i64, delta: u64, width: u32) -> Option<(i64, u64
           record { time = x.0; delta = x.1; pattern = pattern; window = last.window },
           drop x.2 bits,
         ))) }
-    ensures steps { IfSome result (λ x. (0 < x.1) × (x.1 < 2 ^ 62)) }
+    ensures steps { IfSome result (λ x. (0 < x.1) × (x.1 < soon_limit)) }
 {
     let (change, known) = change_in(word)?;
     let passed = pass_kept(word, known, width)?;
@@ -167,7 +167,7 @@ fn pass_window(count: u16, second: Last, bytes: &[u8], begin: usize) -> (u16, La
     requires room { sample_room ≤ length bytes.now }
     requires few { length bytes.now < 2 ^ 32 }
     requires within { begin ≤ 8 * length bytes.now }
-    requires steps { (0 < second.delta) × (second.delta < 2 ^ 62) }
+    requires steps { (0 < second.delta) × (second.delta < soon_limit) }
     requires inside { IsInside second.window }
     ensures end { end_at count (state_of second) (drop begin (bits_in bytes.now))
         ≡ end_at result.0 (state_of result.1) (drop result.2 (bits_in bytes.now)) }

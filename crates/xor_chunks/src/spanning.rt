@@ -89,7 +89,7 @@ fn pass_samples(count: u16, bytes: &[u8]) -> Result<(Option<SampleSpan>, BitRead
         return Ok((None, BitReader::new(bytes)));
     }
     let (first, rest) = first_of(bytes)?;
-    let (last, reader) = pass_rest(count - 1, Last::begun(first), rest)?;
+    let (last, reader) = pass_rest(count - 1, Last::of_first(first), rest)?;
     Ok((Some(span(count, first, last)), reader))
 }
 

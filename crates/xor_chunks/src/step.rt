@@ -2,7 +2,7 @@ ghost use Rattle.std.specs.Prelude.{◌≡◌, pos, negsuc, ◌+ℤ◌, ◌-ℤ�
 ghost use Rattle.reading_core.specs.Reading.{Answers};
 ghost use Rattle.wire_bytes.specs.Fields.{field_value};
 ghost use Rattle.wire_bits.specs.Buffer.{front, Shows};
-ghost use Rattle.xor_chunks.specs.Widths.{wide_field, change_limit, head_limit};
+ghost use Rattle.xor_chunks.specs.Widths.{wide_field, change_limit, head_limit, soon_limit};
 ghost use Rattle.xor_chunks.specs.Known.{state_of};
 ghost use Rattle.xor_chunks.specs.Steps.{Reads, take_at, behind, change_at, value_at, within_at, time_after, follow_at, next_at};
 
@@ -42,7 +42,7 @@ fn is_near(number: i64) -> bool
 #[inline(always)]
 pub(crate) fn near_time(time: i64, delta: u64, change: i128) -> Option<(i64, u64)>
     ensures after { IfSome result (λ x. time_after time (pos delta +ℤ change) ≡ Ok x) }
-    ensures steps { IfSome result (λ x. (0 < x.1) × (x.1 < 2 ^ 62)) }
+    ensures steps { IfSome result (λ x. (0 < x.1) × (x.1 < soon_limit)) }
 {
     let Ok(change) = i64::try_from(change) else {
         return None;

@@ -23,7 +23,7 @@ impl Model for Window {
 }
 
 impl Window {
-    ghost use Rattle.xor_chunks.specs.Written.{window_round, is_round, trail};
+    ghost use Rattle.xor_chunks.specs.Written.{window_around, is_around, trail};
     ghost use Rattle.xor_chunks.specs.Window.{whole, told_by, is_inside, changed_pattern};
 
     /// All bits of a pattern.
@@ -71,11 +71,11 @@ impl Window {
         pattern ^ (field << self.trail())
     }
 
-    /// The smallest window round the bits of a change, with at most 31 bits before it.
+    /// The smallest window around the bits of a change, with at most 31 bits before it.
     #[inline(always)]
-    pub(crate) fn round(change: u64) -> Window
+    pub(crate) fn around(change: u64) -> Window
         requires { 0 < change }
-        ensures { result ≡ window_round change }
+        ensures { result ≡ window_around change }
     {
         let lead = change.leading_zeros().min(31);
         let trail = change.trailing_zeros();
@@ -87,8 +87,8 @@ impl Window {
 
     /// Whether a change has no bit outside the window.
     #[inline(always)]
-    pub(crate) fn is_round(self, change: u64) -> bool
-        ensures { result ≡ is_round self change }
+    pub(crate) fn is_around(self, change: u64) -> bool
+        ensures { result ≡ is_around self change }
     {
         self.lead <= change.leading_zeros() && self.trail() <= change.trailing_zeros()
     }

@@ -15,5 +15,5 @@ returns-in_err-first c = gives_stop _ _ _ _ c.from_residual.ensures.1
 pub returns : goal.returns
 returns c =
     let pushed = c.in_ok-push.ensures.items ∙ ap (λ xs. xs ++ c.in_ok-first.first ∷ []) c.in_ok-reserve.ensures.items in
-    let same = ap (λ s. with_front c.push.new.self.items (rest_at (c.args.count - 1) s c.in_ok-first.rest.now)) c.begun.ensures ∙ first_steps _ _ _ _ _ _ c.if-count-eq0.false c.in_ok-first.ensures pushed in
+    let same = ap (λ s. with_front c.push.new.self.items (rest_at (c.args.count - 1) s c.in_ok-first.rest.now)) c.of_first.ensures ∙ first_steps _ _ _ _ _ _ c.if-count-eq0.false c.in_ok-first.ensures pushed in
     subst (λ r. Gives NoMemory (λ x. (x.0.items, x.1)) c.push_rest.result r) same c.push_rest.ensures

@@ -19,8 +19,8 @@ returns-in-Set c =
 
 pub returns : goal.returns
 returns c =
-    let set = c.round-set.result in
-    let value = value_opens _ _ _ c.if-change-eq0.false (sym c.window_to_reuse.ensures ∙ is_unset _ c.in_default.not-Set) c.round-set.ensures in
+    let set = c.around-set.result in
+    let value = value_opens _ _ _ c.if-change-eq0.false (sym c.window_to_reuse.ensures ∙ is_unset _ c.in_default.not-Set) c.around-set.ensures in
     let tail = ap (λ n. bits_of n c.field-2.result) c.width-3.ensures.width ∙ ap (bits_of set.width) c.field-2.ensures in
     let head = opened_head _ _ _ _ _ _ _ c.and_field-2.ensures.bits c.and_field-3.ensures.bits c.and_field-4.ensures.bits in
     let fields =

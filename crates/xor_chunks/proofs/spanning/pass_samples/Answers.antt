@@ -14,9 +14,9 @@ returns-in_err-first c =
 pub returns-in_err-last : goal.returns-in_err-last
 returns-in_err-last c =
     let p = err_from_is_err_and c.from_residual-in_err-last.result c.from_residual-in_err-last.ensures.1 in
-    rw (p.1, p.2) (span_stopped c.args.count c.in_ok-first.first _ _ _ c.if-count-eq0.false c.in_ok-first.ensures c.begun.ensures _ c.in_err-last.ensures)
+    rw (p.1, p.2) (span_stopped c.args.count c.in_ok-first.first _ _ _ c.if-count-eq0.false c.in_ok-first.ensures c.of_first.ensures _ c.in_err-last.ensures)
 
 pub returns : goal.returns
 returns c =
-    span_reads _ _ _ _ _ c.if-count-eq0.false c.in_ok-first.ensures c.begun.ensures _ _ c.in_ok-last.ensures
+    span_reads _ _ _ _ _ c.if-count-eq0.false c.in_ok-first.ensures c.of_first.ensures _ _ c.in_ok-last.ensures
     ∙ ap (λ s. Ok (Some s, c.in_ok-last.reader)) (sym c.span.ensures)

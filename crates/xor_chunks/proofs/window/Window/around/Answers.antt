@@ -1,6 +1,6 @@
 use Rattle.std.proofs.Common.{arith}
 use Rattle.xor_chunks.proofs.Zeros.{counts_apart}
-use Rattle.xor_chunks.proofs.window.Window.round.Goals as goal
+use Rattle.xor_chunks.proofs.window.Window.around.Goals as goal
 
 pub overflow_sub-result : goal.overflow_sub-result
 overflow_sub-result c = omega (arith, counts_apart c.args.change c.requires (omega arith), c.min-lead.ensures)
