@@ -1,5 +1,5 @@
 -- Series against their grammar.
-use Rattle.std.proofs.Common.{◌≡◌, ℕ, ◌+◌, ◌*◌, ◌≤◌, List, [], ◌∷◌, ◌++◌, length, map, zip, Ok, refl, sym, ap, subst, ◌∙◌, append_assoc, length-append, arith}
+use Rattle.std.proofs.Common.{◌≡◌, ℕ, ◌+◌, ◌*◌, ◌≤◌, List, [], ◌∷◌, ◌++◌, length, zip, Ok, refl, sym, ap, subst, ◌∙◌, append_assoc, length-append, arith}
 use Rattle.reading_core.specs.Members.{members_at}
 use Rattle.reading_core.specs.Grammar.{IsBytes, HasFront, AreTexts}
 use Rattle.reading_core.proofs.Fronts.{IsBytes-after, members_found}

@@ -4,6 +4,7 @@
 mod chunk_place;
 mod fields;
 mod lent_row;
+mod list_reading;
 mod postings_reading;
 mod postings_row;
 mod postings_table;

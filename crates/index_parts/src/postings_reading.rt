@@ -8,26 +8,42 @@ ghost use Rattle.index_parts.specs.Turns.{InOrder};
 ghost use Rattle.index_parts.specs.Postings.{IsPostings};
 ghost use Rattle.index_parts.specs.PostingsReading.{posting_at, postings_at};
 ghost use Rattle.index_parts.specs.ListReading.{turns_at};
-ghost use Rattle.index_parts.specs.Moves.{MovesOnTo};
 
 use crate::PartRefusal;
-use crate::fields::{next_u32, room_for};
+use crate::fields::next_u32;
+use crate::list_reading::{Member, members_of};
 use crate::sections::section_of;
 use list_core::List;
 use std::alloc::Global;
 use wire_bytes::{Cursor, NumberList};
 
-/// The next number, which is above the one before it.
-#[inline(always)]
-#[tactic(auto, unfolding(crate::specs::PostingsReading::posting_at))]
-fn next_posting(cursor: &mut Cursor<'_>, before: Option<u64>) -> Result<u64, PartRefusal>
-    ensures { MovesOnTo (λ n. n) cursor.new result (posting_at (before, cursor.old)) }
-{
-    let place = cursor.place() as u64;
-    let number = u64::from(next_u32(cursor)?);
-    match before {
-        Some(before) if number <= before => Err(PartRefusal::Unordered(place)),
-        _ => Ok(number),
+/// How many bytes a number takes.
+const NUMBER_SIZE: usize = 4;
+
+impl<'a> Member<'a> for u64 {
+    ghost use Rattle.std.specs.Prelude.{option_map};
+    ghost use Rattle.index_parts.specs.PostingsReading.{posting_at};
+    ghost use Rattle.index_parts.specs.Moves.{MovesOnTo};
+
+    type Owned = u64;
+
+    ghost said = { λ n. n };
+
+    ghost reads = { posting_at };
+
+    /// The next number, which is above the one before it.
+    #[inline(always)]
+    #[tactic(auto, unfolding(crate::specs::PostingsReading::posting_at))]
+    fn next(cursor: &mut Cursor<'a>, before: Option<u64>) -> Result<u64, PartRefusal>
+        ensures { MovesOnTo (λ n. n) cursor.new result
+            (posting_at (option_map (λ n. n) before, cursor.old)) }
+    {
+        let place = cursor.place() as u64;
+        let number = u64::from(next_u32(cursor)?);
+        match before {
+            Some(before) if number <= before => Err(PartRefusal::Unordered(place)),
+            _ => Ok(number),
+        }
     }
 }
 
@@ -72,33 +88,14 @@ fn numbers_at_once(
     decoded_numbers(alloc, &fronts[..count])
 }
 
-/// Reads `count` numbers one after another, up to the first that is refused.
-fn numbers_in_turn(
-    alloc: Global,
-    count: u32,
-    mut cursor: Cursor<'_>,
-) -> Result<Vec<u64>, PartRefusal>
-    ensures { Gives PartRefusal.NoMemory (λ numbers. numbers.items) result
-        (turns_at posting_at count cursor.entry) }
-{
-    let mut numbers = Vec::with_capacity(alloc, room_for(count, &cursor, 4))?;
-    let mut before = None;
-    for _ in 0..count {
-        let number = next_posting(&mut cursor, before)?;
-        numbers.push(number)?;
-        before = Some(number);
-    }
-    Ok(numbers)
-}
-
-/// Reads `count` numbers.
+/// Reads `count` numbers, one after another where they can't be read at once, up to the first that is refused.
 fn numbers_of(alloc: Global, count: u32, cursor: Cursor<'_>) -> Result<Vec<u64>, PartRefusal>
     ensures { Gives PartRefusal.NoMemory (λ numbers. numbers.items) result
         (turns_at posting_at count cursor.entry) }
 {
     match numbers_at_once(alloc, count, &cursor)? {
         Some(numbers) => Ok(numbers),
-        None => numbers_in_turn(alloc, count, cursor),
+        None => members_of(alloc, count, cursor, NUMBER_SIZE),
     }
 }
 

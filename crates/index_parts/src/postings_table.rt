@@ -8,16 +8,14 @@ ghost use Rattle.label_sets.specs.Labels.{compare_texts};
 ghost use Rattle.index_parts.specs.declared.postings_row.PostingsRow.{PostingsRow};
 ghost use Rattle.index_parts.specs.Lent.{row_of, row_before, fields_tell};
 ghost use Rattle.index_parts.specs.Rows.{IsPostingsTable};
-ghost use Rattle.index_parts.specs.RowsReading.{may_come_after, row_told, row_at, postings_table_at};
-ghost use Rattle.index_parts.specs.ListReading.{turns_at};
-ghost use Rattle.index_parts.specs.Moves.{MovesOnTo};
+ghost use Rattle.index_parts.specs.RowsReading.{may_come_after, postings_table_at};
 
 use crate::PartRefusal;
-use crate::fields::{next_text, next_u8, next_u32, next_uvarint, room_for, text_of};
+use crate::fields::{next_text, next_u8, next_uvarint, text_of};
 use crate::lent_row::LentRow;
-use crate::postings_row::ROW_KIND;
+use crate::list_reading::{Member, list_of};
+use crate::postings_row::{PostingsRow, ROW_KIND};
 use crate::row_fields::RowFields;
-use crate::sections::section_of;
 use std::alloc::Global;
 use std::cmp::Ordering;
 use std::marker::Model;
@@ -157,64 +155,51 @@ fn row_of_fields<'a>(
     }
 }
 
-/// The next row. All its fields are read, then its order is tested, and then its texts.
-#[inline(always)]
-#[tactic(auto, unfolding(crate::specs::RowsReading::row_at))]
-fn next_row<'a>(
-    cursor: &mut Cursor<'a>,
-    before: Option<LentRow<'a>>,
-) -> Result<LentRow<'a>, PartRefusal>
-    ensures { MovesOnTo row_of cursor.new result (row_at (row_before before.entry, cursor.old)) }
-{
-    let place = cursor.place() as u64;
-    if next_u8(cursor)? != ROW_KIND {
-        return Err(PartRefusal::Unordered(place));
+impl<'a> Member<'a> for LentRow<'a> {
+    ghost use Rattle.index_parts.specs.Lent.{row_of, row_before};
+    ghost use Rattle.index_parts.specs.RowsReading.{row_at};
+    ghost use Rattle.index_parts.specs.Moves.{MovesOnTo};
+
+    type Owned = PostingsRow;
+
+    ghost said = { row_of };
+
+    ghost reads = { row_at };
+
+    /// The next row. All its fields are read, then its order is tested, and then its texts.
+    #[inline(always)]
+    #[tactic(auto, unfolding(crate::specs::RowsReading::row_at))]
+    fn next(cursor: &mut Cursor<'a>, before: Option<Self>) -> Result<Self, PartRefusal>
+        ensures { MovesOnTo row_of cursor.new result
+            (row_at (row_before before.entry, cursor.old)) }
+    {
+        let place = cursor.place() as u64;
+        if next_u8(cursor)? != ROW_KIND {
+            return Err(PartRefusal::Unordered(place));
+        }
+        let name = next_text(cursor)?;
+        let name_end = cursor.place();
+        let value = next_text(cursor)?;
+        let value_end = cursor.place();
+        let offset = next_uvarint(cursor)?;
+        let fields = RowFields {
+            place,
+            name,
+            name_end,
+            value,
+            value_end,
+            offset,
+        };
+        row_of_fields(before, fields)
     }
-    let name = next_text(cursor)?;
-    let name_end = cursor.place();
-    let value = next_text(cursor)?;
-    let value_end = cursor.place();
-    let offset = next_uvarint(cursor)?;
-    let fields = RowFields {
-        place,
-        name,
-        name_end,
-        value,
-        value_end,
-        offset,
-    };
-    row_of_fields(before, fields)
 }
 
-/// Reads `count` rows.
-#[inline(never)]
-fn rows_of<'a>(
-    alloc: Global,
-    count: u32,
-    mut cursor: Cursor<'a>,
-) -> Result<Vec<LentRow<'a>>, PartRefusal>
-    ensures { Gives PartRefusal.NoMemory (λ rows. map row_of rows.items) result
-        (turns_at row_at count cursor.entry) }
-{
-    let mut rows = Vec::with_capacity(alloc, room_for(count, &cursor, USUAL_SIZE))?;
-    let mut before = None;
-    for _ in 0..count {
-        let row = next_row(&mut cursor, before)?;
-        rows.push(row)?;
-        before = Some(row);
-    }
-    Ok(rows)
-}
-
-#[tactic(auto, unfolding(crate::specs::ListReading::list_at))]
 fn table_of<'a>(alloc: Global, index: &'a [u8], at: u64) -> Result<PostingsTable<'a>, PartRefusal>
     ensures exact { Gives PartRefusal.NoMemory (λ table. table) result
         (postings_table_at index.now at) }
     ensures bytes { IsBytes index.now }
 {
-    let mut content = section_of(index, at)?;
-    let count = next_u32(&mut content)?;
-    let rows = rows_of(alloc, count, content)?;
+    let rows = list_of(alloc, index, at, USUAL_SIZE)?;
     Ok(PostingsTable { rows })
 }
 

@@ -6,13 +6,12 @@ ghost use Rattle.reading_core.specs.Reading.{Gives};
 ghost use Rattle.reading_core.specs.Grammar.{IsBytes};
 ghost use Rattle.label_sets.specs.Labels.{compare_texts};
 ghost use Rattle.index_parts.specs.Symbols.{IsSymbols};
-ghost use Rattle.index_parts.specs.SymbolsReading.{symbol_at, symbols_at};
-ghost use Rattle.index_parts.specs.ListReading.{turns_at};
-ghost use Rattle.index_parts.specs.Moves.{MovesOnTo};
+ghost use Rattle.index_parts.specs.SymbolsReading.{symbols_at};
 
 use crate::PartRefusal;
-use crate::fields::{next_text, next_u32, room_for, text_of};
-use crate::sections::section_of;
+use crate::fields::{next_text, text_of};
+use crate::list_reading::{Member, list_of};
+use label_sets::Text;
 use std::alloc::Global;
 use std::marker::Model;
 use wire_bytes::Cursor;
@@ -69,50 +68,39 @@ fn may_bytes_follow(before: Option<&str>, symbol: &[u8]) -> bool
     }
 }
 
-/// The next symbol. Its order is tested before its text.
-#[inline(always)]
-#[tactic(auto, unfolding(crate::specs::SymbolsReading::symbol_at))]
-fn next_symbol<'a>(cursor: &mut Cursor<'a>, before: Option<&str>) -> Result<&'a str, PartRefusal>
-    ensures { MovesOnTo (λ symbol. symbol.now) cursor.new result
-        (symbol_at (option_copied before.entry, cursor.old)) }
-{
-    let place = cursor.place() as u64;
-    let bytes = next_text(cursor)?;
-    match text_of(bytes, cursor.place()) {
-        Ok(symbol) if may_follow(before, symbol) => Ok(symbol),
-        Err(refusal) if may_bytes_follow(before, bytes) => Err(refusal),
-        _ => Err(PartRefusal::Unordered(place)),
+impl<'a> Member<'a> for &'a str {
+    ghost use Rattle.std.specs.Prelude.{option_map};
+    ghost use Rattle.index_parts.specs.SymbolsReading.{symbol_at};
+    ghost use Rattle.index_parts.specs.Moves.{MovesOnTo};
+
+    type Owned = Text;
+
+    ghost said = { λ s. s.now };
+
+    ghost reads = { symbol_at };
+
+    /// The next symbol. Its order is tested before its text.
+    #[inline(always)]
+    #[tactic(auto, unfolding(crate::specs::SymbolsReading::symbol_at))]
+    fn next(cursor: &mut Cursor<'a>, before: Option<&'a str>) -> Result<&'a str, PartRefusal>
+        ensures { MovesOnTo (λ s. s.now) cursor.new result
+            (symbol_at (option_map (λ s. s.now) before.entry, cursor.old)) }
+    {
+        let place = cursor.place() as u64;
+        let bytes = next_text(cursor)?;
+        match text_of(bytes, cursor.place()) {
+            Ok(symbol) if may_follow(before, symbol) => Ok(symbol),
+            Err(refusal) if may_bytes_follow(before, bytes) => Err(refusal),
+            _ => Err(PartRefusal::Unordered(place)),
+        }
     }
 }
 
-/// Reads `count` symbols.
-#[inline(never)]
-fn symbols_of<'a>(
-    alloc: Global,
-    count: u32,
-    mut cursor: Cursor<'a>,
-) -> Result<Vec<&'a str>, PartRefusal>
-    ensures { Gives PartRefusal.NoMemory (λ symbols. map (λ s. s.now) symbols.items) result
-        (turns_at symbol_at count cursor.entry) }
-{
-    let mut symbols = Vec::with_capacity(alloc, room_for(count, &cursor, USUAL_SIZE))?;
-    let mut before = None;
-    for _ in 0..count {
-        let symbol = next_symbol(&mut cursor, before)?;
-        symbols.push(symbol)?;
-        before = Some(symbol);
-    }
-    Ok(symbols)
-}
-
-#[tactic(auto, unfolding(crate::specs::ListReading::list_at))]
 fn table_of<'a>(alloc: Global, index: &'a [u8], at: u64) -> Result<SymbolTable<'a>, PartRefusal>
     ensures exact { Gives PartRefusal.NoMemory (λ table. table) result (symbols_at index.now at) }
     ensures bytes { IsBytes index.now }
 {
-    let mut content = section_of(index, at)?;
-    let count = next_u32(&mut content)?;
-    let symbols = symbols_of(alloc, count, content)?;
+    let symbols = list_of(alloc, index, at, USUAL_SIZE)?;
     Ok(SymbolTable { symbols })
 }
 

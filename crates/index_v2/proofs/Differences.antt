@@ -27,12 +27,12 @@ use Rattle.index_v2.proofs.WholeLoops.{drop_at}
 -- ---- a number among others that ascend
 
 -- where the search finds a number, no other place has it; where it does not, no place has it
-abbrev pub Among : List ℕ → ℕ → Result ℕ ℕ → Type 0
-Among numbers number (Ok place) = (place < length numbers) × (get_or numbers place 0 ≡ number) × ((k : ℕ) → k < length numbers → k ≢ place → get_or numbers k 0 ≢ number)
-Among numbers number (Err place) = (k : ℕ) → k < length numbers → get_or numbers k 0 ≢ number
+abbrev pub TellsPlace : List ℕ → ℕ → Result ℕ ℕ → Type 0
+TellsPlace numbers number (Ok place) = (place < length numbers) × (get_or numbers place 0 ≡ number) × ((k : ℕ) → k < length numbers → k ≢ place → get_or numbers k 0 ≢ number)
+TellsPlace numbers number (Err place) = (k : ℕ) → k < length numbers → get_or numbers k 0 ≢ number
 
-pub among : (numbers : List ℕ) (number : ℕ) (r : Result ℕ ℕ) → IsStrictlyIncreasing numbers → IsBinarySearchResult (λ y. nat_cmp y number) numbers r → Among numbers number r
-among numbers number (Ok place) rising is =
+pub tells_place : (numbers : List ℕ) (number : ℕ) (r : Result ℕ ℕ) → IsStrictlyIncreasing numbers → IsBinarySearchResult (λ y. nat_cmp y number) numbers r → TellsPlace numbers number r
+tells_place numbers number (Ok place) rising is =
     let h = searched _ _ (Ok place) is (rise_le numbers rising) in (
       h.0,
       h.1,
@@ -41,7 +41,7 @@ among numbers number (Ok place) rising is =
         | inr ge ↦ let x = rise_less numbers rising place k (omega arith) lt in let same = h.1 in omega arith
       ],
     )
-among numbers number (Err place) rising is =
+tells_place numbers number (Err place) rising is =
     let h : (place ≤ length numbers) × ((k : ℕ) → k < place → get_or numbers k 0 < number) × ((k : ℕ) → place ≤ k → k < length numbers → number < get_or numbers k 0) = searched _ number (Err place) is (rise_le _ rising) in
     λ k lt e. elim (cases_lt k place) [
       | inl less ↦ let x = h.1 k less in omega arith
@@ -64,10 +64,10 @@ one_of number P (n ∷ numbers) (s ∷ series) (suc place) d many lt is others =
     rw (ne_eqb n number (others 0 (omega arith) (omega arith))) (one_of number P numbers _ _ d (omega arith) (omega arith) is (λ k less other. others (suc k) (omega arith) (omega arith)))
 
 -- the test of a number against the listed series
-pub of_row : (numbers : List ℕ) (series : List IndexSeries) (row : PostingsRow) (number place : ℕ) (one : IndexSeries) → length numbers ≡ length series → Among numbers number (Ok place) → one ≡ get_or series place one → belongs row.name row.value one ≡ is_of_row (zip numbers series) row number
+pub of_row : (numbers : List ℕ) (series : List IndexSeries) (row : PostingsRow) (number place : ℕ) (one : IndexSeries) → length numbers ≡ length series → TellsPlace numbers number (Ok place) → one ≡ get_or series place one → belongs row.name row.value one ≡ is_of_row (zip numbers series) row number
 of_row _ _ row _ _ _ many is at = ap (belongs row.name row.value) at ∙ sym (one_of _ _ _ _ _ _ many is.0 is.1 is.2)
 
-pub of_no_row : (numbers : List ℕ) (series : List IndexSeries) (row : PostingsRow) (number place : ℕ) → Among numbers number (Err place) → false ≡ is_of_row (zip numbers series) row number
+pub of_no_row : (numbers : List ℕ) (series : List IndexSeries) (row : PostingsRow) (number place : ℕ) → TellsPlace numbers number (Err place) → false ≡ is_of_row (zip numbers series) row number
 of_no_row _ _ _ _ _ none = sym (none_of _ _ _ _ none)
 
 -- a number in one list
@@ -81,8 +81,8 @@ has number (n ∷ list) zero lt is = rw (eq-eqb n number is) refl
 has number (n ∷ list) (suc place) lt is = rw (has number list place (omega arith) is) (or_true _)
 
 pub has_number_is : (number : ℕ) (list : List ℕ) (r : Result ℕ ℕ) (found : Bool) → IsStrictlyIncreasing list → IsBinarySearchResult (λ y. nat_cmp y number) list r → found ≡ is_ok r → found ≡ list_any (λ n. eqb n number) list
-has_number_is number list (Ok place) found rising is e = let a = among list _ (Ok place) rising is in e ∙ sym (has number list place a.0 a.1)
-has_number_is number list (Err place) found rising is e = e ∙ sym (lacks number _ (among _ number (Err place) rising is))
+has_number_is number list (Ok place) found rising is e = let a = tells_place list _ (Ok place) rising is in e ∙ sym (has number list place a.0 a.1)
+has_number_is number list (Err place) found rising is e = e ∙ sym (lacks number _ (tells_place _ number (Err place) rising is))
 
 -- ---- the first stray
 

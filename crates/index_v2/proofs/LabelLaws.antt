@@ -9,7 +9,7 @@ use Rattle.reading_core.specs.Grammar.{IsBytes}
 use Rattle.reading_core.proofs.Binds.{bind_ok, refused_as_ok, ok_is}
 use Rattle.label_sets.specs.declared.label.Label.{Label}
 use Rattle.label_sets.specs.Labels.{ComesBefore, StandsBefore, IsLabelSet}
-use Rattle.label_sets.proofs.LabelValues.{StandsBefore-trans}
+use Rattle.label_sets.proofs.LabelValues.{StandsBefore-trans, above_nothing}
 use Rattle.index_parts.specs.declared.refusal.PartRefusal.{PartRefusal}
 use Rattle.index_parts.proofs.SeriesLaws.{series_found, series_again}
 use Rattle.index_file.specs.declared.index_series.IndexSeries.{IndexSeries}
@@ -27,11 +27,6 @@ use Rattle.index_v2.proofs.LabelledSeries.{labelled_parts, raw_stands}
 abbrev pub AreChained : List ℕ → List Label → Type 0
 AreChained before [] = Unit {0}
 AreChained before (l ∷ ls) = ComesBefore before l.name × (0 < length l.value) × AreChained l.name ls
-
-pub above_nothing : (before name : List ℕ) → ComesBefore before name → name ≢ []
-above_nothing [] [] h e = cc
-above_nothing (b ∷ before) [] h e = cc
-above_nothing _ (n ∷ name) h e = cc
 
 pub set_from_chain : (before : List ℕ) (ls : List Label) → AreChained before ls → IsLabelSet ls × StandsBefore before ls
 set_from_chain _ [] chain = (tt, tt)

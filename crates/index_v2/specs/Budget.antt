@@ -15,6 +15,10 @@ use Rattle.index_file.specs.IndexFile.{series_unit}
 abbrev pub members_of : IndexSeries → ℕ
 members_of series = length series.labels + length series.chunks
 
+-- how many bytes and members are read at most for each byte of an index, or of a block's segments
+abbrev pub read_share : ℕ
+read_share = 8
+
 -- how many bytes a label's texts take
 abbrev pub label_bytes : Label → ℕ
 label_bytes label = length label.name + length label.value

@@ -5,6 +5,7 @@ use Rattle.std.specs.Str.{bytes_eq}
 use Rattle.std.specs.declared.cmp.Ordering.{Ordering}
 use Rattle.std.specs.declared.cmp.Ordering.TheVariants.{Less, Equal, Greater}
 use Rattle.std.specs.Ordering.{is_lt}
+use Rattle.list_core.specs.Lists.{is_one_of}
 use Rattle.reading_core.specs.Reading.{◌>>=◌, ◌>>◌, unless, refused_as}
 use Rattle.label_sets.specs.declared.label.Label.{Label}
 use Rattle.label_sets.specs.Labels.{compare_sets, value_of}
@@ -92,7 +93,7 @@ unfoldable pub gap_from : ℕ → List PostingsRow → List (List ℕ) → ℕ �
 gap_from place [] lists number label = Some place
 gap_from place (row ∷ rows) [] number label = Some place
 gap_from place (row ∷ rows) (list ∷ lists) number label =
-    by_order (compare_row row label.name label.value) (gap_from (place + 1) rows lists number label) (if list_any (λ n. n == number) list then None else Some place) (Some place)
+    by_order (compare_row row label.name label.value) (gap_from (place + 1) rows lists number label) (if is_one_of list number then None else Some place) (Some place)
 
 -- the lesser of two places, if there is one
 abbrev pub earlier_place : Option ℕ → Option ℕ → Option ℕ

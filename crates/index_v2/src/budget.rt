@@ -1,5 +1,5 @@
 ghost use Rattle.std.specs.Prelude.{◌≡◌, ◌+◌, ◌-◌, ◌*◌, ◌^◌, ◌<◌, ◌≤◌, [], length, map, min, sum_by, IfOk, MatchResult};
-ghost use Rattle.index_v2.specs.Budget.{label_bytes, list_bytes, members_of, series_bytes, text_bytes, told, text_share};
+ghost use Rattle.index_v2.specs.Budget.{label_bytes, list_bytes, members_of, series_bytes, text_bytes, told, read_share, text_share};
 ghost use Rattle.index_v2.specs.LentLabels.{as_label};
 ghost use Rattle.std.specs.Int.{w32};
 ghost use Rattle.wire_bytes.specs.Fields.{number_at};
@@ -15,16 +15,19 @@ use wire_bytes::Cursor;
 /// How many bytes of label texts are copied out of an index at most for each byte of its own.
 pub const TEXT_SHARE: usize = 64;
 
+/// How many bytes and members are read at most for each byte of an index, or of a block's segments.
+pub const READ_SHARE: usize = 8;
+
 /// How much reading the series of a whole index may cost, and as much again reading its lists: eight for each of its bytes.
 /// Spent are the bytes of each section that is read, since they are summed, and the members that it gives. Where sections do
 /// not overlap and each row has a list of its own, these bytes come to the index's length at most, and a label takes two of
 /// them at least, a chunk three and a number of a list four: so such an index never asks for more than half as much again as
 /// its length. Rows that share a list, or series that lie within one another, may ask for more.
 pub(crate) fn budget_of(index: &[u8]) -> usize
-    ensures value { result ≡ min (8 * length index.now) (2 ^ 64 - 1) }
-    ensures bound { result ≤ 8 * length index.now }
+    ensures value { result ≡ min (read_share * length index.now) (2 ^ 64 - 1) }
+    ensures bound { result ≤ read_share * length index.now }
 {
-    index.len().saturating_mul(8)
+    index.len().saturating_mul(READ_SHARE)
 }
 
 /// How many bytes of label texts are copied out of an index at most: sixty-four for each of its bytes. A label takes two bytes

@@ -1,5 +1,6 @@
 ghost use Rattle.std.specs.Prelude.{◌≡◌, ◌==◌, ◌^◌, ◌<◌, ◌≤◌, All, length, map, zip, None, Some, IfSome, if◌then◌else◌};
-ghost use Rattle.std.specs.List.{list_any, list_all};
+ghost use Rattle.std.specs.List.{list_all};
+ghost use Rattle.list_core.specs.Lists.{is_one_of};
 ghost use Rattle.index_v2.specs.LentLabels.{as_label};
 ghost use Rattle.index_v2.specs.WholeReading.{belongs, is_of_row, stray_from, gap_from, gap_of, gap_among, earlier_place, difference};
 ghost use Rattle.std.specs.List.Sorted.{IsStrictlyIncreasing};
@@ -83,7 +84,7 @@ fn are_of_row(
 /// Whether a list, whose numbers ascend, has a number, and where.
 fn has_number(list: &[u64], number: u64, guess: usize) -> (bool, usize)
     requires { IsStrictlyIncreasing list.now }
-    ensures { result.0 ≡ list_any (λ n. n == number) list.now }
+    ensures { result.0 ≡ is_one_of list.now number }
 {
     match place_near(list, number, guess) {
         Ok(place) => (true, place),

@@ -18,7 +18,7 @@ mod series_labels;
 mod symbols;
 mod whole;
 
-pub use budget::{TEXT_SHARE, spend};
+pub use budget::{READ_SHARE, TEXT_SHARE, spend};
 pub use index_file::{IndexSeries, IndexSeriesList};
 pub use index_reader::IndexReader;
 pub use lent_label::LentLabel;

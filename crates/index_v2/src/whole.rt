@@ -2,7 +2,7 @@ ghost use Rattle.std.specs.Prelude.{◌≡◌, ◌+◌, ◌*◌, ◌-◌, ◌^�
 ghost use Rattle.reading_core.specs.Reading.{Gives, Answers};
 ghost use Rattle.std.specs.List.Sorted.{IsStrictlyIncreasing};
 ghost use Rattle.index_slices.specs.Parts.{part_of};
-ghost use Rattle.index_v2.specs.Budget.{members_of, series_bytes, list_bytes, text_bytes, text_share};
+ghost use Rattle.index_v2.specs.Budget.{members_of, series_bytes, list_bytes, text_bytes, read_share, text_share};
 ghost use Rattle.index_v2.specs.WholeReading.{present_at, may_stand_behind, behind_at, all_at, lists_at, whole_at};
 
 use crate::budget::{
@@ -31,14 +31,14 @@ fn test_present(toc: &Toc, numbers: &[u64]) -> Result<(), IndexRefusal>
 {
     match numbers {
         [] => Ok(()),
-        _ if toc.symbols == 0 => Err(absent(SYMBOLS)),
-        _ if toc.series == 0 => Err(absent(SERIES)),
-        _ if toc.postings == 0 => Err(absent(POSTINGS)),
+        _ if toc.symbols == 0 => Err(absent_section(SYMBOLS)),
+        _ if toc.series == 0 => Err(absent_section(SERIES)),
+        _ if toc.postings == 0 => Err(absent_section(POSTINGS)),
         _ => Ok(()),
     }
 }
 
-fn absent(section: u8) -> IndexRefusal
+fn absent_section(section: u8) -> IndexRefusal
     ensures { result ≡ IndexRefusal.BadSection section (PartRefusal.Short 0) }
 {
     IndexRefusal::BadSection(section, PartRefusal::Short(0))
@@ -90,7 +90,7 @@ pub(crate) fn all_series<'a>(
     ensures as_many { IfOk result (λ series. length series.items ≡ length numbers.now) }
     ensures bounded { IfOk result
         (λ series. sum_by members_of series.items + sum_by
-        (series_bytes index.now) numbers.now ≤ 8 * length index.now) }
+        (series_bytes index.now) numbers.now ≤ read_share * length index.now) }
     ensures texts { IfOk result
         (λ series. sum_by text_bytes series.items ≤ text_share * length index.now) }
     ensures exact { Gives IndexRefusal.NoMemory
@@ -121,7 +121,7 @@ pub(crate) fn all_lists(
     ensures one_each { IfOk result (λ lists. length lists.items ≡ length rows.now) }
     ensures bounded { IfOk result
         (λ lists. sum_by length lists.items + sum_by
-        (list_bytes (part_of part.entry)) rows.now ≤ 8 * length part.entry.bytes.now) }
+        (list_bytes (part_of part.entry)) rows.now ≤ read_share * length part.entry.bytes.now) }
     ensures exact { Gives IndexRefusal.NoMemory
         (λ lists. lists.items) result (lists_at (part_of part.entry) rows.now) }
 {
@@ -150,7 +150,7 @@ pub(crate) fn whole_lent<'a>(
     part: IndexPart<'_>,
 ) -> Result<List<LentSeries<'a>>, IndexRefusal>
     requires { part.begin + length part.bytes.now < 2 ^ 64 }
-    ensures bounded { IfOk result (λ list. sum_by members_of list ≤ 8 * length index.now) }
+    ensures bounded { IfOk result (λ list. sum_by members_of list ≤ read_share * length index.now) }
     ensures texts { IfOk result (λ list. sum_by text_bytes list ≤ text_share * length index.now) }
     ensures exact { (symbols_size rows_size : ℕ) → Gives IndexRefusal.NoMemory
         (λ list. list) result
@@ -196,7 +196,7 @@ pub(crate) fn whole(
     part: IndexPart<'_>,
 ) -> Result<IndexSeriesList, IndexRefusal>
     requires { part.begin + length part.bytes.now < 2 ^ 64 }
-    ensures bounded { IfOk result (λ list. sum_by members_of list ≤ 8 * length index.now) }
+    ensures bounded { IfOk result (λ list. sum_by members_of list ≤ read_share * length index.now) }
     ensures texts { IfOk result (λ list. sum_by text_bytes list ≤ text_share * length index.now) }
     ensures exact { (symbols_size rows_size : ℕ) → Gives IndexRefusal.NoMemory
         (λ list. list) result

@@ -16,14 +16,14 @@ use Rattle.index_writing.specs.SymbolsInUse.{texts_of_labels, texts_of, symbols_
 use Rattle.list_core.proofs.Membership.{contains_first, contains_later, no_member, member_cases, each_member, all_members, into_flat_map, into_in_order}
 use Rattle.list_core.proofs.Order.{order_from_sorted, Less-at_places}
 use Rattle.index_writing.proofs.SortedTexts.{symbols_strict}
-use Rattle.list_core.proofs.Bools.{bytes_eq-same}
+use Rattle.list_core.proofs.Bools.{same_texts}
 use Rattle.list_core.specs.Order.{ComesAfter}
 
 -- ---- symbols in use
 
 pub symbol_in : (list : List IndexSeries) (text : List ℕ) → Contains (texts_of list) text → Contains (symbols_of list) text
 unfolding symbols_of
-symbol_in _ _ h = Contains-dedup nat_list_eq_equiv bytes_eq-same _ _ (into_in_order is_lesser_text _ _ h)
+symbol_in _ _ h = Contains-dedup nat_list_eq_equiv same_texts _ _ (into_in_order is_lesser_text _ _ h)
 
 in_labels : (labels : List Label) (label : Label) → Contains labels label → Contains (texts_of_labels labels) label.name × Contains (texts_of_labels labels) label.value
 in_labels _ label h = (

@@ -9,12 +9,12 @@ use Rattle.reading_core.proofs.Binds.{ok_is}
 use Rattle.label_sets.specs.declared.label.Label.{Label}
 use Rattle.label_sets.specs.declared.label_refusal.LabelRefusal.{LabelRefusal}
 use Rattle.label_sets.specs.Labels.{ComesBefore, added}
-use Rattle.label_sets.proofs.LabelValues.{before_trans}
+use Rattle.label_sets.proofs.LabelValues.{before_trans, above_nothing}
 use Rattle.index_v2.specs.Budget.{label_bytes}
 use Rattle.index_v2.specs.SeriesLabels.{label_of, labels_of, unplaced, all_unplaced}
 use Rattle.index_v2.proofs.LabelReading.{label_parts, again, moved, one_more, none_more}
 use Rattle.index_v2.proofs.LabelsOwned.{AllBefore, some_bytes, no_value, placed_last}
-use Rattle.index_v2.proofs.LabelLaws.{above_nothing, labels_none}
+use Rattle.index_v2.proofs.LabelLaws.{labels_none}
 use Rattle.list_core.proofs.Lists.{some-from_long}
 
 -- ---- a label behind those of a set

@@ -16,7 +16,7 @@ use Rattle.index_slices.specs.Parts.{Part}
 use Rattle.index_file.specs.Opened.{Opened}
 use Rattle.index_v2.specs.declared.refusal.IndexRefusal.{IndexRefusal}
 use Rattle.index_v2.specs.Held.{Held, IsHeldOf}
-use Rattle.index_v2.specs.Budget.{list_bytes}
+use Rattle.index_v2.specs.Budget.{list_bytes, read_share}
 use Rattle.index_v2.specs.PostingsLists.{list_of}
 use Rattle.index_v2.specs.WholeReading.{lists_at}
 use Rattle.series_selection.specs.Selections.{decides}
@@ -57,7 +57,7 @@ ListsStand held rows = (opened : Opened) → IsHeldOf held opened → (row : Pos
 -- The numbers in the lists of these rows, and the bytes that the lists are said to take, come to eight at most for each byte of
 -- the part in which lists are read.
 abbrev pub IsWithinBudget : Part → List PostingsRow → Type 0
-IsWithinBudget part rows = (numbers : List ℕ) → numbers_at part rows ≡ Ok numbers → length numbers + sum_by (list_bytes part) rows ≤ 8 * length part.bytes
+IsWithinBudget part rows = (numbers : List ℕ) → numbers_at part rows ≡ Ok numbers → length numbers + sum_by (list_bytes part) rows ≤ read_share * length part.bytes
 
 -- The list of the row at a place was read behind other numbers, and what it costs was taken of what was left.
 pub record IsReadOn (held : Held) (place : ℕ) (before : List ℕ) (left : ℕ) (numbers : List ℕ) (rest : ℕ) : Type 0 where

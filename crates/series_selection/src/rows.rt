@@ -5,12 +5,13 @@ ghost use Rattle.std.specs.List.Sorted.{IsStrictlyIncreasing};
 ghost use Rattle.reading_core.specs.Reading.{Gives};
 ghost use Rattle.matchers.specs.ConditionSearches.{condition_asked};
 ghost use Rattle.matchers.specs.Selectors.{is_accepted};
+ghost use Rattle.index_v2.specs.Budget.{read_share};
 ghost use Rattle.index_v2.specs.PostingsLists.{is_row_of, list_of};
 ghost use Rattle.index_v2.specs.declared.refusal.IndexRefusal.TheVariants.{NoMemory as IsNoMemory};
 ghost use Rattle.series_selection.specs.Selections.{decides};
 ghost use Rattle.series_selection.specs.SelectionSteps.{numbers_at, ListsStand, IsWithinBudget, IsReadOn, IsDecidedBy};
 
-use index_v2::{IndexReader, IndexRefusal, spend};
+use index_v2::{IndexReader, IndexRefusal, READ_SHARE, spend};
 use label_sets::Text;
 use list_core::NoMemory;
 use matchers::{Condition, ConditionSearcher, Matcher};
@@ -47,13 +48,13 @@ pub(crate) struct Listed {
 fn none_listed(alloc: Global, index: &IndexReader<'_>) -> Listed
     ensures none { result.numbers.items ≡ [] }
     ensures one { result.is_one ≡ true }
-    ensures left { result.left ≡ min (8 * length index.now.lists.bytes) (2 ^ 64 - 1) }
-    ensures bound { result.left ≤ 8 * length index.now.lists.bytes }
+    ensures left { result.left ≡ min (read_share * length index.now.lists.bytes) (2 ^ 64 - 1) }
+    ensures bound { result.left ≤ read_share * length index.now.lists.bytes }
 {
     Listed {
         numbers: Vec::new(alloc),
         is_one: true,
-        left: index.lists_size().saturating_mul(8),
+        left: index.lists_size().saturating_mul(READ_SHARE),
     }
 }
 

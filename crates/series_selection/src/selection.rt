@@ -209,13 +209,13 @@ fn left_by_rows(
         (IsWithinBudget index.now.lists (filter (decides matcher.now) index.now.rows)) }
 {
     let (wanted, listed) = listed_by(alloc, index, matcher)?;
-    let others = ascending(listed)?;
+    let others = sorted_numbers(listed)?;
     Ok(kept_numbers(alloc, wanted, others.as_slice(), numbers.members())?)
 }
 
 /// The numbers of lists, ascending. Several lists are merged by the sort, which keeps what stands in order: thousands of short
 /// lists cost a logarithm so, and not one pass over what was merged for each.
-fn ascending(listed: Listed) -> Result<Vec<u64>, OutOfMemory>
+fn sorted_numbers(listed: Listed) -> Result<Vec<u64>, OutOfMemory>
     requires { listed.is_one ≡ true → IsStrictlyIncreasing listed.numbers.items }
     ensures rises { IfOk result (λ all. IsNonDecreasing all.items) }
     ensures same { IfOk result (λ all. IsPermutation listed.numbers.items all.items) }
