@@ -3,13 +3,14 @@ use Rattle.std.proofs.Common.{◌≡◌, ℕ, ◌+◌, ◌-◌, ◌*◌, ◌^◌
 use Rattle.std.specs.Prelude.{IsErrAnd}
 use Rattle.std.specs.List.{AllByRecursion, AllZip}
 use Rattle.std.proofs.lemmas.List.{take_more, drop_more, length-append, length-take-le, take-append-drop}
-use Rattle.list_core.proofs.Lists.{AllByRecursion-push, sum_by-push, joined-push}
+use Rattle.list_core.proofs.Lists.{sum_by-push, joined-push}
 use Rattle.list_core.proofs.Pairs.{AllZip-push}
 use Rattle.list_core.specs.Lists.{joined}
 use Rattle.reading_core.specs.Grammar.{IsBytes}
 use Rattle.label_sets.specs.declared.sample.Sample.{Sample}
 use Rattle.label_sets.specs.declared.series.Series.{Series}
 use Rattle.index_parts.specs.declared.chunk_place.ChunkPlace.{ChunkPlace}
+use Rattle.block_files.proofs.Blocks.{front_more}
 use Rattle.index_file.specs.declared.index_series.IndexSeries.{IndexSeries}
 use Rattle.reading_core.specs.Firsts.{each_at}
 use Rattle.block_content.specs.ContentReading.{chunk_at, chunk_bytes, chunks_at, series_bytes, series_of, list_of, fitted, refused_cause, refused_chunk, WalksSeries}
@@ -46,7 +47,7 @@ bytes_step segments i bytes more segment d lent far lt at le is are =
     let up = front segments i segment d lt at in
     record {
       few = let f = far.few in omega (arith, f, le, ap length is, sum_by-push length (take i segments) segment, ap (sum_by length) up);
-      are = subst (AllByRecursion IsBytes) (sym up) (AllByRecursion-push IsBytes (take i segments) segment far.are (subst IsBytes is are));
+      are = front_more IsBytes segments i segment d far.are lt at (subst IsBytes is are);
     }
 
 -- ---- the chunks of a series

@@ -1,9 +1,10 @@
 -- The files of a block as a meta lists them, one by one, and their names.
 use Rattle.std.proofs.Common.{◌≡◌, ℕ, ◌+◌, ◌<◌, ◌≤◌, List, [], ◌∷◌, ◌++◌, length, take, map, get_or, Result, Ok, Err, refl, sym, ap, subst, ◌∙◌, arith}
-use Rattle.std.specs.Prelude.{IfOk}
+use Rattle.std.specs.Prelude.{IfOk, OnOk}
 use Rattle.std.proofs.lemmas.List.{take_more, take_all, length-take-le, map-append}
 use Rattle.label_sets.specs.declared.label.Label.{Label}
 use Rattle.block_keys.specs.Blocks.{IsBlock}
+use Rattle.block_meta.specs.Bounds.{HasFittingNumbers}
 use Rattle.block_meta.specs.declared.meta.Meta.{Meta}
 use Rattle.block_meta.specs.MetaFields.{MetaFields, fields_of}
 use Rattle.block_files.specs.Built.{segment_objects, objects_of}
@@ -66,3 +67,11 @@ moved_block r u v same is = subst (λ (n : ℕ). IfOk r (IsBlock n)) same is
 pub moved_objects : {E : Type 0} (r : Result (List Object) E) (u v : ℕ) (s t : List (List ℕ)) (i j m n : List ℕ) → u ≡ v → s ≡ t → i ≡ j → m ≡ n → IfOk r (λ o. o ≡ objects_of u s i m) → IfOk r (λ o. o ≡ objects_of v t j n)
 moved_objects (Ok o) u v s t i j m n eu es ei em is = is ∙ ap (λ (x : ℕ). objects_of x s i m) eu ∙ ap (λ (x : List (List ℕ)). objects_of v x i m) es ∙ ap (λ (x : List ℕ). objects_of v t x m) ei ∙ ap (objects_of v t j) em
 moved_objects (Err e) u v s t i j m n eu es ei em is = tt
+
+-- the numbers of a meta stay as it is shipped
+pub moved_numbers : {A E : Type 0} (r : Result A E) (shipped meta : Meta) (segments : List (List ℕ)) (index : List ℕ) (external : List Label) → fields_of shipped ≡ shipped_meta meta segments index external → OnOk r (HasFittingNumbers (fields_of shipped)) → OnOk r (HasFittingNumbers (fields_of meta))
+unfolding shipped_meta
+moved_numbers (Ok a) shipped meta segments index external e fits =
+    let h : HasFittingNumbers (shipped_meta meta segments index external) = subst HasFittingNumbers e fits in
+    record { series = h.series; samples = h.samples; chunks = h.chunks; parents = h.parents }
+moved_numbers (Err why) shipped meta segments index external e fits = tt

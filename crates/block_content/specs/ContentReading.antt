@@ -19,7 +19,7 @@ use Rattle.index_file.specs.declared.index_series.IndexSeries.{IndexSeries}
 use Rattle.index_file.specs.IndexFile.{IsIndex}
 use Rattle.index_v2.specs.declared.refusal.IndexRefusal.{IndexRefusal}
 use Rattle.index_v2.specs.declared.refusal.IndexRefusal.TheVariants as index
-use Rattle.index_v2.specs.Budget.{members_of, text_bytes, text_share}
+use Rattle.index_v2.specs.Budget.{members_of, text_bytes, read_share, text_share}
 use Rattle.index_v2.specs.Held.{whole_file}
 use Rattle.index_v2.specs.Opening.{opened_at}
 use Rattle.index_v2.specs.WholeReading.{whole_at}
@@ -104,14 +104,14 @@ series_bytes segments indexed = sum_by (chunk_bytes segments) indexed.chunks
 -- byte of the segments.
 pub record AreFew (segments : List (List ℕ)) (indexed : List IndexSeries) (list : List Series) : Type 0 where
   pub each : AllZip (λ (one : IndexSeries) (series : Series). length series.samples ≤ 8 * series_bytes segments one) indexed list
-  pub together : sum_by (series_bytes segments) indexed ≤ 8 * sum_by length segments
+  pub together : sum_by (series_bytes segments) indexed ≤ read_share * sum_by length segments
 
 -- The chunks that the index names, each counted as often as it is named, have no more than eight bytes together for each byte of
 -- the segments.
 pub record NamesFew (files : BlockFiles) : Type 0 where
   pub indexed : List IndexSeries
   pub index_is : IsIndex files.index indexed
-  pub together : sum_by (series_bytes files.segments) indexed ≤ 8 * sum_by length files.segments
+  pub together : sum_by (series_bytes files.segments) indexed ≤ read_share * sum_by length files.segments
 
 -- ---- the chunks of the block
 
@@ -201,7 +201,7 @@ refused_order r = Repeated (fitted r.0)
 pub record ListsFew (index : List ℕ) (list : List IndexSeries) : Type 0 where
   pub series : 4 * length list ≤ length index
   pub each : All (λ (one : IndexSeries). 2 * length one.labels + 3 * length one.chunks ≤ length index) list
-  pub members : sum_by members_of list ≤ 8 * length index
+  pub members : sum_by members_of list ≤ read_share * length index
   pub texts : sum_by text_bytes list ≤ text_share * length index
 
 -- the times of the series that were read, and then the order of their chunks

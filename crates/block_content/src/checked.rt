@@ -19,9 +19,13 @@ pub struct Checked {
 }
 
 impl Checked {
-    ghost use Rattle.std.specs.Prelude.{◌≡◌, IfOk};
+    ghost use Rattle.std.specs.Prelude.{◌≡◌, IfOk, OnOk};
+    ghost use Rattle.std.specs.List.{AllByRecursion};
+    ghost use Rattle.reading_core.specs.Grammar.{IsBytes};
     ghost use Rattle.block_files.specs.Built.{objects_of};
     ghost use Rattle.block_keys.specs.Blocks.{IsBlock};
+    ghost use Rattle.block_meta.specs.Bounds.{HasFittingNumbers};
+    ghost use Rattle.block_meta.specs.MetaFields.{fields_of};
     ghost use Rattle.block_meta.specs.MetaValue.{meta_text};
     ghost use Rattle.block_content.specs.Checking.{HasPassed};
     ghost use Rattle.block_content.specs.Checked.{checked_files, checked_series, checked_samples};
@@ -80,6 +84,12 @@ impl Checked {
             (checked_files self).segments (checked_files self).index
             (meta_text (shipped_meta (checked_files self).meta
             (checked_files self).segments (checked_files self).index external.now))) }
+
+        // The files are bytes, as those of all blocks are, and the numbers of the meta fit.
+        ensures bytes { OnOk result (IsBytes (checked_files self).index
+            × AllByRecursion IsBytes (checked_files self).segments) }
+        ensures numbers { OnOk result
+            (HasFittingNumbers (fields_of (checked_files self).meta)) }
     {
         let files = shipped_files(alloc, self.files, external)?;
         files_objects(alloc, files)

@@ -9,6 +9,7 @@ ghost use Rattle.label_sets.specs.declared.series.Series.{Series};
 ghost use Rattle.label_sets.specs.Counts.{sample_count};
 ghost use Rattle.index_file.specs.declared.index_series.IndexSeries.{IndexSeries};
 ghost use Rattle.reading_core.specs.Firsts.{or_else, first_at};
+ghost use Rattle.index_v2.specs.Budget.{read_share};
 ghost use Rattle.block_content.specs.ContentReading.{index_at, chunk_bytes, series_bytes, list_of, first_time, first_outside, lies_within, LieBetween, MadeOfChunk, WalksChunks, WalksSeries};
 ghost use Rattle.block_content.specs.Verdict.{IsVerdict};
 ghost use Rattle.block_content.specs.Checking.{HasPassed};
@@ -308,7 +309,7 @@ fn count_block(
         ⊎ (check_at ulid meta.now index.now segments.now ≡ Err e)) }
     ensures few { IfOk result (λ counts. (indexed : List IndexSeries)
         × (index_at index.now ≡ Ok indexed)
-        × (sum_by (series_bytes segments.now) indexed ≤ 8 * sum_by length segments.now)) }
+        × (sum_by (series_bytes segments.now) indexed ≤ read_share * sum_by length segments.now)) }
     ensures bytes { IsBytes index.now × AllByRecursion IsBytes segments.now }
 {
     let budget = budget_of(segments);
@@ -331,7 +332,7 @@ fn count_indexed(
         (λ e. (e ≡ CheckRefusal.NoMemory)
         ⊎ (indexed_at ulid meta.now segments.now indexed.now ≡ Err e)) }
     ensures few { IfOk result (λ counts.
-        sum_by (series_bytes segments.now) indexed.now ≤ 8 * sum_by length segments.now) }
+        sum_by (series_bytes segments.now) indexed.now ≤ read_share * sum_by length segments.now) }
     ensures bytes { AllByRecursion IsBytes segments.now }
 {
     let budget = budget_of(segments);

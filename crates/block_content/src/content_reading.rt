@@ -10,6 +10,7 @@ ghost use Rattle.label_sets.specs.declared.series.Series.{Series};
 ghost use Rattle.label_sets.specs.Times.{is_within};
 ghost use Rattle.index_file.specs.declared.index_series.IndexSeries.{IndexSeries};
 ghost use Rattle.index_file.specs.IndexFile.{IsIndex};
+ghost use Rattle.index_v2.specs.Budget.{read_share};
 ghost use Rattle.reading_core.specs.Firsts.{first_at};
 ghost use Rattle.block_content.specs.Content.{IsContent};
 ghost use Rattle.block_content.specs.ContentRefusals.{RefusesContent};
@@ -20,7 +21,7 @@ use crate::chunk_reading::{append_chunk, refused_chunk};
 use block_files::BlockFiles;
 use block_meta::Meta;
 use index_parts::ChunkPlace;
-use index_v2::{IndexReader, IndexRefusal, IndexSeries, IndexSeriesList, LentSeries};
+use index_v2::{IndexReader, IndexRefusal, IndexSeries, IndexSeriesList, LentSeries, READ_SHARE};
 use label_sets::{Sample, Series, SeriesList, is_within};
 use list_core::List;
 use std::alloc::Global;
@@ -36,6 +37,16 @@ fn whole_index(alloc: Global, index: &[u8]) -> Result<IndexSeriesList, IndexRefu
     reader.whole(alloc)
 }
 
+/// An index' refusal, as the block's.
+fn refused_index(refusal: IndexRefusal) -> CheckRefusal
+    ensures { result ≡ refused_index refusal }
+{
+    match refusal {
+        IndexRefusal::NoMemory => CheckRefusal::NoMemory,
+        refusal => CheckRefusal::BadIndex(refusal),
+    }
+}
+
 /// The series of an index, with a refusal as the block's.
 pub fn read_index(alloc: Global, index: &[u8]) -> Result<IndexSeriesList, CheckRefusal>
     ensures exact { Gives CheckRefusal.NoMemory
@@ -45,8 +56,7 @@ pub fn read_index(alloc: Global, index: &[u8]) -> Result<IndexSeriesList, CheckR
 {
     match whole_index(alloc, index) {
         Ok(list) => Ok(list),
-        Err(IndexRefusal::NoMemory) => Err(CheckRefusal::NoMemory),
-        Err(refusal) => Err(CheckRefusal::BadIndex(refusal)),
+        Err(refusal) => Err(refused_index(refusal)),
     }
 }
 
@@ -69,8 +79,7 @@ pub(crate) fn read_lent(alloc: Global, index: &[u8]) -> Result<List<LentSeries<'
 {
     match lent_index(alloc, index) {
         Ok(list) => Ok(list),
-        Err(IndexRefusal::NoMemory) => Err(CheckRefusal::NoMemory),
-        Err(refusal) => Err(CheckRefusal::BadIndex(refusal)),
+        Err(refusal) => Err(refused_index(refusal)),
     }
 }
 
@@ -84,14 +93,14 @@ fn length_of(segment: &[u8]) -> usize
 /// How many bytes of chunks are read at most: eight for each byte of the segments. Where no two places name one chunk, as in
 /// each block that a server writes, these come to less than the segments. Places of a hostile index may all name one chunk.
 pub(crate) fn budget_of(segments: &[Blob]) -> usize
-    ensures bound { result ≤ 8 * sum_by length segments.now }
+    ensures bound { result ≤ read_share * sum_by length segments.now }
     ensures bytes { AllByRecursion IsBytes segments.now }
 {
     let mut bytes = 0usize;
     for segment in segments {
         bytes = bytes.saturating_add(length_of(segment.bytes()));
     }
-    bytes.saturating_mul(8)
+    bytes.saturating_mul(READ_SHARE)
 }
 
 /// The samples of a series' chunks one after another, and what is left of the budget.

@@ -1,5 +1,7 @@
 //! The files of a checked block as they are shipped.
 ghost use Rattle.std.specs.Prelude.{◌≡◌, ◌++◌, ◌≤◌, ℕ, List, [], ◌∷◌, length, map, take, IfOk, OnOk};
+ghost use Rattle.std.specs.List.{AllByRecursion};
+ghost use Rattle.reading_core.specs.Grammar.{IsBytes};
 ghost use Rattle.block_files.specs.Built.{segment_objects};
 ghost use Rattle.block_files.specs.declared.block_files.BlockFiles.{BlockFiles};
 ghost use Rattle.block_keys.specs.Keys.{IsLawfulKey, key_number, segment_limit};
@@ -36,13 +38,15 @@ fn name_within(alloc: Global, key: Key) -> Result<Text, NoMemory>
 }
 
 /// A file of a block as a meta lists it.
-fn size_of(alloc: Global, key: Key, bytes: &Blob) -> Result<FileSize, NoMemory>
+fn size_of(alloc: Global, key: Key, bytes: &[u8]) -> Result<FileSize, NoMemory>
     requires { IsLawfulKey key }
-    ensures { IfOk result (λ size. size ≡ size_of (record { key = key; bytes = bytes.now })) }
+    ensures size { IfOk result (λ size. size
+        ≡ size_of (record { key = key; bytes = bytes.now })) }
+    ensures bytes { IsBytes bytes.now }
 {
     Ok(FileSize {
         path: name_within(alloc, key)?,
-        bytes: bytes.bytes().len() as u64,
+        bytes: bytes.len() as u64,
     })
 }
 
@@ -55,13 +59,15 @@ fn sizes_of(
     index: &Blob,
 ) -> Result<FileSizeList, NoMemory>
     requires { length segments.now ≤ segment_limit }
-    ensures { IfOk result (λ sizes. sizes ≡ sizes_of ulid segments.now index.now) }
+    ensures sizes { IfOk result (λ sizes. sizes ≡ sizes_of ulid segments.now index.now) }
+    ensures bytes { OnOk result (IsBytes index.now × AllByRecursion IsBytes segments.now) }
 {
     let mut sizes = FileSizeList::new(alloc);
     for (place, segment) in segments.iter().enumerate() {
-        sizes.push(size_of(alloc, Key::Segment(ulid, place as u32 + 1), segment)?)?;
+        let key = Key::Segment(ulid, place as u32 + 1);
+        sizes.push(size_of(alloc, key, segment.bytes())?)?;
     }
-    sizes.push(size_of(alloc, Key::Index(ulid), index)?)?;
+    sizes.push(size_of(alloc, Key::Index(ulid), index.bytes())?)?;
     Ok(sizes)
 }
 
@@ -97,8 +103,9 @@ fn shipped_meta(
     external: &LabelSet,
 ) -> Result<Meta, NoMemory>
     requires { length segments.now ≤ segment_limit }
-    ensures { IfOk result (λ shipped. fields_of shipped
+    ensures meta { IfOk result (λ shipped. fields_of shipped
         ≡ shipped_meta meta segments.now index.now external.now) }
+    ensures bytes { OnOk result (IsBytes index.now × AllByRecursion IsBytes segments.now) }
 {
     let files = sizes_of(alloc, meta.ulid, segments, index)?;
     let segment_files = names_of(alloc, meta.ulid, segments)?;
@@ -130,6 +137,7 @@ pub(crate) fn shipped_files(
         ≡ shipped_meta files.meta files.segments files.index external.now) }
     ensures index { IfOk result (λ shipped. shipped.index ≡ files.index) }
     ensures segments { IfOk result (λ shipped. shipped.segments ≡ files.segments) }
+    ensures bytes { OnOk result (IsBytes files.index × AllByRecursion IsBytes files.segments) }
 {
     let BlockFiles {
         meta,

@@ -5,6 +5,7 @@ ghost use Rattle.std.specs.Result.{IsOkAnd};
 ghost use Rattle.reading_core.specs.Grammar.{IsBytes};
 ghost use Rattle.label_sets.specs.declared.series.Series.{Series};
 ghost use Rattle.index_file.specs.IndexFile.{IsIndex};
+ghost use Rattle.index_v2.specs.Budget.{read_share};
 ghost use Rattle.block_content.specs.Content.{IsContent};
 ghost use Rattle.block_content.specs.ContentRefusals.{RefusesContent};
 ghost use Rattle.block_content.specs.CheckReading.{IsTested};
@@ -28,7 +29,7 @@ fn test_files<'a>(
 ) -> Result<List<LentSeries<'a>>, CheckRefusal>
     ensures exact { IsTested meta.now index.now segments.now result }
     ensures few { IfOk result (λ indexed. ListsFew index.now indexed
-        × (sum_by (series_bytes segments.now) indexed ≤ 8 * sum_by length segments.now)) }
+        × (sum_by (series_bytes segments.now) indexed ≤ read_share * sum_by length segments.now)) }
     ensures bytes { IsBytes index.now × AllByRecursion IsBytes segments.now }
 {
     let budget = budget_of(segments);
@@ -51,7 +52,7 @@ pub fn test_content(alloc: Global, files: &BlockFiles) -> Result<List<LentSeries
         → (result ≡ Err refusal) ⊎ (result ≡ Err CheckRefusal.NoMemory) }
     ensures few { IfOk result (λ indexed. ListsFew files.now.index indexed
         × (sum_by (series_bytes files.now.segments) indexed
-        ≤ 8 * sum_by length files.now.segments)) }
+        ≤ read_share * sum_by length files.now.segments)) }
     ensures bytes { IsBytes files.now.index }
 {
     test_files(

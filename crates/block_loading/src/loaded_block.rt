@@ -19,6 +19,7 @@ pub struct LoadedBlock {
     ulid: Ulid,
     pub(crate) files: BlockFiles,
     indexed: IndexSeriesList,
+    ghost bytes: { IsBytes files.index },
     ghost read: { index_at files.index ≡ Ok indexed },
 }
 
@@ -84,17 +85,9 @@ impl LoadedBlock {
             files,
             indexed,
         } = self;
-        are_bytes(files.index.bytes());
         match check_indexed(alloc, ulid, files, &indexed) {
             Ok(checked) => Ok(checked),
             Err(refusal) => Err(refused_block(refusal)),
         }
     }
-}
-
-/// The bytes of a file are bytes.
-fn are_bytes(bytes: &[u8])
-    ensures { IsBytes bytes.now }
-{
-    let _bytes = bytes;
 }

@@ -11,7 +11,7 @@ use Rattle.std.proofs.lemmas.Map.Keys.{sorted_head, sorted_tail}
 use Rattle.list_core.proofs.Bools.{by_bool}
 use Rattle.list_core.proofs.Lists.{filter_hit, filter_miss, filter_all, filter_none}
 use Rattle.list_core.proofs.Order.{sorted_nil, sorted_append}
-use Rattle.list_core.proofs.Membership.{no_member, contains_first, contains_later, each_member, all_members, any_of_member, member_of_any, into_filter, of_filter, of_map, into_map, of_flat_map, into_flat_map}
+use Rattle.list_core.proofs.Membership.{no_member, contains_first, contains_later, each_member, all_members, any_of_member, member_of_any, into_filter, of_filter, of_map, into_map, of_flat_map, into_flat_map, some_member}
 use Rattle.list_core.proofs.Pairs.{AllZip-append}
 use Rattle.list_core.specs.Lists.{joined}
 use Rattle.reading_core.specs.Grammar.{IsBytes}
@@ -45,7 +45,6 @@ use Rattle.block_merging.proofs.Firsts.{find_filter}
 use Rattle.block_merging.proofs.StoredInputs.{index_once, data_there}
 use Rattle.block_merging.proofs.SameLists.{zip_back, zip_member}
 use Rattle.block_merging.proofs.FirstOfSeries.{series_first}
-use Rattle.block_merging.proofs.OneCut.{some_member}
 
 -- ---- what is given under labels
 

@@ -6,7 +6,7 @@ use Rattle.std.proofs.lemmas.Int.{ints}
 use Rattle.std.proofs.lemmas.Bool.{and_parts, true≢false, not_from_false}
 use Rattle.std.proofs.lemmas.List.Elements.{All-contains}
 use Rattle.list_core.proofs.Bools.{by_bool, not_negated}
-use Rattle.list_core.proofs.Membership.{no_member, contains_first, contains_later, member_cases, of_filter, into_filter, member_passes}
+use Rattle.list_core.proofs.Membership.{no_member, contains_first, contains_later, member_cases, of_filter, into_filter, member_passes, some_member}
 use Rattle.block_writing.specs.Put.{PutChunk}
 use Rattle.block_merging.specs.Runs.{Meet, AreConnected, Span, lies_in, AreRuns}
 use Rattle.block_merging.proofs.Chains.{any_of, member_of}
@@ -74,10 +74,6 @@ pub record IsCut (chunks : List PutChunk) (spans : List Span) : Type 0 where
   pub covered : (c : PutChunk) → Contains chunks c → Any (λ span. lies_in span c ≡ true) spans
   pub apart : AreApart spans
   pub connected : AllByRecursion AreConnected (map (run_in chunks) spans)
-
-pub some_member : (xs : List PutChunk) → xs ≢ [] → (x : PutChunk) × Contains xs x
-some_member [] some = absurd (some refl)
-some_member (x ∷ xs) some = (x, contains_first x xs)
 
 -- connected chunks, one of which lies in a span, all do
 all_in : (chunks : List PutChunk) (spans : List Span) (s : Span) (run : List PutChunk) (a x : PutChunk) → IsCut chunks spans → Contains spans s → AreConnected run → ((y : PutChunk) → Contains run y → Contains chunks y)

@@ -10,7 +10,7 @@ use Rattle.std.proofs.lemmas.List.Elements.{All-contains, All-contains_itself, C
 use Rattle.std.proofs.lemmas.Map.Keys.{sorted_head, sorted_tail}
 use Rattle.list_core.proofs.Lists.{find_holds}
 use Rattle.list_core.proofs.Order.{sorted_nil, sorted_cons}
-use Rattle.list_core.proofs.Membership.{contains_first, each_member, all_members, of_map, into_map}
+use Rattle.list_core.proofs.Membership.{each_member, all_members, of_map, into_map, some_member}
 use Rattle.label_sets.specs.declared.label.Label.{Label}
 use Rattle.label_sets.specs.declared.sample.Sample.{Sample}
 use Rattle.label_sets.specs.declared.series.Series.{Series}
@@ -43,22 +43,18 @@ in_second : (k l : Series) (ks : List Series) (s : Sample) → Contains l.sample
 unfolding triples_of
 in_second k l ks s among = Contains-append_right (triples_under k.labels k.samples) (triples_of (l ∷ ks)) (triple_of l.labels s) (in_first l ks s among)
 
-some_sample : (samples : List Sample) → samples ≢ [] → (s : Sample) × Contains samples s
-some_sample [] some = absurd (some refl)
-some_sample (s ∷ ss) some = (s, contains_first s ss)
-
 pub first_labels : (labels : List Label) (samples : List Sample) (k : Series) (ks : List Series) → IsMerge (triples_under labels samples) (k ∷ ks) → k.labels ≡ labels
 first_labels labels samples k ks is =
-    let s = some_sample k.samples (is.inhabited 0 k (omega arith)) in
+    let s = some_member k.samples (is.inhabited 0 k (omega arith)) in
     under labels samples (triple_of k.labels s.0) (taken (triples_under labels samples) (triples_of (k ∷ ks)) (triple_of k.labels s.0) is.first (in_first k ks s.0 s.1))
 
 second_labels : (labels : List Label) (samples : List Sample) (k l : Series) (ks : List Series) → IsMerge (triples_under labels samples) (k ∷ l ∷ ks) → l.labels ≡ labels
 second_labels labels samples k l ks is =
-    let s = some_sample l.samples (is.inhabited 1 l (omega arith)) in
+    let s = some_member l.samples (is.inhabited 1 l (omega arith)) in
     under labels samples (triple_of l.labels s.0) (taken (triples_under labels samples) (triples_of (k ∷ l ∷ ks)) (triple_of l.labels s.0) is.first (in_second k l ks s.0 s.1))
 
 some_under : (labels : List Label) (samples : List Sample) → samples ≢ [] → (t : Triple) × Contains (triples_under labels samples) t
-some_under labels samples some = let s = some_sample samples some in (triple_of labels s.0, into_under labels samples s.0 s.1)
+some_under labels samples some = let s = some_member samples some in (triple_of labels s.0, into_under labels samples s.0 s.1)
 
 none_of : (t : Triple) → list_any (has_same_key t) (triples_of []) ≡ false
 unfolding triples_of

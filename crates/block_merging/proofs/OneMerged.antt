@@ -4,7 +4,7 @@ use Rattle.std.specs.Prelude.{Contains}
 use Rattle.std.specs.List.{AllByRecursion, AllZip, filter, flat_map}
 use Rattle.std.specs.declared.cmp.Ordering.{Ordering}
 use Rattle.list_core.proofs.Order.{sorted_unmap}
-use Rattle.list_core.proofs.Membership.{no_member, each_member, of_map, of_filter, member_passes, of_flat_map}
+use Rattle.list_core.proofs.Membership.{no_member, each_member, of_map, of_filter, member_passes, of_flat_map, some_member}
 use Rattle.list_core.proofs.SameMembers.{same_ascending}
 use Rattle.reading_core.specs.Grammar.{IsBytes}
 use Rattle.label_sets.specs.declared.label.Label.{Label}
@@ -31,7 +31,7 @@ use Rattle.block_merging.specs.MergedSeries.{AreMerged, Becomes, IsMergedSeries}
 use Rattle.block_merging.specs.MergedBlock.{has_labels, chunks_under, AreMerges, IsMergedPut}
 use Rattle.block_merging.proofs.Grouping.{same_labels}
 use Rattle.block_merging.proofs.OneMerge.{first_labels, one_triples}
-use Rattle.block_merging.proofs.OneCut.{IsTimed, runs_once, some_member}
+use Rattle.block_merging.proofs.OneCut.{IsTimed, runs_once}
 use Rattle.block_merging.proofs.SameLists.{each_once}
 use Rattle.block_merging.proofs.StoredInputs.{index_once, taken_stored}
 

@@ -1,4 +1,4 @@
-ghost use Rattle.std.specs.Prelude.{◌≡◌, Ok, IfOk, OnOk};
+ghost use Rattle.std.specs.Prelude.{◌≡◌, Ok, All, IfOk, OnOk};
 ghost use Rattle.std.specs.List.Sorted.{IsStrictlyIncreasing};
 ghost use Rattle.reading_core.specs.Reading.{Gives};
 ghost use Rattle.serde_json.specs.View.{view};
@@ -6,6 +6,7 @@ ghost use Rattle.block_meta.specs.declared.refusal.MetaRefusal.TheVariants.{NoMe
 ghost use Rattle.block_meta.specs.MetaReading.{compaction_of, compaction_members_of, level_of};
 ghost use Rattle.block_meta.specs.MetaValue.{compaction_value};
 ghost use Rattle.block_meta.specs.Lawful.{ascending};
+ghost use Rattle.block_meta.specs.Bounds.{FitsParent};
 
 use crate::item::{read_list, write_list};
 use crate::json_values::{as_unsigned, missing, needed_member, section, wrong_kind};
@@ -77,6 +78,7 @@ pub(crate) fn write_compaction(
     ensures again { OnOk result
         (compaction_members_of (compaction_value level sources.now parents.now)
         ≡ Ok (record { level = level; sources = ascending sources.now; parents = parents.now })) }
+    ensures fit { OnOk result (All FitsParent parents.now) }
 {
     let mut members = Map::new(alloc);
     put(&mut members, alloc, "level", Value::from(level))?;

@@ -1,4 +1,4 @@
-ghost use Rattle.std.specs.Prelude.{◌≡◌};
+ghost use Rattle.std.specs.Prelude.{◌≡◌, ◌<◌, ◌^◌};
 
 use crate::MetaRefusal;
 use crate::item::Item;
@@ -35,6 +35,8 @@ impl Item for FileSize {
     ghost reads = { file_of };
 
     ghost written = { file_value };
+
+    ghost fits = { λ file. file.bytes < 2 ^ 64 };
 
     #[tactic(auto, unfolding(crate::specs::MetaReading::file_of, crate::specs::Members::of_kind))]
     fn read(alloc: Global, value: &Value, list: &str) -> Result<Self, MetaRefusal> {

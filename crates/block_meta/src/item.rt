@@ -27,6 +27,9 @@ pub(crate) trait Item: Drop {
 
     ghost written: { Self → Data };
 
+    /// Holds of each item of the type: its numbers fit.
+    ghost fits: { Self → Type 0 };
+
     /// Reads an item of the list of this name.
     fn read(alloc: Global, value: &Value, list: &str) -> Result<Self, MetaRefusal>
         ensures { Gives NoMemory (λ x. x) result (reads list.now (view value.now)) };
@@ -35,7 +38,8 @@ pub(crate) trait Item: Drop {
     fn write(&self, alloc: Global) -> Result<Value, AllocError>
         ensures value { IfOk result (λ v. view v ≡ written self.now) }
         ensures again { OnOk result ((list : List ℕ)
-            → reads list (written self.now) ≡ Ok self.now) };
+            → reads list (written self.now) ≡ Ok self.now) }
+        ensures fits { OnOk result (fits self.now) };
 }
 
 /// The list of that name, empty where it is absent.
@@ -73,6 +77,7 @@ pub(crate) fn write_list<T: Item>(alloc: Global, list: &List<T>) -> Result<Value
     ensures value { IfOk result (λ v. view v ≡ array (items_value T.written list.now)) }
     ensures again { OnOk result ((name : List ℕ)
         → each (T.reads name) (items_value T.written list.now) ≡ Ok list.now) }
+    ensures fits { OnOk result (All T.fits list.now) }
 {
     Ok(Value::Array(write_items(alloc, list.members())?))
 }
@@ -81,6 +86,7 @@ fn write_items<T: Item>(alloc: Global, items: &[T]) -> Result<Vec<Value>, AllocE
     ensures value { IfOk result (λ made. items_view made.items ≡ items_value T.written items.now) }
     ensures again { OnOk result (All (λ x. (name : List ℕ) → T.reads name (T.written x) ≡ Ok x)
         items.now) }
+    ensures fits { OnOk result (All T.fits items.now) }
 {
     let mut made = Vec::new(alloc);
     for item in items {

@@ -51,7 +51,7 @@ impl Meta {
     ghost use Rattle.reading_core.specs.Reading.{Gives};
     ghost use Rattle.serde_json.specs.View.{view};
     ghost use Rattle.block_meta.specs.declared.refusal.MetaRefusal.TheVariants.{NoMemory as WithoutMemory};
-    ghost use Rattle.block_meta.specs.Bounds.{HasFew};
+    ghost use Rattle.block_meta.specs.Bounds.{HasFew, HasFittingNumbers};
     ghost use Rattle.block_meta.specs.MetaFields.{MetaFields, fields_of};
     ghost use Rattle.block_meta.specs.MetaReading.{meta_of, meta_of_text, labels_from};
     ghost use Rattle.block_meta.specs.MetaText.{IsMetaText};
@@ -113,6 +113,7 @@ impl Meta {
             ≡ Ok (fields_of self.now)) }
         ensures lawful { OnOk result
             (IsMetaText (meta_text (fields_of self.now)) (fields_of self.now)) }
+        ensures numbers { OnOk result (HasFittingNumbers (fields_of self.now)) }
     {
         let value = self.to_value(alloc)?;
         Ok(Blob::from_vec(value.to_vec(alloc)?))
@@ -123,6 +124,7 @@ impl Meta {
         ensures value { IfOk result (λ v. view v ≡ meta_value (fields_of self.now)) }
         ensures again { OnOk result (meta_of (meta_value (fields_of self.now))
             ≡ Ok (fields_of self.now)) }
+        ensures numbers { OnOk result (HasFittingNumbers (fields_of self.now)) }
     {
         let mut meta = Map::new(alloc);
         let compaction = write_compaction(alloc, self.level, &self.sources, &self.parents)?;

@@ -27,12 +27,15 @@ impl TryCopy for Parent {
 pub type ParentList = List<Parent>;
 
 impl Item for Parent {
+    ghost use Rattle.block_meta.specs.Bounds.{FitsParent};
     ghost use Rattle.block_meta.specs.MetaReading.{parent_of};
     ghost use Rattle.block_meta.specs.MetaValue.{parent_value};
 
     ghost reads = { parent_of };
 
     ghost written = { parent_value };
+
+    ghost fits = { FitsParent };
 
     #[tactic(auto, unfolding(crate::specs::MetaReading::parent_of, crate::specs::Members::of_kind))]
     fn read(alloc: Global, value: &Value, list: &str) -> Result<Self, MetaRefusal> {

@@ -1,4 +1,4 @@
-ghost use Rattle.std.specs.Prelude.{◌≡◌, IfOk, OnOk};
+ghost use Rattle.std.specs.Prelude.{◌≡◌, ◌<◌, ◌^◌, IfOk, OnOk};
 ghost use Rattle.std.specs.List.Sorted.{IsStrictlyIncreasing};
 ghost use Rattle.reading_core.specs.Reading.{Gives};
 ghost use Rattle.serde_json.specs.View.{view};
@@ -24,6 +24,8 @@ impl Item for Ulid {
 
     ghost written = { ulid_value };
 
+    ghost fits = { λ ulid. ulid < 2 ^ 128 };
+
     fn read(alloc: Global, value: &Value, list: &str) -> Result<Self, MetaRefusal> {
         ulid(alloc, value, list)
     }
@@ -42,11 +44,11 @@ pub(crate) fn read_sources(alloc: Global, compaction: &Value) -> Result<UlidList
     ensures increasing { IfOk result (λ sources. IsStrictlyIncreasing sources) }
 {
     let listed: UlidList = read_list(alloc, compaction, "sources")?;
-    Ok(in_order(alloc, listed.members())?)
+    Ok(ascending(alloc, listed.members())?)
 }
 
 /// The ULIDs ascending, each once.
-fn in_order(alloc: Global, listed: &[Ulid]) -> Result<UlidList, NoMemory>
+fn ascending(alloc: Global, listed: &[Ulid]) -> Result<UlidList, NoMemory>
     ensures value { IfOk result (λ made. made ≡ ascending listed.now) }
     ensures increasing { IfOk result (λ made. IsStrictlyIncreasing made) }
 {

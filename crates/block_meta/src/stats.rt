@@ -1,4 +1,4 @@
-ghost use Rattle.std.specs.Prelude.{◌≡◌, IfOk};
+ghost use Rattle.std.specs.Prelude.{◌≡◌, ◌<◌, ◌^◌, IfOk};
 ghost use Rattle.reading_core.specs.Reading.{Gives};
 ghost use Rattle.serde_json.specs.View.{view};
 ghost use Rattle.block_meta.specs.declared.refusal.MetaRefusal.TheVariants.{NoMemory};
@@ -48,7 +48,8 @@ pub(crate) fn write_stats(
     samples: u64,
     chunks: u64,
 ) -> Result<Value, AllocError>
-    ensures { IfOk result (λ v. view v ≡ stats_value series samples chunks) }
+    ensures value { IfOk result (λ v. view v ≡ stats_value series samples chunks) }
+    ensures fit { (series < 2 ^ 64) × (samples < 2 ^ 64) × (chunks < 2 ^ 64) }
 {
     let mut stats = Map::new(alloc);
     put(&mut stats, alloc, "numChunks", Value::from(chunks))?;

@@ -1,4 +1,4 @@
-ghost use Rattle.std.specs.Prelude.{◌≡◌, [], codes, Ok, MatchResult, IfOk, OnOk};
+ghost use Rattle.std.specs.Prelude.{◌≡◌, ⊤, [], codes, Ok, MatchResult, IfOk, OnOk};
 ghost use Rattle.reading_core.specs.Reading.{Gives, Answers};
 ghost use Rattle.serde_json.specs.Data.{string, object};
 ghost use Rattle.serde_json.specs.View.{view, members_view};
@@ -70,6 +70,8 @@ impl Item for Text {
     ghost reads = { text_of };
 
     ghost written = { string };
+
+    ghost fits = { λ _. ⊤ };
 
     fn read(alloc: Global, value: &Value, list: &str) -> Result<Self, MetaRefusal> {
         text(alloc, value, list)

@@ -12,7 +12,7 @@ use Rattle.label_sets.specs.Times.{times_of}
 use Rattle.wire_bits.specs.Bits.{bits_of}
 use Rattle.xor_chunks.specs.State.{State}
 use Rattle.xor_chunks.specs.Window.{Window}
-use Rattle.xor_chunks.specs.Grammar.{IsChange, unchanged, row_14, row_17, row_20, row_64, IsWithin, IsValue, same_pattern, in_window, opens, AreOthers, AreRest, AreSamples, IsText}
+use Rattle.xor_chunks.specs.Grammar.{IsChange, unchanged, row_14, row_17, row_20, row_64, IsInWindow, IsValue, same_pattern, in_window, opens, AreOthers, AreRest, AreSamples, IsText}
 use Rattle.wire_bits.proofs.BitLists.{length-bits_of, length-bits_in}
 use Rattle.chunk_files.specs.Layout.{header_size, greatest, xor}
 use Rattle.chunk_files.specs.Chunk.{frame_text}
@@ -20,7 +20,7 @@ use Rattle.block_writing.specs.Put.{PlanFields, PutChunk, IsStored}
 
 -- ---- how long data are
 
-within_short : (window : Window) (before : ℕ) (text : List Bool) (pattern : ℕ) → IsWithin window before text pattern → length text ≤ 64
+within_short : (window : Window) (before : ℕ) (text : List Bool) (pattern : ℕ) → IsInWindow window before text pattern → length text ≤ 64
 within_short window before text pattern h = omega (arith, ap length h.text, length-bits_of window.width h.field, h.inside)
 
 change_short : (text : List Bool) (z : ℤ) → IsChange text z → length text ≤ 68

@@ -1,4 +1,6 @@
 ghost use Rattle.std.specs.Prelude.{◌≡◌, ◌≢◌, ◌⊎◌, [], ◌∷◌, List, length, Err, IfOk, IfSome, OnOk, OnErr};
+ghost use Rattle.std.specs.List.{AllByRecursion};
+ghost use Rattle.reading_core.specs.Grammar.{IsBytes};
 ghost use Rattle.label_sets.specs.declared.sample.Sample.{Sample};
 ghost use Rattle.wire_bytes.specs.Crc.{crc};
 ghost use Rattle.xor_chunks.specs.Grammar.{IsText};
@@ -52,11 +54,12 @@ impl Model for BlockWriter {
 
 /// How many samples chunk data say that they have.
 fn count_of(bytes: &[u8]) -> u16
+    requires { (samples : List Sample) × IsText stored_filling bytes.now samples }
     ensures { (samples : List Sample) → IsText stored_filling bytes.now samples
         → result ≡ length samples }
 {
     let mut cursor = Cursor::new(bytes);
-    cursor.take_u16().unwrap_or(0)
+    cursor.take_u16().unwrap()
 }
 
 impl BlockWriter {
@@ -166,6 +169,10 @@ impl BlockWriter {
     pub fn finish(self) -> Result<BlockFiles, BuildRefusal>
         requires { self.chunks ≡ [] }
         ensures written { IfOk result (IsWritten self) }
+
+        // The files are bytes, as all files are.
+        ensures bytes { IfOk result (λ files. IsBytes files.index
+            × AllByRecursion IsBytes files.segments) }
 
         // The index is too large exactly where the one of these series passes its greatest length, unless memory ran out.
         ensures too_large { result ≡ Err BuildRefusal.TooLarge → HaveNoIndex self.series }

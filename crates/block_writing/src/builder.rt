@@ -1,5 +1,6 @@
 ghost use Rattle.std.specs.Prelude.{◌≡◌, ◌⊎◌, ◌^◌, ◌<◌, [], length, Err, IfOk, OnOk};
 ghost use Rattle.std.specs.List.{AllByRecursion};
+ghost use Rattle.reading_core.specs.Grammar.{IsBytes};
 ghost use Rattle.label_sets.specs.Times.{IsWithin};
 ghost use Rattle.block_meta.specs.Lawful.{AreLawfulTimes};
 ghost use Rattle.xor_chunks.specs.Written.{AreOfChunk};
@@ -70,6 +71,8 @@ pub fn build(
 ) -> Result<BlockFiles, BuildRefusal>
     requires { AreBuildable (plan_fields plan.now) series.now }
     ensures built { IfOk result (IsBuilt plan.now series.now) }
+    ensures bytes { IfOk result (λ files. IsBytes files.index
+        × AllByRecursion IsBytes files.segments) }
 
     // The index is too large exactly where the one of these series passes its greatest length, unless memory ran out.
     ensures too_large { result ≡ Err BuildRefusal.TooLarge → HaveNoBlock plan.now series.now }

@@ -1,5 +1,7 @@
 //! The files of a block of what a writer holds.
 ghost use Rattle.std.specs.Prelude.{◌≡◌, [], Err, IfOk};
+ghost use Rattle.std.specs.List.{AllByRecursion};
+ghost use Rattle.reading_core.specs.Grammar.{IsBytes};
 ghost use Rattle.block_writing.specs.Files.{HaveNoIndex};
 ghost use Rattle.block_writing.specs.Refusals.{build_refusal};
 ghost use Rattle.block_writing.specs.Writing.{put_in, IsWriting};
@@ -46,6 +48,8 @@ pub(crate) fn finish(
     ensures written { IfOk result (IsWritten (put_in plan writers.items index [] counts)) }
     ensures too_large { result ≡ Err BuildRefusal.TooLarge
         → HaveNoIndex (put_in plan writers.items index [] counts).series }
+    ensures bytes { IfOk result (λ files. IsBytes files.index
+        × AllByRecursion IsBytes files.segments) }
 {
     let alloc = *writers.allocator();
     let index = match index.finish() {

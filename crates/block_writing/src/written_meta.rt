@@ -1,5 +1,7 @@
 //! What a written block says of itself.
-ghost use Rattle.std.specs.Prelude.{◌≡◌, ◌≤◌, length, IfOk};
+ghost use Rattle.std.specs.Prelude.{◌≡◌, ◌≤◌, length, IfOk, OnOk};
+ghost use Rattle.std.specs.List.{AllByRecursion};
+ghost use Rattle.reading_core.specs.Grammar.{IsBytes};
 ghost use Rattle.block_keys.specs.Keys.{segment_limit};
 ghost use Rattle.block_keys.specs.KeyText.{six_digits};
 ghost use Rattle.block_meta.specs.MetaFields.{fields_of};
@@ -22,36 +24,39 @@ fn segment_name(alloc: Global, number: u32) -> Result<Text, NoMemory>
     Ok(Text::from_string(String::from_utf8(digits).unwrap()))
 }
 
-fn size_of_segment(alloc: Global, number: u32, segment: &Blob) -> Result<FileSize, NoMemory>
-    ensures { IfOk result (λ size. size ≡ segment_size number segment.now) }
+fn size_of_segment(alloc: Global, number: u32, segment: &[u8]) -> Result<FileSize, NoMemory>
+    ensures size { IfOk result (λ size. size ≡ segment_size number segment.now) }
+    ensures bytes { IsBytes segment.now }
 {
     let name = segment_name(alloc, number)?;
     Ok(FileSize {
         path: Text::from_string(format!(in alloc; "chunks/{}", name.as_str())?),
-        bytes: segment.bytes().len() as u64,
+        bytes: segment.len() as u64,
     })
 }
 
-fn size_of_index(alloc: Global, index: &Blob) -> Result<FileSize, NoMemory>
-    ensures { IfOk result (λ size. size ≡ index_size index.now) }
+fn size_of_index(alloc: Global, index: &[u8]) -> Result<FileSize, NoMemory>
+    ensures size { IfOk result (λ size. size ≡ index_size index.now) }
+    ensures bytes { IsBytes index.now }
 {
     Ok(FileSize {
         path: Text::from_str(alloc, "index")?,
-        bytes: index.bytes().len() as u64,
+        bytes: index.len() as u64,
     })
 }
 
-/// The files of a block with their sizes.
+/// The files of a block with their sizes. They are bytes, as all files are.
 #[tactic(auto, unfolding(crate::specs::WrittenMeta::sizes_of))]
 fn sizes_of(alloc: Global, segments: &[Blob], index: &Blob) -> Result<FileSizeList, NoMemory>
     requires { length segments.now ≤ segment_limit }
-    ensures { IfOk result (λ sizes. sizes ≡ sizes_of segments.now index.now) }
+    ensures sizes { IfOk result (λ sizes. sizes ≡ sizes_of segments.now index.now) }
+    ensures bytes { OnOk result (IsBytes index.now × AllByRecursion IsBytes segments.now) }
 {
     let mut sizes = FileSizeList::new(alloc);
     for (place, segment) in segments.iter().enumerate() {
-        sizes.push(size_of_segment(alloc, place as u32 + 1, segment)?)?;
+        sizes.push(size_of_segment(alloc, place as u32 + 1, segment.bytes())?)?;
     }
-    sizes.push(size_of_index(alloc, index)?)?;
+    sizes.push(size_of_index(alloc, index.bytes())?)?;
     Ok(sizes)
 }
 
@@ -77,8 +82,9 @@ pub(crate) fn meta_of(
     segments: &[Blob],
 ) -> Result<Meta, NoMemory>
     requires { length segments.now ≤ segment_limit }
-    ensures { IfOk result (λ meta. fields_of meta
+    ensures meta { IfOk result (λ meta. fields_of meta
         ≡ meta_with (plan_fields plan) counts index.now segments.now) }
+    ensures bytes { OnOk result (IsBytes index.now × AllByRecursion IsBytes segments.now) }
 {
     let files = sizes_of(alloc, segments, index)?;
     let segment_files = names_of(alloc, segments.len())?;

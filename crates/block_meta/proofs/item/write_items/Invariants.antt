@@ -7,4 +7,5 @@ abbrev pub invariant-loop-item : goal.invariant-loop-item
 invariant-loop-item g l = record {
   written : items_view l.made.items ≡ items_value g.T.Item.written (take l.item-index l.items);
   again : All (λ x. (name : List ℕ) → g.T.Item.reads name (g.T.Item.written x) ≡ Ok x) (take l.item-index l.items);
+  fits : All g.T.Item.fits (take l.item-index l.items);
 }

@@ -41,6 +41,7 @@ returns c =
     let built : IfOk c.finish.result (IsBuilt c.args.plan.now c.args.series.now) = built_from c.finish.result c.args.plan.now c.args.series.now c.loop-one.writer put c.finish.ensures.written in
     record {
       built = built;
+      bytes = c.finish.ensures.bytes;
       too_large = λ large. record { put = c.loop-one.writer; put_is = put; large = c.finish.ensures.too_large large };
       refused = block_refused c.args.plan.now c.args.series.now c.finish.result built;
     }

@@ -14,4 +14,4 @@ returns c =
     let made = c.in_ok-to_vec.ensures in
     let text = written _ _ _ value.value (meta_plain m) made.text in
     let again = meta_reads _ _ m value.value text made.utf8 made.reads_back value.again in
-    record { text = c.from_vec.ensures ∙ text; again = again; lawful = (meta_text_found _).holds m again }
+    record { text = c.from_vec.ensures ∙ text; again = again; lawful = (meta_text_found _).holds m again; numbers = value.numbers }

@@ -21,6 +21,7 @@ returns c =
     let written : IfOk c.finish.result (IsWritten c.args.self) = subst (λ (p : Put). IfOk c.finish.result (IsWritten p)) view c.finish.ensures.written in
     record {
       written = written;
+      bytes = c.finish.ensures.bytes;
       too_large = λ large. subst (λ (p : Put). HaveNoIndex p.series) view (c.finish.ensures.too_large large);
       refused = refused_where c.finish.result c.args.self written;
     }

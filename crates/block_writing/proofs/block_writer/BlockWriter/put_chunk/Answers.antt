@@ -26,3 +26,6 @@ returns-clause-ok c samples text =
     (subst (λ (p : Put). IsAfterChunks p.chunks c.args.min) (sym c.self.view_is) c.requires.after) put c.with_chunk-self-inside.ensures).view_is
     ∙ ap (λ (p : Put). with_chunk p (record { content = c.args.bytes.now; min = c.args.min; max = c.args.max }) c.count_of.result) c.self.view_is
     ∙ ap (λ (n : ℕ). with_chunk c.args.self.now (record { content = c.args.bytes.now; min = c.args.min; max = c.args.max }) n) (c.count_of.ensures samples text)
+
+pub count_of-requires : goal.count_of-requires
+count_of-requires c = (c.requires.stored.samples, c.requires.stored.text_is)
