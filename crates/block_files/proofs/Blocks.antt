@@ -1,7 +1,10 @@
 -- The objects of a block, as they are put together.
-use Rattle.std.proofs.Common.{◌≡◌, ℕ, zero, suc, ◌+◌, ◌≤◌, List, [], ◌∷◌, ◌++◌, length, arith, ◌∙◌, ap, sym, append_assoc}
+use Rattle.std.proofs.Common.{◌≡◌, ℕ, zero, suc, ◌+◌, ◌<◌, ◌≤◌, List, [], ◌∷◌, ◌++◌, length, take, get_or, arith, ◌∙◌, ap, sym, subst, append_assoc}
 use Rattle.std.specs.Prelude.{All}
+use Rattle.std.specs.List.{AllByRecursion}
+use Rattle.std.proofs.lemmas.List.{take_more}
 use Rattle.std.proofs.lemmas.List.Elements.{All-append}
+use Rattle.list_core.proofs.Lists.{AllByRecursion-push}
 use Rattle.block_keys.specs.Blocks.{IsSegmentOf, IsBlock}
 use Rattle.block_keys.specs.declared.key.Key.TheVariants.{Meta, Index, Segment}
 use Rattle.block_files.specs.Built.{segment_objects}
@@ -14,6 +17,11 @@ all_single P x holds (suc k) d below = absurd (omega arith)
 -- what holds of all and of one more, holds of all with it
 pub all_pushed : {X : Type 0} (P : X → Type 0) (xs : List X) (x : X) → All P xs → P x → All P (xs ++ x ∷ [])
 all_pushed P xs x all holds = All-append P xs (x ∷ []) all (all_single P x holds)
+
+-- what holds of a front and of the next member holds of the front with it
+pub front_more : {X : Type 0} (P : X → Type 0) (xs : List X) (place : ℕ) (x d : X) → AllByRecursion P (take place xs) → place < length xs → x ≡ get_or xs place d → P x → AllByRecursion P (take (place + 1) xs)
+front_more P xs place x d all below at holds =
+    subst (AllByRecursion P) (sym (take_more xs place d below ∙ ap (λ y. take place xs ++ y ∷ []) (sym at))) (AllByRecursion-push P (take place xs) x all holds)
 
 -- segments, then an index, then a meta
 pub block_of : (ulid : ℕ) (segments one both : List Object) (index meta : Object) → All (λ object. IsSegmentOf ulid object.key) segments

@@ -40,10 +40,6 @@ abbrev pub keys : Members → List (List ℕ)
 keys no_members = []
 keys (member k d ms) = k ∷ keys ms
 
--- each key is above those before it
-abbrev pub Ascend : Members → Type 0
-Ascend ms = IsStrictlySortedBy (slice_cmp nat_cmp) (keys ms)
-
 abbrev mutual
   pub IsPlain : Data → Type 0
   IsPlain null = ⊤
@@ -51,7 +47,7 @@ abbrev mutual
   IsPlain (number n) = FitsNumber n
   IsPlain (string s) = IsUtf8 s
   IsPlain (array ds) = ArePlainItems ds
-  IsPlain (object ms) = Ascend ms × ArePlainMembers ms
+  IsPlain (object ms) = IsStrictlySortedBy (slice_cmp nat_cmp) (keys ms) × ArePlainMembers ms
 
   pub ArePlainItems : Items → Type 0
   ArePlainItems no_items = ⊤
@@ -111,7 +107,7 @@ among first k d no_members ms h = h.0
 among first k d (member l e es) ms h = among first k d es ms h.1
 
 -- a key that comes after those found goes last
-put_last : (k : List ℕ) (d : Data) (found ms : Members) → Ascend (joined found (member k d ms)) → put k d found ≡ joined found (member k d no_members)
+put_last : (k : List ℕ) (d : Data) (found ms : Members) → IsStrictlySortedBy (slice_cmp nat_cmp) (keys (joined found (member k d ms))) → put k d found ≡ joined found (member k d no_members)
 unfolding IsStrictlySortedBy
 put_last k d no_members ms h = refl
 put_last k d (member l e es) ms h =
@@ -133,13 +129,13 @@ mutual
   made_items no_items h = refl
   made_items (item d ds) h = rw (made_value d h.0, made_items ds h.1) refl
 
-  made_members : (found ms : Members) → Ascend (joined found ms) → ArePlainMembers ms → of_members (members_outline ms) found ≡ Some (joined found ms)
+  made_members : (found ms : Members) → IsStrictlySortedBy (slice_cmp nat_cmp) (keys (joined found ms)) → ArePlainMembers ms → of_members (members_outline ms) found ≡ Some (joined found ms)
   made_members found no_members ascend h = ap (λ (ms : Members). Some ms) (sym (joined-none found))
   made_members found (member k d ms) ascend h =
       let one : joined (joined found (member k d no_members)) ms ≡ joined found (member k d ms) = joined-one k d found ms in
       ap (option_and_then (λ e. of_members (members_outline ms) (put k e found))) (made_value d h.1)
       ∙ ap (of_members (members_outline ms)) (put_last k d found ms ascend)
-      ∙ made_members (joined found (member k d no_members)) ms (subst Ascend (sym one) ascend) h.2
+      ∙ made_members (joined found (member k d no_members)) ms (subst (λ (xs : Members). IsStrictlySortedBy (slice_cmp nat_cmp) (keys xs)) (sym one) ascend) h.2
       ∙ ap (λ (ms : Members). Some ms) one
 
 mutual

@@ -1,5 +1,6 @@
 ghost use Rattle.std.specs.Prelude.{◌≡◌, ◌+◌, ◌≤◌, [], ◌∷◌, ◌++◌, All, length, vec_len, IfOk, OnOk};
 ghost use Rattle.block_keys.specs.Keys.{segment_limit};
+ghost use Rattle.block_meta.specs.Bounds.{HasFittingNumbers};
 ghost use Rattle.block_meta.specs.MetaFields.{fields_of};
 ghost use Rattle.block_meta.specs.MetaValue.{meta_text};
 ghost use Rattle.block_files.specs.Built.{objects_of, segment_objects};
@@ -18,6 +19,7 @@ pub fn files_objects(alloc: Global, files: BlockFiles) -> Result<ObjectList, NoM
     ensures block { IfOk result (IsBlock files.meta.ulid) }
     ensures objects { IfOk result (λ objects. objects ≡ objects_of files.meta.ulid
         files.segments files.index (meta_text (fields_of files.meta))) }
+    ensures numbers { OnOk result (HasFittingNumbers (fields_of files.meta)) }
 {
     let BlockFiles {
         meta,

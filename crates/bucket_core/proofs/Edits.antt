@@ -1,6 +1,7 @@
 -- What an edit of a list of objects in order leaves.
-use Rattle.std.proofs.Common.{◌≡◌, ℕ, zero, suc, Bool, true, false, ◌&&◌, cond, List, [], ◌∷◌, ◌++◌, drop, refl, sym, ◌∙◌, ap, subst, inl, inr, Option, Some, None}
-use Rattle.std.specs.List.{list_all, AllByRecursion}
+use Rattle.std.proofs.Common.{◌≡◌, ℕ, Bool, true, false, ◌&&◌, cond, List, [], ◌∷◌, ◌++◌, refl, sym, ◌∙◌, ap, subst, inl, inr, Option, Some, None}
+use Rattle.std.specs.List.{AllByRecursion}
+use Rattle.std.specs.List.Sorted.{IsStrictlySortedBy}
 use Rattle.std.specs.Ordering.{is_lt, ordering_reverse}
 use Rattle.std.specs.Str.{bytes_eq}
 use Rattle.std.specs.declared.cmp.Ordering.{Ordering}
@@ -8,11 +9,15 @@ use Rattle.std.specs.declared.cmp.Ordering.TheVariants.{Less, Equal, Greater}
 use Rattle.std.proofs.lemmas.Bool.{and_parts, and_from, false_from_ne_true, cases_Bool}
 use Rattle.std.proofs.lemmas.Cmp.{tied_itself}
 use Rattle.std.proofs.lemmas.List.Folds.{list_all-append}
+use Rattle.std.proofs.lemmas.Map.Keys.{sorted_head, sorted_tail}
 use Rattle.std.proofs.lemmas.Slice.Eq.{bytes_eq-Decides}
-use Rattle.list_core.proofs.Bools.{Less-from_is_lt, bytes_eq-same, swap_tests}
+use Rattle.list_core.proofs.Bools.{Less-from_is_lt, same_texts, swap_tests}
+use Rattle.list_core.proofs.Lists.{AllByRecursion-weaker}
+use Rattle.list_core.proofs.Membership.{each_member, member_cases}
+use Rattle.list_core.proofs.Order.{sorted_append, sorted_cons, sorted_left}
 use Rattle.bucket_core.specs.Contents.{is_key}
 use Rattle.bucket_core.specs.declared.stored.Stored.{Stored}
-use Rattle.bucket_core.specs.Stored.{key_cmp, is_before, keys_ascend, have_keys, object_in, updated, IsUpdated}
+use Rattle.bucket_core.specs.Stored.{key_cmp, is_before, by_key, have_keys, object_in, updated, IsUpdated}
 use Rattle.bucket_core.proofs.Places.{key_total, keys_equal}
 
 not_before_itself : (key : List ℕ) → is_lt (key_cmp key key) ≡ false
@@ -22,7 +27,7 @@ not_before_itself key = ap is_lt (tied_itself key_total key)
 pub before_differs : (o : Stored) (key : List ℕ) → is_before key o ≡ true → bytes_eq o.key key ≡ false
 before_differs o key before =
     false_from_ne_true _ (λ same.
-    let e = ap (λ k. is_lt (key_cmp o.key k)) (sym (bytes_eq-same _ key same)) ∙ not_before_itself o.key in
+    let e = ap (λ k. is_lt (key_cmp o.key k)) (sym (same_texts _ key same)) ∙ not_before_itself o.key in
     cc)
 
 greater_from : (o : Ordering) → is_lt o ≡ false → (o ≡ Equal → ⊥) → is_lt (ordering_reverse o) ≡ true
@@ -31,10 +36,10 @@ greater_from Equal lt ne = absurd (ne refl)
 greater_from Greater lt ne = refl
 
 -- a key that is not before another and not the same comes after it
-pub comes_after : (o : Stored) (key : List ℕ) → is_before key o ≡ false → bytes_eq o.key key ≡ false → is_lt (key_cmp key o.key) ≡ true
+pub comes_after : (o : Stored) (key : List ℕ) → is_before key o ≡ false → bytes_eq o.key key ≡ false → key_cmp key o.key ≡ Less
 comes_after o key before differs =
-    ap is_lt (key_total.antisymm key o.key)
-    ∙ greater_from _ before (λ equal. let e : bytes_eq o.key key ≡ true = (bytes_eq-Decides o.key key).1 (keys_equal _ _ equal) in cc)
+    Less-from_is_lt _ (ap is_lt (key_total.antisymm key o.key)
+    ∙ greater_from _ before (λ equal. let e : bytes_eq o.key key ≡ true = (bytes_eq-Decides o.key key).1 (keys_equal _ _ equal) in cc))
 
 -- behind a front of other keys, an update of the back is an update of the whole
 pub updated_behind : (key : List ℕ) (w : Option (List ℕ)) (front back back' : List Stored) (q : List ℕ)
@@ -45,7 +50,7 @@ updated_behind key w (o ∷ front) back back' q all same =
     ap (λ r. cond (bytes_eq o.key q) (Some o.bytes) r) (updated_behind key w front back _ q all.1 same)
     ∙ swap_tests _ _ _ w _
     (λ oq kq.
-    let e : bytes_eq o.key key ≡ true = (bytes_eq-Decides _ _).1 (bytes_eq-same o.key q oq ∙ sym (bytes_eq-same _ q kq)) in
+    let e : bytes_eq o.key key ≡ true = (bytes_eq-Decides _ _).1 (same_texts o.key q oq ∙ sym (same_texts _ q kq)) in
     let d : bytes_eq o.key key ≡ false = before_differs o _ all.0 in
     cc)
 
@@ -57,65 +62,56 @@ found_behind key (o ∷ front) back all =
     let differs = before_differs o _ all.0 in
     ap (λ b. cond b (Some o.bytes) (object_in (front ++ back) key)) differs ∙ found_behind key front _ all.1
 
-all_since : {X : Type 0} (p q : X → Bool) (xs : List X) → ((x : X) → p x ≡ true → q x ≡ true) → list_all p xs ≡ true → list_all q xs ≡ true
-all_since p q [] since all = refl
-all_since p q (x ∷ xs) since all =
-    let parts = and_parts (p x) (list_all p xs) all in
-    and_from _ _ (since x parts.0) (all_since p q xs since parts.1)
-
 -- nothing stands under a key that comes before all
-none_before : (key : List ℕ) (os : List Stored) → list_all (λ o. is_lt (key_cmp key o.key)) os ≡ true → object_in os key ≡ None
+none_before : (key : List ℕ) (os : List Stored) → AllByRecursion (λ o. key_cmp key o.key ≡ Less) os → object_in os key ≡ None
 none_before _ [] all = refl
 none_before key (o ∷ os) all =
-    let parts = and_parts (is_lt (key_cmp key o.key)) (list_all (λ o'. is_lt (key_cmp key o'.key)) os) all in
     let differs = false_from_ne_true _ (λ same.
-    let e = ap (λ k. is_lt (key_cmp key k)) (bytes_eq-same o.key key same) ∙ not_before_itself key in
-    let t : is_lt (key_cmp key o.key) ≡ true = parts.0 in
+    let e = ap (λ k. is_lt (key_cmp key k)) (same_texts o.key key same) ∙ not_before_itself key in
+    let t : is_lt (key_cmp key o.key) ≡ true = ap is_lt all.0 in
     cc) in
-    ap (λ b. cond b (Some o.bytes) (object_in os key)) differs ∙ none_before key os parts.1
+    ap (λ b. cond b (Some o.bytes) (object_in os key)) differs ∙ none_before key os all.1
 
--- those behind an object that is not before the key come after the key
-pub after_all : (key : List ℕ) (o : Stored) (os : List Stored) → keys_ascend (o ∷ os) ≡ true → is_lt (key_cmp key o.key) ≡ true
-    → list_all (λ l. is_lt (key_cmp key l.key)) os ≡ true
-after_all key o os ordered lt =
-    all_since _ _ os
-    (λ l before. ap is_lt (key_total.trans key o.key l.key (Less-from_is_lt _ lt) (Less-from_is_lt _ before)))
-    (and_parts (list_all (λ later. is_before later.key o) os) (keys_ascend os) ordered).0
+-- those behind an object that comes after the key do so too
+pub after_all : (key : List ℕ) (o : Stored) (os : List Stored) → IsStrictlySortedBy by_key (o ∷ os) → key_cmp key o.key ≡ Less
+    → AllByRecursion (λ l. key_cmp key l.key ≡ Less) os
+after_all key o os ordered less =
+    AllByRecursion-weaker (λ l. by_key o l ≡ Less) (λ (l : Stored). key_cmp key l.key ≡ Less) (λ l behind. key_total.trans key o.key l.key less behind) os
+    (sorted_head by_key o os ordered)
 
--- behind the object under a key nothing else is under it
-pub alone : (key : List ℕ) (o : Stored) (os : List Stored) → keys_ascend (o ∷ os) ≡ true → o.key ≡ key → object_in os key ≡ None
-alone key o os ordered same =
-    none_before key os
-    (subst (λ k. list_all (λ l. is_lt (key_cmp k l.key)) os ≡ true) same
-    (and_parts (list_all (λ later. is_before later.key o) os) (keys_ascend os) ordered).0)
+-- those behind an object under the key come after the key
+after_own : (key : List ℕ) (o : Stored) (os : List Stored) → IsStrictlySortedBy by_key (o ∷ os) → o.key ≡ key
+    → AllByRecursion (λ l. key_cmp key l.key ≡ Less) os
+after_own key o os ordered same = subst (λ k. AllByRecursion (λ l. key_cmp k l.key ≡ Less) os) same (sorted_head by_key o os ordered)
 
 -- nothing is under a key that is not before the first object nor its own
-pub nothing_here : (key : List ℕ) (o : Stored) (os : List Stored) → keys_ascend (o ∷ os) ≡ true → is_before key o ≡ false
+pub nothing_here : (key : List ℕ) (o : Stored) (os : List Stored) → IsStrictlySortedBy by_key (o ∷ os) → is_before key o ≡ false
     → bytes_eq o.key key ≡ false → object_in (o ∷ os) key ≡ None
 nothing_here key o os ordered before differs =
     ap (λ b. cond b (Some o.bytes) (object_in os key)) differs
     ∙ none_before key _ (after_all key o _ ordered (comes_after o _ before differs))
 
-pub keys_ascend-drop : (n : ℕ) (os : List Stored) → keys_ascend os ≡ true → keys_ascend (drop n os) ≡ true
-keys_ascend-drop zero [] ordered = refl
-keys_ascend-drop zero (o ∷ os) ordered = ordered
-keys_ascend-drop (suc n) [] ordered = refl
-keys_ascend-drop (suc n) (o ∷ os) ordered =
-    keys_ascend-drop n _ (and_parts (list_all (λ later. is_before later.key o) os) (keys_ascend os) ordered).1
+-- what comes after the key is in order behind what comes before it
+order_behind : (key : List ℕ) (front back os : List Stored) → IsStrictlySortedBy by_key (front ++ back) → IsStrictlySortedBy by_key os
+    → AllByRecursion (λ f. is_before key f ≡ true) front → AllByRecursion (λ l. key_cmp key l.key ≡ Less) os
+    → IsStrictlySortedBy by_key (front ++ os)
+order_behind key front back os ordered there all after =
+    sorted_append by_key front os (sorted_left by_key front back ordered) there (λ f l here behind.
+    key_total.trans f.key key l.key (Less-from_is_lt _ (each_member (λ f. is_before key f ≡ true) front f all here))
+    (each_member (λ (l : Stored). key_cmp key l.key ≡ Less) os l after behind))
 
--- a back that fits behind every object before the key keeps the order
-pub order_behind : (key : List ℕ) (front back back' : List Stored) → keys_ascend (front ++ back) ≡ true → keys_ascend back' ≡ true
-    → ((f : Stored) → is_before key f ≡ true → list_all (λ l. is_before l.key f) back ≡ true → list_all (λ l. is_before l.key f) back' ≡ true)
-    → AllByRecursion (λ o. is_before key o ≡ true) front → keys_ascend (front ++ back') ≡ true
-order_behind _ [] _ _ ordered there fits all = there
-order_behind key (f ∷ front) back back' ordered there fits all =
-    let parts = and_parts (list_all (λ later. is_before later.key f) (front ++ back)) (keys_ascend (front ++ back)) ordered in
-    let split = and_parts (list_all (λ later. is_before later.key f) front) (list_all (λ later. is_before later.key f) back) (sym (list_all-append (λ later. is_before later.key f) front back) ∙ parts.0) in
-    let joined : list_all (λ later. is_before later.key f) (front ++ back') ≡ true =
-    list_all-append (λ later. is_before later.key f) front _
-    ∙ and_from _ _ split.0 (fits f all.0 split.1) in
-    and_from _ (keys_ascend (front ++ back')) joined
-    (order_behind key front _ _ parts.1 there fits all.1)
+-- and so it is behind an object under the key
+order_with : (key : List ℕ) (front back : List Stored) (v : Stored) (os : List Stored) → IsStrictlySortedBy by_key (front ++ back)
+    → IsStrictlySortedBy by_key os → AllByRecursion (λ f. is_before key f ≡ true) front → AllByRecursion (λ l. key_cmp key l.key ≡ Less) os
+    → v.key ≡ key → IsStrictlySortedBy by_key (front ++ v ∷ os)
+order_with key front back v os ordered there all after same =
+    let behind_v = subst (λ k. AllByRecursion (λ l. key_cmp k l.key ≡ Less) os) (sym same) after in
+    sorted_append by_key front (v ∷ os) (sorted_left by_key front back ordered) (sorted_cons by_key v os behind_v there) (λ f l here behind.
+    let before : key_cmp f.key key ≡ Less = Less-from_is_lt _ (each_member (λ f. is_before key f ≡ true) front f all here) in
+    elim (member_cases v l os behind) [
+      | inl own ↦ ap (key_cmp f.key) (ap (λ (o : Stored). o.key) (sym own) ∙ same) ∙ before
+      | inr later ↦ key_total.trans f.key key l.key before (each_member (λ (l : Stored). key_cmp key l.key ≡ Less) os l after later)
+    ])
 
 -- a back with keys behind a front with keys
 pub keys_behind : (front back back' : List Stored) → have_keys (front ++ back) ≡ true → (have_keys back ≡ true → have_keys back' ≡ true)
@@ -130,18 +126,13 @@ cond_within false x y z = refl
 
 -- an object in the place of another one under its key
 pub replaced_behind : (key : List ℕ) (front : List Stored) (o v : Stored) (os : List Stored)
-    → keys_ascend (front ++ o ∷ os) ≡ true → have_keys (front ++ o ∷ os) ≡ true → keys_ascend (o ∷ os) ≡ true
+    → IsStrictlySortedBy by_key (front ++ o ∷ os) → have_keys (front ++ o ∷ os) ≡ true → IsStrictlySortedBy by_key (o ∷ os)
     → AllByRecursion (λ f. is_before key f ≡ true) front → o.key ≡ key → v.key ≡ key
     → IsUpdated key (Some v.bytes) (front ++ o ∷ os) (front ++ v ∷ os)
 replaced_behind key front o v os ordered keys there all ok vk =
-    let parts = and_parts (list_all (λ l. is_before l.key o) os) (keys_ascend os) there in
-    let same = ok ∙ sym vk in
     record {
-      ordered = order_behind key front (o ∷ os) (v ∷ os) ordered
-          (and_from (list_all (λ l. is_before l.key v) os) (keys_ascend os)
-          (subst (λ k. list_all (λ l. is_lt (key_cmp k l.key)) os ≡ true) same parts.0) parts.1)
-          (λ f before fits. subst (λ k. (is_before k f && list_all (λ l. is_before l.key f) os) ≡ true) same fits) all;
-      keys = keys_behind front (o ∷ os) (v ∷ os) keys (λ k. subst (λ k'. (is_key k' && have_keys os) ≡ true) same k);
+      ordered = order_with key front (o ∷ os) v os ordered (sorted_tail by_key o os there) all (after_own key o os there ok) vk;
+      keys = keys_behind front (o ∷ os) (v ∷ os) keys (λ k. subst (λ k'. (is_key k' && have_keys os) ≡ true) (ok ∙ sym vk) k);
       stands = λ i q. updated_behind key (Some v.bytes) front (o ∷ os) (v ∷ os) q all
           (ap (λ k. cond (bytes_eq k q) (Some v.bytes) (object_in os q)) vk
           ∙ cond_within (bytes_eq key q) (Some v.bytes) (Some o.bytes) (object_in os q)
@@ -150,21 +141,20 @@ replaced_behind key front o v os ordered keys there all ok vk =
 
 -- an object between those before its key and those after it
 pub inserted_behind : (v : Stored) (front back : List Stored)
-    → keys_ascend (front ++ back) ≡ true → have_keys (front ++ back) ≡ true → keys_ascend back ≡ true → is_key v.key ≡ true
-    → AllByRecursion (λ f. is_before v.key f ≡ true) front → list_all (λ l. is_before l.key v) back ≡ true
+    → IsStrictlySortedBy by_key (front ++ back) → have_keys (front ++ back) ≡ true → IsStrictlySortedBy by_key back → is_key v.key ≡ true
+    → AllByRecursion (λ f. is_before v.key f ≡ true) front → AllByRecursion (λ l. by_key v l ≡ Less) back
     → IsUpdated v.key (Some v.bytes) (front ++ back) (front ++ v ∷ back)
 inserted_behind v front back ordered keys there key all after = record {
-  ordered = order_behind v.key _ _ _ ordered (and_from _ _ after there)
-      (λ f before fits. and_from (is_before v.key f) (list_all (λ l. is_before l.key f) back) before fits) all;
+  ordered = order_with v.key front back v back ordered there all after refl;
   keys = keys_behind front back (v ∷ back) keys (λ k. and_from (is_key v.key) (have_keys back) key k);
   stands = λ i q. updated_behind v.key (Some v.bytes) front back (v ∷ back) q all refl i;
 }
 
-removed_head : (key : List ℕ) (o : Stored) (os : List Stored) (q : List ℕ) → keys_ascend (o ∷ os) ≡ true → o.key ≡ key
+removed_head : (key : List ℕ) (o : Stored) (os : List Stored) (q : List ℕ) → IsStrictlySortedBy by_key (o ∷ os) → o.key ≡ key
     → object_in os q ≡ updated key None (object_in (o ∷ os)) q
 removed_head key o os q there ok =
     elim (cases_Bool (bytes_eq key q)) [
-      | inl same ↦ (let none = alone q o _ there (ok ∙ bytes_eq-same _ q same) in
+      | inl same ↦ (let none = none_before q os (after_own q o os there (ok ∙ same_texts _ q same)) in
           none ∙ ap (λ b. cond b None (object_in (o ∷ os) q)) (sym same))
       | inr differs ↦ (let d = ap (λ k. bytes_eq k q) ok ∙ differs in
           ap (λ b. cond b (Some o.bytes) (object_in os q)) (sym d) ∙ ap (λ b. cond b None (object_in (o ∷ os) q)) (sym differs))
@@ -172,14 +162,12 @@ removed_head key o os q there ok =
 
 -- what is left without an object
 pub removed_behind : (key : List ℕ) (front : List Stored) (o : Stored) (os : List Stored)
-    → keys_ascend (front ++ o ∷ os) ≡ true → have_keys (front ++ o ∷ os) ≡ true → keys_ascend (o ∷ os) ≡ true
+    → IsStrictlySortedBy by_key (front ++ o ∷ os) → have_keys (front ++ o ∷ os) ≡ true → IsStrictlySortedBy by_key (o ∷ os)
     → AllByRecursion (λ f. is_before key f ≡ true) front → o.key ≡ key
     → IsUpdated key None (front ++ o ∷ os) (front ++ os)
 removed_behind key front o os ordered keys there all ok =
-    let parts = and_parts (list_all (λ l. is_before l.key o) os) (keys_ascend os) there in
     record {
-      ordered = order_behind key front (o ∷ os) os ordered parts.1
-          (λ f before fits. (and_parts (is_before o.key f) (list_all (λ l. is_before l.key f) os) fits).1) all;
+      ordered = order_behind key front (o ∷ os) os ordered (sorted_tail by_key o os there) all (after_own key o os there ok);
       keys = keys_behind front (o ∷ os) os keys (λ k. (and_parts (is_key o.key) (have_keys os) k).1);
       stands = λ i q. updated_behind key None front (o ∷ os) os q all (removed_head key o os q there ok) i;
     }

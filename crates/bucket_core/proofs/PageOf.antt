@@ -1,23 +1,25 @@
 -- What is picked behind the cursor's place is the page.
-use Rattle.std.proofs.Common.{◌≡◌, ℕ, suc, Bool, true, false, cond, List, [], ◌∷◌, ◌++◌, length, take, drop, refl, sym, ◌∙◌, ap, subst, inl, inr, arith, Option, Some, None}
+use Rattle.std.proofs.Common.{◌≡◌, ℕ, suc, true, false, cond, List, [], ◌∷◌, ◌++◌, length, take, drop, refl, sym, ◌∙◌, ap, subst, inl, inr, arith, Option, Some, None}
 use Rattle.std.proofs.lemmas.List.Elements.{All-from_recursion, Contains-append_cases, Contains-append_right}
 use Rattle.std.specs.Prelude.{◌==◌, IsSome, is_some, Contains}
-use Rattle.std.specs.List.{list_all, AllByRecursion}
+use Rattle.std.specs.List.{AllByRecursion}
+use Rattle.std.specs.List.Sorted.{IsStrictlySortedBy}
 use Rattle.std.specs.Option.{option_map_or}
 use Rattle.std.specs.Ordering.{is_lt}
 use Rattle.std.specs.Str.{bytes_eq}
 use Rattle.std.specs.declared.cmp.Ordering.TheVariants.{Less}
-use Rattle.std.proofs.lemmas.Bool.{cases_Bool, and_parts, eqb-true}
+use Rattle.std.proofs.lemmas.Bool.{cases_Bool, eqb-true}
 use Rattle.std.proofs.lemmas.List.{take-append-drop}
-use Rattle.list_core.proofs.Bools.{Less-from_is_lt, bytes_eq-itself, bytes_eq-same}
+use Rattle.std.proofs.lemmas.Map.Keys.{sorted_head, sorted_tail}
+use Rattle.list_core.proofs.Bools.{Less-from_is_lt, bytes_eq-itself, same_texts}
 use Rattle.list_core.specs.Ordered.{Rises}
 use Rattle.list_core.proofs.Membership.{contains_first, contains_later, each_member, member_cases, no_member}
+use Rattle.list_core.proofs.Order.{sorted_drop}
 use Rattle.label_sets.specs.Labels.{ComesBefore, is_lesser_text}
 use Rattle.bucket_core.specs.Contents.{Contents}
 use Rattle.bucket_core.specs.Pages.{Lists, IsName, IsPage}
 use Rattle.bucket_core.specs.declared.stored.Stored.{Stored}
-use Rattle.bucket_core.specs.Stored.{first_part, key_cmp, is_before, keys_ascend, object_in, name_of, names_of, text_after, picked, IsPlace, IsStart}
-use Rattle.bucket_core.proofs.Edits.{keys_ascend-drop}
+use Rattle.bucket_core.specs.Stored.{first_part, key_cmp, is_before, by_key, object_in, name_of, names_of, text_after, picked, IsPlace, IsStart}
 use Rattle.bucket_core.proofs.Order.{root_skipped, folder_cmp, folder_key, folder_name, names_rise, key_between, not_below}
 use Rattle.bucket_core.proofs.Picks.{picked_ascends, picked_few, picked_within, picked_whole}
 
@@ -26,7 +28,7 @@ pub stands_for : (os : List Stored) (key : List ℕ) → IsSome (object_in os ke
 stands_for [] _ some = cc
 stands_for (o ∷ os) key some =
     elim (cases_Bool _) [
-      | inl same ↦ (o, contains_first o os, bytes_eq-same _ _ same)
+      | inl same ↦ (o, contains_first o os, same_texts _ _ same)
       | inr differs ↦ (let below : _ = stands_for os _ (sym (ap (λ b. is_some (cond b (Some o.bytes) (object_in os key))) differs) ∙ some) in
           (below.0, contains_later o below.0 os below.1, below.2))
     ]
@@ -67,23 +69,21 @@ names_stand within contents (o ∷ os) stand =
     (λ n some. ((o.key, stand o (contains_first o os), lists_of within o.key n some), names_stand within contents os (λ p among. stand p (contains_later o p os among))))
 
 later_names : (within : List ℕ) (o : Stored) (n : List ℕ) (os : List Stored) → name_of within o.key ≡ Some n
-    → list_all (λ l. is_before l.key o) os ≡ true → AllByRecursion (λ m. is_lesser_text m n ≡ false) (names_of within os)
+    → AllByRecursion (λ l. by_key o l ≡ Less) os → AllByRecursion (λ m. is_lesser_text m n ≡ false) (names_of within os)
 later_names _ o n [] named all = tt
 later_names within o n (l ∷ os) named all =
-    let parts = and_parts (is_before l.key o) (list_all (λ l'. is_before l'.key o) os) all in
     by_names (AllByRecursion (λ m. is_lesser_text m n ≡ false)) within l os (λ none. tt)
-    (λ m some. (names_rise within o.key l.key n m (Less-from_is_lt _ parts.0) named some, later_names within o n os named parts.1))
+    (λ m some. (names_rise within o.key l.key n m all.0 named some, later_names within o n os named all.1))
 
 -- the names of objects in order do not fall
-pub names_in_order : (within : List ℕ) (os : List Stored) → keys_ascend os ≡ true → Rises is_lesser_text (names_of within os)
+pub names_in_order : (within : List ℕ) (os : List Stored) → IsStrictlySortedBy by_key os → Rises is_lesser_text (names_of within os)
 names_in_order _ [] ordered = tt
 names_in_order within (o ∷ os) ordered =
-    let parts = and_parts (list_all (λ later. is_before later.key o) os) (keys_ascend os) ordered in
     by_names (Rises is_lesser_text) within o os (λ none. tt)
-    (λ n some. (later_names within o n os some parts.0, names_in_order within os parts.1))
+    (λ n some. (later_names within o n os some (sorted_head by_key o os ordered), names_in_order within os (sorted_tail by_key o os ordered)))
 
 -- what is picked behind a place is the page, where all of the folder's names that are due stand behind it
-pub page_is : (objects : List Stored) (within after : List ℕ) (limit place : ℕ) → keys_ascend objects ≡ true
+pub page_is : (objects : List Stored) (within after : List ℕ) (limit place : ℕ) → IsStrictlySortedBy by_key objects
     → ((p : Stored) (name : List ℕ) → Contains (take place objects) p → name_of within p.key ≡ Some name → is_lesser_text after name ≡ false)
     → ((p : Stored) (name : List ℕ) → Contains (drop place objects) p → name_of within p.key ≡ Some name → Contains (names_of within (drop place objects)) name)
     → IsPage (object_in objects) within after limit (picked after limit (names_of within (drop place objects)))
@@ -103,7 +103,7 @@ page_is objects within after limit place ordered skipped behind =
           elim (Contains-append_cases (take place objects) back found.0 (subst (λ (os : List Stored). Contains os found.0) (sym whole_list) found.1)) [
             | inl front ↦ absurd (let e : is_lesser_text after name ≡ false = skipped found.0 name front named in
                 let t : is_lesser_text after name ≡ true = ap is_lt due in cc)
-            | inr there ↦ elim (picked_whole after limit names name (names_in_order within back (keys_ascend-drop place objects ordered)) (behind found.0 name there named) (ap is_lt due)) [
+            | inr there ↦ elim (picked_whole after limit names name (names_in_order within back (sorted_drop by_key place objects ordered)) (behind found.0 name there named) (ap is_lt due)) [
               | inl among ↦ inl among
               | inr full ↦ inr (full.0, All-from_recursion (λ listed. ComesBefore listed name) page full.1)
             ]
@@ -120,7 +120,7 @@ root_names p name (o ∷ os) among named = elim (member_cases o p os among) [
   | inr later ↦ contains_later (first_part o.key) name (names_of [] os) (root_names p name os later named)
 ]
 
-pub root_page : (objects : List Stored) (after : List ℕ) (limit place : ℕ) → keys_ascend objects ≡ true → IsPlace after objects place
+pub root_page : (objects : List Stored) (after : List ℕ) (limit place : ℕ) → IsStrictlySortedBy by_key objects → IsPlace after objects place
     → IsPage (object_in objects) [] after limit (picked after limit (names_of [] (drop place objects)))
 root_page objects after limit place ordered at =
     page_is objects _ _ _ _ ordered
@@ -128,12 +128,8 @@ root_page objects after limit place ordered at =
     ap (is_lesser_text after) (sym e) ∙ root_skipped p.key after (Less-from_is_lt _ (each_member _ _ p at.front among))))
     (λ p name among named. root_names p name (drop place objects) among named)
 
-each_of : {X : Type 0} (q : X → Bool) (xs : List X) → list_all q xs ≡ true → AllByRecursion (λ x. q x ≡ true) xs
-each_of q [] all = tt
-each_of q (x ∷ xs) all = let parts = and_parts (q x) (list_all q xs) all in (parts.0, each_of q xs parts.1)
-
 -- from the cursor on, the objects of a folder stand together
-folder_names : (b : ℕ) (w after : List ℕ) (p : Stored) (name : List ℕ) (os : List Stored) → keys_ascend os ≡ true
+folder_names : (b : ℕ) (w after : List ℕ) (p : Stored) (name : List ℕ) (os : List Stored) → IsStrictlySortedBy by_key os
     → AllByRecursion (λ o. is_before ((b ∷ w) ++ 47 ∷ after) o ≡ false) os → Contains os p → name_of (b ∷ w) p.key ≡ Some name
     → Contains (names_of (b ∷ w) os) name
 folder_names b w after p name [] ordered all among named = absurd (no_member p among)
@@ -144,16 +140,15 @@ folder_names b w after p name (o ∷ os) ordered all among named = elim (member_
       (λ none. absurd cc)
       (λ n some. (let s : n ≡ name = cc in subst (Contains (n ∷ names_of (b ∷ w) os)) s (contains_first n (names_of (b ∷ w) os))))
   | inr later ↦
-      let parts = and_parts (list_all (λ later. is_before later.key o) os) (keys_ascend os) ordered in
-      let ahead : key_cmp o.key p.key ≡ Less = Less-from_is_lt _ (each_member (λ (l : Stored). is_before l.key o ≡ true) os p (each_of (λ l. is_before l.key o) os parts.0) later) in
+      let ahead : key_cmp o.key p.key ≡ Less = each_member (λ l. by_key o l ≡ Less) os p (sorted_head by_key o os ordered) later in
       let between : (n : List ℕ) × (text_after ((b ∷ w) ++ 47 ∷ []) o.key ≡ Some n) =
       key_between (b ∷ w) after o.key name all.0 (ap (key_cmp o.key) (sym (folder_key (b ∷ w) p.key name named)) ∙ ahead) in
       by_names (λ (names : List (List ℕ)). Contains names name) (b ∷ w) o os
       (λ none. absurd (let e = between.1 in cc))
-      (λ n some. contains_later n name (names_of (b ∷ w) os) (folder_names b w after p name os parts.1 all.1 later named))
+      (λ n some. contains_later n name (names_of (b ∷ w) os) (folder_names b w after p name os (sorted_tail by_key o os ordered) all.1 later named))
 ]
 
-pub folder_page : (objects : List Stored) (within after : List ℕ) (limit place : ℕ) → (within ≡ [] → ⊥) → keys_ascend objects ≡ true
+pub folder_page : (objects : List Stored) (within after : List ℕ) (limit place : ℕ) → (within ≡ [] → ⊥) → IsStrictlySortedBy by_key objects
     → IsPlace (within ++ 47 ∷ after) objects place
     → IsPage (object_in objects) within after limit (picked after limit (names_of within (drop place objects)))
 folder_page _ [] _ _ _ given ordered at = absurd (given refl)
@@ -163,10 +158,10 @@ folder_page objects (b ∷ w) after _ place given ordered at =
     let e =
     sym (folder_cmp (b ∷ w) name after) ∙ ap (λ k. key_cmp k ((b ∷ w) ++ 47 ∷ after)) (sym (folder_key (b ∷ w) _ _ named)) ∙ before in
     not_below name after (inr e)))
-    (λ p name among named. folder_names b w after p name (drop place objects) (keys_ascend-drop place objects ordered) at.back among named)
+    (λ p name among named. folder_names b w after p name (drop place objects) (sorted_drop by_key place objects ordered) at.back among named)
 
 -- the places behind which pages are picked
-pub root_start : (within after : List ℕ) (objects : List Stored) (place : ℕ) → true ≡ (length within == 0) → keys_ascend objects ≡ true
+pub root_start : (within after : List ℕ) (objects : List Stored) (place : ℕ) → true ≡ (length within == 0) → IsStrictlySortedBy by_key objects
     → IsPlace after objects place → IsStart within after objects place
 root_start [] after objects place empty ordered at = record {
   start_within = at.within;
@@ -175,7 +170,7 @@ root_start [] after objects place empty ordered at = record {
 root_start (b ∷ w) after _ _ empty ordered at = absurd (let e : suc (length w) ≡ 0 = eqb-true (suc (length w)) 0 (sym empty) in omega arith)
 
 pub folder_start : (within after key : List ℕ) (objects : List Stored) (place : ℕ) → false ≡ (length within == 0) → key ≡ within ++ 47 ∷ after
-    → keys_ascend objects ≡ true → IsPlace key objects place → IsStart within after objects place
+    → IsStrictlySortedBy by_key objects → IsPlace key objects place → IsStart within after objects place
 folder_start [] after _ _ _ given is ordered at = cc
 folder_start (b ∷ w) after _ objects place given is ordered at = record {
   start_within = at.within;

@@ -1,19 +1,20 @@
 -- Where a key stands in a list of objects in order.
-use Rattle.std.proofs.Common.{◌≡◌, ℕ, ◌≤◌, ◌<◌, zero, suc, Bool, true, false, List, [], ◌∷◌, length, take, drop, get_or, sym, ◌∙◌, ap, arith}
-use Rattle.std.specs.List.{list_all, AllByRecursion, AllWithin}
-use Rattle.std.specs.List.Sorted.{IsPartitionedBy, IsPartitionPoint}
+use Rattle.std.proofs.Common.{◌≡◌, ℕ, ◌≤◌, zero, suc, true, false, List, [], ◌∷◌, length, take, drop, get_or, sym, ◌∙◌, ap, subst, inl, inr, arith}
+use Rattle.std.specs.List.{AllByRecursion, AllWithin}
+use Rattle.std.specs.List.Sorted.{IsStrictlySortedBy, IsPartitionedBy, IsPartitionPoint}
 use Rattle.std.specs.Ordering.{nat_cmp, is_lt, is_eq, ordering_then}
 use Rattle.std.specs.Cmp.{IsTotalOrder}
 use Rattle.std.specs.Cmp.Lexicographic.{slice_cmp}
 use Rattle.std.specs.declared.cmp.Ordering.{Ordering}
 use Rattle.std.specs.declared.cmp.Ordering.TheVariants.{Less, Equal, Greater}
-use Rattle.std.proofs.lemmas.Bool.{and_parts}
+use Rattle.std.proofs.lemmas.Bool.{cases_lt}
 use Rattle.std.proofs.lemmas.Cmp.{nat_list_cmp_total, then_total, on_total}
+use Rattle.std.proofs.lemmas.Map.Keys.{Less-from_sorted}
 use Rattle.std.proofs.lemmas.Map.Text.{is_eq-slice_cmp}
 use Rattle.std.proofs.lemmas.Slice.Eq.{bytes_eq-Decides}
 use Rattle.list_core.proofs.Bools.{Less-from_is_lt}
 use Rattle.bucket_core.specs.declared.stored.Stored.{Stored}
-use Rattle.bucket_core.specs.Stored.{first_part, key_cmp, is_before, keys_ascend, IsPlace}
+use Rattle.bucket_core.specs.Stored.{first_part, key_cmp, is_before, by_key, IsPlace}
 
 -- the order of keys is total
 pub key_total : IsTotalOrder key_cmp
@@ -35,22 +36,13 @@ keys_equal a b e = texts_equal a b (second_equal _ _ e)
 pub before_trans : (a : Stored) (b c : List ℕ) → is_before b a ≡ true → is_lt (key_cmp b c) ≡ true → is_before c a ≡ true
 before_trans a b c ab bc = ap is_lt (key_total.trans a.key b c (Less-from_is_lt _ ab) (Less-from_is_lt _ bc))
 
--- an element of a list all of whose elements pass
-at_place : {X : Type 0} (p : X → Bool) (xs : List X) (i : ℕ) (d : X) → list_all p xs ≡ true → i < length xs → p (get_or xs i d) ≡ true
-at_place p [] i d all lt = absurd (omega arith)
-at_place p (x ∷ xs) zero d all lt = (and_parts (p x) (list_all p xs) all).0
-at_place p (x ∷ xs) (suc i) d all lt = at_place p xs i d (and_parts (p x) (list_all p xs) all).1 (omega arith)
-
 -- objects in order have those before a key in front
-pub partitioned : (key : List ℕ) (objects : List Stored) → keys_ascend objects ≡ true → IsPartitionedBy (is_before key) objects
-partitioned _ [] ordered i j d le lt at = absurd (omega arith)
-partitioned _ (o ∷ os) ordered zero zero d le lt at = at
-partitioned key (o ∷ os) ordered zero (suc j) d le lt at =
-    let parts = and_parts (list_all (λ later. is_before later.key o) os) (keys_ascend os) ordered in
-    before_trans o (get_or os j d).key key (at_place (λ later. is_before later.key o) os j d parts.0 (omega arith)) at
-partitioned _ (o ∷ os) ordered (suc i) zero d le lt at = absurd (omega arith)
-partitioned key (o ∷ os) ordered (suc i) (suc j) d le lt at =
-    partitioned key os (and_parts (list_all (λ later. is_before later.key o) os) (keys_ascend os) ordered).1 i j d (omega arith) (omega arith) at
+pub partitioned : (key : List ℕ) (objects : List Stored) → IsStrictlySortedBy by_key objects → IsPartitionedBy (is_before key) objects
+partitioned key objects ordered i j d le lt at =
+    elim (cases_lt i j) [
+      | inl below ↦ before_trans (get_or objects i d) (get_or objects j d).key key (ap is_lt (Less-from_sorted by_key objects i j d ordered below lt)) at
+      | inr past ↦ (let same : j ≡ i = omega arith in subst (λ k. is_before key (get_or objects k d) ≡ true) same at)
+    ]
 
 -- what holds of each element below a place holds of the front
 front_of : {X : Type 0} (P : X → Type 0) (xs : List X) (n : ℕ) → AllWithin P xs 0 n → n ≤ length xs → AllByRecursion P (take n xs)

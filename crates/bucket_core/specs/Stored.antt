@@ -1,6 +1,7 @@
 -- Objects in a list, in the order of their keys.
-use Rattle.std.specs.Prelude.{◌≡◌, ◌==◌, ℕ, ◌≤◌, ◌<◌, ◌-◌, ◌++◌, Option, Bool, true, false, ◌&&◌, if◌then◌else◌, List, [], ◌∷◌, length, take, drop, Some, None}
+use Rattle.std.specs.Prelude.{◌≡◌, ◌==◌, ℕ, ◌≤◌, ◌<◌, ◌-◌, ◌++◌, Option, Bool, true, false, if◌then◌else◌, List, [], ◌∷◌, length, take, drop, Some, None}
 use Rattle.std.specs.List.{slice_index_or, before_first, list_all, AllByRecursion}
+use Rattle.std.specs.List.Sorted.{IsStrictlySortedBy}
 use Rattle.std.specs.Option.{option_map_or}
 use Rattle.std.specs.Ordering.{ordering_then, is_lt}
 use Rattle.std.specs.Str.{bytes_eq}
@@ -28,10 +29,9 @@ abbrev pub object_in : List Stored → Contents
 object_in [] key = None
 object_in (object ∷ objects) key = if bytes_eq object.key key then Some object.bytes else object_in objects key
 
--- each object's key comes before those of all that follow
-abbrev pub keys_ascend : List Stored → Bool
-keys_ascend [] = true
-keys_ascend (object ∷ objects) = list_all (λ later. is_before later.key object) objects && keys_ascend objects
+-- the order of objects is that of their keys
+abbrev pub by_key : Stored → Stored → Ordering
+by_key one other = key_cmp one.key other.key
 
 -- each object stands under a key
 abbrev pub have_keys : List Stored → Bool
@@ -49,7 +49,7 @@ updated key object contents = λ other. if bytes_eq key other then object else c
 
 -- the new list is in order and stands for the old one's contents but at this key
 pub record IsUpdated (key : List ℕ) (object : Option (List ℕ)) (old new : List Stored) : Type 0 where
-  pub ordered : keys_ascend new ≡ true
+  pub ordered : IsStrictlySortedBy by_key new
   pub keys : have_keys new ≡ true
   pub stands : object_in new ≡ updated key object (object_in old)
 

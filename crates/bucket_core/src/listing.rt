@@ -1,8 +1,9 @@
-ghost use Rattle.std.specs.Prelude.{◌≡◌, ◌++◌, ◌∷◌, [], IfOk, IsTrue, option_map};
+ghost use Rattle.std.specs.Prelude.{◌≡◌, ◌++◌, ◌∷◌, [], IfOk, option_map};
 ghost use Rattle.std.specs.String.{string_bytes};
 ghost use Rattle.wire_bytes.specs.Files.{slash};
+ghost use Rattle.std.specs.List.Sorted.{IsStrictlySortedBy};
 ghost use Rattle.bucket_core.specs.Pages.{IsPage};
-ghost use Rattle.bucket_core.specs.Stored.{text_after, name_of, names_of, picked, keys_ascend, object_in, IsStart};
+ghost use Rattle.bucket_core.specs.Stored.{text_after, name_of, names_of, picked, by_key, object_in, IsStart};
 
 use crate::objects::{first_part, place_of};
 use crate::stored::Stored;
@@ -84,7 +85,7 @@ fn folder_key(alloc: Global, within: &str, name: &str) -> Result<String, NoMemor
 
 /// The place behind which a page is picked.
 fn start_of(alloc: Global, objects: &[Stored], within: &str, after: &str) -> Result<usize, NoMemory>
-    requires { IsTrue (keys_ascend objects.now) }
+    requires { IsStrictlySortedBy by_key objects.now }
     ensures { IfOk result (IsStart within.now after.now objects.now) }
 {
     if within.is_empty() {
@@ -102,7 +103,7 @@ pub(crate) fn page_of(
     after: &str,
     limit: usize,
 ) -> Result<TextList, NoMemory>
-    requires { IsTrue (keys_ascend objects.now) }
+    requires { IsStrictlySortedBy by_key objects.now }
     ensures { IfOk result
         (λ names. IsPage (object_in objects.now) within.now after.now limit names) }
 {

@@ -1,8 +1,10 @@
 ghost use Rattle.std.specs.Prelude.{◌≡◌, ◌≤◌, [], option_map, IsTrue, false, OnOk, OnErr};
+ghost use Rattle.std.proofs.Props.{props};
+ghost use Rattle.std.specs.List.Sorted.{IsStrictlySortedBy};
 ghost use Rattle.bucket_core.specs.Calls.{next_call};
 ghost use Rattle.bucket_core.specs.Causes.{KeepsFaults, put_failed, get_failed, delete_failed, page_failed};
 ghost use Rattle.bucket_core.specs.Contents.{Contents, IsKey, nothing, with_object, without_object, range_of, Shows};
-ghost use Rattle.bucket_core.specs.Stored.{keys_ascend, have_keys, object_in};
+ghost use Rattle.bucket_core.specs.Stored.{by_key, have_keys, object_in};
 
 use crate::calls::failure_at;
 use crate::listing::page_of;
@@ -21,7 +23,7 @@ pub struct MemoryBucket {
     failing: FailList,
     calls: u64,
     faults: u64,
-    ghost ordered: { IsTrue (keys_ascend objects.items) },
+    ghost ordered: { IsStrictlySortedBy by_key objects.items } by { Prim.hlevel props },
     ghost keys: { IsTrue (have_keys objects.items) },
 }
 
@@ -29,6 +31,7 @@ impl MemoryBucket {
     ghost use Rattle.bucket_core.specs.MemoryBucket.{objects_held, calls_made, calls_to_fail, faults_counted, next_failure, IsQuiet, CallCounted};
 
     /// An empty bucket. The list names calls of this bucket, of whatever kind, by their numbers from 1.
+    #[tactic(auto, using(list_core::proofs::Order::sorted_nil))]
     pub fn new(alloc: Global, failing: FailList) -> Self
         ensures empty { objects_held result ≡ nothing }
         ensures fails { calls_to_fail result ≡ failing }

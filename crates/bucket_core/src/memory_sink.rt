@@ -40,7 +40,7 @@ impl MemorySink {
         self.bytes.as_slice()
     }
 
-    fn failed(&mut self) -> WriteAnswer
+    fn fail(&mut self) -> WriteAnswer
         ensures answer { result ≡ WriteAnswer.Failed }
         ensures same { self.new ≡ record self.old { faults = next_call self.old.faults } }
         ensures later { self.old.faults ≤ self.new.faults }
@@ -76,7 +76,7 @@ impl Sink for MemorySink {
     {
         self.calls = self.calls.saturating_add(1);
         if self.fail_at == Some(self.calls) || self.bytes.extend_from_slice(bytes).is_err() {
-            return self.failed();
+            return self.fail();
         }
         WriteAnswer::Took(bytes.len())
     }

@@ -1,7 +1,8 @@
 ghost use Rattle.std.specs.Prelude.{◌≡◌, ◌<◌, ◌↔◌, length, List, ℕ, Some, None, IsTrue, OnOk, OnErr};
 ghost use Rattle.std.specs.Option.{option_copied};
+ghost use Rattle.std.specs.List.Sorted.{IsStrictlySortedBy};
 ghost use Rattle.bucket_core.specs.Contents.{IsKey};
-ghost use Rattle.bucket_core.specs.Stored.{first_part as first_part_of, key_cmp, is_before, keys_ascend, have_keys, object_in, IsPlace, IsUpdated, StandsAt};
+ghost use Rattle.bucket_core.specs.Stored.{first_part as first_part_of, key_cmp, is_before, by_key, have_keys, object_in, IsPlace, IsUpdated, StandsAt};
 
 use crate::stored::Stored;
 use label_sets::Text;
@@ -41,7 +42,7 @@ fn comes_before(object: &Stored, key: &str, first: &str) -> bool
 
 /// The place where a key stands or would stand.
 pub(crate) fn place_of(objects: &[Stored], key: &str) -> usize
-    requires { IsTrue (keys_ascend objects.now) }
+    requires { IsStrictlySortedBy by_key objects.now }
     ensures { IsPlace key.now objects.now result }
 {
     let first = first_part(key);
@@ -60,7 +61,7 @@ fn stands_at(objects: &[Stored], place: usize, key: &str) -> bool
 
 /// The object under the key.
 pub(crate) fn find<'a>(objects: &'a [Stored], key: &str) -> Option<&'a Blob>
-    requires { IsTrue (keys_ascend objects.now) }
+    requires { IsStrictlySortedBy by_key objects.now }
     ensures { option_copied result ≡ object_in objects.now key.now }
 {
     let place = place_of(objects, key);
@@ -73,7 +74,7 @@ pub(crate) fn find<'a>(objects: &'a [Stored], key: &str) -> Option<&'a Blob>
 
 /// Puts other bytes in the place of those of an object.
 fn replace_at(objects: &mut Vec<Stored>, place: usize, key: &str, bytes: Blob)
-    requires ordered { IsTrue (keys_ascend objects.old.items) }
+    requires ordered { IsStrictlySortedBy by_key objects.old.items }
     requires keys { IsTrue (have_keys objects.old.items) }
     requires place { IsPlace key.now objects.old.items place }
     requires stands { StandsAt key.now objects.old.items place }
@@ -84,7 +85,7 @@ fn replace_at(objects: &mut Vec<Stored>, place: usize, key: &str, bytes: Blob)
 
 /// Adds an object at the place where its key would stand.
 fn insert_at(objects: &mut Vec<Stored>, place: usize, object: Stored) -> Result<(), NoMemory>
-    requires ordered { IsTrue (keys_ascend objects.old.items) }
+    requires ordered { IsStrictlySortedBy by_key objects.old.items }
     requires keys { IsTrue (have_keys objects.old.items) }
     requires key { IsKey object.key }
     requires place { IsPlace object.key objects.old.items place }
@@ -104,7 +105,7 @@ pub(crate) fn put_in(
     key: &str,
     bytes: &Blob,
 ) -> Result<(), NoMemory>
-    requires ordered { IsTrue (keys_ascend objects.old.items) }
+    requires ordered { IsStrictlySortedBy by_key objects.old.items }
     requires keys { IsTrue (have_keys objects.old.items) }
     requires key { IsKey key.now }
     ensures ok { OnOk result
@@ -123,7 +124,7 @@ pub(crate) fn put_in(
 
 /// Takes away the object under the key.
 pub(crate) fn remove_from(objects: &mut Vec<Stored>, key: &str)
-    requires ordered { IsTrue (keys_ascend objects.old.items) }
+    requires ordered { IsStrictlySortedBy by_key objects.old.items }
     requires keys { IsTrue (have_keys objects.old.items) }
     ensures { IsUpdated key.now None objects.old.items objects.new.items }
 {

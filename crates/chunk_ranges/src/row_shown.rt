@@ -204,7 +204,7 @@ fn samples_in_range(asked: &Asked<'_>, samples: Vec<Sample>) -> Vec<Sample>
     ensures { result.items
         ≡ filter (λ s. is_between asked.now.low asked.now.high s.time) samples.items }
 {
-    if are_within(asked, samples.as_slice()) {
+    if are_between(asked, samples.as_slice()) {
         return samples;
     }
     let mut kept = samples;
@@ -213,19 +213,19 @@ fn samples_in_range(asked: &Asked<'_>, samples: Vec<Sample>) -> Vec<Sample>
 }
 
 /// Whether all samples lie in the range. It has no early end, so that it takes few steps a sample.
-fn are_within(asked: &Asked<'_>, samples: &[Sample]) -> bool
+fn are_between(asked: &Asked<'_>, samples: &[Sample]) -> bool
     ensures { result
         ≡ list_all (λ s. is_between asked.now.low asked.now.high s.time) samples.now }
 {
     let mut all = true;
     for sample in samples {
-        all = all & is_within(asked, sample);
+        all = all & is_between(asked, sample);
     }
     all
 }
 
 /// Whether a sample lies in the range.
-fn is_within(asked: &Asked<'_>, sample: &Sample) -> bool
+fn is_between(asked: &Asked<'_>, sample: &Sample) -> bool
     ensures { result ≡ is_between asked.now.low asked.now.high sample.now.time }
 {
     (asked.low <= sample.time) & (sample.time <= asked.high)

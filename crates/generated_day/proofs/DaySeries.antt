@@ -10,7 +10,7 @@ use Rattle.std.proofs.lemmas.List.Elements.{All-cons, All-nil}
 use Rattle.std.proofs.lemmas.List.FromFn.{map-range_with_len_more}
 use Rattle.std.proofs.lemmas.List.Sorted.{IsPermutation-refl}
 use Rattle.reading_core.specs.Lines.{line_feed}
-use Rattle.list_core.proofs.Bools.{bytes_eq-same, Less-from_is_lt, and_first, and_second}
+use Rattle.list_core.proofs.Bools.{same_texts, Less-from_is_lt, and_first, and_second}
 use Rattle.label_sets.specs.Labels.{compare_sets}
 use Rattle.label_sets.specs.Notation.{is_name, quoted, quoted_byte, pair_text, comma_pair_text, pairs_text, set_text}
 use Rattle.label_sets.specs.SampleText.{sample_text, spaced_sample_text}
@@ -67,7 +67,7 @@ pub set_text_at : (series : ℕ) → series < 100 → IsSetText (labels_text ser
 unfolding is_written is_name
 set_text_at series few = record {
   listed = labels_at series;
-  written = bytes_eq-same (labels_text series) (set_text (labels_at series)) (and_first (bytes_eq (labels_text series) (set_text (labels_at series))) (list_all is_print (labels_text series)) (one_written series few));
+  written = same_texts (labels_text series) (set_text (labels_at series)) (and_first (bytes_eq (labels_text series) (set_text (labels_at series))) (list_all is_print (labels_text series)) (one_written series few));
   named = two_named (record { name = codes "__name__"; value = codes "m" }) (record { name = codes "inst"; value = 105 ∷ two_digits series }) refl refl;
   arranged = IsPermutation-refl (labels_at series);
   lawful = (λ e. cc, λ e. cc, (refl, tt), (λ e. cc, λ e. cc, tt, tt));

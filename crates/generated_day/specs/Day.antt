@@ -3,7 +3,7 @@
 -- queries ask for the whole day: before the rounds, after them, and after the cleaning.
 use Rattle.std.specs.Prelude.{ℕ, ◌+◌, ◌*◌, ◌/◌, ◌%◌, ◌^◌, pos, List, [], ◌∷◌, ◌++◌, Bool, not, ◌==◌, if◌then◌else◌, codes}
 use Rattle.std.specs.List.{flat_map, range_with_len}
-use Rattle.reading_core.specs.Decimal.{decimal_text}
+use Rattle.reading_core.specs.Decimal.{decimal_text, digit_zero}
 use Rattle.reading_core.specs.Lines.{newline}
 use Rattle.ulid_core.specs.UlidText.{text_of}
 use Rattle.ulid_core.specs.Limits.{entropy_count}
@@ -79,7 +79,7 @@ abbrev pub ulid_of : ℕ → ℕ → ℕ
 ulid_of block replica = block_start (block + 1) * entropy_count + (2 * block + replica + 1)
 
 unfoldable pub two_digits : ℕ → List ℕ
-two_digits number = (48 + number / 10) ∷ (48 + number % 10) ∷ []
+two_digits number = (digit_zero + number / 10) ∷ (digit_zero + number % 10) ∷ []
 
 unfoldable pub labels_text : ℕ → List ℕ
 labels_text series = codes "{__name__=\"m\",inst=\"i" ++ two_digits series ++ codes "\"}"
@@ -122,19 +122,31 @@ upload_line block replica = codes "upload " ++ text_of (ulid_of block replica) +
 unfoldable pub uploads_at : ℕ → List ℕ
 uploads_at block = at_line (block_start (block + 1)) ++ upload_line block 0 ++ upload_line block 1
 
--- both gateways sync, and are asked for the day
+-- both gateways sync, and are asked for the day: an hour after the last blocks end, an hour after that, and behind the cleaning
 unfoldable pub look_text : ℕ → List ℕ
 look_text moment = at_line moment ++ codes "sync g1\nsync g2\nquery 1728000000000 1728086400000 {}\n"
+
+-- when they do so first
+abbrev pub first_look : ℕ
+first_look = day_start + hours 25
+
+-- when they do so behind the rounds of compaction
+abbrev pub second_look : ℕ
+second_look = day_start + hours 26
+
+-- when the cleaning begins: two days after that, as long as a mark stands before what it marks is deleted
+abbrev pub cleaning_begin : ℕ
+cleaning_begin = day_start + hours 74
 
 -- how many rounds of compaction there are
 abbrev pub round_count : ℕ
 round_count = 15
 
 unfoldable pub round_text : ℕ → List ℕ
-round_text round = at_line (day_start + hours 25 + minutes round) ++ codes "compact\n"
+round_text round = at_line (first_look + minutes round) ++ codes "compact\n"
 
 unfoldable pub cleaning_text : List ℕ
-cleaning_text = at_line (day_start + hours 74) ++ codes "clean\n"
+cleaning_text = at_line cleaning_begin ++ codes "clean\n"
 
 -- ---- the whole
 
@@ -153,8 +165,8 @@ setup_text = codes "rule replica-label replica\ngateway g1\ngateway g2\n"
 -- all phases
 unfoldable pub phases_text : List ℕ
 phases_text =
-    all_uploads_text ++ look_text (day_start + hours 25) ++ all_rounds_text ++ look_text (day_start + hours 26) ++ cleaning_text
-    ++ look_text (day_start + hours 74 + minutes 1)
+    all_uploads_text ++ look_text first_look ++ all_rounds_text ++ look_text second_look ++ cleaning_text
+    ++ look_text (cleaning_begin + minutes 1)
 
 unfoldable pub day_text : ℕ → List ℕ
 day_text number = setup_text ++ all_blocks_text number ++ phases_text

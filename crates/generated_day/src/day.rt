@@ -7,12 +7,18 @@ ghost use Rattle.script_fields.specs.declared.script_refusal.ScriptRefusal.TheVa
 ghost use Rattle.generated_day.specs.Wanting.{ReadsOrWants};
 ghost use Rattle.generated_day.specs.Day.{all_blocks_text, all_uploads_text, all_rounds_text, setup_text, cleaning_text, phases_text, day_text};
 
-use crate::lines::{put_at, put_look, put_round, put_uploads, read_blocks};
+use crate::lines::{FIRST_LOOK, put_at, put_look, put_round, put_uploads, read_blocks};
 use crate::samples::{BLOCK_COUNT, DAY_START};
 use list_core::NoMemory;
 use moment_core::{HOUR, MINUTE};
 use script_core::{PartReader, Script, ScriptRefusal};
 use std::alloc::Global;
+
+/// When both gateways look behind the rounds of compaction.
+const SECOND_LOOK: u64 = DAY_START + 26 * HOUR;
+
+/// When the cleaning begins: as long after that as a mark stands before what it marks is deleted.
+const CLEANING_BEGIN: u64 = DAY_START + 74 * HOUR;
 
 /// How many rounds of compaction there are.
 const ROUND_COUNT: u64 = 15;
@@ -64,11 +70,11 @@ fn put_phases(out: &mut Vec<u8>) -> Result<(), NoMemory>
     ensures { OnOk result (out.new.items ≡ out.old.items ++ phases_text) }
 {
     put_all_uploads(out)?;
-    put_look(out, DAY_START + 25 * HOUR)?;
+    put_look(out, FIRST_LOOK)?;
     put_rounds(out)?;
-    put_look(out, DAY_START + 26 * HOUR)?;
+    put_look(out, SECOND_LOOK)?;
     put_cleaning(out)?;
-    put_look(out, DAY_START + 74 * HOUR + MINUTE)
+    put_look(out, CLEANING_BEGIN + MINUTE)
 }
 
 fn put_all_uploads(out: &mut Vec<u8>) -> Result<(), NoMemory>
@@ -93,7 +99,7 @@ fn put_rounds(out: &mut Vec<u8>) -> Result<(), NoMemory>
 fn put_cleaning(out: &mut Vec<u8>) -> Result<(), NoMemory>
     ensures { OnOk result (out.new.items ≡ out.old.items ++ cleaning_text) }
 {
-    put_at(out, DAY_START + 74 * HOUR)?;
+    put_at(out, CLEANING_BEGIN)?;
     out.extend_from_slice(b"clean\n")?;
     Ok(())
 }

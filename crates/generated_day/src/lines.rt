@@ -6,11 +6,14 @@ ghost use Rattle.generated_day.specs.Day.{two_digits, labels_text, all_series_te
 
 use crate::samples::{DAY_START, block_start, samples_of};
 use list_core::NoMemory;
-use moment_core::MINUTE;
+use moment_core::{HOUR, MINUTE};
 use reading_core::put_unsigned;
 use script_core::{PartReader, ScriptRefusal};
 use std::alloc::Global;
 use ulid_core::Ulid;
+
+/// When both gateways look first. The rounds of compaction follow.
+pub(crate) const FIRST_LOOK: u64 = DAY_START + 25 * HOUR;
 
 /// How many series a block has.
 const SERIES_COUNT: u64 = 100;
@@ -30,8 +33,8 @@ fn put_two_digits(out: &mut Vec<u8>, number: u64) -> Result<(), NoMemory>
     requires { number < 100 }
     ensures { OnOk result (out.new.items ≡ out.old.items ++ two_digits number) }
 {
-    out.push(48 + (number / 10) as u8)?;
-    out.push(48 + (number % 10) as u8)?;
+    out.push(b'0' + (number / 10) as u8)?;
+    out.push(b'0' + (number % 10) as u8)?;
     Ok(())
 }
 
@@ -204,7 +207,7 @@ pub(crate) fn put_round(out: &mut Vec<u8>, round: u64) -> Result<(), NoMemory>
     requires { round ≤ round_count }
     ensures { OnOk result (out.new.items ≡ out.old.items ++ round_text round) }
 {
-    put_at(out, DAY_START + 1_500 * MINUTE + round * MINUTE)?;
+    put_at(out, FIRST_LOOK + round * MINUTE)?;
     out.extend_from_slice(b"compact\n")?;
     Ok(())
 }

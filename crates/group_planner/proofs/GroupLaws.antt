@@ -9,7 +9,7 @@ use Rattle.std.proofs.lemmas.List.Sorted.{IsPermutation-sym, Contains-permutatio
 use Rattle.list_core.specs.Ordered.{in_order}
 use Rattle.list_core.specs.declared.memory.NoMemory.{NoMemory}
 use Rattle.list_core.proofs.Lists.{cons_same, filter-map}
-use Rattle.list_core.proofs.Membership.{each_member, member_cases, contains_first, contains_later, no_member, into_map, of_map, into_flat_map, of_flat_map, of_in_order, into_in_order, filter_whole, filter_nothing}
+use Rattle.list_core.proofs.Membership.{each_member, member_cases, contains_first, contains_later, no_member, into_map, of_map, into_flat_map, of_flat_map, of_in_order, into_in_order, filter_whole, filter_nothing, some_member}
 use Rattle.list_core.proofs.SameMembers.{same_members}
 use Rattle.block_meta.specs.declared.meta.Meta.{Meta}
 use Rattle.group_planner.specs.Groups.{Key, compare_keys, key_of, has_key, group_of, comes_before, AreGroups}
@@ -122,12 +122,8 @@ module _ (replicas : List (List ℕ)) (metas members : List Meta) (keyed listed 
       ∙ ap (filter (has_key replicas key)) ordered
       ∙ kept_in_order comes_before members_ranked (has_key replicas key) metas
 
-  some_first : (xs : List Meta) → xs ≢ [] → (first : Meta) × Contains xs first
-  some_first [] some = absurd (some refl)
-  some_first (x ∷ xs) some = (x, contains_first x xs)
-
   first_of : (group : Group) → Contains groups group → (first : Meta) × Contains group.members first
-  first_of group among = some_first group.members (each_member (λ (g : Group). g.members ≢ []) groups group cut.inhabited among)
+  first_of group among = some_member group.members (each_member (λ (g : Group). g.members ≢ []) groups group cut.inhabited among)
 
   -- a group's key is a block's
   from_blocks : (key : Key) → Contains (map key_of_group groups) key → Contains (map (key_of replicas) metas) key

@@ -10,13 +10,14 @@ pub(crate) struct Range {
 }
 
 impl Hash for Range {
-    ghost use Rattle.std.specs.Prelude.{◌+◌, ◌%◌, ◌^◌};
+    ghost use Rattle.std.specs.Prelude.{◌+◌, ◌%◌};
     ghost use Rattle.std.specs.Hash as fed;
     ghost use Rattle.std.specs.Cmp.Rules.{hashing};
     ghost use Rattle.std.proofs.Common.{rules};
+    ghost use Rattle.ulid_core.specs.Limits.{entropy_count};
     ghost use Rattle.block_keys.specs.Keys.{key_ulid};
 
-    ghost hash_input = { λ range. fed.u128 (key_ulid range.key % 2 ^ 80 + range.from) };
+    ghost hash_input = { λ range. fed.u128 (key_ulid range.key % entropy_count + range.from) };
 
     ghost respects_eq = { Prim.search (hashing, rules) };
 

@@ -8,11 +8,7 @@ use Rattle.world_turn.specs.declared.pass.Pass.{Pass}
 use Rattle.world_turn.specs.declared.view.View.{View}
 use Rattle.phase_runner.specs.Phases.{IsSeated, AreSeated, HasSplit}
 
--- what is left of a list behind none of its members, behind one more, and behind all
-pub left_all : {J : Type 0} (xs : List J) → drop 0 xs ≡ xs
-left_all [] = refl
-left_all (x ∷ xs) = refl
-
+-- what is left of a list behind one of its members more, and behind all
 pub left_more : {J : Type 0} (xs done : List J) (x : J) → length done < length xs → x ≡ get_or xs (length done) x → drop (length done) xs ≡ x ∷ drop (length (done ++ x ∷ [])) xs
 left_more xs done x less is =
     drop_more xs (length done) x less ∙ (ap (λ y. y ∷ drop (length done + 1) xs) (sym is) ∙ ap (λ (n : ℕ). x ∷ drop n xs) (sym (length-append done (x ∷ []))))

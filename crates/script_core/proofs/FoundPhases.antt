@@ -7,7 +7,7 @@ use Rattle.std.proofs.lemmas.Option.{same_Some}
 use Rattle.std.proofs.Math.Bool.{or-false}
 use Rattle.reading_core.proofs.Binds.{bind_ok, unless_ok, ok_is, refused_as_ok, unless_is, then_ok, ok_or_ok}
 use Rattle.std.proofs.lemmas.Bool.{and_parts, not-true, cases_Bool}
-use Rattle.list_core.proofs.Bools.{bytes_eq-same}
+use Rattle.list_core.proofs.Bools.{same_texts}
 use Rattle.list_core.specs.Lists.{is_one_of}
 use Rattle.list_core.proofs.Lists.{pushed_not_nil}
 use Rattle.moment_core.specs.declared.moment.Moment.{Moment}
@@ -162,7 +162,7 @@ stop_found (Some text) stop h =
     let made : Some c.0 ≡ stop = ok_is _ _ c.2 in
     let last = only_found after_word a.0 a.1 in
     let cut = cut_rest (Some text) word after_word a.0 (cut_found (Some text)) last.0 in
-    let named : word ≡ codes "stop" = bytes_eq-same word (codes "stop") b.0 in
+    let named : word ≡ codes "stop" = same_texts word (codes "stop") b.0 in
     let number = stop_count_found a.0 c.0 c.1 in
     (word ∷ a.0 ∷ [], cut.0, stops_at a.0 c.0 (ap (λ w. w ∷ a.0 ∷ []) named) last.1 number.0 number.1 number.2 (sym made))
 

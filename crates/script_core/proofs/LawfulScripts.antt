@@ -48,7 +48,7 @@ use Rattle.script_workers.specs.Limits.{most_workers}
 use Rattle.script_fields.specs.Limits.{most_gateways, most_tasks}
 
 -- what is lawful so far: all but the last block have series
-pub record InOrder (so_far : SoFar) : Type 0 where
+pub record IsLawfulSoFar (so_far : SoFar) : Type 0 where
   pub rules : AreLawfulRules so_far.script.rules
   pub agreed : so_far.script.phases ≢ [] → agree so_far.script.rules ≡ true
   pub few_gateways : length so_far.script.gateways ≤ most_gateways
@@ -116,9 +116,9 @@ lawful_stop texts stop (spelling.no_stop none is) = subst IsLawfulStop (sym is) 
 lawful_stop texts stop (spelling.stops_at text count are field written low high is) =
     subst IsLawfulStop (sym is) (low, high)
 
-module _ (before after : SoFar) (line : List ℕ) (order : InOrder before) where
+module _ (before after : SoFar) (line : List ℕ) (order : IsLawfulSoFar before) where
   -- a rule's line leaves all but the rules
-  with_rules : (rules : Rules) → AreLawfulRules rules → before.script.phases ≡ [] → InOrder (spelling.outside (record before.script { rules = rules }))
+  with_rules : (rules : Rules) → AreLawfulRules rules → before.script.phases ≡ [] → IsLawfulSoFar (spelling.outside (record before.script { rules = rules }))
   with_rules rules lawful early = record {
     rules = lawful;
     agreed = λ some. absurd (some early);
@@ -134,12 +134,12 @@ module _ (before after : SoFar) (line : List ℕ) (order : InOrder before) where
     early = λ e. absurd cc;
   }
 
-  rule_in_order : RuleLine before line after → InOrder after
-  rule_in_order says =
-      subst InOrder (sym says.adds) (with_rules says.set (subst AreLawfulRules (sym (rule_set says.name says.value before.script.rules says.set says.sets)) (lawful_rule says.name says.text says.value before.script.rules says.is_value order.rules)) says.early)
+  rule_keeps : RuleLine before line after → IsLawfulSoFar after
+  rule_keeps says =
+      subst IsLawfulSoFar (sym says.adds) (with_rules says.set (subst AreLawfulRules (sym (rule_set says.name says.value before.script.rules says.set says.sets)) (lawful_rule says.name says.text says.value before.script.rules says.is_value order.rules)) says.early)
 
-  replica_in_order : ReplicaLine before line after → InOrder after
-  replica_in_order says = subst InOrder (sym says.adds) (with_rules (record before.script.rules { replicas = before.script.rules.replicas ++ says.name ∷ [] }) (record {
+  replica_keeps : ReplicaLine before line after → IsLawfulSoFar after
+  replica_keeps says = subst IsLawfulSoFar (sym says.adds) (with_rules (record before.script.rules { replicas = before.script.rules.replicas ++ says.name ∷ [] }) (record {
     consistency = order.rules.consistency;
     ignore = order.rules.ignore;
     delete = order.rules.delete;
@@ -152,8 +152,8 @@ module _ (before after : SoFar) (line : List ℕ) (order : InOrder before) where
     retention = order.rules.retention;
   }) says.early)
 
-  retention_in_order : RetentionLine before line after → InOrder after
-  retention_in_order says = subst InOrder (sym says.adds) (with_rules (record before.script.rules { retention = says.retention }) (record {
+  retention_keeps : RetentionLine before line after → IsLawfulSoFar after
+  retention_keeps says = subst IsLawfulSoFar (sym says.adds) (with_rules (record before.script.rules { retention = says.retention }) (record {
     consistency = order.rules.consistency;
     ignore = order.rules.ignore;
     delete = order.rules.delete;
@@ -166,11 +166,11 @@ module _ (before after : SoFar) (line : List ℕ) (order : InOrder before) where
     retention = lawful_retention says.ms says.retention says.is_span.at_most says.keeps;
   }) says.early)
 
-  gateway_in_order : GatewayLine before line after → InOrder after
-  gateway_in_order says =
+  gateway_keeps : GatewayLine before line after → IsLawfulSoFar after
+  gateway_keeps says =
       let size = length-append before.script.gateways (says.name ∷ []) in
       let few = says.few in
-      subst InOrder (sym says.adds) (record {
+      subst IsLawfulSoFar (sym says.adds) (record {
         rules = order.rules;
         agreed = order.agreed;
         few_gateways = omega arith;
@@ -185,13 +185,13 @@ module _ (before after : SoFar) (line : List ℕ) (order : InOrder before) where
         early = λ e. absurd cc;
       })
 
-  block_in_order : IsUtf8 line → HasEnded before.script.blocks → BlockLine before line after → InOrder after
-  block_in_order utf8 ended says =
+  block_keeps : IsUtf8 line → HasEnded before.script.blocks → BlockLine before line after → IsLawfulSoFar after
+  block_keeps utf8 ended says =
       let new : Block = record { ulid = says.ulid; labels = says.labels; body = Inline says.min_time says.max_time [] } in
       let size = length-append before.script.blocks (new ∷ []) in
       let few = says.few in
       let inline : IsLawfulInline says.min_time says.max_time [] = record { early = says.is_min.near.early; ascend = says.times; late = says.is_max.near.late; labels = All-nil (λ (one : Series). AreLawfulLabels one.labels); ordered = sorted_nil compare_sets; samples = All-nil (HasLawfulSamples says.min_time says.max_time) } in
-      subst InOrder (sym says.adds) (record {
+      subst IsLawfulSoFar (sym says.adds) (record {
         rules = order.rules;
         agreed = order.agreed;
         few_gateways = order.few_gateways;
@@ -215,12 +215,12 @@ module _ (before after : SoFar) (line : List ℕ) (order : InOrder before) where
         early = λ e. says.early;
       })
 
-  shelf_in_order : IsUtf8 line → HasEnded before.script.blocks → ShelfLine before line after → InOrder after
-  shelf_in_order utf8 ended says =
+  shelf_keeps : IsUtf8 line → HasEnded before.script.blocks → ShelfLine before line after → IsLawfulSoFar after
+  shelf_keeps utf8 ended says =
       let new : Block = record { ulid = says.ulid; labels = says.labels; body = OnShelf } in
       let size = length-append before.script.blocks (new ∷ []) in
       let few = says.few in
-      subst InOrder (sym says.adds) (record {
+      subst IsLawfulSoFar (sym says.adds) (record {
         rules = order.rules;
         agreed = order.agreed;
         few_gateways = order.few_gateways;
@@ -244,8 +244,8 @@ module _ (before after : SoFar) (line : List ℕ) (order : InOrder before) where
         early = λ e. absurd cc;
       })
 
-  series_in_order : IsUtf8 line → SeriesLine before line after → InOrder after
-  series_in_order utf8 says =
+  series_keeps : IsUtf8 line → SeriesLine before line after → IsLawfulSoFar after
+  series_keeps utf8 says =
       let new : Series = record { labels = says.labels; samples = says.samples } in
       let last : Block = record { ulid = says.ulid; labels = says.block_labels; body = Inline says.min_time says.max_time (says.lesser ++ says.greater) } in
       let more : Block = record { ulid = says.ulid; labels = says.block_labels; body = Inline says.min_time says.max_time (says.lesser ++ new ∷ says.greater) } in
@@ -268,7 +268,7 @@ module _ (before after : SoFar) (line : List ℕ) (order : InOrder before) where
           patterns = small_patterns says.texts says.samples says.are_samples;
         });
       } in
-      subst InOrder (sym says.adds) (record {
+      subst IsLawfulSoFar (sym says.adds) (record {
         rules = order.rules;
         agreed = order.agreed;
         few_gateways = order.few_gateways;
@@ -293,8 +293,8 @@ no_workers : (gateways : ℕ) → length (hands_of gateways []) ≤ most_workers
 unfolding hands_from
 no_workers gateways = omega arith
 
-phase_in_order : (gateways : List (List ℕ)) (blocks : List Block) (selectors : ℕ) (phases : List Phase) (phase : Phase) → AreLawfulPhases gateways blocks selectors phases → phase.tasks ≡ [] → phase.moment.ms < moment_limit → ((others : List Phase) (last : Phase) → phases ≡ others ++ last ∷ [] → last.moment.ms ≤ phase.moment.ms) → AreLawfulPhases gateways blocks selectors (phases ++ phase ∷ [])
-phase_in_order gateways blocks selectors phases phase lawful none below later =
+phase_keeps : (gateways : List (List ℕ)) (blocks : List Block) (selectors : ℕ) (phases : List Phase) (phase : Phase) → AreLawfulPhases gateways blocks selectors phases → phase.tasks ≡ [] → phase.moment.ms < moment_limit → ((others : List Phase) (last : Phase) → phases ≡ others ++ last ∷ [] → last.moment.ms ≤ phase.moment.ms) → AreLawfulPhases gateways blocks selectors (phases ++ phase ∷ [])
+phase_keeps gateways blocks selectors phases phase lawful none below later =
     let same : works_of (phases ++ phase ∷ []) ≡ works_of phases = works_of-append phases phase ∙ ap (λ tasks. works_of phases ++ works_in tasks) none ∙ append-nil (works_of phases) in
     record {
       each = All-push (IsLawfulPhase gateways blocks selectors) phases phase lawful.each (record {
@@ -340,8 +340,8 @@ sync_by gateways works work old new before after low high selector gateway is in
           old before more.0 low high selector gateway p.0 inside
     ]
 
-task_in_order : (before after : Script) (selectors number : ℕ) (work : Work) → AreLawfulPhases before.gateways before.blocks selectors before.phases → (adds : AddsTask before number work after) → IsLawfulWork before.gateways before.blocks selectors work → (is_compaction work ≡ true → has_compaction adds.phase.tasks ≡ false) → ((low high : ℤ) (selector gateway : ℕ) → work ≡ Query low high selector → gateway < length before.gateways → has_sync (works_of before.phases) gateway ≡ true) → AreLawfulPhases before.gateways before.blocks selectors after.phases
-task_in_order before after selectors number work lawful adds fits first syncs =
+task_keeps : (before after : Script) (selectors number : ℕ) (work : Work) → AreLawfulPhases before.gateways before.blocks selectors before.phases → (adds : AddsTask before number work after) → IsLawfulWork before.gateways before.blocks selectors work → (is_compaction work ≡ true → has_compaction adds.phase.tasks ≡ false) → ((low high : ℤ) (selector gateway : ℕ) → work ≡ Query low high selector → gateway < length before.gateways → has_sync (works_of before.phases) gateway ≡ true) → AreLawfulPhases before.gateways before.blocks selectors after.phases
+task_keeps before after selectors number work lawful adds fits first syncs =
     let task : Task = record { line = number; work = work } in
     let old : Phase = adds.phase in
     let new : Phase = record old { tasks = old.tasks ++ task ∷ [] } in
@@ -384,8 +384,8 @@ more_selectors gateways blocks selectors (Clean stop) lawful = lawful
 more_selectors gateways blocks selectors (Query low high selector) lawful =
     let below = lawful.3 in (lawful.0, lawful.1, lawful.2, omega arith)
 
-selector_in_order : (gateways : List (List ℕ)) (blocks : List Block) (selectors : ℕ) (phases : List Phase) → AreLawfulPhases gateways blocks selectors phases → AreLawfulPhases gateways blocks (selectors + 1) phases
-selector_in_order gateways blocks selectors phases lawful = record {
+selector_keeps : (gateways : List (List ℕ)) (blocks : List Block) (selectors : ℕ) (phases : List Phase) → AreLawfulPhases gateways blocks selectors phases → AreLawfulPhases gateways blocks (selectors + 1) phases
+selector_keeps gateways blocks selectors phases lawful = record {
   each = All-weaker (IsLawfulPhase gateways blocks selectors) (IsLawfulPhase gateways blocks (selectors + 1)) (λ phase is. record {
     moment = is.moment;
     tasks = All-weaker (λ (t : Task). IsLawfulWork gateways blocks selectors t.work) (λ (t : Task). IsLawfulWork gateways blocks (selectors + 1) t.work) (λ task fits. more_selectors gateways blocks selectors task.work fits) phase.tasks is.tasks;
@@ -401,11 +401,11 @@ agreed_by : (set : Rules) (phases : List Phase) → (phases ≡ [] → agree set
 agreed_by set [] first later = first refl
 agreed_by set (phase ∷ phases) first later = later (λ none. cc)
 
-module _ (before after : SoFar) (number : ℕ) (line : List ℕ) (order : InOrder before) where
-  at_in_order : AtLine before number line after → InOrder after
-  at_in_order says =
+module _ (before after : SoFar) (number : ℕ) (line : List ℕ) (order : IsLawfulSoFar before) where
+  at_keeps : AtLine before number line after → IsLawfulSoFar after
+  at_keeps says =
       let new : Phase = record { line = number; moment = record { ms = says.moment }; tasks = [] } in
-      subst InOrder (sym says.adds) (record {
+      subst IsLawfulSoFar (sym says.adds) (record {
         rules = order.rules;
         agreed = λ _. agreed_by before.script.rules before.script.phases (λ early. agree_tested before.script.rules (says.first early)) order.agreed;
         few_gateways = order.few_gateways;
@@ -416,14 +416,14 @@ module _ (before after : SoFar) (number : ℕ) (line : List ℕ) (order : InOrde
         full = order.full;
         selectors = order.selectors;
         none_selected = λ none. absurd (pushed_not_nil before.script.phases new none);
-        phases = phase_in_order before.script.gateways before.script.blocks (length before.script.selectors) before.script.phases new order.phases refl says.is_moment.below says.later;
+        phases = phase_keeps before.script.gateways before.script.blocks (length before.script.selectors) before.script.phases new order.phases refl says.is_moment.below says.later;
         early = λ e. absurd cc;
       })
 
   -- a task leaves all but the phases
-  with_task : (script : Script) (work : Work) → AddsTask before.script number work script → AreLawfulPhases before.script.gateways before.script.blocks (length before.script.selectors) script.phases → InOrder (spelling.outside script)
+  with_task : (script : Script) (work : Work) → AddsTask before.script number work script → AreLawfulPhases before.script.gateways before.script.blocks (length before.script.selectors) script.phases → IsLawfulSoFar (spelling.outside script)
   with_task script work adds phases =
-      let all : InOrder (spelling.outside (record before.script { phases = adds.others ++ record adds.phase { tasks = adds.phase.tasks ++ record { line = number; work = work } ∷ [] } ∷ [] })) = record {
+      let all : IsLawfulSoFar (spelling.outside (record before.script { phases = adds.others ++ record adds.phase { tasks = adds.phase.tasks ++ record { line = number; work = work } ∷ [] } ∷ [] })) = record {
         rules = order.rules;
         agreed = λ _. order.agreed (λ none. pushed_not_nil adds.others adds.phase (sym adds.last ∙ none));
         few_gateways = order.few_gateways;
@@ -437,34 +437,34 @@ module _ (before after : SoFar) (number : ℕ) (line : List ℕ) (order : InOrde
         phases = subst (AreLawfulPhases before.script.gateways before.script.blocks (length before.script.selectors)) (ap (λ (s : Script). s.phases) adds.adds) phases;
         early = λ e. absurd cc;
       } in
-      subst (λ (s : Script). InOrder (spelling.outside s)) (sym adds.adds) all
+      subst (λ (s : Script). IsLawfulSoFar (spelling.outside s)) (sym adds.adds) all
 
-  upload_in_order : UploadLine before number line after → InOrder after
-  upload_in_order says =
-      subst InOrder (sym says.adds) (with_task says.script (Upload says.ulid says.stop) says.task (task_in_order before.script says.script (length before.script.selectors) number (Upload says.ulid says.stop) order.phases says.task (says.declared, lawful_stop says.texts says.stop says.are_texts) (λ is. absurd cc) (λ low high selector gateway is inside. absurd cc)))
+  upload_keeps : UploadLine before number line after → IsLawfulSoFar after
+  upload_keeps says =
+      subst IsLawfulSoFar (sym says.adds) (with_task says.script (Upload says.ulid says.stop) says.task (task_keeps before.script says.script (length before.script.selectors) number (Upload says.ulid says.stop) order.phases says.task (says.declared, lawful_stop says.texts says.stop says.are_texts) (λ is. absurd cc) (λ low high selector gateway is inside. absurd cc)))
 
-  sync_in_order : SyncLine before number line after → InOrder after
-  sync_in_order says =
-      subst InOrder (sym says.adds) (with_task says.script (Sync says.gateway) says.task (task_in_order before.script says.script (length before.script.selectors) number (Sync says.gateway) order.phases says.task (named_inside before.script.gateways says.name says.gateway says.declared) (λ is. absurd cc) (λ low high selector gateway is inside. absurd cc)))
+  sync_keeps : SyncLine before number line after → IsLawfulSoFar after
+  sync_keeps says =
+      subst IsLawfulSoFar (sym says.adds) (with_task says.script (Sync says.gateway) says.task (task_keeps before.script says.script (length before.script.selectors) number (Sync says.gateway) order.phases says.task (named_inside before.script.gateways says.name says.gateway says.declared) (λ is. absurd cc) (λ low high selector gateway is inside. absurd cc)))
 
-  compact_in_order : CompactLine before number line after → InOrder after
-  compact_in_order says =
-      subst InOrder (sym says.adds) (with_task says.script (Compact says.stop) says.task (task_in_order before.script says.script (length before.script.selectors) number (Compact says.stop) order.phases says.task (lawful_stop says.texts says.stop says.are_texts) (λ is. says.first) (λ low high selector gateway is inside. absurd cc)))
+  compact_keeps : CompactLine before number line after → IsLawfulSoFar after
+  compact_keeps says =
+      subst IsLawfulSoFar (sym says.adds) (with_task says.script (Compact says.stop) says.task (task_keeps before.script says.script (length before.script.selectors) number (Compact says.stop) order.phases says.task (lawful_stop says.texts says.stop says.are_texts) (λ is. says.first) (λ low high selector gateway is inside. absurd cc)))
 
-  clean_in_order : CleanLine before number line after → InOrder after
-  clean_in_order says =
-      subst InOrder (sym says.adds) (with_task says.script (Clean says.stop) says.task (task_in_order before.script says.script (length before.script.selectors) number (Clean says.stop) order.phases says.task (lawful_stop says.texts says.stop says.are_texts) (λ is. absurd cc) (λ low high selector gateway is inside. absurd cc)))
+  clean_keeps : CleanLine before number line after → IsLawfulSoFar after
+  clean_keeps says =
+      subst IsLawfulSoFar (sym says.adds) (with_task says.script (Clean says.stop) says.task (task_keeps before.script says.script (length before.script.selectors) number (Clean says.stop) order.phases says.task (lawful_stop says.texts says.stop says.are_texts) (λ is. absurd cc) (λ low high selector gateway is inside. absurd cc)))
 
-  query_in_order : QueryLine before number line after → InOrder after
-  query_in_order says =
+  query_keeps : QueryLine before number line after → IsLawfulSoFar after
+  query_keeps says =
       let selectors = length before.script.selectors in
       let work : Work = Query says.low says.high selectors in
       let adds = says.task in
       let script : Script = record before.script { phases = adds.others ++ record adds.phase { tasks = adds.phase.tasks ++ record { line = number; work = work } ∷ [] } ∷ [] } in
       let fits : IsLawfulWork before.script.gateways before.script.blocks (selectors + 1) work = (says.is_low.near.early, says.times, says.is_high.near.late, omega arith) in
-      let phases = task_in_order before.script says.script (selectors + 1) number work (selector_in_order before.script.gateways before.script.blocks selectors before.script.phases order.phases) adds fits (λ is. absurd cc) (λ low high selector gateway is inside. says.synced gateway inside) in
+      let phases = task_keeps before.script says.script (selectors + 1) number work (selector_keeps before.script.gateways before.script.blocks selectors before.script.phases order.phases) adds fits (λ is. absurd cc) (λ low high selector gateway is inside. says.synced gateway inside) in
       let moved : AreLawfulPhases before.script.gateways before.script.blocks (selectors + 1) script.phases = subst (AreLawfulPhases before.script.gateways before.script.blocks (selectors + 1)) (ap (λ (s : Script). s.phases) adds.adds) phases in
-      let all : InOrder (spelling.outside (record script { selectors = before.script.selectors ++ says.selector ∷ [] })) = record {
+      let all : IsLawfulSoFar (spelling.outside (record script { selectors = before.script.selectors ++ says.selector ∷ [] })) = record {
         rules = order.rules;
         agreed = λ _. order.agreed (λ none. pushed_not_nil adds.others adds.phase (sym adds.last ∙ none));
         few_gateways = order.few_gateways;
@@ -478,41 +478,41 @@ module _ (before after : SoFar) (number : ℕ) (line : List ℕ) (order : InOrde
         phases = subst (λ n. AreLawfulPhases before.script.gateways before.script.blocks n script.phases) (sym (length-append before.script.selectors (says.selector ∷ []))) moved;
         early = λ e. absurd cc;
       } in
-      subst InOrder (sym (says.adds ∙ ap (λ (s : Script). spelling.outside (record s { selectors = s.selectors ++ says.selector ∷ [] })) adds.adds)) all
+      subst IsLawfulSoFar (sym (says.adds ∙ ap (λ (s : Script). spelling.outside (record s { selectors = s.selectors ++ says.selector ∷ [] })) adds.adds)) all
 
-  says_in_order : IsUtf8 line → Says before number line after → InOrder after
-  says_in_order utf8 (spelling.series says) = series_in_order before after line order utf8 says
-  says_in_order utf8 (spelling.rule ended says) = rule_in_order before after line order says
-  says_in_order utf8 (spelling.replica ended says) = replica_in_order before after line order says
-  says_in_order utf8 (spelling.retention ended says) = retention_in_order before after line order says
-  says_in_order utf8 (spelling.gateway ended says) = gateway_in_order before after line order says
-  says_in_order utf8 (spelling.block ended says) = block_in_order before after line order utf8 ended says
-  says_in_order utf8 (spelling.shelf ended says) = shelf_in_order before after line order utf8 ended says
-  says_in_order utf8 (spelling.at ended says) = at_in_order says
-  says_in_order utf8 (spelling.upload ended says) = upload_in_order says
-  says_in_order utf8 (spelling.sync ended says) = sync_in_order says
-  says_in_order utf8 (spelling.compact ended says) = compact_in_order says
-  says_in_order utf8 (spelling.clean ended says) = clean_in_order says
-  says_in_order utf8 (spelling.query ended says) = query_in_order says
+  says_keeps : IsUtf8 line → Says before number line after → IsLawfulSoFar after
+  says_keeps utf8 (spelling.series says) = series_keeps before after line order utf8 says
+  says_keeps utf8 (spelling.rule ended says) = rule_keeps before after line order says
+  says_keeps utf8 (spelling.replica ended says) = replica_keeps before after line order says
+  says_keeps utf8 (spelling.retention ended says) = retention_keeps before after line order says
+  says_keeps utf8 (spelling.gateway ended says) = gateway_keeps before after line order says
+  says_keeps utf8 (spelling.block ended says) = block_keeps before after line order utf8 ended says
+  says_keeps utf8 (spelling.shelf ended says) = shelf_keeps before after line order utf8 ended says
+  says_keeps utf8 (spelling.at ended says) = at_keeps says
+  says_keeps utf8 (spelling.upload ended says) = upload_keeps says
+  says_keeps utf8 (spelling.sync ended says) = sync_keeps says
+  says_keeps utf8 (spelling.compact ended says) = compact_keeps says
+  says_keeps utf8 (spelling.clean ended says) = clean_keeps says
+  says_keeps utf8 (spelling.query ended says) = query_keeps says
 
 -- ---- whole texts
 
-say_by : (before after : SoFar) (number : ℕ) (line : List ℕ) (lines : List (List ℕ)) (b : Bool) → InOrder before → ((next : SoFar) → InOrder next → Say next (number + 1) lines after → InOrder after) → MatchBool b (Say before (number + 1) lines after) ((next : SoFar) × (is_utf8 line ≡ true) × Says before number line next × Say next (number + 1) lines after) → InOrder after
+say_by : (before after : SoFar) (number : ℕ) (line : List ℕ) (lines : List (List ℕ)) (b : Bool) → IsLawfulSoFar before → ((next : SoFar) → IsLawfulSoFar next → Say next (number + 1) lines after → IsLawfulSoFar after) → MatchBool b (Say before (number + 1) lines after) ((next : SoFar) × (is_utf8 line ≡ true) × Says before number line next × Say next (number + 1) lines after) → IsLawfulSoFar after
 say_by before after number line lines true order later said = later before order said
 say_by before after number line lines false order later said =
-    later said.0 (says_in_order before said.0 number line order (IsUtf8-from_is_utf8 line said.1) said.2) said.3
+    later said.0 (says_keeps before said.0 number line order (IsUtf8-from_is_utf8 line said.1) said.2) said.3
 
-say_in_order : (before after : SoFar) (number : ℕ) (lines : List (List ℕ)) → InOrder before → Say before number lines after → InOrder after
-say_in_order before after number [] order said = subst InOrder said order
-say_in_order before after number (line ∷ lines) order said =
-    say_by before after number line lines (is_silent line) order (λ next next_order later. say_in_order next after (number + 1) lines next_order later) said
+say_keeps : (before after : SoFar) (number : ℕ) (lines : List (List ℕ)) → IsLawfulSoFar before → Say before number lines after → IsLawfulSoFar after
+say_keeps before after number [] order said = subst IsLawfulSoFar said order
+say_keeps before after number (line ∷ lines) order said =
+    say_by before after number line lines (is_silent line) order (λ next next_order later. say_keeps next after (number + 1) lines next_order later) said
 
 none_once : IsDistinct nat_eq (ulids_of [])
 unfolding IsDistinct
 none_once = tt
 
-nothing_in_order : InOrder spelling.nothing
-nothing_in_order = record {
+nothing_lawful : IsLawfulSoFar spelling.nothing
+nothing_lawful = record {
   rules = record { consistency = omega arith; ignore = omega arith; delete = omega arith; partial = omega arith; upload = omega arith; tick = omega arith; page_limit_low = omega arith; page_limit_high = omega arith; replicas = All-nil (λ name. is_name name ≡ true); retention = tt };
   agreed = λ some. absurd (some refl);
   few_gateways = omega arith;
@@ -530,7 +530,7 @@ nothing_in_order = record {
 -- what a text spells is lawful
 pub spelled_lawful : (text : List ℕ) (script : Script) → Spells text script → IsLawfulScript script
 spelled_lawful text script spells =
-    let order = say_in_order spelling.nothing (record { script = script; in_block = spells.in_block }) 1 (lines_of text) nothing_in_order spells.lines in
+    let order = say_keeps spelling.nothing (record { script = script; in_block = spells.in_block }) 1 (lines_of text) nothing_lawful spells.lines in
     record {
       rules = order.rules;
       agreed = order.agreed;

@@ -10,7 +10,7 @@ use Rattle.std.specs.List.{All}
 use Rattle.std.specs.Map.{lookup}
 use Rattle.reading_core.proofs.Binds.{unless_ok, ok_is, unless_is}
 use Rattle.std.proofs.lemmas.Bool.{and_parts, not-true, not_from_false}
-use Rattle.list_core.proofs.Bools.{bytes_eq-same}
+use Rattle.list_core.proofs.Bools.{same_texts}
 use Rattle.list_core.proofs.Lists.{nil_not_middle, some-from_length, length-some, last_or_none, pushed_not_nil}
 use Rattle.script_core.specs.declared.block.Block.{Block}
 use Rattle.script_core.specs.declared.body.Body.TheVariants.{OnShelf}
@@ -96,7 +96,7 @@ line_word kinds.Query = codes "query"
 -- what is found in a table of words has the word that was sought
 word_found : {K : Type 0} (word_of : K → List ℕ) (table : List (List ℕ × K)) (word : List ℕ) (found : K) → All (λ (e : List ℕ × K). e.0 ≡ word_of e.1) table → lookup (bytes_eq word) table ≡ Some found → word ≡ word_of found
 word_found {K} word_of table word found all h =
-    All-contains (λ (e : List ℕ × K). e.0 ≡ word_of e.1) table (word, found) all (Contains-from_lookup bytes_eq-same word found table h)
+    All-contains (λ (e : List ℕ × K). e.0 ≡ word_of e.1) table (word, found) all (Contains-from_lookup same_texts word found table h)
 
 pub kind_found : (word : List ℕ) (found : LineKind) → line_kind word ≡ Some found → word ≡ line_word found
 kind_found word found =
@@ -130,7 +130,7 @@ replica_by false false (Some own) h = let same : Valued own ≡ ReplicaLabel = s
 
 pub replica_found : (word : List ℕ) → rule_kind word ≡ Some ReplicaLabel → word ≡ codes "replica-label"
 replica_found word h =
-    bytes_eq-same word (codes "replica-label") (replica_by (bytes_eq word (codes "replica-label")) (bytes_eq word (codes "retention")) (rule_name word) h)
+    same_texts word (codes "replica-label") (replica_by (bytes_eq word (codes "replica-label")) (bytes_eq word (codes "retention")) (rule_name word) h)
 
 retention_by : (replica retention : Bool) (named : Option RuleName) → kind_by replica retention named ≡ Some Retention → retention ≡ true
 retention_by true retention named h = let same : ReplicaLabel ≡ Retention = same_Some _ _ h in absurd cc
@@ -140,7 +140,7 @@ retention_by false false (Some own) h = let same : Valued own ≡ Retention = sa
 
 pub retention_found : (word : List ℕ) → rule_kind word ≡ Some Retention → word ≡ codes "retention"
 retention_found word h =
-    bytes_eq-same word (codes "retention") (retention_by (bytes_eq word (codes "replica-label")) (bytes_eq word (codes "retention")) (rule_name word) h)
+    same_texts word (codes "retention") (retention_by (bytes_eq word (codes "replica-label")) (bytes_eq word (codes "retention")) (rule_name word) h)
 
 pub valued_again : (name : RuleName) → rule_kind (rule_word name) ≡ Some (Valued name)
 valued_again names.Consistency = refl

@@ -4,7 +4,7 @@ use Rattle.std.specs.List.{flat_map, list_all}
 use Rattle.std.specs.List.Sorted.{IsStrictlySortedBy}
 use Rattle.std.specs.Ordering.{int_cmp}
 use Rattle.std.specs.Str.{is_utf8}
-use Rattle.reading_core.specs.Lines.{line_feed}
+use Rattle.reading_core.specs.Lines.{line_feed, newline}
 use Rattle.label_sets.specs.SampleText.{spaced_sample_text}
 use Rattle.label_sets.specs.SetText.{IsSetText}
 use Rattle.label_sets.specs.Times.{times_of}
@@ -49,7 +49,7 @@ series_front labels samples = codes "series " ++ labels ++ flat_map spaced_sampl
 
 -- and with it
 unfoldable pub series_text : List ℕ → List Sample → List ℕ
-series_text labels samples = series_front labels samples ++ line_feed ∷ []
+series_text labels samples = series_front labels samples ++ newline
 
 -- a text of one line, without its newline
 abbrev pub IsOneLine : List ℕ → Type 0

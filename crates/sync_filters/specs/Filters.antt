@@ -4,6 +4,7 @@ use Rattle.std.specs.List.{filter, list_any, list_all}
 use Rattle.std.specs.List.Sorted.{IsPermutation, IsNonDecreasingBy}
 use Rattle.std.specs.Ordering.{int_eq}
 use Rattle.std.specs.Str.{bytes_eq}
+use Rattle.list_core.specs.Lists.{is_one_of}
 use Rattle.ulid_core.specs.Times.{time_of}
 use Rattle.block_meta.specs.declared.deletion_mark.DeletionMark.{DeletionMark}
 use Rattle.block_meta.specs.declared.meta.Meta.{Meta}
@@ -41,7 +42,7 @@ is_expired meta (Some retention) moment = int_eq meta.resolution (pos 0) && int_
 
 -- each of the few is one of the many
 abbrev pub has_all : List ℕ → List ℕ → Bool
-has_all many few = list_all (λ ulid. list_any (λ other. other == ulid) many) few
+has_all many few = list_all (λ ulid. is_one_of many ulid) few
 
 -- it has more sources, or as many and the smaller ULID
 abbrev pub has_more : Meta → Meta → Bool

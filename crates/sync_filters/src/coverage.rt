@@ -2,6 +2,7 @@ ghost use Rattle.std.specs.Prelude.{◌≡◌, ◌==◌, ◌&&◌, pos, not, map
 ghost use Rattle.std.specs.List.{filter, list_any};
 ghost use Rattle.std.specs.List.Sorted.{IsStrictlyIncreasing, IsPermutation, IsNonDecreasingBy, IsSortedBy};
 ghost use Rattle.std.specs.Ordering.{int_eq};
+ghost use Rattle.list_core.specs.Lists.{is_one_of};
 ghost use Rattle.sync_filters.specs.Filters.{is_better, is_covered as is_covered_by, has_more as has_more_than, has_all as has_each, Splits};
 ghost use Rattle.sync_filters.specs.Holders.{AreHolders, comes_before, covers_at, digest_alone, each_source, mark_at};
 
@@ -48,7 +49,7 @@ fn has_all(many: &[Ulid], few: &[Ulid]) -> bool
 
 fn has(ulids: &[Ulid], ulid: Ulid) -> bool
     requires { IsStrictlyIncreasing ulids.now }
-    ensures { result ≡ list_any (λ other. other == ulid) ulids.now }
+    ensures { result ≡ is_one_of ulids.now ulid }
 {
     ulids.binary_search(&ulid).is_ok()
 }

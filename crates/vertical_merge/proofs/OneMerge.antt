@@ -14,6 +14,7 @@ use Rattle.label_sets.specs.declared.label.Label.{Label}
 use Rattle.label_sets.specs.declared.sample.Sample.{Sample}
 use Rattle.label_sets.specs.declared.series.Series.{Series}
 use Rattle.vertical_merge.specs.Merged.{AreFirst, IsMerge}
+use Rattle.vertical_merge.proofs.Joining.{labels_of}
 use Rattle.vertical_merge.proofs.Laws.{found_contains}
 use Rattle.vertical_merge.proofs.Orders.{keys_total, same_key, set_itself}
 
@@ -99,13 +100,10 @@ unfolding triples_under
 not_none _ [] _ some is = some refl
 not_none _ (s ∷ ss) _ some is = cc (is)
 
-abbrev Ascend : List Series → Type 0
-Ascend series = IsStrictlySortedBy compare_sets (map (λ s. s.labels) series)
-
 abbrev HasSamples : Series → Type 0
 HasSamples s = s.samples ≢ []
 
-one_series : (xs ys : List Series) → Ascend xs → Ascend ys → All HasSamples xs → All HasSamples ys → triples_of xs ≡ triples_of ys → xs ≡ ys
+one_series : (xs ys : List Series) → IsStrictlySortedBy compare_sets (labels_of xs) → IsStrictlySortedBy compare_sets (labels_of ys) → All HasSamples xs → All HasSamples ys → triples_of xs ≡ triples_of ys → xs ≡ ys
 unfolding triples_of IsStrictlySortedBy
 one_series [] [] up rise some more is = refl
 one_series [] (y ∷ ys) up rise some more is = absurd (not_none _ _ _ (All-head HasSamples y _ more) (sym is))

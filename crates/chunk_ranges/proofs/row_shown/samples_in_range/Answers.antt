@@ -6,9 +6,9 @@ use Rattle.matchers.specs.Selected.{is_between}
 use Rattle.chunk_ranges.proofs.RowSamples.{all_kept}
 use Rattle.chunk_ranges.proofs.row_shown.samples_in_range.Goals as goal
 
-pub returns-then-are_within : goal.returns-then-are_within
-returns-then-are_within c = all_kept (λ (s : Sample). is_between c.args.asked.now.low c.args.asked.now.high s.time) c.args.samples.items
-    (ap (list_all (λ (s : Sample). is_between c.args.asked.now.low c.args.asked.now.high s.time)) (sym c.as_slice.ensures.value) ∙ sym c.are_within.ensures ∙ c.if-are_within.true)
+pub returns-then-are_between : goal.returns-then-are_between
+returns-then-are_between c = all_kept (λ (s : Sample). is_between c.args.asked.now.low c.args.asked.now.high s.time) c.args.samples.items
+    (ap (list_all (λ (s : Sample). is_between c.args.asked.now.low c.args.asked.now.high s.time)) (sym c.as_slice.ensures.value) ∙ sym c.are_between.ensures ∙ c.if-are_between.true)
 
 pub returns : goal.returns
 returns c = filter_same _ (λ (s : Sample). is_between c.args.asked.now.low c.args.asked.now.high s.time) _ (λ x b f' k. search rules) _ _ c.retain.ensures.filtered

@@ -1,11 +1,12 @@
 use Rattle.std.proofs.Common.{ℕ, ◌+◌, ◌++◌, ◌∷◌, [], map, drop, length, length-append, Option, sym, ap, ◌∙◌, subst, arith}
 use Rattle.std.proofs.lemmas.Iterator.Adapters.{YieldsList-from_vec}
 use Rattle.std.proofs.lemmas.Iterator.Consumers.{YieldsList-end, YieldsList-turn}
+use Rattle.list_core.proofs.Lists.{drop_none}
 use Rattle.world_turn.specs.Passes.{view_of}
 use Rattle.world_turn.specs.declared.pass.Pass.{Pass}
 use Rattle.phase_runner.specs.Phases.{AreEnded}
 use Rattle.phase_runner.specs.Hands.{IsThere}
-use Rattle.phase_runner.proofs.Seating.{left_all, left_more, left_none}
+use Rattle.phase_runner.proofs.Seating.{left_more, left_none}
 use Rattle.phase_runner.proofs.Taking.{HasTaken, opened, none_taken, one_taken, all_taken}
 use Rattle.phase_runner.proofs.phase.join_all.Goals as goal
 
@@ -13,7 +14,7 @@ pub loop-work-init : goal.loop-work-init
 loop-work-init g c =
     let room = c.requires.room in
     let works = c.args.works.items in (
-      subst (λ ws. HasTaken g.J.Job.may (record { full = g.J.Job.met_full; wanted = g.J.Job.wanted }) c.args.shared.now.table.shared.table_id (view_of c.args.first.now.value) (c.args.first.now.value.splits + 1) c.args.jobs.now.value.items c.args.root c.args.root (map (λ w. (w.pass, w.end)) ws) c.args.ends.now.items) (sym (left_all works))
+      subst (λ ws. HasTaken g.J.Job.may (record { full = g.J.Job.met_full; wanted = g.J.Job.wanted }) c.args.shared.now.table.shared.table_id (view_of c.args.first.now.value) (c.args.first.now.value.splits + 1) c.args.jobs.now.value.items c.args.root c.args.root (map (λ w. (w.pass, w.end)) ws) c.args.ends.now.items) (sym (drop_none works))
           (subst (λ es. HasTaken g.J.Job.may (record { full = g.J.Job.met_full; wanted = g.J.Job.wanted }) c.args.shared.now.table.shared.table_id (view_of c.args.first.now.value) (c.args.first.now.value.splits + 1) c.args.jobs.now.value.items c.args.root c.args.root (map (λ w. (w.pass, w.end)) works) es) (sym room.0)
           (none_taken g.J.Job.may (record { full = g.J.Job.met_full; wanted = g.J.Job.wanted }) _ _ _ _ c.args.root _ c.requires.own.1 c.requires.ended)),
       (let b = c.args.ends.now.ok in omega (arith, ap length room.0)),

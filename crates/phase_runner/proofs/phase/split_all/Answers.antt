@@ -2,7 +2,8 @@ use Rattle.std.proofs.Common.{ℕ, ◌++◌, ◌∷◌, [], map, drop, length, l
 use Rattle.std.proofs.lemmas.Iterator.Adapters.{YieldsList-from_vec}
 use Rattle.std.proofs.lemmas.Iterator.Consumers.{YieldsList-end, YieldsList-turn}
 use mathlib.Core.List.{map-append}
-use Rattle.phase_runner.proofs.Seating.{HasSeated, all_seated, left_all, left_more, left_none, none_seated, one_seated}
+use Rattle.list_core.proofs.Lists.{drop_none}
+use Rattle.phase_runner.proofs.Seating.{HasSeated, all_seated, left_more, left_none, none_seated, one_seated}
 use Rattle.phase_runner.specs.Phases.{HasSplit}
 use Rattle.phase_runner.proofs.phase.split_all.Goals as goal
 
@@ -11,7 +12,7 @@ loop-job-init g c =
     let room = c.requires.room in
     let table = c.args.shared.now.table.shared.table_id in
     let jobs = c.args.jobs.items in (
-      subst (λ js. HasSeated table c.args.root c.args.root jobs js (map (λ w. (w.job, w.pass)) c.args.works.now.items)) (sym (left_all jobs))
+      subst (λ js. HasSeated table c.args.root c.args.root jobs js (map (λ w. (w.job, w.pass)) c.args.works.now.items)) (sym (drop_none jobs))
           (subst (λ ws. HasSeated table c.args.root c.args.root jobs jobs (map (λ w. (w.job, w.pass)) ws)) (sym room.0) (none_seated table c.args.root jobs c.requires.own.1)),
       (let a = c.args.works.now.ok in omega (arith, ap length room.0)),
       room.1,
