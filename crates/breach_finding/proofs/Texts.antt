@@ -1,16 +1,10 @@
 -- The first place in which texts differ.
-use Rattle.std.proofs.Common.{◌≡◌, ◌≢◌, ◌⊎◌, inl, inr, ℕ, zero, suc, true, ◌+◌, ◌<◌, ◌≤◌, List, [], ◌∷◌, ◌++◌, take, drop, length, Option, Some, None, sym, ◌∙◌, ap, subst, arith}
+use Rattle.std.proofs.Common.{◌≡◌, ◌≢◌, ◌⊎◌, inl, inr, ℕ, zero, suc, ◌+◌, ◌<◌, ◌≤◌, List, [], ◌∷◌, ◌++◌, take, drop, length, Option, Some, None, sym, ◌∙◌, ap, subst, arith}
 use Rattle.std.proofs.lemmas.List.{take-append-drop}
-use Rattle.std.specs.Str.{bytes_eq}
-use Rattle.list_core.proofs.Bools.{bytes_eq-same}
 use Rattle.world_core.specs.declared.reply.Reply.{Reply}
 use Rattle.world_core.specs.declared.reply.Reply.TheVariants.{Found, Names}
 use Rattle.lifecycle_core.specs.Breaches.{FirstDiffer, next_byte, shown_by}
 use Rattle.breach_finding.specs.Told.{IsDifference, IsShownWrong, ended_names}
-
--- the lemma of list_core, under a name that a tactic can say
-pub same_texts : (one other : List ℕ) → bytes_eq one other ≡ true → one ≡ other
-same_texts = bytes_eq-same
 
 -- texts that begin alike differ in what comes next
 pub differ_at : (one other : List ℕ) (place x y : ℕ) → take place one ≡ take place other → x ≡ next_byte (drop place one) → y ≡ next_byte (drop place other) → x ≢ y → FirstDiffer one other x y

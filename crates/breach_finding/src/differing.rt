@@ -1,5 +1,5 @@
 ghost use Rattle.std.specs.Prelude.{◌≡◌, ◌⊎◌, ◌<◌, ◌≤◌, drop, length, IfOk};
-ghost use Rattle.lifecycle_core.specs.Breaches.{next_byte};
+ghost use Rattle.lifecycle_core.specs.Breaches.{next_byte, text_end};
 ghost use Rattle.breach_finding.specs.Told.{IsDifference, ended_names};
 
 use label_sets::Text;
@@ -9,15 +9,18 @@ use std::alloc::Global;
 /// The byte with which a name ends in the text of a reply.
 const NAME_END: u8 = 255;
 
-/// The byte with which a text goes on at a place, and 256 at its end.
+/// What counts as the byte at a text's end, as it is none.
+const TEXT_END: u64 = 256;
+
+/// The byte with which a text goes on at a place.
 fn byte_at(text: &[u8], place: usize) -> u64
     ensures next { result ≡ next_byte (drop place text.now) }
-    ensures byte { place < length text.now → result < 256 }
-    ensures end { length text.now ≤ place → result ≡ 256 }
+    ensures byte { place < length text.now → result < text_end }
+    ensures end { length text.now ≤ place → result ≡ text_end }
 {
     match text.get(place) {
         Some(byte) => u64::from(*byte),
-        None => 256,
+        None => TEXT_END,
     }
 }
 
@@ -29,9 +32,9 @@ fn shorter(one: usize, other: usize) -> usize
     if one < other { one } else { other }
 }
 
-/// The first bytes in which two texts differ, where a text's end counts as 256. Texts that are the same, as those of nearly all
+/// The first bytes in which two texts differ, where a text's end counts as one too. Texts that are the same, as those of nearly all
 /// replies are, are compared many bytes at a time.
-#[tactic(auto, using(crate::proofs::Texts::same_texts))]
+#[tactic(auto, using(list_core::proofs::Bools::same_texts))]
 pub(crate) fn first_difference(one: &[u8], other: &[u8]) -> Option<(u64, u64)>
     ensures { IsDifference one.now other.now result }
 {

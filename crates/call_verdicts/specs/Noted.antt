@@ -4,8 +4,10 @@ use Rattle.bucket_core.specs.Asking.{Call}
 use Rattle.bucket_core.specs.Causes.{Rose}
 use Rattle.world_core.specs.declared.entry.Entry.{Entry}
 use Rattle.call_verdicts.specs.Asked.{WasAskedAsShown, WasOnlyOpened}
+use Rattle.call_verdicts.specs.Statuses.{number_of}
 use Rattle.call_verdicts.specs.Verdicts.{Saying}
 use Rattle.run_notes.specs.declared.run_note.RunNote.{RunNote}
+use Rattle.call_verdicts.specs.declared.status.Status.TheVariants.{JournalFull, SinkFault}
 use Rattle.call_verdicts.specs.declared.verdict.Verdict.{Verdict}
 use Rattle.call_verdicts.specs.declared.verdict.Verdict.TheVariants as verdict
 
@@ -39,7 +41,8 @@ abbrev pub IsNoted : {B : Type 0} → (Bool → Bool → Bool) → (B → Option
 IsNoted {B} tells asked verdict journal store (Some note) = IsNoteOf tells asked verdict journal store note
 IsNoted {B} tells asked verdict journal store None = IfSome journal (λ entries. entries ≡ []) × (tells_full verdict ≡ false) × IfSome store (WasOnlyOpened asked)
 
--- Where the full journal is to be told, the status is 8, or 4 as the sink failed. Else it is not 8.
+-- Where the full journal is to be told, the status tells it, or that the sink failed. Else it does not tell it.
 abbrev pub IsFullSaid : Bool → Saying → ℕ → Type 0
-IsFullSaid true saying number = (number ≡ 8) ⊎ ((number ≡ 4) × Rose saying.faults_before saying.faults_after)
-IsFullSaid false saying number = number ≢ 8
+IsFullSaid true saying number =
+    (number ≡ number_of JournalFull) ⊎ ((number ≡ number_of SinkFault) × Rose saying.faults_before saying.faults_after)
+IsFullSaid false saying number = number ≢ number_of JournalFull

@@ -411,7 +411,8 @@ pub record TellsRefused (around : Around) (saying : Saying) : Type 0 where
 -- A calm call ends as asked, unless there is no memory, a block of its script is refused, or a task met a limit. Only where its
 -- text asks for patterns may its script be refused for the size of one: of which sizes `regex` builds a pattern, no definition says.
 abbrev pub EndsCalmly : Around → Saying → ℕ → Type 0
-EndsCalmly around saying status =
+EndsCalmly around saying number =
     IsCalm around saying
-    → (status ≡ 0) ⊎ (status ≡ 6) ⊎ ((status ≡ 2) × IsSomeAnd around.text (λ text. (number : ℕ) × HasPatternLine text number))
-    ⊎ ((status ≡ 5) × TellsRefused around saying)
+    → (number ≡ number_of status.Done) ⊎ (number ≡ number_of status.NoMemory)
+    ⊎ ((number ≡ number_of status.ScriptRefused) × IsSomeAnd around.text (λ text. (line : ℕ) × HasPatternLine text line))
+    ⊎ ((number ≡ number_of status.ActivityFailed) × TellsRefused around saying)

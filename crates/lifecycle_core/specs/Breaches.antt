@@ -69,9 +69,13 @@ shown_by Stored = None
 shown_by Deleted = None
 shown_by (Failed landed) = None
 
--- the byte with which a text goes on, and 256 at its end
+-- what counts as the byte at a text's end, as it is none
+abbrev pub text_end : ℕ
+text_end = 256
+
+-- the byte with which a text goes on
 abbrev pub next_byte : List ℕ → ℕ
-next_byte [] = 256
+next_byte [] = text_end
 next_byte (byte ∷ bytes) = byte
 
 -- these bytes are the first in which the texts differ

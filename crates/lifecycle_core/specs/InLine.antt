@@ -1,6 +1,6 @@
 -- Runs in the order of the lines: each task is done to its end before the next one begins.
 use Rattle.std.specs.Prelude.{◌≡◌, ◌⊎◌, ◌+◌, ◌==◌, ℕ, Bool, false, if◌then◌else◌, List, [], ◌∷◌, ◌++◌, length, map, All, Option, Some, None}
-use Rattle.std.specs.List.{list_any}
+use Rattle.list_core.specs.Lists.{is_one_of}
 use Rattle.world_core.specs.Worlds.{IsJournal}
 use Rattle.world_core.specs.declared.entry.Entry.{Entry}
 use Rattle.script_workers.specs.Hands.{gateway_count, gateway_of, hands_of_task}
@@ -32,7 +32,7 @@ duties_from gateways place (task ∷ tasks) =
 
 -- whether the worker does what the hand is to do
 abbrev pub serves : Hand → Option ℕ → List ℕ → Bool
-serves (hands.Alone place) None tasks = list_any (λ own. own == place) tasks
+serves (hands.Alone place) None tasks = is_one_of tasks place
 serves (hands.Alone place) (Some gateway) tasks = false
 serves (hands.Gateway place) None tasks = false
 serves (hands.Gateway place) (Some gateway) tasks = gateway == place

@@ -1,13 +1,12 @@
 -- The objects that an upload ships for a declared block.
-use Rattle.std.specs.Prelude.{◌≡◌, ◌≢◌, ◌<◌, ◌≤◌, ◌^◌, ℕ, ℤ, FitsSigned, List, [], ◌∷◌, length, codes, Contains, Option, Some, None}
-use Rattle.std.specs.Int.{w64}
+use Rattle.std.specs.Prelude.{◌≡◌, ◌≢◌, ◌≤◌, ℕ, ℤ, List, [], ◌∷◌, length, codes, Contains, Option, Some, None}
 use Rattle.std.specs.List.{AllByRecursion}
 use Rattle.block_keys.specs.declared.object.Object.{Object}
 use Rattle.block_meta.specs.declared.block_plan.BlockPlan.{BlockPlan}
-use Rattle.block_meta.specs.declared.parent.Parent.{Parent}
+use Rattle.block_meta.specs.Bounds.{HasFittingNumbers}
 use Rattle.block_keys.specs.declared.key.Key.{Key}
 use Rattle.block_keys.specs.declared.key.Key.TheVariants.{Meta}
-use Rattle.block_meta.specs.MetaFields.{MetaFields, fields_of}
+use Rattle.block_meta.specs.MetaFields.{fields_of}
 use Rattle.block_meta.specs.MetaValue.{meta_text}
 use Rattle.block_files.specs.Built.{objects_of}
 use Rattle.block_files.specs.declared.block_files.BlockFiles.{BlockFiles}
@@ -45,19 +44,6 @@ pub record IsInlineBlock (block : Block) (min_time max_time : ℤ) (series : Lis
   pub bytes : AreBytes files
   pub are : objects ≡ objects_of block.ulid files.segments files.index (meta_text (fields_of files.meta))
 
--- The times of a parent are numbers of 64 bits.
-pub record FitsParent (parent : Parent) : Type 0 where
-  pub ulid : parent.ulid < 2 ^ 128
-  pub early : FitsSigned w64 parent.min_time
-  pub late : FitsSigned w64 parent.max_time
-
--- So are the counts of a meta, and the times of its parents.
-pub record HasFittingNumbers (meta : MetaFields) : Type 0 where
-  pub series : meta.series < 2 ^ 64
-  pub samples : meta.samples < 2 ^ 64
-  pub chunks : meta.chunks < 2 ^ 64
-  pub parents : AllByRecursion FitsParent meta.parents
-
 -- no file of a block passes the limit
 pub record AreShort (files : BlockFiles) : Type 0 where
   pub index : length files.index ≤ file_limit
@@ -83,22 +69,29 @@ AreBuilt setting block OnShelf objects = IsShelfBlock setting block objects
 abbrev pub IsShipped : Setting → Block → List Object → Type 0
 IsShipped setting block objects = AreBuilt setting block block.body objects
 
+-- the numbers of two causes in the list of causes below: that a file is not there, and that one is too large
+abbrev pub no_file_cause : ℕ
+no_file_cause = 1
+
+abbrev pub too_large_cause : ℕ
+too_large_cause = 7
+
 -- The block is not shipped, for a cause of this number: the index of a block that is built would pass its greatest length.
 pub record IsNotBuilt (block : Block) (min_time max_time : ℤ) (series : List Series) (cause : ℕ) : Type 0 where
   pub plan : BlockPlan
   pub planned : IsPlanOf block min_time max_time plan
   pub none : HaveNoBlock plan series
-  pub is : cause ≡ 7
+  pub is : cause ≡ too_large_cause
 
 -- the place of a cause in the list of causes, which is counted from 1; want of memory is no cause
 abbrev pub cause_number : CheckRefusal → Option ℕ
-cause_number (cause.NoFile key) = Some 1
+cause_number (cause.NoFile key) = Some no_file_cause
 cause_number (cause.BadMeta refusal) = Some 2
 cause_number cause.UlidDiffers = Some 3
 cause_number cause.NotLevelOne = Some 4
 cause_number cause.SourcesNotSelf = Some 5
 cause_number cause.Downsampled = Some 6
-cause_number (cause.TooLarge key) = Some 7
+cause_number (cause.TooLarge key) = Some too_large_cause
 cause_number (cause.BadIndex refusal) = Some 8
 cause_number cause.EmptyBlock = Some 9
 cause_number (cause.BadChunk series chunk why) = Some 10

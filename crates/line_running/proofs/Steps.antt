@@ -37,7 +37,8 @@ use Rattle.report_lines.specs.script_running.specs.declared.outcome.Outcome.{Out
 use Rattle.report_lines.specs.script_running.specs.declared.part.Part.{Part}
 use Rattle.report_lines.specs.script_running.specs.declared.sight.Sight.{Sight}
 use Rattle.report_lines.specs.script_running.proofs.TaskSteps.{when_done}
-use Rattle.line_running.specs.Progress.{IsDueInLine, IsWhole, PartStep, Shows, TaskStep, duties_at}
+use Rattle.line_running.specs.Progress.{IsDueInLine, IsWhole, PartStep, TaskStep, duties_at}
+use Rattle.report_lines.specs.script_running.specs.Beside.{AreSeen}
 
 -- ---- one part
 
@@ -47,7 +48,7 @@ done_by (Err why) P Q f holds = tt
 
 -- a worker's part that it did from its seat
 pub part_step : (setting : Setting) (seat : Hand → ℕ) (own : ℕ) (place : ℕ) (task : Task) (hand : Hand) (views : Holdings) (gateways : List Sight) (old new : List Entry) (sight : Sight) (came : Came) → own ≡ seat hand
-    → (d : HasDone setting (who_does seat hand) place task.work (holding_of views (gateway_of hand)) own old new sight came) → WhenDone came (Shows (with_holding views (gateway_of hand) d.after) gateways) → PartStep setting seat place task hand views gateways old new came
+    → (d : HasDone setting (who_does seat hand) place task.work (holding_of views (gateway_of hand)) own old new sight came) → WhenDone came (AreSeen (with_holding views (gateway_of hand) d.after) gateways) → PartStep setting seat place task hand views gateways old new came
 part_step setting seat own place task hand views gateways old new sight came same d shows = record {
   made = d.made;
   entries = d.entries;
@@ -61,10 +62,10 @@ part_step setting seat own place task hand views gateways old new sight came sam
 }
 
 pub alone_step : (setting : Setting) (seat : Hand → ℕ) (own : ℕ) (place number : ℕ) (task : Task) (hand : Hand) (views : Holdings) (gateways : List Sight) (old new : List Entry) (sight : Sight) (came : Came) → hand ≡ hands.Alone number → own ≡ seat hand
-    → HasDone setting (who_does seat (hands.Alone number)) place task.work nothing_held own old new sight came → Shows views gateways → PartStep setting seat place task hand views gateways old new came
+    → HasDone setting (who_does seat (hands.Alone number)) place task.work nothing_held own old new sight came → AreSeen views gateways → PartStep setting seat place task hand views gateways old new came
 alone_step setting seat own place number task hand views gateways old new sight came is same d shows =
     subst (λ (h : Hand). PartStep setting seat place task h views gateways old new came) (sym is)
-    (part_step setting seat own place task (hands.Alone number) views gateways old new sight came (same ∙ ap seat is) d (when_done came (Shows views gateways) shows))
+    (part_step setting seat own place task (hands.Alone number) views gateways old new sight came (same ∙ ap seat is) d (when_done came (AreSeen views gateways) shows))
 
 -- ---- a gateway's task
 
@@ -73,7 +74,7 @@ get_same [] i a x at = absurd (cc (at))
 get_same (y ∷ ys) zero a x at = cc (at)
 get_same (y ∷ ys) (suc i) a x at = get_same ys i a x at
 
-shows_at : (views : Holdings) (number : ℕ) (held : Holding) (gateways : List Sight) (gateway : Sight) (place : ℕ) (x : Sight) (b : Bool) → (place == number) ≡ b → Shows views gateways
+shows_at : (views : Holdings) (number : ℕ) (held : Holding) (gateways : List Sight) (gateway : Sight) (place : ℕ) (x : Sight) (b : Bool) → (place == number) ≡ b → AreSeen views gateways
     → Sees held gateway → slice_get (set gateways number gateway) place ≡ Some x → Sees (with_holding views (Some number) held place) x
 shows_at views number held gateways gateway place x true e shows is at =
     let same : place ≡ number = grind (arith, nat_tests) in
@@ -84,18 +85,18 @@ shows_at views number held gateways gateway place x false e shows is at =
     rw e (shows place x (sym (slice_get-set_other gateways number place gateway differ) ∙ at))
 
 -- a gateway that sees by this from now on
-set_shows : (views : Holdings) (number : ℕ) (held : Holding) (gateways : List Sight) (gateway : Sight) → Shows views gateways → Sees held gateway → Shows (with_holding views (Some number) held) (set gateways number gateway)
+set_shows : (views : Holdings) (number : ℕ) (held : Holding) (gateways : List Sight) (gateway : Sight) → AreSeen views gateways → Sees held gateway → AreSeen (with_holding views (Some number) held) (set gateways number gateway)
 set_shows views number held gateways gateway shows is = λ place x at. shows_at views number held gateways gateway place x (place == number) refl shows is at
 
 pub gateway_step : (setting : Setting) (seat : Hand → ℕ) (own : ℕ) (place : ℕ) (task : Task) (hand : Hand) (views : Holdings) (gateways : List Sight) (old new : List Entry) (came : Came) (number : ℕ) (before gateway : Sight) → hand ≡ hands.Gateway number
     → own ≡ seat hand → slice_get gateways number ≡ Some before
     → ((held : Holding) → Sees held before → HasDone setting (who_does seat (hands.Gateway number)) place task.work held own old new gateway came)
-    → Shows views gateways → PartStep setting seat place task hand views (set gateways number gateway) old new came
+    → AreSeen views gateways → PartStep setting seat place task hand views (set gateways number gateway) old new came
 gateway_step setting seat own place task hand views gateways old new came number before gateway is same at done shows =
     let d = done (views number) (shows number before at) in
     subst (λ (h : Hand). PartStep setting seat place task h views (set gateways number gateway) old new came) (sym is)
     (part_step setting seat own place task (hands.Gateway number) views (set gateways number gateway) old new gateway came (same ∙ ap seat is) d
-    (done_by came (Sees d.after gateway) (Shows (with_holding views (Some number) d.after) (set gateways number gateway)) (set_shows views number d.after gateways gateway shows) d.sees))
+    (done_by came (Sees d.after gateway) (AreSeen (with_holding views (Some number) d.after) (set gateways number gateway)) (set_shows views number d.after gateways gateway shows) d.sees))
 
 -- ---- who is next
 
@@ -252,10 +253,10 @@ module _ (setting : Setting) (seat : Hand → ℕ) (place : ℕ) (task : Task) (
     pub count : length ends ≡ number
     pub after : Holdings
     pub onward : (entries : List Entry) (later : List End) (last : Holdings) → InLine setting seat after (drop number duties) entries later last → InLine setting seat views duties (made ++ entries) (ends ++ later) last
-    pub shows : Shows after gateways
+    pub shows : AreSeen after gateways
     pub all : AllZip (IsPart task.work) ends parts
 
-  pub none_done : (gateways : List Sight) (journal : List Entry) (parts : List Part) → parts ≡ [] → Shows views gateways → Front 0 gateways journal journal parts
+  pub none_done : (gateways : List Sight) (journal : List Entry) (parts : List Part) → parts ≡ [] → AreSeen views gateways → Front 0 gateways journal journal parts
   none_done gateways journal parts none shows = subst (λ (l : List Part). Front 0 gateways journal journal l) (sym none) (record {
     made = [];
     entries = sym (append-nil journal);
@@ -363,7 +364,7 @@ module _ (setting : Setting) (seat : Hand → ℕ) (place : ℕ) (task : Task) (
     after = f.after;
     run = subst (λ (es : List Entry). InLine setting seat views duties es f.ends f.after) (append-nil f.made) (subst (λ (l : List End). InLine setting seat views duties (f.made ++ []) l f.after) (append-nil f.ends)
         (f.onward [] [] f.after (subst (λ (ds : List Duty). InLine setting seat f.after ds [] [] f.after) (sym (drop_all number duties (omega (arith, all)))) (refl, refl, refl))));
-    shows = when_done o (Shows f.after gateways) f.shows;
+    shows = when_done o (AreSeen f.after gateways) f.shows;
     whole = came o why (λ outcome same. (f.count ∙ all, (parts, f.all, is outcome same)));
     due = none_due o why;
   }

@@ -24,7 +24,8 @@ use Rattle.report_lines.specs.lifecycle_core.proofs.phases.TaskRuns.{MayBegin}
 use Rattle.std.proofs.lemmas.List.Elements.{All-drop}
 use Rattle.report_lines.specs.script_running.specs.Outcomes.{IsOutcome, TasksCame}
 use Rattle.report_lines.specs.script_running.specs.declared.sight.Sight.{Sight}
-use Rattle.line_running.specs.Progress.{IsDueInLine, Shows, TaskStep, TasksBroken, TasksDone, TasksTold, duties_at}
+use Rattle.line_running.specs.Progress.{IsDueInLine, TaskStep, TasksBroken, TasksDone, TasksTold, duties_at}
+use Rattle.report_lines.specs.script_running.specs.Beside.{AreSeen}
 use Rattle.line_running.proofs.Steps.{duties_long}
 use Rattle.report_lines.specs.script_running.specs.declared.came.Broken.{Broken}
 use Rattle.report_lines.specs.script_running.specs.declared.came.Broken.TheVariants as broken
@@ -112,7 +113,7 @@ module _ {R : Type 0} (tells : R → Script → List Task → List Outcome → T
   front_length (suc n) (t ∷ ts) below = ap suc (front_length n ts (omega (arith, below)))
 
   pub done_more : (o : Outcome) (more : R) → (d : TasksDone tells setting seat (take place tasks) views shown start mid report)
-      → ((v : Holdings) → Shows v shown → TaskStep setting seat place task v gateways mid new (Ok o))
+      → ((v : Holdings) → AreSeen v shown → TaskStep setting seat place task v gateways mid new (Ok o))
       → ((ts : List Task) (os : List Outcome) → tells report setting.script ts os → tells more setting.script (ts ++ task ∷ []) (os ++ o ∷ [])) → TasksDone tells setting seat (take (place + 1) tasks) views gateways start new more
   done_more o more d step adds =
       let s = step d.after d.shows in
@@ -157,7 +158,7 @@ module _ {R : Type 0} (tells : R → Script → List Task → List Outcome → T
 
   -- broken off for want of memory
   pub cut_short : (came : Result Outcome Broken) → All (λ t. MayBegin setting t.work) (drop (place + 1) tasks) → (d : TasksDone tells setting seat (take place tasks) views shown start mid report)
-      → ((v : Holdings) → Shows v shown → TaskStep setting seat place task v gateways mid new came) → TasksBroken setting seat tasks views start new broken.NoMemory
+      → ((v : Holdings) → AreSeen v shown → TaskStep setting seat place task v gateways mid new came) → TasksBroken setting seat tasks views start new broken.NoMemory
   cut_short came begin d step =
       let s = step d.after d.shows in
       record { made = d.made ++ s.made; entries = both_entries d.made s.made d.entries s.entries; ends = d.ends ++ s.ends; after = s.after; run = cut_run begin d s.made s.ends s.after s.run; short = tt }
@@ -178,14 +179,14 @@ module _ {R : Type 0} (tells : R → Script → List Task → List Outcome → T
 
   -- broken off by the full journal
   cut_full : All (λ t. MayBegin setting t.work) (drop (place + 1) tasks) → (d : TasksDone tells setting seat (take place tasks) views shown start mid report)
-      → ((v : Holdings) → Shows v shown → TaskStep setting seat place task v gateways mid new (Err broken.Full)) → TasksBroken setting seat tasks views start new broken.Full
+      → ((v : Holdings) → AreSeen v shown → TaskStep setting seat place task v gateways mid new (Err broken.Full)) → TasksBroken setting seat tasks views start new broken.Full
   cut_full begin d step =
       let s = step d.after d.shows in
       record { made = d.made ++ s.made; entries = both_entries d.made s.made d.entries s.entries; ends = d.ends ++ s.ends; after = s.after; run = cut_run begin d s.made s.ends s.after s.run; short = (too_few d s.ends s.whole, cut_due begin d s.made s.due) }
 
   -- broken off, for whatever cause
   pub cut_off : (why : Broken) → All (λ t. MayBegin setting t.work) (drop (place + 1) tasks) → (d : TasksDone tells setting seat (take place tasks) views shown start mid report)
-      → ((v : Holdings) → Shows v shown → TaskStep setting seat place task v gateways mid new (Err why)) → TasksBroken setting seat tasks views start new why
+      → ((v : Holdings) → AreSeen v shown → TaskStep setting seat place task v gateways mid new (Err why)) → TasksBroken setting seat tasks views start new why
   cut_off broken.Full begin d step = cut_full begin d step
   cut_off broken.NoMemory begin d step = cut_short (Err broken.NoMemory) begin d step
 
@@ -194,7 +195,7 @@ take_none [] = refl
 take_none (t ∷ ts) = refl
 
 -- before the first task
-pub done_none : {R : Type 0} (tells : R → Script → List Task → List Outcome → Type 0) (setting : Setting) (seat : Hand → ℕ) (tasks : List Task) (views : Holdings) (gateways : List Sight) (journal : List Entry) (report : R) → Shows views gateways → tells report setting.script [] []
+pub done_none : {R : Type 0} (tells : R → Script → List Task → List Outcome → Type 0) (setting : Setting) (seat : Hand → ℕ) (tasks : List Task) (views : Holdings) (gateways : List Sight) (journal : List Entry) (report : R) → AreSeen views gateways → tells report setting.script [] []
     → TasksDone tells setting seat (take 0 tasks) views gateways journal journal report
 unfolding duties_from
 done_none tells setting seat tasks views gateways journal report shows none = record {

@@ -1,5 +1,5 @@
 -- How far a run in the order of the lines has come, as the contracts of its parts say it.
-use Rattle.std.specs.Prelude.{◌≡◌, ◌≢◌, ℕ, ◌+◌, ◌<◌, ◌≤◌, List, [], ◌∷◌, ◌++◌, length, take, drop, All, Option, Some, slice_get, Result, Ok, Err}
+use Rattle.std.specs.Prelude.{◌≡◌, ◌≢◌, ℕ, ◌+◌, ◌<◌, ◌≤◌, List, [], ◌∷◌, ◌++◌, length, take, drop, All, Option, Result, Ok, Err}
 use Rattle.world_core.specs.declared.entry.Entry.{Entry}
 use Rattle.script_core.specs.declared.script.Script.{Script}
 use Rattle.script_workers.specs.Hands.{gateway_count, gateway_of}
@@ -11,8 +11,8 @@ use Rattle.report_lines.specs.lifecycle_core.specs.InLine.{Duty, duties_from, In
 use Rattle.report_lines.specs.lifecycle_core.specs.Setting.{Setting}
 use Rattle.report_lines.specs.lifecycle_core.specs.Tasks.{End, TaskRun}
 use Rattle.report_lines.specs.lifecycle_core.specs.Ways.{AreInTurn, AreUnfinished, IsDue, IsDueAfter, IsOperationDue, PhasesRun}
+use Rattle.report_lines.specs.script_running.specs.Beside.{AreSeen}
 use Rattle.report_lines.specs.script_running.specs.Outcomes.{IsOutcome, PhasesTold}
-use Rattle.report_lines.specs.script_running.specs.Sights.{Sees}
 use Rattle.report_lines.specs.script_running.specs.Tasks.{CameBy, Does, WhenDone, WhenFull}
 use Rattle.report_lines.specs.script_running.specs.declared.sight.Sight.{Sight}
 use Rattle.report_lines.specs.Telling.{tasks_of}
@@ -22,10 +22,6 @@ use Rattle.report_lines.specs.script_running.specs.Drives.{Came}
 use Rattle.report_lines.specs.script_running.specs.declared.outcome.Outcome.{Outcome}
 
 -- ---- one task
-
--- gateways that hold this see by these
-abbrev pub Shows : Holdings → List Sight → Type 0
-Shows views gateways = (place : ℕ) (gateway : Sight) → slice_get gateways place ≡ Some gateway → Sees (views place) gateway
 
 -- the duties of the task at a place
 abbrev pub duties_at : Setting → ℕ → List Task → List Duty
@@ -39,7 +35,7 @@ pub record PartStep (setting : Setting) (seat : Hand → ℕ) (place : ℕ) (tas
   pub end : Option End
   pub after : Holding
   pub run : TaskRun setting (who_does seat hand) place task.work (holding_of views (gateway_of hand)) made end after
-  pub shows : WhenDone came (Shows (with_holding views (gateway_of hand) after) gateways)
+  pub shows : WhenDone came (AreSeen (with_holding views (gateway_of hand) after) gateways)
   pub by : CameBy task.work end came
   pub due : WhenFull came (IsDueAfter (Does setting (who_does seat hand) place task.work (holding_of views (gateway_of hand))) (seat hand) made)
 
@@ -60,7 +56,7 @@ pub record TaskStep (setting : Setting) (seat : Hand → ℕ) (place : ℕ) (tas
   pub ends : List End
   pub after : Holdings
   pub run : InLine setting seat views (duties_at setting place (task ∷ [])) made ends after
-  pub shows : WhenDone came (Shows after gateways)
+  pub shows : WhenDone came (AreSeen after gateways)
   pub whole : IsWhole setting place task ends came
   pub due : WhenFull came (IsDueInLine setting seat views (duties_at setting place (task ∷ [])) made)
 
@@ -82,7 +78,7 @@ pub record TasksDone {R : Type 0} (tells : R → Script → List Task → List O
   pub ends : List End
   pub after : Holdings
   pub run : InLine setting seat views (duties_at setting 0 tasks) made ends after
-  pub shows : Shows after gateways
+  pub shows : AreSeen after gateways
   pub outcomes : List Outcome
   pub told : TasksTold setting 0 tasks ends outcomes
   pub report_is : tells report setting.script tasks outcomes
@@ -110,7 +106,7 @@ PhasesDone setting number phases ends outcomes = PhasesTold (λ number phase own
 -- The phases before a place were done to their ends, and this is their report. What completes the rest completes the run.
 pub record Reached {R : Type 0} (tells : R → Script → List Task → List Outcome → Type 0) (setting : Setting) (place : ℕ) (gateways : List Sight) (journal : List Entry) (report : R) : Type 0 where
   pub views : Holdings
-  pub shows : Shows views gateways
+  pub shows : AreSeen views gateways
   pub ends : List (List End)
   pub onward : (entries : List Entry) (later : List (List End)) → PhasesRun (in_line setting) place views (drop place setting.script.phases) entries later
       → PhasesRun (in_line setting) 0 none_held setting.script.phases (journal ++ entries) (ends ++ later)

@@ -8,7 +8,8 @@ ghost use Rattle.script_core.specs.Lawful.{IsLawfulScript};
 ghost use Rattle.report_lines.specs.lifecycle_core.specs.InLine.{seat_of};
 ghost use Rattle.report_lines.specs.lifecycle_core.specs.Ways.{BeginsPhase};
 ghost use Rattle.report_lines.specs.lifecycle_core.specs.Holdings.{Holdings};
-ghost use Rattle.line_running.specs.Progress.{PhaseStep, Reached, RunCame, Shows, TasksBroken, TasksDone};
+ghost use Rattle.line_running.specs.Progress.{PhaseStep, Reached, RunCame, TasksBroken, TasksDone};
+ghost use Rattle.report_lines.specs.script_running.specs.Beside.{AreSeen};
 ghost use Rattle.report_lines.specs.script_running.specs.Sights.{no_sight};
 ghost use Rattle.report_lines.specs.script_running.specs.Tasks.{Allows, is_full_came};
 ghost use Rattle.run_notes.specs.LineHands.{KeepsRun};
@@ -205,7 +206,7 @@ fn run_tasks<B: Bucket, R: PhaseReport + Drop>(
     ensures wanted { IsTrue result.1.wanted → result.0 ≡ Err Broken.NoMemory }
     ensures keeps { KeepsRun B.faults B.quiet B.asked hand.opened.value hand.wanted hand.world
         result.1.opened.value result.1.wanted result.1.world }
-    ensures came { (views : Holdings) → Shows views progress.old.gateways.items
+    ensures came { (views : Holdings) → AreSeen views progress.old.gateways.items
         → MatchResult result.0
         (λ lines. TasksDone R.tells (setting_by script.now means.now.shelf)
         (seat_of seats.now.workers) tasks.now views progress.new.gateways.items hand.world.journal

@@ -1,5 +1,5 @@
 ghost use Rattle.std.specs.Prelude.{◌≡◌, ◌-◌, ◌==◌, ◌^◌, min, length, IfOk};
-ghost use Rattle.std.specs.List.{list_any};
+ghost use Rattle.list_core.specs.Lists.{is_one_of};
 ghost use Rattle.script_core.specs.Workers.{seats_before, workers_of};
 ghost use Rattle.report_lines.specs.lifecycle_core.specs.InLine.{seat_of, serves};
 
@@ -73,7 +73,7 @@ fn serves(hand: Hand, worker: &Worker) -> bool
 }
 
 fn has(places: &[u64], place: u64) -> bool
-    ensures { result ≡ list_any (λ own. own == place) places.now }
+    ensures { result ≡ is_one_of places.now place }
 {
     match places {
         [] => false,

@@ -13,7 +13,8 @@ ghost use Rattle.report_lines.specs.script_running.specs.Outcomes.{AreAllParts, 
 ghost use Rattle.report_lines.specs.script_running.specs.Sights.{Sees};
 ghost use Rattle.report_lines.specs.script_running.specs.Tasks.{Allows, HasDone, is_full_came};
 ghost use Rattle.run_notes.specs.LineHands.{KeepsRun};
-ghost use Rattle.line_running.specs.Progress.{PartStep, Shows, TaskStep};
+ghost use Rattle.line_running.specs.Progress.{PartStep, TaskStep};
+ghost use Rattle.report_lines.specs.script_running.specs.Beside.{AreSeen};
 
 use crate::phases::Progress;
 use crate::seats::Seats;
@@ -48,7 +49,7 @@ pub(crate) fn do_task<B: Bucket, R: Drop>(
     ensures wanted { IsTrue result.1.wanted → result.0 ≡ Err Broken.NoMemory }
     ensures keeps { KeepsRun B.faults B.quiet B.asked hand.opened.value hand.wanted hand.world
         result.1.opened.value result.1.wanted result.1.world }
-    ensures step { (views : Holdings) → Shows views progress.old.gateways.items
+    ensures step { (views : Holdings) → AreSeen views progress.old.gateways.items
         → TaskStep (setting_in means.now)
         (seat_of seats.now.workers) place task.now views progress.new.gateways.items
         hand.world.journal result.1.world.journal result.0 }
@@ -126,7 +127,7 @@ fn do_part<B: Bucket, R: Drop>(
     ensures wanted { IsTrue result.1.wanted → result.0 ≡ Err Broken.NoMemory }
     ensures keeps { KeepsRun B.faults B.quiet B.asked hand.opened.value hand.wanted hand.world
         result.1.opened.value result.1.wanted result.1.world }
-    ensures step { (views : Holdings) → Shows views progress.old.gateways.items
+    ensures step { (views : Holdings) → AreSeen views progress.old.gateways.items
         → PartStep (setting_in means.now)
         (seat_of seats.now.workers) place task.now who views progress.new.gateways.items
         hand.world.journal result.1.world.journal result.0 }

@@ -6,7 +6,7 @@ use Rattle.std.proofs.lemmas.Bool.Decides.{nat_tests}
 use Rattle.std.proofs.lemmas.List.{length-append}
 use Rattle.std.proofs.lemmas.List.Elements.{All-contains, Contains-append_left, Contains-append_right, All-from_recursion}
 use Rattle.list_core.proofs.Lists.{cons_parts, filter_hit, filter_miss, nil_not_cons}
-use Rattle.list_core.proofs.Membership.{all_members, contains_first, contains_later, each_member, into_filter, into_flat_map, into_map, member_cases, member_passes, no_member, of_filter, of_flat_map, of_map}
+use Rattle.list_core.proofs.Membership.{all_members, contains_first, contains_later, each_member, into_flat_map, into_map, member_cases, member_passes, no_member, of_filter, of_flat_map, of_map}
 use Rattle.list_core.proofs.Numbers.{above_zero}
 use Rattle.std.specs.Prelude.{nat_lt, Some}
 use Rattle.world_core.specs.Journals.{IsNumbered, entry_at, of_seat}
@@ -15,6 +15,7 @@ use Rattle.world_turn.specs.Closing.{AllJoined, Closes}
 use Rattle.world_turn.specs.Seats.{Stand}
 use Rattle.world_turn.specs.declared.view.View.{View as Known}
 use Rattle.script_running.specs.Cutting.{AreApart, AreParts, KnowsPhases, Passed}
+use Rattle.lifecycle_core.proofs.deeds.Orders.{to_seat}
 use Rattle.lifecycle_core.proofs.phases.Fronts.{seat_parts}
 
 -- what was kept of a seat
@@ -70,9 +71,6 @@ miss a b none some = grind (arith, nat_tests)
 
 is_zero : (a : ℕ) → (a == 0) ≡ true → a ≡ 0
 is_zero a test = grind (arith, nat_tests)
-
-seated : (seat : ℕ) (entries : List Entry) (e : Entry) → Contains entries e → e.seat ≡ seat → Contains (of_seat seat entries) e
-seated seat entries e among is = into_filter (λ (x : Entry). x.seat == seat) entries e among (eq-eqb e.seat seat is)
 
 inside : (seat : ℕ) (entries : List Entry) (e : Entry) → Contains (of_seat seat entries) e → Contains entries e
 inside seat entries e among = of_filter (λ (x : Entry). x.seat == seat) entries e among
@@ -141,7 +139,7 @@ clock_among entries passed one l among = inside 0 entries one.clock (subst (λ (
 -- an entry of a worker is one of those kept
 worked : (entries : List Entry) (passed : List Passed) (l : IsLeft entries passed) (e : Entry) → Contains entries e → (w : Worker passed e.seat) → Contains (w.kept).1 e
 worked entries passed l e among w =
-    subst (λ (es : List Entry). Contains es e) (sym (l.own w.phase w.kept w.one_of w.of_phase).1) (seated (w.kept).0 entries e among (sym w.seat_is))
+    subst (λ (es : List Entry). Contains es e) (sym (l.own w.phase w.kept w.one_of w.of_phase).1) (to_seat (w.kept).0 entries e among (sym w.seat_is))
 
 -- the first entry is the clock's
 never_first : (e : Entry) (entries : List Entry) (passed : List Passed) → IsLeft (e ∷ entries) passed → 0 < e.seat → ⊥
@@ -313,7 +311,7 @@ module _ (known : Known) (tick : ℕ) (journal : List Entry) (passed : List Pass
     | inl test ↦ grind (arith, nat_tests)
     | inr test ↦
         let beyond : known.seats ≤ e.seat = grind (arith, nat_tests) in
-        absurd (no_member e (subst (λ (es : List Entry). Contains es e) (closes.nobody e.seat beyond) (seated e.seat journal e among refl)))
+        absurd (no_member e (subst (λ (es : List Entry). Contains es e) (closes.nobody e.seat beyond) (to_seat e.seat journal e among refl)))
   ]
 
   worker_of : (e : Entry) → Contains journal e → 0 < e.seat → Worker passed e.seat

@@ -19,7 +19,7 @@ use Rattle.world_turn.specs.Turns.{Acts, IsLater, IsSame}
 use Rattle.world_turn.specs.declared.pass.Pass.{Pass}
 use Rattle.world_turn.specs.declared.view.View.{View as Known}
 use Rattle.phase_runner.specs.Phases.{HasRun, Runs}
-use Rattle.script_workers.specs.Hands.{gateway_count, gateway_of, hands_of, places_from}
+use Rattle.script_workers.specs.Hands.{gateway_count, hands_of, places_from}
 use Rattle.script_workers.specs.Staff.{IsWorkerOf}
 use Rattle.script_workers.specs.Whose.{IsFor, IsTaskOf, asks, cleans, compacts, ships, syncs}
 use Rattle.script_workers.specs.declared.hand.Hand.{Hand}
@@ -38,6 +38,7 @@ use Rattle.lifecycle_core.specs.Holdings.{Holding, Holdings}
 use Rattle.lifecycle_core.specs.Setting.{Setting}
 use Rattle.lifecycle_core.specs.Tasks.{End}
 use Rattle.lifecycle_core.specs.Ways.{BeginsPhase}
+use Rattle.lifecycle_core.proofs.phases.ActingRuns.{is_gateway}
 use Rattle.lifecycle_core.proofs.phases.Fronts.{AreApart as Apart, apart_of, script_is_cut_well}
 use Rattle.moment_core.specs.Limits.{moment_limit}
 use Rattle.script_running.specs.Begun.{AreLeft, WasBegun, WereKept}
@@ -310,12 +311,8 @@ module _ (script : Script) (lawful : IsLawfulScript script) (place : ℕ) (phase
   pub within_gateways : (workers : List Worker) (count : ℕ) → workers ≡ workers_of script place → count ≡ length script.gateways → All (λ (w : Worker). IfSome w.gateway (λ gateway. gateway < count)) workers
   within_gateways workers count are same = each_worker (λ (w : Worker). IfSome w.gateway (λ gateway. gateway < count))
       (λ w among. let s = seats_of w among in within_some w.gateway count (λ g is.
-      let less = gateway_of_hand script lawful place phase at s.0 g s.2 (named s.0 g (sym (s.3).gateway ∙ is)) in
+      let less = gateway_of_hand script lawful place phase at s.0 g s.2 (is_gateway s.0 g (sym (s.3).gateway ∙ is)) in
       omega (arith, less, same))) workers are
-    where
-      named : (h : Hand) (g : ℕ) → gateway_of h ≡ Some g → h ≡ hands.Gateway g
-      named (hands.Alone p) g is = absurd (cc (is))
-      named (hands.Gateway other) g is = ap hands.Gateway (cc (is))
 
 runs_long : (above : ℕ) (front : List Entry) (seat : ℕ) (posts : List Post) (others : List WorkerEnd) (kept : List Kept) → Runs {J = Post} {E = WorkerEnd} MayWork above front seat posts others kept → length posts ≡ length others
 runs_long above front seat [] [] [] runs = refl

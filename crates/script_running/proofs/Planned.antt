@@ -1,11 +1,7 @@
 -- What is built of a declared block is what is shipped of it; and it is refused where it is not built.
-use Rattle.std.proofs.Common.{◌≡◌, ◌≢◌, ℕ, ℤ, ◌+◌, ◌≤ℤ◌, ◌<ℤ◌, ◌<◌, List, [], ◌∷◌, ◌++◌, take, get_or, length, sym, ◌∙◌, ap, subst, arith}
+use Rattle.std.proofs.Common.{◌≡◌, ◌≢◌, ℤ, ◌≤ℤ◌, ◌<ℤ◌, ◌<◌, List, [], ◌∷◌, length, sym, ◌∙◌, ap, subst, arith}
 use Rattle.std.specs.Prelude.{Result, Ok, Err, IfOk}
-use Rattle.std.specs.List.{AllByRecursion}
-use Rattle.std.proofs.lemmas.List.{take_more}
 use Rattle.std.proofs.lemmas.List.Elements.{All-weaker, recursion_from_All}
-use Rattle.list_core.proofs.Lists.{AllByRecursion-push}
-use Rattle.reading_core.specs.Grammar.{IsBytes}
 use Rattle.label_sets.specs.declared.sample.Sample.{Sample}
 use Rattle.label_sets.specs.declared.series.Series.{Series}
 use Rattle.label_sets.specs.Times.{IsWithin}
@@ -27,19 +23,7 @@ use Rattle.script_core.specs.declared.body.Body.{Body}
 use Rattle.script_core.specs.declared.body.Body.TheVariants.{Inline}
 use Rattle.script_core.proofs.SpelledValues.{within_spelled}
 use Rattle.lifecycle_core.specs.Setting.{Setting}
-use Rattle.lifecycle_core.specs.Shipped.{AreBuilt, IsInlineBlock, IsNotBuilt, IsPlanOf, IsRefused, IsRefusedAs, IsShipped}
-
--- ---- the bytes of segments
-
-taken_one : (segments : List (List ℕ)) (i : ℕ) (segment d : List ℕ) → i < length segments → segment ≡ get_or segments i d → take (i + 1) segments ≡ take i segments ++ segment ∷ []
-taken_one segments i segment d below is = take_more segments i d below ∙ ap (λ y. take i segments ++ y ∷ []) (sym is)
-
-abbrev pub BytesSoFar : List (List ℕ) → ℕ → Type 0
-BytesSoFar segments i = AllByRecursion IsBytes (take i segments)
-
-pub bytes_step : (segments : List (List ℕ)) (i : ℕ) (segment d lent : List ℕ) → BytesSoFar segments i → i < length segments → segment ≡ get_or segments i d → lent ≡ segment → IsBytes lent → BytesSoFar segments (i + 1)
-bytes_step segments i segment d lent far below at is are =
-    subst (AllByRecursion IsBytes) (sym (taken_one segments i segment d below at)) (AllByRecursion-push IsBytes (take i segments) segment far (subst IsBytes is are))
+use Rattle.lifecycle_core.specs.Shipped.{AreBuilt, IsInlineBlock, IsNotBuilt, IsPlanOf, IsRefused, IsRefusedAs, IsShipped, too_large_cause}
 
 -- ---- what a script's block is built of
 
@@ -90,10 +74,10 @@ shipped_from setting block min_time max_time series plan files (Err why) body is
 
 -- and what is not
 pub refused_from : (setting : Setting) (block : Block) (min_time max_time : ℤ) (series : List Series) (plan : BlockPlan) → block.body ≡ Inline min_time max_time series → IsPlanOf block min_time max_time plan → HaveNoBlock plan series
-    → IsRefused setting block 7
+    → IsRefused setting block too_large_cause
 refused_from setting block min_time max_time series plan body is none =
-    let own : IsNotBuilt block min_time max_time series 7 = record { plan = plan; planned = is; none = none; is = λ i. 7 } in
-    subst (λ (b : Body). IsRefusedAs setting block b 7) (sym body) own
+    let own : IsNotBuilt block min_time max_time series too_large_cause = record { plan = plan; planned = is; none = none; is = λ i. too_large_cause } in
+    subst (λ (b : Body). IsRefusedAs setting block b too_large_cause) (sym body) own
 
 pub planned_same : (block : Block) (early early' late late' : ℤ) (plan : BlockPlan) → early ≡ early' → late ≡ late' → IsPlanOf block early late plan → IsPlanOf block early' late' plan
 planned_same block early early' late late' plan e l is = subst (λ (x : ℤ). IsPlanOf block x late' plan) e (subst (λ (y : ℤ). IsPlanOf block early y plan) l is)

@@ -1,11 +1,10 @@
 -- What is at hand of a block that a script takes from the shelf, and what comes of it.
-use Rattle.list_core.proofs.Lists.{AllByRecursion-push, find_holds, take_none, take_place}
-use Rattle.std.proofs.Common.{◌≡◌, ◌⊎◌, ◌==◌, ◌+◌, ◌<◌, ℕ, List, length, take, get_or, Option, None, Some, Result, Ok, Err, inl, inr, refl, sym, ◌∙◌, ap, subst}
+use Rattle.list_core.proofs.Lists.{find_holds}
+use Rattle.std.proofs.Common.{◌≡◌, ◌⊎◌, ◌==◌, ℕ, List, Option, None, Some, Result, Ok, Err, inl, inr, refl, sym, ◌∙◌, ap, subst}
 use Rattle.std.specs.Prelude.{IfErr, IfOk, IfSome}
-use Rattle.std.specs.List.{AllByRecursion}
-use Rattle.block_meta.specs.declared.parent.Parent.{Parent}
 use Rattle.block_keys.specs.Blocks.{IsBlock}
 use Rattle.block_keys.specs.declared.object.Object.{Object}
+use Rattle.block_meta.specs.Bounds.{HasFittingNumbers}
 use Rattle.block_meta.specs.MetaFields.{fields_of}
 use Rattle.block_meta.specs.MetaValue.{meta_text}
 use Rattle.block_files.specs.Built.{objects_of}
@@ -24,8 +23,7 @@ use Rattle.script_core.specs.declared.body.Body.TheVariants.{OnShelf}
 use Rattle.script_core.specs.declared.script.Script.{Script}
 use Rattle.lifecycle_core.specs.Held.{declared}
 use Rattle.lifecycle_core.specs.Setting.{Setting, refusing}
-use Rattle.lifecycle_core.specs.Shipped.{AreBuilt, AreShort, FitsParent, HasFittingNumbers, IsRefused, IsRefusedAs, IsShipped, cause_number}
-use Rattle.script_running.proofs.Taking.{found}
+use Rattle.lifecycle_core.specs.Shipped.{AreBuilt, AreShort, IsRefused, IsRefusedAs, IsShipped, cause_number, too_large_cause}
 use Rattle.script_running.specs.Shelves.{AreAllAtHand, AreObjects, IsAtHand, IsHeld, Knows, WhereRefused, found_in, from_built, from_found, list_in, numbered_by, read_as, series_in, setting_by}
 use Rattle.script_running.specs.declared.shelf.ShelfBlock.{ShelfBlock}
 use Rattle.script_running.specs.declared.shelf.ShelfFound.{ShelfFound}
@@ -125,19 +123,7 @@ built_holds P (Ok objects) result is holds = subst (λ r. IfOk r P) (sym is) hol
 built_holds P (Err build.TooLarge) result is holds = subst (λ r. IfOk r P) (sym is) tt
 built_holds P (Err build.NoMemory) result is holds = subst (λ r. IfOk r P) (sym is) tt
 
-pub built_refuses : (Says : ℕ → Type 0) (built : Result (List Object) BuildRefusal) (result : Result (List Object) Unshipped) → result ≡ from_built built → (built ≡ Err build.TooLarge → Says 7) → IfErr result (WhereRefused Says)
+pub built_refuses : (Says : ℕ → Type 0) (built : Result (List Object) BuildRefusal) (result : Result (List Object) Unshipped) → result ≡ from_built built → (built ≡ Err build.TooLarge → Says too_large_cause) → IfErr result (WhereRefused Says)
 built_refuses Says (Ok objects) result is large = subst (λ r. IfErr r (WhereRefused Says)) (sym is) tt
 built_refuses Says (Err build.TooLarge) result is large = subst (λ r. IfErr r (WhereRefused Says)) (sym is) (large refl)
 built_refuses Says (Err build.NoMemory) result is large = subst (λ r. IfErr r (WhereRefused Says)) (sym is) tt
-
--- ---- the parents of a meta, one after another
-
-abbrev pub FitSoFar : List Parent → ℕ → Type 0
-FitSoFar parents i = AllByRecursion FitsParent (take i parents)
-
-pub fit_none : (parents : List Parent) → FitSoFar parents 0
-fit_none parents = subst (AllByRecursion FitsParent) (sym (take_none parents)) tt
-
-pub fit_step : (parents : List Parent) (i : ℕ) (parent : Parent) → FitSoFar parents i → i < length parents → parent ≡ get_or parents i parent → FitsParent parent → FitSoFar parents (i + 1)
-fit_step parents i parent far below at fits =
-    subst (AllByRecursion FitsParent) (sym (take_place parents i parent (found parents i i parent refl below at))) (AllByRecursion-push FitsParent (take i parents) parent far fits)

@@ -6,6 +6,7 @@ use Rattle.block_keys.specs.declared.object.Object.{Object}
 use Rattle.block_files.specs.declared.block_files.BlockFiles.{BlockFiles}
 use Rattle.block_files.specs.declared.build_refusal.BuildRefusal.{BuildRefusal}
 use Rattle.block_files.specs.declared.build_refusal.BuildRefusal.TheVariants as build
+use Rattle.block_meta.specs.Bounds.{HasFittingNumbers}
 use Rattle.block_meta.specs.MetaFields.{fields_of}
 use Rattle.block_meta.specs.MetaValue.{meta_text}
 use Rattle.block_files.specs.Built.{objects_of}
@@ -20,7 +21,7 @@ use Rattle.script_core.specs.declared.block.Block.{Block}
 use Rattle.script_core.specs.declared.body.Body.TheVariants.{OnShelf}
 use Rattle.script_core.specs.declared.script.Script.{Script}
 use Rattle.lifecycle_core.specs.Setting.{FromShelf, Setting, holding, refusing}
-use Rattle.lifecycle_core.specs.Shipped.{AreShort, HasFittingNumbers, cause_number}
+use Rattle.lifecycle_core.specs.Shipped.{AreShort, cause_number, no_file_cause, too_large_cause}
 use Rattle.script_running.specs.declared.unshipped.Unshipped.{Unshipped}
 use Rattle.script_running.specs.declared.unshipped.Unshipped.TheVariants as unshipped
 use Rattle.script_running.specs.declared.shelf.ShelfBlock.{ShelfBlock}
@@ -88,13 +89,13 @@ numbered_by (Some number) = unshipped.Refused number
 numbered_by None = unshipped.NoMemory
 
 abbrev pub from_found : Option ShelfFound → Result (List Object) Unshipped
-from_found None = Err (unshipped.Refused 1)
+from_found None = Err (unshipped.Refused no_file_cause)
 from_found (Some (Objects objects files)) = Ok objects
 from_found (Some (Refused number refusal)) = Err (numbered_by number)
 
 abbrev pub from_built : Result (List Object) BuildRefusal → Result (List Object) Unshipped
 from_built (Ok objects) = Ok objects
-from_built (Err build.TooLarge) = Err (unshipped.Refused 7)
+from_built (Err build.TooLarge) = Err (unshipped.Refused too_large_cause)
 from_built (Err build.NoMemory) = Err unshipped.NoMemory
 
 -- what is said of a cause's number, where a block is refused

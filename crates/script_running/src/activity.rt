@@ -12,13 +12,16 @@ ghost use Rattle.lifecycle_core.specs.Holdings.{Use};
 ghost use Rattle.lifecycle_core.specs.Setting.{Setting};
 ghost use Rattle.script_running.specs.Lending.{setting_in};
 ghost use Rattle.script_running.specs.Outcomes.{call_part, sync_outcome, upload_outcome};
-ghost use Rattle.script_running.specs.Drives.{sync_came, unshipped_came, upload_came};
+ghost use Rattle.script_running.specs.Drives.{sync_came, unshipped_came};
 ghost use Rattle.script_running.specs.Shelves.{Knows};
+ghost use Rattle.script_running.specs.declared.outcome.UploadOutcome.TheVariants as upload;
+ghost use Rattle.script_running.specs.declared.part.Part.TheVariants as part;
 ghost use Rattle.script_running.specs.Sights.{cache_of};
 ghost use Rattle.script_running.specs.Tasks.{Adds, CameBy, is_full_came, view_by};
 
 use crate::plan::objects_of;
 use crate::shelf::ShelfBlock;
+use crate::stopping::{Stoppable, stopped_came};
 use crate::unshipped::Unshipped;
 use crate::{Broken, Came, Means, NoAnswer, Part, QueryPart, SyncOutcome, UploadOutcome};
 use activity_runs::{CallLeft, run_call, run_sync, run_upload};
@@ -56,7 +59,7 @@ pub(crate) fn upload<H: Hand>(
         → IsTrue (H.wanted hand.old) ⊎ (result ≡ Err Broken.NoMemory) }
 {
     match objects_of(alloc, block, shelf) {
-        Ok(objects) => upload_came(run_upload(objects, stop, hand)),
+        Ok(objects) => stopped_came(run_upload(objects, stop, hand)),
         Err(why) => unshipped_came(why),
     }
 }
@@ -72,25 +75,21 @@ fn unshipped_came(why: Unshipped) -> Came
     }
 }
 
-/// What a drive of an upload came to.
-fn upload_came(driven: Driven<UploadEnd>) -> Came
-    ensures { result ≡ upload_came driven }
-{
-    match driven {
-        Driven::Ended(end) => Ok(Part::Upload(upload_outcome(end))),
-        Driven::Stopped(count) => Ok(Part::Upload(UploadOutcome::Stopped(count))),
-        Driven::Full => Err(Broken::Full),
-        Driven::NoMemory => Err(Broken::NoMemory),
-    }
-}
+impl Stoppable for UploadEnd {
+    ghost ended = { λ end. part.Upload (upload_outcome end) };
 
-fn upload_outcome(end: UploadEnd) -> UploadOutcome
-    ensures { result ≡ upload_outcome end }
-{
-    match end {
-        UploadEnd::Done(count) => UploadOutcome::Done(count),
-        UploadEnd::Already => UploadOutcome::Already,
-        UploadEnd::Fault(entry) => UploadOutcome::Fault(entry),
+    ghost stopped = { λ count. part.Upload (upload.Stopped count) };
+
+    fn by_end(self) -> Part {
+        Part::Upload(match self {
+            UploadEnd::Done(count) => UploadOutcome::Done(count),
+            UploadEnd::Already => UploadOutcome::Already,
+            UploadEnd::Fault(entry) => UploadOutcome::Fault(entry),
+        })
+    }
+
+    fn by_stop(count: u32) -> Part {
+        Part::Upload(UploadOutcome::Stopped(count))
     }
 }
 

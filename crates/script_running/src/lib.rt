@@ -15,6 +15,7 @@ mod query_parts;
 mod report;
 mod shelf;
 mod sight;
+mod stopping;
 mod task;
 mod unshipped;
 mod upkeep;

@@ -1,19 +1,16 @@
 ghost use Rattle.std.specs.Prelude.{◌≡◌, ◌≢◌, Err, IfErr, IfOk};
-ghost use Rattle.std.specs.List.{AllByRecursion};
-ghost use Rattle.reading_core.specs.Grammar.{IsBytes};
 ghost use Rattle.block_keys.specs.Blocks.{IsBlock};
 ghost use Rattle.block_files.specs.Built.{objects_of};
 ghost use Rattle.block_meta.specs.MetaFields.{fields_of};
 ghost use Rattle.block_meta.specs.MetaValue.{meta_text};
-ghost use Rattle.block_laws.specs.PutContent.{AreBytes};
 ghost use Rattle.block_meta.specs.Lawful.{AreLawfulTimes};
 ghost use Rattle.script_core.specs.Lawful.{IsLawfulBlock};
 ghost use Rattle.script_core.specs.declared.body.Body.TheVariants.{Inline};
 ghost use Rattle.lifecycle_core.specs.Setting.{Setting};
-ghost use Rattle.lifecycle_core.specs.Shipped.{IsPlanOf, IsRefused, IsShipped};
+ghost use Rattle.lifecycle_core.specs.Shipped.{IsPlanOf, IsRefused, IsShipped, too_large_cause};
 ghost use Rattle.script_running.specs.Shelves.{Knows, WhereRefused, from_built};
 
-use crate::shelf::{ShelfBlock, shelf_objects};
+use crate::shelf::{ShelfBlock, TOO_LARGE, shelf_objects};
 use crate::unshipped::Unshipped;
 use block_files::{BlockFiles, BuildRefusal, files_objects};
 use block_keys::ObjectList;
@@ -23,7 +20,6 @@ use label_sets::{SeriesList, Text};
 use list_core::{NoMemory, TryCopy};
 use script_core::{Block, Body};
 use std::alloc::Global;
-use wire_bytes::Blob;
 
 /// The objects of a declared block, in the order of their upload. An inline block is not shipped where its index would be too large;
 /// one of the shelf, where the shelf has none that passes.
@@ -56,7 +52,7 @@ fn from_built(built: Result<ObjectList, BuildRefusal>) -> Result<ObjectList, Uns
 {
     match built {
         Ok(objects) => Ok(objects),
-        Err(BuildRefusal::TooLarge) => Err(Unshipped::Refused(7)),
+        Err(BuildRefusal::TooLarge) => Err(Unshipped::Refused(u32::from(TOO_LARGE))),
         Err(BuildRefusal::NoMemory) => Err(Unshipped::NoMemory),
     }
 }
@@ -76,7 +72,7 @@ fn inline_objects(
     ensures shipped { (setting : Setting)
         → IfOk result (λ objects. IsShipped setting block.now objects) }
     ensures refused { (setting : Setting) → result ≡ Err BuildRefusal.TooLarge
-        → IsRefused setting block.now 7 }
+        → IsRefused setting block.now too_large_cause }
 {
     let plan = plan_of(alloc, block, min_time, max_time)?;
     match build(alloc, &plan, series) {
@@ -87,38 +83,14 @@ fn inline_objects(
 
 /// The objects of files that were built.
 fn built_objects(alloc: Global, files: BlockFiles) -> Result<ObjectList, BuildRefusal>
-    ensures bytes { AreBytes files }
     ensures block { IfOk result (IsBlock files.meta.ulid) }
     ensures objects { IfOk result (λ objects. objects ≡ objects_of files.meta.ulid
         files.segments files.index (meta_text (fields_of files.meta))) }
     ensures small { result ≢ Err BuildRefusal.TooLarge }
 {
-    are_bytes(&files);
     match files_objects(alloc, files) {
         Ok(objects) => Ok(objects),
         Err(NoMemory) => Err(BuildRefusal::NoMemory),
-    }
-}
-
-/// The files of a block are bytes.
-pub(crate) fn are_bytes(files: &BlockFiles)
-    ensures { AreBytes files.now }
-{
-    is_bytes(files.index.bytes());
-    all_bytes(files.segments.members());
-}
-
-fn is_bytes(bytes: &[u8])
-    ensures { IsBytes bytes.now }
-{
-    let _bytes = bytes;
-}
-
-fn all_bytes(segments: &[Blob])
-    ensures { AllByRecursion IsBytes segments.now }
-{
-    for segment in segments {
-        is_bytes(segment.bytes());
     }
 }
 

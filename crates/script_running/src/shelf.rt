@@ -1,23 +1,24 @@
 //! What was read of the shelf for the blocks that a script takes from there.
 
-ghost use Rattle.std.specs.Prelude.{◌≡◌, ◌==◌, ◌⊎◌, ◌<◌, ◌^◌, Err, FitsSigned, find, option_map};
-ghost use Rattle.std.specs.Int.{w64};
-ghost use Rattle.std.specs.List.{AllByRecursion};
-ghost use Rattle.block_meta.specs.MetaFields.{fields_of};
-ghost use Rattle.lifecycle_core.specs.Shipped.{FitsParent, HasFittingNumbers, cause_number};
+ghost use Rattle.std.specs.Prelude.{◌≡◌, ◌==◌, ◌⊎◌, Err, find, option_map};
+ghost use Rattle.lifecycle_core.specs.Shipped.{cause_number};
 ghost use Rattle.script_running.specs.Shelves.{found_in, from_found, numbered_by};
 
-use crate::plan::are_bytes;
 use crate::unshipped::Unshipped;
 use block_content::{CheckRefusal, Checked};
 use block_files::BlockFiles;
 use block_keys::ObjectList;
-use block_meta::{Meta, Parent};
 use list_core::{List, NoMemory, TryCopy};
 use script_core::Block;
 use std::alloc::Global;
 use std::snapshot::Snapshot;
 use ulid_core::Ulid;
+
+/// The number of the cause that a file is not there.
+const NO_FILE: u8 = 1;
+
+/// The number of the cause that a file is too large.
+pub(crate) const TOO_LARGE: u8 = 7;
 
 /// What was read of the shelf for a block.
 #[derive(Drop)]
@@ -61,8 +62,6 @@ impl ShelfBlock {
             ≡ holding (checked_files checked) (series_in (checked_files checked))) }
     {
         let files = checked.files();
-        are_bytes(files);
-        numbers_fit(&files.meta);
         let of = Snapshot::of(files);
         let objects = checked.objects(alloc, &block.labels)?;
         Ok(ShelfBlock {
@@ -85,50 +84,6 @@ impl ShelfBlock {
     }
 }
 
-/// The counts of a meta are of 64 bits, as those of all metas are, and so are the times of its parents.
-fn numbers_fit(meta: &Meta)
-    ensures { HasFittingNumbers (fields_of meta.now) }
-{
-    count_fits(meta.series);
-    count_fits(meta.samples);
-    count_fits(meta.chunks);
-    parents_fit(meta.parents.members());
-}
-
-fn count_fits(count: u64)
-    ensures { count < 2 ^ 64 }
-{
-    let _count = count;
-}
-
-fn parents_fit(parents: &[Parent])
-    ensures { AllByRecursion FitsParent parents.now }
-{
-    for parent in parents {
-        parent_fits(parent);
-    }
-}
-
-fn parent_fits(parent: &Parent)
-    ensures { FitsParent parent.now }
-{
-    ulid_fits(parent.ulid);
-    time_fits(parent.min_time);
-    time_fits(parent.max_time);
-}
-
-fn ulid_fits(ulid: Ulid)
-    ensures { ulid < 2 ^ 128 }
-{
-    let _time = ulid.time();
-}
-
-fn time_fits(time: i64)
-    ensures { FitsSigned w64 time }
-{
-    let _time = time;
-}
-
 /// The objects of a block of the shelf. One of which nothing was read is not there.
 pub(crate) fn shelf_objects(shelf: &[ShelfBlock], ulid: Ulid) -> Result<ObjectList, Unshipped>
     ensures { (result ≡ from_found (found_in shelf.now ulid)) ⊎ (result ≡ Err Unshipped.NoMemory) }
@@ -139,7 +94,7 @@ pub(crate) fn shelf_objects(shelf: &[ShelfBlock], ulid: Ulid) -> Result<ObjectLi
             Err(_) => Err(Unshipped::NoMemory),
         },
         Some(ShelfFound::Refused(number, _)) => Err(unshipped_by(*number)),
-        None => Err(Unshipped::Refused(1)),
+        None => Err(Unshipped::Refused(u32::from(NO_FILE))),
     }
 }
 
@@ -175,13 +130,13 @@ pub fn cause_number(refusal: &CheckRefusal) -> Option<u8>
     ensures { result ≡ cause_number refusal.now }
 {
     match refusal {
-        CheckRefusal::NoFile(_) => Some(1),
+        CheckRefusal::NoFile(_) => Some(NO_FILE),
         CheckRefusal::BadMeta(_) => Some(2),
         CheckRefusal::UlidDiffers => Some(3),
         CheckRefusal::NotLevelOne => Some(4),
         CheckRefusal::SourcesNotSelf => Some(5),
         CheckRefusal::Downsampled => Some(6),
-        CheckRefusal::TooLarge(_) => Some(7),
+        CheckRefusal::TooLarge(_) => Some(TOO_LARGE),
         CheckRefusal::BadIndex(_) => Some(8),
         CheckRefusal::EmptyBlock => Some(9),
         CheckRefusal::BadChunk { .. } => Some(10),

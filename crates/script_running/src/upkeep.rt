@@ -6,17 +6,20 @@ ghost use Rattle.compactor.specs.Compactions.{compaction};
 ghost use Rattle.cleaner.specs.Cleanings.{cleaning};
 ghost use Rattle.script_workers.specs.declared.work.Work.TheVariants as works;
 ghost use Rattle.lifecycle_core.specs.Tasks.{End, StoppedRun, cleaned, compacted};
-ghost use Rattle.script_running.specs.Drives.{clean_came, compact_came};
 ghost use Rattle.script_running.specs.Outcomes.{clean_outcome, compact_outcome};
 ghost use Rattle.script_running.specs.Tasks.{Adds, CameBy, is_full_came};
+ghost use Rattle.script_running.specs.declared.outcome.CleanOutcome.TheVariants as clean;
+ghost use Rattle.script_running.specs.declared.outcome.CompactOutcome.TheVariants as compact;
+ghost use Rattle.script_running.specs.declared.part.Part.TheVariants as part;
 
+use crate::stopping::{Stoppable, stopped_came};
 use crate::{Broken, Came, CleanOutcome, CompactOutcome, Part};
 use activity_runs::{run_cleaning, run_compaction};
 use cleaner::CleanEnd;
 use compactor::CompactEnd;
 use moment_core::Rules;
 use std::alloc::Global;
-use world_core::{Driven, Hand};
+use world_core::Hand;
 
 /// Compacts by these rules, and stops after so many operations where the script says so.
 pub(crate) fn compact<H: Hand>(
@@ -37,39 +40,35 @@ pub(crate) fn compact<H: Hand>(
     ensures wanted { IsTrue (H.wanted hand.new)
         → IsTrue (H.wanted hand.old) ⊎ (result ≡ Err Broken.NoMemory) }
 {
-    compact_came(run_compaction(alloc, rules, stop, hand))
+    stopped_came(run_compaction(alloc, rules, stop, hand))
 }
 
-/// What a drive of a compaction came to.
-fn compact_came(driven: Driven<CompactEnd>) -> Came
-    ensures { result ≡ compact_came driven }
-{
-    match driven {
-        Driven::Ended(end) => Ok(Part::Compact(compact_outcome(end))),
-        Driven::Stopped(count) => Ok(Part::Compact(CompactOutcome::Stopped(count))),
-        Driven::Full => Err(Broken::Full),
-        Driven::NoMemory => Err(Broken::NoMemory),
+impl Stoppable for CompactEnd {
+    ghost ended = { λ end. part.Compact (compact_outcome end) };
+
+    ghost stopped = { λ count. part.Compact (compact.Stopped count) };
+
+    fn by_end(self) -> Part {
+        Part::Compact(match self {
+            CompactEnd::Done {
+                collected,
+                compacted,
+                expired,
+            } => CompactOutcome::Done {
+                collected,
+                compacted,
+                expired,
+            },
+            CompactEnd::Fault(entry) => CompactOutcome::Fault(entry),
+            CompactEnd::Missing(entry) => CompactOutcome::Missing(entry),
+            CompactEnd::Damaged(entry) => CompactOutcome::Damaged(entry),
+            CompactEnd::TooMany => CompactOutcome::TooMany,
+            CompactEnd::TooLarge => CompactOutcome::TooLarge,
+        })
     }
-}
 
-fn compact_outcome(end: CompactEnd) -> CompactOutcome
-    ensures { result ≡ compact_outcome end }
-{
-    match end {
-        CompactEnd::Done {
-            collected,
-            compacted,
-            expired,
-        } => CompactOutcome::Done {
-            collected,
-            compacted,
-            expired,
-        },
-        CompactEnd::Fault(entry) => CompactOutcome::Fault(entry),
-        CompactEnd::Missing(entry) => CompactOutcome::Missing(entry),
-        CompactEnd::Damaged(entry) => CompactOutcome::Damaged(entry),
-        CompactEnd::TooMany => CompactOutcome::TooMany,
-        CompactEnd::TooLarge => CompactOutcome::TooLarge,
+    fn by_stop(count: u32) -> Part {
+        Part::Compact(CompactOutcome::Stopped(count))
     }
 }
 
@@ -87,28 +86,24 @@ pub(crate) fn clean<H: Hand>(alloc: Global, rules: &Rules, stop: Option<u32>, ha
     ensures wanted { IsTrue (H.wanted hand.new)
         → IsTrue (H.wanted hand.old) ⊎ (result ≡ Err Broken.NoMemory) }
 {
-    clean_came(run_cleaning(alloc, rules, stop, hand))
+    stopped_came(run_cleaning(alloc, rules, stop, hand))
 }
 
-/// What a drive of a cleaning came to.
-fn clean_came(driven: Driven<CleanEnd>) -> Came
-    ensures { result ≡ clean_came driven }
-{
-    match driven {
-        Driven::Ended(end) => Ok(Part::Clean(clean_outcome(end))),
-        Driven::Stopped(count) => Ok(Part::Clean(CleanOutcome::Stopped(count))),
-        Driven::Full => Err(Broken::Full),
-        Driven::NoMemory => Err(Broken::NoMemory),
+impl Stoppable for CleanEnd {
+    ghost ended = { λ end. part.Clean (clean_outcome end) };
+
+    ghost stopped = { λ count. part.Clean (clean.Stopped count) };
+
+    fn by_end(self) -> Part {
+        Part::Clean(match self {
+            CleanEnd::Done { blocks, partials } => CleanOutcome::Done { blocks, partials },
+            CleanEnd::Fault(entry) => CleanOutcome::Fault(entry),
+            CleanEnd::Damaged(entry) => CleanOutcome::Damaged(entry),
+            CleanEnd::TooMany => CleanOutcome::TooMany,
+        })
     }
-}
 
-fn clean_outcome(end: CleanEnd) -> CleanOutcome
-    ensures { result ≡ clean_outcome end }
-{
-    match end {
-        CleanEnd::Done { blocks, partials } => CleanOutcome::Done { blocks, partials },
-        CleanEnd::Fault(entry) => CleanOutcome::Fault(entry),
-        CleanEnd::Damaged(entry) => CleanOutcome::Damaged(entry),
-        CleanEnd::TooMany => CleanOutcome::TooMany,
+    fn by_stop(count: u32) -> Part {
+        Part::Clean(CleanOutcome::Stopped(count))
     }
 }

@@ -6,6 +6,7 @@ use Rattle.std.specs.Map.{lookup, lookup_entry, remove_entry}
 use Rattle.std.specs.Option.{option_map_or}
 use Rattle.std.proofs.lemmas.List.Elements.{All-cons, All-from_recursion, All-take, recursion_from_All}
 use Rattle.lru.specs.LruCache.{LruCache, promoted, put_entries}
+use Rattle.read_ranges.proofs.NotKept.{no_entry}
 
 module _ {K V : Type 0} (P : K × V → Type 0) where
   abbrev Each : List (K × V) → Type 0
@@ -35,14 +36,6 @@ module _ {K V : Type 0} (P : K × V → Type 0) where
     -- the pair that was used goes first
     pub all_promoted : (es : List (K × V)) → All P es → All P (promoted test es)
     all_promoted es all = All-from_recursion P (promoted test es) (by_entry (lookup_entry test es) es refl (recursion_from_All P es all))
-
-    none_here : (b : Bool) (e : K × V) (value : Option V) (entry : Option (K × V)) → (value ≡ None → entry ≡ None) → cond b (Some e.1) value ≡ None → cond b (Some e) entry ≡ None
-    none_here true e value entry later is = absurd (cc (is))
-    none_here false e value entry later is = later is
-
-    no_entry : (es : List (K × V)) → lookup test es ≡ None → lookup_entry test es ≡ None
-    no_entry [] none = refl
-    no_entry (e ∷ es) none = none_here (test e.0) e (lookup test es) (lookup_entry test es) (no_entry es) none
 
   -- a pair that is kept, whose range was not there
   pub all_kept : (eq : K → K → Bool) (cache : LruCache K V) (k : K) (v : V) → lookup (eq k) cache.entries ≡ None → P (k, v) → All P cache.entries → All P (put_entries eq cache k v)

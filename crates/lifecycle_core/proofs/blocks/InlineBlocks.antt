@@ -13,6 +13,7 @@ use Rattle.label_sets.specs.Labels.{IsLabelSet}
 use Rattle.label_sets.specs.SetText.{AreNamed}
 use Rattle.block_keys.specs.KeyText.{six_digits}
 use Rattle.block_keys.specs.declared.object.Object.{Object}
+use Rattle.block_meta.specs.Bounds.{FitsParent}
 use Rattle.block_meta.specs.declared.block_plan.BlockPlan.{BlockPlan}
 use Rattle.block_meta.specs.declared.file_size.FileSize.{FileSize}
 use Rattle.block_meta.specs.MetaFields.{MetaFields, fields_of}
@@ -38,7 +39,7 @@ use Rattle.script_core.specs.declared.block.Block.{Block}
 use Rattle.script_core.specs.declared.body.Body.TheVariants.{Inline}
 use Rattle.lifecycle_core.specs.Held.{given_by}
 use Rattle.lifecycle_core.specs.Setting.{Setting}
-use Rattle.lifecycle_core.specs.Shipped.{FitsParent, IsInlineBlock, IsNotBuilt, IsPlanOf}
+use Rattle.lifecycle_core.specs.Shipped.{IsInlineBlock, IsNotBuilt, IsPlanOf}
 use Rattle.lifecycle_core.proofs.blocks.MetasAgain.{IsReadAgain, meta_read_again}
 use Rattle.lifecycle_core.proofs.blocks.Whole.{IsWholeBlock, Spans, told_size}
 

@@ -18,6 +18,7 @@ use Rattle.label_sets.specs.declared.label.Label.{Label}
 use Rattle.label_sets.specs.Labels.{IsLabelSet, StandsBefore}
 use Rattle.label_sets.specs.Notation.{is_name, is_name_byte, is_name_start}
 use Rattle.label_sets.specs.SetText.{AreNamed}
+use Rattle.block_meta.specs.Bounds.{FitsParent}
 use Rattle.block_meta.specs.declared.file_size.FileSize.{FileSize}
 use Rattle.block_meta.specs.declared.parent.Parent.{Parent}
 use Rattle.block_meta.specs.Lawful.{AreLawfulTimes}
@@ -31,8 +32,7 @@ use Rattle.block_meta.proofs.Lists.{each_again}
 use Rattle.block_meta.proofs.Rising.{ascending_already, lawful_passes}
 use Rattle.block_meta.proofs.Texts.{meta_reads}
 use Rattle.ulid_core.proofs.AsciiTexts.{IsUtf8-text_of}
-use Rattle.lifecycle_core.specs.Shipped.{FitsParent}
-use Rattle.block_files.proofs.JsonAgain.{FitsNumber, keys, Ascend, IsPlain, ArePlainItems, ArePlainMembers, plain_read, plain_utf8}
+use Rattle.block_files.proofs.JsonAgain.{FitsNumber, keys, IsPlain, ArePlainItems, ArePlainMembers, plain_read, plain_utf8}
 
 -- What a meta's text needs to be read as the meta. A shipped meta drops no samples.
 pub record IsReadAgain (m : MetaFields) : Type 0 where
@@ -101,7 +101,7 @@ unfolding label_members
 label_stands name [] h = tt
 label_stands name (l ∷ ls) h = (h.0, label_stands name ls h.1)
 
-labels_ascend : (labels : List Label) → IsLabelSet labels → Ascend (label_members labels)
+labels_ascend : (labels : List Label) → IsLabelSet labels → IsStrictlySortedBy (slice_cmp nat_cmp) (keys (label_members labels))
 unfolding label_members IsStrictlySortedBy
 labels_ascend [] h = tt
 labels_ascend (l ∷ ls) h = (label_stands l.name ls h.2, labels_ascend ls h.3)
@@ -144,7 +144,7 @@ thanos_plain m h =
     let files : ArePlainItems (items_value file_value m.files) = items_plain _ file_value file_plain m.files (recursion_from_All _ m.files h.files) in
     let segments : ArePlainItems (items_value string m.segment_files) = items_plain _ string (λ text utf8. utf8) m.segment_files (recursion_from_All _ m.segment_files h.segment_files) in
     let labels : ArePlainMembers (label_members m.labels) = labels_plain m.labels (recursion_from_All _ m.labels h.named) (recursion_from_All _ m.labels h.values) in
-    let ascend : Ascend (label_members m.labels) = labels_ascend m.labels h.lawful in
+    let ascend : IsStrictlySortedBy (slice_cmp nat_cmp) (keys (label_members m.labels)) = labels_ascend m.labels h.lawful in
     let resolution : FitsNumber (of_integer m.resolution) = signed_fits m.resolution (none_dropped m h) in
     search rules
 

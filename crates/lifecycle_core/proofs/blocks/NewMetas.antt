@@ -1,7 +1,7 @@
 -- What the meta of a block says that was compacted from others, and that its text is read again.
 use Rattle.list_core.proofs.Bools.{Equal-from_then, Equal-from_is_eq}
 use Rattle.list_core.proofs.Lists.{AllByRecursion-map, cons_same}
-use Rattle.list_core.proofs.Membership.{all_members, contains_first, into_flat_map, member_passes, no_member, of_filter, of_flat_map, of_in_order, of_map}
+use Rattle.list_core.proofs.Membership.{all_members, into_flat_map, member_passes, no_member, of_filter, of_flat_map, of_in_order, of_map, some_member}
 use Rattle.std.proofs.Common.{◌≡◌, ◌≢◌, ℕ, ℤ, ◌+◌, ◌<◌, ◌≤ℤ◌, ◌^◌, Bool, true, false, cond, pos, min, eqb, List, [], ◌∷◌, map, flat_map, filter, not, All, Contains, Some, None, Result, Ok, Err, IsUtf8, IsTrue, codes, rules, refl, sym, ◌∙◌, ap, subst, arith}
 use Rattle.std.specs.declared.cmp.Ordering.TheVariants.{Equal}
 use Rattle.std.specs.List.{AllByRecursion, AllZip}
@@ -15,6 +15,7 @@ use Rattle.label_sets.specs.Labels.{compare_sets}
 use Rattle.label_sets.specs.Notation.{is_name}
 use Rattle.label_sets.proofs.FinalLabels.{IsLabelSet-without}
 use Rattle.label_sets.proofs.LabelValues.{same_set}
+use Rattle.block_meta.specs.Bounds.{FitsParent}
 use Rattle.block_meta.specs.Lawful.{AreLawfulTimes, ascending}
 use Rattle.block_meta.specs.MetaFields.{MetaFields, fields_of}
 use Rattle.block_meta.specs.MetaReading.{meta_of_text}
@@ -43,7 +44,6 @@ use Rattle.compactor.specs.Compactions.{metas_of}
 use Rattle.script_core.specs.Lawful.{AreLawfulLabels}
 use Rattle.activity_laws.specs.CompactionOps.{HasMerged, WasRead}
 use Rattle.activity_laws.proofs.CompactionGroups.{plan_among}
-use Rattle.lifecycle_core.specs.Shipped.{FitsParent}
 use Rattle.lifecycle_core.proofs.blocks.InlineBlocks.{all_fit, count_fits, names_fit, samples_fit}
 use Rattle.lifecycle_core.proofs.blocks.MetasAgain.{IsReadAgain, lawful_fits, meta_read_again}
 
@@ -183,20 +183,12 @@ module _ (rules : Rules) (view : View) (own : List Entry) (ulid : ℕ) (block : 
       group_labels rules.replicas (metas_of view.kept) merged.groups merged.grouped merged.group merged.among meta (plan_among (merged.group).members merged.metas merged.planned meta among)
 
   module _ (small : ulid < 2 ^ 128) (inputs : (meta : Meta) → Contains merged.metas meta → IsSound (fields_of meta)) where
-    first_of : (metas : List Meta) → metas ≢ [] → (meta : Meta) × Contains metas meta
-    first_of [] some = absurd (some refl)
-    first_of (m ∷ metas) some = (m, contains_first m metas)
-
     abbrev one : (meta : Meta) × Contains merged.metas meta
-    one = first_of merged.metas merged.some
-
-    member_source : (us : List ℕ) → us ≢ [] → (u : ℕ) × Contains us u
-    member_source [] some = absurd (some refl)
-    member_source (u ∷ us) some = (u, contains_first u us)
+    one = some_member merged.metas merged.some
 
     some_sources : block.meta.sources ≢ []
     some_sources none =
-        let u = member_source (one.0).sources (inputs one.0 one.1).some in
+        let u = some_member (one.0).sources (inputs one.0 one.1).some in
         no_member u.0 (subst (λ (us : List ℕ). Contains us u.0) none (source_in u.0 one.0 one.1 u.1))
 
     small_sources : All (λ (u : ℕ). u < 2 ^ 128) block.meta.sources

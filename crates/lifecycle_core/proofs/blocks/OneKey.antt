@@ -1,7 +1,7 @@
 -- All puts under one key, marks aside, have the same bytes.
 use Rattle.list_core.proofs.Membership.{into_filter, member_cases, no_member}
 use Rattle.list_core.proofs.Pairs.{AllZip-second}
-use Rattle.std.proofs.Common.{◌≡◌, inl, inr, ℕ, ◌+◌, ◌-◌, ◌*◌, ◌%◌, ◌<◌, ◌≤◌, ◌^◌, ◌==◌, true, List, [], ◌∷◌, ◌++◌, length, Contains, Some, refl, sym, ◌∙◌, ap, subst, append_assoc, arith}
+use Rattle.std.proofs.Common.{◌≡◌, inl, inr, ℕ, ◌+◌, ◌*◌, ◌%◌, ◌<◌, ◌≤◌, ◌^◌, ◌==◌, true, List, [], ◌∷◌, ◌++◌, length, Contains, Some, refl, sym, ◌∙◌, ap, subst, append_assoc, arith}
 use Rattle.std.proofs.lemmas.Bool.Decides.{nat_tests}
 use Rattle.std.proofs.lemmas.Bool.{le-leb}
 use Rattle.std.proofs.lemmas.List.{length-append}
@@ -18,6 +18,8 @@ use Rattle.script_core.specs.Lawful.{IsLawfulScript}
 use Rattle.script_fields.specs.Values.{is_reserved}
 use Rattle.script_core.specs.declared.block.Block.{Block as Declared}
 use Rattle.compactor.specs.NewBlocks.{new_ulid}
+use Rattle.ulid_core.specs.Limits.{entropy_count}
+use Rattle.ulid_core.specs.Reserved.{least_reserved, reserved_count}
 use Rattle.activity_laws.specs.CompactionOps.{IsObjectMade, Stores}
 use Rattle.world_core.specs.Journals.{of_seat}
 use Rattle.lifecycle_core.specs.Held.{declared}
@@ -52,10 +54,11 @@ same_shipped setting readable k one other first second =
 -- ---- new blocks
 
 pub reserved_new : (number moment : ℕ) → is_reserved (new_ulid number (record { ms = moment })) ≡ true
-reserved_new number moment = le-leb (2 ^ 80 - 2 ^ 20) (new_ulid number (record { ms = moment }) % 2 ^ 80) (omega arith)
+reserved_new number moment = le-leb least_reserved (new_ulid number (record { ms = moment }) % entropy_count) (omega arith)
 
 -- the number of an entry is told by a new block's ULID
-pub same_number : (n m : ℕ) (t u : ℕ) → 1 ≤ n → n ≤ 2 ^ 20 → 1 ≤ m → m ≤ 2 ^ 20 → t * 2 ^ 80 + (2 ^ 80 - 2 ^ 20 + n % 2 ^ 20) ≡ u * 2 ^ 80 + (2 ^ 80 - 2 ^ 20 + m % 2 ^ 20) → n ≡ m
+pub same_number : (n m : ℕ) (t u : ℕ) → 1 ≤ n → n ≤ reserved_count → 1 ≤ m → m ≤ reserved_count
+    → t * entropy_count + (least_reserved + n % reserved_count) ≡ u * entropy_count + (least_reserved + m % reserved_count) → n ≡ m
 same_number n m t u low high little great same = omega (arith, low, high, little, great, same)
 
 module _ (setting : Setting) (journal : List Entry) (lawful : IsLawfulScript setting.script) (deeds : AreDeeds setting journal) where

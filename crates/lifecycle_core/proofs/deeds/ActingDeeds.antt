@@ -78,6 +78,11 @@ pub other_first : (seat : ℕ) (e : Entry) (entries : List Entry) → e.seat ≢
 other_first seat e entries other =
     let test : (e.seat == seat) ≡ false = grind (arith, nat_tests, other) in rw test refl
 
+-- the entries of a seat that is not the clock's
+pub parted : (seat : ℕ) (clock : Entry) (made others entries : List Entry) → entries ≡ clock ∷ made ++ others → clock.seat ≢ seat → of_seat seat entries ≡ of_seat seat made ++ of_seat seat others
+parted seat clock made others entries parts other =
+    ap (of_seat seat) parts ∙ other_first seat clock (made ++ others) other ∙ filter-append (λ (x : Entry). x.seat == seat) made others
+
 -- each of those that rise is before each behind it
 pub rises_apart : (front back : List Entry) → Rises (front ++ back) → (x y : Entry) → Contains front x → Contains back y → x.seq < y.seq
 rises_apart [] back rises x y one other = absurd (no_member x one)
@@ -421,10 +426,6 @@ module _ (setting : Setting) (journal : List Entry) (lawful : IsLawfulScript set
 
   clock_apart : (n : ℕ) (a : Worker) (clock : Entry) → Contains (actors setting numbering n) a → clock.seat ≡ 0 → clock.seat ≢ a.seat
   clock_apart n a clock inside zero_seat same = let above = actor_above n a inside in absurd (omega (arith, above, zero_seat, same))
-
-  parted : (seat : ℕ) (clock : Entry) (made others entries : List Entry) → entries ≡ clock ∷ made ++ others → clock.seat ≢ seat → of_seat seat entries ≡ of_seat seat made ++ of_seat seat others
-  parted seat clock made others entries parts other =
-      ap (of_seat seat) parts ∙ other_first seat clock (made ++ others) other ∙ filter-append (λ (x : Entry). x.seat == seat) made others
 
   -- ---- the entries of an actor
 

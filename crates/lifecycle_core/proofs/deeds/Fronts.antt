@@ -1,9 +1,10 @@
 -- A front of a journal of deeds is one, and what was done at an entry.
-use Rattle.std.proofs.Common.{◌≡◌, ◌≢◌, inl, inr, ℕ, ◌+◌, ◌<◌, ◌^◌, ◌==◌, true, List, [], ◌∷◌, ◌++◌, length, Contains, Option, None, refl, sym, ◌∙◌, ap, subst, append_assoc, append-nil, arith}
+use Rattle.std.proofs.Common.{◌≡◌, ◌≢◌, inl, inr, ℕ, ◌+◌, ◌<◌, ◌==◌, true, List, [], ◌∷◌, ◌++◌, length, Contains, Option, None, refl, sym, ◌∙◌, ap, subst, append_assoc, append-nil, arith}
 use Rattle.std.specs.List.{All}
 use Rattle.std.proofs.lemmas.Bool.Decides.{nat_tests}
 use Rattle.std.proofs.lemmas.List.{length-append}
 use Rattle.std.proofs.lemmas.List.Elements.{All-contains, Contains-append_left, filter-append}
+use Rattle.ulid_core.specs.Limits.{ulid_time_limit}
 use Rattle.world_core.specs.Moments.{last_moment, moment_after}
 use Rattle.world_core.specs.Operations.{IsLawful, IsReplyTo}
 use Rattle.world_core.specs.Plans.{Plan, Runs}
@@ -61,7 +62,7 @@ journal_front tick front back kept = record {
   lawful = Each-front (λ before e. IsLawful e.op) front back kept.lawful;
   kinds = Each-front (λ before e. IsReplyTo e.op e.reply) front back kept.kinds;
   moments = Each-front (λ before e. e.moment.ms ≡ moment_after tick (last_moment before) e.op) front back kept.moments;
-  small = Each-front (λ before e. e.moment.ms < 2 ^ 48) front back kept.small;
+  small = Each-front (λ before e. e.moment.ms < ulid_time_limit) front back kept.small;
 }
 
 no_more : (front back : List Entry) → front ≢ [] → front ++ back ≢ []

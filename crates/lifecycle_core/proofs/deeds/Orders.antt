@@ -1,6 +1,7 @@
 -- The order of a journal's entries: by their places, their numbers and their moments.
-use Rattle.list_core.proofs.Membership.{member_cases, member_passes, no_member, of_filter}
+use Rattle.list_core.proofs.Membership.{into_filter, member_cases, member_passes, no_member, of_filter}
 use Rattle.std.proofs.Common.{◌≡◌, ◌⊎◌, inl, inr, ℕ, ◌<◌, ◌≤◌, ◌==◌, true, List, [], ◌∷◌, ◌++◌, Contains, refl, sym, ◌∙◌, ap, subst, arith}
+use Rattle.std.proofs.lemmas.Bool.{eq-eqb}
 use Rattle.std.proofs.lemmas.Bool.Decides.{nat_tests}
 use Rattle.std.proofs.lemmas.List.Elements.{All-contains, Contains-append_cases}
 use Rattle.world_core.specs.declared.entry.Entry.{Entry}
@@ -90,6 +91,9 @@ pub in_seat : (seat : ℕ) (entries : List Entry) (e : Entry) → Contains (of_s
 in_seat seat entries e among =
     let test : (e.seat == seat) ≡ true = member_passes (λ (x : Entry). x.seat == seat) entries e among in
     (of_filter (λ (x : Entry). x.seat == seat) entries e among, grind (arith, nat_tests, test))
+
+pub to_seat : (seat : ℕ) (entries : List Entry) (e : Entry) → Contains entries e → e.seat ≡ seat → Contains (of_seat seat entries) e
+to_seat seat entries e among is = into_filter (λ (x : Entry). x.seat == seat) entries e among (eq-eqb e.seat seat is)
 
 -- where an entry stands among those of its seat, it stands in the whole
 pub record StandsWhole (seat : ℕ) (entries front : List Entry) (e : Entry) : Type 0 where

@@ -1,6 +1,6 @@
 -- By whom an object was put or deleted.
 use Rattle.list_core.proofs.Membership.{no_member}
-use Rattle.std.proofs.Common.{◌≡◌, inl, inr, ℕ, zero, suc, ◌+◌, ◌-◌, ◌*◌, ◌%◌, ◌<◌, ◌^◌, List, [], ◌∷◌, ◌++◌, length, Contains, Option, Some, None, refl, sym, ◌∙◌, ap, subst, append_assoc, arith}
+use Rattle.std.proofs.Common.{◌≡◌, inl, inr, ℕ, zero, suc, ◌<◌, ◌^◌, List, [], ◌∷◌, ◌++◌, length, Contains, Option, Some, None, refl, sym, ◌∙◌, ap, subst, append_assoc, arith}
 use Rattle.std.proofs.lemmas.List.Elements.{All-contains, Contains-append_cases, Contains-append_left}
 use Rattle.block_keys.specs.Keys.{key_ulid}
 use Rattle.block_keys.specs.declared.key.Key.{Key}
@@ -20,6 +20,9 @@ use Rattle.shipper.specs.declared.upload_end.UploadEnd.{UploadEnd}
 use Rattle.shipper.specs.declared.upload_end.UploadEnd.TheVariants.{Already, Fault}
 use Rattle.cleaner.specs.Cleanings.{CleanRun}
 use Rattle.compactor.specs.Compactions.{CompactRun}
+use Rattle.compactor.specs.NewBlocks.{new_ulid}
+use Rattle.moment_core.specs.declared.moment.Moment.{Moment}
+use Rattle.ulid_core.specs.Limits.{ulid_time_limit}
 use Rattle.script_core.specs.Lawful.{IsLawfulScript}
 use Rattle.script_core.specs.declared.block.Block.{Block}
 use Rattle.activity_laws.specs.CleaningOps.{IsCleanOp, IsDeleting}
@@ -127,6 +130,9 @@ not_reading o k bytes is reads_it = subst IsReading is reads_it
 not_clock : (o : Op) (k : Key) (bytes : List ℕ) → o ≡ op.Put k bytes → IsClock o → ⊥
 not_clock o k bytes is clock = subst IsClock is clock
 
+pub new_small : (number : ℕ) (moment : Moment) → moment.ms < ulid_time_limit → new_ulid number moment < 2 ^ 128
+new_small number moment small = omega (arith, small)
+
 module _ (setting : Setting) (journal : List Entry) (deeds : AreDeeds setting journal) (before after : List Entry) (e : Entry) (parts : journal ≡ before ++ e ∷ after) where
   abbrev own : List Entry
   own = of_seat e.seat before
@@ -164,9 +170,6 @@ module _ (setting : Setting) (journal : List Entry) (deeds : AreDeeds setting jo
       by (clocking is) = absurd (subst IsClock deletes is)
 
   -- and its key can be told by its text
-  new_small : (number moment : ℕ) → moment < 2 ^ 48 → moment * 2 ^ 80 + (2 ^ 80 - 2 ^ 20 + number % 2 ^ 20) < 2 ^ 128
-  new_small number moment small = omega (arith, small)
-
   made_small : (k : Key) (bytes : List ℕ) → IsObjectMade setting.script.rules own k bytes → key_ulid k < 2 ^ 128
   made_small k bytes m =
       let merged = m.merged in
@@ -174,7 +177,7 @@ module _ (setting : Setting) (journal : List Entry) (deeds : AreDeeds setting jo
       let among : Contains own last = subst (λ es. Contains es last) (sym m.parts) (Contains-append_left m.read (m.look ∷ m.puts) last (subst (λ es. Contains es last) (sym merged.ends) (stands_in merged.front [] last))) in
       let at = parted before last (in_seat e.seat before last among).0 in
       let here : journal ≡ at.0 ++ last ∷ (at.1 ++ e ∷ after) = parts ∙ ap (λ es. es ++ e ∷ after) at.2 ∙ append_assoc at.0 (last ∷ at.1) (e ∷ after) in
-      let small : m.ulid < 2 ^ 128 = subst (λ (u : ℕ). u < 2 ^ 128) (sym merged.ulid_is) (new_small last.seq last.moment.ms (deeds.kept.small at.0 (at.1 ++ e ∷ after) last here)) in
+      let small : m.ulid < 2 ^ 128 = subst (λ (u : ℕ). u < 2 ^ 128) (sym merged.ulid_is) (new_small last.seq last.moment (deeds.kept.small at.0 (at.1 ++ e ∷ after) last here)) in
       let text : List ℕ = meta_text (fields_of (m.block).meta) in
       let inside : Contains (objects_of m.ulid (m.block).segments (m.block).index text) (record { key = k; bytes = bytes }) =
       subst (λ os. Contains os (record { key = k; bytes = bytes })) (sym m.objects) (stands_in m.done m.left (record { key = k; bytes = bytes })) in

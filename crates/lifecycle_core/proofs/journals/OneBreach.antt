@@ -23,7 +23,7 @@ use Rattle.lifecycle_core.proofs.journals.OneViewAt.{one_view}
 use Rattle.lifecycle_core.proofs.journals.Positions.{split}
 use Rattle.lifecycle_core.proofs.journals.Rising.{journal_rises}
 use Rattle.lifecycle_core.proofs.journals.Told.{Rises}
-use Rattle.lifecycle_core.proofs.phases.OneSeat.{one_gateway}
+use Rattle.lifecycle_core.proofs.phases.OneSeat.{neither_less, one_gateway}
 
 -- ---- without a breach
 
@@ -62,9 +62,6 @@ same_rule sync_time sync_time is = refl
 same_rule view_time view_time is = refl
 same_rule read_time read_time is = refl
 same_rule one other is = absurd (omega (arith, is))
-
-neither_less : (one other : ℕ) → ¬ (one < other) → ¬ (other < one) → one ≡ other
-neither_less one other not turned = omega (arith, not, turned)
 
 module _ (setting : Setting) (journal : List Entry) (rule also : Rule) (number seq x y one two : ℕ) (b : IsBreach setting journal rule number x y) (c : IsBreach setting journal also seq one two) where
   -- the entry of a breach is not before that of another

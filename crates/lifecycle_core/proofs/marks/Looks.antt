@@ -1,7 +1,9 @@
 -- The look that led to a mark, and what the compaction had seen by then.
-use Rattle.std.proofs.Common.{◌≡◌, inl, inr, ℕ, ◌+◌, ◌*◌, ◌/◌, ◌<◌, ◌≤◌, ◌^◌, List, [], ◌∷◌, ◌++◌, Some, None, Result, Ok, Err, Bool, true, false, cond, ◌==◌, sym, ◌∙◌, ap, subst, append_assoc, arith, rules}
+use Rattle.std.proofs.Common.{◌≡◌, inl, inr, ℕ, ◌+◌, ◌*◌, ◌/◌, ◌<◌, ◌≤◌, List, [], ◌∷◌, ◌++◌, Some, None, Result, Ok, Err, Bool, true, false, cond, ◌==◌, sym, ◌∙◌, ap, subst, append_assoc, arith, rules}
 use Rattle.std.specs.Str.{IsUtf8}
 use Rattle.block_keys.specs.declared.key.Key.TheVariants as key
+use Rattle.ulid_core.specs.Limits.{ulid_time_limit}
+use Rattle.block_meta.specs.Lawful.{deletion_limit}
 use Rattle.block_meta.specs.MetaFields.{MarkFields}
 use Rattle.block_meta.specs.MetaReading.{mark_of_text}
 use Rattle.block_meta.specs.MetaText.{IsMarkText}
@@ -48,7 +50,7 @@ details_text reason_is.Covered = search rules
 details_text reason_is.Compacted = search rules
 details_text reason_is.Expired = search rules
 
-pub second_below : (moment : ℕ) → moment < 2 ^ 48 → moment / 1000 < 2 ^ 46
+pub second_below : (moment : ℕ) → moment < ulid_time_limit → moment / 1000 < deletion_limit
 second_below moment small = omega (arith, small)
 
 -- ---- the look
@@ -93,7 +95,7 @@ module _ (setting : Setting) (journal : List Entry) (lawful : IsLawfulScript set
   look_at : StandsWhole e.seat before is_made.front is_made.look
   look_at = stands_whole e.seat before is_made.front [] is_made.look is_made.parts
 
-  look_small : (is_made.look).moment.ms < 2 ^ 48
+  look_small : (is_made.look).moment.ms < ulid_time_limit
   look_small =
       let here : journal ≡ look_at.before ++ is_made.look ∷ (look_at.after ++ e ∷ after) = parts ∙ ap (λ es. es ++ e ∷ after) look_at.parts ∙ append_assoc look_at.before (is_made.look ∷ look_at.after) (e ∷ after) in
       deeds.kept.small look_at.before (look_at.after ++ e ∷ after) is_made.look here

@@ -1,5 +1,5 @@
 -- Why a read of a kept block finds nothing where the bucket is honest: by the rules of time it is never so.
-use Rattle.list_core.proofs.Membership.{contains_later, into_filter, member_cases, member_passes, of_filter}
+use Rattle.list_core.proofs.Membership.{contains_later, member_cases, member_passes, of_filter}
 use Rattle.std.proofs.Common.{◌≡◌, ◌≢◌, ◌⊎◌, inl, inr, ℕ, zero, suc, ◌+◌, ◌*◌, ◌<◌, ◌≤◌, ◌/◌, ◌^◌, ◌==◌, Bool, true, false, not, List, [], ◌∷◌, ◌++◌, Contains, Option, Some, None, refl, sym, ◌∙◌, ap, subst, append_assoc, arith}
 use Rattle.std.specs.Prelude.{nat_le, option_map}
 use Rattle.std.proofs.lemmas.Bool.{leb-true}
@@ -46,7 +46,7 @@ use Rattle.activity_laws.proofs.MarkTexts.{one_mark}
 use Rattle.lifecycle_core.proofs.blocks.Contents.{IsPutWhole, complete_put}
 use Rattle.lifecycle_core.proofs.blocks.Known.{put_is_complete}
 use Rattle.lifecycle_core.proofs.deeds.Fronts.{at_seat}
-use Rattle.lifecycle_core.proofs.deeds.Orders.{IsEarlier, front_is_earlier, in_seat, lower_is_in_front, one_place, ordered}
+use Rattle.lifecycle_core.proofs.deeds.Orders.{IsEarlier, front_is_earlier, in_seat, lower_is_in_front, one_place, ordered, to_seat}
 use Rattle.lifecycle_core.proofs.deeds.Sources.{mark_source, put_is_small, upload_op}
 use Rattle.lifecycle_core.proofs.deeds.Stood.{WasDeleted, absent_stands, deleted_since, found_stands, stood}
 use Rattle.lifecycle_core.proofs.deeds.Words.{AreDeeds, Cleans, Compacts, Deed, IsClock, cleans, clocks, compacts, reads as reads_deed, ships}
@@ -409,9 +409,6 @@ module _ (setting : Setting) (journal : List Entry) (lawful : IsLawfulScript set
 
         mark_whole : Contains journal mark_of
         mark_whole = mark_in timely rules sync input.view sees part input.found input.kept.0 input.kept.1 after_sync put absent
-
-        to_seat : (seat : ℕ) (es : List Entry) (x : Entry) → Contains es x → x.seat ≡ seat → Contains (of_seat seat es) x
-        to_seat seat es x among same = let test : (x.seat == seat) ≡ true = grind (arith, nat_tests, same) in into_filter (λ (z : Entry). z.seat == seat) es x among test
 
         look_whole : Contains (of_seat e.seat journal) look
         look_whole = let o = in_seat e.seat before look look_own in to_seat e.seat journal look (subst (λ (es : List Entry). Contains es look) (sym parts) (Contains-append_left before (e ∷ after) look o.0)) o.1

@@ -1,5 +1,6 @@
 -- How lawful journals begin.
-use Rattle.std.proofs.Common.{◌≡◌, ℕ, ◌+◌, ◌<◌, ◌^◌, List, [], ◌∷◌, length, refl, sym, subst, inl, inr, arith}
+use Rattle.std.proofs.Common.{◌≡◌, ℕ, ◌+◌, ◌<◌, List, [], ◌∷◌, length, refl, sym, subst, inl, inr, arith}
+use Rattle.ulid_core.specs.Limits.{ulid_time_limit}
 use Rattle.world_core.specs.Operations.{IsLawful, IsReplyTo}
 use Rattle.world_core.specs.Moments.{moment_after, last_moment}
 use Rattle.world_core.specs.Worlds.{IsJournal}
@@ -24,7 +25,7 @@ no_journal tick = record {
   lawful = Each-none (λ before e. IsLawful e.op);
   kinds = Each-none (λ before e. IsReplyTo e.op e.reply);
   moments = Each-none (λ before e. e.moment.ms ≡ moment_after tick (last_moment before) e.op);
-  small = Each-none (λ before e. e.moment.ms < 2 ^ 48);
+  small = Each-none (λ before e. e.moment.ms < ulid_time_limit);
 }
 
 pub none_run : (setting : Setting) → IsRunOf setting [] []

@@ -17,6 +17,9 @@ use Rattle.script_core.proofs.SeatLaws.{are_seated}
 use Rattle.lifecycle_core.specs.Breaches.{IsSeatOf}
 use Rattle.lifecycle_core.specs.Setting.{Setting}
 
+pub neither_less : (one other : ℕ) → ¬ (one < other) → ¬ (other < one) → one ≡ other
+neither_less one other not turned = omega (arith, not, turned)
+
 module _ (script : Script) (lawful : IsLawfulScript script) where
   -- the place of a worker in its phase, which tells its seat
   record HasPlace (number : ℕ) (worker : Worker) : Type 0 where
@@ -67,16 +70,13 @@ module _ (script : Script) (lawful : IsLawfulScript script) where
       let most = before_later number later less in
       absurd (omega (arith, first.seat, second.seat, same, within, most))
 
-  same_phase : (number also : ℕ) → ¬ (number < also) → ¬ (also < number) → number ≡ also
-  same_phase number also not turned = omega (arith, not, turned)
-
   -- a seat tells its phase
   pub one_phase : (number also : ℕ) (worker other : Worker) → Contains (workers_of script number) worker → Contains (workers_of script also) other → worker.seat ≡ other.seat → number ≡ also
-  one_phase number also worker other one two same = same_phase number also (not_later number also worker other one two same) (not_later also number other worker two one (sym same))
+  one_phase number also worker other one two same = neither_less number also (not_later number also worker other one two same) (not_later also number other worker two one (sym same))
 
   pub one_worker : (number also : ℕ) (worker other : Worker) → Contains (workers_of script number) worker → Contains (workers_of script also) other → worker.seat ≡ other.seat → worker ≡ other
   one_worker number also worker other one two same =
-      let phase : number ≡ also = same_phase number also (not_later number also worker other one two same) (not_later also number other worker two one (sym same)) in
+      let phase : number ≡ also = neither_less number also (not_later number also worker other one two same) (not_later also number other worker two one (sym same)) in
       let first = has_place number worker one in
       let second = has_place number other (subst (λ (n : ℕ). Contains (workers_of script n) other) (sym phase) two) in
       let place : first.place ≡ second.place = omega (arith, first.seat, second.seat, same) in

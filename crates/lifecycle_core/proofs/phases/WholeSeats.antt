@@ -1,9 +1,9 @@
 -- A compaction is all that its seat did.
 use Rattle.list_core.proofs.Membership.{contains_first, contains_later, member_cases, no_member, of_map, only_member}
 use Rattle.list_core.proofs.Pairs.{AllZip-first}
-use Rattle.std.proofs.Common.{◌≡◌, ◌≢◌, ◌⊎◌, inl, inr, ℕ, suc, ◌+◌, ◌<◌, ◌≤◌, ◌==◌, List, [], ◌∷◌, ◌++◌, map, Contains, Option, Some, None, refl, sym, ◌∙◌, ap, subst, append-nil, arith}
+use Rattle.std.proofs.Common.{◌≡◌, ◌≢◌, ◌⊎◌, inl, inr, ℕ, suc, ◌+◌, ◌<◌, ◌≤◌, List, [], ◌∷◌, ◌++◌, map, Contains, Option, Some, None, refl, sym, ◌∙◌, ap, subst, append-nil, arith}
 use Rattle.std.specs.Prelude.{option_map, slice_get}
-use Rattle.std.proofs.lemmas.List.Elements.{All-contains, filter-append}
+use Rattle.std.proofs.lemmas.List.Elements.{All-contains}
 use Rattle.world_core.specs.declared.entry.Entry.{Entry}
 use Rattle.meta_fetcher.specs.declared.sync_end.SyncEnd.{SyncEnd}
 use Rattle.compactor.specs.Compactions.{CompactRun, compaction}
@@ -26,7 +26,7 @@ use Rattle.lifecycle_core.specs.Phases.{IsRunOf, by_script, by_workers}
 use Rattle.lifecycle_core.specs.Setting.{Setting}
 use Rattle.lifecycle_core.specs.Tasks.{End, TaskRun, answered, ask_to, cleaned, compacted, question_of, synced}
 use Rattle.lifecycle_core.specs.Ways.{PhasesRun}
-use Rattle.lifecycle_core.proofs.deeds.ActingDeeds.{acting_deeds, alone, compactor_alone, none_of_seat, other_first}
+use Rattle.lifecycle_core.proofs.deeds.ActingDeeds.{acting_deeds, alone, compactor_alone, none_of_seat, parted}
 use Rattle.lifecycle_core.proofs.deeds.Words.{Compacts}
 use Rattle.lifecycle_core.proofs.phases.ActingRuns.{runs_act, seats_stay}
 use Rattle.lifecycle_core.proofs.phases.GatewayParts.{part_ends, query_is}
@@ -116,10 +116,6 @@ one_assigned tasks place [] at = absurd at
 one_assigned tasks place (x ∷ found) at = (x, ap (λ (l : List Assigned). x ∷ l) at.1)
 
 -- ---- the entries of a seat
-
-parted : (seat : ℕ) (clock : Entry) (made others entries : List Entry) → entries ≡ clock ∷ made ++ others → clock.seat ≢ seat → of_seat seat entries ≡ of_seat seat made ++ of_seat seat others
-parted seat clock made others entries parts other =
-    ap (of_seat seat) parts ∙ other_first seat clock (made ++ others) other ∙ filter-append (λ (x : Entry). x.seat == seat) made others
 
 module _ (setting : Setting) (lawful : IsLawfulScript setting.script) where
   pub clock_apart : (n : ℕ) (a : Worker) → Contains (workers_of setting.script n) a → (clock : Entry) → clock.seat ≡ 0 → clock.seat ≢ a.seat

@@ -1,12 +1,11 @@
 -- A reply that shows what stands lists no empty name.
-use Rattle.std.proofs.Common.{◌≢◌, inl, inr, ℕ, Bool, List, [], ◌∷◌, Some, sym, ap, subst}
+use Rattle.std.proofs.Common.{◌≢◌, inl, inr, ℕ, Bool, List, [], ◌∷◌, Some, sym, subst}
 use Rattle.std.specs.List.{AllByRecursion, filter}
-use Rattle.std.specs.Ordering.{nat_cmp}
-use Rattle.std.specs.Cmp.Lexicographic.{slice_cmp}
 use Rattle.std.proofs.lemmas.Bool.{cases_Bool}
 use Rattle.list_core.proofs.Lists.{filter_hit, filter_miss}
 use Rattle.list_core.specs.Order.{InOrderAfter, ComesAfter}
-use Rattle.label_sets.specs.Labels.{ComesBefore, compare_texts}
+use Rattle.label_sets.specs.Labels.{compare_texts}
+use Rattle.label_sets.proofs.LabelValues.{above_nothing}
 use Rattle.bucket_core.specs.Contents.{Contents}
 use Rattle.world_core.specs.Operations.{IsReplyTo}
 use Rattle.world_core.specs.Standing.{Tells}
@@ -17,13 +16,9 @@ use Rattle.world_core.specs.declared.reply.Reply.{Reply}
 use Rattle.world_core.specs.declared.reply.Reply.TheVariants as reply
 use Rattle.lifecycle_core.proofs.views.OneOpening.{AllList, ListsNames}
 
-not_empty : (after name : List ℕ) → ComesBefore after name → name ≢ []
-not_empty [] name before same = cc (before, ap (slice_cmp nat_cmp []) same)
-not_empty (x ∷ after) name before same = cc (before, ap (slice_cmp nat_cmp (x ∷ after)) same)
-
 ascend_named : (after : List ℕ) (names : List (List ℕ)) → InOrderAfter (ComesAfter compare_texts) (Some after) names → AllByRecursion (λ name. name ≢ []) names
 ascend_named after [] up = tt
-ascend_named after (name ∷ names) up = (not_empty after name up.0, ascend_named name names up.1)
+ascend_named after (name ∷ names) up = (above_nothing after name up.0, ascend_named name names up.1)
 
 by_names : (c : Contents) (o : Op) (names : List (List ℕ)) → IsReplyTo o (reply.Names names) → Tells c o (reply.Names names) → AllByRecursion (λ name. name ≢ []) names
 by_names c (op.RootPage after limit) names kind tells = ascend_named after names tells.ascend

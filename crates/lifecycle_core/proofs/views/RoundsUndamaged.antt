@@ -2,7 +2,7 @@
 use Rattle.list_core.proofs.Membership.{contains_later, contains_place, into_filter, member_cases, no_member, of_map}
 use Rattle.list_core.proofs.Pairs.{AllZip-first}
 use Rattle.list_core.proofs.Lists.{slice_get-below}
-use Rattle.std.proofs.Common.{◌≡◌, inl, inr, ℕ, zero, suc, ◌+◌, ◌-◌, ◌*◌, ◌%◌, ◌<◌, ◌≤◌, ◌^◌, ◌==◌, true, List, [], ◌∷◌, ◌++◌, length, map, Contains, Some, None, sym, ◌∙◌, ap, subst, append_assoc, arith}
+use Rattle.std.proofs.Common.{◌≡◌, inl, inr, ℕ, zero, suc, ◌+◌, ◌<◌, ◌≤◌, ◌^◌, ◌==◌, true, List, [], ◌∷◌, ◌++◌, length, map, Contains, Some, None, sym, ◌∙◌, ap, subst, append_assoc, arith}
 use Rattle.std.specs.Prelude.{slice_get}
 use Rattle.std.proofs.lemmas.Bool.Decides.{nat_tests}
 use Rattle.std.proofs.lemmas.List.{length-append}
@@ -52,7 +52,7 @@ use Rattle.lifecycle_core.proofs.blocks.Objects.{object_is, object_ulid}
 use Rattle.lifecycle_core.proofs.blocks.PlanMembers.{member_within}
 use Rattle.lifecycle_core.proofs.blocks.ReadAgain.{named_last, read_content}
 use Rattle.lifecycle_core.proofs.deeds.Orders.{front_is_earlier, in_seat, one_entry, stands_whole}
-use Rattle.lifecycle_core.proofs.deeds.Sources.{IsSource, by_compaction, by_upload, object_source}
+use Rattle.lifecycle_core.proofs.deeds.Sources.{IsSource, by_compaction, by_upload, new_small, object_source}
 use Rattle.lifecycle_core.proofs.deeds.Stood.{found_stands, stood}
 use Rattle.lifecycle_core.proofs.deeds.Words.{AreDeeds}
 use Rattle.lifecycle_core.proofs.journals.Positions.{stands_in}
@@ -68,9 +68,6 @@ mapped : {A B : Type 0} (g : A → B) (xs : List A) (place : ℕ) (x : A) → sl
 mapped g [] place x at = absurd (cc (at))
 mapped g (y ∷ xs) zero x at = let same : y ≡ x = cc (at) in ap (λ z. Some (g z)) same
 mapped g (y ∷ xs) (suc place) x at = mapped g xs place x at
-
-new_small : (number moment : ℕ) → moment < 2 ^ 48 → moment * 2 ^ 80 + (2 ^ 80 - 2 ^ 20 + number % 2 ^ 20) < 2 ^ 128
-new_small number moment small = omega (arith, small)
 
 module _ (setting : Setting) (journal : List Entry) (lawful : IsLawfulScript setting.script) (deeds : AreDeeds setting journal) (of_bytes : IsOfBytes journal) (honest : IsHonest journal) where
   rising : Rises journal
@@ -137,7 +134,7 @@ module _ (setting : Setting) (journal : List Entry) (lawful : IsLawfulScript set
     stands_nowhere : (bytes : List ℕ) → e.op ≡ op.Get (key.Meta (new_ulid last.seq last.moment)) → e.reply ≡ reply.Found bytes → ⊥
     stands_nowhere bytes asks found =
         let at = parted journal last last_in in
-        let small = new_small last.seq last.moment.ms (deeds.kept.small at.0 at.1 last at.2) in
+        let small = new_small last.seq last.moment (deeds.kept.small at.0 at.1 last at.2) in
         let holds = found_stands setting journal before after e honest parts (key.Meta (new_ulid last.seq last.moment)) bytes asks found in
         let p = stood setting journal lawful deeds before (e ∷ after) parts (key.Meta (new_ulid last.seq last.moment)) small tt bytes holds in
         let place : journal ≡ p.front ++ p.put ∷ (p.back ++ e ∷ after) = parts ∙ ap (λ es. es ++ e ∷ after) p.parts ∙ append_assoc p.front (p.put ∷ p.back) (e ∷ after) in

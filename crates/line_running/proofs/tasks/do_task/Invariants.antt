@@ -3,14 +3,14 @@ use Rattle.report_lines.specs.lifecycle_core.specs.Holdings.{Holdings}
 use Rattle.report_lines.specs.lifecycle_core.specs.InLine.{seat_of}
 use Rattle.report_lines.specs.script_running.specs.Shelves.{setting_by}
 use Rattle.run_notes.specs.LineHands.{KeepsRun}
-use Rattle.line_running.specs.Progress.{Shows}
+use Rattle.report_lines.specs.script_running.specs.Beside.{AreSeen}
 use Rattle.line_running.proofs.Steps.{Front}
 use Rattle.line_running.proofs.tasks.do_task.Given as goal
 
 -- the parts so far are done
 abbrev pub invariant-loop-number : goal.invariant-loop-number
 invariant-loop-number g l = record {
-  done : (views : Holdings) → Shows views l.initial.progress.gateways.items
+  done : (views : Holdings) → AreSeen views l.initial.progress.gateways.items
       → Front (setting_by l.means.script l.means.shelf) (seat_of l.seats.workers) l.place l.task views l.number l.progress.gateways.items l.initial.hand.world.journal l.hand.world.journal l.parts.items;
   keeps : KeepsRun g.B.Bucket.faults g.B.Bucket.quiet g.B.Bucket.asked l.initial.hand.opened.value l.initial.hand.wanted l.initial.hand.world l.hand.opened.value l.hand.wanted l.hand.world;
   unrefused : l.hand.refused ≡ false;

@@ -17,7 +17,7 @@ returns-in-Ok-clause-shipped c = λ setting.
     let early = to_z-of_z w64 c.args.min_time c.ranges.min_time in
     let late = to_z-of_z w64 c.args.max_time c.ranges.max_time in
     let is = planned_same c.args.block.now _ c.args.min_time _ c.args.max_time c.in_ok-plan.plan early late c.in_ok-plan.ensures in
-    shipped_from setting c.args.block.now c.args.min_time c.args.max_time c.args.series.now c.in_ok-plan.plan c.in-Ok.files c.built_objects.result c.requires.body is c.in-Ok.ensures.built c.built_objects.ensures.bytes
+    shipped_from setting c.args.block.now c.args.min_time c.args.max_time c.args.series.now c.in_ok-plan.plan c.in-Ok.files c.built_objects.result c.requires.body is c.in-Ok.ensures.built (record { index = c.in-Ok.ensures.bytes.0; segments = c.in-Ok.ensures.bytes.1 })
     c.built_objects.ensures.objects
 
 pub returns-clause-refused : goal.returns-clause-refused
