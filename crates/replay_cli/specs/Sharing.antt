@@ -1,4 +1,4 @@
--- There is at most one proof that a type may be shared among threads.
+-- A lemma that source text cites: there is at most one proof that a type may be shared among threads.
 use Rattle.std.specs.Thread.{IsSync}
 use Rattle.std.specs.Coded.{×_prop, Π_prop, Unit-prop}
 use mathlib.Core.HLevel.{⊥_prop}

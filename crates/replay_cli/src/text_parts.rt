@@ -20,7 +20,7 @@ const LEAST_SAMPLES: u64 = 100_000;
 const MOST_PARTS: usize = 16;
 
 /// Puts a line for each series, in at most as many threads as there are processors. Where there are fewer than two series or processors,
-/// or few samples, no thread is started.
+/// or few samples, or no memory for the list of parts, no thread is started.
 pub(crate) fn put_beside<T: Threads + Sync>(
     rt: &T,
     out: &mut Vec<u8>,
@@ -35,7 +35,9 @@ pub(crate) fn put_beside<T: Threads + Sync>(
     if threads < 2 {
         return put_all_series(out, series);
     }
-    let mut parts = parts_of(*out.allocator(), series, threads)?;
+    let Ok(mut parts) = parts_of(*out.allocator(), series, threads) else {
+        return put_all_series(out, series);
+    };
     make_room(out, series);
     put_parts(rt, out, parts.as_mut_slice(), threads)
 }
