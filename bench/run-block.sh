@@ -52,6 +52,9 @@ BEGIN {
 }
 {
     printf "| %s | %d by %d | %.1f | %.1f | %s a sample | %.2f | 2.5 |\n", $1, $2, $3, $4, $5, unit, $5 / $4
-    if ($5 > 2.5 * $4) missed = missed (missed ? "; " : "") $1 " " $2 " by " $3
+    if (!($5 > 0 && $5 <= 2.5 * $4)) missed = missed (missed ? "; " : "") $1 " " $2 " by " $3
 }
-END { print missed ? "\nMissed: " missed : "\nEvery bar is met." }' "$made/lines"
+END {
+    if (NR < 7) missed = missed (missed ? "; " : "") "rows are lacking"
+    print missed ? "\nMissed: " missed : "\nEvery bar is met."
+}' "$made/lines"

@@ -41,5 +41,5 @@ function row(title, name, bar,   few, many) {
     few = time[name "_1024"]
     many = time[name "_4096"]
     printf "| %s | %.1f | %.1f | ns a source | %.2f | %s |\n", title, few, many, many / few, bar
-    if (bar != "none" && many > bar * few) missed = missed (missed ? "; " : "") title
+    if (bar != "none" && !(many > 0 && many <= bar * few)) missed = missed (missed ? "; " : "") title
 }' "$made/lines"

@@ -47,5 +47,5 @@ function written(name, key) {
 }
 function row(name, limit, proved, bar) {
     printf "| %s | %.1f | %.1f | ns a series | %.2f | %s |\n", name, limit, proved, proved / limit, bar
-    if (bar != "none" && proved > bar * limit) missed = missed (missed ? "; " : "") name
+    if (bar != "none" && !(proved > 0 && proved <= bar * limit)) missed = missed (missed ? "; " : "") name
 }' "$made/lines"

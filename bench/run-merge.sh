@@ -53,10 +53,13 @@ BEGIN {
 $1 == "replicas" {
     base = $2
     printf "| two replicas | %.1f | %.1f | %s | %s a sample | %.2f of the loops | 3 |\n", $2, $3, $4, unit, $3 / base
-    if ($3 > 3 * base) missed = missed "two replicas; "
+    if (!($3 > 0 && $3 <= 3 * base)) missed = missed "two replicas; "
 }
 $1 == "following" {
     printf "| two blocks, one after the other | %.1f | %.1f | %s | %s a sample | %.2f of the loops on the replicas | 0.6 |\n", $2, $3, $4, unit, $3 / base
-    if ($3 > 0.6 * base) missed = missed "two blocks, one after the other; "
+    if (!($3 > 0 && $3 <= 0.6 * base)) missed = missed "two blocks, one after the other; "
 }
-END { print missed ? "\nMissed: " missed : "\nEvery bar is met." }' "$made/lines"
+END {
+    if (NR < 2) missed = missed "rows are lacking"
+    print missed ? "\nMissed: " missed : "\nEvery bar is met."
+}' "$made/lines"

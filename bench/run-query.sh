@@ -54,13 +54,13 @@ BEGIN { if (!unit) unit = "ns" }
 $1 == "time" {
     print "| Query | Loops | Proved | Unit | Ratio | Bar |\n|---|---|---|---|---|---|"
     printf "| 24 blocks of 100 series, all samples | %.1f | %.1f | %s a sample | %.2f | 4 |\n\n", $2, $3, unit, $3 / $2
-    if ($3 > 4 * $2) missed = missed "24 blocks of 100 series; "
+    if (!($3 > 0 && $3 <= 4 * $2)) missed = missed "24 blocks of 100 series; "
 }
 $1 == "apart" {
     print "| Of a block of 8,000 series | ms | By all | Bar |\n|---|---|---|---|"
     printf "| all, in one run | %.1f | 1 | - |\n", $2 / 1e6
     printf "| every second one, in 4,000 runs | %.1f | %.2f | 4 |\n\n", $3 / 1e6, $3 / $2
-    if ($3 > 4 * $2) missed = missed "every second series; "
+    if (!($3 > 0 && $3 <= 4 * $2)) missed = missed "every second series; "
 }
 $1 == "bytes" {
     print "| What is read | Reads | Bytes | Of the files |\n|---|---|---|---|"
@@ -70,4 +70,7 @@ $1 == "bytes" {
     if ($4 > $2 / 5) missed = missed "one series out of 1,000; "
     if ($5 >= $3 || $6 >= $4) missed = missed "the second query; "
 }
-END { print missed ? "\nMissed: " missed : "\nEvery bar is met." }' "$made/lines"
+END {
+    if (NR < (unit == "ns" ? 3 : 2)) missed = missed "rows are lacking; "
+    print missed ? "\nMissed: " missed : "\nEvery bar is met."
+}' "$made/lines"

@@ -46,7 +46,7 @@ function row(title, name, n,   limit, proved) {
     title = title ", " n " series"
     limit = time["tight_" name "_" n]
     proved = time["proved_" name "_" n]
-    met = proved <= 2.5 * limit
+    met = proved > 0 && proved <= 2.5 * limit
     printf "| %s | %.2f | %.2f | ns a series | %.2f | 2.5 | %s |\n", title, limit, proved, proved / limit, met ? "yes" : "no"
     if (!met) missed = missed (missed ? "; " : "") title
 }' "$made/lines"
