@@ -51,9 +51,10 @@ pub(crate) fn print_threads<R: Threads + Wait + Sync>(
 fn is_good<R: Threads + Wait + Sync>(rt: &R, alloc: Global, name: &str) -> bool {
     match name {
         "passes" => passes_share_a_journal(rt, alloc),
-        "workers" => workers_share_a_journal(rt, alloc, &Open, 100),
-        "meeting" => workers_are_watched(rt, alloc, true, 5),
-        "numbers" => workers_are_watched(rt, alloc, false, 20),
+        "workers" => workers_share_a_journal(rt, alloc, &Open, 2, 100),
+        "meeting" => workers_are_watched(rt, alloc, true, 2, 5),
+        "five" => workers_are_watched(rt, alloc, true, 5, 5),
+        "numbers" => workers_are_watched(rt, alloc, false, 2, 20),
         "fault" => a_fault_stops_no_other(rt, alloc),
         "uploads" => uploads_meet(rt, alloc),
         "large" => a_large_answer_is_told(rt, alloc),

@@ -8,11 +8,12 @@ const ROUNDS: u64 = 100_000_000;
 /// The operation before which workers wait for each other.
 const MEETING: u64 = 2;
 
-/// Counts how often it was asked for each of the seats 1 and 2, and tells whether it was given that number each time. One at which
+/// Counts how often it was asked for the seats 1 and `last`, and tells whether it was given that number each time. One at which
 /// workers meet holds each of these up before its operation number 2 until the other has come to its own.
 #[derive(Drop)]
 pub struct Watch {
     meets: bool,
+    last: u32,
     first: AtomicU64,
     second: AtomicU64,
     first_came: AtomicBool,
@@ -22,9 +23,10 @@ pub struct Watch {
 }
 
 impl Watch {
-    pub fn new(meets: bool) -> Watch {
+    pub fn new(meets: bool, last: u32) -> Watch {
         Watch {
             meets,
+            last,
             first: AtomicU64::new(0),
             second: AtomicU64::new(0),
             first_came: AtomicBool::new(false),
@@ -41,7 +43,7 @@ impl Watch {
             && !self.gave_up.load(Ordering::SeqCst)
     }
 
-    /// Whether it was asked so often for each seat, with the numbers in their order, and for no other seat.
+    /// Whether it was asked so often for each seat, with the numbers in their order, and for none behind the last.
     pub fn has_counted(&self, count: u64) -> bool {
         self.first.load(Ordering::SeqCst) == count
             && self.second.load(Ordering::SeqCst) == count
@@ -51,8 +53,11 @@ impl Watch {
 
 impl Gate for Watch {
     fn before(&self, seat: u32, number: u64) {
-        if seat > 2 {
+        if seat > self.last {
             return self.went_wrong.store(true, Ordering::SeqCst);
+        }
+        if seat != 1 && seat != self.last {
+            return;
         }
         let (asked, came, other_came) = if seat == 1 {
             (&self.first, &self.first_came, &self.second_came)

@@ -16,16 +16,19 @@ const FAILING: Fail = Fail {
     landed: false,
 };
 
-/// Two workers make so many reads each, under this gate. The journal has them in each one's order.
+/// So many workers make so many reads each, under this gate. The journal has them all, and those of two workers in each one's order.
 pub fn workers_share_a_journal<R: Threads + Wait + Sync, G: Gate + Sync>(
     rt: &R,
     alloc: Global,
     gate: &G,
+    workers: u32,
     count: u64,
 ) -> bool {
-    match phase_of_two(rt, alloc, gate, (Asks::Reads, count), None) {
+    match phase_of(rt, alloc, gate, workers, (Asks::Reads, count), None) {
         Some(worked) => {
-            let good = are_in_order(worked.world.journal().entries(), count);
+            let entries = worked.world.journal().entries();
+            let good = entries.len() as u64 == u64::from(workers).saturating_mul(count)
+                && (workers > 2 || are_in_order(entries, count));
             drop(worked);
             good
         }
@@ -33,22 +36,25 @@ pub fn workers_share_a_journal<R: Threads + Wait + Sync, G: Gate + Sync>(
     }
 }
 
-/// The gate is told how many operations each worker has done, before each of them. Where the workers meet, they wait for each other
-/// before their operation number 2, so neither comes past it unless both run.
+/// The gate is told how many operations the first worker and the last have done, before each of them. Where these meet, they wait for
+/// each other before their operation number 2, so neither comes past it unless both run.
 pub fn workers_are_watched<R: Threads + Wait + Sync>(
     rt: &R,
     alloc: Global,
     meets: bool,
+    workers: u32,
     count: u64,
 ) -> bool {
-    let gate = Watch::new(meets);
-    workers_share_a_journal(rt, alloc, &gate, count) && gate.has_counted(count) && gate.saw_both()
+    let gate = Watch::new(meets, workers);
+    workers_share_a_journal(rt, alloc, &gate, workers, count)
+        && gate.has_counted(count)
+        && gate.saw_both()
 }
 
 /// Two workers put three objects each, over a bucket of which one call fails. One of them stops there, and the other puts all:
 /// the journal has the puts that did not fail and the one that did.
 pub fn a_fault_stops_no_other<R: Threads + Wait + Sync>(rt: &R, alloc: Global) -> bool {
-    match phase_of_two(rt, alloc, &Open, (Asks::Puts, 3), Some(FAILING)) {
+    match phase_of(rt, alloc, &Open, 2, (Asks::Puts, 3), Some(FAILING)) {
         Some(worked) => {
             let good = has_stopped_one(worked.ends.as_slice(), worked.world.journal().len());
             drop(worked);
@@ -71,22 +77,23 @@ fn has_stopped_one(ends: &[CallsEnd], entries: u64) -> bool {
     more == 3 && less < 3 && entries == less.saturating_add(4)
 }
 
-/// The ends of two workers' jobs, and the world that they left.
+/// The ends of workers' jobs, and the world that they left.
 #[derive(Drop)]
 struct Worked {
     ends: Vec<CallsEnd>,
     world: World<MemoryBucket>,
 }
 
-/// A phase of two workers that ask so many times each, over an empty bucket of which a call may fail.
-fn phase_of_two<R: Threads + Wait + Sync, G: Gate + Sync>(
+/// A phase of so many workers that ask so many times each, over an empty bucket of which a call may fail.
+fn phase_of<R: Threads + Wait + Sync, G: Gate + Sync>(
     rt: &R,
     alloc: Global,
     gate: &G,
+    workers: u32,
     each: (Asks, u64),
     failing: Option<Fail>,
 ) -> Option<Worked> {
-    let jobs = two_jobs(alloc, each)?;
+    let jobs = same_jobs(alloc, workers, each)?;
     let Some((shared, root)) = shared_world(alloc, failing) else {
         drop(jobs);
         return None;
@@ -99,12 +106,14 @@ fn phase_of_two<R: Threads + Wait + Sync, G: Gate + Sync>(
     })
 }
 
-fn two_jobs(alloc: Global, each: (Asks, u64)) -> Option<Vec<Calls>>
-    ensures { IfSome result (λ jobs. vec_len jobs ≡ 2) }
+/// So many jobs that are alike.
+fn same_jobs(alloc: Global, workers: u32, each: (Asks, u64)) -> Option<Vec<Calls>>
+    ensures { IfSome result (λ jobs. vec_len jobs ≡ workers) }
 {
     let (asks, count) = each;
     let mut jobs = Vec::new(alloc);
-    jobs.push(Calls { alloc, asks, count }).ok()?;
-    jobs.push(Calls { alloc, asks, count }).ok()?;
+    for _ in 0..workers {
+        jobs.push(Calls { alloc, asks, count }).ok()?;
+    }
     Some(jobs)
 }

@@ -43,6 +43,7 @@ series {a=\"x\"} 1000:0000000000000001 2000:0000000000000002 3000:00000000000000
 /// What a script with a large answer says before its series.
 const LARGE_BLOCK: &str = "gateway g
 gateway h
+gateway i
 block 0000000000000000000000000A 0 7200000 {}";
 
 /// What it says behind them.
@@ -51,12 +52,14 @@ upload 0000000000000000000000000A
 at 1800000
 sync g
 sync h
+sync i
 query 0 7200000 {}";
 
 /// What its report says before its series.
 const LARGE_REPORT: &str = "upload 0000000000000000000000000A: ok 3 objects
 sync g: 1 blocks
 sync h: 1 blocks
+sync i: 1 blocks
 query 0 7200000: 12 series 126000 samples 1 sources
 source 0000000000000000000000000A
 ";
@@ -75,7 +78,7 @@ const MANY_CALLS: u64 = 16;
 
 /// Two uploads wait for each other before their operation number 2, so neither comes past it unless both run.
 pub fn uploads_meet<R: Threads + Wait + Sync>(rt: &R, alloc: Global) -> bool {
-    let gate = Watch::new(true);
+    let gate = Watch::new(true, 2);
     let files = FileList::new(alloc);
     let ended = end_over_memory(rt, alloc, REPLAY, files, TWO_BLOCKS, &CALM, &gate);
     let good = has_told(&ended, TWO_BLOCKS_REPORT) && gate.saw_both();
@@ -147,7 +150,7 @@ fn has_told(ended: &Ended, report: &str) -> bool {
     ended.status == 0 && ended.out.bytes() == report.as_bytes()
 }
 
-/// Two gateways see one block and are asked for all of it. Their answers are so large that they are compared in threads, where there
+/// Three gateways see one block and are asked for all of it. Their answers are so large that they are compared in threads, where there
 /// are three processors, and that the lines of the one that is told are put in threads, where there are two.
 pub fn a_large_answer_is_told<R: Threads + Wait + Sync>(rt: &R, alloc: Global) -> bool {
     let series = large_series(alloc);
