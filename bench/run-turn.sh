@@ -23,13 +23,24 @@ echo "turn_speed: list_core wire_bytes ulid_core label_sets moment_core block_ke
 
 awk '$1 ~ /^(one|two)$/ && NF == 3 {
     if ($3 != 100000) wrong = 1
-    if (!($1 in time) || $2 < time[$1]) time[$1] = $2
+    time[$1, ++count[$1]] = $2 / 100000
     all[$1] = all[$1] " " int($2 / 100000)
 }
+# puts the times of one kind in order, so that the least is the first and the middle one stands in the middle
+function order(kind,   i, j, held) {
+    for (i = 2; i <= count[kind]; i++) {
+        held = time[kind, i]
+        for (j = i - 1; j >= 1 && time[kind, j] > held; j--) time[kind, j + 1] = time[kind, j]
+        time[kind, j + 1] = held
+    }
+    middle[kind] = time[kind, int((count[kind] + 1) / 2)]
+}
 END {
-    print "| 100,000 operations | ns each, the best of nine | each of the nine |\n|---|---|---|"
-    printf "| by one pass | %.0f |%s |\n", time["one"] / 100000, all["one"]
-    printf "| by two passes | %.0f |%s |\n", time["two"] / 100000, all["two"]
-    printf "\nRatio %.2f; the bar is 5.\n", time["two"] / time["one"]
-    print wrong ? "A journal has not all entries." : (time["two"] > 5 * time["one"] ? "Missed." : "The bar is met.")
+    if (count["one"] != 9 || count["two"] != 9) { print "Missed: rounds are lacking."; exit }
+    order("one"); order("two")
+    print "| 100,000 operations | ns each: least; middle | each of the nine |\n|---|---|---|"
+    printf "| by one pass | %.0f; %.0f |%s |\n", time["one", 1], middle["one"], all["one"]
+    printf "| by two passes | %.0f; %.0f |%s |\n", time["two", 1], middle["two"], all["two"]
+    printf "\nRatio of the least %.2f, of the middle %.2f; the bar is 5, of the middle.\n", time["two", 1] / time["one", 1], middle["two"] / middle["one"]
+    print wrong ? "A journal has not all entries." : (middle["two"] > 5 * middle["one"] ? "Missed." : "The bar is met.")
 }' "$made/lines"
