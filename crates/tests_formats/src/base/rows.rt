@@ -1,9 +1,9 @@
 use crate::base::bytes::print_bytes;
 use crate::base::written::print_written;
 use crate::says::{copied, cut, put, say, show};
+use base::{read_signed, read_unsigned};
 use block_keys::Key;
 use moment_core::{Moment, Rules, Span};
-use reading_core::{read_signed, read_unsigned};
 use ulid_core::Ulid;
 
 /// Prints what a text is.

@@ -1,5 +1,5 @@
 use crate::says::{say_hex, say_text};
-use reading_core::{put_signed, put_unsigned};
+use base::{put_signed, put_unsigned};
 use ulid_core::Ulid;
 use wire_bytes::{put_bytes, put_u8, put_u16, put_u32, put_u64, put_uvarint, put_varint};
 
