@@ -72,16 +72,9 @@ fn note(notes: &mut Vec<u8>, kind: &str, name: &str) {
 }
 
 impl Bucket for StrangeBucket {
-    ghost use Rattle.std.specs.Prelude.{None, Some};
-    ghost use Rattle.bucket_core.specs.MemoryBucket.{faults_counted};
-    ghost use Rattle.bucket_core.specs.Noted.{calls_told};
+    ghost use Rattle.tests_runs.specs.Told.{strange_told};
 
-    ghost told = { λ b. record {
-      contents = None;
-      asked = Some (calls_told b.told);
-      faults = faults_counted b.inner;
-      quiet = ⊥;
-    } };
+    ghost told = { strange_told };
 
     ghost only_keys = { λ b c key told stands. absurd (Prim.cc told) };
 
