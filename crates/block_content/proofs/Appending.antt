@@ -4,8 +4,8 @@ use Rattle.std.specs.Prelude.{slice_get, ◌<ℤ◌, IsErrAnd}
 use Rattle.std.specs.List.{AllByRecursion}
 use Rattle.std.proofs.lemmas.Bool.{and_parts}
 use Rattle.std.proofs.lemmas.Int.{ints}
-use Rattle.reading_core.specs.Reading.{◌>>◌, unless, Gives}
-use Rattle.reading_core.proofs.Binds.{ok_is}
+use Rattle.base.specs.Reading.{◌>>◌, unless, Gives}
+use Rattle.base.proofs.Binds.{ok_is}
 use Rattle.label_sets.specs.declared.sample.Sample.{Sample}
 use Rattle.label_sets.specs.Times.{times_of, is_within}
 use Rattle.index_parts.specs.declared.chunk_place.ChunkPlace.{ChunkPlace}
@@ -18,18 +18,18 @@ use Rattle.xor_chunks.specs.Spans.{end_of}
 use Rattle.xor_chunks.specs.Grammar.{AreOthers, IsText, Follows}
 use Rattle.chunk_files.specs.declared.refusal.ChunkRefusal.{ChunkRefusal}
 use Rattle.block_content.specs.Content.{HaveTimesOf}
-use Rattle.reading_core.specs.Firsts.{first_at}
+use Rattle.base.specs.Firsts.{first_at}
 use Rattle.block_content.specs.ContentReading.{data_of, part_at, samples_at, chunk_at, outside_of, first_time, lies_within, LieBetween}
 use Rattle.block_content.specs.declared.chunk_cause.ChunkCause.{ChunkCause}
 use Rattle.block_content.specs.declared.chunk_cause.ChunkCause.TheVariants.{File, Data, NoSamples, TimesDiffer}
-use Rattle.reading_core.proofs.FirstLaws.{some_is}
+use Rattle.base.proofs.FirstLaws.{some_is}
 use Rattle.std.proofs.Math.Seq.{drop-append_seam}
 use Rattle.std.proofs.lemmas.Float.{T_from_true}
-use Rattle.reading_core.specs.Firsts.{or_else}
+use Rattle.base.specs.Firsts.{or_else}
 use Rattle.block_content.proofs.Counting.{time_cons}
 use Rattle.block_content.proofs.ChunksRead.{times_found}
-use Rattle.list_core.proofs.Integers.{le_le}
-use Rattle.list_core.proofs.Bools.{true-from_T}
+use Rattle.base.proofs.Integers.{le_le}
+use Rattle.base.proofs.Bools.{true-from_T}
 
 -- ---- behind others
 

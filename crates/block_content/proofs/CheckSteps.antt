@@ -2,15 +2,15 @@
 use Rattle.std.proofs.lemmas.Bool.{true≢false}
 use Rattle.std.proofs.lemmas.Bool.Decides.{Decides-eqb}
 use Rattle.std.proofs.Common.{◌≡◌, ℕ, suc, arith, List, [], ◌∷◌, length, Bool, true, false, Option, None, Some, Result, Ok, Err, ℤ, refl, sym, ap, subst, ◌∙◌, ◌⊎◌, inl, inr}
-use Rattle.reading_core.proofs.Binds.{err_is}
-use Rattle.reading_core.proofs.FirstLaws.{each_many}
+use Rattle.base.proofs.Binds.{err_is}
+use Rattle.base.proofs.FirstLaws.{each_many}
 use Rattle.block_content.proofs.Counting.{length-list_of}
 use Rattle.label_sets.specs.declared.series.Series.{Series}
-use Rattle.index_file.specs.declared.index_series.IndexSeries.{IndexSeries}
+use Rattle.index_parts.specs.declared.index_series.IndexSeries.{IndexSeries}
 use Rattle.block_meta.specs.declared.meta.Meta.{Meta}
 use Rattle.std.specs.Prelude.{MatchOption, MatchResult, IsErrAnd, ◌==◌}
 use Rattle.label_sets.specs.Counts.{sample_count}
-use Rattle.reading_core.specs.Firsts.{each_at, first_at}
+use Rattle.base.specs.Firsts.{each_at, first_at}
 use Rattle.block_content.specs.ContentReading.{chunks_at, list_of, first_outside, repeated_in, fitted, chunked_at}
 use Rattle.block_content.proofs.ChunkWalks.{SeriesStopped}
 use Rattle.block_content.proofs.ContentSteps.{chunks_refused, times_refused, order_refused, all_read}

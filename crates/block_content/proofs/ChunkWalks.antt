@@ -3,23 +3,23 @@ use Rattle.std.proofs.Common.{◌≡◌, ℕ, ◌+◌, ◌-◌, ◌*◌, ◌^◌
 use Rattle.std.specs.Prelude.{IsErrAnd}
 use Rattle.std.specs.List.{AllByRecursion, AllZip}
 use Rattle.std.proofs.lemmas.List.{take_more, drop_more, length-append, length-take-le, take-append-drop}
-use Rattle.list_core.proofs.Lists.{sum_by-push, joined-push}
-use Rattle.list_core.proofs.Pairs.{AllZip-push}
-use Rattle.list_core.specs.Lists.{joined}
-use Rattle.reading_core.specs.Grammar.{IsBytes}
+use Rattle.base.proofs.Lists.{sum_by-push, joined-push}
+use Rattle.base.proofs.Pairs.{AllZip-push}
+use Rattle.base.specs.Lists.{joined}
+use Rattle.base.specs.Grammar.{IsBytes}
 use Rattle.label_sets.specs.declared.sample.Sample.{Sample}
 use Rattle.label_sets.specs.declared.series.Series.{Series}
 use Rattle.index_parts.specs.declared.chunk_place.ChunkPlace.{ChunkPlace}
-use Rattle.block_files.proofs.Blocks.{front_more}
-use Rattle.index_file.specs.declared.index_series.IndexSeries.{IndexSeries}
-use Rattle.reading_core.specs.Firsts.{each_at}
+use Rattle.block_meta.proofs.Blocks.{front_more}
+use Rattle.index_parts.specs.declared.index_series.IndexSeries.{IndexSeries}
+use Rattle.base.specs.Firsts.{each_at}
 use Rattle.block_content.specs.ContentReading.{chunk_at, chunk_bytes, chunks_at, series_bytes, series_of, list_of, fitted, refused_cause, refused_chunk, WalksSeries}
 use Rattle.xor_chunks.specs.declared.refusal.XorRefusal.TheVariants as xor
 use Rattle.block_content.specs.declared.chunk_cause.ChunkCause.{ChunkCause}
 use Rattle.block_content.specs.declared.chunk_cause.ChunkCause.TheVariants.{Data}
 use Rattle.block_content.specs.declared.check_refusal.CheckRefusal.TheVariants.{NoMemory}
 use Rattle.block_content.specs.declared.check_refusal.CheckRefusal.{CheckRefusal}
-use Rattle.reading_core.proofs.FirstLaws.{each_push, each_stop, each_many}
+use Rattle.base.proofs.FirstLaws.{each_push, each_stop, each_many}
 
 -- ---- fronts of a list
 

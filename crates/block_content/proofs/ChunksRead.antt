@@ -6,10 +6,10 @@ use Rattle.std.proofs.lemmas.Bool.{and_parts, true≢false, and_from, false_from
 use Rattle.std.proofs.lemmas.Bool.Decides.{Decides-int_eq}
 use Rattle.std.proofs.lemmas.Option.{slice_get-map}
 use Rattle.std.proofs.Math.Seq.{take-append_seam}
-use Rattle.reading_core.specs.Reading.{◌>>◌, unless}
-use Rattle.reading_core.specs.Grammar.{IsBytes}
-use Rattle.reading_core.proofs.Binds.{bind_ok, bind_err, ok_is, refused_as_ok, refused_as_err, unless_ok}
-use Rattle.reading_core.proofs.Fronts.{IsBytes-drop, IsBytes-take, IsBytes-after}
+use Rattle.base.specs.Reading.{◌>>◌, unless}
+use Rattle.base.specs.Grammar.{IsBytes}
+use Rattle.base.proofs.Binds.{bind_ok, bind_err, ok_is, refused_as_ok, refused_as_err, unless_ok}
+use Rattle.base.proofs.Fronts.{IsBytes-drop, IsBytes-take, IsBytes-after}
 use Rattle.label_sets.specs.declared.sample.Sample.{Sample}
 use Rattle.xor_chunks.specs.Grammar.{IsText}
 use Rattle.xor_chunks.specs.Data.{data_at}
@@ -24,7 +24,7 @@ use Rattle.block_content.specs.ContentReading.{data_in, data_of, is_time, have_t
 use Rattle.block_content.specs.ContentRefusals.{RefusesChunk}
 use Rattle.block_content.specs.declared.chunk_cause.ChunkCause.{ChunkCause}
 use Rattle.block_content.specs.declared.chunk_cause.ChunkCause.TheVariants.{File, Data, NoSamples, TimesDiffer}
-use Rattle.reading_core.proofs.FirstLaws.{Tells, some_is}
+use Rattle.base.proofs.FirstLaws.{Tells, some_is}
 
 -- ---- bytes
 

@@ -4,29 +4,29 @@ use Rattle.std.specs.Prelude.{◌≢◌, IfOk, IfErr}
 use Rattle.std.specs.Result.{IsOkAnd}
 use Rattle.index_parts.proofs.ListLaws.{found_from, only_from}
 use Rattle.std.specs.List.{AllByRecursion, AllZip}
-use Rattle.list_core.proofs.Lists.{cons_same}
-use Rattle.list_core.specs.Lists.{joined}
-use Rattle.reading_core.specs.Reading.{◌>>◌, refused_as, Gives}
-use Rattle.reading_core.specs.Grammar.{IsBytes}
-use Rattle.reading_core.proofs.Binds.{bind_ok, bind_err, then_ok, ok_is, err_is, refused_as_ok, refused_as_err}
+use Rattle.base.proofs.Lists.{cons_same}
+use Rattle.base.specs.Lists.{joined}
+use Rattle.base.specs.Reading.{◌>>◌, refused_as, Gives}
+use Rattle.base.specs.Grammar.{IsBytes}
+use Rattle.base.proofs.Binds.{bind_ok, bind_err, then_ok, ok_is, err_is, refused_as_ok, refused_as_err}
 use Rattle.label_sets.specs.declared.sample.Sample.{Sample}
 use Rattle.label_sets.specs.declared.series.Series.{Series}
 use Rattle.label_sets.specs.declared.label.Label.{Label}
 use Rattle.xor_chunks.specs.declared.refusal.XorRefusal.TheVariants as xor
-use Rattle.index_file.specs.declared.index_series.IndexSeries.{IndexSeries}
-use Rattle.index_file.specs.IndexFile.{IsIndex}
+use Rattle.index_parts.specs.declared.index_series.IndexSeries.{IndexSeries}
+use Rattle.index_parts.specs.IndexFile.{IsIndex}
 use Rattle.index_v2.specs.declared.refusal.IndexRefusal.{IndexRefusal}
 use Rattle.index_v2.specs.declared.refusal.IndexRefusal.TheVariants as index
-use Rattle.reading_core.specs.Firsts.{IsFirstAt, each_at, first_at}
+use Rattle.base.specs.Firsts.{IsFirstAt, each_at, first_at}
 use Rattle.block_content.specs.Content.{IsChunkOf, HoldsSeries, AreWithin, IsContent}
 use Rattle.block_content.specs.ContentReading.{chunk_at, chunks_at, series_of, list_of, first_outside, repeated_in, fitted, refused_index, refused_cause, refused_chunk, refused_time, refused_order, unless_found, index_at, tested_at, chunked_at, contents_at, content_at, AreFew, ListsFew}
 use Rattle.block_content.specs.ContentRefusals.{RefusesChunk, IsChunk, IsFirstBadChunk, HasBadChunk, HasOutside, HasRepeated, RefusesContent}
-use Rattle.block_files.specs.declared.block_files.BlockFiles.{BlockFiles}
+use Rattle.block_meta.specs.declared.block_files.BlockFiles.{BlockFiles}
 use Rattle.block_content.specs.declared.chunk_cause.ChunkCause.{ChunkCause}
 use Rattle.block_content.specs.declared.chunk_cause.ChunkCause.TheVariants.{File, Data, NoSamples, TimesDiffer}
 use Rattle.block_content.specs.declared.check_refusal.CheckRefusal.{CheckRefusal}
 use Rattle.block_content.specs.declared.check_refusal.CheckRefusal.TheVariants.{NoFile, BadMeta, UlidDiffers, NotLevelOne, SourcesNotSelf, Downsampled, TooLarge, BadIndex, EmptyBlock, BadChunk, OutsideRange, Repeated, NoMemory}
-use Rattle.reading_core.proofs.FirstLaws.{Tells, each_tells, all_good, all_pass, first_found, first_again}
+use Rattle.base.proofs.FirstLaws.{Tells, each_tells, all_good, all_pass, first_found, first_again}
 use Rattle.block_content.proofs.ChunksRead.{chunk_tells}
 use Rattle.block_content.proofs.TimesAndOrder.{index_found, index_again, times_find, order_finds}
 

@@ -1,11 +1,11 @@
 -- What the steps of reading a block's files come to.
 use Rattle.std.proofs.Common.{◌≡◌, ℕ, List, None, Some, Ok, Err, ℤ, refl, sym, ap, ◌∙◌, ◌⊎◌, inl, inr}
-use Rattle.reading_core.specs.Reading.{refused_as}
+use Rattle.base.specs.Reading.{refused_as}
 use Rattle.label_sets.specs.declared.sample.Sample.{Sample}
 use Rattle.label_sets.specs.declared.series.Series.{Series}
-use Rattle.index_file.specs.declared.index_series.IndexSeries.{IndexSeries}
+use Rattle.index_parts.specs.declared.index_series.IndexSeries.{IndexSeries}
 use Rattle.block_meta.specs.declared.meta.Meta.{Meta}
-use Rattle.reading_core.specs.Firsts.{each_at, first_at}
+use Rattle.base.specs.Firsts.{each_at, first_at}
 use Rattle.block_content.specs.ContentReading.{chunks_at, list_of, first_outside, repeated_in, fitted, refused_index, refused_chunk, index_at, tested_at, chunked_at, contents_at}
 use Rattle.block_content.specs.declared.chunk_cause.ChunkCause.{ChunkCause}
 use Rattle.block_content.specs.declared.check_refusal.CheckRefusal.{CheckRefusal}

@@ -3,19 +3,19 @@ use Rattle.std.proofs.Common.{◌≡◌, ℕ, List, Option, Some, None, Result, 
 use Rattle.std.specs.Prelude.{MatchOption, IfOk, IfErr, IsErrAnd, ◌*◌, ◌≤◌, length, sum_by}
 use Rattle.std.specs.List.{AllByRecursion}
 use Rattle.std.specs.Result.{IsOkAnd}
-use Rattle.reading_core.specs.Grammar.{IsBytes}
-use Rattle.reading_core.specs.Reading.{refused_as}
-use Rattle.reading_core.proofs.Binds.{err_is, refused_as_ok}
+use Rattle.base.specs.Grammar.{IsBytes}
+use Rattle.base.specs.Reading.{refused_as}
+use Rattle.base.proofs.Binds.{err_is, refused_as_ok}
 use Rattle.label_sets.specs.Counts.{sample_count}
 use Rattle.label_sets.specs.declared.sample.Sample.{Sample}
 use Rattle.label_sets.specs.declared.series.Series.{Series}
-use Rattle.index_file.specs.declared.index_series.IndexSeries.{IndexSeries}
-use Rattle.index_file.specs.IndexFile.{IsIndex}
+use Rattle.index_parts.specs.declared.index_series.IndexSeries.{IndexSeries}
+use Rattle.index_parts.specs.IndexFile.{IsIndex}
 use Rattle.block_meta.specs.declared.meta.Meta.{Meta}
-use Rattle.block_files.specs.declared.block_files.BlockFiles.{BlockFiles}
+use Rattle.block_meta.specs.declared.block_files.BlockFiles.{BlockFiles}
 use Rattle.block_content.specs.Content.{IsContent}
 use Rattle.block_content.specs.ContentRefusals.{RefusesContent}
-use Rattle.reading_core.specs.Firsts.{each_at, first_at}
+use Rattle.base.specs.Firsts.{each_at, first_at}
 use Rattle.block_content.specs.ContentReading.{ListsFew, series_bytes, chunks_at, list_of, first_outside, repeated_in, fitted, refused_index, index_at, contents_at}
 use Rattle.block_content.specs.CheckReading.{found_at, IsFirstFound, IsTested}
 use Rattle.block_content.specs.declared.check_refusal.CheckRefusal.{CheckRefusal}

@@ -2,15 +2,15 @@
 use Rattle.std.proofs.Common.{◌≡◌, ℕ, suc, ◌+◌, ◌-◌, ◌^◌, ◌<◌, ◌≤◌, min, List, [], ◌∷◌, ◌++◌, length, take, drop, get_or, sum_by, Option, None, Some, Ok, Err, ℤ, refl, sym, ap, subst, ◌∙◌, arith, ◌⊎◌, inl, inr}
 use Rattle.std.specs.Prelude.{option_map}
 use Rattle.std.proofs.lemmas.List.{take_all, length-append}
-use Rattle.list_core.specs.Lists.{joined}
-use Rattle.list_core.proofs.Lists.{sum_by-push, joined-push}
+use Rattle.base.specs.Lists.{joined}
+use Rattle.base.proofs.Lists.{sum_by-push, joined-push}
 use Rattle.label_sets.specs.declared.sample.Sample.{Sample}
 use Rattle.label_sets.specs.declared.series.Series.{Series}
 use Rattle.label_sets.specs.Counts.{sample_count}
 use Rattle.index_parts.specs.declared.chunk_place.ChunkPlace.{ChunkPlace}
-use Rattle.index_file.specs.declared.index_series.IndexSeries.{IndexSeries}
+use Rattle.index_parts.specs.declared.index_series.IndexSeries.{IndexSeries}
 use Rattle.block_meta.specs.declared.meta.Meta.{Meta}
-use Rattle.reading_core.specs.Firsts.{each_at, first_at, or_else}
+use Rattle.base.specs.Firsts.{each_at, first_at, or_else}
 use Rattle.block_content.specs.ContentReading.{chunk_at, chunk_bytes, chunks_at, series_bytes, series_of, list_of, outside_of, first_time, first_outside, fitted, refused_cause, refused_chunk}
 use Rattle.block_content.specs.CheckReading.{IsFirstFound}
 use Rattle.xor_chunks.specs.declared.refusal.XorRefusal.TheVariants as xor
@@ -18,7 +18,7 @@ use Rattle.block_content.specs.declared.chunk_cause.ChunkCause.{ChunkCause}
 use Rattle.block_content.specs.declared.chunk_cause.ChunkCause.TheVariants.{Data}
 use Rattle.block_content.specs.declared.check_refusal.CheckRefusal.{CheckRefusal}
 use Rattle.block_content.specs.declared.check_refusal.CheckRefusal.TheVariants.{NoMemory}
-use Rattle.reading_core.proofs.FirstLaws.{each_push, each_stop, each_many, joins, none_push, some_behind}
+use Rattle.base.proofs.FirstLaws.{each_push, each_stop, each_many, joins, none_push, some_behind}
 use Rattle.block_content.proofs.ChunkWalks.{front, behind, taken, fitted_more, list_of_more}
 
 -- ---- times

@@ -1,7 +1,7 @@
 -- What an index lists is few for its bytes.
 use Rattle.std.proofs.Common.{◌≡◌, ℕ, ◌+◌, ◌*◌, ◌≤◌, List, length, sum_by, Result, Ok, Err, subst}
 use Rattle.std.specs.Prelude.{All, IfOk}
-use Rattle.index_file.specs.declared.index_series.IndexSeries.{IndexSeries}
+use Rattle.index_parts.specs.declared.index_series.IndexSeries.{IndexSeries}
 use Rattle.index_v2.specs.Budget.{members_of, text_bytes}
 use Rattle.index_v2.specs.declared.refusal.IndexRefusal.{IndexRefusal}
 use Rattle.block_content.specs.ContentReading.{ListsFew}

@@ -6,11 +6,11 @@ use Rattle.label_sets.specs.declared.sample.Sample.{Sample}
 use Rattle.label_sets.specs.declared.series.Series.{Series}
 use Rattle.label_sets.specs.Times.{is_within}
 use Rattle.index_parts.specs.declared.chunk_place.ChunkPlace.{ChunkPlace}
-use Rattle.index_file.specs.declared.index_series.IndexSeries.{IndexSeries}
+use Rattle.index_parts.specs.declared.index_series.IndexSeries.{IndexSeries}
 use Rattle.block_meta.specs.declared.meta.Meta.{Meta}
-use Rattle.reading_core.specs.Firsts.{first_at}
+use Rattle.base.specs.Firsts.{first_at}
 use Rattle.block_content.specs.ContentReading.{outside_of, first_time, first_outside, begins_after, follow, repeated_in, fitted}
-use Rattle.reading_core.proofs.FirstLaws.{none_step, some_stop, none_end}
+use Rattle.base.proofs.FirstLaws.{none_step, some_stop, none_end}
 use Rattle.block_content.proofs.ChunkWalks.{fitted_more}
 
 -- ---- a sample outside the block's times

@@ -7,8 +7,8 @@ use Rattle.block_keys.specs.Blocks.{IsBlock}
 use Rattle.block_meta.specs.Bounds.{HasFittingNumbers}
 use Rattle.block_meta.specs.declared.meta.Meta.{Meta}
 use Rattle.block_meta.specs.MetaFields.{MetaFields, fields_of}
-use Rattle.block_files.specs.Built.{segment_objects, objects_of}
-use Rattle.block_files.proofs.Blocks.{segments_pushed}
+use Rattle.block_meta.specs.Built.{segment_objects, objects_of}
+use Rattle.block_meta.proofs.Blocks.{segments_pushed}
 use Rattle.block_keys.specs.declared.key.Key.TheVariants as key
 use Rattle.block_keys.specs.declared.object.Object.{Object}
 use Rattle.block_keys.specs.KeyText.{six_digits}

@@ -4,7 +4,7 @@ use Rattle.std.proofs.Props.{props}
 use Rattle.block_meta.specs.MetaFields.{fields_of}
 use Rattle.block_meta.specs.declared.meta.Meta.{Meta}
 use Rattle.block_meta.proofs.SameMetas.{same_meta}
-use Rattle.block_files.specs.declared.block_files.BlockFiles.{BlockFiles}
+use Rattle.block_meta.specs.declared.block_files.BlockFiles.{BlockFiles}
 
 few_prop : (segments : List (List ℕ)) → IsProp (length segments ≤ 999_999)
 few_prop segments = hlevel props

@@ -2,8 +2,8 @@
 use Rattle.std.proofs.Common.{◌≡◌, ℕ, suc, ◌-◌, List, [], ◌∷◌, length, Option, None, Result, Ok, Err, true, ℤ, refl, sym, ap, ◌∙◌, arith}
 use Rattle.std.specs.Prelude.{slice_get}
 use Rattle.std.specs.Ordering.{int_eq}
-use Rattle.reading_core.specs.Reading.{◌>>=◌, ◌>>◌, Answers}
-use Rattle.reading_core.proofs.Binds.{ok_is}
+use Rattle.base.specs.Reading.{◌>>=◌, ◌>>◌, Answers}
+use Rattle.base.proofs.Binds.{ok_is}
 use Rattle.label_sets.specs.declared.sample.Sample.{Sample}
 use Rattle.index_parts.specs.declared.chunk_place.ChunkPlace.{ChunkPlace}
 use Rattle.block_meta.specs.declared.meta.Meta.{Meta}

@@ -3,25 +3,25 @@ use Rattle.std.proofs.Common.{◌≡◌, ℕ, List, [], ◌∷◌, Bool, true, f
 use Rattle.std.specs.Prelude.{option_map, if◌then◌else◌}
 use Rattle.std.proofs.lemmas.Bool.{and_parts, true≢false, and_from, false_from_ne_true}
 use Rattle.std.proofs.lemmas.Float.{T_from_true}
-use Rattle.reading_core.specs.Grammar.{IsBytes}
-use Rattle.reading_core.proofs.Binds.{bind_ok}
+use Rattle.base.specs.Grammar.{IsBytes}
+use Rattle.base.proofs.Binds.{bind_ok}
 use Rattle.label_sets.proofs.TimesWithin.{within_found, within_again}
 use Rattle.label_sets.specs.Times.{IsWithin, is_within}
 use Rattle.index_parts.specs.Turns.{InOrderAfter}
 use Rattle.index_parts.specs.declared.chunk_place.ChunkPlace.{ChunkPlace}
-use Rattle.index_file.specs.declared.index_series.IndexSeries.{IndexSeries}
-use Rattle.index_file.specs.IndexFile.{IsIndex}
+use Rattle.index_parts.specs.declared.index_series.IndexSeries.{IndexSeries}
+use Rattle.index_parts.specs.IndexFile.{IsIndex}
 use Rattle.index_v2.specs.Opening.{opened_at}
 use Rattle.index_v2.proofs.OpeningLaws.{opened_found, opened_again}
 use Rattle.index_v2.proofs.WholeRead.{whole_found, whole_again}
 use Rattle.block_meta.specs.declared.meta.Meta.{Meta}
-use Rattle.reading_core.specs.Firsts.{IsFirstAt}
+use Rattle.base.specs.Firsts.{IsFirstAt}
 use Rattle.block_content.specs.Content.{BeginsAfter, IsApart, AreWithin}
 use Rattle.block_content.specs.ContentReading.{outside_of, first_outside, begins_after, follow, repeated_in, index_at}
 use Rattle.block_content.specs.ContentRefusals.{IsOutside}
-use Rattle.reading_core.proofs.FirstLaws.{Finds, all_good, all_pass, first_found, first_again}
-use Rattle.list_core.proofs.Options.{option_map-Some}
-use Rattle.list_core.proofs.Bools.{true-from_T}
+use Rattle.base.proofs.FirstLaws.{Finds, all_good, all_pass, first_found, first_again}
+use Rattle.base.proofs.Options.{option_map-Some}
+use Rattle.base.proofs.Bools.{true-from_T}
 
 -- ---- the index
 

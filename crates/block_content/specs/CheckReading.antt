@@ -1,10 +1,10 @@
 -- What checking a block gives: the series that it holds, or the first refusal.
 use Rattle.std.specs.Prelude.{◌≡◌, ℕ, ℤ, List, [], ◌∷◌, length, Bool, true, false, Result, Ok, Err, pos, ◌==◌, Option, None, Some, MatchOption, MatchResult, ◌⊎◌}
 use Rattle.std.specs.Ordering.{int_eq}
-use Rattle.reading_core.specs.Reading.{◌>>=◌, ◌>>◌, unless, refused_as}
+use Rattle.base.specs.Reading.{◌>>=◌, ◌>>◌, unless, refused_as}
 use Rattle.label_sets.specs.declared.series.Series.{Series}
 use Rattle.label_sets.specs.Counts.{sample_count}
-use Rattle.index_file.specs.declared.index_series.IndexSeries.{IndexSeries}
+use Rattle.index_parts.specs.declared.index_series.IndexSeries.{IndexSeries}
 use Rattle.block_meta.specs.declared.meta.Meta.{Meta}
 use Rattle.block_content.specs.ContentReading.{index_at, refused_index, chunked_at, contents_at, fitted}
 use Rattle.block_content.specs.declared.check_refusal.CheckRefusal.{CheckRefusal}

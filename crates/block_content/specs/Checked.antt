@@ -1,6 +1,6 @@
 -- What is inside a block that passed a check.
 use Rattle.std.specs.Prelude.{ℕ}
-use Rattle.block_files.specs.declared.block_files.BlockFiles.{BlockFiles}
+use Rattle.block_meta.specs.declared.block_files.BlockFiles.{BlockFiles}
 use Rattle.block_content.specs.declared.checked.Checked.{Checked}
 
 abbrev pub checked_files : Checked → BlockFiles

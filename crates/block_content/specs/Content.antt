@@ -9,10 +9,10 @@ use Rattle.xor_chunks.specs.Widths.{stored_filling}
 use Rattle.chunk_files.specs.Chunk.{IsPlace}
 use Rattle.index_parts.specs.Turns.{InOrder}
 use Rattle.index_parts.specs.declared.chunk_place.ChunkPlace.{ChunkPlace}
-use Rattle.index_file.specs.declared.index_series.IndexSeries.{IndexSeries}
-use Rattle.index_file.specs.IndexFile.{IsIndex}
+use Rattle.index_parts.specs.declared.index_series.IndexSeries.{IndexSeries}
+use Rattle.index_parts.specs.IndexFile.{IsIndex}
 use Rattle.block_meta.specs.declared.meta.Meta.{Meta}
-use Rattle.block_files.specs.declared.block_files.BlockFiles.{BlockFiles}
+use Rattle.block_meta.specs.declared.block_files.BlockFiles.{BlockFiles}
 
 -- ---- a chunk
 

@@ -2,8 +2,8 @@
 use Rattle.std.specs.Prelude.{ℕ, ◌+◌, ◌*◌, ◌≤◌, ◌-◌, ◌^◌, min, sum_by, All, List, [], ◌∷◌, length, slice_get, Option, None, Some, option_map, Bool, true, false, ◌&&◌, Result, Ok, Err, ◌≡◌, ◌⊎◌, MatchResult, ℤ, ◌≤ℤ◌, int_lt, int_le, if◌then◌else◌}
 use Rattle.std.specs.List.{AllByRecursion, AllZip}
 use Rattle.std.specs.Ordering.{int_eq}
-use Rattle.list_core.specs.Lists.{joined}
-use Rattle.reading_core.specs.Reading.{◌>>=◌, ◌>>◌, unless, refused_as}
+use Rattle.base.specs.Lists.{joined}
+use Rattle.base.specs.Reading.{◌>>=◌, ◌>>◌, unless, refused_as}
 use Rattle.label_sets.specs.declared.sample.Sample.{Sample}
 use Rattle.label_sets.specs.declared.series.Series.{Series}
 use Rattle.label_sets.specs.Times.{is_within}
@@ -15,8 +15,8 @@ use Rattle.chunk_files.specs.declared.refusal.ChunkRefusal.{ChunkRefusal}
 use Rattle.chunk_files.specs.declared.refusal.ChunkRefusal.TheVariants.{Short}
 use Rattle.chunk_files.specs.ChunkReading.{segment_at}
 use Rattle.index_parts.specs.declared.chunk_place.ChunkPlace.{ChunkPlace}
-use Rattle.index_file.specs.declared.index_series.IndexSeries.{IndexSeries}
-use Rattle.index_file.specs.IndexFile.{IsIndex}
+use Rattle.index_parts.specs.declared.index_series.IndexSeries.{IndexSeries}
+use Rattle.index_parts.specs.IndexFile.{IsIndex}
 use Rattle.index_v2.specs.declared.refusal.IndexRefusal.{IndexRefusal}
 use Rattle.index_v2.specs.declared.refusal.IndexRefusal.TheVariants as index
 use Rattle.index_v2.specs.Budget.{members_of, text_bytes, read_share, text_share}
@@ -24,8 +24,8 @@ use Rattle.index_v2.specs.Held.{whole_file}
 use Rattle.index_v2.specs.Opening.{opened_at}
 use Rattle.index_v2.specs.WholeReading.{whole_at}
 use Rattle.block_meta.specs.declared.meta.Meta.{Meta}
-use Rattle.reading_core.specs.Firsts.{each_at, first_at}
-use Rattle.block_files.specs.declared.block_files.BlockFiles.{BlockFiles}
+use Rattle.base.specs.Firsts.{each_at, first_at}
+use Rattle.block_meta.specs.declared.block_files.BlockFiles.{BlockFiles}
 use Rattle.block_content.specs.declared.chunk_cause.ChunkCause.{ChunkCause}
 use Rattle.block_content.specs.declared.chunk_cause.ChunkCause.TheVariants.{File, Data, NoSamples, TimesDiffer}
 use Rattle.block_content.specs.declared.check_refusal.CheckRefusal.{CheckRefusal}

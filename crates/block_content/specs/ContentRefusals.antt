@@ -9,14 +9,14 @@ use Rattle.xor_chunks.specs.Data.{data_at}
 use Rattle.xor_chunks.specs.declared.refusal.XorRefusal.TheVariants as xor
 use Rattle.xor_chunks.specs.Widths.{stored_filling}
 use Rattle.index_parts.specs.declared.chunk_place.ChunkPlace.{ChunkPlace}
-use Rattle.index_file.specs.declared.index_series.IndexSeries.{IndexSeries}
-use Rattle.index_file.specs.IndexFile.{IsIndex}
+use Rattle.index_parts.specs.declared.index_series.IndexSeries.{IndexSeries}
+use Rattle.index_parts.specs.IndexFile.{IsIndex}
 use Rattle.index_v2.specs.declared.refusal.IndexRefusal.TheVariants as index
 use Rattle.block_meta.specs.declared.meta.Meta.{Meta}
-use Rattle.reading_core.specs.Firsts.{IsFirstAt}
+use Rattle.base.specs.Firsts.{IsFirstAt}
 use Rattle.block_content.specs.Content.{StandsAt, HaveTimesOf, IsChunkOf, HoldsSeries, IsApart, AreWithin}
 use Rattle.block_content.specs.ContentReading.{index_at, data_of, fitted}
-use Rattle.block_files.specs.declared.block_files.BlockFiles.{BlockFiles}
+use Rattle.block_meta.specs.declared.block_files.BlockFiles.{BlockFiles}
 use Rattle.block_content.specs.declared.chunk_cause.ChunkCause.{ChunkCause}
 use Rattle.block_content.specs.declared.chunk_cause.ChunkCause.TheVariants.{File, Data, NoSamples, TimesDiffer}
 use Rattle.block_content.specs.declared.check_refusal.CheckRefusal.{CheckRefusal}

@@ -3,7 +3,7 @@ pub use Rattle.label_sets.specs.SetText
 pub use Rattle.label_sets.specs.SampleText
 pub use Rattle.block_keys.specs.Blocks
 pub use Rattle.block_keys.specs.KeyText
-pub use Rattle.block_files.specs.Built
+pub use Rattle.block_meta.specs.Built
 pub use Rattle.block_meta.specs.MetaFields
 pub use Rattle.block_meta.specs.MetaValue
 pub use Rattle.xor_chunks.specs.Grammar
@@ -12,7 +12,7 @@ pub use Rattle.chunk_files.specs.Chunk
 pub use Rattle.chunk_files.specs.ChunkReading
 pub use Rattle.index_v2.specs.Opening
 pub use Rattle.index_v2.specs.WholeReading
-pub use Rattle.index_file.specs.IndexFile
+pub use Rattle.index_parts.specs.IndexFile
 pub mod Content
 pub mod ContentReading
 pub mod ContentRefusals

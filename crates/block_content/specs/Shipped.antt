@@ -9,7 +9,7 @@ use Rattle.block_keys.specs.declared.object.Object.{Object}
 use Rattle.block_meta.specs.declared.file_size.FileSize.{FileSize}
 use Rattle.block_meta.specs.declared.meta.Meta.{Meta}
 use Rattle.block_meta.specs.MetaFields.{MetaFields}
-use Rattle.block_files.specs.Built.{segment_objects}
+use Rattle.block_meta.specs.Built.{segment_objects}
 use Rattle.wire_bytes.specs.Files.{slash}
 
 -- a file of a block as a meta lists it: its path below the block's folder, and its size

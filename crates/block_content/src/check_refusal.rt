@@ -41,10 +41,10 @@ pub enum CheckRefusal {
     NoMemory,
 }
 
-impl From<list_core::NoMemory> for CheckRefusal {
+impl From<base::NoMemory> for CheckRefusal {
     ghost from_gives = { λ _ e. e ≡ WithoutMemory };
 
-    fn from(_: list_core::NoMemory) -> Self {
+    fn from(_: base::NoMemory) -> Self {
         CheckRefusal::NoMemory
     }
 }

@@ -1,10 +1,10 @@
 ghost use Rattle.block_content.specs.Checking.{HasPassed};
 
 use crate::shipping::shipped_files;
-use block_files::{BlockFiles, files_objects};
+use base::NoMemory;
 use block_keys::ObjectList;
+use block_meta::{BlockFiles, files_objects};
 use label_sets::LabelSet;
-use list_core::NoMemory;
 use std::alloc::Global;
 use ulid_core::Ulid;
 
@@ -21,8 +21,8 @@ pub struct Checked {
 impl Checked {
     ghost use Rattle.std.specs.Prelude.{◌≡◌, IfOk, OnOk};
     ghost use Rattle.std.specs.List.{AllByRecursion};
-    ghost use Rattle.reading_core.specs.Grammar.{IsBytes};
-    ghost use Rattle.block_files.specs.Built.{objects_of};
+    ghost use Rattle.base.specs.Grammar.{IsBytes};
+    ghost use Rattle.block_meta.specs.Built.{objects_of};
     ghost use Rattle.block_keys.specs.Blocks.{IsBlock};
     ghost use Rattle.block_meta.specs.Bounds.{HasFittingNumbers};
     ghost use Rattle.block_meta.specs.MetaFields.{fields_of};

@@ -2,13 +2,13 @@
 ghost use Rattle.std.specs.Prelude.{◌≡◌, ◌⊎◌, ◌^◌, ◌-◌, ◌+◌, ◌*◌, ◌≤◌, min, ℕ, List, length, sum_by, option_map, None, Ok, Err, IfOk, IfErr, MatchResult};
 ghost use Rattle.std.specs.List.{AllByRecursion};
 ghost use Rattle.std.specs.Result.{IsOkAnd};
-ghost use Rattle.list_core.specs.Lists.{joined};
-ghost use Rattle.reading_core.specs.Grammar.{IsBytes};
-ghost use Rattle.reading_core.specs.Reading.{Answers};
+ghost use Rattle.base.specs.Lists.{joined};
+ghost use Rattle.base.specs.Grammar.{IsBytes};
+ghost use Rattle.base.specs.Reading.{Answers};
 ghost use Rattle.label_sets.specs.declared.series.Series.{Series};
 ghost use Rattle.label_sets.specs.Counts.{sample_count};
-ghost use Rattle.index_file.specs.declared.index_series.IndexSeries.{IndexSeries};
-ghost use Rattle.reading_core.specs.Firsts.{or_else, first_at};
+ghost use Rattle.index_parts.specs.declared.index_series.IndexSeries.{IndexSeries};
+ghost use Rattle.base.specs.Firsts.{or_else, first_at};
 ghost use Rattle.index_v2.specs.Budget.{read_share};
 ghost use Rattle.block_content.specs.ContentReading.{index_at, chunk_bytes, series_bytes, list_of, first_time, first_outside, lies_within, LieBetween, MadeOfChunk, WalksChunks, WalksSeries};
 ghost use Rattle.block_content.specs.Verdict.{IsVerdict};
@@ -18,8 +18,7 @@ ghost use Rattle.block_content.specs.CheckReading.{is_alone, own_at, some_at, ch
 use crate::chunk_reading::{append_chunk, count_chunk, refused_chunk};
 use crate::content_reading::{budget_of, first_repeated, first_time, read_index};
 use crate::{CheckRefusal, Checked, ChunkCause};
-use block_files::BlockFiles;
-use block_meta::Meta;
+use block_meta::{BlockFiles, Meta};
 use index_parts::ChunkPlace;
 use index_v2::{IndexSeries, IndexSeriesList, LentSeries};
 use std::alloc::Global;

@@ -3,15 +3,15 @@ ghost use Rattle.std.specs.Prelude.{◌≡◌, ◌+◌, ◌*◌, ◌≤◌, ◌+
 ghost use Rattle.std.specs.Ordering.{int_eq};
 ghost use Rattle.label_sets.specs.declared.sample.Sample.{Sample};
 ghost use Rattle.xor_chunks.specs.Data.{with_samples};
-ghost use Rattle.reading_core.specs.Reading.{Answers, Gives};
+ghost use Rattle.base.specs.Reading.{Answers, Gives};
 ghost use Rattle.block_content.specs.ContentReading.{data_of, is_time, have_times_of, part_at, samples_at, chunk_at, chunk_bytes, span_at, refused_cause, LieBetween, MadeOfData, MadeOfChunk};
 
 use crate::{CheckRefusal, ChunkCause};
+use base::members_behind;
 use chunk_files::{ChunkRefusal, read_chunk};
 use index_parts::ChunkPlace;
 use index_v2::spend;
 use label_sets::Sample;
-use list_core::members_behind;
 use wire_bytes::Blob;
 use xor_chunks::{SampleSpan, XorRefusal, append_stored, span_stored};
 

@@ -3,27 +3,26 @@ ghost use Rattle.std.specs.Prelude.{◌≡◌, ◌⊎◌, ◌+◌, ◌*◌, ◌�
 ghost use Rattle.std.specs.Int.{w64};
 ghost use Rattle.std.specs.List.{AllByRecursion, AllZip};
 ghost use Rattle.std.specs.Result.{IsOkAnd};
-ghost use Rattle.list_core.specs.Lists.{joined};
-ghost use Rattle.reading_core.specs.Grammar.{IsBytes};
-ghost use Rattle.reading_core.specs.Reading.{Gives, refused_as};
+ghost use Rattle.base.specs.Lists.{joined};
+ghost use Rattle.base.specs.Grammar.{IsBytes};
+ghost use Rattle.base.specs.Reading.{Gives, refused_as};
 ghost use Rattle.label_sets.specs.declared.series.Series.{Series};
 ghost use Rattle.label_sets.specs.Times.{is_within};
-ghost use Rattle.index_file.specs.declared.index_series.IndexSeries.{IndexSeries};
-ghost use Rattle.index_file.specs.IndexFile.{IsIndex};
+ghost use Rattle.index_parts.specs.declared.index_series.IndexSeries.{IndexSeries};
+ghost use Rattle.index_parts.specs.IndexFile.{IsIndex};
 ghost use Rattle.index_v2.specs.Budget.{read_share};
-ghost use Rattle.reading_core.specs.Firsts.{first_at};
+ghost use Rattle.base.specs.Firsts.{first_at};
 ghost use Rattle.block_content.specs.Content.{IsContent};
 ghost use Rattle.block_content.specs.ContentRefusals.{RefusesContent};
 ghost use Rattle.block_content.specs.ContentReading.{index_at, refused_index, list_of, series_bytes, chunk_bytes, first_time, first_outside, begins_after, follow, repeated_in, fitted, contents_at, content_at, AreFew, ListsFew, WalksChunks, WalksSeries};
 
 use crate::CheckRefusal;
 use crate::chunk_reading::{append_chunk, refused_chunk};
-use block_files::BlockFiles;
-use block_meta::Meta;
+use base::List;
+use block_meta::{BlockFiles, Meta};
 use index_parts::ChunkPlace;
 use index_v2::{IndexReader, IndexRefusal, IndexSeries, IndexSeriesList, LentSeries, READ_SHARE};
 use label_sets::{Sample, Series, SeriesList, is_within};
-use list_core::List;
 use std::alloc::Global;
 use wire_bytes::Blob;
 

@@ -1,19 +1,18 @@
 //! The files of a checked block as they are shipped.
 ghost use Rattle.std.specs.Prelude.{◌≡◌, ◌++◌, ◌≤◌, ℕ, List, [], ◌∷◌, length, map, take, IfOk, OnOk};
 ghost use Rattle.std.specs.List.{AllByRecursion};
-ghost use Rattle.reading_core.specs.Grammar.{IsBytes};
-ghost use Rattle.block_files.specs.Built.{segment_objects};
-ghost use Rattle.block_files.specs.declared.block_files.BlockFiles.{BlockFiles};
+ghost use Rattle.base.specs.Grammar.{IsBytes};
+ghost use Rattle.block_meta.specs.Built.{segment_objects};
+ghost use Rattle.block_meta.specs.declared.block_files.BlockFiles.{BlockFiles};
 ghost use Rattle.block_keys.specs.Keys.{IsLawfulKey, key_number, segment_limit};
 ghost use Rattle.block_keys.specs.KeyText.{name_of, six_digits};
 ghost use Rattle.block_meta.specs.MetaFields.{fields_of};
 ghost use Rattle.block_content.specs.Shipped.{size_of, segment_name, sizes_of, names_of, shipped_meta, IsBehindSlash};
 
-use block_files::BlockFiles;
+use base::{NoMemory, TryCopy};
 use block_keys::Key;
-use block_meta::{FileSize, FileSizeList, Meta};
+use block_meta::{BlockFiles, FileSize, FileSizeList, Meta};
 use label_sets::{LabelSet, Text, TextList};
-use list_core::{NoMemory, TryCopy};
 use std::alloc::Global;
 use ulid_core::Ulid;
 use wire_bytes::Blob;

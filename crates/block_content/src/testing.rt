@@ -2,9 +2,9 @@
 ghost use Rattle.std.specs.Prelude.{◌≡◌, ◌⊎◌, ◌*◌, ◌≤◌, List, length, sum_by, Err, IfOk, IfErr};
 ghost use Rattle.std.specs.List.{AllByRecursion};
 ghost use Rattle.std.specs.Result.{IsOkAnd};
-ghost use Rattle.reading_core.specs.Grammar.{IsBytes};
+ghost use Rattle.base.specs.Grammar.{IsBytes};
 ghost use Rattle.label_sets.specs.declared.series.Series.{Series};
-ghost use Rattle.index_file.specs.IndexFile.{IsIndex};
+ghost use Rattle.index_parts.specs.IndexFile.{IsIndex};
 ghost use Rattle.index_v2.specs.Budget.{read_share};
 ghost use Rattle.block_content.specs.Content.{IsContent};
 ghost use Rattle.block_content.specs.ContentRefusals.{RefusesContent};
@@ -14,10 +14,9 @@ ghost use Rattle.block_content.specs.ContentReading.{ListsFew, series_bytes};
 use crate::CheckRefusal;
 use crate::checking::{count_lent, test_found};
 use crate::content_reading::{budget_of, lent_repeated, read_lent};
-use block_files::BlockFiles;
-use block_meta::Meta;
+use base::List;
+use block_meta::{BlockFiles, Meta};
 use index_v2::LentSeries;
-use list_core::List;
 use std::alloc::Global;
 use wire_bytes::Blob;
 

@@ -13,9 +13,9 @@ use Rattle.std.proofs.lemmas.Str.Parse.{parse_gives, digits_value_short}
 use Rattle.std.proofs.lemmas.Str.Pattern.{IsSplitOnceResult, split_once_first}
 use Rattle.std.proofs.Math.ListN.{drop_of_length-le}
 use Rattle.std.proofs.Math.Nat.{div-div-eq-div-mul}
-use Rattle.list_core.proofs.Options.{tested_some}
-use Rattle.reading_core.specs.FixedDigits.{fixed_digits}
-use Rattle.reading_core.proofs.Decimals.{digits_are_numerals}
+use Rattle.base.proofs.Options.{tested_some}
+use Rattle.base.specs.FixedDigits.{fixed_digits}
+use Rattle.base.proofs.Decimals.{digits_are_numerals}
 use Rattle.block_keys.specs.KeyText.{six_digits, number_of, segment_of, is_slash, IsSegmentName}
 
 -- six digits one by one

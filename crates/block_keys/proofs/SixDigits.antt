@@ -9,8 +9,8 @@ use Rattle.std.proofs.lemmas.Bool.Decides.{nat_tests}
 use Rattle.std.proofs.lemmas.Int.Digits.{digits_value_is, digits_value-lt, all_below_base_from_digits}
 use Rattle.std.proofs.lemmas.List.{length-map}
 use Rattle.std.proofs.lemmas.Str.Parse.{digit_from_value}
-use Rattle.reading_core.specs.FixedDigits.{fixed_digits}
-use Rattle.reading_core.proofs.Positional.{length-fixed_digits, below-fixed_digits, number-fixed_digits, fixed_digits-only, cmp-digits}
+use Rattle.base.specs.FixedDigits.{fixed_digits}
+use Rattle.base.proofs.Positional.{length-fixed_digits, below-fixed_digits, number-fixed_digits, fixed_digits-only, cmp-digits}
 use Rattle.block_keys.specs.KeyText.{IsSegmentName, six_digits}
 
 -- the character of a decimal digit

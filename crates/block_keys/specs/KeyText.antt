@@ -5,8 +5,8 @@ use Rattle.std.specs.List.{before_first, after_first, list_all}
 use Rattle.std.specs.Char.{is_ascii_digit}
 use Rattle.std.specs.Str.{bytes_eq, byte}
 use Rattle.std.specs.Str.Parse.{AllDigits, digits_value}
-use Rattle.reading_core.specs.Decimal.{digit_zero}
-use Rattle.reading_core.specs.FixedDigits.{fixed_digits}
+use Rattle.base.specs.Decimal.{digit_zero}
+use Rattle.base.specs.FixedDigits.{fixed_digits}
 use Rattle.ulid_core.specs.UlidText.{IsUlidText, text_of, ulid_of}
 use Rattle.ulid_core.specs.declared.refusal.UlidRefusal.{UlidRefusal}
 use Rattle.block_keys.specs.Keys.{key_ulid}

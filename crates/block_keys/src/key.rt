@@ -8,8 +8,8 @@ ghost use Rattle.block_keys.specs.KeyText.{IsKeyText, key_of, key_text, name_of}
 
 use crate::NotAKey;
 use crate::names::{put_segment_name, read_key};
+use base::{NoMemory, TryCopy};
 use label_sets::Text;
-use list_core::{NoMemory, TryCopy};
 use std::alloc::Global;
 use std::cmp::Ordering;
 use ulid_core::Ulid;

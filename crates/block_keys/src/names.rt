@@ -1,13 +1,12 @@
 ghost use Rattle.std.specs.Prelude.{◌≡◌, ◌++◌, ◌+◌, ◌%◌, ◌≤◌, IfOk, OnOk, codes};
 ghost use Rattle.std.specs.String.{string_bytes};
-ghost use Rattle.reading_core.specs.Decimal.{digit_zero};
+ghost use Rattle.base.specs.Decimal.{digit_zero};
 ghost use Rattle.ulid_core.specs.UlidText.{IsUlidText, text_of};
 ghost use Rattle.block_keys.specs.Keys.{segment_limit};
 ghost use Rattle.block_keys.specs.KeyText.{key_of, key_named, number_of, segment_of, six_digits};
 
 use crate::Key;
-use list_core::NoMemory;
-use reading_core::all_digits;
+use base::{NoMemory, all_digits};
 use std::alloc::Global;
 use ulid_core::Ulid;
 

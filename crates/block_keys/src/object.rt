@@ -1,5 +1,5 @@
 use crate::Key;
-use list_core::{List, NoMemory, TryCopy};
+use base::{List, NoMemory, TryCopy};
 use wire_bytes::Blob;
 
 /// What stands under a key.

@@ -1,11 +1,11 @@
 -- Which files of a block a load asked for, as it goes on or stops.
 use Rattle.std.proofs.Common.{◌≡◌, ℕ, zero, suc, ◌+◌, ◌<◌, List, [], ◌∷◌, length, true, false, Option, Some, Result, Ok, Err, refl, sym, ap, subst, ◌∙◌, ◌⊎◌, inl, inr, arith}
 use Rattle.std.specs.Prelude.{◌≤◌, IsTrue, IfOk, IfErr, IsErrAnd}
-use Rattle.reading_core.proofs.Binds.{ok_is}
+use Rattle.base.proofs.Binds.{ok_is}
 use Rattle.block_keys.specs.declared.key.Key.TheVariants.{Meta, Index, Segment}
 use Rattle.block_keys.specs.KeyText.{key_text}
 use Rattle.block_meta.specs.MetaFields.{MetaFields}
-use Rattle.index_file.specs.declared.index_series.IndexSeries.{IndexSeries}
+use Rattle.index_parts.specs.declared.index_series.IndexSeries.{IndexSeries}
 use Rattle.bucket_core.specs.Contents.{Contents}
 use Rattle.bucket_core.specs.Asking.{Asks}
 use Rattle.block_loading.specs.Loading.{HasSegments, last_segment, ReachesSegment, Reaches, StopsAt, key_after, names_after}
@@ -17,7 +17,7 @@ use Rattle.block_loading.proofs.LoadLaws.{meta_found, meta_again, index_found, i
 use Rattle.block_loading.proofs.Calls.{answered, passed_on}
 use Rattle.block_loading.proofs.Asked.{asks_first, asks_then, asks_as, names_all, segment_key}
 use Rattle.block_loading.proofs.Stopped.{said_on, said_as, unsaid, fault_on, no_fault}
-use Rattle.reading_core.proofs.Binds.{err_is}
+use Rattle.base.proofs.Binds.{err_is}
 
 pub off_on : {X : Type 0} (r : Result X LoadRefusal) (e : LoadRefusal) → IsErrAnd r (λ d. d ≡ e) → IsBrokenOff e → WasBrokenOff r
 off_on (Ok x) e is off = absurd is

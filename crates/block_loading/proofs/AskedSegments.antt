@@ -3,7 +3,7 @@ use Rattle.std.proofs.Common.{◌≡◌, ℕ, zero, suc, ◌+◌, ◌<◌, List,
 use Rattle.std.specs.Prelude.{◌≤◌, slice_get, IfOk, IfErr, IsErrAnd}
 use Rattle.std.proofs.lemmas.List.{append-nil, length-take-le}
 use Rattle.std.proofs.lemmas.Option.{slice_get-get_or}
-use Rattle.list_core.proofs.Lists.{slice_get-take}
+use Rattle.base.proofs.Lists.{slice_get-take}
 use Rattle.block_keys.specs.declared.key.Key.TheVariants.{Segment}
 use Rattle.block_keys.specs.KeyText.{key_text}
 use Rattle.bucket_core.specs.Contents.{Contents}
@@ -15,7 +15,7 @@ use Rattle.block_loading.specs.declared.load_refusal.LoadRefusal.TheVariants.{No
 use Rattle.block_loading.proofs.FileLaws.{file_found, file_again}
 use Rattle.block_loading.proofs.Asked.{asks_then, asks_as, segment_more, segment_key}
 use Rattle.block_loading.proofs.Stopped.{said_on, unsaid, fault_on, no_fault, file_last}
-use Rattle.reading_core.proofs.Binds.{err_is}
+use Rattle.base.proofs.Binds.{err_is}
 use Rattle.block_loading.proofs.AskedBlock.{off_on, no_value, off_or}
 
 -- ---- segments that stand

@@ -3,10 +3,10 @@ use Rattle.std.proofs.Common.{◌≡◌, ℕ, Option, Result, Ok, Err, false, Li
 use Rattle.std.specs.Prelude.{IfOk, IfErr}
 use Rattle.std.specs.Result.{IsOkAnd}
 use Rattle.std.proofs.lemmas.Result.{IfOk-weaker}
-use Rattle.reading_core.proofs.Binds.{err_is}
+use Rattle.base.proofs.Binds.{err_is}
 use Rattle.label_sets.specs.declared.series.Series.{Series}
 use Rattle.label_sets.specs.Counts.{sample_count}
-use Rattle.block_files.specs.declared.block_files.BlockFiles.{BlockFiles}
+use Rattle.block_meta.specs.declared.block_files.BlockFiles.{BlockFiles}
 use Rattle.block_content.specs.ContentReading.{NamesFew}
 use Rattle.block_content.specs.Checked.{checked_files, checked_series, checked_samples}
 use Rattle.block_content.specs.Checking.{Passes, HasPassed, RefusesBlock}

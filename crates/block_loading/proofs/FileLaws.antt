@@ -2,7 +2,7 @@
 use Rattle.std.proofs.Common.{◌≡◌, ℕ, ◌<◌, ◌≤◌, List, length, Bool, true, false, cond, Option, None, Some, Result, Ok, Err, refl, sym, ap, subst, ◌∙◌, arith, ◌⊎◌, inl, inr}
 use Rattle.std.specs.Prelude.{IsSomeAnd, IfSome, nat_lt}
 use Rattle.std.proofs.lemmas.Bool.Decides.{nat_tests}
-use Rattle.reading_core.proofs.Binds.{cond_ok, cond_is, ok_is, err_is}
+use Rattle.base.proofs.Binds.{cond_ok, cond_is, ok_is, err_is}
 use Rattle.block_keys.specs.declared.key.Key.{Key}
 use Rattle.block_keys.specs.KeyText.{key_text}
 use Rattle.block_content.specs.declared.check_refusal.CheckRefusal.{CheckRefusal}

@@ -1,18 +1,18 @@
 -- Loading a block: what the functions give is what the relations say.
 use Rattle.std.proofs.Common.{◌≡◌, ℕ, List, length, Ok, Err, refl, sym, ap, subst, ◌∙◌, arith, inl, inr}
 use Rattle.std.specs.Prelude.{◌≢◌}
-use Rattle.reading_core.specs.Reading.{refused_as}
-use Rattle.reading_core.proofs.Binds.{bind_ok, bind_err, ok_is, refused_as_ok, refused_as_err}
+use Rattle.base.specs.Reading.{refused_as}
+use Rattle.base.proofs.Binds.{bind_ok, bind_err, ok_is, refused_as_ok, refused_as_err}
 use Rattle.block_keys.specs.declared.key.Key.{Key}
 use Rattle.block_keys.specs.declared.key.Key.TheVariants.{Meta, Index, Segment, Mark}
 use Rattle.block_meta.specs.MetaFields.{MetaFields, fields_of}
 use Rattle.block_meta.specs.MetaReading.{meta_of_text}
 use Rattle.block_meta.specs.declared.refusal.MetaRefusal.{MetaRefusal}
 use Rattle.block_meta.specs.declared.refusal.MetaRefusal.TheVariants as meta
-use Rattle.index_file.specs.declared.index_series.IndexSeries.{IndexSeries}
+use Rattle.index_parts.specs.declared.index_series.IndexSeries.{IndexSeries}
 use Rattle.index_v2.specs.declared.refusal.IndexRefusal.{IndexRefusal}
 use Rattle.index_v2.specs.declared.refusal.IndexRefusal.TheVariants as index
-use Rattle.block_files.specs.declared.block_files.BlockFiles.{BlockFiles}
+use Rattle.block_meta.specs.declared.block_files.BlockFiles.{BlockFiles}
 use Rattle.block_content.specs.ContentReading.{index_at, refused_index}
 use Rattle.block_content.specs.declared.check_refusal.CheckRefusal.{CheckRefusal}
 use Rattle.block_content.specs.declared.check_refusal.CheckRefusal.TheVariants.{NoFile, BadMeta, UlidDiffers, NotLevelOne, SourcesNotSelf, Downsampled, TooLarge, BadIndex, EmptyBlock, BadChunk, OutsideRange, Repeated, NoMemory}

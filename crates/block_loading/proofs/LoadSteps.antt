@@ -1,13 +1,13 @@
 -- The steps of loading, each as it goes on or stops.
 use Rattle.std.proofs.Common.{◌≡◌, ℕ, List, Result, Ok, Err, refl, sym, ap, subst, ◌∙◌, ◌⊎◌, inl, inr}
 use Rattle.std.specs.Prelude.{IsErrAnd}
-use Rattle.reading_core.specs.Reading.{refused_as}
+use Rattle.base.specs.Reading.{refused_as}
 use Rattle.block_keys.specs.declared.key.Key.TheVariants.{Meta, Index}
 use Rattle.block_meta.specs.MetaFields.{MetaFields}
 use Rattle.block_meta.specs.MetaReading.{meta_of_text}
 use Rattle.block_meta.specs.declared.refusal.MetaRefusal.{MetaRefusal}
 use Rattle.block_meta.specs.declared.refusal.MetaRefusal.TheVariants as meta
-use Rattle.index_file.specs.declared.index_series.IndexSeries.{IndexSeries}
+use Rattle.index_parts.specs.declared.index_series.IndexSeries.{IndexSeries}
 use Rattle.index_v2.specs.declared.refusal.IndexRefusal.{IndexRefusal}
 use Rattle.block_content.specs.ContentReading.{index_at, refused_index}
 use Rattle.block_content.specs.declared.check_refusal.CheckRefusal.{CheckRefusal}

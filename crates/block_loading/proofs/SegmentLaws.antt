@@ -2,8 +2,8 @@
 use Rattle.std.proofs.Common.{◌≡◌, ℕ, zero, suc, ◌+◌, ◌-◌, ◌<◌, ◌≤◌, List, [], ◌∷◌, ◌++◌, length, Result, Ok, Err, Some, refl, sym, ap, subst, ◌∙◌, arith, inl, inr}
 use Rattle.std.specs.Prelude.{slice_get}
 use Rattle.std.proofs.lemmas.List.{append_assoc, append-nil}
-use Rattle.reading_core.specs.Reading.{◌>>=◌}
-use Rattle.reading_core.proofs.Binds.{bind_ok, bind_err, ok_is}
+use Rattle.base.specs.Reading.{◌>>=◌}
+use Rattle.base.proofs.Binds.{bind_ok, bind_err, ok_is}
 use Rattle.block_keys.specs.declared.key.Key.TheVariants.{Segment}
 use Rattle.bucket_core.specs.Contents.{Contents}
 use Rattle.block_loading.specs.Loading.{HasFile, HasSegments}

@@ -2,15 +2,15 @@
 use Rattle.std.proofs.Common.{◌≡◌, ℕ, ◌+◌, true, false, List, [], ◌∷◌, ◌++◌, length, Result, Ok, Err, refl, sym, ap, subst, ◌∙◌, ◌⊎◌, inl, inr}
 use Rattle.std.specs.Prelude.{◌≢◌, ◌≤◌, All, IsTrue, IfErr, IsErrAnd}
 use Rattle.std.proofs.lemmas.List.Elements.{All-nil, All-push}
-use Rattle.reading_core.specs.Reading.{refused_as}
-use Rattle.reading_core.proofs.Binds.{refused_as_err}
+use Rattle.base.specs.Reading.{refused_as}
+use Rattle.base.proofs.Binds.{refused_as_err}
 use Rattle.block_keys.specs.declared.key.Key.{Key}
 use Rattle.block_meta.specs.Bounds.{HasFew}
 use Rattle.block_meta.specs.MetaFields.{MetaFields}
 use Rattle.block_meta.specs.MetaReading.{meta_of_text}
 use Rattle.block_meta.specs.declared.refusal.MetaRefusal.{MetaRefusal}
 use Rattle.block_meta.specs.declared.refusal.MetaRefusal.TheVariants as meta
-use Rattle.block_files.specs.declared.block_files.BlockFiles.{BlockFiles}
+use Rattle.block_meta.specs.declared.block_files.BlockFiles.{BlockFiles}
 use Rattle.index_v2.specs.declared.refusal.IndexRefusal.{IndexRefusal}
 use Rattle.index_v2.specs.declared.refusal.IndexRefusal.TheVariants as index
 use Rattle.block_content.specs.ContentReading.{index_at, refused_index}

@@ -13,10 +13,10 @@ use Rattle.block_meta.specs.MetaReading.{meta_of_text}
 use Rattle.block_meta.specs.declared.refusal.MetaRefusal.{MetaRefusal}
 use Rattle.block_meta.specs.declared.refusal.MetaRefusal.TheVariants as meta
 use Rattle.index_parts.specs.declared.chunk_place.ChunkPlace.{ChunkPlace}
-use Rattle.index_file.specs.declared.index_series.IndexSeries.{IndexSeries}
+use Rattle.index_parts.specs.declared.index_series.IndexSeries.{IndexSeries}
 use Rattle.index_v2.specs.declared.refusal.IndexRefusal.{IndexRefusal}
 use Rattle.index_v2.specs.declared.refusal.IndexRefusal.TheVariants as index
-use Rattle.block_files.specs.declared.block_files.BlockFiles.{BlockFiles}
+use Rattle.block_meta.specs.declared.block_files.BlockFiles.{BlockFiles}
 use Rattle.block_content.specs.ContentReading.{index_at}
 use Rattle.block_content.specs.Checking.{Passes, RefusesBlock}
 use Rattle.block_content.specs.declared.check_refusal.CheckRefusal.{CheckRefusal}

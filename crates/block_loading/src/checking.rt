@@ -3,7 +3,7 @@ ghost use Rattle.std.specs.Prelude.{◌≡◌, ◌⊎◌, List, Some, Ok, Err, I
 ghost use Rattle.std.specs.Result.{IsOkAnd};
 ghost use Rattle.label_sets.specs.declared.series.Series.{Series};
 ghost use Rattle.label_sets.specs.Counts.{sample_count};
-ghost use Rattle.block_files.specs.declared.block_files.BlockFiles.{BlockFiles};
+ghost use Rattle.block_meta.specs.declared.block_files.BlockFiles.{BlockFiles};
 ghost use Rattle.block_content.specs.Checking.{HasPassed};
 ghost use Rattle.block_content.specs.ContentReading.{NamesFew};
 ghost use Rattle.block_content.specs.Checked.{checked_files, checked_series, checked_samples};

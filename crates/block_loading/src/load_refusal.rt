@@ -13,10 +13,10 @@ pub enum LoadRefusal {
     NoMemory,
 }
 
-impl From<list_core::NoMemory> for LoadRefusal {
+impl From<base::NoMemory> for LoadRefusal {
     ghost from_gives = { λ _ e. e ≡ WithoutMemory };
 
-    fn from(_: list_core::NoMemory) -> Self {
+    fn from(_: base::NoMemory) -> Self {
         LoadRefusal::NoMemory
     }
 }

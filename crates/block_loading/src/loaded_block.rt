@@ -1,13 +1,13 @@
 //! Blocks that were loaded from a shelf and are to be checked, which needs no shelf.
 ghost use Rattle.std.specs.Prelude.{◌≡◌, Ok};
-ghost use Rattle.reading_core.specs.Grammar.{IsBytes};
+ghost use Rattle.base.specs.Grammar.{IsBytes};
 ghost use Rattle.block_content.specs.ContentReading.{index_at};
 
 use crate::LoadRefusal;
 use crate::loading::read_block;
 use crate::reading::refused_block;
 use block_content::{Checked, check_indexed};
-use block_files::BlockFiles;
+use block_meta::BlockFiles;
 use bucket_core::Shelf;
 use index_v2::IndexSeriesList;
 use std::alloc::Global;
@@ -26,7 +26,7 @@ pub struct LoadedBlock {
 impl LoadedBlock {
     ghost use Rattle.std.specs.Prelude.{◌≡◌, ◌⊎◌, Some, Err, IfOk};
     ghost use Rattle.std.specs.Result.{IsOkAnd};
-    ghost use Rattle.block_files.specs.declared.block_files.BlockFiles.{BlockFiles};
+    ghost use Rattle.block_meta.specs.declared.block_files.BlockFiles.{BlockFiles};
     ghost use Rattle.block_content.specs.declared.check_refusal.CheckRefusal.{CheckRefusal};
     ghost use Rattle.bucket_core.specs.Contents.{Contents};
     ghost use Rattle.block_loading.specs.Loading.{AreNamed, AreWithinLimit, IsLoaded, RefusesLoad, StopsAt};

@@ -1,8 +1,8 @@
 //! Loading a block's files from a shelf.
 ghost use Rattle.std.specs.Prelude.{◌≡◌, ◌⊎◌, Some, Ok, Err, IfOk, length};
 ghost use Rattle.std.specs.Result.{IsOkAnd};
-ghost use Rattle.reading_core.specs.Grammar.{IsBytes};
-ghost use Rattle.block_files.specs.declared.block_files.BlockFiles.{BlockFiles};
+ghost use Rattle.base.specs.Grammar.{IsBytes};
+ghost use Rattle.block_meta.specs.declared.block_files.BlockFiles.{BlockFiles};
 ghost use Rattle.block_content.specs.ContentReading.{index_at, ListsFew};
 ghost use Rattle.block_content.specs.declared.check_refusal.CheckRefusal.{CheckRefusal};
 ghost use Rattle.bucket_core.specs.Contents.{Contents};
@@ -11,7 +11,7 @@ ghost use Rattle.block_loading.specs.LoadReading.{Loads, KeepsShelf, AsksInOrder
 
 use crate::reading::{last_segment, read_meta, read_segments, read_series};
 use crate::{LoadRefusal, LoadedBlock};
-use block_files::BlockFiles;
+use block_meta::BlockFiles;
 use bucket_core::Shelf;
 use index_v2::IndexSeriesList;
 use std::alloc::Global;

@@ -1,7 +1,7 @@
 //! The files of a block, each as it is read from a shelf.
 ghost use Rattle.std.specs.Prelude.{◌≡◌, ◌+◌, ◌≤◌, ℕ, Option, Some, Ok, Err, List, All, IfOk, IfErr, length, map, max};
 ghost use Rattle.std.specs.List.{flat_map};
-ghost use Rattle.reading_core.specs.Grammar.{IsBytes};
+ghost use Rattle.base.specs.Grammar.{IsBytes};
 ghost use Rattle.block_keys.specs.Keys.{IsLawfulKey, segment_limit};
 ghost use Rattle.block_keys.specs.declared.key.Key.{Key};
 ghost use Rattle.block_meta.specs.MetaFields.{fields_of};
@@ -14,9 +14,8 @@ ghost use Rattle.block_loading.specs.LoadReading.{Loads, KeepsShelf, AsksFile, A
 
 use crate::LoadRefusal;
 use block_content::{CheckRefusal, read_index};
-use block_files::BlobList;
 use block_keys::{Key, SEGMENT_LIMIT};
-use block_meta::{Meta, MetaRefusal};
+use block_meta::{BlobList, Meta, MetaRefusal};
 use bucket_core::{Shelf, ShelfAnswer};
 use index_parts::ChunkPlace;
 use index_v2::{IndexSeries, IndexSeriesList};

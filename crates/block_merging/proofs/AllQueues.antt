@@ -6,17 +6,17 @@ use Rattle.std.specs.List.{AllByRecursion, filter}
 use Rattle.std.specs.Ordering.{is_lt}
 use Rattle.std.proofs.lemmas.List.{map-append, take_more, take_more_set, take_all, drop_more, drop-set-lt, length-set}
 use Rattle.std.proofs.lemmas.List.Elements.{Contains-append_left, Contains-append_right}
-use Rattle.list_core.specs.Ordered.{in_order}
-use Rattle.list_core.proofs.Bools.{by_bool}
-use Rattle.list_core.proofs.Lists.{take_none, AllByRecursion-append, AllByRecursion-push, joined-push}
-use Rattle.list_core.proofs.StableSorts.{Rises, Rises-in_order}
-use Rattle.list_core.specs.Lists.{joined}
-use Rattle.reading_core.specs.Grammar.{IsBytes}
+use Rattle.base.specs.Ordered.{in_order}
+use Rattle.base.proofs.Bools.{by_bool}
+use Rattle.base.proofs.Lists.{take_none, AllByRecursion-append, AllByRecursion-push, joined-push}
+use Rattle.base.proofs.StableSorts.{Rises, Rises-in_order}
+use Rattle.base.specs.Lists.{joined}
+use Rattle.base.specs.Grammar.{IsBytes}
 use Rattle.label_sets.specs.declared.label.Label.{Label}
 use Rattle.label_sets.specs.Labels.{compare_sets}
 use Rattle.index_v2.specs.declared.lent_label.LentLabel.{LentLabel}
 use Rattle.index_v2.specs.LentLabels.{as_label}
-use Rattle.block_files.specs.declared.block_files.BlockFiles.{BlockFiles}
+use Rattle.block_meta.specs.declared.block_files.BlockFiles.{BlockFiles}
 use Rattle.block_content.specs.declared.check_refusal.CheckRefusal.{CheckRefusal}
 use Rattle.block_writing.specs.Put.{PutChunk, PutSeries}
 use Rattle.block_merging.specs.declared.merge_refusal.MergeRefusal.{MergeRefusal}

@@ -2,7 +2,7 @@
 use Rattle.std.proofs.Common.{◌≡◌, ◌≢◌, Bool, true, false, List, [], ◌∷◌, refl, sym, ap, ◌∙◌, subst, inl, inr, ◌⊎◌}
 use Rattle.std.specs.Prelude.{Any, Contains}
 use Rattle.std.proofs.lemmas.Bool.{true≢false, cases_Bool}
-use Rattle.list_core.proofs.Membership.{no_member, contains_first, contains_later, member_cases}
+use Rattle.base.proofs.Membership.{no_member, contains_first, contains_later, member_cases}
 use Rattle.block_writing.specs.Put.{PutChunk}
 use Rattle.block_merging.specs.Runs.{Meet, AreConnected}
 

@@ -4,10 +4,10 @@ use Rattle.std.specs.Cmp.{IsStrictWeakOrder}
 use Rattle.std.specs.List.{filter, AllByRecursion}
 use Rattle.std.specs.List.Sorted.{ties}
 use Rattle.std.proofs.lemmas.Bool.{true≢false}
-use Rattle.list_core.specs.Ordered.{placed, in_order}
-use Rattle.list_core.proofs.Bools.{by_bool}
-use Rattle.list_core.proofs.StableSorts.{NoneLess, Rises, Rises-in_order, filter-in_order, same_in_order, NoneLess-chain}
-use Rattle.list_core.proofs.Lists.{filter_hit, filter_miss}
+use Rattle.base.specs.Ordered.{placed, in_order}
+use Rattle.base.proofs.Bools.{by_bool}
+use Rattle.base.proofs.StableSorts.{NoneLess, Rises, Rises-in_order, filter-in_order, same_in_order, NoneLess-chain}
+use Rattle.base.proofs.Lists.{filter_hit, filter_miss}
 
 module _ {A : Type 0} (less : A → A → Bool) (o : IsStrictWeakOrder less) where
   none-filter : (q : A → Bool) (x : A) (ys : List A) → NoneLess less x ys → NoneLess less x (filter q ys)

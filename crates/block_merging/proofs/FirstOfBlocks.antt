@@ -8,13 +8,13 @@ use Rattle.std.proofs.lemmas.Bool.{true≢false}
 use Rattle.std.proofs.lemmas.List.Elements.{All-from_recursion, All-contains, filter-append}
 use Rattle.std.proofs.lemmas.Grind.{flat_map-append}
 use Rattle.std.proofs.lemmas.Map.Keys.{sorted_head, sorted_tail}
-use Rattle.list_core.proofs.Bools.{by_bool}
-use Rattle.list_core.proofs.Lists.{filter_hit, filter_miss, filter_all, filter_none}
-use Rattle.list_core.proofs.Order.{sorted_nil, sorted_append}
-use Rattle.list_core.proofs.Membership.{no_member, contains_first, contains_later, each_member, all_members, any_of_member, member_of_any, into_filter, of_filter, of_map, into_map, of_flat_map, into_flat_map, some_member}
-use Rattle.list_core.proofs.Pairs.{AllZip-append}
-use Rattle.list_core.specs.Lists.{joined}
-use Rattle.reading_core.specs.Grammar.{IsBytes}
+use Rattle.base.proofs.Bools.{by_bool}
+use Rattle.base.proofs.Lists.{filter_hit, filter_miss, filter_all, filter_none}
+use Rattle.base.proofs.Order.{sorted_nil, sorted_append}
+use Rattle.base.proofs.Membership.{no_member, contains_first, contains_later, each_member, all_members, any_of_member, member_of_any, into_filter, of_filter, of_map, into_map, of_flat_map, into_flat_map, some_member}
+use Rattle.base.proofs.Pairs.{AllZip-append}
+use Rattle.base.specs.Lists.{joined}
+use Rattle.base.specs.Grammar.{IsBytes}
 use Rattle.label_sets.specs.declared.label.Label.{Label}
 use Rattle.label_sets.specs.declared.sample.Sample.{Sample}
 use Rattle.label_sets.specs.declared.series.Series.{Series}
@@ -26,14 +26,14 @@ use Rattle.vertical_merge.proofs.Orders.{same_key}
 use Rattle.vertical_merge.proofs.Merging.{triple_of}
 use Rattle.vertical_merge.proofs.Joining.{triples_under-append}
 use Rattle.index_parts.specs.declared.chunk_place.ChunkPlace.{ChunkPlace}
-use Rattle.index_file.specs.declared.index_series.IndexSeries.{IndexSeries}
+use Rattle.index_parts.specs.declared.index_series.IndexSeries.{IndexSeries}
 use Rattle.xor_chunks.specs.Grammar.{IsText}
-use Rattle.block_files.specs.declared.block_files.BlockFiles.{BlockFiles}
+use Rattle.block_meta.specs.declared.block_files.BlockFiles.{BlockFiles}
 use Rattle.block_content.specs.Content.{IsChunkOf, HoldsSeries, IsContent}
 use Rattle.block_writing.specs.Put.{PlanFields, PutChunk, PutSeries, IsStored}
 use Rattle.block_writing.specs.Writing.{chunk_in}
 use Rattle.block_writing.specs.Built.{StandsFor}
-use Rattle.block_laws.specs.PutContent.{IsSeriesOf, AreSeriesOf}
+use Rattle.block_merging.specs.PutContent.{IsSeriesOf, AreSeriesOf}
 use Rattle.block_merging.specs.Inputs.{AreTaken, taken}
 use Rattle.block_merging.specs.MergedSeries.{IsMergedSeries}
 use Rattle.block_merging.specs.MergedBlock.{has_labels, chunks_under, AreMerges}

@@ -11,12 +11,12 @@ use Rattle.std.proofs.lemmas.Bool.{true≢false, and_from, and_left, and_right}
 use Rattle.std.proofs.lemmas.List.Elements.{All-from_recursion, All-contains, filter-append}
 use Rattle.std.proofs.lemmas.Grind.{flat_map-append}
 use Rattle.std.proofs.lemmas.Map.Keys.{sorted_head, sorted_tail}
-use Rattle.list_core.proofs.Bools.{by_bool}
-use Rattle.list_core.proofs.Lists.{filter_hit, filter_miss, filter_all, filter_none}
-use Rattle.list_core.proofs.Order.{sorted_map, sorted_unmap}
-use Rattle.list_core.proofs.Membership.{no_member, contains_first, contains_later, member_cases, each_member, all_members, any_of_member, of_map, of_filter}
-use Rattle.list_core.proofs.Integers.{le_le}
-use Rattle.list_core.specs.Lists.{joined}
+use Rattle.base.proofs.Bools.{by_bool}
+use Rattle.base.proofs.Lists.{filter_hit, filter_miss, filter_all, filter_none}
+use Rattle.base.proofs.Order.{sorted_map, sorted_unmap}
+use Rattle.base.proofs.Membership.{no_member, contains_first, contains_later, member_cases, each_member, all_members, any_of_member, of_map, of_filter}
+use Rattle.base.proofs.Integers.{le_le}
+use Rattle.base.specs.Lists.{joined}
 use Rattle.label_sets.specs.declared.label.Label.{Label}
 use Rattle.label_sets.specs.declared.sample.Sample.{Sample}
 use Rattle.label_sets.specs.declared.series.Series.{Series}
@@ -30,8 +30,8 @@ use Rattle.std.proofs.lemmas.Cmp.{eq_by_cmp_equiv}
 use Rattle.block_writing.specs.Put.{PlanFields, PutChunk, PutSeries, IsStored}
 use Rattle.block_writing.specs.Built.{StandsFor}
 use Rattle.block_writing.proofs.Parts.{texts_of}
-use Rattle.block_laws.specs.PutContent.{IsSeriesOf}
-use Rattle.block_laws.proofs.Content.{text_once}
+use Rattle.block_merging.specs.PutContent.{IsSeriesOf}
+use Rattle.block_merging.proofs.Content.{text_once}
 use Rattle.block_merging.specs.Runs.{AreConnected, Span, lies_in}
 use Rattle.block_merging.specs.MergedSeries.{Becomes, IsMergedSeries}
 use Rattle.block_merging.proofs.Chains.{any_of, member_of}

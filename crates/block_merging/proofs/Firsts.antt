@@ -7,11 +7,11 @@ use Rattle.std.specs.Ordering.{int_cmp, ordering_then}
 use Rattle.std.proofs.lemmas.Int.{ints}
 use Rattle.std.proofs.lemmas.Bool.{true≢false, and_parts}
 use Rattle.std.proofs.lemmas.List.Elements.{All-from_recursion, All-contains, All-contains_itself, Contains-append_cases}
-use Rattle.list_core.proofs.Bools.{by_bool}
-use Rattle.list_core.proofs.Order.{sorted_nil, sorted_append}
-use Rattle.list_core.proofs.Lists.{filter_hit, filter_miss, find_holds, AllByRecursion-append}
-use Rattle.list_core.proofs.Membership.{no_member, contains_first, contains_later, all_members, of_filter, into_filter, member_passes, member_cases}
-use Rattle.list_core.specs.Lists.{joined}
+use Rattle.base.proofs.Bools.{by_bool}
+use Rattle.base.proofs.Order.{sorted_nil, sorted_append}
+use Rattle.base.proofs.Lists.{filter_hit, filter_miss, find_holds, AllByRecursion-append}
+use Rattle.base.proofs.Membership.{no_member, contains_first, contains_later, all_members, of_filter, into_filter, member_passes, member_cases}
+use Rattle.base.specs.Lists.{joined}
 use Rattle.label_sets.specs.declared.label.Label.{Label}
 use Rattle.label_sets.specs.Labels.{compare_sets}
 use Rattle.label_sets.specs.Triples.{Triple, compare_keys, has_same_key}

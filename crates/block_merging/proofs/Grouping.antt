@@ -8,10 +8,10 @@ use Rattle.std.specs.Ordering.{is_eq}
 use Rattle.std.proofs.lemmas.Grind.{flat_map-append}
 use Rattle.std.proofs.lemmas.List.{map-append}
 use Rattle.std.proofs.lemmas.List.Elements.{filter-append, Contains-append_left, Contains-append_right}
-use Rattle.list_core.proofs.Bools.{by_bool, Equal-from_is_eq}
-use Rattle.list_core.proofs.Lists.{filter_hit, filter_miss, AllByRecursion-append, AllByRecursion-weaker}
-use Rattle.list_core.proofs.Membership.{no_member, contains_first, contains_later, only_member, each_member, all_members, of_map, into_flat_map}
-use Rattle.list_core.proofs.Order.{sorted_nil, sorted_cons, sorted_append}
+use Rattle.base.proofs.Bools.{by_bool, Equal-from_is_eq}
+use Rattle.base.proofs.Lists.{filter_hit, filter_miss, AllByRecursion-append, AllByRecursion-weaker}
+use Rattle.base.proofs.Membership.{no_member, contains_first, contains_later, only_member, each_member, all_members, of_map, into_flat_map}
+use Rattle.base.proofs.Order.{sorted_nil, sorted_cons, sorted_append}
 use Rattle.label_sets.specs.declared.label.Label.{Label}
 use Rattle.label_sets.specs.Labels.{compare_sets}
 use Rattle.label_sets.proofs.LabelValues.{same_set}

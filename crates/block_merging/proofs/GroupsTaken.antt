@@ -11,13 +11,13 @@ use Rattle.std.proofs.lemmas.List.Elements.{filter-append, Contains-append_left,
 use Rattle.std.proofs.lemmas.List.Sorted.{ranks_by}
 use Rattle.std.proofs.lemmas.List.Sums.{sum_by-append}
 use Rattle.std.proofs.lemmas.Grind.{flat_map-append}
-use Rattle.list_core.specs.Ordered.{placed, in_order}
-use Rattle.list_core.proofs.Bools.{by_bool, by_order}
-use Rattle.list_core.proofs.StableSorts.{NoneLess, Rises}
-use Rattle.list_core.proofs.Lists.{filter_miss, AllByRecursion-append, AllByRecursion-weaker}
-use Rattle.list_core.proofs.Membership.{no_member, each_member, all_members, member_passes, of_filter, into_filter, contains_place, of_flat_map, into_flat_map}
-use Rattle.list_core.proofs.Pairs.{AllZip-append}
-use Rattle.list_core.specs.Lists.{joined}
+use Rattle.base.specs.Ordered.{placed, in_order}
+use Rattle.base.proofs.Bools.{by_bool, by_order}
+use Rattle.base.proofs.StableSorts.{NoneLess, Rises}
+use Rattle.base.proofs.Lists.{filter_miss, AllByRecursion-append, AllByRecursion-weaker}
+use Rattle.base.proofs.Membership.{no_member, each_member, all_members, member_passes, of_filter, into_filter, contains_place, of_flat_map, into_flat_map}
+use Rattle.base.proofs.Pairs.{AllZip-append}
+use Rattle.base.specs.Lists.{joined}
 use Rattle.label_sets.specs.Counts.{sample_count}
 use Rattle.label_sets.specs.declared.label.Label.{Label}
 use Rattle.label_sets.specs.declared.series.Series.{Series}
@@ -27,7 +27,7 @@ use Rattle.vertical_merge.proofs.Orders.{sets_total, set_itself}
 use Rattle.block_meta.specs.Lawful.{AreLawfulTimes}
 use Rattle.block_writing.specs.Put.{PutChunk, PutSeries, PlanFields, Put, IsStored, IsAfterSeries, nothing_put}
 use Rattle.block_writing.proofs.Builds.{one_sum}
-use Rattle.block_laws.specs.PutContent.{IsSeriesOf, AreSeriesOf}
+use Rattle.block_merging.specs.PutContent.{IsSeriesOf, AreSeriesOf}
 use Rattle.block_merging.specs.MergedSeries.{IsMergedSeries}
 use Rattle.block_merging.specs.MergedBlock.{has_labels, chunks_under, AreMerges}
 use Rattle.block_merging.specs.MergeSteps.{HasGroup, HasAll}

@@ -5,16 +5,16 @@ use Rattle.std.specs.Result.{IsErrAnd}
 use Rattle.std.specs.List.{AllByRecursion}
 use Rattle.std.proofs.lemmas.List.{map-append, take_more, take_all}
 use Rattle.std.proofs.lemmas.Option.{slice_get_within, slice_get-get_or}
-use Rattle.list_core.proofs.Lists.{take_none, AllByRecursion-append, AllByRecursion-weaker}
-use Rattle.list_core.proofs.Membership.{each_member, contains_place}
-use Rattle.reading_core.proofs.Binds.{err_is}
+use Rattle.base.proofs.Lists.{take_none, AllByRecursion-append, AllByRecursion-weaker}
+use Rattle.base.proofs.Membership.{each_member, contains_place}
+use Rattle.base.proofs.Binds.{err_is}
 use Rattle.label_sets.specs.declared.label.Label.{Label}
 use Rattle.label_sets.specs.declared.series.Series.{Series}
-use Rattle.index_file.specs.declared.index_series.IndexSeries.{IndexSeries}
-use Rattle.index_file.specs.IndexFile.{IsIndex}
+use Rattle.index_parts.specs.declared.index_series.IndexSeries.{IndexSeries}
+use Rattle.index_parts.specs.IndexFile.{IsIndex}
 use Rattle.block_meta.specs.declared.block_plan.BlockPlan.{BlockPlan}
-use Rattle.block_files.specs.declared.block_files.BlockFiles.{BlockFiles}
-use Rattle.reading_core.proofs.FirstLaws.{some_is}
+use Rattle.block_meta.specs.declared.block_files.BlockFiles.{BlockFiles}
+use Rattle.base.proofs.FirstLaws.{some_is}
 use Rattle.block_content.specs.Content.{IsContent}
 use Rattle.block_content.specs.ContentReading.{fitted}
 use Rattle.block_content.specs.ContentRefusals.{RefusesContent}

@@ -1,3 +1,7 @@
+pub mod Standing
+pub mod Content
+pub mod Passing
+pub mod OneBlock
 pub mod Filters
 pub mod Chains
 pub mod Spans

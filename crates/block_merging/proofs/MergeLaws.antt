@@ -4,21 +4,21 @@ use Rattle.block_writing.specs.Files.{AreFilesOf}
 use Rattle.block_writing.proofs.OneText.{one_index}
 use Rattle.index_writing.specs.WriteSteps.{greatest}
 use Rattle.std.specs.List.{AllByRecursion, AllZip}
-use Rattle.list_core.proofs.Lists.{AllByRecursion-weaker}
-use Rattle.reading_core.specs.Grammar.{IsBytes}
+use Rattle.base.proofs.Lists.{AllByRecursion-weaker}
+use Rattle.base.specs.Grammar.{IsBytes}
 use Rattle.label_sets.specs.Counts.{sample_count}
 use Rattle.label_sets.specs.declared.series.Series.{Series}
 use Rattle.label_sets.specs.Triples.{Triple, triples_of}
 use Rattle.vertical_merge.specs.Merged.{IsMerge, IsDeduplication}
 use Rattle.vertical_merge.proofs.Laws.{deduplicates}
 use Rattle.block_meta.specs.declared.block_plan.BlockPlan.{BlockPlan}
-use Rattle.block_files.specs.declared.block_files.BlockFiles.{BlockFiles}
+use Rattle.block_meta.specs.declared.block_files.BlockFiles.{BlockFiles}
 use Rattle.block_content.specs.Content.{IsContent}
 use Rattle.block_writing.specs.Put.{PutSeries}
 use Rattle.block_writing.specs.Writing.{plan_fields}
-use Rattle.block_laws.specs.PutContent.{AreSeriesOf, AreBytes}
-use Rattle.block_laws.proofs.Content.{put_stands, written_holds, written_only}
-use Rattle.block_laws.proofs.OneBlock.{written_once}
+use Rattle.block_merging.specs.PutContent.{AreSeriesOf, AreBytes}
+use Rattle.block_merging.proofs.Content.{put_stands, written_holds, written_only}
+use Rattle.block_merging.proofs.OneBlock.{written_once}
 use Rattle.block_merging.specs.Inputs.{LiesWithin}
 use Rattle.block_merging.specs.MergedBlock.{IsMergeOf, HaveNoMerge}
 use Rattle.block_merging.specs.MergedContent.{all_triples}

@@ -5,12 +5,12 @@ use Rattle.std.specs.List.{AllByRecursion, AllZip}
 use Rattle.std.proofs.lemmas.Int.{ints}
 use Rattle.std.proofs.lemmas.List.Elements.{Contains-append_left, Contains-append_cases}
 use Rattle.std.proofs.lemmas.List.{length-map}
-use Rattle.block_laws.proofs.Content.{text_once}
-use Rattle.list_core.specs.Ordered.{in_order, placed}
-use Rattle.list_core.proofs.Membership.{no_member, contains_first, contains_later, each_member, all_members, of_in_order, into_in_order, of_map, into_map, contains_place}
-use Rattle.list_core.proofs.Integers.{lt_le}
-use Rattle.list_core.proofs.Lists.{some-length}
-use Rattle.list_core.specs.Lists.{joined}
+use Rattle.block_merging.proofs.Content.{text_once}
+use Rattle.base.specs.Ordered.{in_order, placed}
+use Rattle.base.proofs.Membership.{no_member, contains_first, contains_later, each_member, all_members, of_in_order, into_in_order, of_map, into_map, contains_place}
+use Rattle.base.proofs.Integers.{lt_le}
+use Rattle.base.proofs.Lists.{some-length}
+use Rattle.base.specs.Lists.{joined}
 use Rattle.label_sets.specs.declared.label.Label.{Label}
 use Rattle.label_sets.specs.declared.sample.Sample.{Sample}
 use Rattle.label_sets.specs.declared.series.Series.{Series}

@@ -5,8 +5,8 @@ use Rattle.std.specs.List.{AllByRecursion, AllPairs, filter}
 use Rattle.std.proofs.lemmas.Int.{ints}
 use Rattle.std.proofs.lemmas.Bool.{and_parts, true≢false, not_from_false}
 use Rattle.std.proofs.lemmas.List.Elements.{All-contains}
-use Rattle.list_core.proofs.Bools.{by_bool, not_negated}
-use Rattle.list_core.proofs.Membership.{no_member, contains_first, contains_later, member_cases, of_filter, into_filter, member_passes, some_member}
+use Rattle.base.proofs.Bools.{by_bool, not_negated}
+use Rattle.base.proofs.Membership.{no_member, contains_first, contains_later, member_cases, of_filter, into_filter, member_passes, some_member}
 use Rattle.block_writing.specs.Put.{PutChunk}
 use Rattle.block_merging.specs.Runs.{Meet, AreConnected, Span, lies_in, AreRuns}
 use Rattle.block_merging.proofs.Chains.{any_of, member_of}

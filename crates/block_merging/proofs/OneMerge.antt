@@ -8,9 +8,9 @@ use Rattle.std.proofs.lemmas.Bool.{true≢false}
 use Rattle.std.proofs.lemmas.List.{append-nil}
 use Rattle.std.proofs.lemmas.List.Elements.{All-contains, All-contains_itself, Contains-append_left, Contains-append_right}
 use Rattle.std.proofs.lemmas.Map.Keys.{sorted_head, sorted_tail}
-use Rattle.list_core.proofs.Lists.{find_holds}
-use Rattle.list_core.proofs.Order.{sorted_nil, sorted_cons}
-use Rattle.list_core.proofs.Membership.{each_member, all_members, of_map, into_map, some_member}
+use Rattle.base.proofs.Lists.{find_holds}
+use Rattle.base.proofs.Order.{sorted_nil, sorted_cons}
+use Rattle.base.proofs.Membership.{each_member, all_members, of_map, into_map, some_member}
 use Rattle.label_sets.specs.declared.label.Label.{Label}
 use Rattle.label_sets.specs.declared.sample.Sample.{Sample}
 use Rattle.label_sets.specs.declared.series.Series.{Series}

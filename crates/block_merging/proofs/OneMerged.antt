@@ -3,10 +3,10 @@ use Rattle.std.proofs.Common.{◌≡◌, ◌≢◌, ℕ, List, [], ◌∷◌, �
 use Rattle.std.specs.Prelude.{Contains}
 use Rattle.std.specs.List.{AllByRecursion, AllZip, filter, flat_map}
 use Rattle.std.specs.declared.cmp.Ordering.{Ordering}
-use Rattle.list_core.proofs.Order.{sorted_unmap}
-use Rattle.list_core.proofs.Membership.{no_member, each_member, of_map, of_filter, member_passes, of_flat_map, some_member}
-use Rattle.list_core.proofs.SameMembers.{same_ascending}
-use Rattle.reading_core.specs.Grammar.{IsBytes}
+use Rattle.base.proofs.Order.{sorted_unmap}
+use Rattle.base.proofs.Membership.{no_member, each_member, of_map, of_filter, member_passes, of_flat_map, some_member}
+use Rattle.base.proofs.SameMembers.{same_ascending}
+use Rattle.base.specs.Grammar.{IsBytes}
 use Rattle.label_sets.specs.declared.label.Label.{Label}
 use Rattle.label_sets.specs.declared.sample.Sample.{Sample}
 use Rattle.label_sets.specs.declared.series.Series.{Series}
@@ -15,17 +15,17 @@ use Rattle.label_sets.specs.Triples.{Triple, triples_of, triples_under}
 use Rattle.vertical_merge.specs.Merged.{IsMerge}
 use Rattle.vertical_merge.proofs.Orders.{sets_total, set_itself}
 use Rattle.vertical_merge.proofs.OneMerge.{one_kept}
-use Rattle.index_file.specs.declared.index_series.IndexSeries.{IndexSeries}
+use Rattle.index_parts.specs.declared.index_series.IndexSeries.{IndexSeries}
 use Rattle.block_meta.specs.declared.block_plan.BlockPlan.{BlockPlan}
-use Rattle.block_files.specs.declared.block_files.BlockFiles.{BlockFiles}
+use Rattle.block_meta.specs.declared.block_files.BlockFiles.{BlockFiles}
 use Rattle.xor_chunks.specs.Grammar.{IsText}
 use Rattle.block_writing.specs.Put.{PutChunk, PutSeries, Put}
 use Rattle.block_writing.specs.Writing.{plan_fields}
 use Rattle.block_writing.specs.Built.{IsPutAs}
 use Rattle.block_writing.proofs.OnePut.{series_once as put_as_once}
 use Rattle.block_writing.proofs.DataLaws.{data_rise}
-use Rattle.block_laws.specs.PutContent.{IsSeriesOf, AreSeriesOf}
-use Rattle.block_laws.proofs.Content.{text_once}
+use Rattle.block_merging.specs.PutContent.{IsSeriesOf, AreSeriesOf}
+use Rattle.block_merging.proofs.Content.{text_once}
 use Rattle.block_merging.specs.Inputs.{LiesWithin, HasContent, AreTaken, taken}
 use Rattle.block_merging.specs.MergedSeries.{AreMerged, Becomes, IsMergedSeries}
 use Rattle.block_merging.specs.MergedBlock.{has_labels, chunks_under, AreMerges, IsMergedPut}

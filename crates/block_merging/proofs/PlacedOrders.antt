@@ -5,7 +5,7 @@ use Rattle.std.specs.List.{AllByRecursion}
 use Rattle.std.specs.Ordering.{nat_cmp}
 use Rattle.std.proofs.lemmas.Cmp.{int_cmp_total, nat_cmp_total}
 use Rattle.std.proofs.lemmas.List.Sorted.{ranks_by}
-use Rattle.list_core.proofs.Bools.{nat_cmp-Less, is_lt-from_Less}
+use Rattle.base.proofs.Bools.{nat_cmp-Less, is_lt-from_Less}
 use Rattle.block_merging.specs.declared.input_chunk.InputChunk.{InputChunk}
 use Rattle.block_merging.specs.declared.placed_chunk.PlacedChunk.{PlacedChunk}
 use Rattle.block_merging.specs.Placed.{chunk_of, placed_chunk, placed_from, begins_before, stands_before}

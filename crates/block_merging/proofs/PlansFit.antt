@@ -3,11 +3,11 @@ use Rattle.std.proofs.Common.{ℕ, List, map}
 use Rattle.std.specs.Prelude.{◌≤ℤ◌}
 use Rattle.std.specs.List.{AllByRecursion}
 use Rattle.std.proofs.lemmas.List.Elements.{All-contains}
-use Rattle.list_core.proofs.Membership.{all_members, into_map}
+use Rattle.base.proofs.Membership.{all_members, into_map}
 use Rattle.label_sets.specs.declared.label.Label.{Label}
 use Rattle.block_meta.specs.declared.block_plan.BlockPlan.{BlockPlan}
 use Rattle.block_meta.specs.declared.meta.Meta.{Meta}
-use Rattle.block_files.specs.declared.block_files.BlockFiles.{BlockFiles}
+use Rattle.block_meta.specs.declared.block_files.BlockFiles.{BlockFiles}
 use Rattle.vertical_merge.specs.Compacted.{IsCompactedPlan}
 use Rattle.block_merging.specs.Inputs.{LiesWithin}
 

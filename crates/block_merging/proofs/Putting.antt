@@ -12,9 +12,9 @@ use Rattle.block_writing.specs.Built.{StandsFor}
 use Rattle.block_merging.specs.declared.placed_chunk.PlacedChunk.{PlacedChunk}
 use Rattle.block_merging.specs.Placed.{placed_chunk}
 use Rattle.block_merging.specs.Steps.{HasRun}
-use Rattle.list_core.proofs.Pairs.{AllZip-append}
-use Rattle.list_core.specs.Lists.{joined}
-use Rattle.list_core.proofs.Lists.{joined-push}
+use Rattle.base.proofs.Pairs.{AllZip-append}
+use Rattle.base.specs.Lists.{joined}
+use Rattle.base.proofs.Lists.{joined-push}
 
 pub alone_put : {U E : Type 0} (r : Result U E) (old new : Put) (labels : List Label) (chunk : PutChunk) → IsStored old.plan chunk
     → ((samples : List Sample) → IsText 8 chunk.content samples → OnOk r (new ≡ with_chunk old chunk (length samples))) → OnOk r (HasRun old labels (chunk ∷ []) new)

@@ -9,22 +9,22 @@ use Rattle.std.proofs.lemmas.Bool.{lt-ltb, le-ltb, cases_lt, true≢false, and_p
 use Rattle.std.proofs.lemmas.List.{map-append, take_more, take_all, drop_more, drop_all, length-map}
 use Rattle.std.proofs.lemmas.List.Sorted.{ranks_by}
 use Rattle.std.proofs.lemmas.Grind.{flat_map-append}
-use Rattle.list_core.specs.Ordered.{placed, in_order}
-use Rattle.list_core.proofs.Lists.{drop_none, take_none, zip_parts, AllByRecursion-push}
-use Rattle.list_core.proofs.StableSorts.{NoneLess, Rises}
-use Rattle.list_core.proofs.Membership.{contains_first, each_member, all_members, of_in_order, into_map}
-use Rattle.reading_core.specs.Grammar.{IsBytes}
+use Rattle.base.specs.Ordered.{placed, in_order}
+use Rattle.base.proofs.Lists.{drop_none, take_none, zip_parts, AllByRecursion-push}
+use Rattle.base.proofs.StableSorts.{NoneLess, Rises}
+use Rattle.base.proofs.Membership.{contains_first, each_member, all_members, of_in_order, into_map}
+use Rattle.base.specs.Grammar.{IsBytes}
 use Rattle.label_sets.specs.declared.label.Label.{Label}
 use Rattle.label_sets.specs.Labels.{compare_sets, IsLabelSet}
 use Rattle.label_sets.specs.Finals.{reduced_of}
 use Rattle.label_sets.proofs.FinalLabels.{IsLabelSet-reduced}
 use Rattle.vertical_merge.proofs.Orders.{sets_total, set_itself}
 use Rattle.index_parts.specs.declared.chunk_place.ChunkPlace.{ChunkPlace}
-use Rattle.index_file.specs.Opened.{Opened}
-use Rattle.index_file.specs.declared.index_series.IndexSeries.{IndexSeries}
-use Rattle.index_file.specs.IndexFile.{IsSeriesOf, AreNumbersOf, IsOpened, IsIndex}
+use Rattle.index_parts.specs.Opened.{Opened}
+use Rattle.index_parts.specs.declared.index_series.IndexSeries.{IndexSeries}
+use Rattle.index_parts.specs.IndexFile.{IsSeriesOf, AreNumbersOf, IsOpened, IsIndex}
 use Rattle.index_v2.specs.Held.{Held, IsReaderOf, whole_file}
-use Rattle.block_files.specs.declared.block_files.BlockFiles.{BlockFiles}
+use Rattle.block_meta.specs.declared.block_files.BlockFiles.{BlockFiles}
 use Rattle.block_writing.specs.Put.{PutChunk, PutSeries}
 use Rattle.block_writing.specs.Writing.{chunk_in}
 use Rattle.block_writing.proofs.Tested.{refused_at}

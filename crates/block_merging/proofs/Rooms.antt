@@ -2,7 +2,7 @@
 use Rattle.std.proofs.Common.{◌≡◌, ℕ, ◌+◌, ◌<◌, ◌≤◌, List, length, take, get_or, sum_by, ap, subst, arith}
 use Rattle.std.proofs.lemmas.List.{take_all}
 use Rattle.block_content.proofs.ChunkWalks.{front}
-use Rattle.list_core.proofs.Lists.{sum_by-push}
+use Rattle.base.proofs.Lists.{sum_by-push}
 
 -- with one more of a list, of which at most so many are counted
 pub counted_more : {X : Type 0} (size : X → ℕ) (all : List X) (k so_far more : ℕ) (one d : X) → so_far ≤ sum_by size (take k all) → k < length all → one ≡ get_or all k d → more ≤ so_far + size one → more ≤ sum_by size (take (k + 1) all)

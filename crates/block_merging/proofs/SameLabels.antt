@@ -6,8 +6,8 @@ use Rattle.std.specs.Ordering.{ordering_then, is_eq}
 use Rattle.std.specs.Cmp.Lexicographic.{texts_ties}
 use Rattle.std.specs.Str.{bytes_eq}
 use Rattle.std.proofs.lemmas.List.{take_more, take_all, length-map, length-take-le}
-use Rattle.list_core.proofs.Lists.{take_none}
-use Rattle.list_core.proofs.Bools.{Equal-from_is_eq}
+use Rattle.base.proofs.Lists.{take_none}
+use Rattle.base.proofs.Bools.{Equal-from_is_eq}
 use Rattle.label_sets.specs.Labels.{compare_texts, compare_labels, compare_sets}
 use Rattle.label_sets.proofs.LabelValues.{same_set}
 use Rattle.index_v2.specs.declared.lent_label.LentLabel.{LentLabel}

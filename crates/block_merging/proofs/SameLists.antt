@@ -3,9 +3,9 @@ use Rattle.std.proofs.Common.{◌≡◌, Bool, true, List, [], ◌∷◌, ◌++�
 use Rattle.std.specs.Prelude.{Contains}
 use Rattle.std.specs.List.{AllZip, filter}
 use Rattle.std.proofs.lemmas.Bool.{true≢false}
-use Rattle.list_core.proofs.Bools.{by_bool}
-use Rattle.list_core.proofs.Lists.{filter_hit, filter_miss}
-use Rattle.list_core.proofs.Membership.{no_member, contains_first, contains_later, member_cases}
+use Rattle.base.proofs.Bools.{by_bool}
+use Rattle.base.proofs.Lists.{filter_hit, filter_miss}
+use Rattle.base.proofs.Membership.{no_member, contains_first, contains_later, member_cases}
 
 module _ {A B : Type 0} (R : A → B → Type 0) where
   pub each_once : ((x : A) (y z : B) → R x y → R x z → y ≡ z) → (xs : List A) (ys zs : List B) → AllZip R xs ys → AllZip R xs zs → ys ≡ zs

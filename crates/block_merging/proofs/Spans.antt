@@ -8,11 +8,11 @@ use Rattle.std.proofs.lemmas.List.{append-nil, map-append}
 use Rattle.std.proofs.lemmas.List.Elements.{All-from_recursion, filter-append, Contains-append_left, Contains-append_right, Contains-append_cases}
 use Rattle.std.proofs.lemmas.List.Kept.{AllPairs-cons}
 use Rattle.std.proofs.lemmas.Bool.{and_from, and_left, and_right}
-use Rattle.list_core.specs.Ordered.{in_order}
-use Rattle.list_core.proofs.Lists.{AllByRecursion-append, AllByRecursion-weaker, filter-map, AllByRecursion-append_right}
-use Rattle.list_core.proofs.Membership.{no_member, contains_first, contains_later, each_member, all_members, of_in_order, into_in_order, of_map, into_map, filter_whole, filter_nothing}
-use Rattle.list_core.proofs.Integers.{le_itself}
-use Rattle.list_core.specs.Lists.{joined}
+use Rattle.base.specs.Ordered.{in_order}
+use Rattle.base.proofs.Lists.{AllByRecursion-append, AllByRecursion-weaker, filter-map, AllByRecursion-append_right}
+use Rattle.base.proofs.Membership.{no_member, contains_first, contains_later, each_member, all_members, of_in_order, into_in_order, of_map, into_map, filter_whole, filter_nothing}
+use Rattle.base.proofs.Integers.{le_itself}
+use Rattle.base.specs.Lists.{joined}
 use Rattle.block_writing.specs.Put.{PutChunk}
 use Rattle.block_merging.specs.Runs.{AreConnected, Span, lies_in, AreRuns}
 use Rattle.block_merging.specs.Steps.{EndBefore}

@@ -4,9 +4,9 @@ use Rattle.std.specs.Int.{w32}
 use Rattle.std.specs.List.{AllByRecursion}
 use Rattle.std.proofs.Math.Seq.{take-append_seam}
 use Rattle.std.proofs.lemmas.List.{length-append}
-use Rattle.list_core.proofs.Membership.{all_members}
-use Rattle.reading_core.specs.Grammar.{IsBytes}
-use Rattle.reading_core.proofs.Binds.{ok_is}
+use Rattle.base.proofs.Membership.{all_members}
+use Rattle.base.specs.Grammar.{IsBytes}
+use Rattle.base.proofs.Binds.{ok_is}
 use Rattle.wire_bytes.specs.Crc.{crc}
 use Rattle.wire_bytes.specs.FieldTexts.{IsFixed}
 use Rattle.wire_bytes.specs.Position.{Position, left, further, start}
@@ -16,9 +16,9 @@ use Rattle.wire_bytes.proofs.FieldLaws.{uvarint_again, left_after}
 use Rattle.chunk_files.specs.Chunk.{IsFront, IsPlace}
 use Rattle.chunk_files.specs.Layout.{xor}
 use Rattle.chunk_files.proofs.ChunkLaws.{chunk_again, too_far}
-use Rattle.index_file.specs.declared.index_series.IndexSeries.{IndexSeries}
-use Rattle.index_file.specs.IndexFile.{IsIndex}
-use Rattle.block_files.specs.declared.block_files.BlockFiles.{BlockFiles}
+use Rattle.index_parts.specs.declared.index_series.IndexSeries.{IndexSeries}
+use Rattle.index_parts.specs.IndexFile.{IsIndex}
+use Rattle.block_meta.specs.declared.block_files.BlockFiles.{BlockFiles}
 use Rattle.block_content.specs.Content.{IsChunkOf, HoldsSeries}
 use Rattle.block_merging.specs.Inputs.{HasContent}
 use Rattle.block_merging.specs.Queues.{IsStanding, HasStanding}

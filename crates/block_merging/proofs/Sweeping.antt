@@ -8,13 +8,13 @@ use Rattle.std.proofs.lemmas.Bool.{true≢false}
 use Rattle.std.proofs.lemmas.Grind.{flat_map-append}
 use Rattle.std.proofs.lemmas.List.{map-append, get_or-drop, get_or-take, drop-drop, length-take, length-drop, length-map, nil_from_length, take_all}
 use borrow.Author.Count.{below_more}
-use Rattle.list_core.specs.Ordered.{in_order}
-use Rattle.list_core.proofs.Lists.{drop_none, joined-push}
-use Rattle.list_core.proofs.Membership.{no_member, contains_first, contains_later, each_member, all_members, of_in_order, into_in_order, of_map, into_map}
-use Rattle.list_core.proofs.StableSorts.{NoneLess, Rises, Rises-in_order}
-use Rattle.list_core.proofs.Integers.{le_itself, lt_le}
-use Rattle.list_core.proofs.Pairs.{AllZip-append}
-use Rattle.list_core.specs.Lists.{joined}
+use Rattle.base.specs.Ordered.{in_order}
+use Rattle.base.proofs.Lists.{drop_none, joined-push}
+use Rattle.base.proofs.Membership.{no_member, contains_first, contains_later, each_member, all_members, of_in_order, into_in_order, of_map, into_map}
+use Rattle.base.proofs.StableSorts.{NoneLess, Rises, Rises-in_order}
+use Rattle.base.proofs.Integers.{le_itself, lt_le}
+use Rattle.base.proofs.Pairs.{AllZip-append}
+use Rattle.base.specs.Lists.{joined}
 use Rattle.label_sets.specs.declared.label.Label.{Label}
 use Rattle.label_sets.specs.declared.sample.Sample.{Sample}
 use Rattle.block_meta.specs.Lawful.{AreLawfulTimes}

@@ -7,7 +7,7 @@ use borrow.Author.Count.{below_more}
 use Rattle.block_merging.specs.declared.placed_chunk.PlacedChunk.{PlacedChunk}
 use Rattle.block_merging.specs.Placed.{placed_chunk, AreByBegin}
 use Rattle.block_merging.specs.Runs.{Meet}
-use Rattle.list_core.proofs.Integers.{le_le}
+use Rattle.base.proofs.Integers.{le_le}
 
 abbrev at : List PlacedChunk → ℕ → PlacedChunk → PlacedChunk
 at chunks k d = get_or chunks k d

@@ -7,12 +7,12 @@ use Rattle.std.specs.Ordering.{nat_cmp, ordering_reverse}
 use Rattle.std.specs.declared.cmp.Ordering.TheVariants.{Less, Greater}
 use Rattle.std.proofs.lemmas.Cmp.{nat_cmp_total}
 use Rattle.std.proofs.lemmas.Map.Keys.{sorted_from_strictly_increasing}
-use Rattle.list_core.proofs.Membership.{of_map, into_map}
-use Rattle.list_core.proofs.SameMembers.{same_ascending}
+use Rattle.base.proofs.Membership.{of_map, into_map}
+use Rattle.base.proofs.SameMembers.{same_ascending}
 use Rattle.index_parts.specs.declared.postings_row.PostingsRow.{PostingsRow}
-use Rattle.index_file.specs.Opened.{Opened}
-use Rattle.index_file.specs.declared.index_series.IndexSeries.{IndexSeries}
-use Rattle.index_file.specs.IndexFile.{AreListed, AreSeriesOf, AreNumbersOf}
+use Rattle.index_parts.specs.Opened.{Opened}
+use Rattle.index_parts.specs.declared.index_series.IndexSeries.{IndexSeries}
+use Rattle.index_parts.specs.IndexFile.{AreListed, AreSeriesOf, AreNumbersOf}
 use Rattle.index_v2.proofs.ListNumbers.{numbers_small, none_small, listed_rises}
 
 abbrev first_of : ℕ × IndexSeries → ℕ

@@ -8,16 +8,16 @@ use Rattle.std.specs.declared.cmp.Ordering.TheVariants.{Less}
 use Rattle.std.specs.Ordering.{is_lt}
 use Rattle.std.proofs.lemmas.List.{take_more, take_all, length-map}
 use Rattle.std.proofs.lemmas.List.Sorted.{ranks_by}
-use Rattle.list_core.specs.Ordered.{in_order}
-use Rattle.list_core.proofs.Lists.{take_none, AllByRecursion-push}
-use Rattle.list_core.proofs.StableSorts.{NoneLess, Rises, Rises-in_order, filter-in_order, same_in_order}
+use Rattle.base.specs.Ordered.{in_order}
+use Rattle.base.proofs.Lists.{take_none, AllByRecursion-push}
+use Rattle.base.proofs.StableSorts.{NoneLess, Rises, Rises-in_order, filter-in_order, same_in_order}
 use Rattle.label_sets.specs.declared.label.Label.{Label}
 use Rattle.label_sets.specs.Labels.{compare_sets}
 use Rattle.label_sets.specs.Finals.{reduced_of}
 use Rattle.label_sets.proofs.FinalLabels.{reduced-nil}
 use Rattle.vertical_merge.proofs.Orders.{sets_total}
-use Rattle.index_file.specs.declared.index_series.IndexSeries.{IndexSeries}
-use Rattle.index_file.specs.IndexFile.{compare_series, IsIndex}
+use Rattle.index_parts.specs.declared.index_series.IndexSeries.{IndexSeries}
+use Rattle.index_parts.specs.IndexFile.{compare_series, IsIndex}
 use Rattle.index_v2.specs.declared.lent_label.LentLabel.{LentLabel}
 use Rattle.index_v2.specs.LentLabels.{as_label}
 use Rattle.block_merging.specs.declared.listing.SeriesPlace.{SeriesPlace}

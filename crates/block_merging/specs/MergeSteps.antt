@@ -4,13 +4,13 @@ use Rattle.std.specs.List.{AllByRecursion}
 use Rattle.label_sets.specs.Counts.{sample_count}
 use Rattle.label_sets.specs.declared.label.Label.{Label}
 use Rattle.label_sets.specs.declared.series.Series.{Series}
-use Rattle.block_files.specs.declared.block_files.BlockFiles.{BlockFiles}
+use Rattle.block_meta.specs.declared.block_files.BlockFiles.{BlockFiles}
 use Rattle.block_content.specs.ContentReading.{fitted}
 use Rattle.block_content.specs.ContentRefusals.{RefusesContent}
 use Rattle.block_content.specs.declared.check_refusal.CheckRefusal.{CheckRefusal}
 use Rattle.block_content.specs.declared.check_refusal.CheckRefusal.TheVariants as check
 use Rattle.block_writing.specs.Put.{PutChunk, PutSeries, PlanFields, Put}
-use Rattle.block_laws.specs.PutContent.{AreSeriesOf}
+use Rattle.block_merging.specs.PutContent.{AreSeriesOf}
 use Rattle.block_merging.specs.declared.merge_refusal.MergeRefusal.{MergeRefusal}
 use Rattle.block_merging.specs.declared.merge_refusal.MergeRefusal.TheVariants.{Input, NoMemory}
 use Rattle.block_merging.specs.Inputs.{HasContent, IsFirstRefused}

@@ -8,12 +8,12 @@ use Rattle.label_sets.specs.Labels.{compare_sets}
 use Rattle.label_sets.specs.declared.label.Label.{Label}
 use Rattle.label_sets.specs.declared.series.Series.{Series}
 use Rattle.block_meta.specs.declared.block_plan.BlockPlan.{BlockPlan}
-use Rattle.block_files.specs.declared.block_files.BlockFiles.{BlockFiles}
+use Rattle.block_meta.specs.declared.block_files.BlockFiles.{BlockFiles}
 use Rattle.block_writing.specs.Put.{PutChunk, PutSeries, Put}
 use Rattle.block_writing.specs.Files.{HaveNoIndex}
 use Rattle.block_writing.specs.Writing.{plan_fields}
 use Rattle.block_writing.specs.WrittenMeta.{IsWritten}
-use Rattle.block_laws.specs.PutContent.{AreSeriesOf}
+use Rattle.block_merging.specs.PutContent.{AreSeriesOf}
 use Rattle.block_merging.specs.Inputs.{HasContent, AreTaken}
 use Rattle.block_merging.specs.MergedSeries.{IsMergedSeries}
 

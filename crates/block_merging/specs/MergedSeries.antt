@@ -7,7 +7,7 @@ use Rattle.label_sets.specs.Triples.{triples_under}
 use Rattle.vertical_merge.specs.Merged.{IsMerge}
 use Rattle.block_writing.specs.Put.{PutChunk, PutSeries, Put, fitted}
 use Rattle.block_writing.specs.Built.{IsPutAs}
-use Rattle.block_laws.specs.PutContent.{IsSeriesOf}
+use Rattle.block_merging.specs.PutContent.{IsSeriesOf}
 use Rattle.block_merging.specs.Runs.{AreRuns}
 
 -- The samples for which the chunks stand, one chunk after another, are merged, and put part by part as chunks.

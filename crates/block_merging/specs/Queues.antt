@@ -2,19 +2,19 @@
 use Rattle.std.specs.Prelude.{◌≡◌, ◌≢◌, ℕ, ◌+◌, ◌<◌, ◌≤◌, nat_lt, List, [], ◌∷◌, ◌++◌, map, drop, length, slice_index_or, Bool, false, ◌&&◌, Option, None, Some, Contains, if◌then◌else◌}
 use Rattle.std.specs.List.{filter, flat_map, AllByRecursion}
 use Rattle.std.specs.Ordering.{is_lt, is_eq}
-use Rattle.list_core.specs.Ordered.{in_order, Rises}
-use Rattle.list_core.specs.Lists.{joined}
-use Rattle.reading_core.specs.Grammar.{IsBytes}
+use Rattle.base.specs.Ordered.{in_order, Rises}
+use Rattle.base.specs.Lists.{joined}
+use Rattle.base.specs.Grammar.{IsBytes}
 use Rattle.label_sets.specs.declared.label.Label.{Label}
 use Rattle.label_sets.specs.Labels.{compare_sets, IsLabelSet}
 use Rattle.label_sets.specs.Finals.{reduced_of}
 use Rattle.index_parts.specs.declared.chunk_place.ChunkPlace.{ChunkPlace}
-use Rattle.index_file.specs.Opened.{Opened}
-use Rattle.index_file.specs.declared.index_series.IndexSeries.{IndexSeries}
-use Rattle.index_file.specs.IndexFile.{IsSeriesOf, IsIndex}
+use Rattle.index_parts.specs.Opened.{Opened}
+use Rattle.index_parts.specs.declared.index_series.IndexSeries.{IndexSeries}
+use Rattle.index_parts.specs.IndexFile.{IsSeriesOf, IsIndex}
 use Rattle.index_v2.specs.Held.{Held, whole_file}
 use Rattle.index_v2.specs.LentLabels.{as_label}
-use Rattle.block_files.specs.declared.block_files.BlockFiles.{BlockFiles}
+use Rattle.block_meta.specs.declared.block_files.BlockFiles.{BlockFiles}
 use Rattle.block_content.specs.Content.{StandsAt}
 use Rattle.block_writing.specs.Put.{PutChunk, PutSeries}
 use Rattle.block_writing.specs.Writing.{chunk_in}

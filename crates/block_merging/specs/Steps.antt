@@ -3,8 +3,8 @@ use Rattle.std.specs.Prelude.{◌≡◌, ◌+◌, List, [], ◌∷◌, ◌++◌,
 use Rattle.std.specs.List.{AllByRecursion, AllZip}
 use Rattle.label_sets.specs.declared.label.Label.{Label}
 use Rattle.label_sets.specs.declared.sample.Sample.{Sample}
-use Rattle.list_core.specs.Ordered.{in_order}
-use Rattle.list_core.specs.Lists.{joined}
+use Rattle.base.specs.Ordered.{in_order}
+use Rattle.base.specs.Lists.{joined}
 use Rattle.block_writing.specs.Put.{PutChunk, Put, IsAfterChunks, fitted}
 use Rattle.block_writing.specs.Built.{StandsFor}
 use Rattle.block_merging.specs.declared.placed_chunk.PlacedChunk.{PlacedChunk}

@@ -1,8 +1,8 @@
 //! The merge of blocks.
 ghost use Rattle.std.specs.Prelude.{◌≡◌, ◌⊎◌, ℕ, ◌<◌, ◌≤◌, ◌^◌, [], map, length, sum_by, Err, IfOk, IfErr, OnOk};
 ghost use Rattle.std.specs.List.{AllByRecursion};
-ghost use Rattle.list_core.specs.Ordered.{Rises};
-ghost use Rattle.list_core.specs.Lists.{joined};
+ghost use Rattle.base.specs.Ordered.{Rises};
+ghost use Rattle.base.specs.Lists.{joined};
 ghost use Rattle.label_sets.specs.Labels.{IsLabelSet};
 ghost use Rattle.index_v2.specs.LentLabels.{as_label};
 ghost use Rattle.block_meta.specs.Lawful.{AreLawfulTimes};
@@ -24,12 +24,11 @@ use crate::input_chunk::InputChunk;
 use crate::queues::all_queues;
 use crate::series_merge::merge_series;
 use crate::series_queue::SeriesQueue;
-use block_files::{BlockFiles, BuildRefusal};
-use block_meta::BlockPlan;
+use base::{NoMemory, TryCopy};
+use block_meta::{BlockFiles, BlockPlan, BuildRefusal};
 use block_writing::BlockWriter;
 use index_v2::{LentLabel, set_of};
 use label_sets::{LabelSet, TextList};
-use list_core::{NoMemory, TryCopy};
 use std::alloc::Global;
 use wire_bytes::Blob;
 

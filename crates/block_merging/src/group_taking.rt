@@ -1,17 +1,17 @@
 //! The series that come next in the order of their labels, of all blocks.
 ghost use Rattle.std.specs.Prelude.{◌≡◌, map, option_map, IfOk, OnOk};
 ghost use Rattle.std.specs.List.{AllByRecursion};
-ghost use Rattle.list_core.specs.Ordered.{Rises};
-ghost use Rattle.list_core.specs.Lists.{joined};
+ghost use Rattle.base.specs.Ordered.{Rises};
+ghost use Rattle.base.specs.Lists.{joined};
 ghost use Rattle.index_v2.specs.LentLabels.{as_label};
 ghost use Rattle.block_merging.specs.Placed.{chunk_of};
 ghost use Rattle.block_merging.specs.Queues.{IsQueue, have_lesser_labels, lesser, lefts_in, LeastIs, TakesGroup};
 
 use crate::input_chunk::InputChunk;
 use crate::series_queue::{SeriesQueue, next_labels, take_front};
+use base::NoMemory;
 use index_v2::{LentLabel, compare_lent};
 use label_sets::{LabelSet, TextList};
-use list_core::NoMemory;
 use std::alloc::Global;
 
 /// The lesser labels, or those that are there.

@@ -7,8 +7,8 @@ ghost use Rattle.block_merging.specs.Queues.{IsStanding};
 
 use crate::input_chunk::InputChunk;
 use crate::standing_data::chunk_data;
+use base::NoMemory;
 use index_parts::ChunkPlace;
-use list_core::NoMemory;
 use wire_bytes::Blob;
 
 fn input_chunk<'a>(segments: &'a [Blob], place: &ChunkPlace) -> InputChunk<'a>

@@ -5,9 +5,9 @@ ghost use Rattle.label_sets.specs.Labels.{compare_labels, compare_sets};
 ghost use Rattle.label_sets.specs.Finals.{reduced_of};
 ghost use Rattle.index_v2.specs.LentLabels.{as_label};
 
+use base::NoMemory;
 use index_v2::LentLabel;
 use label_sets::{LabelSet, TextList, is_among};
-use list_core::NoMemory;
 use std::alloc::Global;
 
 /// Whether a label's name is neither that of an external label nor a replica label.

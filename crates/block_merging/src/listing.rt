@@ -2,16 +2,16 @@
 ghost use Rattle.std.specs.Prelude.{◌≡◌, ◌^◌, ◌<◌, All, length, map, zip, IfOk, IsTrue, OnOk};
 ghost use Rattle.std.specs.List.{AllByRecursion};
 ghost use Rattle.std.specs.List.Sorted.{IsStrictlySortedBy};
-ghost use Rattle.list_core.specs.Ordered.{in_order};
+ghost use Rattle.base.specs.Ordered.{in_order};
 ghost use Rattle.label_sets.specs.Finals.{reduced_of};
-ghost use Rattle.index_file.specs.IndexFile.{compare_series};
+ghost use Rattle.index_parts.specs.IndexFile.{compare_series};
 ghost use Rattle.index_v2.specs.LentLabels.{as_label};
 ghost use Rattle.block_merging.specs.Queues.{listed_pair, place_pair, LosesNothing, IsReducedAs, is_listed_before, is_reduced_before, AreListed};
 
 use crate::lent_labels::{is_kept, reduced_lent};
+use base::NoMemory;
 use index_v2::{LentLabel, LentSeries, compare_lent};
 use label_sets::{LabelSet, TextList};
-use list_core::NoMemory;
 use std::alloc::Global;
 use std::snapshot::Snapshot;
 

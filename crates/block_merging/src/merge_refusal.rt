@@ -15,10 +15,10 @@ pub enum MergeRefusal {
     NoMemory,
 }
 
-impl From<list_core::NoMemory> for MergeRefusal {
+impl From<base::NoMemory> for MergeRefusal {
     ghost from_gives = { λ _ e. e ≡ WithoutMemory };
 
-    fn from(_: list_core::NoMemory) -> Self {
+    fn from(_: base::NoMemory) -> Self {
         MergeRefusal::NoMemory
     }
 }

@@ -3,8 +3,7 @@ ghost use Rattle.std.specs.Prelude.{IsTrue, ◌↔◌};
 ghost use Rattle.std.specs.List.{AllByRecursion};
 ghost use Rattle.block_merging.specs.Inputs.{LiesWithin};
 
-use block_files::BlockFiles;
-use block_meta::BlockPlan;
+use block_meta::{BlockFiles, BlockPlan};
 
 fn lies_within(plan: &BlockPlan, block: &BlockFiles) -> bool
     ensures { IsTrue result ↔ LiesWithin plan.now block.now }

@@ -1,10 +1,10 @@
 //! Chunks with their places in the list in which they were given.
 ghost use Rattle.std.specs.Prelude.{◌≡◌, IfOk, OnOk};
-ghost use Rattle.list_core.specs.Ordered.{in_order};
+ghost use Rattle.base.specs.Ordered.{in_order};
 ghost use Rattle.block_merging.specs.Placed.{placed_from, begins_before, stands_before};
 
 use crate::input_chunk::InputChunk;
-use list_core::NoMemory;
+use base::NoMemory;
 use std::alloc::Global;
 
 /// A chunk, and its place in the list in which it was given.

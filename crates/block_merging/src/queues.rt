@@ -1,9 +1,9 @@
 //! The series of the blocks that are merged, each block's in the order of their reduced labels.
 ghost use Rattle.std.specs.Prelude.{◌≡◌, ℕ, List, [], IfOk};
 ghost use Rattle.std.specs.List.Sorted.{IsStrictlyIncreasing};
-ghost use Rattle.index_file.specs.Opened.{Opened};
-ghost use Rattle.index_file.specs.IndexFile.{IsOpened, IsIndex, AreNumbersOf};
-ghost use Rattle.index_file.specs.declared.index_series.IndexSeries.{IndexSeries};
+ghost use Rattle.index_parts.specs.Opened.{Opened};
+ghost use Rattle.index_parts.specs.IndexFile.{IsOpened, IsIndex, AreNumbersOf};
+ghost use Rattle.index_parts.specs.declared.index_series.IndexSeries.{IndexSeries};
 ghost use Rattle.index_v2.specs.Held.{IsReaderOf, whole_file};
 ghost use Rattle.block_merging.specs.MergeSteps.{IsTest, AreTests, refused_input};
 ghost use Rattle.block_merging.specs.Queues.{IsOpenedIndex, HasQueue, HasQueues};
@@ -11,11 +11,11 @@ ghost use Rattle.block_merging.specs.Queues.{IsOpenedIndex, HasQueue, HasQueues}
 use crate::MergeRefusal;
 use crate::listing::ordered_places;
 use crate::series_queue::{SeriesQueue, next_of};
+use base::NoMemory;
 use block_content::{CheckRefusal, test_content};
-use block_files::BlockFiles;
+use block_meta::BlockFiles;
 use index_v2::IndexReader;
 use label_sets::{LabelSet, TextList};
-use list_core::NoMemory;
 use std::alloc::Global;
 use wire_bytes::NumberList;
 

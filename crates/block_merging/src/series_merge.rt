@@ -1,7 +1,7 @@
 //! The merge of the chunks of one series.
 ghost use Rattle.std.specs.Prelude.{◌≡◌, ◌≢◌, ◌<◌, ◌^◌, ◌++◌, ◌∷◌, [], List, map, length, IfOk, OnOk};
 ghost use Rattle.std.specs.List.{AllByRecursion, AllZip};
-ghost use Rattle.list_core.specs.Lists.{joined};
+ghost use Rattle.base.specs.Lists.{joined};
 ghost use Rattle.label_sets.specs.declared.label.Label.{Label};
 ghost use Rattle.label_sets.specs.declared.sample.Sample.{Sample};
 ghost use Rattle.label_sets.specs.declared.series.Series.{Series};
@@ -19,9 +19,9 @@ ghost use Rattle.block_merging.specs.Steps.{run_in, HasRun, HasRuns, HasSwept};
 use crate::input_chunk::InputChunk;
 use crate::placed_chunk::{PlacedChunk, placed_chunks, sort_by_begin, sort_by_place};
 use crate::runs::first_run;
+use base::{List, NoMemory, TryCopy};
 use block_writing::{BlockWriter, put_parts};
 use label_sets::{LabelSet, Sample, Series, SeriesList};
-use list_core::{List, NoMemory, TryCopy};
 use std::alloc::Global;
 use vertical_merge::Merger;
 use xor_chunks::append_stored;

@@ -1,11 +1,11 @@
 //! The series of one block that are still to be merged.
 ghost use Rattle.std.specs.Prelude.{◌≡◌, ◌<◌, ℕ, List, length, map, option_map, IfOk, OnOk};
 ghost use Rattle.std.specs.List.{AllByRecursion};
-ghost use Rattle.list_core.specs.Ordered.{Rises};
+ghost use Rattle.base.specs.Ordered.{Rises};
 ghost use Rattle.label_sets.specs.declared.label.Label.{Label};
-ghost use Rattle.index_file.specs.IndexFile.{IsSeriesOf};
+ghost use Rattle.index_parts.specs.IndexFile.{IsSeriesOf};
 ghost use Rattle.index_v2.specs.LentLabels.{as_label};
-ghost use Rattle.index_file.specs.declared.index_series.IndexSeries.{IndexSeries};
+ghost use Rattle.index_parts.specs.declared.index_series.IndexSeries.{IndexSeries};
 ghost use Rattle.block_merging.specs.Placed.{chunk_of};
 ghost use Rattle.block_merging.specs.Queues.{IsRead, IsNext, IsQueue, HasAdvanced, IsFrontOf, have_lesser_labels, left_in, LeastIs, head_is};
 
@@ -13,11 +13,11 @@ use crate::input_chunk::InputChunk;
 use crate::lent_chunks::add_chunks;
 use crate::lent_labels::{are_same, kept_lent};
 use crate::listing::SeriesPlace;
-use block_files::BlockFiles;
+use base::NoMemory;
+use block_meta::BlockFiles;
 use index_parts::ChunkPlace;
 use index_v2::{IndexReader, LentLabel, LentSeries};
 use label_sets::{LabelSet, TextList};
-use list_core::NoMemory;
 use std::alloc::Global;
 use std::mem::replace;
 

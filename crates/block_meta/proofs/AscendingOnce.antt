@@ -8,9 +8,9 @@ use Rattle.std.proofs.lemmas.Cmp.{nat_cmp_total}
 use Rattle.std.proofs.lemmas.List.Elements.{All-contains, All-contains_itself, All-head, All-nil, All-tail, All-from_recursion, recursion_from_All}
 use Rattle.std.proofs.lemmas.Map.Views.{All-insert_key}
 use Rattle.std.proofs.lemmas.Map.Keys.{sorted_from_strictly_increasing, IsStrictlyIncreasing-from_sorted}
-use Rattle.list_core.proofs.Bools.{nat_cmp-Less, lt-from_Less, same-from_Equal, gt-from_Greater}
-use Rattle.list_core.proofs.Lists.{AllByRecursion-weaker}
-use Rattle.list_core.proofs.Membership.{contains_first, contains_later, no_member, member_cases, each_member}
+use Rattle.base.proofs.Bools.{nat_cmp-Less, lt-from_Less, same-from_Equal, gt-from_Greater}
+use Rattle.base.proofs.Lists.{AllByRecursion-weaker}
+use Rattle.base.proofs.Membership.{contains_first, contains_later, no_member, member_cases, each_member}
 use Rattle.block_meta.specs.Lawful.{ascending}
 
 first_in : (x u : ℕ) (xs : List ℕ) → x ≡ u → Contains (x ∷ xs) u

@@ -7,7 +7,7 @@ use Rattle.std.specs.List.Sorted.{IsStrictlySortedBy}
 use Rattle.std.proofs.lemmas.List.{length-append}
 use Rattle.std.proofs.lemmas.List.Elements.{Contains-append_left, Contains-append_right, Contains-append_cases}
 use Rattle.std.proofs.lemmas.Map.Keys.{sorted_from_strictly_increasing}
-use Rattle.list_core.proofs.Membership.{contains_first, contains_later, no_member, member_cases}
+use Rattle.base.proofs.Membership.{contains_first, contains_later, no_member, member_cases}
 use Rattle.label_sets.specs.declared.label.Label.{Label}
 use Rattle.label_sets.specs.Labels.{IsLabelSet, StandsBefore, value_of, names_of}
 use Rattle.label_sets.proofs.LabelValues.{before_differs, value_hit, value_miss}

@@ -2,8 +2,8 @@
 use Rattle.std.proofs.Common.{◌≡◌, ◌≢◌, ℕ, List, [], ◌∷◌, true, false, Option, Some, None, is_some, option_and_then, Ok, Err, ◌⊎◌, inl, inr, refl, ap, arith}
 use Rattle.std.specs.Option.{ok_or}
 use Rattle.std.proofs.lemmas.Bool.Decides.{nat_tests}
-use Rattle.reading_core.specs.Reading.{◌>>=◌}
-use Rattle.reading_core.proofs.Bound.{OfValue, of_ok, of_err, of_weaker, of_bind, of_test, of_refused}
+use Rattle.base.specs.Reading.{◌>>=◌}
+use Rattle.base.proofs.Bound.{OfValue, of_ok, of_err, of_weaker, of_bind, of_test, of_refused}
 use Rattle.ulid_core.specs.UlidText as ulid
 use Rattle.ulid_core.proofs.UlidLaws.{ulid_of-found, ulid_of-only}
 use Rattle.serde_json.specs.Data.{Data, Num, null, number, unsigned, string, array, object, Items, no_items, item}

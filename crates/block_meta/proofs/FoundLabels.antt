@@ -4,12 +4,12 @@ use Rattle.std.specs.declared.cmp.Ordering.{Ordering}
 use Rattle.std.specs.declared.cmp.Ordering.TheVariants.{Less, Equal, Greater}
 use Rattle.std.specs.Option.{option_or}
 use Rattle.std.specs.Ordering.{match_ordering}
-use Rattle.list_core.proofs.Bools.{by_order}
-use Rattle.list_core.proofs.Lists.{some-from_length, length-some}
-use Rattle.list_core.proofs.Options.{some_not_none, None-from_is_some, option_map-Some}
-use Rattle.reading_core.specs.Reading.{◌>>=◌}
-use Rattle.reading_core.proofs.Binds.{ok_is, cond_ok}
-use Rattle.reading_core.proofs.Bound.{OfValue, of_ok, of_weaker, of_bind, of_refused}
+use Rattle.base.proofs.Bools.{by_order}
+use Rattle.base.proofs.Lists.{some-from_length, length-some}
+use Rattle.base.proofs.Options.{some_not_none, None-from_is_some, option_map-Some}
+use Rattle.base.specs.Reading.{◌>>=◌}
+use Rattle.base.proofs.Binds.{ok_is, cond_ok}
+use Rattle.base.proofs.Bound.{OfValue, of_ok, of_weaker, of_bind, of_refused}
 use Rattle.label_sets.specs.declared.label.Label.{Label}
 use Rattle.label_sets.specs.declared.label_refusal.LabelRefusal.{LabelRefusal}
 use Rattle.label_sets.specs.Labels.{compare_texts, IsLabelSet, has_lesser_name, value_of, added}

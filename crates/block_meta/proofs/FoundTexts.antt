@@ -3,8 +3,8 @@ use Rattle.std.proofs.Common.{◌≡◌, ℕ, ◌<◌, ◌^◌, List, Bool, true
 use Rattle.std.specs.Option.{ok_or}
 use Rattle.std.specs.Str.{IsUtf8, is_utf8}
 use Rattle.std.proofs.lemmas.Str.{IsUtf8-from_is_utf8}
-use Rattle.reading_core.specs.Reading.{◌>>=◌}
-use Rattle.reading_core.proofs.Bound.{OfValue, of_ok, of_err, of_weaker, of_bind, of_then, of_unless}
+use Rattle.base.specs.Reading.{◌>>=◌}
+use Rattle.base.proofs.Bound.{OfValue, of_ok, of_err, of_weaker, of_bind, of_then, of_unless}
 use Rattle.serde_json.specs.Data.{Data}
 use Rattle.serde_json.specs.Read.{read}
 use Rattle.serde_json.specs.Find.{as_object}

@@ -18,7 +18,7 @@ use Rattle.block_meta.specs.MetaReading.{labels_from, label_added}
 use Rattle.block_meta.specs.MetaText.{NamesDiffer}
 use Rattle.block_meta.specs.MetaValue.{label_members}
 use Rattle.block_meta.proofs.FoundLabels.{same_or_not, member_hit, member_miss, labels_read}
-use Rattle.list_core.proofs.Lists.{split_place}
+use Rattle.base.proofs.Lists.{split_place}
 
 abbrev Entry : Type 0
 Entry = String Global × Value

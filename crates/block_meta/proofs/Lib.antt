@@ -12,3 +12,5 @@ pub mod AscendingOnce
 pub mod Sizes
 pub mod FewMembers
 pub mod SameMetas
+pub mod Blocks
+pub mod JsonAgain

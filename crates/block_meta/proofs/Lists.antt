@@ -1,7 +1,7 @@
 -- A loop over a list of values: what was read so far is what reading the front gives, and the first refused item decides.
 use Rattle.std.proofs.Common.{◌≡◌, ℕ, suc, ◌+◌, ◌<◌, List, [], ◌∷◌, ◌++◌, length, take, get_or, ◌⊎◌, inl, inr, Ok, Err, All, refl, ap, ◌∙◌, arith}
 use Rattle.std.proofs.lemmas.List.{take_more}
-use Rattle.reading_core.proofs.Binds.{bind_ok, ok_is}
+use Rattle.base.proofs.Binds.{bind_ok, ok_is}
 use Rattle.serde_json.specs.Data.{Data}
 use Rattle.serde_json.specs.View.{view, items_view}
 use Rattle.serde_json.specs.declared.value.Value.{Value}
@@ -9,7 +9,7 @@ use Rattle.block_meta.specs.declared.refusal.MetaRefusal.{MetaRefusal}
 use Rattle.block_meta.specs.declared.refusal.MetaRefusal.TheVariants.{NoMemory}
 use Rattle.block_meta.specs.Members.{Read, each}
 use Rattle.block_meta.specs.MetaValue.{items_value}
-use Rattle.list_core.proofs.Lists.{split_place}
+use Rattle.base.proofs.Lists.{split_place}
 
 module _ {A : Type 0} (read : Data → Read A) where
   pub each_none : each read (items_view []) ≡ Ok []

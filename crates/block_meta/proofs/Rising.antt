@@ -3,7 +3,7 @@ use Rattle.std.proofs.Common.{◌≡◌, ℕ, ℤ, List, true, refl}
 use Rattle.std.specs.List.Sorted.{IsStrictlyIncreasing}
 use Rattle.block_meta.specs.Lawful.{ascending, AreLawfulTimes, are_lawful_times}
 use Rattle.block_meta.proofs.AscendingOnce.{ascending_only}
-use Rattle.list_core.proofs.Bools.{true-from_T}
+use Rattle.base.proofs.Bools.{true-from_T}
 
 pub ascending_already : (xs : List ℕ) → IsStrictlyIncreasing xs → ascending xs ≡ xs
 ascending_already xs rising = ascending_only xs xs rising (λ u. (λ c. c, λ c. c))

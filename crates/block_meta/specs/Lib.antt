@@ -1,4 +1,7 @@
-pub use Rattle.reading_core.specs.Reading
+pub use Rattle.base.specs.Reading
+pub use Rattle.label_sets.specs.Labels
+pub use Rattle.label_sets.specs.SetText
+pub use Rattle.block_keys.specs.Blocks
 pub mod Lawful
 pub mod Members
 pub mod MetaFields
@@ -7,3 +10,4 @@ pub mod MetaValue
 pub mod MetaText
 pub mod Bounds
 pub mod OfBlocks
+pub mod Built

@@ -2,7 +2,7 @@
 -- one decides. Members that have no field here are passed over.
 use Rattle.std.specs.Prelude.{ℕ, ℤ, nat_lt, pos, List, [], Ok, codes}
 use Rattle.std.specs.Option.{ok_or}
-use Rattle.reading_core.specs.Reading.{◌>>=◌, ◌>>◌, unless, refused_as}
+use Rattle.base.specs.Reading.{◌>>=◌, ◌>>◌, unless, refused_as}
 use Rattle.serde_json.specs.Data.{Data, Members, no_members, member}
 use Rattle.serde_json.specs.Find.{as_object}
 use Rattle.label_sets.specs.declared.label.Label.{Label}

@@ -3,8 +3,8 @@ ghost use Rattle.std.specs.List.Sorted.{IsStrictlyIncreasing};
 ghost use Rattle.block_meta.specs.Lawful.{AreLawfulTimes};
 
 use crate::ParentList;
+use base::{NoMemory, TryCopy};
 use label_sets::{LabelSet, Text};
-use list_core::{NoMemory, TryCopy};
 use std::alloc::Global;
 use ulid_core::{Ulid, UlidList};
 

@@ -8,8 +8,8 @@ use crate::json_values::{
 };
 use crate::sources::write_ulid;
 use crate::thanos::read_text_or_empty;
+use base::{NoMemory, TryCopy};
 use label_sets::Text;
-use list_core::{NoMemory, TryCopy};
 use serde_json::{Map, Value, put};
 use std::alloc::{AllocError, Global};
 use ulid_core::Ulid;
@@ -31,7 +31,7 @@ const LIMIT: u64 = 0x4000_0000_0000;
 
 impl DeletionMark {
     ghost use Rattle.std.specs.Prelude.{Ok, OnOk};
-    ghost use Rattle.reading_core.specs.Reading.{Gives};
+    ghost use Rattle.base.specs.Reading.{Gives};
     ghost use Rattle.serde_json.specs.View.{view};
     ghost use Rattle.block_meta.specs.declared.refusal.MetaRefusal.TheVariants.{NoMemory as WithoutMemory};
     ghost use Rattle.block_meta.specs.MetaFields.{MarkFields, mark_fields_of};

@@ -3,8 +3,8 @@ ghost use Rattle.std.specs.Prelude.{◌≡◌, ◌<◌, ◌^◌};
 use crate::MetaRefusal;
 use crate::item::Item;
 use crate::json_values::{count, needed_member, text, wrong_kind};
+use base::{List, NoMemory, TryCopy};
 use label_sets::Text;
-use list_core::{List, NoMemory, TryCopy};
 use serde_json::{Map, Value, put};
 use std::alloc::{AllocError, Global};
 

@@ -1,7 +1,7 @@
 //! Lists of a meta, and what stands in them.
 
 ghost use Rattle.std.specs.Prelude.{◌≡◌, ℕ, List, Ok, IfOk, OnOk, All};
-ghost use Rattle.reading_core.specs.Reading.{Gives};
+ghost use Rattle.base.specs.Reading.{Gives};
 ghost use Rattle.serde_json.specs.Data.{array};
 ghost use Rattle.serde_json.specs.View.{view, items_view};
 ghost use Rattle.block_meta.specs.declared.refusal.MetaRefusal.TheVariants.{NoMemory};
@@ -10,7 +10,7 @@ ghost use Rattle.block_meta.specs.MetaValue.{items_value};
 
 use crate::MetaRefusal;
 use crate::json_values::{items, member};
-use list_core::List;
+use base::List;
 use serde_json::Value;
 use std::alloc::{AllocError, Global};
 
@@ -19,7 +19,7 @@ pub(crate) trait Item: Drop {
     ghost use Rattle.std.specs.Prelude.{◌≡◌, ℕ, List, Ok, IfOk, OnOk};
     ghost use Rattle.serde_json.specs.Data.{Data};
     ghost use Rattle.block_meta.specs.Members.{Read};
-    ghost use Rattle.reading_core.specs.Reading.{Gives};
+    ghost use Rattle.base.specs.Reading.{Gives};
     ghost use Rattle.serde_json.specs.View.{view};
     ghost use Rattle.block_meta.specs.declared.refusal.MetaRefusal.TheVariants.{NoMemory};
 

@@ -1,7 +1,7 @@
 //! Members of a JSON object, each of the kind that its field has.
 
 ghost use Rattle.std.specs.Prelude.{◌≡◌, ◌⊎◌, Option, option_map};
-ghost use Rattle.reading_core.specs.Reading.{Gives, Answers};
+ghost use Rattle.base.specs.Reading.{Gives, Answers};
 ghost use Rattle.serde_json.specs.View.{view, items_view};
 ghost use Rattle.block_meta.specs.declared.refusal.MetaRefusal.TheVariants.{NoMemory, MissingField, WrongKind, BadUlid};
 ghost use Rattle.block_meta.specs.Members.{json_of, object_of, member_of, needed_of, section_of, of_kind, unsigned_of, signed_of, whole_of, text_of, ulid_of, version_of, count_of};

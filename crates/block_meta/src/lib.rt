@@ -1,13 +1,16 @@
-//! What a block says of itself beside its data: its meta and the mark of its deletion, as JSON.
+//! The `meta.json` of a block and its deletion mark, and the files that make a block.
 #![tactic(auto)]
 
+mod block_files;
 mod block_plan;
+mod build_refusal;
 mod compaction;
 mod deletion_mark;
 mod file_size;
 mod item;
 mod json_values;
 mod meta;
+mod objects;
 mod of_blocks;
 mod parent;
 mod refusal;
@@ -17,10 +20,13 @@ mod thanos;
 mod times;
 mod ulid_sets;
 
+pub use crate::{BlobList, BlockFiles};
 pub use block_plan::{BlockPlan, own_sources};
+pub use build_refusal::BuildRefusal;
 pub use deletion_mark::DeletionMark;
 pub use file_size::{FileSize, FileSizeList};
 pub use meta::{Meta, later_end};
+pub use objects::files_objects;
 pub use of_blocks::{mark_of, meta_of};
 pub use parent::{Parent, ParentList};
 pub use refusal::MetaRefusal;

@@ -11,8 +11,8 @@ use crate::stats::{Stats, write_stats};
 use crate::thanos::{Thanos, write_downsample, write_labels};
 use crate::times::Times;
 use crate::{FileSizeList, MetaRefusal, ParentList};
+use base::{NoMemory, TryCopy};
 use label_sets::{LabelSet, Text, TextList};
-use list_core::{NoMemory, TryCopy};
 use serde_json::{Map, Value, put};
 use std::alloc::{AllocError, Global};
 use ulid_core::{Ulid, UlidList};
@@ -48,7 +48,7 @@ pub struct Meta {
 impl Meta {
     ghost use Rattle.std.specs.Prelude.{[], Ok, IfOk, OnOk, FitsSigned, length};
     ghost use Rattle.std.specs.Int.{w64};
-    ghost use Rattle.reading_core.specs.Reading.{Gives};
+    ghost use Rattle.base.specs.Reading.{Gives};
     ghost use Rattle.serde_json.specs.View.{view};
     ghost use Rattle.block_meta.specs.declared.refusal.MetaRefusal.TheVariants.{NoMemory as WithoutMemory};
     ghost use Rattle.block_meta.specs.Bounds.{HasFew, HasFittingNumbers};

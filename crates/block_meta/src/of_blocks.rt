@@ -3,7 +3,7 @@ ghost use Rattle.block_meta.specs.MetaFields.{fields_of, mark_fields_of};
 ghost use Rattle.block_meta.specs.OfBlocks.{block_meta, block_mark};
 
 use crate::{DeletionMark, Meta, MetaRefusal};
-use list_core::NoMemory;
+use base::NoMemory;
 use std::alloc::Global;
 use ulid_core::Ulid;
 

@@ -4,7 +4,7 @@ use crate::MetaRefusal;
 use crate::item::Item;
 use crate::json_values::{as_signed, needed_member, ulid, wrong_kind};
 use crate::sources::write_ulid;
-use list_core::{List, NoMemory, TryCopy};
+use base::{List, NoMemory, TryCopy};
 use serde_json::{Map, Value, put};
 use std::alloc::{AllocError, Global};
 use ulid_core::Ulid;

@@ -23,10 +23,10 @@ pub enum MetaRefusal {
     NoMemory,
 }
 
-impl From<list_core::NoMemory> for MetaRefusal {
+impl From<base::NoMemory> for MetaRefusal {
     ghost from_gives = { λ _ e. e ≡ WithoutMemory };
 
-    fn from(_: list_core::NoMemory) -> Self {
+    fn from(_: base::NoMemory) -> Self {
         MetaRefusal::NoMemory
     }
 }

@@ -1,6 +1,6 @@
 ghost use Rattle.std.specs.Prelude.{◌≡◌, ◌<◌, ◌^◌, IfOk, OnOk};
 ghost use Rattle.std.specs.List.Sorted.{IsStrictlyIncreasing};
-ghost use Rattle.reading_core.specs.Reading.{Gives};
+ghost use Rattle.base.specs.Reading.{Gives};
 ghost use Rattle.serde_json.specs.View.{view};
 ghost use Rattle.block_meta.specs.declared.refusal.MetaRefusal.TheVariants.{NoMemory as WithoutMemory};
 ghost use Rattle.block_meta.specs.Lawful.{ascending};
@@ -13,7 +13,7 @@ use crate::MetaRefusal;
 use crate::item::{Item, read_list};
 use crate::json_values::ulid;
 use crate::ulid_sets::{add_all, ulids_in};
-use list_core::NoMemory;
+use base::NoMemory;
 use serde_json::Value;
 use std::alloc::{AllocError, Global};
 use std::collections::BTreeSet;

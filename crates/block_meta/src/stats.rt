@@ -1,5 +1,5 @@
 ghost use Rattle.std.specs.Prelude.{◌≡◌, ◌<◌, ◌^◌, IfOk};
-ghost use Rattle.reading_core.specs.Reading.{Gives};
+ghost use Rattle.base.specs.Reading.{Gives};
 ghost use Rattle.serde_json.specs.View.{view};
 ghost use Rattle.block_meta.specs.declared.refusal.MetaRefusal.TheVariants.{NoMemory};
 ghost use Rattle.block_meta.specs.MetaReading.{stats_of, stats_members_of};

@@ -1,5 +1,5 @@
 ghost use Rattle.std.specs.Prelude.{◌≡◌, ⊤, [], codes, Ok, MatchResult, IfOk, OnOk};
-ghost use Rattle.reading_core.specs.Reading.{Gives, Answers};
+ghost use Rattle.base.specs.Reading.{Gives, Answers};
 ghost use Rattle.serde_json.specs.Data.{string, object};
 ghost use Rattle.serde_json.specs.View.{view, members_view};
 ghost use Rattle.block_meta.specs.declared.refusal.MetaRefusal.TheVariants.{NoMemory};

@@ -1,5 +1,5 @@
 ghost use Rattle.std.specs.Prelude.{◌≡◌, ◌≤ℤ◌, pos, neg_ℤ, IfOk, IsTrue};
-ghost use Rattle.reading_core.specs.Reading.{Gives};
+ghost use Rattle.base.specs.Reading.{Gives};
 ghost use Rattle.serde_json.specs.View.{view};
 ghost use Rattle.label_sets.specs.Limits.{time_limit};
 ghost use Rattle.block_meta.specs.declared.refusal.MetaRefusal.TheVariants.{NoMemory};

@@ -7,7 +7,7 @@ ghost use Rattle.std.specs.List.Sorted.{IsStrictlyIncreasing};
 ghost use Rattle.block_meta.specs.Lawful.{ascending};
 
 use crate::Meta;
-use list_core::NoMemory;
+use base::NoMemory;
 use std::alloc::Global;
 use std::collections::BTreeSet;
 use ulid_core::{Ulid, UlidList};

@@ -6,9 +6,9 @@ use Rattle.std.specs.List.Sorted.{IsStrictlySortedBy}
 use Rattle.std.proofs.lemmas.List.{take_more, take_all, length-take}
 use Rattle.std.proofs.lemmas.List.Sums.{sum_by-append}
 use Rattle.std.proofs.lemmas.Option.{slice_get-map, slice_get_within}
-use Rattle.list_core.proofs.Lists.{slice_get-take}
-use Rattle.list_core.proofs.Order.{Less-at_places}
-use Rattle.list_core.proofs.Pairs.{AllZip-append, AllZip-as_long}
+use Rattle.base.proofs.Lists.{slice_get-take}
+use Rattle.base.proofs.Order.{Less-at_places}
+use Rattle.base.proofs.Pairs.{AllZip-append, AllZip-as_long}
 use Rattle.label_sets.specs.Counts.{sample_count}
 use Rattle.label_sets.specs.Labels.{compare_sets}
 use Rattle.label_sets.specs.declared.label.Label.{Label}
@@ -16,8 +16,8 @@ use Rattle.label_sets.specs.declared.series.Series.{Series}
 use Rattle.block_meta.specs.Lawful.{AreLawfulTimes}
 use Rattle.block_writing.specs.Put.{PlanFields, Put, IsAfterSeries, nothing_put}
 use Rattle.block_meta.specs.declared.block_plan.BlockPlan.{BlockPlan}
-use Rattle.block_files.specs.declared.block_files.BlockFiles.{BlockFiles}
-use Rattle.block_files.specs.declared.build_refusal.BuildRefusal.{BuildRefusal}
+use Rattle.block_meta.specs.declared.block_files.BlockFiles.{BlockFiles}
+use Rattle.block_meta.specs.declared.build_refusal.BuildRefusal.{BuildRefusal}
 use Rattle.block_writing.specs.Writing.{plan_fields}
 use Rattle.block_writing.specs.WrittenMeta.{IsWritten}
 use Rattle.block_writing.specs.Built.{AreOfBlock, AreBuildable, IsPutAs, HasMore, IsPutOf, IsBuilt}

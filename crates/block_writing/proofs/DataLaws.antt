@@ -9,11 +9,11 @@ use Rattle.wire_bytes.specs.Written.{uvarint_text}
 use Rattle.wire_bytes.proofs.GroupTexts.{few_groups}
 use Rattle.label_sets.specs.declared.sample.Sample.{Sample}
 use Rattle.label_sets.specs.Times.{times_of}
-use Rattle.wire_bits.specs.Bits.{bits_of}
+use Rattle.wire_bytes.specs.Bits.{bits_of}
 use Rattle.xor_chunks.specs.State.{State}
 use Rattle.xor_chunks.specs.Window.{Window}
 use Rattle.xor_chunks.specs.Grammar.{IsChange, unchanged, row_14, row_17, row_20, row_64, IsInWindow, IsValue, same_pattern, in_window, opens, AreOthers, AreRest, AreSamples, IsText}
-use Rattle.wire_bits.proofs.BitLists.{length-bits_of, length-bits_in}
+use Rattle.wire_bytes.proofs.BitLists.{length-bits_of, length-bits_in}
 use Rattle.chunk_files.specs.Layout.{header_size, greatest, xor}
 use Rattle.chunk_files.specs.Chunk.{frame_text}
 use Rattle.block_writing.specs.Put.{PlanFields, PutChunk, IsStored}

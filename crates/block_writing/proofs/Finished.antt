@@ -5,8 +5,8 @@ use Rattle.std.specs.List.{flat_map, AllZip}
 use Rattle.std.proofs.lemmas.List.{map-append, length-map, append-nil}
 use Rattle.block_meta.specs.declared.block_plan.BlockPlan.{BlockPlan}
 use Rattle.index_parts.specs.declared.chunk_place.ChunkPlace.{ChunkPlace}
-use Rattle.index_file.specs.declared.index_series.IndexSeries.{IndexSeries}
-use Rattle.index_file.specs.IndexFile.{IsIndex}
+use Rattle.index_parts.specs.declared.index_series.IndexSeries.{IndexSeries}
+use Rattle.index_parts.specs.IndexFile.{IsIndex}
 use Rattle.index_writing.specs.Written.{written}
 use Rattle.index_writing.specs.WriteSteps.{greatest}
 use Rattle.index_writing.specs.declared.write_refusal.IndexWriteRefusal.{IndexWriteRefusal}
@@ -21,9 +21,9 @@ use Rattle.block_writing.specs.Files.{place_times, put_times, IsListed, places_i
 use Rattle.block_writing.specs.WrittenMeta.{counts_of, meta_with, IsWritten}
 use Rattle.block_writing.specs.Refusals.{build_refusal}
 use Rattle.block_writing.proofs.OneText.{one_index}
-use Rattle.block_files.specs.declared.block_files.BlockFiles.{BlockFiles}
-use Rattle.block_files.specs.declared.build_refusal.BuildRefusal.{BuildRefusal}
-use Rattle.block_files.specs.declared.build_refusal.BuildRefusal.TheVariants.{TooLarge, NoMemory}
+use Rattle.block_meta.specs.declared.block_files.BlockFiles.{BlockFiles}
+use Rattle.block_meta.specs.declared.build_refusal.BuildRefusal.{BuildRefusal}
+use Rattle.block_meta.specs.declared.build_refusal.BuildRefusal.TheVariants.{TooLarge, NoMemory}
 
 times_same : (segments : List (List ℕ)) (chunks : List ChunkPlace) → map place_times chunks ≡ map put_times (map (chunk_in segments) chunks)
 times_same segments [] = refl

@@ -3,17 +3,17 @@ use Rattle.std.proofs.Common.{◌≡◌, ◌⊎◌, ℕ, suc, ◌≤◌, List, [
 use Rattle.std.specs.Prelude.{IfOk}
 use Rattle.std.specs.List.{AllByRecursion, AllZip}
 use Rattle.std.proofs.lemmas.List.{take_at, drop_at}
-use Rattle.reading_core.specs.Grammar.{IsBytes}
+use Rattle.base.specs.Grammar.{IsBytes}
 use Rattle.label_sets.specs.declared.label.Label.{Label}
 use Rattle.label_sets.specs.declared.sample.Sample.{Sample}
 use Rattle.label_sets.specs.declared.series.Series.{Series}
 use Rattle.block_meta.specs.declared.block_plan.BlockPlan.{BlockPlan}
-use Rattle.wire_bits.specs.Bits.{bits_of, bits_in}
-use Rattle.wire_bits.proofs.BitLists.{length-bits_of, same_from_bits_of}
+use Rattle.wire_bytes.specs.Bits.{bits_of, bits_in}
+use Rattle.wire_bytes.proofs.BitLists.{length-bits_of, same_from_bits_of}
 use Rattle.index_parts.specs.Turns.{InOrderAfter}
-use Rattle.block_files.specs.declared.block_files.BlockFiles.{BlockFiles}
-use Rattle.block_files.specs.declared.build_refusal.BuildRefusal.{BuildRefusal}
-use Rattle.block_files.specs.declared.build_refusal.BuildRefusal.TheVariants.{TooLarge, NoMemory}
+use Rattle.block_meta.specs.declared.block_files.BlockFiles.{BlockFiles}
+use Rattle.block_meta.specs.declared.build_refusal.BuildRefusal.{BuildRefusal}
+use Rattle.block_meta.specs.declared.build_refusal.BuildRefusal.TheVariants.{TooLarge, NoMemory}
 use Rattle.block_writing.specs.Put.{PutChunk, PutSeries}
 use Rattle.block_writing.specs.Files.{HaveNoIndex}
 use Rattle.block_writing.specs.Built.{IsPart, IsEncoded, IsPutAs, IsBuilt, HaveNoBlock}

@@ -10,18 +10,18 @@ use Rattle.std.proofs.lemmas.Cmp.{int_ranked}
 use Rattle.std.proofs.lemmas.List.{map-append, length-map, length-take, length-drop, nil_from_length}
 use Rattle.std.specs.List.{AllByRecursion}
 use Rattle.std.proofs.lemmas.List.Elements.{All-from_recursion, Contains-append_right}
-use Rattle.list_core.proofs.Lists.{AllByRecursion-weaker, last_or_none, AllByRecursion-append_right, joined-push, pushed_not_nil}
-use Rattle.list_core.proofs.Order.{Less-at_places, sorted_left, sorted_right}
-use Rattle.list_core.proofs.Membership.{contains_first, each_member, contains_place, of_map, into_flat_map}
-use Rattle.list_core.proofs.Pairs.{AllZip-append, AllZip-first}
-use Rattle.list_core.specs.Lists.{joined}
-use Rattle.reading_core.specs.Grammar.{IsBytes}
+use Rattle.base.proofs.Lists.{AllByRecursion-weaker, last_or_none, AllByRecursion-append_right, joined-push, pushed_not_nil}
+use Rattle.base.proofs.Order.{Less-at_places, sorted_left, sorted_right}
+use Rattle.base.proofs.Membership.{contains_first, each_member, contains_place, of_map, into_flat_map}
+use Rattle.base.proofs.Pairs.{AllZip-append, AllZip-first}
+use Rattle.base.specs.Lists.{joined}
+use Rattle.base.specs.Grammar.{IsBytes}
 use Rattle.index_parts.specs.Turns.{InOrder}
 use Rattle.label_sets.specs.declared.label.Label.{Label}
 use Rattle.label_sets.specs.declared.sample.Sample.{Sample}
 use Rattle.label_sets.specs.declared.series.Series.{Series}
 use Rattle.label_sets.specs.Times.{IsWithin, times_of}
-use Rattle.wire_bits.specs.Bits.{bits_in, filled}
+use Rattle.wire_bytes.specs.Bits.{bits_in, filled}
 use Rattle.xor_chunks.specs.Grammar.{IsText}
 use Rattle.block_meta.specs.Lawful.{AreLawfulTimes}
 use Rattle.xor_chunks.specs.Written.{written, IsChunkTime, AreOfChunk}

@@ -14,7 +14,7 @@ use Rattle.chunk_files.proofs.ChunkLaws.{place_again}
 use Rattle.block_writing.specs.declared.segment_place.SegmentPlace.{SegmentPlace}
 use Rattle.block_writing.specs.Segments.{segment_text, offsets_behind, place_in, places_from, AreSegments}
 use Rattle.block_writing.specs.Standing.{content_at}
-use Rattle.list_core.proofs.Pairs.{AllZip-append}
+use Rattle.base.proofs.Pairs.{AllZip-append}
 use Rattle.index_writing.proofs.ListPlaces.{crc_fits}
 
 -- The segment that a place names is one of the block's, and these data stand in it at the place.

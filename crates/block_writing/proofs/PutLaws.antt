@@ -6,8 +6,8 @@ use Rattle.std.specs.Cmp.Lexicographic.{on_texts, lists_total}
 use Rattle.std.specs.List.Sorted.{IsStrictlySortedBy}
 use Rattle.std.proofs.lemmas.Cmp.{then_total}
 use Rattle.std.proofs.lemmas.List.{map-append}
-use Rattle.list_core.proofs.Lists.{AllByRecursion-push, last_or_none}
-use Rattle.list_core.proofs.Order.{sorted_nil, sorted_cons, sorted_push}
+use Rattle.base.proofs.Lists.{AllByRecursion-push, last_or_none}
+use Rattle.base.proofs.Order.{sorted_nil, sorted_cons, sorted_push}
 use Rattle.label_sets.specs.Labels.{compare_sets}
 use Rattle.label_sets.specs.declared.label.Label.{Label}
 use Rattle.label_sets.specs.declared.sample.Sample.{Sample}

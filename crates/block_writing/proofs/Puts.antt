@@ -5,13 +5,13 @@ use Rattle.std.specs.List.{flat_map, AllByRecursion}
 use Rattle.std.proofs.lemmas.Int.{ints}
 use Rattle.std.proofs.lemmas.Grind.{flat_map-append}
 use Rattle.std.proofs.lemmas.List.{map-append, length-map, append-nil}
-use Rattle.list_core.proofs.Lists.{cons_parts, last_or_none, AllByRecursion-append_right}
+use Rattle.base.proofs.Lists.{cons_parts, last_or_none, AllByRecursion-append_right}
 use Rattle.label_sets.specs.declared.label.Label.{Label}
 use Rattle.block_meta.specs.declared.block_plan.BlockPlan.{BlockPlan}
 use Rattle.index_parts.specs.declared.chunk_place.ChunkPlace.{ChunkPlace}
 use Rattle.index_parts.specs.Turns.{InOrder, InOrderAfter}
 use Rattle.index_parts.specs.SeriesEntry.{StartsAfter}
-use Rattle.index_file.specs.declared.index_series.IndexSeries.{IndexSeries}
+use Rattle.index_parts.specs.declared.index_series.IndexSeries.{IndexSeries}
 use Rattle.index_writing.specs.Written.{IsBehind}
 use Rattle.block_writing.specs.declared.counts.Counts.{Counts}
 use Rattle.block_writing.specs.declared.segment_place.SegmentPlace.{SegmentPlace}

@@ -6,7 +6,7 @@ use Rattle.std.proofs.Math.ListN.{set}
 use Rattle.std.proofs.Math.Seq.{set-append_seam, get_or-append_seam}
 use Rattle.std.proofs.lemmas.Grind.{flat_map-append}
 use Rattle.std.proofs.lemmas.List.{map-append, length-map, flat_map_more, append-nil}
-use Rattle.list_core.proofs.Lists.{AllByRecursion-push, last_or_none}
+use Rattle.base.proofs.Lists.{AllByRecursion-push, last_or_none}
 use Rattle.index_parts.specs.Turns.{InOrder, InOrderAfter}
 use Rattle.chunk_files.specs.Layout.{header_size, greatest}
 use Rattle.chunk_files.specs.Chunk.{header, frame_text}

@@ -5,7 +5,7 @@ use Rattle.std.specs.Int.{bit_at}
 use Rattle.std.specs.List.{flat_map, AllByRecursion}
 use Rattle.std.proofs.lemmas.Nat.{xor_lt}
 use Rattle.std.proofs.lemmas.Nat.Bits.{bit_at-lt}
-use Rattle.list_core.proofs.Lists.{AllByRecursion-append}
+use Rattle.base.proofs.Lists.{AllByRecursion-append}
 use Rattle.wire_bytes.specs.Crc.{with_bit, coefficients}
 use Rattle.index_writing.proofs.ListPlaces.{halved}
 

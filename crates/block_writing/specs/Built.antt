@@ -3,20 +3,20 @@ use Rattle.std.specs.Prelude.{◌≡◌, ◌+◌, ◌-◌, ◌<◌, ◌≤◌, L
 use Rattle.std.specs.Ordering.{int_cmp}
 use Rattle.std.specs.List.{AllByRecursion, AllZip}
 use Rattle.std.specs.List.Sorted.{IsStrictlySortedBy}
-use Rattle.list_core.specs.Lists.{joined}
-use Rattle.reading_core.specs.Grammar.{IsBytes}
+use Rattle.base.specs.Lists.{joined}
+use Rattle.base.specs.Grammar.{IsBytes}
 use Rattle.label_sets.specs.Counts.{sample_count}
 use Rattle.label_sets.specs.Labels.{compare_sets}
 use Rattle.label_sets.specs.declared.sample.Sample.{Sample}
 use Rattle.label_sets.specs.declared.series.Series.{Series}
 use Rattle.label_sets.specs.Times.{IsWithin, times_of}
-use Rattle.wire_bits.specs.Bits.{bits_in, filled}
+use Rattle.wire_bytes.specs.Bits.{bits_in, filled}
 use Rattle.xor_chunks.specs.Grammar.{IsText}
 use Rattle.xor_chunks.specs.Written.{written, usual_count}
 use Rattle.xor_chunks.specs.Widths.{stored_filling, filling}
 use Rattle.block_meta.specs.declared.block_plan.BlockPlan.{BlockPlan}
 use Rattle.index_parts.specs.Turns.{InOrder}
-use Rattle.block_files.specs.declared.block_files.BlockFiles.{BlockFiles}
+use Rattle.block_meta.specs.declared.block_files.BlockFiles.{BlockFiles}
 use Rattle.block_writing.specs.Files.{HaveNoIndex}
 use Rattle.block_writing.specs.Put.{PutChunk, PutSeries, PlanFields, Put, IsAfterChunks, fitted}
 use Rattle.block_writing.specs.Writing.{plan_fields}

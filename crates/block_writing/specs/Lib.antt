@@ -5,7 +5,7 @@ pub use Rattle.block_meta.specs.Lawful
 pub use Rattle.xor_chunks.specs.Grammar
 pub use Rattle.chunk_files.specs.Chunk
 pub use Rattle.chunk_files.specs.ChunkReading
-pub use Rattle.index_file.specs.IndexFile
+pub use Rattle.index_parts.specs.IndexFile
 pub use Rattle.index_writing.specs.Written
 pub mod Segments
 pub mod Standing

@@ -1,13 +1,13 @@
 -- What a written block says of itself: what its plan says, with its counts and the sizes of its files.
 use Rattle.std.specs.Prelude.{◌≡◌, ℕ, zero, suc, ◌+◌, ◌≤◌, pos, List, [], ◌∷◌, ◌++◌, length}
 use lib.Chars.{codes}
-use Rattle.index_file.specs.IndexFile.{IsIndex}
+use Rattle.index_parts.specs.IndexFile.{IsIndex}
 use Rattle.index_writing.specs.WriteSteps.{greatest}
 use Rattle.block_keys.specs.KeyText.{six_digits}
 use Rattle.block_meta.specs.declared.file_size.FileSize.{FileSize}
 use Rattle.block_meta.specs.MetaFields.{MetaFields, fields_of}
 use Rattle.block_writing.specs.declared.counts.Counts.{Counts}
-use Rattle.block_files.specs.declared.block_files.BlockFiles.{BlockFiles}
+use Rattle.block_meta.specs.declared.block_files.BlockFiles.{BlockFiles}
 use Rattle.block_writing.specs.Put.{PlanFields, Put, contents_of, fitted, IsPut}
 use Rattle.block_writing.specs.Files.{AreFilesOf}
 

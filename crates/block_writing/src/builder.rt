@@ -1,6 +1,6 @@
 ghost use Rattle.std.specs.Prelude.{◌≡◌, ◌⊎◌, ◌^◌, ◌<◌, [], length, Err, IfOk, OnOk};
 ghost use Rattle.std.specs.List.{AllByRecursion};
-ghost use Rattle.reading_core.specs.Grammar.{IsBytes};
+ghost use Rattle.base.specs.Grammar.{IsBytes};
 ghost use Rattle.label_sets.specs.Times.{IsWithin};
 ghost use Rattle.block_meta.specs.Lawful.{AreLawfulTimes};
 ghost use Rattle.xor_chunks.specs.Written.{AreOfChunk};
@@ -9,10 +9,9 @@ ghost use Rattle.block_writing.specs.Put.{PutChunk, IsAfterSeries, with_chunk};
 ghost use Rattle.block_writing.specs.Writing.{plan_fields};
 
 use crate::BlockWriter;
-use block_files::{BlockFiles, BuildRefusal};
-use block_meta::BlockPlan;
+use base::{NoMemory, TryCopy};
+use block_meta::{BlockFiles, BlockPlan, BuildRefusal};
 use label_sets::{Sample, Series, SeriesList};
-use list_core::{NoMemory, TryCopy};
 use std::alloc::Global;
 use xor_chunks::{USUAL_COUNT, encode};
 

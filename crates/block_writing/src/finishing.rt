@@ -1,7 +1,7 @@
 //! The files of a block of what a writer holds.
 ghost use Rattle.std.specs.Prelude.{◌≡◌, [], Err, IfOk};
 ghost use Rattle.std.specs.List.{AllByRecursion};
-ghost use Rattle.reading_core.specs.Grammar.{IsBytes};
+ghost use Rattle.base.specs.Grammar.{IsBytes};
 ghost use Rattle.block_writing.specs.Files.{HaveNoIndex};
 ghost use Rattle.block_writing.specs.Refusals.{build_refusal};
 ghost use Rattle.block_writing.specs.Writing.{put_in, IsWriting};
@@ -9,11 +9,10 @@ ghost use Rattle.block_writing.specs.WrittenMeta.{IsWritten};
 
 use crate::counts::Counts;
 use crate::written_meta::meta_of;
-use block_files::{BlobList, BlockFiles, BuildRefusal};
-use block_meta::BlockPlan;
+use base::NoMemory;
+use block_meta::{BlobList, BlockFiles, BlockPlan, BuildRefusal};
 use chunk_files::SegmentWriter;
 use index_writing::{IndexWriteRefusal, IndexWriter};
-use list_core::NoMemory;
 use std::alloc::Global;
 
 /// The bytes of the segments, which are shared from here on, as a block may be kept for long.

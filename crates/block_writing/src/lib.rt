@@ -10,7 +10,7 @@ mod segment_place;
 mod segments;
 mod written_meta;
 
-pub use block_files::{BlobList, BlockFiles, BuildRefusal};
+pub use block_meta::{BlobList, BlockFiles, BuildRefusal};
 pub use block_writer::BlockWriter;
 pub use buildable::may_build;
 pub use builder::{build, put_parts};

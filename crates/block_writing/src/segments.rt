@@ -8,9 +8,9 @@ ghost use Rattle.block_writing.specs.declared.segment_place.SegmentPlace.{Segmen
 ghost use Rattle.block_writing.specs.Segments.{AreRuns, AreSegments, segment_text, places_from};
 
 use crate::SegmentPlace;
+use base::NoMemory;
 use block_keys::SEGMENT_LIMIT;
 use chunk_files::{SegmentRefusal, SegmentWriter};
-use list_core::NoMemory;
 
 /// How many segments a block may have. So many hold more than 2^44 bytes, for which there is no memory.
 const MOST: usize = SEGMENT_LIMIT as usize;

@@ -1,7 +1,7 @@
 //! What a written block says of itself.
 ghost use Rattle.std.specs.Prelude.{◌≡◌, ◌≤◌, length, IfOk, OnOk};
 ghost use Rattle.std.specs.List.{AllByRecursion};
-ghost use Rattle.reading_core.specs.Grammar.{IsBytes};
+ghost use Rattle.base.specs.Grammar.{IsBytes};
 ghost use Rattle.block_keys.specs.Keys.{segment_limit};
 ghost use Rattle.block_keys.specs.KeyText.{six_digits};
 ghost use Rattle.block_meta.specs.MetaFields.{fields_of};
@@ -9,10 +9,10 @@ ghost use Rattle.block_writing.specs.Writing.{plan_fields};
 ghost use Rattle.block_writing.specs.WrittenMeta.{segment_size, index_size, sizes_of, names_from, meta_with};
 
 use crate::counts::Counts;
+use base::NoMemory;
 use block_keys::six_digits;
 use block_meta::{BlockPlan, FileSize, FileSizeList, Meta};
 use label_sets::{Text, TextList};
-use list_core::NoMemory;
 use std::alloc::Global;
 use wire_bytes::Blob;
 

@@ -1,6 +1,6 @@
 -- Which seats are those of compactions, and when a read at one comes too late.
-use Rattle.list_core.proofs.Membership.{any_of_member, member_of_any}
-use Rattle.list_core.proofs.Bools.{same-from_is_eq}
+use Rattle.base.proofs.Membership.{any_of_member, member_of_any}
+use Rattle.base.proofs.Bools.{same-from_is_eq}
 use Rattle.std.proofs.Common.{◌≡◌, ◌⊎◌, inl, inr, ℕ, ◌+◌, ◌&&◌, ◌||◌, true, false, List, [], ◌∷◌, length, Option, Some, None, refl, sym, ◌∙◌, ap, subst, arith}
 use Rattle.std.specs.Prelude.{◌/◌, option_map, slice_get}
 use Rattle.std.specs.BTreeSet.{BTreeSet, contains}

@@ -2,7 +2,7 @@
 use Rattle.std.proofs.Common.{◌≡◌, true, false, List, Option, Some, None, refl}
 use Rattle.std.specs.Prelude.{is_some}
 use Rattle.world_core.specs.declared.entry.Entry.{Entry}
-use Rattle.standing_objects.specs.declared.standing.Standing.{Standing}
+use Rattle.breach_finding.specs.declared.standing.Standing.{Standing}
 use Rattle.script_core.specs.declared.script.Script.{Script}
 use Rattle.breach_finding.specs.Entries.{IsEarlyTold, IsRefusedEarly}
 use Rattle.breach_finding.specs.declared.found.Refusal.{Refusal}

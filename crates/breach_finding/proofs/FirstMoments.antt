@@ -11,7 +11,7 @@ use Rattle.breach_finding.specs.Tables.{Numbers}
 use Rattle.breach_finding.proofs.Compactors.{moment_of_first}
 use Rattle.breach_finding.proofs.SeatTables.{num_itself}
 use Rattle.breach_finding.proofs.WalkSteps.{other_more, seat_more}
-use Rattle.list_core.proofs.Bools.{same-from_is_eq}
+use Rattle.base.proofs.Bools.{same-from_is_eq}
 
 -- what follows the first entry does not change it
 first_stays : (own : List Entry) (e : Entry) → is_some (moment_of_first own) ≡ true → moment_of_first (own ++ e ∷ []) ≡ moment_of_first own

@@ -24,7 +24,7 @@ use Rattle.meta_fetcher.specs.declared.rules.SyncRules.{SyncRules}
 use Rattle.meta_fetcher.specs.declared.view.View.{View}
 use Rattle.meta_fetcher.proofs.Ascending.{blocks_of, covered_ascend, kept_ascend, sighted_ascend, sync_ascends}
 use Rattle.meta_fetcher.proofs.SyncLaws.{KeptByPages, KeptByReads, TellsMark, sighting_at, told}
-use Rattle.list_core.proofs.Rising.{rest_rises}
+use Rattle.base.proofs.Rising.{rest_rises}
 use Rattle.lifecycle_core.proofs.blocks.NewMetas.{meta_read}
 use Rattle.lifecycle_core.proofs.marks.Looks.{mark_read}
 

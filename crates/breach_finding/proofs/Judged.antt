@@ -9,7 +9,7 @@ use Rattle.breach_finding.specs.Walks.{rule_of}
 use Rattle.breach_finding.specs.declared.found.BreachRule.{BreachRule}
 use Rattle.breach_finding.specs.declared.found.BreachRule.TheVariants as found
 use Rattle.breach_finding.specs.declared.found.Refusal.{Refusal}
-use Rattle.list_core.proofs.Numbers.{last_or_below}
+use Rattle.base.proofs.Numbers.{last_or_below}
 
 module _ (Refuses : Rule → ℕ → ℕ → Type 0) (below : ℕ) (rule : BreachRule) (is : rank (rule_of rule) ≡ below) (none : (other : Rule) (x y : ℕ) → rank other < below → Refuses other x y → ⊥) where
   -- where those of lower ranks do not refuse the entry, and of this one it is told

@@ -1,6 +1,6 @@
 -- Which entry of a seat is its last one.
-use Rattle.list_core.proofs.Membership.{contains_first, contains_later}
-use Rattle.list_core.proofs.Bools.{same-from_is_eq}
+use Rattle.base.proofs.Membership.{contains_first, contains_later}
+use Rattle.base.proofs.Bools.{same-from_is_eq}
 use Rattle.std.proofs.Common.{◌≡◌, ◌≢◌, inl, inr, ℕ, ◌<◌, ◌≤◌, ◌==◌, cond, List, [], ◌∷◌, ◌++◌, Contains, Option, Some, None, refl, sym, ◌∙◌, ap, subst, arith}
 use Rattle.std.specs.Prelude.{option_map}
 use Rattle.std.specs.BTreeMap.{get}

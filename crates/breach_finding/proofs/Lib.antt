@@ -1,3 +1,10 @@
+pub mod Changes
+pub mod Pages
+pub mod Blocks
+pub mod Scans
+pub mod Ranges
+pub mod Objects
+pub mod NextObjects
 pub mod Texts
 pub mod PutTimes
 pub mod Owed

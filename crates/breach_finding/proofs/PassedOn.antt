@@ -1,7 +1,7 @@
 -- A sync that is told of no meta of a block goes on as it would, and gives a view where it would.
 use Rattle.std.proofs.Common.{◌≡◌, inl, inr, ℕ, zero, suc, Bool, true, false, cond, List, [], ◌∷◌, ◌++◌, length, Option, Some, None, refl, sym, ap, subst}
 use Rattle.std.specs.Prelude.{is_some, map, nat_le, nat_lt, unwrap_or}
-use Rattle.list_core.specs.Order.{are_in_order_after, comes_after}
+use Rattle.base.specs.Order.{are_in_order_after, comes_after}
 use Rattle.label_sets.specs.Labels.{compare_texts}
 use Rattle.block_keys.specs.declared.key.Key.TheVariants as key
 use Rattle.block_meta.specs.MetaFields.{MarkFields, MetaFields}

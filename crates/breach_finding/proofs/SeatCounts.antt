@@ -7,7 +7,7 @@ use Rattle.script_workers.specs.Hands.{gateway_count, seats_after, seats_from}
 use Rattle.script_workers.specs.declared.phase.Phase.{Phase}
 use Rattle.script_workers.specs.declared.worker.Worker.{Worker}
 use Rattle.lifecycle_core.proofs.phases.NextSeats.{seats_behind}
-use Rattle.list_core.proofs.Lists.{take_none}
+use Rattle.base.proofs.Lists.{take_none}
 
 pub seats_first : (script : Script) → 0 ≡ seats_before script 0
 unfolding seats_from

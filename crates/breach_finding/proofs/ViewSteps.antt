@@ -31,7 +31,7 @@ use Rattle.breach_finding.proofs.SeatTables.{num_itself}
 use Rattle.breach_finding.proofs.SeatTurns.{last_split}
 use Rattle.breach_finding.proofs.SyncTimes.{ends_here, is_sync}
 use Rattle.breach_finding.proofs.ViewTimes.{NoViewEnds, view_given, view_stays}
-use Rattle.list_core.proofs.Bools.{same-from_is_eq}
+use Rattle.base.proofs.Bools.{same-from_is_eq}
 
 -- who makes the last entry of a gateway's sync sits at one of its seats
 pub sits_last : (setting : Setting) (journal : List Entry) (e : Entry) (gateway : ℕ) (entries made : List Entry) (end : Option SyncEnd) → IsSyncIn setting journal gateway entries end → entries ≡ made ++ e ∷ [] → IsSeatOf setting gateway e.seat

@@ -1,5 +1,5 @@
 -- Which view a gateway has along a journal, and what the rule of time on views refuses.
-use Rattle.list_core.proofs.Membership.{of_filter}
+use Rattle.base.proofs.Membership.{of_filter}
 use Rattle.std.proofs.Common.{◌≡◌, ◌⊎◌, inl, inr, ℕ, ◌+◌, ◌<◌, ◌==◌, List, [], ◌∷◌, ◌++◌, Contains, Option, Some, None, refl, sym, ◌∙◌, ap, subst, arith}
 use Rattle.std.proofs.lemmas.Bool.{cases_lt}
 use Rattle.std.proofs.lemmas.List.Elements.{Contains-append_left, Contains-append_right}

@@ -11,8 +11,8 @@ use Rattle.world_core.specs.Standing.{left_by, stands}
 use Rattle.world_core.specs.Worlds.{IsJournal, IsOfBytes}
 use Rattle.world_core.specs.declared.entry.Entry.{Entry}
 use Rattle.script_core.specs.Lawful.{IsLawfulScript}
-use Rattle.standing_objects.specs.Standings.{IsStanding}
-use Rattle.standing_objects.specs.declared.standing.Standing.{Standing}
+use Rattle.breach_finding.specs.Standings.{IsStanding}
+use Rattle.breach_finding.specs.declared.standing.Standing.{Standing}
 use Rattle.lifecycle_core.specs.Breaches.{HoldsSamples, IsBreach, IsKept, IsSeatOf, ReadsSamples, Refuses, Rule, honesty, mark_time, rank, read_key, read_time, sync_time, upload_time, view_time}
 use Rattle.world_core.specs.Journals.{of_seat}
 use Rattle.lifecycle_core.specs.Setting.{Setting}

@@ -5,8 +5,8 @@ use Rattle.std.specs.Ordering.{is_eq, nat_cmp}
 use Rattle.std.proofs.lemmas.Bool.{cases_Bool, eqb-true, eq-eqb}
 use Rattle.std.proofs.lemmas.List.Elements.{filter-append}
 use Rattle.std.specs.Cmp.{unsigned_ties}
-use Rattle.list_core.proofs.Lists.{filter_hit, filter_miss}
-use Rattle.list_core.proofs.Bools.{same-from_is_eq}
+use Rattle.base.proofs.Lists.{filter_hit, filter_miss}
+use Rattle.base.proofs.Bools.{same-from_is_eq}
 use Rattle.world_core.specs.Journals.{Each, of_seat}
 use Rattle.world_core.specs.declared.entry.Entry.{Entry}
 use Rattle.lifecycle_core.specs.Breaches.{IsKept, IsSeatOf}

@@ -1,5 +1,5 @@
 -- A walk along a journal, entry by entry.
-use Rattle.list_core.proofs.Membership.{contains_first, each_member, no_member, of_filter}
+use Rattle.base.proofs.Membership.{contains_first, each_member, no_member, of_filter}
 use Rattle.std.proofs.Common.{◌≡◌, inl, inr, ℕ, zero, suc, ◌+◌, ◌≤◌, ◌==◌, List, [], ◌∷◌, ◌++◌, take, drop, Contains, length, Option, Some, None, refl, sym, ◌∙◌, ap, subst, arith, append_assoc}
 use Rattle.std.specs.Prelude.{slice_get}
 use Rattle.std.specs.BTreeMap.{IsEmpty, get}
@@ -17,8 +17,8 @@ use Rattle.script_core.specs.Lawful.{IsLawfulScript}
 use Rattle.script_core.specs.Workers.{seats_before, workers_after, workers_of}
 use Rattle.script_core.specs.declared.script.Script.{Script}
 use Rattle.script_workers.specs.declared.worker.Worker.{Worker}
-use Rattle.standing_objects.specs.Standings.{IsStanding}
-use Rattle.standing_objects.specs.declared.standing.Standing.{Standing}
+use Rattle.breach_finding.specs.Standings.{IsStanding}
+use Rattle.breach_finding.specs.declared.standing.Standing.{Standing}
 use Rattle.lifecycle_core.specs.Breaches.{IsBreach, IsKept, IsSeatOf, IsViewAt, Refuses, Rule}
 use Rattle.lifecycle_core.specs.Setting.{FromShelf, Setting}
 use Rattle.lifecycle_core.specs.Tasks.{sync_rules}

@@ -5,8 +5,8 @@ use Rattle.std.specs.BTreeSet.{contains}
 use Rattle.std.specs.Ordering.{nat_cmp}
 use Rattle.world_core.specs.Standing.{stands}
 use Rattle.world_core.specs.declared.entry.Entry.{Entry}
-use Rattle.standing_objects.specs.Standings.{IsStanding}
-use Rattle.standing_objects.specs.declared.standing.Standing.{Standing}
+use Rattle.breach_finding.specs.Standings.{IsStanding}
+use Rattle.breach_finding.specs.declared.standing.Standing.{Standing}
 use Rattle.script_core.specs.declared.script.Script.{Script}
 use Rattle.lifecycle_core.specs.Breaches.{Refuses}
 use Rattle.lifecycle_core.specs.Setting.{Setting}

@@ -1,3 +1,6 @@
+pub mod Held
+pub mod Next
+pub mod Standings
 pub mod Told
 pub mod Watching
 pub mod Seats

@@ -6,8 +6,8 @@ use Rattle.world_core.specs.Journals.{Each, of_seat}
 use Rattle.world_core.specs.Standing.{stands}
 use Rattle.world_core.specs.declared.entry.Entry.{Entry}
 use Rattle.script_core.specs.declared.script.Script.{Script}
-use Rattle.standing_objects.specs.Standings.{IsStanding}
-use Rattle.standing_objects.specs.declared.standing.Standing.{Standing}
+use Rattle.breach_finding.specs.Standings.{IsStanding}
+use Rattle.breach_finding.specs.declared.standing.Standing.{Standing}
 use Rattle.lifecycle_core.specs.Breaches.{IsBreach, IsKept, IsSeatOf, IsUnbroken, Rule, honesty, mark_time, read_time, sync_time, upload_time, view_time}
 use Rattle.lifecycle_core.specs.Setting.{FromShelf, Setting}
 use Rattle.lifecycle_core.specs.Tasks.{sync_rules}

@@ -2,8 +2,8 @@ ghost use Rattle.std.specs.Prelude.{◌≡◌, ◌⊎◌, ◌<◌, ◌≤◌, dr
 ghost use Rattle.lifecycle_core.specs.Breaches.{next_byte, text_end};
 ghost use Rattle.breach_finding.specs.Told.{IsDifference, ended_names};
 
+use base::NoMemory;
 use label_sets::Text;
-use list_core::NoMemory;
 use std::alloc::Global;
 
 /// The byte with which a name ends in the text of a reply.
@@ -34,7 +34,7 @@ fn shorter(one: usize, other: usize) -> usize
 
 /// The first bytes in which two texts differ, where a text's end counts as one too. Texts that are the same, as those of nearly all
 /// replies are, are compared many bytes at a time.
-#[tactic(auto, using(list_core::proofs::Bools::same_texts))]
+#[tactic(auto, using(base::proofs::Bools::same_texts))]
 pub(crate) fn first_difference(one: &[u8], other: &[u8]) -> Option<(u64, u64)>
     ensures { IsDifference one.now other.now result }
 {

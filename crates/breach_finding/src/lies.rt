@@ -5,14 +5,14 @@ ghost use Rattle.bucket_core.specs.Contents.{Contents, range_of};
 ghost use Rattle.world_core.specs.Operations.{IsLawful};
 ghost use Rattle.world_core.specs.Standing.{stands};
 ghost use Rattle.world_core.specs.declared.entry.Entry.{Entry};
-ghost use Rattle.standing_objects.specs.Standings.{IsStanding};
+ghost use Rattle.breach_finding.specs.Standings.{IsStanding};
 ghost use Rattle.lifecycle_core.specs.Breaches.{IsLie, shown_by};
 ghost use Rattle.breach_finding.specs.Told.{IsPageWrong, IsShownWrong, IsTold, names_text, object_text};
 
+use crate::Standing;
 use crate::differing::{first_difference, names_difference};
+use base::NoMemory;
 use label_sets::Text;
-use list_core::NoMemory;
-use standing_objects::Standing;
 use std::alloc::Global;
 use ulid_core::Ulid;
 use wire_bytes::range_in;

@@ -13,9 +13,9 @@ ghost use Rattle.lifecycle_core.specs.Breaches as breaches;
 ghost use Rattle.lifecycle_core.specs.Setting.{Setting};
 ghost use Rattle.breach_finding.specs.Told.{IsLateMark, IsSecondOf, IsTold};
 
+use base::NoMemory;
 use block_keys::Key;
 use block_meta::{DeletionMark, MetaRefusal};
-use list_core::NoMemory;
 use moment_core::{Rules, SECOND};
 use std::alloc::Global;
 use ulid_core::Ulid;

@@ -7,7 +7,7 @@ ghost use Rattle.script_core.specs.Lawful.{IsLawfulScript};
 ghost use Rattle.world_core.specs.Journals.{of_seat};
 ghost use Rattle.breach_finding.specs.Tables.{AreAdded, AreCompactors, AreSeatsOf, AreTablesOf, compacts_among, compacts_at, tasks_at};
 
-use list_core::NoMemory;
+use base::NoMemory;
 use script_core::{Script, Task};
 use script_workers::Worker;
 use std::alloc::Global;

@@ -10,14 +10,14 @@ ghost use Rattle.breach_finding.specs.Entries.{IsEntryTold, IsWatchedTold};
 ghost use Rattle.breach_finding.specs.Walks.{IsAnswer, setting_with};
 ghost use Rattle.breach_finding.specs.Watching.{IsWaiting};
 
+use crate::Standing;
 use crate::found::{Breach, BreachRule, Refusal};
 use crate::judging::{early_refusal, first_of, late_refusal, refusal_by, stand};
 use crate::tables::{Tables, tables_of};
 use crate::times::compaction_lateness;
 use crate::watching::UnderWay;
-use list_core::NoMemory;
+use base::NoMemory;
 use script_core::Script;
-use standing_objects::Standing;
 use std::alloc::Global;
 use std::collections::BTreeMap;
 use world_core::Entry;

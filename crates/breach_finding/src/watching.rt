@@ -8,9 +8,9 @@ ghost use Rattle.block_keys.specs.declared.key.Key.TheVariants as key;
 ghost use Rattle.meta_fetcher.specs.declared.rules.SyncRules.{SyncRules};
 ghost use Rattle.breach_finding.specs.Watching.{Begins, IsAt, IsSyncOp, IsTurn, IsWaiting, Went, as_passed, came_of, passed_on};
 
+use base::{NoMemory, TryCopy};
 use block_keys::Key;
 use block_meta::meta_of;
-use list_core::{NoMemory, TryCopy};
 use meta_fetcher::{Sync, SyncEnd, SyncRules};
 use std::alloc::Global;
 use ulid_core::Ulid;

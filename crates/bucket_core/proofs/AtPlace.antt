@@ -8,8 +8,8 @@ use Rattle.std.proofs.lemmas.Bool.{cases_lt, cases_Bool, false_from_ne_true}
 use Rattle.std.proofs.lemmas.List.{take-append-drop, get_or_default}
 use Rattle.std.proofs.Math.Seq.{drop-cons}
 use Rattle.std.specs.declared.cmp.Ordering.TheVariants.{Less}
-use Rattle.list_core.proofs.Bools.{bytes_eq-itself, same_texts}
-use Rattle.list_core.proofs.Order.{sorted_drop}
+use Rattle.base.proofs.Bools.{bytes_eq-itself, same_texts}
+use Rattle.base.proofs.Order.{sorted_drop}
 use Rattle.bucket_core.specs.Contents.{is_key}
 use Rattle.bucket_core.specs.declared.stored.Stored.{Stored}
 use Rattle.bucket_core.specs.Stored.{by_key, have_keys, object_in, updated, IsPlace, IsUpdated, StandsAt}

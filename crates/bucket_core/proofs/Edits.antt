@@ -11,10 +11,10 @@ use Rattle.std.proofs.lemmas.Cmp.{tied_itself}
 use Rattle.std.proofs.lemmas.List.Folds.{list_all-append}
 use Rattle.std.proofs.lemmas.Map.Keys.{sorted_head, sorted_tail}
 use Rattle.std.proofs.lemmas.Slice.Eq.{bytes_eq-Decides}
-use Rattle.list_core.proofs.Bools.{Less-from_is_lt, same_texts, swap_tests}
-use Rattle.list_core.proofs.Lists.{AllByRecursion-weaker}
-use Rattle.list_core.proofs.Membership.{each_member, member_cases}
-use Rattle.list_core.proofs.Order.{sorted_append, sorted_cons, sorted_left}
+use Rattle.base.proofs.Bools.{Less-from_is_lt, same_texts, swap_tests}
+use Rattle.base.proofs.Lists.{AllByRecursion-weaker}
+use Rattle.base.proofs.Membership.{each_member, member_cases}
+use Rattle.base.proofs.Order.{sorted_append, sorted_cons, sorted_left}
 use Rattle.bucket_core.specs.Contents.{is_key}
 use Rattle.bucket_core.specs.declared.stored.Stored.{Stored}
 use Rattle.bucket_core.specs.Stored.{key_cmp, is_before, by_key, have_keys, object_in, updated, IsUpdated}

@@ -5,7 +5,7 @@ use Rattle.std.specs.Str.Pattern.{FindsTextPrefix, LacksTextAt}
 use Rattle.std.proofs.lemmas.Bool.{eqb-true, cases_Bool}
 use denote.Ref.{Bor}
 use Rattle.bucket_core.specs.Stored.{text_after}
-use Rattle.list_core.proofs.Numbers.{equals_itself}
+use Rattle.base.proofs.Numbers.{equals_itself}
 
 -- what follows a text is found
 pub text_after-append : (p rest : List ℕ) → text_after p (p ++ rest) ≡ Some rest

@@ -11,10 +11,10 @@ use Rattle.std.specs.declared.cmp.Ordering.TheVariants.{Less}
 use Rattle.std.proofs.lemmas.Bool.{cases_Bool, eqb-true}
 use Rattle.std.proofs.lemmas.List.{take-append-drop}
 use Rattle.std.proofs.lemmas.Map.Keys.{sorted_head, sorted_tail}
-use Rattle.list_core.proofs.Bools.{Less-from_is_lt, bytes_eq-itself, same_texts}
-use Rattle.list_core.specs.Ordered.{Rises}
-use Rattle.list_core.proofs.Membership.{contains_first, contains_later, each_member, member_cases, no_member}
-use Rattle.list_core.proofs.Order.{sorted_drop}
+use Rattle.base.proofs.Bools.{Less-from_is_lt, bytes_eq-itself, same_texts}
+use Rattle.base.specs.Ordered.{Rises}
+use Rattle.base.proofs.Membership.{contains_first, contains_later, each_member, member_cases, no_member}
+use Rattle.base.proofs.Order.{sorted_drop}
 use Rattle.label_sets.specs.Labels.{ComesBefore, is_lesser_text}
 use Rattle.bucket_core.specs.Contents.{Contents}
 use Rattle.bucket_core.specs.Pages.{Lists, IsName, IsPage}

@@ -7,10 +7,10 @@ use Rattle.std.specs.declared.cmp.Ordering.{Ordering}
 use Rattle.std.specs.declared.cmp.Ordering.TheVariants.{Less, Equal, Greater}
 use Rattle.std.proofs.lemmas.Bool.{cases_Bool, ne_eqb}
 use Rattle.std.proofs.lemmas.Cmp.{nat_list_cmp_total}
-use Rattle.list_core.proofs.Bools.{Less-from_is_lt}
-use Rattle.list_core.specs.Order.{InOrderAfter, ComesAfter}
-use Rattle.list_core.specs.Ordered.{Rises}
-use Rattle.list_core.proofs.Membership.{contains_first, contains_later, each_member, member_cases, no_member}
+use Rattle.base.proofs.Bools.{Less-from_is_lt}
+use Rattle.base.specs.Order.{InOrderAfter, ComesAfter}
+use Rattle.base.specs.Ordered.{Rises}
+use Rattle.base.proofs.Membership.{contains_first, contains_later, each_member, member_cases, no_member}
 use Rattle.label_sets.specs.Labels.{ComesBefore, compare_texts, is_lesser_text}
 use Rattle.bucket_core.specs.Stored.{picked}
 use Rattle.bucket_core.proofs.Places.{texts_equal}

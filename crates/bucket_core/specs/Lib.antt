@@ -12,3 +12,6 @@ pub mod MemorySource
 pub mod Pages
 pub mod Stored
 pub mod Streams
+pub mod Named
+pub mod Noted
+pub mod Spelled

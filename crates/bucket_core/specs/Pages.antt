@@ -2,7 +2,7 @@
 use Rattle.std.specs.Prelude.{◌≡◌, ◌⊎◌, ◌==◌, ℕ, ◌≤◌, List, [], ◌∷◌, ◌++◌, length, All, Contains, Some, IsSome}
 use Rattle.std.specs.List.{before_first}
 use Rattle.wire_bytes.specs.Files.{slash}
-use Rattle.list_core.specs.Order.{InOrderAfter, ComesAfter}
+use Rattle.base.specs.Order.{InOrderAfter, ComesAfter}
 use Rattle.label_sets.specs.Labels.{ComesBefore, compare_texts}
 use Rattle.bucket_core.specs.Contents.{Contents}
 use Rattle.bucket_core.specs.declared.answer.PageAnswer.{PageAnswer}

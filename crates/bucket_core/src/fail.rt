@@ -1,6 +1,6 @@
 ghost use Rattle.std.specs.Prelude.{◌≡◌, IfOk};
 
-use list_core::{List, NoMemory, TryCopy};
+use base::{List, NoMemory, TryCopy};
 
 /// A call that is to fail, by its number from 1. `landed` says whether a put or a deletion that fails is done all the same.
 #[derive(Clone, Copy, Debug, PartialEq, Eq)]

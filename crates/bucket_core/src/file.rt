@@ -1,5 +1,5 @@
+use base::{List, NoMemory, TryCopy};
 use label_sets::Text;
-use list_core::{List, NoMemory, TryCopy};
 use wire_bytes::Blob;
 
 /// A file under its name.

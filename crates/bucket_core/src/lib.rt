@@ -1,5 +1,6 @@
 //! The outside as traits: a bucket of objects, a shelf of files, a site that opens both, a source and a sink of bytes.
 //! Each has a form in memory.
+//! Notes of what a bucket or a shelf was asked, for clauses alone: by them it tells what it was asked.
 #![tactic(auto)]
 
 mod answer;
@@ -13,6 +14,7 @@ mod memory_shelf;
 mod memory_sink;
 mod memory_site;
 mod memory_source;
+mod notes;
 mod objects;
 mod shelf;
 mod sink;
@@ -21,6 +23,7 @@ mod site_refusal;
 mod source;
 mod stored;
 
+pub use crate::notes::{CallNotes, NameNotes};
 pub use answer::{
     DeleteAnswer, GetAnswer, PageAnswer, PutAnswer, ReadAnswer, ShelfAnswer, WriteAnswer,
 };

@@ -7,8 +7,8 @@ ghost use Rattle.bucket_core.specs.Stored.{text_after, name_of, names_of, picked
 
 use crate::objects::{first_part, place_of};
 use crate::stored::Stored;
+use base::{List, NoMemory};
 use label_sets::{Text, TextList};
-use list_core::{List, NoMemory};
 use std::alloc::Global;
 
 /// What follows a text in another that begins with it.

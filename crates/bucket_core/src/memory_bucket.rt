@@ -11,7 +11,7 @@ use crate::listing::page_of;
 use crate::objects::{find, put_in, remove_from};
 use crate::stored::Stored;
 use crate::{Bucket, DeleteAnswer, FailList, GetAnswer, PageAnswer, PutAnswer};
-use list_core::{NoMemory, TryCopy};
+use base::{NoMemory, TryCopy};
 use std::alloc::Global;
 use wire_bytes::Blob;
 
@@ -31,7 +31,7 @@ impl MemoryBucket {
     ghost use Rattle.bucket_core.specs.MemoryBucket.{objects_held, calls_made, calls_to_fail, faults_counted, next_failure, IsQuiet, CallCounted};
 
     /// An empty bucket. The list names calls of this bucket, of whatever kind, by their numbers from 1.
-    #[tactic(auto, using(list_core::proofs::Order::sorted_nil))]
+    #[tactic(auto, using(base::proofs::Order::sorted_nil))]
     pub fn new(alloc: Global, failing: FailList) -> Self
         ensures empty { objects_held result ≡ nothing }
         ensures fails { calls_to_fail result ≡ failing }

@@ -6,7 +6,7 @@ ghost use Rattle.bucket_core.specs.MemoryShelf.{file_in};
 
 use crate::calls::failure_at;
 use crate::{FILE_LIMIT, FailList, File, FileList, Shelf, ShelfAnswer};
-use list_core::NoMemory;
+use base::NoMemory;
 use std::alloc::Global;
 use wire_bytes::Blob;
 

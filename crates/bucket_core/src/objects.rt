@@ -5,8 +5,8 @@ ghost use Rattle.bucket_core.specs.Contents.{IsKey};
 ghost use Rattle.bucket_core.specs.Stored.{first_part as first_part_of, key_cmp, is_before, by_key, have_keys, object_in, IsPlace, IsUpdated, StandsAt};
 
 use crate::stored::Stored;
+use base::{NoMemory, TryCopy};
 use label_sets::Text;
-use list_core::{NoMemory, TryCopy};
 use std::alloc::Global;
 use std::cmp::Ordering;
 use wire_bytes::Blob;

@@ -1,6 +1,6 @@
 ghost use Rattle.std.specs.Prelude.{◌≡◌};
 
-use list_core::NoMemory;
+use base::NoMemory;
 
 /// Why a bucket was not opened.
 #[derive(Clone, Copy, Debug, PartialEq, Eq)]

@@ -1,6 +1,6 @@
 -- A journal tells the report: two whole runs of one script that leave one journal print the same.
-use Rattle.list_core.proofs.Membership.{any_of_member, contains_first, contains_later, each_member, member_cases, no_member}
-use Rattle.list_core.proofs.Pairs.{first_in_zip}
+use Rattle.base.proofs.Membership.{any_of_member, contains_first, contains_later, each_member, member_cases, no_member}
+use Rattle.base.proofs.Pairs.{first_in_zip}
 use Rattle.std.proofs.Common.{◌≡◌, inl, inr, ℕ, ◌+◌, Bool, true, false, List, [], ◌∷◌, ◌++◌, Contains, Option, Some, None, refl, sym, ◌∙◌, ap, ap₂, subst, arith}
 use Rattle.std.specs.Prelude.{slice_get}
 use Rattle.std.specs.List.{AllZip, list_all, list_any, zip}

@@ -7,10 +7,10 @@ use Rattle.std.proofs.lemmas.List.{append-nil, map-append, take-append-drop}
 use Rattle.std.proofs.lemmas.List.Elements.{All-append, All-cons, All-contains, All-contains_itself, All-nil, All-weaker, recursion_from_All, Contains-append_left, Contains-append_right, filter-append}
 use Rattle.std.proofs.lemmas.Map.Keys.{IsDistinct-head, IsDistinct-tail}
 use Rattle.label_sets.specs.declared.series.Series.{Series}
-use Rattle.list_core.proofs.Lists.{find_holds, find_passes, take_none}
-use Rattle.list_core.proofs.Membership.{contains_first, each_member, into_map, member_cases, no_member}
+use Rattle.base.proofs.Lists.{find_holds, find_passes, take_none}
+use Rattle.base.proofs.Membership.{contains_first, each_member, into_map, member_cases, no_member}
 use Rattle.block_keys.specs.declared.object.Object.{Object}
-use Rattle.block_files.specs.declared.block_files.BlockFiles.{BlockFiles}
+use Rattle.block_meta.specs.declared.block_files.BlockFiles.{BlockFiles}
 use Rattle.block_content.specs.Checked.{checked_files}
 use Rattle.block_content.specs.declared.check_refusal.CheckRefusal.{CheckRefusal}
 use Rattle.block_content.specs.declared.checked.Checked.{Checked as CheckedBlock}

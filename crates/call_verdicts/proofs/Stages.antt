@@ -6,7 +6,7 @@ use Rattle.block_content.specs.Checked.{checked_files, checked_samples, checked_
 use Rattle.block_content.specs.Checking.{HasPassed}
 use Rattle.block_content.specs.declared.check_refusal.CheckRefusal.{CheckRefusal}
 use Rattle.block_content.specs.declared.checked.Checked.{Checked}
-use Rattle.block_files.specs.declared.block_files.BlockFiles.{BlockFiles}
+use Rattle.block_meta.specs.declared.block_files.BlockFiles.{BlockFiles}
 use Rattle.block_loading.specs.Loading.{AreWithinLimit, IsLoaded, RefusesLoad, RefusesOnShelf}
 use Rattle.block_loading.specs.LoadReading.{was_fault}
 use Rattle.block_loading.specs.LoadedChecks.{EndsCheck, loaded_files, loaded_ulid}
@@ -28,7 +28,7 @@ use Rattle.call_verdicts.specs.declared.verdict.Verdict.{Verdict}
 use Rattle.call_verdicts.proofs.ShelfReads.{found_of, if_any, ok_is}
 use Rattle.call_verdicts.proofs.HandedBack.{if_map}
 use Rattle.call_verdicts.proofs.Unfailed.{if_some}
-use Rattle.list_core.proofs.Pairs.{AllZip-push, AllZip-weaker}
+use Rattle.base.proofs.Pairs.{AllZip-push, AllZip-weaker}
 
 -- ---- a block is loaded
 

@@ -1,7 +1,7 @@
 -- What a call of the program comes to, why, and what it then writes.
 use Rattle.std.specs.Prelude.{◌≡◌, ◌≢◌, ◌⊎◌, ◌<◌, ℕ, List, [], ◌∷◌, ◌++◌, Bool, true, false, Option, Some, None, option_map, IfSome, IsSome, IsSomeAnd, Ok, Err, codes}
 use Rattle.std.specs.List.{list_all}
-use Rattle.reading_core.specs.Lines.{newline}
+use Rattle.base.specs.Lines.{newline}
 use Rattle.bucket_core.specs.Causes.{Rose}
 use Rattle.bucket_core.specs.Contents.{Contents, nothing}
 use Rattle.bucket_core.specs.Pages.{IsPage}

@@ -4,7 +4,7 @@ use Rattle.std.specs.Result.{result_ok}
 use Rattle.std.specs.Str.{bytes_eq}
 use Rattle.std.specs.String.{string_bytes}
 use Rattle.std.specs.declared.alloc.Global.{Global}
-use Rattle.reading_core.specs.Decimal.{unsigned_of}
+use Rattle.base.specs.Decimal.{unsigned_of}
 use Rattle.ulid_core.specs.UlidText.{ulid_of}
 
 -- the bucket of a run, which words of this name name: `NAME BUCKET SHELF`

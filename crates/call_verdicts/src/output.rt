@@ -2,8 +2,8 @@ ghost use Rattle.std.specs.Prelude.{◌≡◌, ◌≤◌, ◌++◌, List, ℕ, o
 ghost use Rattle.bucket_core.specs.Causes.{Rose};
 ghost use Rattle.call_verdicts.specs.Output.{IsWrittenInPart};
 
+use base::members_behind;
 use bucket_core::{Sink, WriteAnswer};
-use list_core::members_behind;
 
 /// The sink failed.
 #[derive(Clone, Copy, Debug, PartialEq, Eq)]

@@ -18,10 +18,10 @@ ghost use Rattle.call_verdicts.specs.Verdicts.{IfShort};
 
 use crate::shelf_loading::load_group;
 use crate::{CheckWay, Stage, Verdict};
+use base::NoMemory;
 use block_content::Checked;
 use block_loading::LoadRefusal;
 use bucket_core::Shelf;
-use list_core::NoMemory;
 use report_lines::script_running::{ShelfBlock, ShelfBlockList};
 use script_core::{Block, Script};
 use std::alloc::Global;

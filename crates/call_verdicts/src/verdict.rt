@@ -1,12 +1,12 @@
 ghost use Rattle.std.specs.Prelude.{◌≡◌, ◌≢◌, ◌++◌, ◌∷◌, [], codes, false, IfOk, OnErr, OnOk};
-ghost use Rattle.reading_core.specs.Lines.{newline};
+ghost use Rattle.base.specs.Lines.{newline};
 ghost use Rattle.report_lines.specs.CheckLines.{check_line};
 ghost use Rattle.script_fields.specs.Wording.{refusal_text};
 ghost use Rattle.call_verdicts.specs.Verdicts.{first_of, is_at_hand, last_of, status_of};
 
 use crate::Status;
+use base::NoMemory;
 use label_sets::Text;
-use list_core::NoMemory;
 use report_lines::{CheckOutcome, put_check};
 use script_core::ScriptRefusal;
 use std::alloc::Global;

@@ -1,7 +1,7 @@
 ghost use Rattle.std.specs.Prelude.{◌≡◌, Some, None, IfSome, option_map};
 ghost use Rattle.call_verdicts.specs.Words.{block_word, bucket_word, named_by, number_word, replay_shelf, replay_word, shelf_word};
 
-use reading_core::read_unsigned;
+use base::read_unsigned;
 use ulid_core::Ulid;
 
 /// The words that name the bucket and the shelf of a run.

@@ -5,10 +5,10 @@ use Rattle.std.specs.Result.{IsOkAnd}
 use Rattle.std.specs.Int.{w8, w32}
 use Rattle.std.proofs.lemmas.Bool.{leb-true, le-leb, eqb-true, eq-eqb}
 use Rattle.std.proofs.lemmas.List.{drop_at, drop_all}
-use Rattle.reading_core.specs.Reading.{◌>>◌, unless, refused_as, Answers}
-use Rattle.reading_core.specs.Grammar.{IsBytes, HasFront}
-use Rattle.reading_core.proofs.Fronts.{IsBytes-after, IsBytes-drop}
-use Rattle.reading_core.proofs.Binds.{bind_ok, unless_ok, refused_as_ok, ok_is, then_ok, unless_is}
+use Rattle.base.specs.Reading.{◌>>◌, unless, refused_as, Answers}
+use Rattle.base.specs.Grammar.{IsBytes, HasFront}
+use Rattle.base.proofs.Fronts.{IsBytes-after, IsBytes-drop}
+use Rattle.base.proofs.Binds.{bind_ok, unless_ok, refused_as_ok, ok_is, then_ok, unless_is}
 use Rattle.wire_bytes.specs.Position.{left, further, start}
 use Rattle.wire_bytes.specs.Fields.{number_at, uvarint_at, bytes_at, groups_of}
 use Rattle.wire_bytes.specs.FieldTexts.{IsFixed, IsUvarint}

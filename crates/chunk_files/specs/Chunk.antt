@@ -1,7 +1,7 @@
 -- Segments and the chunks in them, apart from reading and writing.
 use Rattle.std.specs.Prelude.{◌≡◌, ℕ, ◌≤◌, List, [], ◌∷◌, ◌++◌, length, drop}
 use Rattle.std.specs.Int.{w8, w32, to_be_bytes}
-use Rattle.reading_core.specs.Grammar.{HasFront}
+use Rattle.base.specs.Grammar.{HasFront}
 use Rattle.wire_bytes.specs.FieldTexts.{IsFixed, IsUvarint}
 use Rattle.wire_bytes.specs.Written.{uvarint_text}
 use Rattle.wire_bytes.specs.Crc.{crc}

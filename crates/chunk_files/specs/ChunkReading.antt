@@ -1,7 +1,7 @@
 -- What reading a chunk gives: its data, or the first refusal.
 use Rattle.std.specs.Prelude.{ℕ, ◌+◌, List, drop, slice_index, Result, Ok, Err, ◌==◌, ◌||◌, nat_le, if◌then◌else◌}
 use Rattle.std.specs.Int.{w8, w32}
-use Rattle.reading_core.specs.Reading.{◌>>=◌, ◌>>◌, unless, refused_as}
+use Rattle.base.specs.Reading.{◌>>=◌, ◌>>◌, unless, refused_as}
 use Rattle.wire_bytes.specs.Position.{start}
 use Rattle.wire_bytes.specs.Fields.{number_at, uvarint_at, bytes_at}
 use Rattle.wire_bytes.specs.Crc.{crc}

@@ -1,5 +1,5 @@
-pub use Rattle.reading_core.specs.Reading
-pub use Rattle.reading_core.specs.Grammar
+pub use Rattle.base.specs.Reading
+pub use Rattle.base.specs.Grammar
 pub use Rattle.wire_bytes.specs.Fields
 pub use Rattle.wire_bytes.specs.FieldTexts
 pub use Rattle.wire_bytes.specs.Written

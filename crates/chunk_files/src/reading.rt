@@ -1,7 +1,7 @@
 ghost use Rattle.std.specs.Prelude.{◌≡◌, ◌+◌, ◌<◌, ◌∷◌, IfOk, ℕ, List, slice_index, drop, length};
 ghost use Rattle.std.specs.Result.{IsOkAnd};
-ghost use Rattle.reading_core.specs.Grammar.{IsBytes};
-ghost use Rattle.reading_core.specs.Reading.{Answers, Steps, refused_as};
+ghost use Rattle.base.specs.Grammar.{IsBytes};
+ghost use Rattle.base.specs.Reading.{Answers, Steps, refused_as};
 ghost use Rattle.wire_bytes.specs.Crc.{crc};
 ghost use Rattle.wire_bytes.specs.Fields.{bytes_at};
 ghost use Rattle.chunk_files.specs.Chunk.{IsFront, IsPlace};

@@ -1,7 +1,7 @@
 ghost use Rattle.std.specs.Prelude.{◌≡◌};
 ghost use Rattle.chunk_files.specs.declared.segment_refusal.SegmentRefusal.TheVariants.{NoMemory as IsNoMemory};
 
-use list_core::NoMemory;
+use base::NoMemory;
 
 /// Why a chunk is not appended.
 #[derive(Clone, Copy, Debug, PartialEq, Eq)]

@@ -7,7 +7,7 @@ ghost use Rattle.chunk_files.specs.Layout.{greatest, xor};
 
 use crate::SegmentRefusal;
 use crate::layout::{FRAME_SIZE, GREATEST, MAGIC, VERSION, XOR};
-use list_core::{NoMemory, cut_on_err};
+use base::{NoMemory, cut_on_err};
 use std::alloc::Global;
 use std::marker::Model;
 use wire_bytes::{Blob, crc_of, put_bytes, put_u8, put_u32, put_uvarint};

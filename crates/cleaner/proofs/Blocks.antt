@@ -1,6 +1,6 @@
 -- What pages of the names of blocks, and reads of their marks and metas, lead to.
 use Rattle.std.proofs.Common.{◌≡◌, ℕ, suc, ◌+◌, ◌*◌, ◌-◌, ◌^◌, ◌<◌, ◌≤◌, Bool, true, List, [], ◌∷◌, ◌++◌, length, min, sym, ◌∙◌, ap, subst, Option, Some, None, Result, arith, length-append}
-use Rattle.list_core.specs.declared.memory.NoMemory.{NoMemory}
+use Rattle.base.specs.declared.memory.NoMemory.{NoMemory}
 use Rattle.block_meta.specs.MetaFields.{MarkFields}
 use Rattle.world_core.specs.Operations.{entry_of}
 use Rattle.world_core.specs.Plans.{Plan, Runs, ends, choose, after_get}

@@ -1,6 +1,6 @@
 -- A cleaning's steps are those of its plan.
 use Rattle.std.proofs.Common.{◌≡◌, ℕ, List, [], ◌∷◌, sym, ◌∙◌, ap, subst, Option, Some, None, unwrap_or, Result}
-use Rattle.list_core.specs.declared.memory.NoMemory.{NoMemory}
+use Rattle.base.specs.declared.memory.NoMemory.{NoMemory}
 use Rattle.block_keys.specs.declared.key.Key.{Key}
 use Rattle.world_core.specs.Leads.{after_entry}
 use Rattle.world_core.specs.Machines.{GoesOn}

@@ -2,9 +2,9 @@ ghost use Rattle.std.specs.Prelude.{◌≡◌, [], ◌∷◌, ◌++◌, drop, Is
 ghost use Rattle.block_keys.specs.Keys.{is_lawful_key};
 ghost use Rattle.cleaner.specs.Objects.{data_named, data_keys, have_lawful_keys, only_data as only_data_of};
 
+use base::NoMemory;
 use block_keys::{Key, text_in_block};
 use label_sets::Text;
-use list_core::NoMemory;
 use std::alloc::Global;
 use std::collections::VecDeque;
 use ulid_core::Ulid;

@@ -4,8 +4,8 @@ ghost use Rattle.world_core.specs.Walks.{last_listed};
 ghost use Rattle.cleaner.specs.Pages.{page_of};
 
 use crate::page::Page;
+use base::{NoMemory, TryCopy};
 use label_sets::Text;
-use list_core::{NoMemory, TryCopy};
 use std::alloc::Global;
 use world_core::{MOST_LISTED, ascends, is_short, last_name};
 

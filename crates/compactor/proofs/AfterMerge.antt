@@ -1,19 +1,19 @@
 -- What follows a merge.
 use Rattle.std.proofs.Common.{◌≡◌, ℕ, List, inr, subst, Result}
-use Rattle.list_core.specs.declared.memory.NoMemory.{NoMemory}
+use Rattle.base.specs.declared.memory.NoMemory.{NoMemory}
 use Rattle.label_sets.specs.declared.label.Label.{Label}
 use Rattle.moment_core.specs.declared.moment.Moment.{Moment}
 use Rattle.world_core.specs.Plans.{Plan, finds, IsAtMostOne}
 use Rattle.world_core.specs.declared.act.Act.{Act}
 use Rattle.compactor.specs.Compactions.{after_merge, merging}
 use Rattle.compactor.specs.CompactStates.{Begins, groups_left}
-use Rattle.compaction_inputs.specs.Merges.{IsMerging}
+use Rattle.compactor.specs.Merges.{IsMerging}
 use Rattle.compactor.specs.NewBlocks.{new_ulid}
-use Rattle.compaction_inputs.proofs.OneMerge.{one_merging}
+use Rattle.compactor.proofs.OneMerge.{one_merging}
 use Rattle.compactor.specs.declared.compact.Compact.{Compact}
 use Rattle.compactor.specs.declared.compact_end.CompactEnd.{CompactEnd}
-use Rattle.compaction_inputs.specs.declared.input.Input.{Input}
-use Rattle.compaction_inputs.specs.declared.merging.Merging.{Merging}
+use Rattle.compactor.specs.declared.input.Input.{Input}
+use Rattle.compactor.specs.declared.merging.Merging.{Merging}
 use Rattle.compactor.proofs.CompactSteps.{begins_as}
 
 -- a call goes on from the only one that is such

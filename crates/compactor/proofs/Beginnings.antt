@@ -1,6 +1,6 @@
 -- Parts that begin: their plan, and then what follows.
 use Rattle.std.proofs.Common.{◌≡◌, ℕ, List, [], ◌∷◌, refl, ap, ◌∙◌, Option, Result, Ok}
-use Rattle.list_core.specs.declared.memory.NoMemory.{NoMemory}
+use Rattle.base.specs.declared.memory.NoMemory.{NoMemory}
 use Rattle.label_sets.specs.declared.label.Label.{Label}
 use Rattle.block_meta.specs.declared.meta.Meta.{Meta}
 use Rattle.world_core.specs.Machines.{GoesOn}
@@ -12,22 +12,22 @@ use Rattle.world_core.specs.declared.act.Act.TheVariants as act
 use Rattle.group_planner.specs.Members.{ulids_of}
 use Rattle.compactor.specs.Compactions.{read_ends, merging, compacting}
 use Rattle.world_core.specs.Parts.{PartThen}
-use Rattle.block_marking.specs.Marking.{marking, marks_of}
-use Rattle.compaction_inputs.specs.Reading.{reads_block, reads_blocks, block_of}
-use Rattle.block_marking.specs.contracts.marks.MarksMachine.TheImpl.{ghosts as marks}
-use Rattle.compaction_inputs.specs.contracts.reads.ReadsMachine.TheImpl.{ghosts as reads}
+use Rattle.compactor.specs.Marking.{marking, marks_of}
+use Rattle.compactor.specs.Reading.{reads_block, reads_blocks, block_of}
+use Rattle.compactor.specs.contracts.marks.MarksMachine.TheImpl.{ghosts as marks}
+use Rattle.compactor.specs.contracts.reads.ReadsMachine.TheImpl.{ghosts as reads}
 use Rattle.compactor.specs.CompactStates.{may_compact, asked_compact, Begins, groups_left, after_reads}
 use Rattle.compactor.specs.declared.compact.Compact.{Compact}
 use Rattle.compactor.specs.declared.compact_end.CompactEnd.{CompactEnd}
 use Rattle.compactor.specs.declared.compact_end.CompactEnd.TheVariants.{Fault}
-use Rattle.block_marking.specs.declared.marks.Marks.{Marks}
-use Rattle.block_marking.specs.declared.marks_end.MarksEnd.{MarksEnd}
-use Rattle.block_marking.specs.declared.marks_end.MarksEnd.TheVariants as marked
-use Rattle.compaction_inputs.specs.declared.reads.Reads.{Reads}
-use Rattle.compaction_inputs.specs.declared.reads_end.ReadsEnd.{ReadsEnd}
-use Rattle.block_marking.specs.declared.reason.Reason.{Reason}
-use Rattle.block_marking.proofs.MarkSteps.{marks_then}
-use Rattle.compaction_inputs.proofs.ReadSteps.{reads_then}
+use Rattle.compactor.specs.declared.marks.Marks.{Marks}
+use Rattle.compactor.specs.declared.marks_end.MarksEnd.{MarksEnd}
+use Rattle.compactor.specs.declared.marks_end.MarksEnd.TheVariants as marked
+use Rattle.compactor.specs.declared.reads.Reads.{Reads}
+use Rattle.compactor.specs.declared.reads_end.ReadsEnd.{ReadsEnd}
+use Rattle.compactor.specs.declared.reason.Reason.{Reason}
+use Rattle.compactor.proofs.MarkSteps.{marks_then}
+use Rattle.compactor.proofs.ReadSteps.{reads_then}
 use Rattle.compactor.proofs.CompactSteps.{whole_runs, goes_as, part_asks, part_ends}
 
 module _ (old part : Marks) (reason : Reason) (ulids : List ℕ) (next : MarksEnd → Plan CompactEnd) (fails : (n : ℕ) → next (marked.Fault n) ≡ ends (Fault n)) (may_run : (entries : List Entry) (end : Option MarksEnd) (last : Marks) → marks.may old entries end last → Runs (marks_of reason 0 ulids) entries end) where

@@ -15,12 +15,12 @@ use Rattle.meta_fetcher.specs.declared.sync.Sync.{Sync}
 use Rattle.meta_fetcher.specs.declared.sync_end.SyncEnd.{SyncEnd}
 use Rattle.compactor.specs.Compactions.{sync_rules, after_sync, CompactRun}
 use Rattle.world_core.specs.Parts.{PartThen}
-use Rattle.compaction_inputs.proofs.ReadSteps.{ends_fit}
-use Rattle.compaction_inputs.specs.Reading.{FitsEnd}
-use Rattle.compaction_inputs.specs.contracts.reads.ReadsMachine.TheImpl.{ghosts as reads}
+use Rattle.compactor.proofs.ReadSteps.{ends_fit}
+use Rattle.compactor.specs.Reading.{FitsEnd}
+use Rattle.compactor.specs.contracts.reads.ReadsMachine.TheImpl.{ghosts as reads}
 use Rattle.compactor.specs.declared.compact_end.CompactEnd.{CompactEnd}
-use Rattle.compaction_inputs.specs.declared.reads.Reads.{Reads}
-use Rattle.compaction_inputs.specs.declared.reads_end.ReadsEnd.{ReadsEnd}
+use Rattle.compactor.specs.declared.reads.Reads.{Reads}
+use Rattle.compactor.specs.declared.reads_end.ReadsEnd.{ReadsEnd}
 use Rattle.compactor.specs.declared.stage.Stage.{Stage}
 use Rattle.compactor.specs.declared.stage.Stage.TheVariants.{Syncing}
 use Rattle.compactor.proofs.SyncParts.{joins}

@@ -1,15 +1,15 @@
 -- How many operations a compaction still asks for.
 use Rattle.std.proofs.Common.{◌≡◌, ◌+◌, ◌*◌, ◌<◌, ◌≤◌, ℕ, List, ◌∷◌, length, length-append, Result, Ok, Err, sym, ap, subst, ◌∙◌, arith}
-use Rattle.list_core.specs.declared.memory.NoMemory.{NoMemory}
+use Rattle.base.specs.declared.memory.NoMemory.{NoMemory}
 use Rattle.world_core.specs.Machines.{Falls}
 use Rattle.world_core.specs.declared.op.Op.{Op}
 use Rattle.world_core.specs.declared.act.Act.{Act}
 use Rattle.world_core.specs.declared.act.Act.TheVariants as act
 use Rattle.group_planner.specs.declared.group.Group.{Group}
 use Rattle.compactor.specs.CompactStates.{most_asked, count_at, count_of}
-use Rattle.compaction_inputs.specs.Jobs.{TakesJob}
+use Rattle.compactor.specs.Jobs.{TakesJob}
 use Rattle.compactor.specs.declared.compact.Compact.{Compact}
-use Rattle.compaction_inputs.specs.declared.job.Job.{Job}
+use Rattle.compactor.specs.declared.job.Job.{Job}
 use Rattle.compactor.specs.declared.stage.Stage.{Stage}
 
 -- a part that asks falls

@@ -1,6 +1,6 @@
 -- A compaction's parts, and what follows them.
 use Rattle.std.proofs.Common.{◌≡◌, ℕ, List, [], ◌∷◌, ◌++◌, refl, sym, subst, ◌∙◌, inl, inr, Option, Some, None, IsSomeAnd, Result, Ok}
-use Rattle.list_core.specs.declared.memory.NoMemory.{NoMemory}
+use Rattle.base.specs.declared.memory.NoMemory.{NoMemory}
 use Rattle.world_core.specs.Leads.{Waits}
 use Rattle.world_core.specs.Machines.{GoesOn}
 use Rattle.world_core.specs.Operations.{IsAnswer, entry_of}
@@ -17,10 +17,10 @@ use Rattle.shipper.specs.contracts.upload.UploadMachine.TheImpl.{ghosts as uploa
 use Rattle.shipper.proofs.Steps.{rests as upload_rests, answers as upload_answers}
 use Rattle.meta_fetcher.specs.contracts.sync.SyncMachine.TheImpl.{ghosts as syncs}
 use Rattle.meta_fetcher.proofs.Steps.{rests as sync_rests, answers as sync_answers}
-use Rattle.block_marking.specs.contracts.marks.MarksMachine.TheImpl.{ghosts as marks}
-use Rattle.block_marking.proofs.MarkSteps.{rests as marks_rest, answers as marks_answer}
-use Rattle.compaction_inputs.specs.contracts.reads.ReadsMachine.TheImpl.{ghosts as reads}
-use Rattle.compaction_inputs.proofs.ReadSteps.{rests as reads_rest, answers as reads_answer}
+use Rattle.compactor.specs.contracts.marks.MarksMachine.TheImpl.{ghosts as marks}
+use Rattle.compactor.proofs.MarkSteps.{rests as marks_rest, answers as marks_answer}
+use Rattle.compactor.specs.contracts.reads.ReadsMachine.TheImpl.{ghosts as reads}
+use Rattle.compactor.proofs.ReadSteps.{rests as reads_rest, answers as reads_answer}
 use Rattle.compactor.specs.Compactions.{after_sync}
 use Rattle.compactor.specs.CompactStates.{Onward, may_at, may_compact, asked_at, asked_compact, after_reads, after_put, after_marks, goes_after, Goes, Begins}
 use Rattle.compactor.specs.declared.stage.Stage.{Stage}

@@ -24,22 +24,22 @@ use Rattle.group_planner.specs.Members.{ulids_of}
 use Rattle.group_planner.specs.Plans.{IsPlan}
 use Rattle.group_planner.specs.declared.group.Group.{Group}
 use Rattle.group_planner.proofs.GroupLaws.{one_answer}
-use Rattle.block_marking.specs.NewMarks.{new_mark_text}
+use Rattle.compactor.specs.NewMarks.{new_mark_text}
 use Rattle.compactor.specs.NewBlocks.{new_ulid, block_objects}
-use Rattle.block_marking.specs.Marking.{details_of, marking}
-use Rattle.compaction_inputs.specs.Named.{named_segments}
-use Rattle.compaction_inputs.specs.Reading.{read_at, reads, reads_segments, after_index, reads_block, reads_blocks}
-use Rattle.compaction_inputs.specs.declared.input.Input.{Input}
-use Rattle.compaction_inputs.specs.declared.input.Read.{Read}
-use Rattle.block_marking.specs.declared.reason.Reason.{Reason}
-use Rattle.block_marking.specs.declared.reason.Reason.TheVariants.{Covered, Compacted, Expired}
-use Rattle.compaction_inputs.specs.declared.merging.Merging.{Merging}
-use Rattle.compaction_inputs.specs.declared.merging.Merging.TheVariants as merging_is
+use Rattle.compactor.specs.Marking.{details_of, marking}
+use Rattle.compactor.specs.Named.{named_segments}
+use Rattle.compactor.specs.Reading.{read_at, reads, reads_segments, after_index, reads_block, reads_blocks}
+use Rattle.compactor.specs.declared.input.Input.{Input}
+use Rattle.compactor.specs.declared.input.Read.{Read}
+use Rattle.compactor.specs.declared.reason.Reason.{Reason}
+use Rattle.compactor.specs.declared.reason.Reason.TheVariants.{Covered, Compacted, Expired}
+use Rattle.compactor.specs.declared.merging.Merging.{Merging}
+use Rattle.compactor.specs.declared.merging.Merging.TheVariants as merging_is
 use Rattle.meta_fetcher.specs.OneView.{one_end_of}
 use Rattle.group_planner.proofs.PlanLaws.{one_plan}
-use Rattle.compaction_inputs.specs.Jobs.{IsUnplanned}
+use Rattle.compactor.specs.Jobs.{IsUnplanned}
 use Rattle.compactor.specs.Counts.{with_planned, HavePlans, IsCounted}
-use Rattle.block_marking.specs.FoundNames.{names_of, expired_at}
+use Rattle.compactor.specs.FoundNames.{names_of, expired_at}
 use Rattle.compactor.specs.Compactions.{read_ends, last_number, after_upload, after_merge, merging, compacting, compacting_groups, metas_of, rounds, sync_rules, after_sync, CompactRun}
 use Rattle.compactor.specs.declared.compact_end.CompactEnd.{CompactEnd}
 use Rattle.compactor.specs.declared.compact_end.CompactEnd.TheVariants.{Done, Fault, Missing}

@@ -4,8 +4,8 @@ use Rattle.std.specs.List.{AllByRecursion}
 use Rattle.world_core.specs.Plans.{Plan, Runs, Keeps}
 use Rattle.group_planner.specs.declared.group.Group.{Group}
 use Rattle.compactor.specs.Compactions.{compacting, compacting_groups}
-use Rattle.compaction_inputs.specs.Jobs.{IsUnplanned, metas_of, Skips, TakesJob}
-use Rattle.compaction_inputs.specs.declared.job.Job.{Job}
+use Rattle.compactor.specs.Jobs.{IsUnplanned, metas_of, Skips, TakesJob}
+use Rattle.compactor.specs.declared.job.Job.{Job}
 use Rattle.compactor.specs.declared.compact_end.CompactEnd.{CompactEnd}
 
 module _ (replicas : List (List ℕ)) (compacted : ℕ) (next : ℕ → Plan CompactEnd) where

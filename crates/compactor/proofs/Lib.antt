@@ -1,3 +1,17 @@
+pub mod MarkSteps
+pub mod MarkRooms
+mod Expired
+mod LastNamed
+pub mod ReadSteps
+mod PutTogether
+mod Refusing
+pub mod MergedInputs
+mod OneRefusal
+pub mod OneMerge
+mod ReadRooms
+pub mod ReadCounts
+pub mod TwoPlanned
+mod SkippedGroups
 mod JobRuns
 mod CompactCounts
 mod CompactSteps

@@ -1,6 +1,6 @@
 -- What is done with a view.
 use Rattle.std.proofs.Common.{◌≡◌, ◌+◌, ℕ, List, [], inr, subst, Option, Result}
-use Rattle.list_core.specs.declared.memory.NoMemory.{NoMemory}
+use Rattle.base.specs.declared.memory.NoMemory.{NoMemory}
 use Rattle.world_core.specs.declared.act.Act.{Act}
 use Rattle.moment_core.specs.declared.span.Span.{Span}
 use Rattle.world_core.specs.Plans.{Plan, Runs, Keeps}
@@ -9,20 +9,20 @@ use Rattle.group_planner.specs.Groups.{AreGroups}
 use Rattle.group_planner.specs.declared.group.Group.{Group}
 use Rattle.group_planner.proofs.GroupLaws.{one_answer}
 use Rattle.world_core.specs.Plans.{finds, ends}
-use Rattle.block_marking.specs.FoundNames.{names_of, expired_at}
+use Rattle.compactor.specs.FoundNames.{names_of, expired_at}
 use Rattle.compactor.specs.Compactions.{metas_of, rounds}
 use Rattle.compactor.specs.CompactStates.{groups_from, groups_left, marks_left, Begins}
 use Rattle.compactor.specs.Compactions.{compacting}
-use Rattle.compaction_inputs.specs.Jobs.{Skips, TakesJob, metas_of as job_metas}
+use Rattle.compactor.specs.Jobs.{Skips, TakesJob, metas_of as job_metas}
 use Rattle.compactor.specs.declared.compact.Compact.{Compact}
-use Rattle.compaction_inputs.specs.declared.job.Job.{Job}
+use Rattle.compactor.specs.declared.job.Job.{Job}
 use Rattle.compactor.proofs.CompactSteps.{begins_as}
 use Rattle.compactor.proofs.JobRuns.{all_skipped, job_runs}
-use Rattle.block_marking.specs.Marking.{marking}
-use Rattle.block_marking.specs.declared.reason.Reason.TheVariants.{Covered, Expired}
+use Rattle.compactor.specs.Marking.{marking}
+use Rattle.compactor.specs.declared.reason.Reason.TheVariants.{Covered, Expired}
 use Rattle.compactor.specs.declared.compact_end.CompactEnd.{CompactEnd}
 use Rattle.compactor.specs.declared.compact_end.CompactEnd.TheVariants.{Done, Fault}
-use Rattle.block_marking.proofs.MarkSteps.{marks_keep}
+use Rattle.compactor.proofs.MarkSteps.{marks_keep}
 
 view_keeps : (replicas : List (List ℕ)) (retention : Option Span) (view : View) (covered expired : List ℕ) (groups : List Group)
     → covered ≡ names_of view.covered → expired ≡ names_of (expired_at retention view.begin view.kept) → AreGroups replicas (metas_of view.kept) groups

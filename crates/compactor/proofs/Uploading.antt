@@ -1,10 +1,10 @@
 -- The upload of a new block, and then what follows.
 use Rattle.std.proofs.Common.{◌≡◌, ℕ, List, [], ◌∷◌, inl, inr, sym, ap, subst, ◌∙◌, Option, Some, None, Result, Ok, fold}
 use Rattle.std.specs.Prelude.{IfOk}
-use Rattle.list_core.specs.declared.memory.NoMemory.{NoMemory}
+use Rattle.base.specs.declared.memory.NoMemory.{NoMemory}
 use Rattle.block_keys.specs.Blocks.{IsBlock}
 use Rattle.block_keys.specs.declared.object.Object.{Object}
-use Rattle.block_files.specs.declared.block_files.BlockFiles.{BlockFiles}
+use Rattle.block_meta.specs.declared.block_files.BlockFiles.{BlockFiles}
 use Rattle.world_core.specs.Machines.{GoesOn}
 use Rattle.world_core.specs.Plans.{Plan, Runs, ends, never, asks, finds, and_then, noting}
 use Rattle.world_core.specs.declared.op.Op.{Op}
@@ -20,7 +20,7 @@ use Rattle.compactor.specs.Compactions.{last_number, after_upload}
 use Rattle.compactor.specs.NewBlocks.{block_objects}
 use Rattle.world_core.specs.Parts.{PartThen}
 use Rattle.compactor.specs.CompactStates.{Onward, may_compact, asked_compact, Begins, Goes, marks_left, after_put}
-use Rattle.block_marking.specs.declared.reason.Reason.TheVariants.{Compacted}
+use Rattle.compactor.specs.declared.reason.Reason.TheVariants.{Compacted}
 use Rattle.compactor.specs.declared.compact.Compact.{Compact}
 use Rattle.compactor.specs.declared.compact_end.CompactEnd.{CompactEnd}
 use Rattle.world_core.proofs.PlanParts.{begun, goes_on, hands_on}

@@ -1,6 +1,6 @@
 -- What is left of a compaction in each of its states. What a part waits for and may still do, its members as a machine say.
 use Rattle.std.specs.Prelude.{◌≡◌, ℕ, ◌+◌, ◌*◌, ◌^◌, fold, List, ◌∷◌, length, Option, None, Result}
-use Rattle.list_core.specs.declared.memory.NoMemory.{NoMemory}
+use Rattle.base.specs.declared.memory.NoMemory.{NoMemory}
 use Rattle.label_sets.specs.declared.label.Label.{Label}
 use Rattle.world_core.specs.Leads as lead
 use Rattle.world_core.specs.Parts.{PartThen}
@@ -12,15 +12,15 @@ use Rattle.shipper.specs.contracts.upload.UploadMachine.TheImpl.{ghosts as uploa
 use Rattle.shipper.specs.declared.upload_end.UploadEnd.{UploadEnd}
 use Rattle.meta_fetcher.specs.contracts.sync.SyncMachine.TheImpl.{ghosts as syncs}
 use Rattle.group_planner.specs.declared.group.Group.{Group}
-use Rattle.block_marking.specs.Marking.{marking}
-use Rattle.block_marking.specs.contracts.marks.MarksMachine.TheImpl.{ghosts as marks}
-use Rattle.block_marking.specs.declared.reason.Reason.{Reason}
-use Rattle.block_marking.specs.declared.reason.Reason.TheVariants.{Covered, Compacted, Expired}
-use Rattle.block_marking.specs.declared.marks_end.MarksEnd.{MarksEnd}
-use Rattle.block_marking.specs.declared.marks_end.MarksEnd.TheVariants as marked
-use Rattle.compaction_inputs.specs.contracts.reads.ReadsMachine.TheImpl.{ghosts as reads}
-use Rattle.compaction_inputs.specs.declared.reads_end.ReadsEnd.{ReadsEnd}
-use Rattle.compaction_inputs.specs.declared.reads_end.ReadsEnd.TheVariants as read
+use Rattle.compactor.specs.Marking.{marking}
+use Rattle.compactor.specs.contracts.marks.MarksMachine.TheImpl.{ghosts as marks}
+use Rattle.compactor.specs.declared.reason.Reason.{Reason}
+use Rattle.compactor.specs.declared.reason.Reason.TheVariants.{Covered, Compacted, Expired}
+use Rattle.compactor.specs.declared.marks_end.MarksEnd.{MarksEnd}
+use Rattle.compactor.specs.declared.marks_end.MarksEnd.TheVariants as marked
+use Rattle.compactor.specs.contracts.reads.ReadsMachine.TheImpl.{ghosts as reads}
+use Rattle.compactor.specs.declared.reads_end.ReadsEnd.{ReadsEnd}
+use Rattle.compactor.specs.declared.reads_end.ReadsEnd.TheVariants as read
 use Rattle.compactor.specs.Compactions.{last_number, after_upload, merging, compacting_groups, after_sync}
 use Rattle.compactor.specs.declared.stage.Stage.{Stage}
 use Rattle.compactor.specs.declared.stage.Stage.TheVariants.{Syncing, Reading, Uploading, Marking, Over}

@@ -26,16 +26,16 @@ use Rattle.group_planner.specs.declared.group.Group.{Group}
 use Rattle.group_planner.proofs.GroupLaws.{one_answer}
 use Rattle.group_planner.proofs.PlanLaws.{one_plan}
 use Rattle.compactor.specs.NewBlocks.{new_ulid, block_objects}
-use Rattle.block_marking.specs.FoundNames.{names_of, expired_at}
-use Rattle.block_marking.specs.Marking.{marking}
-use Rattle.compaction_inputs.specs.Reading.{ReadEnds, reads_block, reads_blocks}
-use Rattle.compaction_inputs.specs.declared.input.Input.{Input}
-use Rattle.block_marking.specs.declared.reason.Reason.TheVariants.{Covered, Compacted, Expired}
-use Rattle.compaction_inputs.specs.Merges.{IsMerging}
-use Rattle.compaction_inputs.specs.declared.merging.Merging.{Merging}
-use Rattle.compaction_inputs.specs.declared.merging.Merging.TheVariants as merging_is
+use Rattle.compactor.specs.FoundNames.{names_of, expired_at}
+use Rattle.compactor.specs.Marking.{marking}
+use Rattle.compactor.specs.Reading.{ReadEnds, reads_block, reads_blocks}
+use Rattle.compactor.specs.declared.input.Input.{Input}
+use Rattle.compactor.specs.declared.reason.Reason.TheVariants.{Covered, Compacted, Expired}
+use Rattle.compactor.specs.Merges.{IsMerging}
+use Rattle.compactor.specs.declared.merging.Merging.{Merging}
+use Rattle.compactor.specs.declared.merging.Merging.TheVariants as merging_is
 use Rattle.meta_fetcher.specs.OneView.{one_end_of}
-use Rattle.compaction_inputs.proofs.OneMerge.{one_merging}
+use Rattle.compactor.proofs.OneMerge.{one_merging}
 use Rattle.compactor.specs.declared.compact_end.CompactEnd.{CompactEnd}
 use Rattle.compactor.specs.declared.compact_end.CompactEnd.TheVariants.{Done, Fault, Missing, Damaged, TooMany, TooLarge}
 

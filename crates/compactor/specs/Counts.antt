@@ -10,7 +10,7 @@ use Rattle.meta_fetcher.specs.declared.view.View.{View}
 use Rattle.group_planner.specs.Groups.{AreGroups}
 use Rattle.group_planner.specs.Plans.{IsPlan}
 use Rattle.group_planner.specs.declared.group.Group.{Group}
-use Rattle.compaction_inputs.specs.Jobs.{IsUnplanned}
+use Rattle.compactor.specs.Jobs.{IsUnplanned}
 use Rattle.compactor.specs.Compactions.{metas_of, sync_rules}
 
 -- one more, unless the plan is empty

@@ -1,8 +1,8 @@
 -- The blocks that a compaction uploads, under new ULIDs.
 use Rattle.std.specs.Prelude.{ℕ, ◌+◌, ◌*◌, ◌%◌, List}
 use Rattle.block_keys.specs.declared.object.Object.{Object}
-use Rattle.block_files.specs.Built.{objects_of}
-use Rattle.block_files.specs.declared.block_files.BlockFiles.{BlockFiles}
+use Rattle.block_meta.specs.Built.{objects_of}
+use Rattle.block_meta.specs.declared.block_files.BlockFiles.{BlockFiles}
 use Rattle.block_meta.specs.MetaFields.{fields_of}
 use Rattle.block_meta.specs.MetaValue.{meta_text}
 use Rattle.moment_core.specs.declared.moment.Moment.{Moment}

@@ -6,20 +6,21 @@ ghost use Rattle.world_core.specs.declared.entry.Entry.{Entry};
 ghost use Rattle.world_core.specs.Plans.{Runs};
 ghost use Rattle.group_planner.specs.Members.{ulids_of};
 ghost use Rattle.compactor.specs.Compactions.{after_sync as sync_led_to, after_merge, after_upload as upload_led_to, compacting, merging, rounds, CompactRun};
-ghost use Rattle.compaction_inputs.specs.Jobs.{metas_of};
-ghost use Rattle.compaction_inputs.specs.Reading.{FitsEnd, MayMerge};
+ghost use Rattle.compactor.specs.Jobs.{metas_of};
+ghost use Rattle.compactor.specs.Reading.{FitsEnd, MayMerge};
 ghost use Rattle.compactor.specs.declared.compact_end.CompactEnd.{CompactEnd};
 
-use crate::CompactEnd;
 use crate::new_block::new_ulid;
 use crate::stage::Stage;
 use crate::sync_rules::sync_rules;
-use block_files::{BlockFiles, files_objects};
-use block_marking::{Marks, MarksEnd, Reason, expired_ulids, found_ulids};
-use compaction_inputs::{Gathered, Job, Merging, Reads, ReadsEnd, merge_inputs, next_job};
+use crate::{
+    CompactEnd, Gathered, Job, Marks, MarksEnd, Merging, Reads, ReadsEnd, Reason, expired_ulids,
+    found_ulids, merge_inputs, next_job,
+};
+use base::{NoMemory, TryCopy};
+use block_meta::{BlockFiles, files_objects};
 use group_planner::{Group, groups};
 use label_sets::{LabelSet, TextList};
-use list_core::{NoMemory, TryCopy};
 use meta_fetcher::{Sync, SyncEnd, View};
 use moment_core::{Rules, Span};
 use shipper::{Upload, UploadEnd};

@@ -1,5 +1,4 @@
-use block_marking::{Marks, Reason};
-use compaction_inputs::Reads;
+use crate::{Marks, Reads, Reason};
 use label_sets::LabelSet;
 use meta_fetcher::Sync;
 use shipper::Upload;

@@ -5,8 +5,8 @@ use Rattle.std.specs.Cmp.Lexicographic.{slice_cmp}
 use Rattle.std.specs.Ordering.{nat_cmp, is_lt}
 use Rattle.std.proofs.lemmas.List.Elements.{All-append, All-cons, All-nil}
 use Rattle.std.proofs.lemmas.Option.{same_Some}
-use Rattle.list_core.proofs.Bools.{Less-from_is_lt}
-use Rattle.list_core.specs.Order.{InOrderAfter, ComesAfter}
+use Rattle.base.proofs.Bools.{Less-from_is_lt}
+use Rattle.base.specs.Order.{InOrderAfter, ComesAfter}
 use Rattle.label_sets.specs.Labels.{ComesBefore, compare_texts}
 use Rattle.dir_bucket.specs.Listings.{IsListing}
 use Rattle.dir_bucket.specs.Names.{is_plain}

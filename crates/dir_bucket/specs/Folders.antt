@@ -1,7 +1,7 @@
 -- What is told of a bucket and of a shelf in a folder: which folder it is, and how often they have failed.
 use Rattle.std.specs.Prelude.{ℕ, List, Option, Some}
 use Rattle.std.specs.String.{string_bytes}
-use Rattle.call_notes.specs.Named.{names_told}
+use Rattle.bucket_core.specs.Named.{names_told}
 use Rattle.dir_bucket.specs.declared.dir_bucket.DirBucket.{DirBucket}
 use Rattle.dir_bucket.specs.declared.dir_shelf.DirShelf.{DirShelf}
 

@@ -4,7 +4,7 @@ use Rattle.bucket_core.specs.Asking.{Call}
 use Rattle.bucket_core.specs.Contents.{Contents, IsKey}
 use Rattle.bucket_core.specs.KeyLaw.{told_is_key as objects_are_keys}
 use Rattle.bucket_core.specs.MemoryBucket.{objects_held, faults_counted as memory_faults, IsQuiet as IsQuietMemory}
-use Rattle.call_notes.specs.Noted.{calls_told}
+use Rattle.bucket_core.specs.Noted.{calls_told}
 use Rattle.dir_bucket.specs.Folders.{bucket_faults, bucket_folder}
 use Rattle.dir_bucket.specs.declared.host_bucket.HostBucket.{HostBucket}
 use Rattle.dir_bucket.specs.declared.host_bucket.HostBucket.TheVariants.{Memory, Folder}

@@ -1,6 +1,6 @@
 -- What a page of a folder shows, whatever the folder holds, and what a read of a part of a file gives.
 use Rattle.std.specs.Prelude.{◌≡◌, ℕ, ◌≤◌, true, List, length, All, Some}
-use Rattle.list_core.specs.Order.{InOrderAfter, ComesAfter}
+use Rattle.base.specs.Order.{InOrderAfter, ComesAfter}
 use Rattle.label_sets.specs.Labels.{compare_texts}
 use Rattle.bucket_core.specs.declared.answer.GetAnswer.{GetAnswer}
 use Rattle.bucket_core.specs.declared.answer.GetAnswer.TheVariants as get

@@ -6,9 +6,8 @@ ghost use Rattle.dir_bucket.specs.Folders.{names_noted, shelf_faults, shelf_fold
 
 use crate::files::{is_absent, read_range};
 use crate::names::is_plain;
-use bucket_core::{FILE_LIMIT, Shelf, ShelfAnswer, SiteRefusal};
-use call_notes::NameNotes;
-use list_core::NoMemory;
+use base::NoMemory;
+use bucket_core::{FILE_LIMIT, NameNotes, Shelf, ShelfAnswer, SiteRefusal};
 use std::io::ErrorKind;
 use std::rt::Files;
 use std::{fs, io};

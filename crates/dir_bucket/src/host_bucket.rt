@@ -1,8 +1,9 @@
 ghost use Rattle.std.specs.Prelude.{◌≡◌};
 
 use crate::DirBucket;
-use bucket_core::{Bucket, DeleteAnswer, GetAnswer, MemoryBucket, PageAnswer, PutAnswer};
-use call_notes::CallNotes;
+use bucket_core::{
+    Bucket, CallNotes, DeleteAnswer, GetAnswer, MemoryBucket, PageAnswer, PutAnswer,
+};
 use std::rt::Files;
 use wire_bytes::Blob;
 

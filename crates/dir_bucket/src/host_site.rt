@@ -4,8 +4,7 @@ ghost use Rattle.dir_bucket.specs.HostBucket.{calls_noted, contents_told, faults
 ghost use Rattle.dir_bucket.specs.Places.{contents_under, folder_under};
 
 use crate::{DirBucket, DirShelf, HostBucket};
-use bucket_core::{FailList, MemoryBucket, Site, SiteRefusal};
-use call_notes::CallNotes;
+use bucket_core::{CallNotes, FailList, MemoryBucket, Site, SiteRefusal};
 use std::rt::Files;
 
 /// The name of a bucket in memory. All other names are those of folders.

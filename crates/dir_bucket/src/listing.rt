@@ -1,15 +1,15 @@
 //! The names of files below a folder. Names with a part that begins with a dot are passed over, and so are those that are no
 //! text.
 ghost use Rattle.std.specs.Prelude.{◌≡◌, [], ◌∷◌, ◌++◌, Some, IfOk, IsTrue, true};
-ghost use Rattle.list_core.specs.Order.{InOrderAfter, ComesAfter};
+ghost use Rattle.base.specs.Order.{InOrderAfter, ComesAfter};
 ghost use Rattle.label_sets.specs.Labels.{compare_texts};
 ghost use Rattle.dir_bucket.specs.Listings.{IsListing};
 ghost use Rattle.dir_bucket.specs.Names.{is_plain as is_plain_name};
 
 use crate::files::{is_absent, path_of};
 use crate::names::is_plain;
+use base::List;
 use label_sets::{Text, TextList};
-use list_core::List;
 use std::alloc::Global;
 use std::collections::BinaryHeap;
 use std::fs::DirEntry;

@@ -9,9 +9,9 @@ use Rattle.std.proofs.lemmas.Nat.{mod_low}
 use Rattle.std.specs.Int.Digits.{AllBelowBase}
 use Rattle.std.proofs.lemmas.List.{length-append, same_from_push}
 use Rattle.std.proofs.lemmas.List.Sorted.{IsPermutation-refl}
-use Rattle.reading_core.specs.Lines.{line_feed}
-use Rattle.reading_core.specs.Decimal.{decimal_text, signed_text}
-use Rattle.reading_core.proofs.Decimals.{decimal_again, decimal_digits}
+use Rattle.base.specs.Lines.{line_feed}
+use Rattle.base.specs.Decimal.{decimal_text, signed_text}
+use Rattle.base.proofs.Decimals.{decimal_again, decimal_digits}
 use Rattle.ulid_core.specs.UlidText.{alphabet, character, text_of}
 use Rattle.ulid_core.proofs.UlidLaws.{IsUlidText-text_of, length-text_of}
 use Rattle.label_sets.specs.Notation.{is_name, quoted, quoted_byte, pair_text, comma_pair_text, pairs_text, set_text}
@@ -34,8 +34,8 @@ use Rattle.generated_day.specs.Day.{all_blocks_text, all_series_text, block_line
 use Rattle.generated_day.proofs.DayNumbers.{decimal_short, near_by}
 use Rattle.generated_day.proofs.DaySeries.{all_short, all_tell, first_series, two_named, with_first}
 use Rattle.generated_day.proofs.Tells.{Tells, digit_prints, in_range, is_print, speaks, tells_both, tells_line, tells_nothing}
-use Rattle.list_core.proofs.Bools.{or_true}
-use Rattle.list_core.proofs.Lists.{pushed_not_nil}
+use Rattle.base.proofs.Bools.{or_true}
+use Rattle.base.proofs.Lists.{pushed_not_nil}
 
 -- ---- numbers
 

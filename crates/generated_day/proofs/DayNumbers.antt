@@ -2,8 +2,8 @@
 use Rattle.std.proofs.Common.{◌≡◌, ℕ, ◌<◌, ◌≤◌, ◌^◌, pos, true, length, ap, arith}
 use Rattle.std.proofs.lemmas.Bool.Decides.{nat_tests}
 use Rattle.std.proofs.lemmas.Fmt.{length_signed_le}
-use Rattle.reading_core.specs.Decimal.{decimal_text, signed_text}
-use Rattle.reading_core.proofs.Printed.{printed_signed}
+use Rattle.base.specs.Decimal.{decimal_text, signed_text}
+use Rattle.base.proofs.Printed.{printed_signed}
 use Rattle.script_core.specs.Spelling.{IsNear}
 use Rattle.script_fields.specs.Values.{is_time}
 use Rattle.script_core.proofs.SpelledValues.{near_spelled, near_tested}

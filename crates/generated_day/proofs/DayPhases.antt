@@ -7,9 +7,9 @@ use Rattle.std.proofs.lemmas.Int.{ints}
 use Rattle.std.proofs.lemmas.List.{length-append, length-map, same_from_push}
 use Rattle.std.proofs.lemmas.List.Elements.{All-nil}
 use Rattle.std.proofs.lemmas.List.Folds.{list_any-append}
-use Rattle.reading_core.specs.Decimal.{decimal_text, is_decimal}
-use Rattle.reading_core.specs.ShortNumber.{is_number}
-use Rattle.reading_core.proofs.Decimals.{decimal_again, decimal_digits, decimal_found}
+use Rattle.base.specs.Decimal.{decimal_text, is_decimal}
+use Rattle.base.specs.ShortNumber.{is_number}
+use Rattle.base.proofs.Decimals.{decimal_again, decimal_digits, decimal_found}
 use Rattle.ulid_core.specs.UlidText.{text_of}
 use Rattle.moment_core.specs.MomentText.{IsMomentText}
 use Rattle.matchers.specs.SelectorRefusals.{IsReadable}
@@ -28,7 +28,7 @@ use Rattle.script_core.specs.declared.block.Block.{Block}
 use Rattle.script_core.specs.declared.script.Script.{Script}
 use Rattle.std.specs.Str.{bytes_eq}
 use Rattle.std.specs.Prelude.{position}
-use Rattle.reading_core.specs.Lines.{line_feed}
+use Rattle.base.specs.Lines.{line_feed}
 use Rattle.label_sets.specs.Notation.{is_name}
 use Rattle.script_core.proofs.Kept.{works_of-append}
 use Rattle.script_core.proofs.SampleSigns.{all_joined}
@@ -37,8 +37,8 @@ use Rattle.generated_day.specs.Day.{at_line, ulid_of, upload_line}
 use Rattle.generated_day.proofs.DayNumbers.{decimal_short}
 use Rattle.generated_day.proofs.DayBlocks.{Ready, day_gateways, day_rules, decimal_field, digits_print, is_ulid, setup, time_text, ulid_prints}
 use Rattle.generated_day.proofs.Tells.{Tells, is_print, speaks, tells_line}
-use Rattle.list_core.proofs.Bools.{or_true}
-use Rattle.list_core.proofs.Lists.{pushed_not_nil}
+use Rattle.base.proofs.Bools.{or_true}
+use Rattle.base.proofs.Lists.{pushed_not_nil}
 
 -- ---- moments
 

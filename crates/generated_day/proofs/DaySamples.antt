@@ -9,9 +9,9 @@ use Rattle.std.proofs.lemmas.Bool.Decides.{nat_tests}
 use Rattle.std.proofs.lemmas.Int.{ints}
 use Rattle.std.proofs.lemmas.List.{length-append, length-map}
 use Rattle.std.proofs.lemmas.List.Elements.{All-cons, All-head, All-nil, All-tail}
-use Rattle.reading_core.specs.Decimal.{decimal_text, signed_text}
-use Rattle.reading_core.specs.FixedDigits.{fixed_digits}
-use Rattle.reading_core.proofs.Positional.{length-fixed_digits}
+use Rattle.base.specs.Decimal.{decimal_text, signed_text}
+use Rattle.base.specs.FixedDigits.{fixed_digits}
+use Rattle.base.proofs.Positional.{length-fixed_digits}
 use Rattle.label_sets.specs.SampleText.{hex_sign, hex_text, pattern_text, sample_text, spaced_sample_text, timed_text}
 use Rattle.label_sets.specs.Times.{times_of, IsWithin}
 use Rattle.label_sets.specs.declared.sample.Sample.{Sample}

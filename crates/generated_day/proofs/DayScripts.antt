@@ -2,7 +2,7 @@
 use Rattle.std.proofs.Common.{◌≡◌, ℕ, zero, suc, ◌+◌, ◌-◌, ◌*◌, ◌<◌, ◌≤◌, ◌^◌, pos, Bool, true, false, List, [], ◌∷◌, ◌++◌, length, None, refl, sym, subst, arith, codes, append-nil}
 use Rattle.std.specs.List.{list_all, flat_map, range_with_len}
 use Rattle.std.proofs.lemmas.List.{length-append}
-use Rattle.reading_core.specs.Decimal.{decimal_text}
+use Rattle.base.specs.Decimal.{decimal_text}
 use Rattle.ulid_core.specs.UlidText.{text_of}
 use Rattle.ulid_core.proofs.UlidLaws.{length-text_of}
 use Rattle.label_sets.specs.Notation.{is_name}

@@ -9,8 +9,8 @@ use Rattle.std.proofs.lemmas.List.{length-append}
 use Rattle.std.proofs.lemmas.List.Elements.{All-cons, All-nil}
 use Rattle.std.proofs.lemmas.List.FromFn.{map-range_with_len_more}
 use Rattle.std.proofs.lemmas.List.Sorted.{IsPermutation-refl}
-use Rattle.reading_core.specs.Lines.{line_feed}
-use Rattle.list_core.proofs.Bools.{same_texts, Less-from_is_lt, and_first, and_second}
+use Rattle.base.specs.Lines.{line_feed}
+use Rattle.base.proofs.Bools.{same_texts, Less-from_is_lt, and_first, and_second}
 use Rattle.label_sets.specs.Labels.{compare_sets}
 use Rattle.label_sets.specs.Notation.{is_name, quoted, quoted_byte, pair_text, comma_pair_text, pairs_text, set_text}
 use Rattle.label_sets.specs.SampleText.{sample_text, spaced_sample_text}

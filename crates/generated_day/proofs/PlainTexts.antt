@@ -2,8 +2,8 @@
 use Rattle.std.proofs.Common.{◌≡◌, ℕ, zero, suc, ◌+◌, ◌<◌, ◌≤◌, true, false, ◌&&◌, Some, List, [], ◌∷◌, ◌++◌, refl, sym, ap, ◌∙◌, subst, arith, codes, append-nil, append_assoc}
 use Rattle.std.specs.List.{flat_map, list_all, range_with_len}
 use Rattle.std.specs.Str.{bytes_eq}
-use Rattle.reading_core.specs.Lines.{line_feed}
-use Rattle.reading_core.specs.Decimal.{decimal_text}
+use Rattle.base.specs.Lines.{line_feed}
+use Rattle.base.specs.Decimal.{decimal_text}
 use Rattle.ulid_core.specs.UlidText.{text_of}
 use Rattle.script_fields.specs.Fields.{lines_of, next_field}
 use Rattle.script_core.specs.Parts.{IsEnded, IsOneLine}

@@ -10,7 +10,7 @@ use Rattle.std.proofs.lemmas.List.FromFn.{get_or-range_with_len, length-range_wi
 use Rattle.std.proofs.lemmas.List.Sums.{AllPass-from_list_all}
 use Rattle.std.proofs.lemmas.Str.Ascii.{IsAscii-from_all}
 use Rattle.std.proofs.lemmas.Str.{IsUtf8-from_ascii, is_utf8-from_IsUtf8}
-use Rattle.reading_core.specs.Lines.{line_feed}
+use Rattle.base.specs.Lines.{line_feed}
 use Rattle.script_fields.specs.Fields.{is_newline, is_silent, lines_of}
 use Rattle.script_core.specs.Parts.{IsOneLine}
 use Rattle.script_core.specs.Spelling.{Say, Says, SoFar}

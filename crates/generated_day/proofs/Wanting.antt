@@ -5,9 +5,9 @@ use Rattle.std.specs.Str.{bytes_eq}
 use Rattle.std.proofs.lemmas.Bool.{and_parts}
 use Rattle.std.proofs.lemmas.Bool.Decides.{nat_tests}
 use Rattle.std.proofs.lemmas.List.{length-append, same_from_push}
-use Rattle.reading_core.specs.Lines.{line_feed}
-use Rattle.reading_core.specs.Reading.{Gives}
-use Rattle.reading_core.proofs.Binds.{ok_not_err}
+use Rattle.base.specs.Lines.{line_feed}
+use Rattle.base.specs.Reading.{Gives}
+use Rattle.base.proofs.Binds.{ok_not_err}
 use Rattle.moment_core.specs.StandardRules.{standard_rules}
 use Rattle.matchers.specs.SelectorText.{commas_text, opening_text}
 use Rattle.script_fields.specs.Fields.{lines_of, next_field}

@@ -3,8 +3,8 @@
 -- queries ask for the whole day: before the rounds, after them, and after the cleaning.
 use Rattle.std.specs.Prelude.{ℕ, ◌+◌, ◌*◌, ◌/◌, ◌%◌, ◌^◌, pos, List, [], ◌∷◌, ◌++◌, Bool, not, ◌==◌, if◌then◌else◌, codes}
 use Rattle.std.specs.List.{flat_map, range_with_len}
-use Rattle.reading_core.specs.Decimal.{decimal_text, digit_zero}
-use Rattle.reading_core.specs.Lines.{newline}
+use Rattle.base.specs.Decimal.{decimal_text, digit_zero}
+use Rattle.base.specs.Lines.{newline}
 use Rattle.ulid_core.specs.UlidText.{text_of}
 use Rattle.ulid_core.specs.Limits.{entropy_count}
 use Rattle.label_sets.specs.SampleText.{spaced_sample_text}

@@ -1,7 +1,7 @@
 -- The summary of a run of the generated day, as text.
 use Rattle.std.specs.Prelude.{ℕ, List, ◌++◌, codes}
-use Rattle.reading_core.specs.Decimal.{decimal_text}
-use Rattle.reading_core.specs.Lines.{newline}
+use Rattle.base.specs.Decimal.{decimal_text}
+use Rattle.base.specs.Lines.{newline}
 use Rattle.generated_day.specs.declared.summary.QueryCounts.{QueryCounts}
 use Rattle.generated_day.specs.declared.summary.Summary.{Summary}
 

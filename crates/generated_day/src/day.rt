@@ -9,7 +9,7 @@ ghost use Rattle.generated_day.specs.Day.{all_blocks_text, all_uploads_text, all
 
 use crate::lines::{FIRST_LOOK, put_at, put_look, put_round, put_uploads, read_blocks};
 use crate::samples::{BLOCK_COUNT, DAY_START};
-use list_core::NoMemory;
+use base::NoMemory;
 use moment_core::{HOUR, MINUTE};
 use script_core::{PartReader, Script, ScriptRefusal};
 use std::alloc::Global;

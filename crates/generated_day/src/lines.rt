@@ -5,9 +5,8 @@ ghost use Rattle.generated_day.specs.Wanting.{ReadsOrWants};
 ghost use Rattle.generated_day.specs.Day.{two_digits, labels_text, all_series_text, times_text, external_text, at_line, upload_line, series_line, block_line, block_text, blocks_at, uploads_at, look_text, round_text, ulid_of, block_count, round_count, series_count};
 
 use crate::samples::{DAY_START, block_start, samples_of};
-use list_core::NoMemory;
+use base::{NoMemory, put_unsigned};
 use moment_core::{HOUR, MINUTE};
-use reading_core::put_unsigned;
 use script_core::{PartReader, ScriptRefusal};
 use std::alloc::Global;
 use ulid_core::Ulid;

@@ -3,8 +3,8 @@
 ghost use Rattle.std.specs.Prelude.{◌≡◌, ◌<◌, ◌≤◌, ◌^◌, ◌++◌, IfOk, OnOk};
 ghost use Rattle.generated_day.specs.Day.{block_count, block_start, pattern, sample, has_sample, sample_part, day_samples, series_count, place_count};
 
+use base::NoMemory;
 use label_sets::{Sample, SampleList};
-use list_core::NoMemory;
 use std::alloc::Global;
 
 /// The first millisecond of the day.

@@ -1,8 +1,7 @@
 ghost use Rattle.std.specs.Prelude.{◌≡◌, ◌++◌, OnOk};
 ghost use Rattle.generated_day.specs.Summaries.{counted, generated_line, uploaded_line, rounds_line, cleaned_line, query_line, queries_text, summary_text};
 
-use list_core::NoMemory;
-use reading_core::put_unsigned;
+use base::{NoMemory, put_unsigned};
 
 /// What an answered query counts.
 #[derive(Clone, Copy, Debug, PartialEq, Eq)]

@@ -6,9 +6,9 @@ use Rattle.std.specs.List.Sorted.{IsStrictlySortedBy, IsSortedBy}
 use Rattle.std.proofs.lemmas.List.{get_or-take, get_or_default, nil_from_length}
 use Rattle.std.proofs.lemmas.List.Sorted.{sorted_far}
 use Rattle.std.specs.Ordering.{int_eq, is_eq, is_lt}
-use Rattle.list_core.proofs.Lists.{AllByRecursion-append, flat_map-push}
-use Rattle.list_core.proofs.Membership.{each_member, all_members, contains_first, into_map}
-use Rattle.list_core.proofs.Order.{sorted_nil, sorted_cons, sorted_push}
+use Rattle.base.proofs.Lists.{AllByRecursion-append, flat_map-push}
+use Rattle.base.proofs.Membership.{each_member, all_members, contains_first, into_map}
+use Rattle.base.proofs.Order.{sorted_nil, sorted_cons, sorted_push}
 use Rattle.std.proofs.lemmas.List.Elements.{Contains-append_right}
 use Rattle.label_sets.specs.Labels.{compare_sets}
 use Rattle.block_meta.specs.declared.meta.Meta.{Meta}

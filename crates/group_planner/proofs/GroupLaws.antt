@@ -6,11 +6,11 @@ use Rattle.std.specs.List.Sorted.{IsStrictlySortedBy, IsPermutation, IsStableBy,
 use Rattle.std.specs.Ordering.{is_eq, ordering_reverse}
 use Rattle.std.proofs.lemmas.Map.Keys.{sorted_head, sorted_tail}
 use Rattle.std.proofs.lemmas.List.Sorted.{IsPermutation-sym, Contains-permutation}
-use Rattle.list_core.specs.Ordered.{in_order}
-use Rattle.list_core.specs.declared.memory.NoMemory.{NoMemory}
-use Rattle.list_core.proofs.Lists.{cons_same, filter-map}
-use Rattle.list_core.proofs.Membership.{each_member, member_cases, contains_first, contains_later, no_member, into_map, of_map, into_flat_map, of_flat_map, of_in_order, into_in_order, filter_whole, filter_nothing, some_member}
-use Rattle.list_core.proofs.SameMembers.{same_members}
+use Rattle.base.specs.Ordered.{in_order}
+use Rattle.base.specs.declared.memory.NoMemory.{NoMemory}
+use Rattle.base.proofs.Lists.{cons_same, filter-map}
+use Rattle.base.proofs.Membership.{each_member, member_cases, contains_first, contains_later, no_member, into_map, of_map, into_flat_map, of_flat_map, of_in_order, into_in_order, filter_whole, filter_nothing, some_member}
+use Rattle.base.proofs.SameMembers.{same_members}
 use Rattle.block_meta.specs.declared.meta.Meta.{Meta}
 use Rattle.group_planner.specs.Groups.{Key, compare_keys, key_of, has_key, group_of, comes_before, AreGroups}
 use Rattle.group_planner.specs.Cuts.{key_of_group, key_of_keyed, keyed_of, with_key, has_lesser_key, IsCut}

@@ -3,9 +3,9 @@ use Rattle.std.proofs.Common.{◌≡◌, Bool, true, false, List, [], ◌∷◌,
 use Rattle.std.specs.Cmp.{IsStrictWeakOrder}
 use Rattle.std.specs.List.{filter}
 use Rattle.std.specs.List.Sorted.{ties}
-use Rattle.list_core.specs.Ordered.{in_order}
-use Rattle.list_core.proofs.StableSorts.{NoneLess, Rises, Rises-in_order, filter-in_order, same_in_order}
-use Rattle.list_core.proofs.Lists.{filter_twice}
+use Rattle.base.specs.Ordered.{in_order}
+use Rattle.base.proofs.StableSorts.{NoneLess, Rises, Rises-in_order, filter-in_order, same_in_order}
+use Rattle.base.proofs.Lists.{filter_twice}
 
 none_less_kept : {A : Type 0} (less : A → A → Bool) (keeps : A → Bool) (x : A) (ys : List A) → NoneLess less x ys → NoneLess less x (filter keeps ys)
 none_less_kept less keeps x [] none = tt

@@ -6,10 +6,10 @@ use Rattle.std.specs.List.Sorted.{IsStrictlySortedBy}
 use Rattle.std.specs.Ordering.{int_cmp, ordering_reverse}
 use Rattle.std.specs.Result.{IsErrAnd}
 use Rattle.std.proofs.lemmas.Map.Keys.{sorted_head, sorted_tail}
-use Rattle.list_core.proofs.Bools.{Equal-from_then, by_order}
-use Rattle.list_core.proofs.Membership.{member_cases, only_member, contains_first, contains_later, no_member, all_members, each_member}
-use Rattle.list_core.proofs.Order.{sorted_nil, sorted_cons}
-use Rattle.list_core.proofs.Integers.{same-from_int_cmp}
+use Rattle.base.proofs.Bools.{Equal-from_then, by_order}
+use Rattle.base.proofs.Membership.{member_cases, only_member, contains_first, contains_later, no_member, all_members, each_member}
+use Rattle.base.proofs.Order.{sorted_nil, sorted_cons}
+use Rattle.base.proofs.Integers.{same-from_int_cmp}
 use Rattle.label_sets.specs.Labels.{compare_sets}
 use Rattle.label_sets.proofs.LabelValues.{same_set}
 use Rattle.block_meta.specs.declared.meta.Meta.{Meta}

@@ -2,8 +2,8 @@
 use Rattle.std.proofs.Common.{◌≡◌, ℕ, ◌+◌, ◌<◌, Bool, true, false, List, [], ◌∷◌, ◌++◌, length, get_or, take, drop, append_assoc, append-nil, refl, sym, ap, ◌∙◌, subst}
 use Rattle.std.proofs.lemmas.Bool.{true≢false}
 use Rattle.std.proofs.lemmas.List.{take_more, drop_more}
-use Rattle.list_core.proofs.Bools.{by_bool}
-use Rattle.list_core.proofs.Lists.{cons_parts, nil_not_cons}
+use Rattle.base.proofs.Bools.{by_bool}
+use Rattle.base.proofs.Lists.{cons_parts, nil_not_cons}
 use Rattle.group_planner.specs.Runs.{EachPasses, Stops, IsLongestRun}
 
 -- ---- there is one

@@ -7,8 +7,8 @@ use Rattle.std.proofs.lemmas.Int.{ints}
 use Rattle.std.proofs.lemmas.List.{take_more, drop_more, take-append-drop}
 use Rattle.std.proofs.lemmas.List.Folds.{list_any-append}
 use Rattle.block_meta.specs.declared.meta.Meta.{Meta}
-use Rattle.list_core.proofs.Lists.{cons_parts, cons_same, nil_not_middle, nil_not_cons, take_none, drop_none, take_whole}
-use Rattle.list_core.proofs.Bools.{or_false}
+use Rattle.base.proofs.Lists.{cons_parts, cons_same, nil_not_middle, nil_not_cons, take_none, drop_none, take_whole}
+use Rattle.base.proofs.Bools.{or_false}
 use Rattle.group_planner.specs.Runs.{EachPasses, Stops, IsLongestRun}
 use Rattle.group_planner.specs.Overlaps.{is_before_end, overlaps, is_apart, overlaps_as, TakesOverlaps, IsOverlapPlan, IsEndOf}
 use Rattle.group_planner.proofs.LongestRuns.{one_run, all_or_cut, each_more}

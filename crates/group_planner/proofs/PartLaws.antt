@@ -6,7 +6,7 @@ use Rattle.std.proofs.lemmas.Bool.{and_from, and_parts, not-false}
 use Rattle.std.proofs.lemmas.Int.{ints}
 use Rattle.std.proofs.lemmas.List.{take-append-drop, drop_more, map-append}
 use Rattle.block_meta.specs.declared.meta.Meta.{Meta}
-use Rattle.list_core.proofs.Lists.{cons_parts, nil_not_cons, some-length}
+use Rattle.base.proofs.Lists.{cons_parts, nil_not_cons, some-length}
 use Rattle.group_planner.specs.Members.{ulids_of}
 use Rattle.group_planner.specs.Runs.{EachPasses, IsLongestRun}
 use Rattle.group_planner.specs.Parts.{start_of, fits, fits_at, NoneFits, IsNextPart, AreParts}

@@ -10,7 +10,7 @@ use Rattle.block_meta.specs.declared.meta.Meta.{Meta}
 use Rattle.group_planner.specs.Parts.{IsNextPart, AreParts, NoneFits}
 use Rattle.group_planner.specs.Selections.{Candidate, AreCandidates, is_worthwhile, is_wanted, ranges, last_begin, IsSelection}
 use Rattle.group_planner.proofs.PartLaws.{one_parts, parts_of, PartsUpTo, up_to_next, up_to_all}
-use Rattle.list_core.proofs.Lists.{find-map}
+use Rattle.base.proofs.Lists.{find-map}
 
 abbrev pub as_candidates : ℤ → List (List Meta) → List Candidate
 as_candidates range parts = map (λ part. record { range = range; part = part }) parts

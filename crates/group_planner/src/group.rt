@@ -7,9 +7,9 @@ ghost use Rattle.group_planner.specs.Cuts.{IsCut, CutsFurther, has_lesser_key};
 
 use crate::MetaList;
 use crate::keyed::{Keyed, metas_in_order, sort_by_key, with_keys};
+use base::{List, NoMemory};
 use block_meta::Meta;
 use label_sets::{LabelSet, TextList};
-use list_core::{List, NoMemory};
 use std::alloc::Global;
 use sync_filters::FoundList;
 

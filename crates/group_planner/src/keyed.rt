@@ -1,14 +1,14 @@
 ghost use Rattle.std.specs.Prelude.{◌≡◌, map, IfOk, OnOk};
 ghost use Rattle.std.specs.List.Sorted.{IsSortedBy, IsStableBy, IsPermutation};
 ghost use Rattle.std.specs.Ordering.{int_cmp, ordering_then};
-ghost use Rattle.list_core.specs.Ordered.{in_order};
+ghost use Rattle.base.specs.Ordered.{in_order};
 ghost use Rattle.label_sets.specs.Finals.{without};
 ghost use Rattle.group_planner.specs.Groups.{comes_before, compare_members as order_of_members, compare_keys as order_of_keys};
 ghost use Rattle.group_planner.specs.Cuts.{with_key as keyed_meta, key_of_keyed, has_lesser_key};
 
+use base::{NoMemory, TryCopy};
 use block_meta::Meta;
-use label_sets::{LabelSet, TextList, reduced_labels};
-use list_core::{NoMemory, TryCopy};
+use label_sets::{LabelSet, TextList, reduced};
 use std::alloc::Global;
 use std::cmp::Ordering;
 use sync_filters::Found;
@@ -89,7 +89,7 @@ fn without_replicas(
     ensures { IfOk result (λ made. made ≡ without replicas.now labels.now) }
 {
     let external = LabelSet::empty(alloc);
-    let made = reduced_labels(alloc, labels, &external, replicas)?;
+    let made = reduced(alloc, labels, &external, replicas)?;
     Ok(made)
 }
 

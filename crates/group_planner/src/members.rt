@@ -1,8 +1,8 @@
 ghost use Rattle.std.specs.Prelude.{◌≡◌, IfOk};
 ghost use Rattle.group_planner.specs.Members.{ulids_of as ulids_of_all};
 
+use base::{List, NoMemory};
 use block_meta::Meta;
-use list_core::{List, NoMemory};
 use std::alloc::Global;
 use ulid_core::UlidList;
 

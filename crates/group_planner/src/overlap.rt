@@ -6,8 +6,8 @@ ghost use Rattle.group_planner.specs.Overlaps.{IsEndOf, overlaps_as, IsOverlapPl
 
 use crate::MetaList;
 use crate::members::ulids_of;
+use base::NoMemory;
 use block_meta::{Meta, later_end};
-use list_core::NoMemory;
 use std::alloc::Global;
 use ulid_core::UlidList;
 

@@ -7,8 +7,8 @@ ghost use Rattle.group_planner.specs.Parts.{start_of, fits as fits_range, fits_a
 
 use crate::members::ulids_of;
 use crate::{MetaList, UlidListList};
+use base::NoMemory;
 use block_meta::Meta;
-use list_core::NoMemory;
 use std::alloc::Global;
 
 /// The parts of a range: the longest runs of blocks that lie within one and the same stretch of this length, which begins at a

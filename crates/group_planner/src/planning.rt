@@ -7,8 +7,8 @@ use crate::Group;
 use crate::members::ulids_of;
 use crate::overlap::overlap_of;
 use crate::selection::selection_in;
+use base::NoMemory;
 use block_meta::Meta;
-use list_core::NoMemory;
 use std::alloc::Global;
 use ulid_core::UlidList;
 

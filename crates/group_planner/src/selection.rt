@@ -9,8 +9,8 @@ ghost use Rattle.group_planner.specs.Selections.{Candidate, AreCandidates, is_wo
 use crate::MetaList;
 use crate::members::ulids_of;
 use crate::parts::next_part;
+use base::NoMemory;
 use block_meta::Meta;
-use list_core::NoMemory;
 use std::alloc::Global;
 use ulid_core::UlidList;
 

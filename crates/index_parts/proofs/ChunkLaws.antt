@@ -3,10 +3,10 @@ use Rattle.std.proofs.Common.{◌≡◌, ℕ, ◌+◌, ◌*◌, ◌/◌, ◌%◌
 use Rattle.std.specs.Int.{w64}
 use Rattle.std.specs.Int.RustNames.{FitsSigned, unsigned_abs}
 use Rattle.std.proofs.lemmas.Bool.{ltb-true, lt-ltb}
-use Rattle.reading_core.specs.Decimal.{fits_signed}
-use Rattle.reading_core.specs.Grammar.{IsBytes, HasFront}
-use Rattle.reading_core.proofs.Fronts.{IsBytes-after}
-use Rattle.reading_core.proofs.Binds.{bind_ok, unless_ok}
+use Rattle.base.specs.Decimal.{fits_signed}
+use Rattle.base.specs.Grammar.{IsBytes, HasFront}
+use Rattle.base.proofs.Fronts.{IsBytes-after}
+use Rattle.base.proofs.Binds.{bind_ok, unless_ok}
 use Rattle.wire_bytes.specs.Position.{Position, left}
 use Rattle.wire_bytes.specs.Fields.{zigzag}
 use Rattle.wire_bytes.specs.FieldTexts.{IsUvarint, IsVarint}
@@ -14,7 +14,7 @@ use Rattle.index_parts.specs.declared.refusal.PartRefusal.TheVariants.{Overlong}
 use Rattle.index_parts.specs.declared.chunk_place.ChunkPlace.{ChunkPlace}
 use Rattle.index_parts.specs.SeriesEntry.{reference_of, Begins, Refers, IsNextChunk}
 use Rattle.index_parts.specs.SeriesReading.{fits_unsigned, later_at, moved_at, begin_at, reference_at, chunk_of, chunk_at}
-use Rattle.reading_core.proofs.SignedRanges.{fits_from_test, test_from_fits}
+use Rattle.base.proofs.SignedRanges.{fits_from_test, test_from_fits}
 use Rattle.index_parts.proofs.FieldLaws.{uvarint_field, varint_field}
 use Rattle.index_parts.proofs.TurnLaws.{field_found, turn_found}
 use Rattle.index_parts.proofs.ListLaws.{IsTurnOf}

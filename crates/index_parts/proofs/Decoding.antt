@@ -5,13 +5,13 @@ use Rattle.std.specs.Int.{w32, from_be_bytes}
 use Rattle.std.specs.Simd.{first_chunks}
 use lib.Dec.{leb}
 use Rattle.std.specs.Ordering.{nat_cmp}
-use Rattle.list_core.specs.Order.{ComesAfter}
-use Rattle.list_core.proofs.Bools.{nat_cmp-Less}
-use Rattle.list_core.proofs.Order.{comes_after_tells}
+use Rattle.base.specs.Order.{ComesAfter}
+use Rattle.base.proofs.Bools.{nat_cmp-Less}
+use Rattle.base.proofs.Order.{comes_after_tells}
 use Rattle.std.proofs.lemmas.Bool.{le-ltb, leb-true, and_parts}
 use Rattle.std.proofs.lemmas.List.{map_more, drop_more, drop_all, take_all, length-drop}
-use Rattle.reading_core.specs.Members.{members_at}
-use Rattle.reading_core.proofs.Counted.{members_first}
+use Rattle.base.specs.Members.{members_at}
+use Rattle.base.proofs.Counted.{members_first}
 use Rattle.wire_bytes.specs.Position.{Position, left, further}
 use Rattle.wire_bytes.specs.Fields.{number_at}
 use Rattle.wire_bytes.proofs.FieldLaws.{left-further}

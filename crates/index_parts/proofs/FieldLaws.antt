@@ -2,8 +2,8 @@
 use Rattle.std.proofs.Common.{◌≡◌, ℕ, List, ◌++◌, length, drop, Result, Ok, refl, sym, ap, subst, ◌∙◌, append_assoc}
 use Rattle.std.specs.Int.{Width}
 use Rattle.std.proofs.lemmas.List.{drop_at}
-use Rattle.reading_core.specs.Grammar.{IsBytes, HasFront}
-use Rattle.reading_core.proofs.Binds.{bind_ok, refused_as_ok}
+use Rattle.base.specs.Grammar.{IsBytes, HasFront}
+use Rattle.base.proofs.Binds.{bind_ok, refused_as_ok}
 use Rattle.wire_bytes.specs.Position.{Position, left, further}
 use Rattle.wire_bytes.specs.Fields.{bytes_at, number_at, uvarint_at, varint_at}
 use Rattle.wire_bytes.specs.FieldTexts.{IsFixed, IsUvarint, IsVarint}

@@ -4,15 +4,15 @@ use Rattle.std.specs.Prelude.{◌==◌}
 use Rattle.std.specs.Int.{w32}
 use Rattle.std.proofs.lemmas.Bool.{eqb-true, eq-eqb}
 use Rattle.std.proofs.lemmas.List.{drop-take, drop_at, length-drop}
-use Rattle.reading_core.specs.Grammar.{IsBytes}
-use Rattle.reading_core.proofs.Fronts.{IsBytes-after, IsBytes-drop}
-use Rattle.reading_core.proofs.Binds.{bind_ok, unless_ok, refused_as_ok, ok_is}
+use Rattle.base.specs.Grammar.{IsBytes}
+use Rattle.base.proofs.Fronts.{IsBytes-after, IsBytes-drop}
+use Rattle.base.proofs.Binds.{bind_ok, unless_ok, refused_as_ok, ok_is}
 use Rattle.wire_bytes.specs.Position.{Position, left, further}
 use Rattle.wire_bytes.specs.declared.refusal.WireRefusal.{WireRefusal}
 use Rattle.wire_bytes.specs.FieldTexts.{IsFixed}
 use Rattle.wire_bytes.specs.Crc.{crc}
 use Rattle.wire_bytes.proofs.FieldLaws.{left-further}
-use Rattle.reading_core.proofs.Fronts.{IsBytes-take}
+use Rattle.base.proofs.Fronts.{IsBytes-take}
 use Rattle.wire_bytes.proofs.FixedLaws.{wide32, number_found, number_again}
 use Rattle.index_parts.specs.declared.refusal.PartRefusal.{PartRefusal}
 use Rattle.index_parts.specs.declared.refusal.PartRefusal.TheVariants.{Short, BadSum}

@@ -16,3 +16,11 @@ pub mod ChunkLaws
 pub mod SeriesLaws
 pub mod RowPlaces
 pub mod RowsBegin
+pub mod SeriesOrder
+pub mod Shifts
+pub mod FieldShifts
+pub mod SectionShifts
+pub mod SeriesShifts
+pub mod Longer
+pub mod Slices
+pub mod SeriesSlices

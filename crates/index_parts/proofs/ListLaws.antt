@@ -3,11 +3,11 @@ use Rattle.std.proofs.Common.{◌≡◌, ℕ, ◌+◌, ◌*◌, ◌≤◌, List,
 use Rattle.std.specs.Prelude.{IfOk}
 use Rattle.std.specs.Result.{IsOkAnd}
 use Rattle.std.specs.Int.{w32}
-use Rattle.reading_core.specs.Reading.{Gives}
-use Rattle.reading_core.specs.Grammar.{IsBytes, HasFront}
-use Rattle.reading_core.proofs.Binds.{bind_ok, ok_is}
-use Rattle.reading_core.proofs.Counted.{length-members}
-use Rattle.reading_core.proofs.Fronts.{IsBytes-after}
+use Rattle.base.specs.Reading.{Gives}
+use Rattle.base.specs.Grammar.{IsBytes, HasFront}
+use Rattle.base.proofs.Binds.{bind_ok, ok_is}
+use Rattle.base.proofs.Counted.{length-members}
+use Rattle.base.proofs.Fronts.{IsBytes-after}
 use Rattle.wire_bytes.specs.Position.{Position, left}
 use Rattle.wire_bytes.specs.Fields.{number_at}
 use Rattle.wire_bytes.specs.FieldTexts.{IsFixed}

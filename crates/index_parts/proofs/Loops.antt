@@ -2,13 +2,13 @@
 use Rattle.std.proofs.Common.{◌≡◌, ℕ, ◌<◌, ◌≤◌, List, [], ◌∷◌, ◌++◌, Result, Ok, Err, refl, sym, ap, ◌∙◌, ◌+◌, arith, inr}
 use Rattle.std.proofs.lemmas.List.{map_push}
 use Rattle.std.specs.Prelude.{IsErrAnd}
-use Rattle.reading_core.specs.Reading.{◌>>=◌, Gives}
-use Rattle.reading_core.specs.Members.{members_at}
+use Rattle.base.specs.Reading.{◌>>=◌, Gives}
+use Rattle.base.specs.Members.{members_at}
 use Rattle.wire_bytes.specs.Position.{Position}
 use Rattle.index_parts.specs.declared.refusal.PartRefusal.{PartRefusal}
 use Rattle.index_parts.specs.declared.raw_label.RawLabel.{RawLabel}
 use Rattle.index_parts.specs.SeriesReading.{label_at, names_of, values_of}
-use Rattle.reading_core.proofs.Counted.{loop_start, members_more, members_stop}
+use Rattle.base.proofs.Counted.{loop_start, members_more, members_stop}
 
 pub turns_exit : {X A S E : Type 0} (read : S → Result (A × S) E) (no_memory : E) (view : X → List A) (result : Result X E) (i n : ℕ) (s t : S) (front : List A) (e : E) → members_at read i s ≡ Ok (front, t) → IsErrAnd result (λ d. d ≡ e) → read t ≡ Err e → i < n
     → Gives no_memory view result (members_at read n s >>= λ members. Ok members.0)

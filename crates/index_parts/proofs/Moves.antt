@@ -3,8 +3,8 @@ use Rattle.wire_bytes.proofs.ByteFields.{bytes_parts}
 use Rattle.std.proofs.Common.{◌≡◌, ℕ, ◌+◌, ◌<◌, ◌≤◌, List, [], length, take, Result, Ok, Err, refl, sym, ap, ◌∙◌, arith}
 use Rattle.std.specs.Int.{w32, byte_len}
 use Rattle.std.proofs.lemmas.List.{drop_all, length-drop, length-take}
-use Rattle.reading_core.specs.Reading.{Answers}
-use Rattle.reading_core.proofs.Binds.{bind_ok, cond_ok, refused_as_ok, ok_is}
+use Rattle.base.specs.Reading.{Answers}
+use Rattle.base.proofs.Binds.{bind_ok, cond_ok, refused_as_ok, ok_is}
 use Rattle.wire_bytes.specs.Position.{Position, left, further}
 use Rattle.wire_bytes.specs.Fields.{bytes_at, number_at, uvarint_at, groups_of}
 use Rattle.wire_bytes.specs.declared.refusal.WireRefusal.{WireRefusal}

@@ -1,10 +1,10 @@
 -- Postings lists against their grammar.
 use Rattle.std.proofs.Common.{◌≡◌, ℕ, ◌≤◌, List, ◌++◌, length, Option, Some, Ok, refl, ap, arith}
 use Rattle.std.specs.Ordering.{nat_cmp}
-use Rattle.list_core.specs.Order.{comes_after}
-use Rattle.list_core.proofs.Order.{comes_after_tells}
-use Rattle.reading_core.specs.Grammar.{IsBytes, HasFront}
-use Rattle.reading_core.proofs.Binds.{bind_ok, unless_ok}
+use Rattle.base.specs.Order.{comes_after}
+use Rattle.base.proofs.Order.{comes_after_tells}
+use Rattle.base.specs.Grammar.{IsBytes, HasFront}
+use Rattle.base.proofs.Binds.{bind_ok, unless_ok}
 use Rattle.wire_bytes.specs.Position.{Position, left}
 use Rattle.wire_bytes.proofs.FixedLaws.{wide32}
 use Rattle.index_parts.specs.declared.refusal.PartRefusal.TheVariants.{Unordered}

@@ -1,11 +1,11 @@
 -- Tests of ranges.
-use Rattle.reading_core.proofs.SignedRanges.{fits_from_test, test_from_fits}
+use Rattle.base.proofs.SignedRanges.{fits_from_test, test_from_fits}
 use Rattle.std.proofs.Common.{◌≡◌, ◌^◌, ◌<◌, true, false, arith, rules, ℤ, pos, negsuc}
 use Rattle.std.specs.Int.{w64, FitsUnsigned}
 use Rattle.std.proofs.lemmas.Int.{ints}
 use Rattle.std.specs.Int.RustNames.{FitsSigned}
 use Rattle.std.proofs.lemmas.Bool.{ltb-true, lt-ltb, false_from_ne_true}
-use Rattle.reading_core.specs.Decimal.{fits_signed}
+use Rattle.base.specs.Decimal.{fits_signed}
 use Rattle.index_parts.specs.SeriesReading.{fits_unsigned}
 
 pub signed_fails : (n : ℤ) → ¬ FitsSigned w64 n → fits_signed n ≡ false

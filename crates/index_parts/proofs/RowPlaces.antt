@@ -10,9 +10,9 @@ use Rattle.std.specs.Cmp.Lexicographic.{on_texts}
 use Rattle.std.proofs.lemmas.Cmp.{then_total}
 use Rattle.std.proofs.lemmas.Bool.{cases_lt}
 use Rattle.std.proofs.lemmas.Option.{same_Some, slice_get_past}
-use Rattle.list_core.proofs.Lists.{AllByRecursion-weaker}
-use Rattle.list_core.proofs.Order.{Less-at_places}
-use Rattle.list_core.proofs.Bools.{Equal-from_then}
+use Rattle.base.proofs.Lists.{AllByRecursion-weaker}
+use Rattle.base.proofs.Order.{Less-at_places}
+use Rattle.base.proofs.Bools.{Equal-from_then}
 use Rattle.label_sets.proofs.LabelValues.{same_text}
 use Rattle.index_parts.specs.declared.postings_row.PostingsRow.{PostingsRow}
 use Rattle.index_parts.specs.Turns.{AreInTurn}

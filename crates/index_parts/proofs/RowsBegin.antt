@@ -6,8 +6,8 @@ use Rattle.std.specs.declared.cmp.Ordering.TheVariants.{Less, Greater}
 use Rattle.std.specs.Ordering.{ordering_then}
 use Rattle.std.proofs.lemmas.Bool.{cases_lt}
 use Rattle.std.proofs.lemmas.Option.{same_Some, slice_get_within}
-use Rattle.list_core.proofs.Order.{Less-at_places}
-use Rattle.list_core.proofs.Bools.{Less-from_then}
+use Rattle.base.proofs.Order.{Less-at_places}
+use Rattle.base.proofs.Bools.{Less-from_then}
 use Rattle.label_sets.specs.Labels.{compare_texts}
 use Rattle.label_sets.proofs.LabelValues.{compare_self, before_trans, same_text}
 use Rattle.index_parts.specs.declared.postings_row.PostingsRow.{PostingsRow}

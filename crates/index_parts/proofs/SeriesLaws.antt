@@ -1,10 +1,10 @@
 -- Series against their grammar.
 use Rattle.std.proofs.Common.{◌≡◌, ℕ, ◌+◌, ◌*◌, ◌≤◌, List, [], ◌∷◌, ◌++◌, length, zip, Ok, refl, sym, ap, subst, ◌∙◌, append_assoc, length-append, arith}
-use Rattle.reading_core.specs.Members.{members_at}
-use Rattle.reading_core.specs.Grammar.{IsBytes, HasFront, AreTexts}
-use Rattle.reading_core.proofs.Fronts.{IsBytes-after, members_found}
-use Rattle.reading_core.proofs.Binds.{bind_ok, ok_is}
-use Rattle.reading_core.proofs.Counted.{length-members, members_first}
+use Rattle.base.specs.Members.{members_at}
+use Rattle.base.specs.Grammar.{IsBytes, HasFront, AreTexts}
+use Rattle.base.proofs.Fronts.{IsBytes-after, members_found}
+use Rattle.base.proofs.Binds.{bind_ok, ok_is}
+use Rattle.base.proofs.Counted.{length-members, members_first}
 use Rattle.wire_bytes.specs.Position.{Position, left}
 use Rattle.wire_bytes.specs.Fields.{uvarint_at}
 use Rattle.wire_bytes.specs.FieldTexts.{IsUvarint}
@@ -20,7 +20,7 @@ use Rattle.index_parts.proofs.FieldLaws.{uvarint_field}
 use Rattle.index_parts.proofs.FrameLaws.{framed_found, framed_again, framed_small}
 use Rattle.index_parts.proofs.TurnLaws.{field_found, turns_few}
 use Rattle.index_parts.proofs.ListLaws.{counted_found, counted_again}
-use Rattle.list_core.proofs.Lists.{length-zip}
+use Rattle.base.proofs.Lists.{length-zip}
 use Rattle.std.proofs.lemmas.List.{length-map}
 use Rattle.index_parts.proofs.SymbolLaws.{uvarint_size}
 use Rattle.index_parts.proofs.ChunkLaws.{chunk_turn, chunk_size}

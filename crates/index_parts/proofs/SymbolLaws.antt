@@ -3,10 +3,10 @@ use Rattle.std.proofs.Common.{◌≡◌, ℕ, ◌-◌, ◌≤◌, true, List, []
 use Rattle.std.specs.Str.{is_utf8}
 use Rattle.std.proofs.lemmas.List.{length-append}
 use Rattle.std.proofs.lemmas.Str.{IsUtf8-from_is_utf8, is_utf8-from_IsUtf8}
-use Rattle.list_core.specs.Order.{comes_after}
-use Rattle.list_core.proofs.Order.{comes_after_tells}
-use Rattle.reading_core.specs.Grammar.{IsBytes, HasFront}
-use Rattle.reading_core.proofs.Binds.{bind_ok, unless_ok}
+use Rattle.base.specs.Order.{comes_after}
+use Rattle.base.proofs.Order.{comes_after_tells}
+use Rattle.base.specs.Grammar.{IsBytes, HasFront}
+use Rattle.base.proofs.Binds.{bind_ok, unless_ok}
 use Rattle.wire_bytes.specs.Position.{Position, left}
 use Rattle.wire_bytes.specs.FieldTexts.{IsUvarint, IsGroups}
 use Rattle.label_sets.specs.Labels.{compare_texts}

@@ -4,10 +4,10 @@ use Rattle.std.specs.Prelude.{nat_le, IfOk}
 use Rattle.std.specs.Int.{w32, w64}
 use Rattle.std.proofs.lemmas.Bool.{leb-true, le-leb}
 use Rattle.std.proofs.lemmas.List.{take-append-drop, drop_at, length-append, length-drop, append-nil, nil_from_length}
-use Rattle.reading_core.specs.Reading.{Answers}
-use Rattle.reading_core.specs.Grammar.{IsBytes, AreTexts}
-use Rattle.reading_core.proofs.Binds.{bind_ok, unless_ok, ok_is}
-use Rattle.reading_core.proofs.Fronts.{IsBytes-after, IsBytes-drop}
+use Rattle.base.specs.Reading.{Answers}
+use Rattle.base.specs.Grammar.{IsBytes, AreTexts}
+use Rattle.base.proofs.Binds.{bind_ok, unless_ok, ok_is}
+use Rattle.base.proofs.Fronts.{IsBytes-after, IsBytes-drop}
 use Rattle.wire_bytes.specs.Position.{Position, left}
 use Rattle.wire_bytes.specs.Fields.{number_at}
 use Rattle.wire_bytes.specs.FieldTexts.{IsFixed}

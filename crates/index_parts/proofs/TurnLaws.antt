@@ -1,10 +1,10 @@
 -- Members that are told from the one before them, against their texts.
 use Rattle.std.proofs.Common.{◌≡◌, ℕ, zero, suc, ◌+◌, ◌*◌, ◌≤◌, List, [], ◌∷◌, ◌++◌, length, Option, Some, Result, Ok, refl, sym, ap, subst, ◌∙◌, append_assoc, length-append, arith}
-use Rattle.reading_core.specs.Members.{members_at}
-use Rattle.reading_core.specs.Grammar.{IsBytes, HasFront}
-use Rattle.reading_core.proofs.Binds.{ok_is}
-use Rattle.reading_core.proofs.Counted.{members_first, members_parts}
-use Rattle.reading_core.proofs.Fronts.{IsBytes-after}
+use Rattle.base.specs.Members.{members_at}
+use Rattle.base.specs.Grammar.{IsBytes, HasFront}
+use Rattle.base.proofs.Binds.{ok_is}
+use Rattle.base.proofs.Counted.{members_first, members_parts}
+use Rattle.base.proofs.Fronts.{IsBytes-after}
 use Rattle.wire_bytes.specs.Position.{Position, left}
 use Rattle.index_parts.specs.Turns.{AreInTurn}
 

@@ -1,7 +1,7 @@
 -- What reading the table of contents gives, or the first refusal.
 use Rattle.std.specs.Prelude.{ℕ, ◌-◌, List, length, Result, Ok, nat_le}
 use Rattle.std.specs.Int.{w64}
-use Rattle.reading_core.specs.Reading.{◌>>=◌, ◌>>◌, unless}
+use Rattle.base.specs.Reading.{◌>>=◌, ◌>>◌, unless}
 use Rattle.wire_bytes.specs.Position.{Position}
 use Rattle.wire_bytes.specs.Fields.{number_at}
 use Rattle.index_parts.specs.declared.refusal.PartRefusal.{PartRefusal}

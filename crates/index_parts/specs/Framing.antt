@@ -2,7 +2,7 @@
 -- refusal. The sum is tested before anything of the content is read.
 use Rattle.std.specs.Prelude.{ℕ, List, take, Result, Ok, ◌==◌}
 use Rattle.std.specs.Int.{w32}
-use Rattle.reading_core.specs.Reading.{◌>>=◌, ◌>>◌, unless, refused_as}
+use Rattle.base.specs.Reading.{◌>>=◌, ◌>>◌, unless, refused_as}
 use Rattle.wire_bytes.specs.Position.{Position}
 use Rattle.wire_bytes.specs.Fields.{number_at, uvarint_at, bytes_at}
 use Rattle.wire_bytes.specs.Crc.{crc}

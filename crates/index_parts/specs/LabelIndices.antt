@@ -1,7 +1,7 @@
 -- Label indices and their table, which are written and never read.
 use Rattle.std.specs.Prelude.{◌≡◌, ℕ, List, ◌∷◌, ◌++◌, length}
 use Rattle.std.specs.Int.{w32, to_be_bytes}
-use Rattle.reading_core.specs.Grammar.{AreTexts}
+use Rattle.base.specs.Grammar.{AreTexts}
 use Rattle.wire_bytes.specs.FieldTexts.{IsFixed, IsUvarint}
 use Rattle.wire_bytes.specs.Written.{uvarint_text}
 use Rattle.index_parts.specs.Framed.{IsSection, IsText, section_text, text_field}

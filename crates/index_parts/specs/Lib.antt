@@ -1,6 +1,6 @@
-pub use Rattle.reading_core.specs.Reading
-pub use Rattle.reading_core.specs.Members
-pub use Rattle.reading_core.specs.Grammar
+pub use Rattle.base.specs.Reading
+pub use Rattle.base.specs.Members
+pub use Rattle.base.specs.Grammar
 pub use Rattle.wire_bytes.specs.Position
 pub use Rattle.wire_bytes.specs.Fields
 pub use Rattle.wire_bytes.specs.FieldTexts
@@ -26,3 +26,8 @@ pub mod Lent
 pub mod LabelIndices
 pub mod SeriesEntry
 pub mod SeriesReading
+pub mod Opened
+pub mod IndexFile
+pub mod LabelTable
+pub mod Parts
+pub mod Shifting

@@ -1,8 +1,8 @@
 -- What reading a section that holds a list gives, or the first refusal.
 use Rattle.std.specs.Prelude.{ℕ, List, Option, None, Result, Ok}
 use Rattle.std.specs.Int.{w32}
-use Rattle.reading_core.specs.Reading.{◌>>=◌}
-use Rattle.reading_core.specs.Members.{members_at}
+use Rattle.base.specs.Reading.{◌>>=◌}
+use Rattle.base.specs.Members.{members_at}
 use Rattle.wire_bytes.specs.Position.{Position}
 use Rattle.wire_bytes.specs.Fields.{number_at}
 use Rattle.index_parts.specs.declared.refusal.PartRefusal.{PartRefusal}

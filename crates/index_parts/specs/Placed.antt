@@ -1,6 +1,6 @@
 -- Fields of an index, each refused with the place where it begins.
 use Rattle.std.specs.Prelude.{ℕ, List, Result}
-use Rattle.reading_core.specs.Reading.{◌>>=◌, refused_as}
+use Rattle.base.specs.Reading.{◌>>=◌, refused_as}
 use Rattle.wire_bytes.specs.Position.{Position}
 use Rattle.wire_bytes.specs.Fields.{bytes_at, uvarint_at}
 use Rattle.wire_bytes.specs.declared.refusal.WireRefusal.{WireRefusal}

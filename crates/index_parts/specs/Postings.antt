@@ -2,7 +2,7 @@
 use Rattle.std.specs.Prelude.{ℕ, List, Option}
 use Rattle.std.specs.Int.{w32, to_be_bytes}
 use Rattle.std.specs.Ordering.{nat_cmp}
-use Rattle.list_core.specs.Order.{ComesAfter}
+use Rattle.base.specs.Order.{ComesAfter}
 use Rattle.wire_bytes.specs.FieldTexts.{IsFixed}
 use Rattle.index_parts.specs.Lists.{IsList, list_text}
 

@@ -2,8 +2,8 @@
 use Rattle.std.specs.Prelude.{ℕ, List, Option, Some, Result, Ok}
 use Rattle.std.specs.Int.{w32}
 use Rattle.std.specs.Ordering.{nat_cmp}
-use Rattle.list_core.specs.Order.{comes_after}
-use Rattle.reading_core.specs.Reading.{◌>>=◌, ◌>>◌, unless}
+use Rattle.base.specs.Order.{comes_after}
+use Rattle.base.specs.Reading.{◌>>=◌, ◌>>◌, unless}
 use Rattle.wire_bytes.specs.Position.{Position}
 use Rattle.wire_bytes.specs.Fields.{number_at}
 use Rattle.index_parts.specs.declared.refusal.PartRefusal.{PartRefusal}

@@ -4,7 +4,7 @@ use Rattle.std.specs.Prelude.{◌≡◌, ◌^◌, ◌<◌, ℕ, List, [], ◌∷
 use Rattle.std.specs.Str.{IsUtf8}
 use Rattle.std.specs.declared.cmp.Ordering.{Ordering}
 use Rattle.std.specs.Ordering.{ordering_then}
-use Rattle.list_core.specs.Order.{ComesAfter}
+use Rattle.base.specs.Order.{ComesAfter}
 use Rattle.wire_bytes.specs.FieldTexts.{IsUvarint}
 use Rattle.wire_bytes.specs.Written.{uvarint_text}
 use Rattle.label_sets.specs.Labels.{compare_texts}

@@ -4,7 +4,7 @@ use Rattle.std.specs.Prelude.{◌≡◌, ℕ, ◌+◌, ◌*◌, ◌^◌, ◌<◌
 use Rattle.std.specs.List.{flat_map}
 use Rattle.std.specs.Int.{w64}
 use Rattle.std.specs.Int.RustNames.{FitsSigned, unsigned_abs}
-use Rattle.reading_core.specs.Grammar.{AreTexts}
+use Rattle.base.specs.Grammar.{AreTexts}
 use Rattle.wire_bytes.specs.FieldTexts.{IsUvarint, IsVarint}
 use Rattle.wire_bytes.specs.Written.{uvarint_text, varint_text}
 use Rattle.index_parts.specs.declared.chunk_place.ChunkPlace.{ChunkPlace}

@@ -1,9 +1,9 @@
 -- What reading a series gives, or the first refusal.
 use Rattle.std.specs.Prelude.{ℕ, ◌/◌, ◌%◌, ◌^◌, List, map, Option, Some, None, Bool, false, Result, Ok, nat_lt, ℤ, pos, negsuc, ◌+ℤ◌}
 use Rattle.std.specs.Int.RustNames.{unsigned_abs}
-use Rattle.reading_core.specs.Reading.{◌>>=◌, ◌>>◌, unless}
-use Rattle.reading_core.specs.Members.{members_at}
-use Rattle.reading_core.specs.Decimal.{fits_signed}
+use Rattle.base.specs.Reading.{◌>>=◌, ◌>>◌, unless}
+use Rattle.base.specs.Members.{members_at}
+use Rattle.base.specs.Decimal.{fits_signed}
 use Rattle.wire_bytes.specs.Position.{Position}
 use Rattle.wire_bytes.specs.Fields.{uvarint_at, varint_at}
 use Rattle.index_parts.specs.declared.refusal.PartRefusal.{PartRefusal}

@@ -1,6 +1,6 @@
 -- The symbol table: every text of an index's labels once, in ascending order.
 use Rattle.std.specs.Prelude.{ℕ, List, Option}
-use Rattle.list_core.specs.Order.{ComesAfter}
+use Rattle.base.specs.Order.{ComesAfter}
 use Rattle.label_sets.specs.Labels.{compare_texts}
 use Rattle.index_parts.specs.Framed.{IsText, text_field}
 use Rattle.index_parts.specs.Lists.{IsList, list_text}

@@ -1,8 +1,8 @@
 -- What reading a symbol table gives, or the first refusal.
 use Rattle.std.specs.Prelude.{ℕ, ◌-◌, List, length, Option, Some, Result, Ok}
 use Rattle.std.specs.Str.{is_utf8}
-use Rattle.list_core.specs.Order.{comes_after}
-use Rattle.reading_core.specs.Reading.{◌>>=◌, ◌>>◌, unless}
+use Rattle.base.specs.Order.{comes_after}
+use Rattle.base.specs.Reading.{◌>>=◌, ◌>>◌, unless}
 use Rattle.wire_bytes.specs.Position.{Position}
 use Rattle.label_sets.specs.Labels.{compare_texts}
 use Rattle.index_parts.specs.declared.refusal.PartRefusal.{PartRefusal}

@@ -1,6 +1,6 @@
 -- Members one after another, each of which is told from the one before it.
 use Rattle.std.specs.Prelude.{◌≡◌, ℕ, List, [], ◌∷◌, ◌++◌, Option, Some, None}
-pub use Rattle.list_core.specs.Order.{InOrderAfter}
+pub use Rattle.base.specs.Order.{InOrderAfter}
 
 -- What each member's text may be depends on the member before it, the first one's on the one before them all, if there is any.
 abbrev pub AreInTurn : {A : Type 0} → (Option A → List ℕ → A → Type 0) → Option A → List ℕ → List A → Type 0

@@ -1,4 +1,4 @@
-use list_core::{List, NoMemory, TryCopy};
+use base::{List, NoMemory, TryCopy};
 
 /// Where a chunk stands, and the times of its first and its last sample in milliseconds.
 #[derive(Clone, Copy, Debug, PartialEq, Eq)]

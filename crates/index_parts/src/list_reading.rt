@@ -1,6 +1,6 @@
 ghost use Rattle.std.specs.Prelude.{◌≡◌, ◌<◌, List, map};
-ghost use Rattle.reading_core.specs.Reading.{Gives};
-ghost use Rattle.reading_core.specs.Grammar.{IsBytes};
+ghost use Rattle.base.specs.Reading.{Gives};
+ghost use Rattle.base.specs.Grammar.{IsBytes};
 ghost use Rattle.index_parts.specs.ListReading.{turns_at, list_at};
 
 use crate::PartRefusal;

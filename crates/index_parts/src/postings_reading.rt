@@ -1,9 +1,9 @@
 ghost use Rattle.std.specs.Prelude.{◌≡◌, ◌⊎◌, ◌≤◌, ◌*◌, List, ℕ, length, map, IfOk, IfErr, IfSome, Ok, Err, Some, MatchResult};
 ghost use Rattle.std.specs.Int.{w32, from_be_bytes};
 ghost use Rattle.std.specs.Ordering.{nat_cmp};
-ghost use Rattle.list_core.specs.Order.{ComesAfter};
-ghost use Rattle.reading_core.specs.Reading.{Gives};
-ghost use Rattle.reading_core.specs.Grammar.{IsBytes};
+ghost use Rattle.base.specs.Order.{ComesAfter};
+ghost use Rattle.base.specs.Reading.{Gives};
+ghost use Rattle.base.specs.Grammar.{IsBytes};
 ghost use Rattle.index_parts.specs.Turns.{InOrder};
 ghost use Rattle.index_parts.specs.Postings.{IsPostings};
 ghost use Rattle.index_parts.specs.PostingsReading.{posting_at, postings_at};
@@ -13,7 +13,7 @@ use crate::PartRefusal;
 use crate::fields::next_u32;
 use crate::list_reading::{Member, members_of};
 use crate::sections::section_of;
-use list_core::List;
+use base::List;
 use std::alloc::Global;
 use wire_bytes::{Cursor, NumberList};
 

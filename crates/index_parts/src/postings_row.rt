@@ -1,5 +1,5 @@
+use base::{List, NoMemory, TryCopy};
 use label_sets::Text;
-use list_core::{List, NoMemory, TryCopy};
 
 /// A row of the postings table: a label, and where its list of series stands.
 #[derive(Debug, Drop)]

@@ -1,7 +1,7 @@
 ghost use Rattle.std.specs.Prelude.{◌≡◌};
 ghost use Rattle.index_parts.specs.declared.refusal.PartRefusal.TheVariants.{NoMemory as IsNoMemory};
 
-use list_core::NoMemory;
+use base::NoMemory;
 use std::alloc::{AllocError, AllocFailed};
 
 /// Why a section is not read. Places count bytes of the index.

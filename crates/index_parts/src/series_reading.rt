@@ -1,6 +1,6 @@
 ghost use Rattle.std.specs.Prelude.{◌≡◌, ◌⊎◌, ◌≤◌, ◌*◌, ◌+◌, ◌<◌, ◌^◌, List, ℕ, ℤ, length, IfOk, Ok, Err, Some, MatchResult};
-ghost use Rattle.reading_core.specs.Reading.{Answers, Gives};
-ghost use Rattle.reading_core.specs.Grammar.{IsBytes};
+ghost use Rattle.base.specs.Reading.{Answers, Gives};
+ghost use Rattle.base.specs.Grammar.{IsBytes};
 ghost use Rattle.wire_bytes.specs.Position.{Position};
 ghost use Rattle.index_parts.specs.declared.raw_series.RawSeries.{RawSeries};
 ghost use Rattle.index_parts.specs.SeriesEntry.{IsSeries, reference_of, offset_count};
@@ -11,7 +11,7 @@ ghost use Rattle.index_parts.specs.Moves.{MovesOn, MovesOnTo};
 use crate::fields::{next_uvarint, next_varint};
 use crate::sections::entry_of;
 use crate::{ChunkList, ChunkPlace, PartRefusal, RawLabel, RawSeries, SymbolNumber};
-use list_core::List;
+use base::List;
 use std::alloc::Global;
 use wire_bytes::Cursor;
 

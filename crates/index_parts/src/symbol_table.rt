@@ -1,9 +1,9 @@
 ghost use Rattle.std.specs.Prelude.{◌≡◌, ◌⊎◌, ◌≤◌, List, ℕ, length, map, slice_get, IfOk, Ok, Err, Some, MatchResult};
 ghost use Rattle.std.specs.Result.{IsOkAnd};
 ghost use Rattle.std.specs.Option.{option_copied};
-ghost use Rattle.list_core.specs.Order.{comes_after};
-ghost use Rattle.reading_core.specs.Reading.{Gives};
-ghost use Rattle.reading_core.specs.Grammar.{IsBytes};
+ghost use Rattle.base.specs.Order.{comes_after};
+ghost use Rattle.base.specs.Reading.{Gives};
+ghost use Rattle.base.specs.Grammar.{IsBytes};
 ghost use Rattle.label_sets.specs.Labels.{compare_texts};
 ghost use Rattle.index_parts.specs.Symbols.{IsSymbols};
 ghost use Rattle.index_parts.specs.SymbolsReading.{symbols_at};

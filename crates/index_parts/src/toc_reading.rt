@@ -1,6 +1,6 @@
 ghost use Rattle.std.specs.Prelude.{◌≡◌, IfOk, Ok};
-ghost use Rattle.reading_core.specs.Reading.{Answers};
-ghost use Rattle.reading_core.specs.Grammar.{IsBytes};
+ghost use Rattle.base.specs.Reading.{Answers};
+ghost use Rattle.base.specs.Grammar.{IsBytes};
 ghost use Rattle.index_parts.specs.declared.toc.Toc.{Toc};
 ghost use Rattle.index_parts.specs.Contents.{IsToc};
 ghost use Rattle.index_parts.specs.ContentsReading.{references_at, toc_at};

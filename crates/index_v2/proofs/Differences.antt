@@ -12,14 +12,14 @@ use Rattle.std.proofs.lemmas.List.Sorted.{searched}
 use Rattle.std.proofs.lemmas.Option.{same_Some, slice_get_within, slice_get-get_or}
 use Rattle.label_sets.specs.declared.label.Label.{Label}
 use Rattle.index_parts.specs.declared.postings_row.PostingsRow.{PostingsRow}
-use Rattle.index_file.specs.declared.index_series.IndexSeries.{IndexSeries}
+use Rattle.index_parts.specs.declared.index_series.IndexSeries.{IndexSeries}
 use Rattle.index_parts.specs.Rows.{compare_rows}
 use Rattle.index_parts.specs.RowOrder.{compare_row, IsRowAt, StandsAt}
 use Rattle.index_v2.specs.WholeReading.{belongs, is_of_row, stray_from, gap_from, gap_of, gap_among, earlier_place, by_order}
 use Rattle.std.proofs.lemmas.Cmp.{tied_itself}
-use Rattle.list_core.proofs.Order.{Less-at_places}
-use Rattle.list_core.proofs.Bools.{or_true, or_false}
-use Rattle.list_core.proofs.Rising.{rise_le, rise_less}
+use Rattle.base.proofs.Order.{Less-at_places}
+use Rattle.base.proofs.Bools.{or_true, or_false}
+use Rattle.base.proofs.Rising.{rise_le, rise_less}
 use Rattle.index_parts.proofs.RowPlaces.{rows_total, stands_behind}
 use Rattle.index_parts.proofs.RowsBegin.{same_compare}
 use Rattle.index_v2.proofs.WholeLoops.{drop_at}

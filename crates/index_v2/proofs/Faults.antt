@@ -7,8 +7,8 @@ use Rattle.std.specs.declared.cmp.Ordering.TheVariants.{Less, Equal, Greater}
 use Rattle.std.proofs.lemmas.Cmp.{tied_itself, alike_right}
 use Rattle.std.proofs.lemmas.Option.{same_Some}
 use Rattle.std.proofs.lemmas.Map.Keys.{sorted_tail}
-use Rattle.list_core.proofs.Membership.{all_of_members}
-use Rattle.list_core.proofs.Order.{Less-at_places}
+use Rattle.base.proofs.Membership.{all_of_members}
+use Rattle.base.proofs.Order.{Less-at_places}
 use Rattle.label_sets.specs.declared.label.Label.{Label}
 use Rattle.label_sets.proofs.LabelValues.{by_bool}
 use Rattle.index_parts.specs.declared.postings_row.PostingsRow.{PostingsRow}
@@ -17,8 +17,8 @@ use Rattle.index_parts.specs.Postings.{IsNextPosting}
 use Rattle.index_parts.specs.PostingsReading.{posting_at, postings_at}
 use Rattle.index_parts.proofs.ListLaws.{list_again}
 use Rattle.index_parts.proofs.PostingsLaws.{posting_turn}
-use Rattle.index_file.specs.declared.index_series.IndexSeries.{IndexSeries}
-use Rattle.index_file.specs.IndexFile.{IsListOf}
+use Rattle.index_parts.specs.declared.index_series.IndexSeries.{IndexSeries}
+use Rattle.index_parts.specs.IndexFile.{IsListOf}
 use Rattle.index_parts.specs.RowOrder.{compare_row, StandsAt}
 use Rattle.index_v2.specs.WholeReading.{is_of_row, stray_from, gap_from, gap_of, gap_among, difference}
 use Rattle.index_v2.specs.Differing.{DiffersAt}

@@ -5,7 +5,7 @@ use Rattle.std.proofs.lemmas.List.Sums.{length-filter, count_by-le-length}
 use Rattle.std.specs.Prelude.{slice_get, slice_index_or, MatchBool, IfOk, if◌then◌else◌}
 use Rattle.std.specs.List.{All, filter}
 use Rattle.std.specs.Str.{bytes_eq}
-use Rattle.list_core.proofs.Membership.{contains_place}
+use Rattle.base.proofs.Membership.{contains_place}
 use Rattle.index_parts.specs.declared.postings_row.PostingsRow.{PostingsRow}
 use Rattle.index_parts.specs.Lists.{IsList}
 use Rattle.index_parts.specs.Symbols.{IsNextSymbol}
@@ -15,10 +15,10 @@ use Rattle.index_parts.proofs.SymbolLaws.{symbol_size}
 use Rattle.index_parts.proofs.PostingsLaws.{posting_size}
 use Rattle.index_parts.proofs.RowLaws.{row_size}
 use Rattle.index_parts.proofs.SeriesLaws as parts
-use Rattle.index_file.specs.declared.index_series.IndexSeries.{IndexSeries}
-use Rattle.index_file.specs.Opened.{Opened}
+use Rattle.index_parts.specs.declared.index_series.IndexSeries.{IndexSeries}
+use Rattle.index_parts.specs.Opened.{Opened}
 use Rattle.index_v2.specs.PostingsLists.{values_of}
-use Rattle.index_file.specs.IndexFile.{Holds, StandFor, IsOpened, IsSeriesOf, IsIndex, AreListed}
+use Rattle.index_parts.specs.IndexFile.{Holds, StandFor, IsOpened, IsSeriesOf, IsIndex, AreListed}
 
 module _ {A : Type 0} (IsNext : Option A → List ℕ → A → Type 0) (least : ℕ) (size : (before : Option A) (text : List ℕ) (x : A) → IsNext before text x → least ≤ length text) (index : List ℕ) (reference : ℕ) (members : List A) where
   few_by : (absent : Bool) → MatchBool absent (members ≡ []) (IsList IsNext index reference members) → least * length members ≤ length index

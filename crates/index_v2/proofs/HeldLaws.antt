@@ -4,11 +4,11 @@ use Rattle.std.proofs.lemmas.List.{append-nil, length-replicate}
 use Rattle.std.specs.Prelude.{IfOk, ◌==◌}
 use Rattle.std.specs.Result.{IsOkAnd}
 use Rattle.std.specs.List.{Contains}
-use Rattle.list_core.proofs.Membership.{contains_first, contains_later}
-use Rattle.list_core.proofs.Bools.{by_bool}
-use Rattle.reading_core.specs.Reading.{◌>>=◌, ◌>>◌, refused_as}
-use Rattle.reading_core.specs.Grammar.{IsBytes}
-use Rattle.reading_core.proofs.Binds.{ok_is, err_is}
+use Rattle.base.proofs.Membership.{contains_first, contains_later}
+use Rattle.base.proofs.Bools.{by_bool}
+use Rattle.base.specs.Reading.{◌>>=◌, ◌>>◌, refused_as}
+use Rattle.base.specs.Grammar.{IsBytes}
+use Rattle.base.proofs.Binds.{ok_is, err_is}
 use Rattle.wire_bytes.specs.Position.{Position}
 use Rattle.index_parts.specs.declared.refusal.PartRefusal.{PartRefusal}
 use Rattle.index_parts.specs.declared.refusal.PartRefusal.TheVariants as part
@@ -25,11 +25,11 @@ use Rattle.index_parts.specs.PostingsReading.{posting_at}
 use Rattle.index_parts.proofs.PostingsLaws.{posting_turn}
 use Rattle.index_parts.proofs.SymbolLaws.{symbol_turn}
 use Rattle.index_parts.proofs.RowLaws.{row_turn}
-use Rattle.index_file.specs.declared.index_series.IndexSeries.{IndexSeries}
-use Rattle.index_file.specs.Opened.{Opened}
-use Rattle.index_file.specs.IndexFile.{Holds, IsOpened, IsIndex}
-use Rattle.index_slices.proofs.Slices.{list_of_index}
-use Rattle.index_slices.specs.Parts.{Part, file, known, IsPartOf, HoldsSection}
+use Rattle.index_parts.specs.declared.index_series.IndexSeries.{IndexSeries}
+use Rattle.index_parts.specs.Opened.{Opened}
+use Rattle.index_parts.specs.IndexFile.{Holds, IsOpened, IsIndex}
+use Rattle.index_parts.proofs.Slices.{list_of_index}
+use Rattle.index_parts.specs.Parts.{Part, file, known, IsPartOf, HoldsSection}
 use Rattle.index_v2.specs.declared.refusal.IndexRefusal.{IndexRefusal}
 use Rattle.index_v2.specs.declared.refusal.IndexRefusal.TheVariants.{NoMemory, BadSection, BadSeries}
 use Rattle.index_v2.specs.declared.lent_parts.IndexParts.{IndexParts}

@@ -2,21 +2,21 @@
 use Rattle.std.proofs.Common.{◌≡◌, ◌≢◌, ℕ, ◌+◌, ◌*◌, ◌<◌, List, [], ◌∷◌, length, map, Some, Result, Ok, refl, ap, subst, arith}
 use Rattle.std.specs.Prelude.{slice_get}
 use Rattle.std.proofs.lemmas.Bool.{lt-ltb}
-use Rattle.list_core.proofs.Bools.{is_lt-from_Less}
-use Rattle.list_core.proofs.Lists.{cons_same, some-from_long}
-use Rattle.reading_core.specs.Members.{members_at}
-use Rattle.reading_core.specs.Grammar.{IsBytes}
-use Rattle.reading_core.proofs.Binds.{bind_ok, refused_as_ok, ok_is}
+use Rattle.base.proofs.Bools.{is_lt-from_Less}
+use Rattle.base.proofs.Lists.{cons_same, some-from_long}
+use Rattle.base.specs.Members.{members_at}
+use Rattle.base.specs.Grammar.{IsBytes}
+use Rattle.base.proofs.Binds.{bind_ok, refused_as_ok, ok_is}
 use Rattle.label_sets.specs.declared.label.Label.{Label}
 use Rattle.label_sets.specs.Labels.{ComesBefore, StandsBefore, IsLabelSet}
 use Rattle.label_sets.proofs.LabelValues.{StandsBefore-trans, above_nothing}
 use Rattle.index_parts.specs.declared.refusal.PartRefusal.{PartRefusal}
 use Rattle.index_parts.proofs.SeriesLaws.{series_found, series_again}
-use Rattle.index_file.specs.declared.index_series.IndexSeries.{IndexSeries}
+use Rattle.index_parts.specs.declared.index_series.IndexSeries.{IndexSeries}
 use Rattle.index_parts.specs.declared.raw_label.RawLabel.{RawLabel}
 use Rattle.index_parts.specs.SeriesReading.{label_at, names_of, values_of}
 use Rattle.index_v2.specs.SeriesLabels.{label_of, labels_of, texts_at, labelled_at, numbered_at}
-use Rattle.index_file.specs.IndexFile.{StandFor, IsSeriesOf}
+use Rattle.index_parts.specs.IndexFile.{StandFor, IsSeriesOf}
 use Rattle.wire_bytes.specs.Position.{Position}
 use Rattle.index_v2.proofs.LabelReading.{label_parts}
 use Rattle.index_v2.proofs.LabelledSeries.{labelled_parts, raw_stands}

@@ -3,9 +3,9 @@ use Rattle.std.proofs.Common.{◌≡◌, ℕ, ◌+◌, ◌<◌, List, [], ◌∷
 use Rattle.std.specs.Prelude.{slice_get}
 use Rattle.std.proofs.lemmas.Bool.{ltb-true}
 use Rattle.std.specs.Prelude.{IsErrAnd}
-use Rattle.list_core.proofs.Bools.{Less-from_is_lt}
-use Rattle.reading_core.specs.Reading.{◌>>=◌, Answers, Gives}
-use Rattle.reading_core.proofs.Binds.{bind_ok, unless_ok, ok_is, ok_or_ok}
+use Rattle.base.proofs.Bools.{Less-from_is_lt}
+use Rattle.base.specs.Reading.{◌>>=◌, Answers, Gives}
+use Rattle.base.proofs.Binds.{bind_ok, unless_ok, ok_is, ok_or_ok}
 use Rattle.label_sets.specs.declared.label.Label.{Label}
 use Rattle.label_sets.specs.Labels.{compare_texts, ComesBefore}
 use Rattle.index_parts.specs.declared.refusal.PartRefusal.{PartRefusal}

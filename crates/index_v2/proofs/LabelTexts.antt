@@ -2,8 +2,8 @@
 use Rattle.std.proofs.Common.{◌≡◌, ℕ, suc, ◌+◌, ◌-◌, ◌<◌, ◌≤◌, List, [], ◌∷◌, ◌++◌, Result, Ok, Err, refl, ap, ◌∙◌, arith}
 use Rattle.std.specs.Result.{result_map_both}
 use Rattle.std.proofs.lemmas.List.{append-nil}
-use Rattle.reading_core.specs.Reading.{◌>>=◌}
-use Rattle.reading_core.specs.Members.{members_at}
+use Rattle.base.specs.Reading.{◌>>=◌}
+use Rattle.base.specs.Members.{members_at}
 use Rattle.wire_bytes.specs.Position.{Position}
 use Rattle.index_parts.specs.declared.refusal.PartRefusal.{PartRefusal}
 use Rattle.index_parts.specs.declared.raw_label.RawLabel.{RawLabel}

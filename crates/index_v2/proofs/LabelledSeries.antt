@@ -1,8 +1,8 @@
 -- A series with its labels, read part by part.
 use Rattle.std.proofs.Common.{◌≡◌, ℕ, List, [], ◌∷◌, Result, Ok, Err, refl, sym, ap, subst, ◌∙◌, ◌⊎◌, inl, inr}
-use Rattle.reading_core.specs.Reading.{◌>>=◌}
-use Rattle.reading_core.specs.Members.{members_at}
-use Rattle.reading_core.proofs.Binds.{bind_ok, ok_is}
+use Rattle.base.specs.Reading.{◌>>=◌}
+use Rattle.base.specs.Members.{members_at}
+use Rattle.base.proofs.Binds.{bind_ok, ok_is}
 use Rattle.wire_bytes.specs.Position.{Position}
 use Rattle.index_parts.specs.declared.refusal.PartRefusal.{PartRefusal}
 use Rattle.index_parts.specs.declared.refusal.PartRefusal.TheVariants as part
@@ -11,7 +11,7 @@ use Rattle.index_parts.specs.declared.chunk_place.ChunkPlace.{ChunkPlace}
 use Rattle.index_parts.specs.SeriesReading.{labels_begin_at, label_at, names_of, values_of, labels_at, chunks_at, series_at}
 use Rattle.index_parts.specs.declared.raw_label.RawLabel.{RawLabel}
 use Rattle.label_sets.specs.declared.label.Label.{Label}
-use Rattle.index_file.specs.declared.index_series.IndexSeries.{IndexSeries}
+use Rattle.index_parts.specs.declared.index_series.IndexSeries.{IndexSeries}
 use Rattle.index_v2.specs.SeriesLabels.{labels_of, texts_at, labelled_at}
 
 abbrev pub with_chunks : List ChunkPlace → List Label → Result IndexSeries PartRefusal

@@ -3,9 +3,9 @@ use Rattle.std.proofs.Common.{◌≡◌, ◌≢◌, ℕ, suc, ◌+◌, ◌<◌, 
 use Rattle.std.specs.Prelude.{◌==◌, is_err}
 use Rattle.std.proofs.lemmas.Bool.{ne_eqb}
 use Rattle.std.proofs.lemmas.List.{map_more, map-append, take_all, take-append-drop}
-use Rattle.list_core.proofs.Bools.{is_lt-from_Less}
-use Rattle.reading_core.specs.Reading.{Gives}
-use Rattle.reading_core.proofs.Binds.{ok_is}
+use Rattle.base.proofs.Bools.{is_lt-from_Less}
+use Rattle.base.specs.Reading.{Gives}
+use Rattle.base.proofs.Binds.{ok_is}
 use Rattle.label_sets.specs.declared.label.Label.{Label}
 use Rattle.label_sets.specs.declared.label_refusal.LabelRefusal.{LabelRefusal}
 use Rattle.label_sets.specs.declared.label_refusal.LabelRefusal.TheVariants.{NoMemory}

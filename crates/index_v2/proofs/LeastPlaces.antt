@@ -6,7 +6,7 @@ use Rattle.std.specs.declared.cmp.Ordering.TheVariants.{Less, Equal, Greater}
 use Rattle.std.specs.List.{Contains}
 use Rattle.std.proofs.lemmas.Option.{same_Some}
 use Rattle.std.proofs.lemmas.Bool.{cases_lt, cases_order}
-use Rattle.list_core.proofs.Membership.{contains_first, contains_later, contains_place, place_of_member}
+use Rattle.base.proofs.Membership.{contains_first, contains_later, contains_place, place_of_member}
 use Rattle.index_v2.specs.WholeReading.{earlier_place, by_order}
 
 -- the least place of which something holds; it holds of none where there is none

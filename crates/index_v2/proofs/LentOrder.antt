@@ -6,13 +6,13 @@ use Rattle.std.specs.Ordering.{ordering_then, is_eq}
 use Rattle.std.specs.Str.{bytes_eq}
 use Rattle.std.proofs.lemmas.Bool.{true≢false}
 use Rattle.std.proofs.lemmas.List.{take_more, drop_more, drop_all, length-map}
-use Rattle.list_core.proofs.Lists.{drop_none}
-use Rattle.list_core.proofs.Bools.{Equal-from_is_eq}
+use Rattle.base.proofs.Lists.{drop_none}
+use Rattle.base.proofs.Bools.{Equal-from_is_eq}
 use Rattle.label_sets.specs.declared.label.Label.{Label}
 use Rattle.label_sets.specs.Labels.{compare_labels, compare_sets, value_of}
 use Rattle.label_sets.proofs.LabelValues.{value_nil}
 use Rattle.index_parts.specs.declared.postings_row.PostingsRow.{PostingsRow}
-use Rattle.index_file.specs.declared.index_series.IndexSeries.{IndexSeries}
+use Rattle.index_parts.specs.declared.index_series.IndexSeries.{IndexSeries}
 use Rattle.index_v2.specs.declared.lent_label.LentLabel.{LentLabel}
 use Rattle.index_v2.specs.LentLabels.{as_label}
 use Rattle.index_v2.specs.WholeReading.{gap_from, earlier_place}

@@ -3,8 +3,8 @@ use Rattle.std.proofs.Common.{ℕ, zero, suc, ◌+◌, ◌^◌, ◌<◌, List, [
 use Rattle.std.specs.List.{All, AllByRecursion}
 use Rattle.std.specs.List.Sorted.{IsStrictlyIncreasing}
 use Rattle.std.proofs.lemmas.List.Elements.{All-from_recursion}
-use Rattle.list_core.proofs.Bools.{lt-from_Less}
-use Rattle.index_file.specs.IndexFile.{AreListed}
+use Rattle.base.proofs.Bools.{lt-from_Less}
+use Rattle.index_parts.specs.IndexFile.{AreListed}
 use Rattle.index_parts.specs.Turns.{AreInTurn}
 use Rattle.index_parts.specs.Postings.{IsNextPosting, IsPostings}
 use Rattle.index_parts.specs.declared.postings_row.PostingsRow.{PostingsRow}

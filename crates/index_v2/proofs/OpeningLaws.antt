@@ -4,10 +4,10 @@ use Rattle.std.specs.Prelude.{◌==◌, nat_le, nat_eq, slice_index}
 use Rattle.std.specs.List.{starts_with}
 use Rattle.std.proofs.lemmas.Bool.{eqb-true, eq-eqb, leb-true, le-leb}
 use Rattle.std.specs.Cmp.Lexicographic.{bytes_decides}
-use Rattle.list_core.proofs.Bools.{by_bool}
-use Rattle.reading_core.specs.Reading.{◌>>=◌, refused_as}
-use Rattle.reading_core.specs.Grammar.{IsBytes}
-use Rattle.reading_core.proofs.Binds.{bind_ok, unless_ok, refused_as_ok, ok_is}
+use Rattle.base.proofs.Bools.{by_bool}
+use Rattle.base.specs.Reading.{◌>>=◌, refused_as}
+use Rattle.base.specs.Grammar.{IsBytes}
+use Rattle.base.proofs.Binds.{bind_ok, unless_ok, refused_as_ok, ok_is}
 use Rattle.index_parts.specs.declared.toc.Toc.{Toc}
 use Rattle.index_parts.specs.declared.refusal.PartRefusal.{PartRefusal}
 use Rattle.index_parts.specs.declared.refusal.PartRefusal.TheVariants as part
@@ -22,9 +22,9 @@ use Rattle.index_parts.proofs.SymbolLaws.{symbol_turn}
 use Rattle.index_parts.proofs.RowLaws.{row_turn}
 use Rattle.index_v2.specs.declared.refusal.IndexRefusal.{IndexRefusal}
 use Rattle.index_v2.specs.declared.refusal.IndexRefusal.TheVariants.{BadSection}
-use Rattle.index_file.specs.Opened.{Opened}
+use Rattle.index_parts.specs.Opened.{Opened}
 use Rattle.index_v2.specs.Opening.{refused_in, contents_at, held_at, opened_at}
-use Rattle.index_file.specs.IndexFile.{magic, version, header, least_size, Holds, IsOpened}
+use Rattle.index_parts.specs.IndexFile.{magic, version, header, least_size, Holds, IsOpened}
 
 -- ---- the header
 

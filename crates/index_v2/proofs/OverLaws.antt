@@ -2,8 +2,8 @@
 use Rattle.std.proofs.Common.{◌≡◌, ℕ, List, [], Option, Result, Ok, Err, refl, sym, ap, subst, ◌∙◌, ◌⊎◌, inl, inr}
 use Rattle.std.specs.Prelude.{IfOk, ◌==◌, if◌then◌else◌}
 use Rattle.std.specs.Result.{IsOkAnd}
-use Rattle.reading_core.specs.Reading.{◌>>=◌, refused_as, Gives}
-use Rattle.reading_core.proofs.Binds.{ok_is, err_is}
+use Rattle.base.specs.Reading.{◌>>=◌, refused_as, Gives}
+use Rattle.base.proofs.Binds.{ok_is, err_is}
 use Rattle.wire_bytes.specs.Position.{Position}
 use Rattle.index_parts.specs.declared.refusal.PartRefusal.{PartRefusal}
 use Rattle.index_parts.specs.declared.postings_row.PostingsRow.{PostingsRow}
@@ -11,11 +11,11 @@ use Rattle.index_parts.specs.Contents.{IsToc}
 use Rattle.index_parts.specs.ListReading.{list_at}
 use Rattle.index_parts.specs.SymbolsReading.{symbol_at, symbols_at}
 use Rattle.index_parts.specs.RowsReading.{postings_table_at}
-use Rattle.index_file.specs.Opened.{Opened}
-use Rattle.index_file.specs.IndexFile.{IsOpened}
-use Rattle.index_slices.specs.Parts.{Part, known, IsPartOf, HoldsSection}
-use Rattle.index_slices.proofs.SectionShifts.{Turned, symbol_turned, row_turned}
-use Rattle.index_slices.proofs.Slices.{list_known}
+use Rattle.index_parts.specs.Opened.{Opened}
+use Rattle.index_parts.specs.IndexFile.{IsOpened}
+use Rattle.index_parts.specs.Parts.{Part, known, IsPartOf, HoldsSection}
+use Rattle.index_parts.proofs.SectionShifts.{Turned, symbol_turned, row_turned}
+use Rattle.index_parts.proofs.Slices.{list_known}
 use Rattle.index_v2.specs.declared.refusal.IndexRefusal.{IndexRefusal}
 use Rattle.index_v2.specs.declared.refusal.IndexRefusal.TheVariants.{NoMemory}
 use Rattle.index_v2.specs.declared.lent_parts.IndexParts.{IndexParts}

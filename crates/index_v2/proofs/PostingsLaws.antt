@@ -6,10 +6,10 @@ use Rattle.std.specs.Str.{bytes_eq}
 use Rattle.std.specs.Cmp.Lexicographic.{bytes_decides}
 use Rattle.std.proofs.lemmas.Bool.{and_parts}
 use Rattle.std.proofs.lemmas.Option.{same_Some}
-use Rattle.list_core.proofs.Membership.{contains_first, contains_later, contains_place, place_of_member}
-use Rattle.list_core.proofs.Bools.{bytes_eq-itself}
-use Rattle.reading_core.specs.Reading.{refused_as, Gives}
-use Rattle.reading_core.proofs.Binds.{ok_is}
+use Rattle.base.proofs.Membership.{contains_first, contains_later, contains_place, place_of_member}
+use Rattle.base.proofs.Bools.{bytes_eq-itself}
+use Rattle.base.specs.Reading.{refused_as, Gives}
+use Rattle.base.proofs.Binds.{ok_is}
 use Rattle.label_sets.specs.declared.label.Label.{Label}
 use Rattle.label_sets.proofs.LabelValues.{by_bool}
 use Rattle.index_parts.specs.declared.postings_row.PostingsRow.{PostingsRow}
@@ -18,11 +18,11 @@ use Rattle.index_parts.specs.Postings.{IsNextPosting}
 use Rattle.index_parts.specs.PostingsReading.{posting_at}
 use Rattle.index_parts.proofs.ListLaws.{list_again}
 use Rattle.index_parts.proofs.PostingsLaws.{posting_turn}
-use Rattle.index_file.specs.declared.index_series.IndexSeries.{IndexSeries}
-use Rattle.index_file.specs.Opened.{Opened}
-use Rattle.index_file.specs.IndexFile.{BelongsTo, AreListed, HasRow, IsIndex, AreNumbersOf, Holds}
+use Rattle.index_parts.specs.declared.index_series.IndexSeries.{IndexSeries}
+use Rattle.index_parts.specs.Opened.{Opened}
+use Rattle.index_parts.specs.IndexFile.{BelongsTo, AreListed, HasRow, IsIndex, AreNumbersOf, Holds}
 use Rattle.index_v2.specs.Opening.{refused_in, opened_at}
-use Rattle.index_slices.specs.Parts.{file}
+use Rattle.index_parts.specs.Parts.{file}
 use Rattle.index_v2.specs.Held.{whole_file}
 use Rattle.index_v2.specs.PostingsLists.{is_row_of, row_of, list_of, postings_of}
 use Rattle.index_v2.proofs.OpeningLaws.{opened_again}

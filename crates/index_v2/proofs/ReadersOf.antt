@@ -2,18 +2,18 @@
 use Rattle.std.proofs.Common.{◌≡◌, ℕ, List, [], length, Option, Some, None, Result, Ok, Err, refl, sym, ap, subst, ◌∙◌, arith, ◌⊎◌, inl, inr}
 use Rattle.std.specs.Prelude.{slice_get, option_map, IfOk, IfErr, IfSome}
 use Rattle.std.proofs.lemmas.Option.{same_Some}
-use Rattle.list_core.proofs.Membership.{contains_place}
-use Rattle.reading_core.specs.Reading.{refused_as, Gives}
-use Rattle.reading_core.proofs.Binds.{ok_is}
+use Rattle.base.proofs.Membership.{contains_place}
+use Rattle.base.specs.Reading.{refused_as, Gives}
+use Rattle.base.proofs.Binds.{ok_is}
 use Rattle.index_parts.specs.declared.postings_row.PostingsRow.{PostingsRow}
 use Rattle.index_parts.specs.Postings.{IsNextPosting, IsPostings}
 use Rattle.index_parts.specs.PostingsReading.{posting_at}
 use Rattle.index_parts.proofs.ListLaws.{list_again}
 use Rattle.index_parts.proofs.PostingsLaws.{posting_turn}
-use Rattle.index_file.specs.declared.index_series.IndexSeries.{IndexSeries}
-use Rattle.index_file.specs.Opened.{Opened}
-use Rattle.index_file.specs.IndexFile.{IsOpened, IsIndex, AreNumbersOf}
-use Rattle.index_slices.specs.Parts.{file, IsPartOf, HoldsSection}
+use Rattle.index_parts.specs.declared.index_series.IndexSeries.{IndexSeries}
+use Rattle.index_parts.specs.Opened.{Opened}
+use Rattle.index_parts.specs.IndexFile.{IsOpened, IsIndex, AreNumbersOf}
+use Rattle.index_parts.specs.Parts.{file, IsPartOf, HoldsSection}
 use Rattle.index_v2.specs.declared.refusal.IndexRefusal.{IndexRefusal}
 use Rattle.index_v2.specs.declared.refusal.IndexRefusal.TheVariants.{NoMemory}
 use Rattle.index_v2.specs.Held.{Held, opened_of, IsWhole, IsHeldOf, IsReaderOf, HasList}

@@ -5,7 +5,7 @@ use Rattle.std.specs.List.Sorted.{IsStrictlySortedBy}
 use Rattle.index_parts.specs.declared.postings_row.PostingsRow.{PostingsRow}
 use Rattle.index_parts.specs.Rows.{compare_rows, IsPostingsTable}
 use Rattle.index_parts.proofs.RowPlaces.{table_ascends}
-use Rattle.index_file.specs.IndexFile.{Holds}
+use Rattle.index_parts.specs.IndexFile.{Holds}
 
 held_by : (index : List ℕ) (reference : ℕ) (rows : List PostingsRow) (absent : Bool) → MatchBool absent (rows ≡ []) (IsPostingsTable index reference rows) → IsStrictlySortedBy compare_rows rows
 unfolding IsStrictlySortedBy

@@ -3,8 +3,8 @@ use Rattle.std.proofs.Common.{◌≡◌, ℕ, ◌+◌, ◌-◌, ◌*◌, ◌^◌
 use Rattle.std.specs.Result.{IsOkAnd}
 use Rattle.std.proofs.lemmas.Bool.{cases_lt}
 use Rattle.std.proofs.lemmas.List.{length-drop}
-use Rattle.reading_core.specs.Reading.{refused_as}
-use Rattle.reading_core.proofs.Binds.{by_result}
+use Rattle.base.specs.Reading.{refused_as}
+use Rattle.base.proofs.Binds.{by_result}
 use Rattle.wire_bytes.specs.Position.{Position}
 use Rattle.wire_bytes.specs.declared.refusal.WireRefusal.{WireRefusal}
 use Rattle.wire_bytes.specs.declared.refusal.WireRefusal.TheVariants as wire
@@ -14,8 +14,8 @@ use Rattle.index_parts.specs.declared.refusal.PartRefusal.TheVariants as part
 use Rattle.index_parts.specs.Placed.{at_place, refused_at}
 use Rattle.index_parts.specs.Framing.{summed_at, framed_at}
 use Rattle.index_parts.specs.SeriesReading.{labels_begin_at}
-use Rattle.index_slices.specs.Parts.{Part, known, HoldsSeries}
-use Rattle.index_slices.proofs.Longer.{framed_is, framed_refused, no_content, no_sum, entry_longer}
+use Rattle.index_parts.specs.Parts.{Part, known, HoldsSeries}
+use Rattle.index_parts.proofs.Longer.{framed_is, framed_refused, no_content, no_sum, entry_longer}
 use Rattle.index_v2.specs.declared.refusal.IndexRefusal.TheVariants.{BadSeries}
 use Rattle.index_v2.specs.Opening.{refused_of}
 use Rattle.index_v2.specs.SeriesLabels.{numbered_at}

@@ -4,9 +4,9 @@ use Rattle.std.specs.Prelude.{slice_get, nat_lt}
 use Rattle.std.specs.Ordering.{is_lt}
 use Rattle.std.specs.Option.{ok_or}
 use Rattle.std.proofs.lemmas.List.{length-replicate, length-map, drop_all}
-use Rattle.reading_core.specs.Reading.{refused_as, Gives}
-use Rattle.reading_core.specs.Grammar.{IsBytes}
-use Rattle.reading_core.proofs.Binds.{err_is}
+use Rattle.base.specs.Reading.{refused_as, Gives}
+use Rattle.base.specs.Grammar.{IsBytes}
+use Rattle.base.proofs.Binds.{err_is}
 use Rattle.wire_bytes.specs.declared.refusal.WireRefusal.TheVariants as wire
 use Rattle.wire_bytes.specs.Fields.{groups_of, uvarint_at}
 use Rattle.wire_bytes.specs.Position.{Position}
@@ -21,15 +21,15 @@ use Rattle.index_parts.specs.Placed.{at_place}
 use Rattle.index_parts.specs.SeriesReading.{labels_begin_at, names_of, values_of}
 use Rattle.index_parts.proofs.SeriesLaws.{series_found}
 use Rattle.index_parts.proofs.SeriesLaws.{series_few as raw_few}
-use Rattle.index_file.specs.declared.index_series.IndexSeries.{IndexSeries}
-use Rattle.index_file.specs.IndexFile.{IsSeriesOf}
-use Rattle.index_slices.specs.Parts.{Part, known, IsPartOf, HoldsSeries}
-use Rattle.index_slices.specs.Shifting.{shifted_refusal}
-use Rattle.index_slices.proofs.Shifts.{IsMoved, IsSame, same_value, same_refusal, same_bind, same_step, same_unless}
-use Rattle.index_slices.proofs.SeriesShifts.{IsFurther, LabelFurther, AreFurther, AreBehind, labels_same, begin_same, chunks_same}
-use Rattle.index_slices.proofs.Longer.{framed_refused}
-use Rattle.index_slices.proofs.Slices.{IsTold, told_from, room_behind}
-use Rattle.index_slices.proofs.SeriesSlices.{series_stands, begin_in_index}
+use Rattle.index_parts.specs.declared.index_series.IndexSeries.{IndexSeries}
+use Rattle.index_parts.specs.IndexFile.{IsSeriesOf}
+use Rattle.index_parts.specs.Parts.{Part, known, IsPartOf, HoldsSeries}
+use Rattle.index_parts.specs.Shifting.{shifted_refusal}
+use Rattle.index_parts.proofs.Shifts.{IsMoved, IsSame, same_value, same_refusal, same_bind, same_step, same_unless}
+use Rattle.index_parts.proofs.SeriesShifts.{IsFurther, LabelFurther, AreFurther, AreBehind, labels_same, begin_same, chunks_same}
+use Rattle.index_parts.proofs.Longer.{framed_refused}
+use Rattle.index_parts.proofs.Slices.{IsTold, told_from, room_behind}
+use Rattle.index_parts.proofs.SeriesSlices.{series_stands, begin_in_index}
 use Rattle.index_v2.specs.declared.refusal.IndexRefusal.{IndexRefusal}
 use Rattle.index_v2.specs.declared.refusal.IndexRefusal.TheVariants.{BadSeries, NoMemory}
 use Rattle.index_v2.specs.Opening.{refused_of}

@@ -9,16 +9,16 @@ use Rattle.std.specs.declared.cmp.Ordering.TheVariants.{Less}
 use Rattle.std.proofs.lemmas.List.Elements.{filter_passes, recursion_from_All}
 use Rattle.std.proofs.lemmas.List.Kept.{IsStrictlySortedBy-filter}
 use Rattle.std.proofs.lemmas.Option.{same_Some}
-use Rattle.list_core.proofs.Membership.{place_of_member, of_filter, into_filter, member_passes, of_map, into_map}
-use Rattle.list_core.proofs.Bools.{bytes_eq-itself, Less-from_then}
-use Rattle.list_core.proofs.Lists.{some-from_length}
+use Rattle.base.proofs.Membership.{place_of_member, of_filter, into_filter, member_passes, of_map, into_map}
+use Rattle.base.proofs.Bools.{bytes_eq-itself, Less-from_then}
+use Rattle.base.proofs.Lists.{some-from_length}
 use Rattle.label_sets.specs.declared.label.Label.{Label}
 use Rattle.label_sets.specs.Labels.{compare_texts, IsLabelSet}
 use Rattle.label_sets.proofs.LabelValues.{by_bool}
 use Rattle.index_parts.specs.declared.postings_row.PostingsRow.{PostingsRow}
 use Rattle.index_parts.specs.Rows.{compare_rows}
-use Rattle.index_file.specs.declared.index_series.IndexSeries.{IndexSeries}
-use Rattle.index_file.specs.IndexFile.{HasRow, IsIndex, AreValuesOf}
+use Rattle.index_parts.specs.declared.index_series.IndexSeries.{IndexSeries}
+use Rattle.index_parts.specs.IndexFile.{HasRow, IsIndex, AreValuesOf}
 use Rattle.index_v2.specs.PostingsLists.{values_of}
 use Rattle.index_v2.proofs.LabelsOwned.{some_bytes}
 use Rattle.index_v2.proofs.RowsHeld.{held_ascends}

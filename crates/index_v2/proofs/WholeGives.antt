@@ -1,12 +1,12 @@
 -- What is read by `whole_at`, within its bounds, is what reading a whole index gives.
 use Rattle.std.proofs.Common.{◌≡◌, ◌⊎◌, ◌*◌, ◌≤◌, ◌∙◌, List, [], Result, length, sum_by, ap, sym, subst}
 use Rattle.std.specs.Prelude.{IfOk}
-use Rattle.reading_core.specs.Reading.{Gives}
-use Rattle.reading_core.specs.Grammar.{IsBytes}
+use Rattle.base.specs.Reading.{Gives}
+use Rattle.base.specs.Grammar.{IsBytes}
 use Rattle.index_parts.specs.declared.refusal.PartRefusal.TheVariants.{Short}
 use Rattle.index_parts.proofs.ListLaws.{found_from, only_from}
-use Rattle.index_file.specs.declared.index_series.IndexSeries.{IndexSeries}
-use Rattle.index_file.specs.IndexFile.{IsIndex}
+use Rattle.index_parts.specs.declared.index_series.IndexSeries.{IndexSeries}
+use Rattle.index_parts.specs.IndexFile.{IsIndex}
 use Rattle.index_v2.specs.declared.refusal.IndexRefusal.{IndexRefusal}
 use Rattle.index_v2.specs.declared.refusal.IndexRefusal.TheVariants.{NoMemory, BadSeries}
 use Rattle.index_v2.specs.Held.{Held, IsWhole, opened_of}

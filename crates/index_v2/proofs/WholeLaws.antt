@@ -10,13 +10,13 @@ use Rattle.std.proofs.lemmas.List.{length-map}
 use Rattle.std.proofs.lemmas.Option.{same_Some}
 use Rattle.std.proofs.lemmas.Cmp.{tied_itself, tied_back}
 use Rattle.std.proofs.lemmas.List.{nil_from_length}
-use Rattle.list_core.proofs.Lists.{zip_firsts, zip_seconds, zip_parts}
-use Rattle.list_core.proofs.Membership.{all_at_member, any_of_member, contains_place, member_of_any, place_of_member}
-use Rattle.list_core.proofs.Order.{Less-at_places}
-use Rattle.list_core.proofs.Bools.{bytes_eq-itself}
-use Rattle.reading_core.specs.Reading.{refused_as}
-use Rattle.reading_core.specs.Grammar.{IsBytes}
-use Rattle.reading_core.proofs.Binds.{unless_ok, refused_as_ok, ok_is}
+use Rattle.base.proofs.Lists.{zip_firsts, zip_seconds, zip_parts}
+use Rattle.base.proofs.Membership.{all_at_member, any_of_member, contains_place, member_of_any, place_of_member}
+use Rattle.base.proofs.Order.{Less-at_places}
+use Rattle.base.proofs.Bools.{bytes_eq-itself}
+use Rattle.base.specs.Reading.{refused_as}
+use Rattle.base.specs.Grammar.{IsBytes}
+use Rattle.base.proofs.Binds.{unless_ok, refused_as_ok, ok_is}
 use Rattle.label_sets.specs.declared.label.Label.{Label}
 use Rattle.label_sets.specs.Labels.{value_of, IsLabelSet, StandsBefore, ComesBefore, compare_texts}
 use Rattle.label_sets.proofs.LabelValues.{by_bool, value_hit, value_miss, before_differs}
@@ -29,12 +29,12 @@ use Rattle.index_parts.specs.Postings.{IsNextPosting, IsPostings}
 use Rattle.index_parts.specs.PostingsReading.{posting_at, postings_at}
 use Rattle.index_parts.proofs.ListLaws.{list_found, list_again}
 use Rattle.index_parts.proofs.PostingsLaws.{posting_turn}
-use Rattle.index_file.specs.declared.index_series.IndexSeries.{IndexSeries}
-use Rattle.index_file.specs.Opened.{Opened}
-use Rattle.index_file.specs.IndexFile.{compare_series, BelongsTo, IsListOf, AreListed, Holds, IsOpened, AreSeriesOf}
+use Rattle.index_parts.specs.declared.index_series.IndexSeries.{IndexSeries}
+use Rattle.index_parts.specs.Opened.{Opened}
+use Rattle.index_parts.specs.IndexFile.{compare_series, BelongsTo, IsListOf, AreListed, Holds, IsOpened, AreSeriesOf}
 use Rattle.index_v2.specs.declared.refusal.IndexRefusal.{IndexRefusal}
 use Rattle.index_v2.specs.Opening.{refused_in}
-use Rattle.index_slices.specs.Parts.{file}
+use Rattle.index_parts.specs.Parts.{file}
 use Rattle.index_v2.specs.Held.{whole_file}
 use Rattle.index_v2.specs.PostingsLists.{row_of, list_of, postings_of}
 use Rattle.index_v2.specs.WholeReading.{present_at, all_at, lists_at, belongs, has_value, is_of_row}

@@ -6,17 +6,17 @@ use Rattle.std.specs.List.Sorted.{IsStrictlySortedBy}
 use Rattle.std.specs.declared.cmp.Ordering.{Ordering}
 use Rattle.std.specs.declared.cmp.Ordering.TheVariants.{Less, Equal, Greater}
 use Rattle.std.proofs.lemmas.Option.{same_Some}
-use Rattle.list_core.proofs.Lists.{AllByRecursion-weaker}
-use Rattle.list_core.proofs.Membership.{contains_first, contains_later, place_of_member}
-use Rattle.list_core.proofs.Bools.{Less-from_is_lt, is_lt-from_Less}
-use Rattle.reading_core.proofs.Binds.{bind_ok, unless_ok, refused_as_ok, ok_is}
+use Rattle.base.proofs.Lists.{AllByRecursion-weaker}
+use Rattle.base.proofs.Membership.{contains_first, contains_later, place_of_member}
+use Rattle.base.proofs.Bools.{Less-from_is_lt, is_lt-from_Less}
+use Rattle.base.proofs.Binds.{bind_ok, unless_ok, refused_as_ok, ok_is}
 use Rattle.label_sets.specs.declared.label.Label.{Label}
 use Rattle.index_parts.specs.declared.postings_row.PostingsRow.{PostingsRow}
 use Rattle.index_parts.specs.PostingsReading.{postings_at}
-use Rattle.index_file.specs.declared.index_series.IndexSeries.{IndexSeries}
-use Rattle.index_file.specs.IndexFile.{compare_series}
-use Rattle.index_slices.specs.Parts.{file}
-use Rattle.index_file.proofs.SeriesOrder.{series_total}
+use Rattle.index_parts.specs.declared.index_series.IndexSeries.{IndexSeries}
+use Rattle.index_parts.specs.IndexFile.{compare_series}
+use Rattle.index_parts.specs.Parts.{file}
+use Rattle.index_parts.proofs.SeriesOrder.{series_total}
 use Rattle.index_v2.specs.declared.refusal.IndexRefusal.{IndexRefusal}
 use Rattle.index_v2.specs.SeriesLabels.{numbered_at}
 use Rattle.index_parts.specs.RowOrder.{compare_row}

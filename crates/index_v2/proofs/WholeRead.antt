@@ -3,11 +3,11 @@ use Rattle.std.proofs.Common.{◌≡◌, ◌≢◌, ℕ, ◌*◌, Bool, true, fa
 use Rattle.std.specs.Prelude.{nat_lt}
 use Rattle.std.proofs.lemmas.Bool.{cases_lt}
 use Rattle.std.proofs.lemmas.Cmp.{tied_itself}
-use Rattle.list_core.proofs.Lists.{zip_parts}
-use Rattle.list_core.proofs.Membership.{contains_place, place_of_member}
-use Rattle.reading_core.specs.Reading.{◌>>=◌, ◌>>◌, unless, refused_as, Gives}
-use Rattle.reading_core.specs.Grammar.{IsBytes}
-use Rattle.reading_core.proofs.Binds.{refused_as_err, ok_is, err_is}
+use Rattle.base.proofs.Lists.{zip_parts}
+use Rattle.base.proofs.Membership.{contains_place, place_of_member}
+use Rattle.base.specs.Reading.{◌>>=◌, ◌>>◌, unless, refused_as, Gives}
+use Rattle.base.specs.Grammar.{IsBytes}
+use Rattle.base.proofs.Binds.{refused_as_err, ok_is, err_is}
 use Rattle.label_sets.specs.declared.label.Label.{Label}
 use Rattle.index_parts.specs.declared.refusal.PartRefusal.{PartRefusal}
 use Rattle.index_parts.specs.declared.refusal.PartRefusal.TheVariants as part
@@ -17,14 +17,14 @@ use Rattle.index_parts.specs.Postings.{IsNextPosting}
 use Rattle.index_parts.specs.PostingsReading.{posting_at}
 use Rattle.index_parts.proofs.ListLaws.{list_found}
 use Rattle.index_parts.proofs.PostingsLaws.{posting_turn}
-use Rattle.index_file.specs.declared.index_series.IndexSeries.{IndexSeries}
-use Rattle.index_file.specs.Opened.{Opened}
-use Rattle.index_file.specs.IndexFile.{HasRow, IsOpened, IsIndex}
+use Rattle.index_parts.specs.declared.index_series.IndexSeries.{IndexSeries}
+use Rattle.index_parts.specs.Opened.{Opened}
+use Rattle.index_parts.specs.IndexFile.{HasRow, IsOpened, IsIndex}
 use Rattle.index_v2.specs.declared.refusal.IndexRefusal.{IndexRefusal}
 use Rattle.index_v2.specs.declared.refusal.IndexRefusal.TheVariants.{BadSeries, PostingsDiffer, NoMemory}
 use Rattle.index_v2.specs.Opening.{refused_in, refused_of, opened_at}
 use Rattle.index_parts.specs.RowOrder.{StandsAt}
-use Rattle.index_slices.specs.Parts.{Part, file}
+use Rattle.index_parts.specs.Parts.{Part, file}
 use Rattle.index_v2.specs.Held.{whole_file}
 use Rattle.index_v2.specs.PostingsLists.{row_of, list_of, postings_of}
 use Rattle.index_v2.specs.WholeReading.{present_at, may_stand_behind, behind_at, all_at, lists_at, difference, unless_differ, whole_at}

@@ -7,9 +7,9 @@ use Rattle.wire_bytes.specs.Position.{Position}
 use Rattle.wire_bytes.specs.Fields.{number_at, uvarint_at}
 use Rattle.index_parts.specs.Placed.{at_place}
 use Rattle.index_parts.specs.declared.postings_row.PostingsRow.{PostingsRow}
-use Rattle.index_slices.specs.Parts.{Part}
-use Rattle.index_file.specs.declared.index_series.IndexSeries.{IndexSeries}
-use Rattle.index_file.specs.IndexFile.{series_unit}
+use Rattle.index_parts.specs.Parts.{Part}
+use Rattle.index_parts.specs.declared.index_series.IndexSeries.{IndexSeries}
+use Rattle.index_parts.specs.IndexFile.{series_unit}
 
 -- a series' labels and chunks
 abbrev pub members_of : IndexSeries → ℕ

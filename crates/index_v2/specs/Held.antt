@@ -2,9 +2,9 @@
 use Rattle.std.specs.Prelude.{◌≡◌, ◌⊎◌, ℕ, List, [], length, Option, IfSome}
 use Rattle.index_parts.specs.declared.toc.Toc.{Toc}
 use Rattle.index_parts.specs.declared.postings_row.PostingsRow.{PostingsRow}
-use Rattle.index_file.specs.Opened.{Opened}
-use Rattle.index_file.specs.IndexFile.{IsOpened}
-use Rattle.index_slices.specs.Parts.{Part, file, IsPartOf, HoldsSection}
+use Rattle.index_parts.specs.Opened.{Opened}
+use Rattle.index_parts.specs.IndexFile.{IsOpened}
+use Rattle.index_parts.specs.Parts.{Part, file, IsPartOf, HoldsSection}
 use Rattle.index_v2.specs.declared.lent_parts.IndexParts.{IndexParts}
 
 -- The bytes in which it reads series, which are none where it holds parts; the table of contents, the symbols and the rows of

@@ -1,8 +1,8 @@
 pub use Rattle.index_parts.specs
-pub use Rattle.index_slices.specs.Parts
-pub use Rattle.index_file.specs.Opened
-pub use Rattle.index_file.specs.IndexFile
-pub use Rattle.index_file.specs.LabelTable
+pub use Rattle.index_parts.specs.Parts
+pub use Rattle.index_parts.specs.Opened
+pub use Rattle.index_parts.specs.IndexFile
+pub use Rattle.index_parts.specs.LabelTable
 pub mod Held
 pub mod Opening
 pub mod LentLabels

@@ -1,7 +1,7 @@
 -- What opening an index gives, or the first refusal.
 use Rattle.std.specs.Prelude.{ℕ, List, [], length, nat_eq, slice_index, Result, Ok, ◌==◌, nat_le, if◌then◌else◌}
 use Rattle.std.specs.List.{starts_with}
-use Rattle.reading_core.specs.Reading.{◌>>=◌, ◌>>◌, unless, refused_as}
+use Rattle.base.specs.Reading.{◌>>=◌, ◌>>◌, unless, refused_as}
 use Rattle.index_parts.specs.declared.refusal.PartRefusal.{PartRefusal}
 use Rattle.index_parts.specs.declared.refusal.PartRefusal.TheVariants as part
 use Rattle.index_parts.specs.declared.toc.Toc.{Toc}
@@ -10,9 +10,9 @@ use Rattle.index_parts.specs.SymbolsReading.{symbols_at}
 use Rattle.index_parts.specs.RowsReading.{postings_table_at}
 use Rattle.index_v2.specs.declared.refusal.IndexRefusal.{IndexRefusal}
 use Rattle.index_v2.specs.declared.refusal.IndexRefusal.TheVariants.{BadMagic, BadVersion, BadTocSum, BadSection, BadSeries, NoMemory}
-use Rattle.index_file.specs.Opened.{Opened}
-use Rattle.index_file.specs.IndexFile.{magic, version, least_size}
-use Rattle.index_slices.specs.Parts.{known}
+use Rattle.index_parts.specs.Opened.{Opened}
+use Rattle.index_parts.specs.IndexFile.{magic, version, least_size}
+use Rattle.index_parts.specs.Parts.{known}
 use Rattle.index_v2.specs.declared.lent_parts.IndexParts.{IndexParts}
 use Rattle.index_v2.specs.Held.{Held, symbols_of, table_of, held_of}
 

@@ -2,9 +2,9 @@
 use Rattle.std.specs.Prelude.{ℕ, List, [], length, map, find, Option, Some, None, Bool, ◌&&◌, Result, Ok, ◌==◌, if◌then◌else◌}
 use Rattle.std.specs.List.{filter}
 use Rattle.std.specs.Str.{bytes_eq}
-use Rattle.reading_core.specs.Reading.{refused_as}
+use Rattle.base.specs.Reading.{refused_as}
 use Rattle.index_parts.specs.declared.postings_row.PostingsRow.{PostingsRow}
-use Rattle.index_slices.specs.Parts.{Part, list_in}
+use Rattle.index_parts.specs.Parts.{Part, list_in}
 use Rattle.index_v2.specs.declared.refusal.IndexRefusal.{IndexRefusal}
 use Rattle.index_v2.specs.Held.{Held}
 use Rattle.index_v2.specs.Opening.{refused_in, postings_section}

@@ -1,13 +1,13 @@
 -- What reading a whole index gives a caller.
 use Rattle.std.specs.Prelude.{◌≡◌, ◌⊎◌, ◌+◌, ◌*◌, ◌≤◌, ℕ, List, [], ◌∷◌, length, sum_by, All, IfOk, Result, Ok, Err, Contains}
 use Rattle.std.specs.Result.{IsOkAnd}
-use Rattle.reading_core.specs.Reading.{Gives}
+use Rattle.base.specs.Reading.{Gives}
 use Rattle.index_parts.specs.declared.postings_row.PostingsRow.{PostingsRow}
 use Rattle.index_parts.specs.declared.refusal.PartRefusal.TheVariants.{Short}
-use Rattle.index_slices.specs.Parts.{HoldsSection}
-use Rattle.index_file.specs.Opened.{Opened}
-use Rattle.index_file.specs.IndexFile.{IsIndex, series_unit}
-use Rattle.index_file.specs.declared.index_series.IndexSeries.{IndexSeries}
+use Rattle.index_parts.specs.Parts.{HoldsSection}
+use Rattle.index_parts.specs.Opened.{Opened}
+use Rattle.index_parts.specs.IndexFile.{IsIndex, series_unit}
+use Rattle.index_parts.specs.declared.index_series.IndexSeries.{IndexSeries}
 use Rattle.index_v2.specs.declared.refusal.IndexRefusal.{IndexRefusal}
 use Rattle.index_v2.specs.declared.refusal.IndexRefusal.TheVariants.{NoMemory, BadSeries, PostingsDiffer}
 use Rattle.index_v2.specs.Held.{Held, IsWhole, IsHeldOf, opened_of, whole_file}

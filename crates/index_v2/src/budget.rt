@@ -4,12 +4,11 @@ ghost use Rattle.index_v2.specs.LentLabels.{as_label};
 ghost use Rattle.std.specs.Int.{w32};
 ghost use Rattle.wire_bytes.specs.Fields.{number_at};
 ghost use Rattle.index_parts.specs.Placed.{at_place};
-ghost use Rattle.index_slices.specs.Parts.{part_of};
+ghost use Rattle.index_parts.specs.Parts.{part_of};
 
 use crate::{LentLabel, LentSeries};
-use index_file::SERIES_UNIT;
-use index_slices::IndexPart;
-use list_core::NoMemory;
+use base::NoMemory;
+use index_parts::{IndexPart, SERIES_UNIT};
 use wire_bytes::Cursor;
 
 /// How many bytes of label texts are copied out of an index at most for each byte of its own.

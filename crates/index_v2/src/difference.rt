@@ -1,6 +1,6 @@
 ghost use Rattle.std.specs.Prelude.{◌≡◌, ◌==◌, ◌^◌, ◌<◌, ◌≤◌, All, length, map, zip, None, Some, IfSome, if◌then◌else◌};
 ghost use Rattle.std.specs.List.{list_all};
-ghost use Rattle.list_core.specs.Lists.{is_one_of};
+ghost use Rattle.base.specs.Lists.{is_one_of};
 ghost use Rattle.index_v2.specs.LentLabels.{as_label};
 ghost use Rattle.index_v2.specs.WholeReading.{belongs, is_of_row, stray_from, gap_from, gap_of, gap_among, earlier_place, difference};
 ghost use Rattle.std.specs.List.Sorted.{IsStrictlyIncreasing};

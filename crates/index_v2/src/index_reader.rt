@@ -1,15 +1,15 @@
 ghost use Rattle.std.specs.Prelude.{◌≡◌, ◌⊎◌, ◌+◌, ◌-◌, ◌*◌, ◌^◌, ◌<◌, ◌≤◌, [], length, All, slice_get, MatchResult, IfOk, IfErr, IfSome, Ok, Err, Some, None, option_map};
 ghost use Rattle.std.specs.Result.{IsOkAnd};
 ghost use Rattle.std.specs.Option.{option_copied};
-ghost use Rattle.reading_core.specs.Reading.{Gives};
+ghost use Rattle.base.specs.Reading.{Gives};
 ghost use Rattle.index_parts.specs.Postings.{IsPostings};
 ghost use Rattle.wire_bytes.specs.Fields.{uvarint_at};
 ghost use Rattle.wire_bytes.specs.declared.refusal.WireRefusal.TheVariants.{Overlong};
 ghost use Rattle.index_parts.specs.Placed.{at_place};
 ghost use Rattle.index_parts.specs.Rows.{compare_rows, IsPostingsTable};
 ghost use Rattle.index_parts.specs.Symbols.{IsSymbols};
-ghost use Rattle.index_file.specs.IndexFile.{Holds, series_unit};
-ghost use Rattle.index_slices.specs.Parts.{part_of, file, known, IsPartOf, HoldsSection, HoldsSeries};
+ghost use Rattle.index_parts.specs.IndexFile.{Holds, series_unit};
+ghost use Rattle.index_parts.specs.Parts.{part_of, file, known, IsPartOf, HoldsSection, HoldsSeries};
 ghost use Rattle.index_v2.specs.Held.{opened_in, opened_of, whole_file, IsWhole, IsHeldOf, IsReaderOf, HasList, AreSlicesOf, HoldTables};
 ghost use Rattle.index_v2.specs.Opening.{contents_at, opened_at, over_at, postings_section};
 ghost use Rattle.index_v2.specs.SeriesLabels.{numbered_at};
@@ -27,10 +27,9 @@ use crate::rows::rows_at;
 use crate::symbols::Symbols;
 use crate::whole::{whole, whole_lent};
 use crate::{IndexParts, IndexRefusal, IndexSeries, IndexSeriesList, LentSeries};
-use index_parts::{Rows, Toc};
-use index_slices::IndexPart;
+use base::List;
+use index_parts::{IndexPart, Rows, Toc};
 use label_sets::TextList;
-use list_core::List;
 use std::alloc::Global;
 use std::marker::Model;
 use wire_bytes::NumberList;
@@ -54,8 +53,8 @@ pub struct IndexReader<'a> {
 
 impl<'a> Model for IndexReader<'a> {
     ghost use Rattle.std.specs.Prelude.{◌≡◌, ◌⊎◌, ◌+◌, ◌*◌, ◌^◌, ◌<◌, ◌≤◌, [], length};
-    ghost use Rattle.reading_core.specs.Grammar.{IsBytes};
-    ghost use Rattle.index_slices.specs.Parts.{part_of};
+    ghost use Rattle.base.specs.Grammar.{IsBytes};
+    ghost use Rattle.index_parts.specs.Parts.{part_of};
     ghost use Rattle.index_v2.specs.Held.{Held, IsWhole};
 
     ghost Value = { Held };
@@ -90,11 +89,11 @@ impl<'a> Model for IndexReader<'a> {
 
 impl<'a> IndexReader<'a> {
     ghost use Rattle.std.specs.Prelude.{List, ℕ};
-    ghost use Rattle.index_file.specs.Opened.{Opened};
+    ghost use Rattle.index_parts.specs.Opened.{Opened};
     ghost use Rattle.std.specs.List.{Contains, filter};
-    ghost use Rattle.reading_core.specs.Grammar.{IsBytes};
-    ghost use Rattle.index_file.specs.IndexFile.{IsOpened, IsSeriesOf, IsIndex, AreNumbersOf, AreValuesOf};
-    ghost use Rattle.index_file.specs.declared.index_series.IndexSeries.{IndexSeries};
+    ghost use Rattle.base.specs.Grammar.{IsBytes};
+    ghost use Rattle.index_parts.specs.IndexFile.{IsOpened, IsSeriesOf, IsIndex, AreNumbersOf, AreValuesOf};
+    ghost use Rattle.index_parts.specs.declared.index_series.IndexSeries.{IndexSeries};
     ghost use Rattle.index_parts.specs.declared.postings_row.PostingsRow.{PostingsRow};
     ghost use Rattle.index_parts.specs.declared.refusal.PartRefusal.TheVariants.{Short};
     ghost use Rattle.index_v2.specs.declared.refusal.IndexRefusal.{IndexRefusal};

@@ -1,5 +1,5 @@
 ghost use Rattle.std.specs.Prelude.{◌≡◌, [], map, Ok, Err, IfOk, MatchResult};
-ghost use Rattle.reading_core.specs.Reading.{Gives};
+ghost use Rattle.base.specs.Reading.{Gives};
 ghost use Rattle.std.specs.Option.{option_copied};
 ghost use Rattle.label_sets.specs.Labels.{IsLabelSet, compare_sets, value_of};
 ghost use Rattle.index_v2.specs.LentLabels.{as_label};
@@ -9,9 +9,9 @@ use crate::lent_order::{compare_lent, value_in};
 use crate::series_labels::texts_of;
 use crate::symbols::Symbols;
 use crate::{IndexSeries, LentLabel};
+use base::{NoMemory, TryCopy};
 use index_parts::{ChunkList, ChunkPlace, PartRefusal, before_labels, chunks_behind};
 use label_sets::LabelSet;
-use list_core::{NoMemory, TryCopy};
 use std::alloc::Global;
 use std::cmp::Ordering;
 use std::marker::Model;
@@ -27,7 +27,7 @@ pub struct LentSeries<'a> {
 impl<'a> Model for LentSeries<'a> {
     ghost use Rattle.std.specs.Prelude.{map};
     ghost use Rattle.label_sets.specs.Labels.{IsLabelSet};
-    ghost use Rattle.index_file.specs.declared.index_series.IndexSeries.{IndexSeries};
+    ghost use Rattle.index_parts.specs.declared.index_series.IndexSeries.{IndexSeries};
     ghost use Rattle.index_v2.specs.LentLabels.{as_label};
 
     ghost Value = { IndexSeries };

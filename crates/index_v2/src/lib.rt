@@ -19,7 +19,7 @@ mod symbols;
 mod whole;
 
 pub use budget::{READ_SHARE, TEXT_SHARE, spend};
-pub use index_file::{IndexSeries, IndexSeriesList};
+pub use index_parts::{IndexSeries, IndexSeriesList};
 pub use index_reader::IndexReader;
 pub use lent_label::LentLabel;
 pub use lent_order::compare_lent;

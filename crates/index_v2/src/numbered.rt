@@ -1,24 +1,22 @@
 ghost use Rattle.std.specs.Prelude.{◌≡◌, ◌⊎◌, ◌+◌, ◌-◌, ◌*◌, ◌^◌, ◌<◌, ◌≤◌, ℕ, List, length, IfOk, Ok, Err};
 ghost use Rattle.std.specs.Result.{IsOkAnd};
-ghost use Rattle.reading_core.specs.Reading.{Gives};
-ghost use Rattle.reading_core.specs.Grammar.{IsBytes};
-ghost use Rattle.index_file.specs.declared.index_series.IndexSeries.{IndexSeries};
+ghost use Rattle.base.specs.Reading.{Gives};
+ghost use Rattle.base.specs.Grammar.{IsBytes};
+ghost use Rattle.index_parts.specs.declared.index_series.IndexSeries.{IndexSeries};
 ghost use Rattle.wire_bytes.specs.Fields.{uvarint_at};
 ghost use Rattle.wire_bytes.specs.declared.refusal.WireRefusal.TheVariants.{Overlong};
 ghost use Rattle.index_parts.specs.Placed.{at_place};
 ghost use Rattle.index_parts.specs.declared.refusal.PartRefusal.TheVariants.{Short};
 ghost use Rattle.index_v2.specs.Budget.{text_bytes, text_share};
-ghost use Rattle.index_file.specs.IndexFile.{IsSeriesOf, series_unit};
-ghost use Rattle.index_slices.specs.Parts.{part_of, known, IsPartOf, HoldsSeries};
+ghost use Rattle.index_parts.specs.IndexFile.{IsSeriesOf, series_unit};
+ghost use Rattle.index_parts.specs.Parts.{part_of, known, IsPartOf, HoldsSeries};
 ghost use Rattle.index_v2.specs.SeriesLabels.{labelled_at, numbered_at};
 
 use crate::budget::{lent_text_bytes, spend, text_budget_of};
 use crate::opening::refused_of;
 use crate::symbols::Symbols;
 use crate::{IndexRefusal, IndexSeries, LentSeries};
-use index_file::SERIES_UNIT;
-use index_parts::PartRefusal;
-use index_slices::{IndexPart, shifted_refusal};
+use index_parts::{IndexPart, PartRefusal, SERIES_UNIT, shifted_refusal};
 use std::alloc::Global;
 
 #[inline(always)]

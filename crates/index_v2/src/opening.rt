@@ -1,10 +1,9 @@
 ghost use Rattle.std.specs.Prelude.{◌≡◌, Ok, Err};
-ghost use Rattle.reading_core.specs.Reading.{Answers};
+ghost use Rattle.base.specs.Reading.{Answers};
 ghost use Rattle.index_v2.specs.Opening.{refused_in, refused_of, refused_contents, contents_at};
 
 use crate::IndexRefusal;
-use index_file::{LEAST_SIZE, MAGIC, VERSION};
-use index_parts::{PartRefusal, Toc, read_toc};
+use index_parts::{LEAST_SIZE, MAGIC, PartRefusal, Toc, VERSION, read_toc};
 
 /// A refusal of a part, as that of its section.
 pub(crate) fn refused_in(section: u8, refusal: PartRefusal) -> IndexRefusal

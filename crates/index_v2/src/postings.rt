@@ -1,6 +1,6 @@
 ghost use Rattle.std.specs.Prelude.{◌≡◌, ◌⊎◌, ◌+◌, ◌*◌, ◌^◌, ◌<◌, ◌≤◌, ℕ, List, All, length, IfOk, Ok, Err, Some};
-ghost use Rattle.reading_core.specs.Reading.{Gives, refused_as};
-ghost use Rattle.index_slices.specs.Parts.{part_of, file, list_in, IsPartOf, HoldsSection};
+ghost use Rattle.base.specs.Reading.{Gives, refused_as};
+ghost use Rattle.index_parts.specs.Parts.{part_of, file, list_in, IsPartOf, HoldsSection};
 ghost use Rattle.index_parts.specs.Postings.{IsPostings};
 ghost use Rattle.index_parts.specs.PostingsReading.{postings_at};
 ghost use Rattle.index_parts.specs.declared.postings_row.PostingsRow.{PostingsRow};
@@ -11,10 +11,9 @@ ghost use Rattle.index_v2.specs.PostingsLists.{row_of, list_of, values_of};
 
 use crate::IndexRefusal;
 use crate::opening::refused_in;
-use index_parts::Rows;
-use index_slices::{IndexPart, postings_in};
+use base::NoMemory;
+use index_parts::{IndexPart, Rows, postings_in};
 use label_sets::{Text, TextList};
-use list_core::NoMemory;
 use std::alloc::Global;
 use wire_bytes::NumberList;
 

@@ -1,8 +1,8 @@
 ghost use Rattle.std.specs.Prelude.{◌≡◌};
 ghost use Rattle.index_v2.specs.declared.refusal.IndexRefusal.TheVariants.{NoMemory as IsNoMemory};
 
+use base::NoMemory;
 use index_parts::PartRefusal;
-use list_core::NoMemory;
 use std::alloc::AllocFailed;
 
 /// Why an index is not read.

@@ -1,15 +1,14 @@
 ghost use Rattle.std.specs.Prelude.{◌≡◌, ◌+◌, ◌*◌, ◌≤◌, ◌<◌, ◌^◌, ℕ, List, length, IfOk};
-ghost use Rattle.reading_core.specs.Reading.{Gives};
+ghost use Rattle.base.specs.Reading.{Gives};
 ghost use Rattle.index_parts.specs.Rows.{IsPostingsTable};
 ghost use Rattle.index_parts.specs.RowsReading.{postings_table_at};
-ghost use Rattle.index_slices.specs.Parts.{part_of, known, IsPartOf};
-ghost use Rattle.index_file.specs.IndexFile.{Holds};
+ghost use Rattle.index_parts.specs.Parts.{part_of, known, IsPartOf};
+ghost use Rattle.index_parts.specs.IndexFile.{Holds};
 ghost use Rattle.index_v2.specs.Opening.{held_at, table_section};
 
 use crate::IndexRefusal;
 use crate::opening::refused_in;
-use index_parts::Rows;
-use index_slices::{IndexPart, postings_table_in};
+use index_parts::{IndexPart, Rows, postings_table_in};
 use std::alloc::Global;
 
 /// The number of the section of the postings table.

@@ -2,7 +2,7 @@ ghost use Rattle.std.specs.Prelude.{◌≡◌, ◌*◌, ◌<◌, ℕ, List, [], 
 ghost use Rattle.std.specs.Option.{option_copied};
 ghost use Rattle.std.specs.Result.{result_map_both};
 ghost use Rattle.std.specs.Ordering.{is_lt};
-ghost use Rattle.reading_core.specs.Reading.{Answers, Gives};
+ghost use Rattle.base.specs.Reading.{Answers, Gives};
 ghost use Rattle.label_sets.specs.Labels.{compare_texts};
 ghost use Rattle.index_v2.specs.LentLabels.{as_label};
 ghost use Rattle.index_v2.specs.SeriesLabels.{label_of, texts_at, faulty_at};

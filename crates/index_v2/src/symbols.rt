@@ -1,16 +1,15 @@
 ghost use Rattle.std.specs.Prelude.{◌≡◌, ◌+◌, ◌^◌, ◌<◌, ◌≤◌, length, slice_get, IfOk};
 ghost use Rattle.std.specs.Option.{option_copied};
-ghost use Rattle.reading_core.specs.Reading.{Gives};
+ghost use Rattle.base.specs.Reading.{Gives};
 ghost use Rattle.index_parts.specs.Symbols.{IsSymbols};
 ghost use Rattle.index_parts.specs.SymbolsReading.{symbols_at};
-ghost use Rattle.index_file.specs.IndexFile.{Holds};
-ghost use Rattle.index_slices.specs.Parts.{part_of, known, IsPartOf};
+ghost use Rattle.index_parts.specs.IndexFile.{Holds};
+ghost use Rattle.index_parts.specs.Parts.{part_of, known, IsPartOf};
 ghost use Rattle.index_v2.specs.Opening.{held_at, symbols_section};
 
 use crate::IndexRefusal;
 use crate::opening::refused_in;
-use index_parts::SymbolTable;
-use index_slices::{IndexPart, symbols_in};
+use index_parts::{IndexPart, SymbolTable, symbols_in};
 use std::alloc::Global;
 use std::marker::Model;
 

@@ -1,7 +1,7 @@
 ghost use Rattle.std.specs.Prelude.{◌≡◌, ◌+◌, ◌*◌, ◌-◌, ◌^◌, ◌<◌, ◌≤◌, ℕ, All, length, sum_by, slice_get, None, IfOk};
-ghost use Rattle.reading_core.specs.Reading.{Gives, Answers};
+ghost use Rattle.base.specs.Reading.{Gives, Answers};
 ghost use Rattle.std.specs.List.Sorted.{IsStrictlyIncreasing};
-ghost use Rattle.index_slices.specs.Parts.{part_of};
+ghost use Rattle.index_parts.specs.Parts.{part_of};
 ghost use Rattle.index_v2.specs.Budget.{members_of, series_bytes, list_bytes, text_bytes, read_share, text_share};
 ghost use Rattle.index_v2.specs.WholeReading.{present_at, may_stand_behind, behind_at, all_at, lists_at, whole_at};
 
@@ -13,10 +13,8 @@ use crate::opening::refused_of;
 use crate::postings::{POSTINGS, list_at, list_of};
 use crate::symbols::{SYMBOLS, Symbols};
 use crate::{IndexRefusal, IndexSeriesList, LentSeries};
-use index_file::SERIES_UNIT;
-use index_parts::{PartRefusal, Rows, Toc};
-use index_slices::IndexPart;
-use list_core::{List, NoMemory};
+use base::{List, NoMemory};
+use index_parts::{IndexPart, PartRefusal, Rows, SERIES_UNIT, Toc};
 use std::alloc::Global;
 use std::cmp::Ordering;
 use wire_bytes::NumberList;

@@ -8,11 +8,11 @@ use Rattle.label_sets.specs.declared.label.Label.{Label}
 use Rattle.index_parts.specs.declared.chunk_place.ChunkPlace.{ChunkPlace}
 use Rattle.index_parts.specs.Turns.{InOrder}
 use Rattle.index_parts.specs.SeriesEntry.{StartsAfter}
-use Rattle.index_file.specs.declared.index_series.IndexSeries.{IndexSeries}
-use Rattle.index_file.specs.IndexFile.{compare_series}
-use Rattle.index_file.proofs.SeriesOrder.{series_total}
+use Rattle.index_parts.specs.declared.index_series.IndexSeries.{IndexSeries}
+use Rattle.index_parts.specs.IndexFile.{compare_series}
+use Rattle.index_parts.proofs.SeriesOrder.{series_total}
 use Rattle.index_writing.specs.Written.{AreWritable, IsBehind}
-use Rattle.list_core.proofs.Lists.{AllByRecursion-push}
+use Rattle.base.proofs.Lists.{AllByRecursion-push}
 
 -- ---- one more at the end
 

@@ -8,14 +8,14 @@ use Rattle.std.proofs.lemmas.Map.Keys.{IsDistinct-from_apart, Less-from_sorted}
 use Rattle.label_sets.specs.declared.label.Label.{Label}
 use Rattle.label_sets.specs.Labels.{compare_texts, IsLabelSet, StandsBefore}
 use Rattle.label_sets.specs.Ordered.{in_order}
-use Rattle.index_file.specs.declared.index_series.IndexSeries.{IndexSeries}
+use Rattle.index_parts.specs.declared.index_series.IndexSeries.{IndexSeries}
 use Rattle.index_writing.specs.declared.label_groups.Entry.{Entry}
 use Rattle.index_writing.specs.SymbolsInUse.{symbols_of, number_of, raw_of}
 use Rattle.index_writing.specs.LabelGroups.{entries_of, all_entries, compare_entries, is_lesser_entry}
-use Rattle.list_core.proofs.Membership.{contains_first, contains_later, each_member, of_map, into_map, of_flat_map, into_flat_map}
-use Rattle.list_core.proofs.Pairs.{first_in_zip}
-use Rattle.list_core.proofs.Order.{sorted_in_order}
-use Rattle.list_core.proofs.Bools.{by_bool, Equal-from_is_eq, Equal-from_then, lt-from_Less, same-from_Equal, Less-from_then}
+use Rattle.base.proofs.Membership.{contains_first, contains_later, each_member, of_map, into_map, of_flat_map, into_flat_map}
+use Rattle.base.proofs.Pairs.{first_in_zip}
+use Rattle.base.proofs.Order.{sorted_in_order}
+use Rattle.base.proofs.Bools.{by_bool, Equal-from_is_eq, Equal-from_then, lt-from_Less, same-from_Equal, Less-from_then}
 use Rattle.index_writing.proofs.OrderedEntries.{Below, no_pairs, pairs_cons, first_pairs, later_pairs, pairs_append}
 use Rattle.index_writing.proofs.LabelRows.{Before}
 use Rattle.index_writing.proofs.SortedTexts.{symbols_strict}

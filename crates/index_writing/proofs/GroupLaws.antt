@@ -3,8 +3,8 @@ use Rattle.std.proofs.Common.{◌≡◌, ℕ, ◌<◌, Bool, true, false, List, 
 use Rattle.std.proofs.lemmas.Bool.{true≢false}
 use Rattle.std.specs.List.{AllByRecursion, Contains, AllPairs}
 use Rattle.index_writing.specs.LabelGroups.{with_first, grouped}
-use Rattle.list_core.proofs.Membership.{contains_first, contains_later, no_member, member_cases, each_member, all_members}
-use Rattle.list_core.proofs.Bools.{by_bool}
+use Rattle.base.proofs.Membership.{contains_first, contains_later, no_member, member_cases, each_member, all_members}
+use Rattle.base.proofs.Bools.{by_bool}
 use Rattle.index_writing.proofs.OrderedEntries.{Below, no_pairs, pairs_cons, first_pairs, later_pairs}
 
 module _ {X A K : Type 0} (key_of : X → K) (number : X → ℕ) (key : A → K) (numbers : A → List ℕ) (R : K → K → Type 0) where

@@ -10,19 +10,19 @@ use Rattle.index_parts.specs.LabelIndices.{IsLabelOffsets}
 use Rattle.index_parts.specs.Postings.{IsPostings}
 use Rattle.index_parts.specs.Rows.{MayComeAfter, IsPostingsTable}
 use Rattle.index_parts.specs.Symbols.{IsSymbols}
-use Rattle.index_file.specs.declared.index_series.IndexSeries.{IndexSeries}
+use Rattle.index_parts.specs.declared.index_series.IndexSeries.{IndexSeries}
 use Rattle.index_writing.specs.declared.parts.Parts.{Parts}
-use Rattle.index_file.specs.Opened.{Opened}
-use Rattle.index_file.specs.IndexFile.{compare_series, Holds, IsIndex}
-use Rattle.index_file.specs.LabelTable.{HasLabelIndices}
+use Rattle.index_parts.specs.Opened.{Opened}
+use Rattle.index_parts.specs.IndexFile.{compare_series, Holds, IsIndex}
+use Rattle.index_parts.specs.LabelTable.{HasLabelIndices}
 use Rattle.index_writing.specs.SymbolsInUse.{symbols_of, raw_of}
 use Rattle.index_writing.specs.Aligned.{places_at}
 use Rattle.index_writing.specs.declared.write_refusal.IndexWriteRefusal.{IndexWriteRefusal}
 use Rattle.index_parts.specs.declared.toc.Toc.{Toc}
 use Rattle.index_writing.specs.WriteSteps.{greatest, Makes, EachStands}
 use Rattle.index_writing.specs.Written.{AreWritable, first_or, up_to_symbols, table_rows, offset_rows, parts_of, with_series, with_label_indices, with_lists, list_places, with_label_offsets, with_table, toc_of, written}
-use Rattle.list_core.proofs.Lists.{zip_firsts, zip_seconds}
-use Rattle.list_core.proofs.Membership.{contains_first}
+use Rattle.base.proofs.Lists.{zip_firsts, zip_seconds}
+use Rattle.base.proofs.Membership.{contains_first}
 use Rattle.index_writing.proofs.SeriesNumbers.{numbers_after}
 use Rattle.index_writing.proofs.AlignedTexts.{padded_longer}
 use Rattle.index_writing.proofs.Standing.{longer}

@@ -8,16 +8,16 @@ use Rattle.label_sets.specs.Labels.{IsLabelSet}
 use Rattle.index_parts.specs.declared.postings_row.PostingsRow.{PostingsRow}
 use Rattle.index_parts.specs.Postings.{IsPostings, postings_text}
 use Rattle.index_parts.specs.SeriesEntry.{IsSeries}
-use Rattle.index_file.specs.declared.index_series.IndexSeries.{IndexSeries}
+use Rattle.index_parts.specs.declared.index_series.IndexSeries.{IndexSeries}
 use Rattle.index_writing.specs.declared.label_groups.LabelRow.{LabelRow}
-use Rattle.index_file.specs.IndexFile.{StandFor, IsSeriesOf, BelongsTo, IsListOf, HasRow}
+use Rattle.index_parts.specs.IndexFile.{StandFor, IsSeriesOf, BelongsTo, IsListOf, HasRow}
 use Rattle.index_writing.specs.SymbolsInUse.{symbols_of, number_of, symbol_of, raw_of}
 use Rattle.index_writing.specs.LabelGroups.{rows_of}
 use Rattle.index_writing.specs.Aligned.{padded, places_at}
 use Rattle.index_writing.specs.WriteSteps.{greatest, EachStands}
 use Rattle.index_writing.specs.Written.{HaveSmallNumbers, up_to_symbols, numbers_behind, list_texts, label_rows, table_rows, parts_of, with_series, with_label_indices, with_lists, list_places, written}
-use Rattle.list_core.proofs.Membership.{contains_first, contains_later, no_member, member_cases, each_member, of_map, into_map}
-use Rattle.list_core.proofs.Pairs.{first_in_zip, second_in_zip, beside_first, beside_second}
+use Rattle.base.proofs.Membership.{contains_first, contains_later, no_member, member_cases, each_member, of_map, into_map}
+use Rattle.base.proofs.Pairs.{first_in_zip, second_in_zip, beside_first, beside_second}
 use Rattle.index_writing.proofs.OrderedEntries.{Below}
 use Rattle.index_writing.proofs.SymbolNumbers.{label_in, symbol_there, symbol_is}
 use Rattle.index_writing.proofs.SeriesNumbers.{numbers_rise}

@@ -7,19 +7,19 @@ use Rattle.index_parts.specs.Turns.{InOrder}
 use Rattle.index_parts.specs.Contents.{IsToc}
 use Rattle.index_parts.specs.Symbols.{IsSymbols}
 use Rattle.index_parts.specs.LabelIndices.{IsLabelOffsets, label_index_text}
-use Rattle.index_file.specs.declared.index_series.IndexSeries.{IndexSeries}
+use Rattle.index_parts.specs.declared.index_series.IndexSeries.{IndexSeries}
 use Rattle.index_writing.specs.declared.label_groups.NameValues.{NameValues}
-use Rattle.index_file.specs.IndexFile.{StandFor}
-use Rattle.index_file.specs.LabelTable.{HasValue, IsLabelIndexOf, HasLabelIndices}
+use Rattle.index_parts.specs.IndexFile.{StandFor}
+use Rattle.index_parts.specs.LabelTable.{HasValue, IsLabelIndexOf, HasLabelIndices}
 use Rattle.index_writing.specs.SymbolsInUse.{symbols_of, number_of, symbol_of}
 use Rattle.index_writing.specs.LabelGroups.{names_of}
 use Rattle.index_writing.specs.Aligned.{places_at}
 use Rattle.index_writing.specs.WriteSteps.{greatest}
 use Rattle.index_writing.specs.Written.{label_index_texts, offset_rows, parts_of, with_series, with_label_indices, label_index_places, toc_of, written}
-use Rattle.list_core.proofs.Lists.{zip_firsts, zip_seconds}
-use Rattle.list_core.proofs.Membership.{each_member, all_members, of_map, into_map}
-use Rattle.list_core.proofs.Pairs.{second_in_zip, beside_second}
-use Rattle.list_core.specs.Order.{ComesAfter}
+use Rattle.base.proofs.Lists.{zip_firsts, zip_seconds}
+use Rattle.base.proofs.Membership.{each_member, all_members, of_map, into_map}
+use Rattle.base.proofs.Pairs.{second_in_zip, beside_second}
+use Rattle.base.specs.Order.{ComesAfter}
 use Rattle.label_sets.specs.Labels.{compare_texts}
 use Rattle.index_writing.proofs.OrderedEntries.{pairs_so, pairs_in_order}
 use Rattle.index_writing.proofs.SymbolNumbers.{label_in, IsNumber, symbol_there, symbol_is, symbols_less}

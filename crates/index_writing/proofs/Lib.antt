@@ -1,3 +1,9 @@
+pub mod Stands
+pub mod Writing
+pub mod Sizes
+pub mod PairLists
+pub mod Offsets
+pub mod ChunksWritten
 pub mod AddedSeries
 pub mod AlignedTexts
 pub mod Entries

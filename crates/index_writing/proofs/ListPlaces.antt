@@ -3,8 +3,8 @@ use Rattle.std.proofs.Common.{◌≡◌, ℕ, ◌/◌, ◌^◌, ◌<◌, ◌≤�
 use Rattle.std.specs.Prelude.{bit_xor}
 use Rattle.std.specs.Ordering.{nat_cmp}
 use Rattle.std.specs.declared.cmp.Ordering.TheVariants.{Less}
-use Rattle.list_core.specs.Order.{ComesAfter}
-use Rattle.list_core.proofs.Bools.{nat_cmp-Less}
+use Rattle.base.specs.Order.{ComesAfter}
+use Rattle.base.proofs.Bools.{nat_cmp-Less}
 use Rattle.std.specs.List.{All, AllByRecursion, flat_map, Contains, AllPairs}
 use Rattle.std.proofs.lemmas.List.{map-id}
 use Rattle.std.proofs.lemmas.Nat.{xor_of_32}
@@ -13,12 +13,12 @@ use Rattle.index_parts.specs.Framed.{section_text, IsSection}
 use Rattle.index_parts.specs.LabelIndices.{IsLabelIndex, label_index_text}
 use Rattle.index_parts.specs.Turns.{InOrder}
 use Rattle.index_parts.specs.Postings.{IsPostings, postings_text}
-use Rattle.section_writers.proofs.Stands.{section_stands}
-use Rattle.section_writers.proofs.Writing.{postings_stand, values_stand}
+use Rattle.index_writing.proofs.Stands.{section_stands}
+use Rattle.index_writing.proofs.Writing.{postings_stand, values_stand}
 use Rattle.index_writing.specs.Aligned.{padded, each_at, places_at}
 use Rattle.index_writing.specs.WriteSteps.{greatest}
-use Rattle.list_core.proofs.Membership.{no_member, member_cases, all_members}
-use Rattle.list_core.proofs.Lists.{AllByRecursion-append}
+use Rattle.base.proofs.Membership.{no_member, member_cases, all_members}
+use Rattle.base.proofs.Lists.{AllByRecursion-append}
 use Rattle.index_writing.proofs.OrderedEntries.{Below, pairs_in_order, pairs_so}
 use Rattle.index_writing.proofs.SectionSizes.{section_least}
 use Rattle.index_writing.proofs.Standing.{each_begins}

@@ -3,9 +3,9 @@ use Rattle.std.proofs.lemmas.List.Elements.{All-from_recursion, recursion_from_A
 use Rattle.std.proofs.lemmas.List.Kept.{AllPairs-cons}
 use Rattle.std.proofs.Common.{ℕ, suc, ◌<◌, arith, List, [], ◌∷◌, ◌++◌, map, Option, Some}
 use Rattle.std.specs.List.{AllByRecursion, AllPairs, Contains}
-use Rattle.list_core.specs.Order.{InOrderAfter}
-use Rattle.list_core.proofs.Lists.{AllByRecursion-append}
-use Rattle.list_core.proofs.Membership.{contains_first, contains_later, all_members}
+use Rattle.base.specs.Order.{InOrderAfter}
+use Rattle.base.proofs.Lists.{AllByRecursion-append}
+use Rattle.base.proofs.Membership.{contains_first, contains_later, all_members}
 
 abbrev pub Below : ℕ → ℕ → Type 0
 Below n m = n < m

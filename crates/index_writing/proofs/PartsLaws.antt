@@ -8,7 +8,7 @@ use Rattle.index_parts.specs.declared.raw_series.RawSeries.{RawSeries}
 use Rattle.label_sets.specs.Labels.{compare_texts}
 use Rattle.std.specs.List.{AllByRecursion}
 use Rattle.std.specs.List.Sorted.{IsStrictlySortedBy}
-use Rattle.index_file.specs.declared.index_series.IndexSeries.{IndexSeries}
+use Rattle.index_parts.specs.declared.index_series.IndexSeries.{IndexSeries}
 use Rattle.index_writing.specs.declared.label_groups.LabelRow.{LabelRow}
 use Rattle.index_writing.specs.declared.label_groups.NameValues.{NameValues}
 use Rattle.index_writing.specs.declared.parts.Parts.{Parts}
@@ -17,7 +17,7 @@ use Rattle.index_writing.specs.Aligned.{each_at}
 use Rattle.index_writing.specs.WriteSteps.{greatest, Makes, IsStorable}
 use Rattle.index_writing.specs.declared.write_refusal.IndexWriteRefusal.{IndexWriteRefusal}
 use Rattle.index_writing.specs.Written.{AreWritable, HaveSmallNumbers, up_to_symbols, numbers_behind, label_index_texts, list_texts, with_series, with_label_indices, with_lists, label_index_places, list_places, parts_of, written}
-use Rattle.list_core.proofs.Lists.{AllByRecursion-map}
+use Rattle.base.proofs.Lists.{AllByRecursion-map}
 use Rattle.index_writing.proofs.AlignedTexts.{places_many}
 use Rattle.index_writing.proofs.Standing.{longer}
 use Rattle.index_writing.proofs.WrittenIndex.{series_symbols, written_lists}

@@ -15,9 +15,9 @@ use Rattle.index_parts.specs.LabelIndices.{offset_text, label_index_text, label_
 use Rattle.index_parts.specs.Postings.{postings_text}
 use Rattle.index_parts.specs.Rows.{row_text, postings_table_text}
 use Rattle.index_parts.specs.Symbols.{symbols_text}
-use Rattle.section_writers.proofs.Writing.{uvarint_text_size}
-use Rattle.section_writers.proofs.Sizes.{texts_small, names_small, rows_small}
-use Rattle.list_core.proofs.Lists.{zip_firsts}
+use Rattle.index_writing.proofs.Writing.{uvarint_text_size}
+use Rattle.index_writing.proofs.Sizes.{texts_small, names_small, rows_small}
+use Rattle.base.proofs.Lists.{zip_firsts}
 use Rattle.index_writing.specs.WriteSteps.{greatest, text_size, row_size}
 
 -- ---- at most

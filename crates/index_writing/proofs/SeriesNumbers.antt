@@ -9,8 +9,8 @@ use Rattle.index_parts.specs.Framed.{entry_text}
 use Rattle.index_parts.specs.SeriesEntry.{series_text, series_content}
 use Rattle.index_writing.specs.Aligned.{padded, places_at}
 use Rattle.index_writing.specs.Written.{numbers_behind}
-use Rattle.list_core.proofs.Lists.{AllByRecursion-weaker}
-use Rattle.list_core.proofs.Membership.{each_member}
+use Rattle.base.proofs.Lists.{AllByRecursion-weaker}
+use Rattle.base.proofs.Membership.{each_member}
 use Rattle.index_writing.proofs.OrderedEntries.{Below, no_pairs, pairs_cons}
 use Rattle.index_writing.proofs.AlignedTexts.{padded_longer}
 use Rattle.index_writing.proofs.Standing.{multiple}

@@ -8,8 +8,8 @@ use Rattle.label_sets.specs.Ordered.{in_order}
 use Rattle.index_parts.specs.declared.raw_series.RawSeries.{RawSeries}
 use Rattle.index_parts.specs.Framed.{text_field}
 use Rattle.index_parts.specs.SeriesEntry.{series_text}
-use Rattle.section_writers.proofs.Writing.{few_members, text_field_size}
-use Rattle.index_file.specs.declared.index_series.IndexSeries.{IndexSeries}
+use Rattle.index_writing.proofs.Writing.{few_members, text_field_size}
+use Rattle.index_parts.specs.declared.index_series.IndexSeries.{IndexSeries}
 use Rattle.index_writing.specs.declared.label_groups.Entry.{Entry}
 use Rattle.index_writing.specs.declared.label_groups.LabelRow.{LabelRow}
 use Rattle.index_writing.specs.declared.label_groups.NameValues.{NameValues}
@@ -19,8 +19,8 @@ use Rattle.index_writing.specs.Aligned.{padded, each_at, places_at}
 use Rattle.index_writing.specs.WriteSteps.{greatest}
 use Rattle.index_writing.specs.Written.{HaveSmallNumbers, up_to_symbols, numbers_behind, with_series, parts_of}
 use Rattle.index_writing.proofs.AlignedTexts.{each_longer}
-use Rattle.list_core.proofs.Lists.{AllByRecursion-weaker, AllByRecursion-append, AllByRecursion-map}
-use Rattle.list_core.proofs.Membership.{all_members, each_member, of_in_order}
+use Rattle.base.proofs.Lists.{AllByRecursion-weaker, AllByRecursion-append, AllByRecursion-map}
+use Rattle.base.proofs.Membership.{all_members, each_member, of_in_order}
 use Rattle.index_writing.proofs.SectionSizes.{list_least}
 
 -- ---- what holds of each member

@@ -6,12 +6,12 @@ use Rattle.std.specs.Cmp.{IsStrictWeakOrder}
 use Rattle.std.specs.Cmp.Lexicographic.{nat_list_cmp_total, texts_ties}
 use Rattle.std.proofs.lemmas.List.Sorted.{ranks_by}
 use Rattle.std.proofs.lemmas.List.Kept.{IsStrictlySortedBy-dedup}
-use Rattle.list_core.proofs.Bools.{Less-from_is_lt, is_lt-from_Less}
-use Rattle.list_core.proofs.Lists.{AllByRecursion-at}
+use Rattle.base.proofs.Bools.{Less-from_is_lt, is_lt-from_Less}
+use Rattle.base.proofs.Lists.{AllByRecursion-at}
 use Rattle.label_sets.specs.Labels.{compare_texts, is_lesser_text}
 use Rattle.label_sets.specs.Ordered.{in_order}
 use Rattle.label_sets.proofs.StableSorts.{NoneLess, Rises, in_order-from_sort, Rises-in_order}
-use Rattle.index_file.specs.declared.index_series.IndexSeries.{IndexSeries}
+use Rattle.index_parts.specs.declared.index_series.IndexSeries.{IndexSeries}
 use Rattle.index_writing.specs.SymbolsInUse.{texts_of, symbols_of, number_of}
 
 pub texts_order : IsStrictWeakOrder is_lesser_text

@@ -1,13 +1,13 @@
 -- What stands in a text still stands where more is put behind it.
 use Rattle.std.proofs.Common.{◌≡◌, ℕ, ◌+◌, ◌*◌, ◌/◌, ◌<◌, ◌≤◌, List, [], ◌∷◌, ◌++◌, length, get_or, take, map, replicate, sym, ap, ◌∙◌, subst, arith, append_assoc, length-append}
 use Rattle.std.proofs.lemmas.List.{take_more, take_all, append-nil, length-replicate}
-use Rattle.list_core.specs.Order.{ComesAfter}
+use Rattle.base.specs.Order.{ComesAfter}
 use Rattle.label_sets.specs.Labels.{compare_texts}
 use Rattle.index_parts.specs.declared.raw_series.RawSeries.{RawSeries}
 use Rattle.index_parts.specs.Turns.{InOrder}
 use Rattle.index_parts.specs.SeriesEntry.{IsSeries, series_text}
 use Rattle.index_parts.specs.Symbols.{IsSymbols}
-use Rattle.index_file.specs.declared.index_series.IndexSeries.{IndexSeries}
+use Rattle.index_parts.specs.declared.index_series.IndexSeries.{IndexSeries}
 use Rattle.index_writing.specs.SymbolsInUse.{symbols_of}
 use Rattle.index_writing.specs.Aligned.{gap, padded, each_at}
 use Rattle.index_writing.specs.WriteSteps.{EachStands}

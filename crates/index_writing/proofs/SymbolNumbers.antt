@@ -11,13 +11,13 @@ use Rattle.std.proofs.lemmas.List.Kept.{Contains-dedup}
 use Rattle.label_sets.specs.declared.label.Label.{Label}
 use Rattle.label_sets.specs.Labels.{compare_texts, is_lesser_text}
 use Rattle.index_parts.specs.Turns.{InOrder}
-use Rattle.index_file.specs.declared.index_series.IndexSeries.{IndexSeries}
+use Rattle.index_parts.specs.declared.index_series.IndexSeries.{IndexSeries}
 use Rattle.index_writing.specs.SymbolsInUse.{texts_of_labels, texts_of, symbols_of, number_of, symbol_of}
-use Rattle.list_core.proofs.Membership.{contains_first, contains_later, no_member, member_cases, each_member, all_members, into_flat_map, into_in_order}
-use Rattle.list_core.proofs.Order.{order_from_sorted, Less-at_places}
+use Rattle.base.proofs.Membership.{contains_first, contains_later, no_member, member_cases, each_member, all_members, into_flat_map, into_in_order}
+use Rattle.base.proofs.Order.{order_from_sorted, Less-at_places}
 use Rattle.index_writing.proofs.SortedTexts.{symbols_strict}
-use Rattle.list_core.proofs.Bools.{same_texts}
-use Rattle.list_core.specs.Order.{ComesAfter}
+use Rattle.base.proofs.Bools.{same_texts}
+use Rattle.base.specs.Order.{ComesAfter}
 
 -- ---- symbols in use
 

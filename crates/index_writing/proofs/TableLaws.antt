@@ -10,14 +10,14 @@ use Rattle.label_sets.specs.Ordered.{in_order}
 use Rattle.label_sets.proofs.LabelValues.{compare_self}
 use Rattle.index_parts.specs.Turns.{InOrderAfter, InOrder}
 use Rattle.index_parts.specs.Rows.{compare_rows, MayComeAfter}
-use Rattle.index_file.specs.declared.index_series.IndexSeries.{IndexSeries}
+use Rattle.index_parts.specs.declared.index_series.IndexSeries.{IndexSeries}
 use Rattle.index_writing.specs.declared.label_groups.Entry.{Entry}
 use Rattle.index_writing.specs.declared.label_groups.LabelRow.{LabelRow}
 use Rattle.index_writing.specs.SymbolsInUse.{symbols_of, number_of, symbol_of, raw_of}
 use Rattle.index_writing.specs.LabelGroups.{all_entries, is_lesser_entry, rows_of}
 use Rattle.index_writing.specs.Written.{label_rows, table_rows}
-use Rattle.list_core.proofs.Membership.{no_member, member_cases, each_member, all_members, of_in_order, into_in_order}
-use Rattle.list_core.proofs.Pairs.{second_in_zip}
+use Rattle.base.proofs.Membership.{no_member, member_cases, each_member, all_members, of_in_order, into_in_order}
+use Rattle.base.proofs.Pairs.{second_in_zip}
 use Rattle.index_writing.proofs.OrderedEntries.{Below, no_pairs, pairs_cons, first_pairs, later_pairs, pairs_so, pairs_in_order}
 use Rattle.index_writing.proofs.LabelRows.{RowBefore, AreRowsOf, grouped_rows, row_entry, one_row}
 use Rattle.index_writing.proofs.EntryOrder.{before_all, apart_entries, entry_from, entry_to}

@@ -12,7 +12,7 @@ use Rattle.index_writing.specs.declared.write_refusal.IndexWriteRefusal.TheVaria
 use Rattle.index_writing.specs.SymbolsInUse.{symbol_of}
 use Rattle.index_writing.specs.WriteSteps.{greatest, Makes, Measures, row_size}
 use Rattle.index_writing.specs.Written.{label_rows, table_rows}
-use Rattle.section_writers.proofs.PairLists.{two_more, two_all}
+use Rattle.index_writing.proofs.PairLists.{two_more, two_all}
 use Rattle.index_writing.proofs.Walks.{front_is}
 
 abbrev pub row_with : List (List ℕ) → LabelRow → ℕ → PostingsRow

@@ -1,9 +1,9 @@
 -- What is written of a list of series begins with its sections, one after another.
 use Rattle.std.proofs.Common.{◌≡◌, ℕ, ◌≤◌, List, ◌++◌, length, take, refl, ap, arith, length-append}
 use Rattle.index_parts.specs.Contents.{toc_text, references_text}
-use Rattle.index_file.specs.declared.index_series.IndexSeries.{IndexSeries}
+use Rattle.index_parts.specs.declared.index_series.IndexSeries.{IndexSeries}
 use Rattle.index_writing.specs.declared.parts.Parts.{Parts}
-use Rattle.index_file.specs.IndexFile.{header, least_size}
+use Rattle.index_parts.specs.IndexFile.{header, least_size}
 use Rattle.index_writing.specs.SymbolsInUse.{symbols_of}
 use Rattle.index_writing.specs.Written.{up_to_symbols, parts_of, with_series, with_label_indices, with_lists, with_label_offsets, with_table, toc_of, written}
 use Rattle.index_writing.proofs.Standing.{StartsWith, goes_on, longer, each_begins}

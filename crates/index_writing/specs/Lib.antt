@@ -1,7 +1,7 @@
 pub use Rattle.index_parts.specs
-pub use Rattle.index_file.specs.Opened
-pub use Rattle.index_file.specs.IndexFile
-pub use Rattle.index_file.specs.LabelTable
+pub use Rattle.index_parts.specs.Opened
+pub use Rattle.index_parts.specs.IndexFile
+pub use Rattle.index_parts.specs.LabelTable
 pub mod SymbolsInUse
 pub mod LabelGroups
 pub mod Aligned

@@ -6,7 +6,7 @@ use Rattle.label_sets.specs.Labels.{is_lesser_text}
 use Rattle.label_sets.specs.Ordered.{in_order}
 use Rattle.label_sets.specs.declared.label.Label.{Label}
 use Rattle.index_parts.specs.declared.raw_series.RawSeries.{RawSeries}
-use Rattle.index_file.specs.declared.index_series.IndexSeries.{IndexSeries}
+use Rattle.index_parts.specs.declared.index_series.IndexSeries.{IndexSeries}
 
 -- the name and the value of each label
 abbrev pub texts_of_labels : List Label → List (List ℕ)

@@ -5,7 +5,7 @@ use Rattle.index_parts.specs.declared.postings_row.PostingsRow.{PostingsRow}
 use Rattle.index_parts.specs.declared.raw_series.RawSeries.{RawSeries}
 use Rattle.index_parts.specs.Turns.{InOrder}
 use Rattle.index_parts.specs.SeriesEntry.{IsSeries, StartsAfter}
-use Rattle.index_file.specs.IndexFile.{series_unit}
+use Rattle.index_parts.specs.IndexFile.{series_unit}
 use Rattle.index_writing.specs.declared.write_refusal.IndexWriteRefusal.{IndexWriteRefusal}
 use Rattle.index_writing.specs.declared.write_refusal.IndexWriteRefusal.TheVariants.{TooLarge, NoMemory}
 

@@ -17,11 +17,11 @@ use Rattle.index_parts.specs.Postings.{postings_text}
 use Rattle.index_parts.specs.Rows.{postings_table_text}
 use Rattle.index_parts.specs.SeriesEntry.{StartsAfter, series_text}
 use Rattle.index_parts.specs.Symbols.{symbols_text}
-use Rattle.index_file.specs.declared.index_series.IndexSeries.{IndexSeries}
+use Rattle.index_parts.specs.declared.index_series.IndexSeries.{IndexSeries}
 use Rattle.index_writing.specs.declared.label_groups.LabelRow.{LabelRow}
 use Rattle.index_writing.specs.declared.label_groups.NameValues.{NameValues}
 use Rattle.index_writing.specs.declared.parts.Parts.{Parts}
-use Rattle.index_file.specs.IndexFile.{header, header_size, compare_series, series_unit}
+use Rattle.index_parts.specs.IndexFile.{header, header_size, compare_series, series_unit}
 use Rattle.index_writing.specs.SymbolsInUse.{symbols_of, symbol_of, raw_of}
 use Rattle.index_writing.specs.LabelGroups.{all_entries, rows_of, names_of}
 use Rattle.index_writing.specs.Aligned.{each_at, places_at}

@@ -4,9 +4,9 @@ ghost use Rattle.index_parts.specs.Turns.{InOrder};
 ghost use Rattle.index_parts.specs.SeriesEntry.{StartsAfter};
 ghost use Rattle.index_parts.specs.LabelIndices.{IsLabelOffsets};
 ghost use Rattle.index_parts.specs.Rows.{MayComeAfter, IsPostingsTable};
-ghost use Rattle.index_file.specs.declared.index_series.IndexSeries.{IndexSeries};
-ghost use Rattle.index_file.specs.IndexFile.{IsIndex, series_unit};
-ghost use Rattle.index_file.specs.LabelTable.{HasLabelIndices};
+ghost use Rattle.index_parts.specs.declared.index_series.IndexSeries.{IndexSeries};
+ghost use Rattle.index_parts.specs.IndexFile.{IsIndex, series_unit};
+ghost use Rattle.index_parts.specs.LabelTable.{HasLabelIndices};
 ghost use Rattle.index_writing.specs.WriteSteps.{greatest, Makes};
 ghost use Rattle.index_writing.specs.Written.{AreWritable, IsBehind, HaveSmallNumbers, first_or, up_to_symbols, with_series, with_label_indices, with_lists, with_label_offsets, with_table, table_rows, offset_rows, label_index_places, list_places, toc_of, written, parts_of};
 
@@ -15,10 +15,9 @@ use crate::order::is_behind;
 use crate::parts::{Parts, put_parts};
 use crate::section_places::{put_label_indices, put_lists};
 use crate::section_tables::{put_label_offsets, put_table, put_toc};
-use index_file::{HEADER_SIZE, IndexSeries, SERIES_UNIT};
-use index_parts::{ChunkList, Toc};
+use base::{NoMemory, TryCopy};
+use index_parts::{ChunkList, HEADER_SIZE, IndexSeries, SERIES_UNIT, Toc};
 use label_sets::LabelSet;
-use list_core::{NoMemory, TryCopy};
 use std::alloc::Global;
 use std::marker::Model;
 use wire_bytes::{Blob, NumberList};
@@ -34,7 +33,7 @@ pub struct IndexWriter {
 
 impl Model for IndexWriter {
     ghost use Rattle.std.specs.Prelude.{List};
-    ghost use Rattle.index_file.specs.declared.index_series.IndexSeries.{IndexSeries};
+    ghost use Rattle.index_parts.specs.declared.index_series.IndexSeries.{IndexSeries};
     ghost use Rattle.index_writing.specs.Written.{AreWritable};
 
     ghost Value = { List IndexSeries };

@@ -2,8 +2,8 @@ ghost use Rattle.std.specs.Prelude.{◌≡◌, ◌++◌, map, zip, IfOk, OnOk};
 ghost use Rattle.index_writing.specs.LabelGroups.{entries_of, all_entries, is_lesser_entry, grouped, row_of_entry, have_same_label, join_series, rows_of, values_of_row, have_same_name, join_values, names_of};
 ghost use Rattle.label_sets.specs.Ordered.{in_order};
 
+use base::NoMemory;
 use index_parts::RawSeries;
-use list_core::NoMemory;
 use std::alloc::Global;
 use wire_bytes::NumberList;
 

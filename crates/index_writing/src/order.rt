@@ -4,8 +4,7 @@ ghost use Rattle.index_parts.specs.Turns.{InOrder};
 ghost use Rattle.index_parts.specs.SeriesEntry.{StartsAfter};
 ghost use Rattle.index_writing.specs.Written.{IsBehind};
 
-use index_file::IndexSeries;
-use index_parts::ChunkPlace;
+use index_parts::{ChunkPlace, IndexSeries};
 use label_sets::LabelSet;
 use std::cmp::Ordering;
 

@@ -1,7 +1,7 @@
 ghost use Rattle.std.specs.Prelude.{◌≡◌, ◌++◌, [], map, length, IfOk, OnOk, List, ℕ};
 ghost use Rattle.std.specs.List.{AllByRecursion};
-ghost use Rattle.list_core.specs.Order.{ComesAfter};
-ghost use Rattle.index_file.specs.IndexFile.{header};
+ghost use Rattle.base.specs.Order.{ComesAfter};
+ghost use Rattle.index_parts.specs.IndexFile.{header};
 ghost use Rattle.label_sets.specs.Labels.{IsLabelSet, compare_texts};
 ghost use Rattle.index_parts.specs.Turns.{InOrder};
 ghost use Rattle.index_parts.specs.Symbols.{IsSymbols};
@@ -14,10 +14,9 @@ use crate::label_groups::{LabelRow, NameValues, names_of, rows_of};
 use crate::section_places::put_all_series;
 use crate::section_tables::put_symbols;
 use crate::symbols_in_use::{raws_of, symbols_of};
-use index_file::{IndexSeries, MAGIC, VERSION};
-use index_parts::RawSeries;
+use base::{List, NoMemory};
+use index_parts::{IndexSeries, MAGIC, RawSeries, VERSION};
 use label_sets::TextList;
-use list_core::{List, NoMemory};
 use wire_bytes::{NumberList, put_bytes, put_u8};
 
 /// What an index is made of.

@@ -4,18 +4,16 @@ ghost use Rattle.index_parts.specs.Turns.{InOrder};
 ghost use Rattle.index_parts.specs.LabelIndices.{label_index_text};
 ghost use Rattle.index_parts.specs.Postings.{postings_text};
 ghost use Rattle.index_parts.specs.SeriesEntry.{IsSeries, StartsAfter, series_text};
-ghost use Rattle.index_file.specs.IndexFile.{series_unit};
+ghost use Rattle.index_parts.specs.IndexFile.{series_unit};
 ghost use Rattle.index_writing.specs.declared.label_groups.LabelRow.{LabelRow};
 ghost use Rattle.index_writing.specs.Aligned.{gap, padded, each_at, places_at};
 ghost use Rattle.index_writing.specs.WriteSteps.{greatest, Makes, IsStorable, EachStands, most_numbers};
 ghost use Rattle.index_writing.specs.Written.{up_to_series, numbers_behind, label_index_texts, list_texts, list_unit};
 
-use crate::IndexWriteRefusal;
 use crate::label_groups::{LabelRow, NameValues};
-use index_file::SERIES_UNIT;
-use index_parts::RawSeries;
-use list_core::NoMemory;
-use section_writers::{write_label_index, write_postings, write_series};
+use crate::{IndexWriteRefusal, write_label_index, write_postings, write_series};
+use base::NoMemory;
+use index_parts::{RawSeries, SERIES_UNIT};
 use wire_bytes::{FILE_LIMIT, NumberList, put_bytes};
 
 /// The greatest length of an index.

@@ -1,6 +1,6 @@
 ghost use Rattle.std.specs.Prelude.{◌≡◌, ◌++◌, ◌∷◌, [], ◌+◌, ◌*◌, ◌<◌, ◌≤◌, ◌^◌, map, zip, length, IfOk, OnOk, OnErr, IfErr, MatchBool, List, ℕ, MatchResult};
 ghost use Rattle.std.specs.List.{sum_by};
-ghost use Rattle.list_core.specs.Order.{ComesAfter};
+ghost use Rattle.base.specs.Order.{ComesAfter};
 ghost use Rattle.label_sets.specs.Labels.{compare_texts};
 ghost use Rattle.index_parts.specs.Turns.{InOrder};
 ghost use Rattle.index_parts.specs.Contents.{IsToc, toc_text};
@@ -13,14 +13,15 @@ ghost use Rattle.index_writing.specs.WriteSteps.{greatest, Makes, Measures, text
 ghost use Rattle.index_writing.specs.SymbolsInUse.{symbol_of};
 ghost use Rattle.index_writing.specs.Written.{name_texts, label_rows, table_rows};
 
-use crate::IndexWriteRefusal;
 use crate::label_groups::{LabelRow, NameValues};
 use crate::section_places::{GREATEST, test_size};
 use crate::symbols_in_use::symbol_of;
+use crate::{
+    IndexWriteRefusal, write_label_offsets, write_postings_table, write_symbols, write_toc,
+};
+use base::NoMemory;
 use index_parts::{PostingsRow, PostingsRowList, Toc};
 use label_sets::{Text, TextList};
-use list_core::NoMemory;
-use section_writers::{write_label_offsets, write_postings_table, write_symbols, write_toc};
 use std::alloc::Global;
 use wire_bytes::NumberList;
 

@@ -8,10 +8,9 @@ ghost use Rattle.index_parts.specs.declared.raw_series.RawSeries.{RawSeries};
 ghost use Rattle.index_writing.specs.SymbolsInUse.{texts_of_labels, texts_of, symbols_of, number_of, symbol_of, raw_of};
 
 use crate::lent_text::LentText;
-use index_file::IndexSeries;
-use index_parts::RawSeries;
+use base::{List, NoMemory, TryCopy};
+use index_parts::{IndexSeries, RawSeries};
 use label_sets::{Label, Text, TextList};
-use list_core::{List, NoMemory, TryCopy};
 use std::alloc::Global;
 use wire_bytes::NumberList;
 

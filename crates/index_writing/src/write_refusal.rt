@@ -1,7 +1,7 @@
 ghost use Rattle.std.specs.Prelude.{◌≡◌};
 ghost use Rattle.index_writing.specs.declared.write_refusal.IndexWriteRefusal.TheVariants.{NoMemory as IsNoMemory};
 
-use list_core::NoMemory;
+use base::NoMemory;
 use std::alloc::AllocError;
 
 /// Why an index is not written.

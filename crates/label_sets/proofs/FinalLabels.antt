@@ -195,7 +195,7 @@ final_sorted {first = first} {both = both} {labels = labels} {external = externa
     s ∙ final_parts _ _ _ _ _
     (f ∙ (λ i. m i ++ reduced_of (a i) [] (d i))) (g ∙ (λ i. first ++ reduced_of (b i) (c i) (e i)))
 
--- what the one pass of `reduced_labels` leaves
+-- what the one pass of `reduced` leaves
 pub reduced_alone : {made kept own outer labels external : List Label} {names replicas : List (List ℕ)}
     → made ≡ [] → own ≡ labels → outer ≡ external → names ≡ replicas → kept ≡ made ++ reduced_of own outer names → kept ≡ reduced_of labels external replicas
 reduced_alone m a b c k = k ∙ (λ i. m i ++ reduced_of (a i) (b i) (c i))

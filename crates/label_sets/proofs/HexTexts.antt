@@ -10,8 +10,8 @@ use Rattle.std.specs.Char.{digit_value, is_ascii_digit}
 use Rattle.std.specs.Int.Digits.{number_from_digits, AllBelowBase}
 use Rattle.std.specs.List.{list_all}
 use Rattle.std.specs.Str.Parse.{AllDigits, digits_value}
-use Rattle.reading_core.specs.FixedDigits.{fixed_digits}
-use Rattle.reading_core.proofs.Positional.{length-fixed_digits, below-fixed_digits, number-fixed_digits, fixed_digits-only}
+use Rattle.base.specs.FixedDigits.{fixed_digits}
+use Rattle.base.proofs.Positional.{length-fixed_digits, below-fixed_digits, number-fixed_digits, fixed_digits-only}
 use Rattle.label_sets.specs.SampleText.{hex_sign, hex_text, is_hex_sign, hex_number, pattern_text, pattern_of}
 
 -- a digit's sign

@@ -15,7 +15,7 @@ use Rattle.std.specs.Bool.{◌==◌}
 use Rattle.std.proofs.lemmas.Bool.{cases_lt}
 use Rattle.label_sets.proofs.OrderedLabels.{IsLabelSet-placed}
 use Rattle.label_sets.proofs.LabelValues.{value_hit, value_miss, value_nil, same_text, before_differs, compare_self}
-use Rattle.list_core.proofs.Lists.{some-from_length}
+use Rattle.base.proofs.Lists.{some-from_length}
 
 after_is_not_less : (one other : List ℕ) → ComesBefore one other → is_lt (compare_texts other one) ≡ false
 after_is_not_less one other b = ap is_lt (nat_list_cmp_total.antisymm other one ∙ ap ordering_reverse b)

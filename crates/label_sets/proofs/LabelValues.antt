@@ -1,7 +1,7 @@
 -- What `value_of` finds in a list of labels, and that a label set is determined by it.
 use Rattle.std.proofs.Common.{◌≡◌, ◌≢◌, ℕ, false, cond, List, [], ◌∷◌, Some, None, refl, sym, ap, ◌∙◌, subst, ◌++◌}
-pub use Rattle.list_core.proofs.Bools.{by_bool}
-pub use Rattle.list_core.proofs.Options.{one_value, some_not_none}
+pub use Rattle.base.proofs.Bools.{by_bool}
+pub use Rattle.base.proofs.Options.{one_value, some_not_none}
 use Rattle.std.specs.declared.cmp.Ordering.{Ordering}
 use Rattle.std.specs.declared.cmp.Ordering.TheVariants.{Less, Equal, Greater}
 use Rattle.std.specs.Ordering.{ordering_reverse, is_eq}
@@ -11,7 +11,7 @@ use Rattle.std.proofs.lemmas.Cmp.{tied_itself}
 use Rattle.std.proofs.lemmas.Bool.{true≢false, false_from_ne_true}
 use Rattle.label_sets.specs.declared.label.Label.{Label}
 use Rattle.label_sets.specs.Labels.{compare_texts, ComesBefore, StandsBefore, IsLabelSet, value_of, compare_labels, compare_sets}
-use Rattle.list_core.proofs.Bools.{by_order, Equal-from_then}
+use Rattle.base.proofs.Bools.{by_order, Equal-from_then}
 
 lesser_equal : (r : Ordering) → r ≡ Less → r ≡ Equal → ⊥
 lesser_equal r p q = cc

@@ -1,6 +1,6 @@
 -- Labels put in the order of their names make a set with the same values.
 use Rattle.std.proofs.Common.{◌≡◌, ◌≢◌, ◌⊎◌, ℕ, true, false, cond, List, [], ◌∷◌, ◌++◌, Some, None, refl, sym, ap, ◌∙◌, subst, inl, inr}
-use Rattle.list_core.proofs.Bools.{Less-from_is_lt, swap_tests, by_order}
+use Rattle.base.proofs.Bools.{Less-from_is_lt, swap_tests, by_order}
 use Rattle.std.specs.declared.cmp.Ordering.{Ordering}
 use Rattle.std.specs.declared.cmp.Ordering.TheVariants.{Less}
 use Rattle.std.specs.Ordering.{ordering_reverse, is_lt}

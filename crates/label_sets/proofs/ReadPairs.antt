@@ -1,6 +1,6 @@
 -- What the readers of values and pairs have read is in the notation.
 use Rattle.std.proofs.Common.{◌≡◌, ℕ, ◌<◌, Bool, true, false, ◌||◌, List, [], ◌∷◌, ◌++◌, length, take, drop, Result, Ok, Err, refl, sym, ap, ◌∙◌, subst, arith, append_assoc, eqb, inl, inr}
-use Rattle.reading_core.proofs.Binds.{one_answer, ok_is}
+use Rattle.base.proofs.Binds.{one_answer, ok_is}
 use Rattle.std.proofs.lemmas.Bool.{cases_Bool, eqb-true}
 use Rattle.std.proofs.lemmas.List.{take-append-drop, length-append}
 use Rattle.std.specs.Str.{IsUtf8}

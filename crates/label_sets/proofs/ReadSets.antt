@@ -1,7 +1,7 @@
 -- What reading a whole label set gives, from the walk over its pairs.
 use Rattle.std.proofs.Common.{◌≡◌, ℕ, true, false, cond, List, ◌∷◌, length, take, drop, Result, Ok, Err, sym, ap, ◌∙◌, nat_lt}
-use Rattle.reading_core.specs.Reading.{◌>>=◌, ◌>>◌, unless}
-use Rattle.reading_core.proofs.Binds.{bind_ok, unless_ok, ok_is}
+use Rattle.base.specs.Reading.{◌>>=◌, ◌>>◌, unless}
+use Rattle.base.proofs.Binds.{bind_ok, unless_ok, ok_is}
 use Rattle.label_sets.specs.declared.label.Label.{Label}
 use Rattle.label_sets.specs.declared.label_refusal.LabelRefusal.{LabelRefusal}
 use Rattle.label_sets.specs.declared.label_refusal.LabelRefusal.TheVariants.{EmptyName, EmptyValue, Repeated}

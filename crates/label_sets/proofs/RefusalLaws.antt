@@ -7,8 +7,8 @@ use Rattle.std.proofs.lemmas.List.Elements.{All-push, All-pop}
 use Rattle.std.specs.Prelude.{IfErr, IsErr, IsErrAnd}
 use Rattle.std.specs.Result.{is_err}
 use Rattle.std.specs.List.{flat_map, list_all}
-use Rattle.reading_core.specs.Reading.{Gives}
-use Rattle.reading_core.proofs.Binds.{cond_is, err_is, ok_not_err}
+use Rattle.base.specs.Reading.{Gives}
+use Rattle.base.proofs.Binds.{cond_is, err_is, ok_not_err}
 use Rattle.label_sets.specs.declared.label.Label.{Label}
 use Rattle.label_sets.specs.declared.label_refusal.LabelRefusal.{LabelRefusal}
 use Rattle.label_sets.specs.declared.label_refusal.LabelRefusal.TheVariants.{EmptyName, EmptyValue, Repeated, BadText, NoMemory}

@@ -1,7 +1,7 @@
 -- Names that stand twice among labels, before and after the labels are put in order.
 use Rattle.std.proofs.Common.{◌≡◌, ◌≢◌, ℕ, zero, suc, ◌+◌, ◌-◌, ◌<◌, ◌≤◌, Bool, true, false, ◌||◌, List, [], ◌∷◌, ◌++◌, length, get_or, refl, sym, ap, ◌∙◌, subst, arith, inl, inr}
-use Rattle.list_core.proofs.Bools.{or_swap}
-use Rattle.list_core.proofs.Options.{None-from_is_some}
+use Rattle.base.proofs.Bools.{or_swap}
+use Rattle.base.proofs.Options.{None-from_is_some}
 use Rattle.std.proofs.Math.Bool.{or-true}
 use Rattle.std.specs.declared.cmp.Ordering.{Ordering}
 use Rattle.std.specs.declared.cmp.Ordering.TheVariants.{Less, Equal, Greater}
@@ -24,7 +24,7 @@ use Rattle.label_sets.specs.SetText.{ArePairs}
 use Rattle.label_sets.proofs.LabelValues.{bytes_eq_differs}
 use Rattle.label_sets.proofs.OrderedLabels.{value_of-placed, value_of-in_order}
 use Rattle.label_sets.proofs.FinalLabels.{among_names}
-use Rattle.list_core.proofs.StableSorts.{NoneLess, Rises, Rises-from_sorted}
+use Rattle.base.proofs.StableSorts.{NoneLess, Rises, Rises-from_sorted}
 
 among_labels : (labels : List Label) (name : List ℕ) → list_any (λ l. bytes_eq l.name name) labels ≡ is_among (names_of labels) name
 unfolding is_among

@@ -10,11 +10,11 @@ use Rattle.std.specs.Int.{w64}
 use Rattle.std.specs.Int.RustNames.{FitsSigned}
 use Rattle.std.specs.List.{list_all, before_first, after_first, position_or_len}
 use Rattle.std.specs.Char.{is_ascii_digit}
-use Rattle.reading_core.specs.Decimal.{decimal_text, signed_text, signed_of}
-use Rattle.reading_core.specs.declared.refusal.NumberRefusal.{NumberRefusal}
-use Rattle.reading_core.specs.declared.refusal.NumberRefusal.TheVariants.{NotANumber, TooLarge}
-use Rattle.reading_core.proofs.Decimals.{decimal_again, decimal_digits}
-use Rattle.reading_core.proofs.ParsedSigned.{signed_again, signed_large, signed_found, signed_found_large, signed_found_none}
+use Rattle.base.specs.Decimal.{decimal_text, signed_text, signed_of}
+use Rattle.base.specs.declared.refusal.NumberRefusal.{NumberRefusal}
+use Rattle.base.specs.declared.refusal.NumberRefusal.TheVariants.{NotANumber, TooLarge}
+use Rattle.base.proofs.Decimals.{decimal_again, decimal_digits}
+use Rattle.base.proofs.ParsedSigned.{signed_again, signed_large, signed_found, signed_found_large, signed_found_none}
 use Rattle.label_sets.specs.declared.sample.Sample.{Sample}
 use Rattle.label_sets.specs.declared.sample_refusal.SampleRefusal.{SampleRefusal}
 use Rattle.label_sets.specs.declared.sample_refusal.SampleRefusal.TheVariants.{NotASample, OutOfRange}

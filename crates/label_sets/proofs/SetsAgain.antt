@@ -17,7 +17,7 @@ use Rattle.label_sets.proofs.SetsFound.{pairs_and_last}
 use Rattle.std.proofs.lemmas.Bool.{true≢false, and_parts}
 use Rattle.std.proofs.lemmas.List.Elements.{All-pop}
 use Rattle.std.specs.Char.{is_ascii_digit}
-use Rattle.reading_core.specs.Reading.{◌>>=◌, ◌>>◌, unless}
+use Rattle.base.specs.Reading.{◌>>=◌, ◌>>◌, unless}
 
 -- ---- a value
 

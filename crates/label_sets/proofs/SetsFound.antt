@@ -9,7 +9,7 @@ use Rattle.std.specs.Result.{is_err}
 use Rattle.std.proofs.lemmas.Str.{IsCharBoundary-after_ascii}
 use Rattle.std.specs.Str.{IsUtf8, IsCharBoundary}
 use Rattle.std.specs.List.{flat_map, prefix_len, list_all}
-use Rattle.reading_core.proofs.Binds.{cond_ok, ok_is}
+use Rattle.base.proofs.Binds.{cond_ok, ok_is}
 use Rattle.label_sets.specs.declared.label.Label.{Label}
 use Rattle.label_sets.specs.declared.label_refusal.LabelRefusal.{LabelRefusal}
 use Rattle.label_sets.specs.declared.label_refusal.LabelRefusal.TheVariants.{BadText}
@@ -22,7 +22,7 @@ use Rattle.label_sets.proofs.ReadPairs.{rest_past-only, pair_shape}
 use Rattle.label_sets.proofs.ReadSets.{pair_steps}
 use Rattle.label_sets.proofs.LabelValues.{by_bool}
 use Rattle.std.specs.Char.{is_ascii_digit}
-use Rattle.list_core.proofs.Numbers.{one_more_is}
+use Rattle.base.proofs.Numbers.{one_more_is}
 
 refused_not_read : {A E : Type 0} (e : E) (x : A) → Err e ≡ Ok x → ⊥
 refused_not_read e x h = cc

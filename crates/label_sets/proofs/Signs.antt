@@ -3,12 +3,12 @@ use Rattle.std.proofs.Common.{◌≡◌, ℕ, zero, suc, ℤ, ◌+◌, ◌-◌, 
 use Rattle.std.specs.Fmt.{signed_decimal}
 use Rattle.std.specs.Int.{w64}
 use Rattle.std.specs.Int.RustNames.{FitsSigned}
-use Rattle.reading_core.proofs.Printed.{printed_signed}
+use Rattle.base.proofs.Printed.{printed_signed}
 use Rattle.std.proofs.lemmas.List.{map-append, drop-set}
 use Rattle.std.proofs.Math.ListN.{set}
 use lib.Ieee.Fits.{and_l, and_r}
-use Rattle.reading_core.specs.Decimal.{signed_text}
-use Rattle.reading_core.specs.FixedDigits.{fixed_digits}
+use Rattle.base.specs.Decimal.{signed_text}
+use Rattle.base.specs.FixedDigits.{fixed_digits}
 use Rattle.label_sets.specs.SampleText.{hex_sign, hex_text, pattern_text, timed_text}
 use Rattle.label_sets.specs.declared.sample_text.TheConstants.{SIGNS}
 

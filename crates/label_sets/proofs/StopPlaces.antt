@@ -7,13 +7,13 @@ use Rattle.std.proofs.lemmas.List.{take-append-drop, drop_at, nil_from_length}
 use Rattle.std.specs.Prelude.{IsErr}
 use Rattle.std.specs.Result.{is_err}
 use Rattle.std.specs.List.{prefix_len}
-use Rattle.reading_core.specs.Reading.{◌>>=◌, ◌>>◌, unless}
-use Rattle.reading_core.proofs.Binds.{bind_err, err_is}
+use Rattle.base.specs.Reading.{◌>>=◌, ◌>>◌, unless}
+use Rattle.base.proofs.Binds.{bind_err, err_is}
 use Rattle.label_sets.specs.declared.label.Label.{Label}
 use Rattle.label_sets.specs.declared.label_refusal.LabelRefusal.{LabelRefusal}
 use Rattle.label_sets.specs.declared.label_refusal.LabelRefusal.TheVariants.{EmptyName, EmptyValue, BadText}
 use Rattle.label_sets.specs.Notation.{is_name, is_name_byte, name_length, name_at, rest_past, with_byte, value_at, pair_at, quoted}
-use Rattle.list_core.proofs.Lists.{cons_parts, nil_not_cons}
+use Rattle.base.proofs.Lists.{cons_parts, nil_not_cons}
 use Rattle.label_sets.proofs.ReadPairs.{rest_past-only, value_is_quoted}
 use Rattle.label_sets.proofs.ReadSets.{with_value, after_quote, after_equals}
 use Rattle.label_sets.proofs.SetsFound.{name_read}

@@ -3,7 +3,7 @@ use Rattle.std.proofs.Common.{◌≡◌, ◌∙◌, ℤ, Bool, true, sym}
 use Rattle.std.specs.Prelude.{IsTrue, ◌↔◌}
 use Rattle.std.proofs.lemmas.Bool.{and_parts, and_from}
 use Rattle.std.proofs.lemmas.Float.{T_from_true}
-use Rattle.list_core.proofs.Bools.{true-from_T}
+use Rattle.base.proofs.Bools.{true-from_T}
 use Rattle.label_sets.specs.Times.{IsWithin, is_within}
 use Rattle.label_sets.specs.declared.sample.Sample.{Sample}
 

@@ -1,5 +1,5 @@
-pub use Rattle.reading_core.specs.Reading
-pub use Rattle.reading_core.specs.Decimal
+pub use Rattle.base.specs.Reading
+pub use Rattle.base.specs.Decimal
 pub mod Ordered
 pub mod Labels
 pub mod Characters

@@ -5,8 +5,8 @@
 use Rattle.std.specs.Prelude.{ℕ, zero, suc, ◌-◌, List, [], ◌∷◌, ◌++◌, length, take, drop, Bool, true, false, ◌&&◌, ◌||◌, ◌==◌, Result, Ok, Err, if◌then◌else◌, nat_lt}
 use Rattle.std.specs.Char.{is_ascii_alphabetic, is_ascii_digit}
 use Rattle.std.specs.List.{prefix_len, flat_map, list_all}
-use Rattle.reading_core.specs.Reading.{◌>>=◌, ◌>>◌, unless}
-use Rattle.reading_core.specs.Lines.{line_feed}
+use Rattle.base.specs.Reading.{◌>>=◌, ◌>>◌, unless}
+use Rattle.base.specs.Lines.{line_feed}
 use Rattle.label_sets.specs.Characters.{double_quote, comma, equals_sign, backslash, underscore, letter_n, open_brace, close_brace}
 use Rattle.label_sets.specs.declared.label.Label.{Label}
 use Rattle.label_sets.specs.declared.label_refusal.LabelRefusal.{LabelRefusal}

@@ -4,10 +4,10 @@ use Rattle.std.specs.Char.{digit_char, is_ascii_digit}
 use Rattle.std.specs.Int.{is_in_range}
 use Rattle.std.specs.List.{flat_map, list_all, before_first, after_first}
 use Rattle.std.specs.Str.Parse.{digits_value}
-use Rattle.reading_core.specs.Decimal.{signed_text, signed_of}
-use Rattle.reading_core.specs.FixedDigits.{fixed_digits}
-use Rattle.reading_core.specs.declared.refusal.NumberRefusal.{NumberRefusal}
-use Rattle.reading_core.specs.declared.refusal.NumberRefusal.TheVariants.{NotANumber, TooLarge}
+use Rattle.base.specs.Decimal.{signed_text, signed_of}
+use Rattle.base.specs.FixedDigits.{fixed_digits}
+use Rattle.base.specs.declared.refusal.NumberRefusal.{NumberRefusal}
+use Rattle.base.specs.declared.refusal.NumberRefusal.TheVariants.{NotANumber, TooLarge}
 use Rattle.label_sets.specs.Characters.{space, colon, letter_a, letter_f}
 use Rattle.label_sets.specs.declared.sample.Sample.{Sample}
 use Rattle.label_sets.specs.declared.sample_refusal.SampleRefusal.{SampleRefusal}

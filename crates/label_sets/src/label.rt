@@ -1,5 +1,5 @@
 use crate::Text;
-use list_core::{NoMemory, TryCopy};
+use base::{NoMemory, TryCopy};
 
 /// A name and its value.
 #[derive(Debug, PartialEq, Eq, PartialOrd, Ord, Drop)]

@@ -1,7 +1,7 @@
 ghost use Rattle.std.specs.Prelude.{◌≡◌};
 ghost use Rattle.label_sets.specs.declared.label_refusal.LabelRefusal.TheVariants.{NoMemory};
 
-use list_core::NoMemory;
+use base::NoMemory;
 use std::alloc::AllocFailed;
 
 /// Why a label was not added to a set, or why no set was read.

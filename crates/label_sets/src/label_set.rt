@@ -7,7 +7,7 @@ ghost use Rattle.std.specs.Cmp.{partial_order_from_own_ties};
 ghost use Rattle.std.specs.Cmp.Rules.{comparing};
 ghost use Rattle.std.specs.Ordering.{is_eq, as_partial_cmp};
 ghost use Rattle.std.proofs.Common.{rules};
-ghost use Rattle.reading_core.specs.Reading.{Gives};
+ghost use Rattle.base.specs.Reading.{Gives};
 ghost use Rattle.label_sets.specs.declared.label.Label.{Label};
 ghost use Rattle.label_sets.specs.Notation.{read_set, set_text};
 ghost use Rattle.label_sets.specs.SetText.{AreNamed, IsSetText};
@@ -20,7 +20,7 @@ ghost use Rattle.label_sets.specs.Finals.{is_among, without, final_of, reduced_o
 
 use crate::notation::{put_labels, read_labels};
 use crate::{Label, LabelRefusal, Text, TextList};
-use list_core::{NoMemory, TryCopy};
+use base::{NoMemory, TryCopy};
 use std::alloc::Global;
 use std::cmp::Ordering;
 use std::marker::Model;
@@ -206,7 +206,7 @@ pub fn final_labels(
 }
 
 /// A series' own labels without the names of the external labels and without the replica labels.
-pub fn reduced_labels(
+pub fn reduced(
     alloc: Global,
     labels: &LabelSet,
     external: &LabelSet,

@@ -14,7 +14,7 @@ mod text;
 
 pub use label::Label;
 pub use label_refusal::LabelRefusal;
-pub use label_set::{LabelSet, final_labels, is_among, reduced_labels};
+pub use label_set::{LabelSet, final_labels, is_among, reduced};
 pub use name::{is_name, is_name_byte, is_name_start};
 pub use sample::{Sample, SampleList, TIME_LIMIT, is_within, times_ascend};
 pub use sample_refusal::SampleRefusal;

@@ -3,7 +3,7 @@
 ghost use Rattle.std.specs.Prelude.{◌≡◌, ◌⊎◌, ◌+◌, ◌<◌, ◌≤◌, [], ◌∷◌, ◌++◌, length, take, false, true, IsErr, IfOk, IfErr, IfSome, IfNone, OnOk, OnErr};
 ghost use Rattle.std.specs.Str.{IsUtf8, bytes_eq};
 ghost use Rattle.std.specs.List.{prefix_len, list_any};
-ghost use Rattle.reading_core.specs.Reading.{Gives, Answers};
+ghost use Rattle.base.specs.Reading.{Gives, Answers};
 ghost use Rattle.label_sets.specs.declared.label.Label.{Label};
 ghost use Rattle.std.specs.List.Sorted.{IsSortedBy};
 ghost use Rattle.label_sets.specs.Labels.{names_of, has_lesser_name};
@@ -12,7 +12,7 @@ ghost use Rattle.label_sets.specs.Notation.{read_set, conclusion, repeats, is_na
 use crate::label_set::sort_by_name;
 use crate::name::{is_name_byte, is_name_start};
 use crate::{Label, LabelRefusal, Text};
-use list_core::{NoMemory, cut_on_err};
+use base::{NoMemory, cut_on_err};
 use std::alloc::Global;
 
 /// A refusal, and what is left of the text from the refused pair on.

@@ -11,8 +11,7 @@ ghost use Rattle.label_sets.specs.Times.{is_within, times_of};
 
 use crate::SampleRefusal;
 use crate::sample_text::PATTERN;
-use list_core::{List, NoMemory, TryCopy};
-use reading_core::{NumberRefusal, read_signed};
+use base::{List, NoMemory, NumberRefusal, TryCopy, read_signed};
 
 /// How far from 0 the times of blocks and scripts may be, in milliseconds.
 pub const TIME_LIMIT: i64 = 1 << 62;

@@ -9,8 +9,8 @@ ghost use Rattle.label_sets.specs.SampleFields.{field_length, most_at_once, samp
 ghost use Rattle.label_sets.specs.SampleText.{hex_sign, pattern_length, pattern_text, spaced_sample_text, timed_text};
 
 use crate::Sample;
+use base::NoMemory;
 use itoa::write_digits;
-use list_core::NoMemory;
 
 /// How much room each sample has in a field: for a space, a sign, 19 digits, a colon and 16 signs of the pattern, and some more.
 const ROOM: usize = 40;

@@ -6,7 +6,7 @@ ghost use Rattle.label_sets.specs.SampleText.{series_text, spaced_sample_text};
 
 use crate::sample_text::put_samples;
 use crate::{LabelSet, Sample, SampleList};
-use list_core::{List, NoMemory, TryCopy, cut_on_err};
+use base::{List, NoMemory, TryCopy, cut_on_err};
 
 /// Samples under one label set.
 #[derive(Drop)]

@@ -5,7 +5,7 @@ ghost use Rattle.std.specs.Cmp.Lexicographic.{slice_cmp, pointwise, nat_list_eq_
 ghost use Rattle.std.specs.Ordering.{nat_cmp, as_partial_cmp};
 ghost use Rattle.std.proofs.Common.{rules};
 
-use list_core::{List, NoMemory, TryCopy};
+use base::{List, NoMemory, TryCopy};
 use std::alloc::Global;
 use std::cmp::Ordering;
 use std::marker::Model;

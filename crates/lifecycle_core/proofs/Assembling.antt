@@ -1,6 +1,6 @@
 -- All that is guaranteed of a run, from what its entries tell, its views and its answers.
-use Rattle.list_core.proofs.Membership.{all_members, contains_place}
-use Rattle.list_core.proofs.Pairs.{AllZip-weaker_where}
+use Rattle.base.proofs.Membership.{all_members, contains_place}
+use Rattle.base.proofs.Pairs.{AllZip-weaker_where}
 use Rattle.std.proofs.Common.{◌≡◌, ◌≢◌, ◌⊎◌, inl, inr, ℕ, Bool, List, [], ◌∷◌, ◌++◌, length, All, Contains, Option, Some, None, refl, sym, ◌∙◌, ap, subst, arith}
 use Rattle.std.specs.Prelude.{option_map, count_by}
 use Rattle.std.specs.List.{AllZip, filter, flat_map}
@@ -29,10 +29,10 @@ use Rattle.cleaner.specs.Cleanings.{CleanRun, cleaning}
 use Rattle.cleaner.specs.declared.clean_end.CleanEnd.{CleanEnd}
 use Rattle.cleaner.specs.declared.clean_end.CleanEnd.TheVariants as cleanup
 use Rattle.meta_fetcher.specs.declared.view.View.{View}
-use Rattle.read_ranges.specs.Reads.{Cache, Query as Question}
-use Rattle.series_calls.specs.SeriesCalls.{CallEnd, SeriesRun, asking}
-use Rattle.series_calls.specs.declared.series_end.SeriesEnd.{SeriesEnd}
-use Rattle.series_calls.specs.declared.series_end.SeriesEnd.TheVariants as called
+use Rattle.store_ranges.specs.Reads.{Cache, Query as Question}
+use Rattle.store_calls.specs.SeriesCalls.{CallEnd, SeriesRun, asking}
+use Rattle.store_calls.specs.declared.series_end.SeriesEnd.{SeriesEnd}
+use Rattle.store_calls.specs.declared.series_end.SeriesEnd.TheVariants as called
 use Rattle.querier.specs.declared.ask.Ask.{Ask}
 use Rattle.script_core.specs.Lawful.{IsLawfulScript, IsLawfulSelector}
 use Rattle.script_workers.specs.declared.work.Work.{Work}

@@ -1,3 +1,4 @@
+pub mod activities
 pub mod phases
 pub mod journals
 pub mod misses

@@ -9,3 +9,4 @@ pub mod Seen
 pub mod OneOpening
 pub mod Alone
 pub mod Named
+pub mod Kept

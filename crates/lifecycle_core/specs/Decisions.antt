@@ -1,6 +1,6 @@
 -- When a cleaning decides that a block is deleted.
 use Rattle.std.specs.Prelude.{ℕ, List, [], ◌∷◌, ◌++◌, None}
-use Rattle.activity_laws.specs.CleaningOps.{IsDecision}
+use Rattle.lifecycle_core.specs.CleaningOps.{IsDecision}
 use Rattle.world_core.specs.declared.entry.Entry.{Entry}
 use Rattle.cleaner.specs.Cleanings.{CleanRun}
 use Rattle.world_core.specs.Journals.{of_seat}

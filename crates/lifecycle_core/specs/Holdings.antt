@@ -1,7 +1,7 @@
 -- What gateways hold, as it goes from one of their tasks to the next.
 use Rattle.std.specs.Prelude.{ℕ, ◌==◌, [], Option, Some, None, if◌then◌else◌}
 use Rattle.lru.specs.LruCache.{lru_cache}
-use Rattle.read_ranges.specs.Reads.{Cache}
+use Rattle.store_ranges.specs.Reads.{Cache}
 use Rattle.meta_fetcher.specs.declared.view.View.{View}
 
 -- a view, and the number of the last entry of the sync that gave it

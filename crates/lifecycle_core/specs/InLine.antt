@@ -1,6 +1,6 @@
 -- Runs in the order of the lines: each task is done to its end before the next one begins.
 use Rattle.std.specs.Prelude.{◌≡◌, ◌⊎◌, ◌+◌, ◌==◌, ℕ, Bool, false, if◌then◌else◌, List, [], ◌∷◌, ◌++◌, length, map, All, Option, Some, None}
-use Rattle.list_core.specs.Lists.{is_one_of}
+use Rattle.base.specs.Lists.{is_one_of}
 use Rattle.world_core.specs.Worlds.{IsJournal}
 use Rattle.world_core.specs.declared.entry.Entry.{Entry}
 use Rattle.script_workers.specs.Hands.{gateway_count, gateway_of, hands_of_task}

@@ -1,3 +1,6 @@
+pub use Rattle.meta_fetcher.specs.Syncs
+pub use Rattle.compactor.specs.Compactions
+pub use Rattle.cleaner.specs.Cleanings
 pub mod Setting
 pub mod Held
 pub mod Holdings
@@ -20,3 +23,7 @@ pub mod Quiet
 pub mod Breaches
 pub mod Causes
 pub mod Guarantees
+pub mod Sights
+pub mod CompactionOps
+pub mod CleaningOps
+pub mod MergedLabels

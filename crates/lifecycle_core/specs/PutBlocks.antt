@@ -3,10 +3,10 @@ use Rattle.std.specs.Prelude.{◌≡◌, ◌+◌, ◌<◌, ◌≤ℤ◌, ℕ, tr
 use Rattle.std.specs.List.{IsDistinct, list_any}
 use Rattle.label_sets.specs.declared.series.Series.{Series}
 use Rattle.label_sets.specs.Triples.{has_same_key}
-use Rattle.activity_laws.specs.MergedLabels.{seen_as}
+use Rattle.lifecycle_core.specs.MergedLabels.{seen_as}
 use Rattle.block_keys.specs.declared.key.Key.{Key}
 use Rattle.block_keys.specs.declared.key.Key.TheVariants.{Index, Segment}
-use Rattle.block_files.specs.declared.block_files.BlockFiles.{BlockFiles}
+use Rattle.block_meta.specs.declared.block_files.BlockFiles.{BlockFiles}
 use Rattle.block_content.specs.Content.{IsContent}
 use Rattle.block_meta.specs.MetaFields.{MetaFields, fields_of}
 use Rattle.world_core.specs.Standing.{has_landed}

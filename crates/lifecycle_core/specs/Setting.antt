@@ -1,7 +1,7 @@
 -- What a run is a run of.
 use Rattle.std.specs.Prelude.{ℕ, List}
 use Rattle.block_keys.specs.declared.key.Key.TheVariants.{Meta}
-use Rattle.block_files.specs.declared.block_files.BlockFiles.{BlockFiles}
+use Rattle.block_meta.specs.declared.block_files.BlockFiles.{BlockFiles}
 use Rattle.block_content.specs.declared.check_refusal.CheckRefusal.{CheckRefusal}
 use Rattle.block_content.specs.declared.check_refusal.CheckRefusal.TheVariants.{NoFile}
 use Rattle.label_sets.specs.declared.series.Series.{Series}

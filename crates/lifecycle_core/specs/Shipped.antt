@@ -8,10 +8,10 @@ use Rattle.block_keys.specs.declared.key.Key.{Key}
 use Rattle.block_keys.specs.declared.key.Key.TheVariants.{Meta}
 use Rattle.block_meta.specs.MetaFields.{fields_of}
 use Rattle.block_meta.specs.MetaValue.{meta_text}
-use Rattle.block_files.specs.Built.{objects_of}
-use Rattle.block_files.specs.declared.block_files.BlockFiles.{BlockFiles}
+use Rattle.block_meta.specs.Built.{objects_of}
+use Rattle.block_meta.specs.declared.block_files.BlockFiles.{BlockFiles}
 use Rattle.block_writing.specs.Built.{HaveNoBlock, IsBuilt}
-use Rattle.block_laws.specs.PutContent.{AreBytes}
+use Rattle.block_merging.specs.PutContent.{AreBytes}
 use Rattle.block_content.specs.Checking.{Passes}
 use Rattle.block_content.specs.Shipped.{shipped_meta}
 use Rattle.block_content.specs.declared.check_refusal.CheckRefusal.{CheckRefusal}

@@ -16,9 +16,9 @@ use Rattle.meta_fetcher.specs.declared.rules.SyncRules.{SyncRules}
 use Rattle.meta_fetcher.specs.declared.sync_end.SyncEnd.{SyncEnd}
 use Rattle.meta_fetcher.specs.declared.sync_end.SyncEnd.TheVariants as sync
 use Rattle.meta_fetcher.specs.Syncs.{SyncRun}
-use Rattle.series_calls.specs.declared.series_end.SeriesEnd.{SeriesEnd}
-use Rattle.read_ranges.specs.Reads.{Query as Question}
-use Rattle.series_calls.specs.SeriesCalls.{CallEnd, SeriesRun, asking}
+use Rattle.store_calls.specs.declared.series_end.SeriesEnd.{SeriesEnd}
+use Rattle.store_ranges.specs.Reads.{Query as Question}
+use Rattle.store_calls.specs.SeriesCalls.{CallEnd, SeriesRun, asking}
 use Rattle.lifecycle_core.specs.Shipped.{IsRefused, IsShipped}
 use Rattle.querier.specs.declared.ask.Ask.{Ask}
 use Rattle.querier.specs.Asks.{asks_of}

@@ -5,7 +5,7 @@ ghost use Rattle.block_keys.specs.KeyText.{key_text};
 ghost use Rattle.block_keys.specs.declared.key.Key.{Key};
 ghost use Rattle.block_keys.specs.declared.key.Key.TheVariants.{Index, Mark, Meta, Segment};
 ghost use Rattle.block_meta.specs.MetaFields.{MetaFields};
-ghost use Rattle.block_files.specs.declared.block_files.BlockFiles.{BlockFiles};
+ghost use Rattle.block_meta.specs.declared.block_files.BlockFiles.{BlockFiles};
 ghost use Rattle.world_core.specs.Standing.{IsHonest, stands};
 ghost use Rattle.world_core.specs.Worlds.{IsOfBytes};
 ghost use Rattle.world_core.specs.declared.op.Op.TheVariants.{Delete, Put};

@@ -1,10 +1,16 @@
-//! Definitions over whole journals of a script: its runs, its complete uploads, and what an answer is
-//! worth.
+//! Definitions over whole journals of a script, and their laws: runs, complete uploads, views, what an answer is worth, and why an
+//! object may be missing.
 #![tactic(auto)]
 
+mod activity_laws;
 mod block_histories;
 mod laws;
+mod view_laws;
 
+pub use activity_laws::{
+    cleanings_ask_so, compactions_ask_so, marks_are_read_again, merges_hold_what_was_held,
+    syncs_see_so,
+};
 pub use block_histories::{
     compactions_miss_nothing_without_cause, complete_blocks_hold_their_sources,
     files_stand_while_the_meta_stands, first_marks_stand_until_the_meta_goes, keys_have_one_text,
@@ -20,3 +26,4 @@ pub use laws::{
     unbroken_journals_are_in_time, unbroken_journals_have_no_breach,
     unbroken_journals_miss_nothing, unbroken_runs_end_well, unbroken_runs_leave_none_out,
 };
+pub use view_laws::{nothing_is_damaged, views_are_worth_it};

@@ -36,7 +36,7 @@ use Rattle.report_lines.specs.lifecycle_core.specs.InLine.{InLine, IsInLine, in_
 use Rattle.report_lines.specs.lifecycle_core.specs.Setting.{Setting}
 use Rattle.report_lines.specs.lifecycle_core.specs.Tasks.{End}
 use Rattle.report_lines.specs.lifecycle_core.specs.Ways.{AreFinished, AreInTurn, AreUnfinished, BeginsPhase, IsOperationDue, PhasesRun}
-use Rattle.list_core.proofs.Lists.{take_none, drop_none}
+use Rattle.base.proofs.Lists.{take_none, drop_none}
 
 -- ---- lists
 

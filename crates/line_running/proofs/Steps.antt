@@ -8,8 +8,8 @@ use Rattle.std.proofs.lemmas.Bool.Decides.{nat_tests}
 use Rattle.std.proofs.lemmas.List.{append-nil, drop_all, length-map}
 use Rattle.std.proofs.lemmas.List.FromFn.{length-map-range_with_len}
 use Rattle.std.proofs.lemmas.Option.{slice_get_within}
-use Rattle.list_core.proofs.Lists.{drop_none, drop_place, slice_get-set_other}
-use Rattle.list_core.proofs.Pairs.{AllZip-push}
+use Rattle.base.proofs.Lists.{drop_none, drop_place, slice_get-set_other}
+use Rattle.base.proofs.Pairs.{AllZip-push}
 use Rattle.world_core.specs.Operations.{entry_of}
 use Rattle.world_core.specs.declared.entry.Entry.{Entry}
 use Rattle.script_core.specs.Lawful.{IsLawfulScript, IsLawfulWork}

@@ -17,8 +17,8 @@ ghost use Rattle.report_lines.specs.script_running.specs.Shelves.{setting_by};
 
 use crate::seats::Seats;
 use crate::tasks::do_task;
+use base::NoMemory;
 use bucket_core::Bucket;
-use list_core::NoMemory;
 use report_lines::PhaseReport;
 use report_lines::script_running::{Broken, Means, Sight};
 use run_notes::LineHand;

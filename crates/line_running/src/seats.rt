@@ -1,9 +1,9 @@
 ghost use Rattle.std.specs.Prelude.{◌≡◌, ◌-◌, ◌==◌, ◌^◌, min, length, IfOk};
-ghost use Rattle.list_core.specs.Lists.{is_one_of};
+ghost use Rattle.base.specs.Lists.{is_one_of};
 ghost use Rattle.script_core.specs.Workers.{seats_before, workers_of};
 ghost use Rattle.report_lines.specs.lifecycle_core.specs.InLine.{seat_of, serves};
 
-use list_core::NoMemory;
+use base::NoMemory;
 use script_core::{Hand, Script, Worker, WorkerList};
 use std::alloc::Global;
 

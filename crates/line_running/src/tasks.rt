@@ -18,8 +18,8 @@ ghost use Rattle.report_lines.specs.script_running.specs.Beside.{AreSeen};
 
 use crate::phases::Progress;
 use crate::seats::Seats;
+use base::NoMemory;
 use bucket_core::Bucket;
-use list_core::NoMemory;
 use querier::InTurn;
 use report_lines::script_running::{
     Broken, Came, Means, Outcome, Part, Sight, outcome_of, run_task,

@@ -15,7 +15,7 @@ use Rattle.matchers.specs.Selectors.{metric_matcher}
 use Rattle.matchers.specs.SelectorText.{metric_part, is_lawful, are_lawful, named_replicas}
 use Rattle.matchers.specs.Stages.{matcher_of, selector_of}
 use Rattle.matchers.specs.Building.{IsUnbuilt, IsUnbuiltCondition, IsUnbuiltList}
-use Rattle.list_core.proofs.Lists.{split_place}
+use Rattle.base.proofs.Lists.{split_place}
 
 abbrev pub IsText : Asked → Type 0
 IsText a = IsUtf8 a.name × IsUtf8 a.value

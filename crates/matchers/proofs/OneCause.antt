@@ -6,7 +6,7 @@ use Rattle.std.specs.Char.{is_ascii_digit}
 use Rattle.std.proofs.lemmas.Bool.{true≢false, cases_order, and_parts}
 use Rattle.std.proofs.lemmas.List.{append_cancel_left, take-take, take-append-drop}
 use Rattle.std.proofs.lemmas.List.Folds.{list_all-append}
-use Rattle.list_core.proofs.Lists.{cons_parts}
+use Rattle.base.proofs.Lists.{cons_parts}
 use Rattle.matchers.specs.declared.condition.Condition.{Condition}
 use Rattle.matchers.specs.declared.condition.Condition.TheVariants.{Equal, NotEqual, Matches, MatchesNot}
 use Rattle.matchers.specs.declared.matcher.Matcher.{Matcher}

@@ -1,7 +1,7 @@
 -- Names and values that are read of a text in UTF-8 are texts.
 use Rattle.std.proofs.Common.{◌≡◌, inl, inr, ℕ, List, [], ◌∷◌, ◌++◌, map, Result, Ok, Err, sym, ap, ◌∙◌, subst, arith, append_assoc, rules}
 use Rattle.std.specs.Prelude.{IfOk}
-use Rattle.reading_core.specs.Reading.{Gives}
+use Rattle.base.specs.Reading.{Gives}
 use Rattle.std.specs.List.{All}
 use Rattle.std.specs.Str.{IsUtf8}
 use Rattle.std.proofs.lemmas.List.Elements.{All-cons, All-nil}

@@ -3,7 +3,7 @@ use Rattle.std.proofs.Common.{◌≡◌, ◌⊎◌, inl, inr, ℕ, ◌+◌, List
 use Rattle.std.specs.Prelude.{IsErrAnd, IfErr}
 use Rattle.std.proofs.lemmas.List.{length-append, map-append}
 use Rattle.std.proofs.lemmas.List.Concat.{flat_map-append}
-use Rattle.list_core.proofs.Lists.{cons_parts, nil_not_middle}
+use Rattle.base.proofs.Lists.{cons_parts, nil_not_middle}
 use Rattle.label_sets.specs.Notation.{quoted}
 use Rattle.matchers.specs.declared.asked.Asked.{Asked}
 use Rattle.matchers.specs.declared.draft.Draft.{Draft}

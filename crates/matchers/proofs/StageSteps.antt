@@ -6,7 +6,7 @@ use Rattle.std.proofs.lemmas.List.Concat.{flat_map-append}
 use Rattle.std.proofs.lemmas.List.Folds.{list_all-append}
 use Rattle.std.proofs.lemmas.List.Elements.{All-push, All-nil}
 use Rattle.std.proofs.lemmas.Bool.{eqb-true}
-use Rattle.reading_core.proofs.Binds.{ok_is}
+use Rattle.base.proofs.Binds.{ok_is}
 use Rattle.label_sets.specs.Notation.{is_name, is_name_start, is_name_byte, quoted, quoted_byte}
 use Rattle.label_sets.proofs.ReadPairs.{escaped_sign, plain_byte, newline}
 use Rattle.matchers.specs.declared.asked.Asked.{Asked}

@@ -3,8 +3,8 @@ use Rattle.std.proofs.Common.{◌≡◌, ◌⊎◌, inl, inr, ℕ, suc, ◌+◌,
 use Rattle.std.specs.Result.{is_err}
 use Rattle.std.proofs.lemmas.Bool.{true≢false}
 use Rattle.std.proofs.lemmas.List.{length-append, take_at}
-use Rattle.reading_core.specs.Reading.{◌>>=◌}
-use Rattle.reading_core.proofs.Binds.{bind_ok, bind_err}
+use Rattle.base.specs.Reading.{◌>>=◌}
+use Rattle.base.proofs.Binds.{bind_ok, bind_err}
 use Rattle.matchers.specs.declared.draft.Draft.{Draft}
 use Rattle.matchers.specs.declared.selector_refusal.SelectorRefusal.{SelectorRefusal}
 use Rattle.matchers.specs.declared.selector_refusal.SelectorRefusal.TheVariants.{BadSelector}

@@ -6,8 +6,8 @@ use Rattle.std.proofs.lemmas.List.{length-append, append_cancel_right, map-appen
 use Rattle.std.proofs.lemmas.List.Elements.{All-head, All-tail, All-pop}
 use Rattle.std.proofs.lemmas.Bool.{true≢false, and_parts}
 use Rattle.std.proofs.lemmas.Bool.Decides.{nat_tests}
-use Rattle.list_core.proofs.Bools.{by_bool}
-use Rattle.reading_core.specs.Reading.{◌>>=◌}
+use Rattle.base.proofs.Bools.{by_bool}
+use Rattle.base.specs.Reading.{◌>>=◌}
 use Rattle.label_sets.specs.Notation.{is_name, is_name_start, is_name_byte, quoted, quoted_byte}
 use Rattle.label_sets.proofs.ReadPairs.{plain_byte}
 use Rattle.label_sets.proofs.SetsFound.{start_is_byte}

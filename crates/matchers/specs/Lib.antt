@@ -1,4 +1,4 @@
-pub use Rattle.reading_core.specs.Reading
+pub use Rattle.base.specs.Reading
 pub use Rattle.label_sets.specs.Labels
 pub use Rattle.label_sets.specs.Triples
 pub mod Patterns

@@ -2,8 +2,8 @@
 -- named for what was read last.
 use Rattle.std.specs.Prelude.{ℕ, ◌+◌, List, [], ◌∷◌, ◌++◌, map, All, ◌||◌, ◌==◌, Result, Ok, Err, if◌then◌else◌}
 use Rattle.std.specs.Str.{IsUtf8}
-use Rattle.reading_core.specs.Reading.{◌>>=◌}
-use Rattle.reading_core.specs.Lines.{line_feed}
+use Rattle.base.specs.Reading.{◌>>=◌}
+use Rattle.base.specs.Lines.{line_feed}
 use Rattle.label_sets.specs.Characters.{double_quote, comma, equals_sign, backslash, letter_n, open_brace, close_brace}
 use Rattle.label_sets.specs.Notation.{is_name_start, is_name_byte}
 use Rattle.matchers.specs.declared.asked.Asked.{Asked}

@@ -1,5 +1,5 @@
 use crate::operator::Operator;
-use list_core::List;
+use base::List;
 use std::alloc::Global;
 
 /// A matcher as it is read: the bytes of its name and of its value, and the place where the value's quote opens.

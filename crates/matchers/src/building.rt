@@ -10,8 +10,8 @@ use crate::asked::Asked;
 use crate::draft::Draft;
 use crate::operator::Operator;
 use crate::{Condition, Matcher, Pattern, PatternRefusal, SelectorRefusal};
+use base::{List, NoMemory};
 use label_sets::Text;
-use list_core::{List, NoMemory};
 use std::alloc::Global;
 
 /// The matchers of a text that was read to its end.

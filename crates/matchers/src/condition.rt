@@ -3,8 +3,8 @@ ghost use Rattle.matchers.specs.Selectors.{has_pattern, is_accepted};
 ghost use Rattle.matchers.specs.ConditionSearches.{condition_asked};
 
 use crate::{ConditionSearcher, Pattern};
+use base::NoMemory;
 use label_sets::Text;
-use list_core::NoMemory;
 
 /// What a matcher asks of a value.
 #[derive(Debug, Drop)]

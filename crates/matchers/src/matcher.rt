@@ -2,8 +2,8 @@ ghost use Rattle.std.specs.Prelude.{◌≡◌, IfOk, IsOk, false};
 ghost use Rattle.matchers.specs.Selectors.{accepts, has_pattern, metric_matcher, value_or_empty};
 
 use crate::Condition;
+use base::NoMemory;
 use label_sets::{LabelSet, Text};
-use list_core::NoMemory;
 use std::alloc::Global;
 
 /// What a selector asks of one label. A label that is missing counts as one with an empty value.

@@ -6,8 +6,8 @@ ghost use Rattle.matchers.specs.Searches.{SearchesFor};
 ghost use Rattle.matchers.specs.declared.pattern_refusal.PatternRefusal.TheVariants.{BadPattern, PatternSize};
 
 use crate::{PatternRefusal, PatternSearcher};
+use base::NoMemory;
 use label_sets::Text;
-use list_core::NoMemory;
 use regex::Regex;
 use std::alloc::Global;
 use std::marker::Model;

@@ -2,7 +2,7 @@ ghost use Rattle.std.specs.Prelude.{◌≡◌};
 ghost use Rattle.matchers.specs.Patterns.{refusal_of};
 ghost use Rattle.matchers.specs.declared.pattern_refusal.PatternRefusal.TheVariants.{NoMemory};
 
-use list_core::NoMemory;
+use base::NoMemory;
 
 /// Why a text was not built as a pattern.
 #[derive(Clone, Copy, Debug, PartialEq, Eq)]

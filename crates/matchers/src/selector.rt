@@ -9,8 +9,8 @@ use crate::building::build;
 use crate::draft::read_draft;
 use crate::replicas::first_replica;
 use crate::{Matcher, SelectorRefusal};
+use base::{List, NoMemory, TryCopy};
 use label_sets::{LabelSet, Text, TextList};
-use list_core::{List, NoMemory, TryCopy};
 use std::alloc::Global;
 use std::marker::Model;
 

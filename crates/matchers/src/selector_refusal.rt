@@ -1,8 +1,8 @@
 ghost use Rattle.std.specs.Prelude.{◌≡◌};
 ghost use Rattle.matchers.specs.declared.selector_refusal.SelectorRefusal.TheVariants.{NoMemory};
 
+use base::NoMemory;
 use label_sets::Text;
-use list_core::NoMemory;
 use std::alloc::AllocFailed;
 
 /// Why a text was not read as a selector.

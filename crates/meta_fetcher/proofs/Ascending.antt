@@ -11,8 +11,8 @@ use Rattle.std.proofs.lemmas.Bool.{and_from, and_parts}
 use Rattle.std.proofs.lemmas.Cmp.{nat_list_cmp_total}
 use Rattle.std.proofs.lemmas.List.{map-append}
 use Rattle.std.proofs.lemmas.Map.Keys.{IsStrictlyIncreasing-from_sorted, sorted_from_strictly_increasing}
-use Rattle.list_core.proofs.Bools.{Less-from_is_lt}
-use Rattle.list_core.specs.Order.{are_in_order_after, comes_after}
+use Rattle.base.proofs.Bools.{Less-from_is_lt}
+use Rattle.base.specs.Order.{are_in_order_after, comes_after}
 use Rattle.ulid_core.specs.UlidText.{IsUlidText, ulid_of, text_of}
 use Rattle.ulid_core.specs.declared.refusal.UlidRefusal.{UlidRefusal}
 use Rattle.ulid_core.proofs.UlidLaws.{IsUlidText-unique, slice_cmp-text_of, ulid_of-found}

@@ -2,8 +2,8 @@
 use Rattle.std.proofs.Common.{◌≡◌, ℕ, zero, suc, ◌+◌, ◌-◌, ◌*◌, ◌^◌, ◌<◌, ◌≤◌, Bool, true, false, List, [], ◌++◌, length, refl, sym, ◌∙◌, ap, subst, Option, Some, None, Result, min, arith, length-append}
 use Rattle.std.specs.Prelude.{nat_lt, nat_le, map}
 use Rattle.std.proofs.lemmas.Bool.{lt-leb, le-leb}
-use Rattle.list_core.specs.declared.memory.NoMemory.{NoMemory}
-use Rattle.list_core.specs.Order.{are_in_order_after, comes_after}
+use Rattle.base.specs.declared.memory.NoMemory.{NoMemory}
+use Rattle.base.specs.Order.{are_in_order_after, comes_after}
 use Rattle.label_sets.specs.Labels.{compare_texts}
 use Rattle.world_core.specs.Operations.{entry_of}
 use Rattle.world_core.specs.Plans.{Plan, choose}

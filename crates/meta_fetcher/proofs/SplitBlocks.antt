@@ -6,9 +6,9 @@ use Rattle.std.specs.List.Sorted.{IsStrictlyIncreasing, IsStrictlySortedBy, IsNo
 use Rattle.std.proofs.lemmas.Map.Keys.{sorted_from_strictly_increasing, sorted_head, sorted_tail}
 use Rattle.std.proofs.lemmas.List.Kept.{IsNonDecreasingBy-filter}
 use Rattle.std.proofs.lemmas.List.Sorted.{Contains-permutation, length_permutation}
-use Rattle.list_core.proofs.Bools.{lt-from_Less}
-use Rattle.list_core.proofs.Lists.{cons_same}
-use Rattle.list_core.proofs.Membership.{each_member, member_cases, contains_first, contains_later, into_map}
+use Rattle.base.proofs.Bools.{lt-from_Less}
+use Rattle.base.proofs.Lists.{cons_same}
+use Rattle.base.proofs.Membership.{each_member, member_cases, contains_first, contains_later, into_map}
 use Rattle.sync_filters.specs.Filters.{is_covered, Splits}
 use Rattle.sync_filters.specs.declared.found.Found.{Found}
 use Rattle.meta_fetcher.proofs.Ascending.{blocks_of}

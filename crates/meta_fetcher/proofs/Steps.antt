@@ -1,6 +1,6 @@
 -- A sync's steps are those of its plan.
 use Rattle.std.proofs.Common.{◌≡◌, ℕ, List, [], ◌∷◌, refl, sym, ◌∙◌, ap, subst, inr, Option, Some, None, unwrap_or, Result, Ok}
-use Rattle.list_core.specs.declared.memory.NoMemory.{NoMemory}
+use Rattle.base.specs.declared.memory.NoMemory.{NoMemory}
 use Rattle.world_core.specs.Leads.{after_entry}
 use Rattle.world_core.specs.Machines.{Asks, GoesOn}
 use Rattle.world_core.specs.Operations.{IsLawful, entry_of}

@@ -2,8 +2,8 @@
 use Rattle.std.specs.Prelude.{◌≡◌, ℕ, suc, ◌+◌, ◌-◌, ◌*◌, ◌^◌, ◌≤◌, true, List, [], ◌∷◌, ◌++◌, length, map, Option, Some, None, option_map, Result}
 use Rattle.block_keys.specs.declared.key.Key.TheVariants as key
 use Rattle.block_meta.specs.MetaFields.{mark_fields_of}
-use Rattle.list_core.specs.declared.memory.NoMemory.{NoMemory}
-use Rattle.list_core.specs.Order.{are_in_order_after, comes_after}
+use Rattle.base.specs.declared.memory.NoMemory.{NoMemory}
+use Rattle.base.specs.Order.{are_in_order_after, comes_after}
 use Rattle.label_sets.specs.Labels.{compare_texts}
 use Rattle.world_core.specs.Leads as lead
 use Rattle.world_core.specs.Leads.{after_entry}

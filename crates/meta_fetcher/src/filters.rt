@@ -5,7 +5,7 @@ ghost use Rattle.meta_fetcher.specs.Sightings.{passed_by};
 
 use crate::SyncRules;
 use moment_core::{Partition, Span};
-use sync_filters::{Found, FoundList, in_partition, is_consistent, is_unmarked};
+use sync_filters::{Found, FoundList, consistent, in_partition, unmarked};
 
 /// The blocks that pass the filters by times and by marks.
 pub(crate) fn passed_blocks(mut found: Vec<Found>, rules: SyncRules) -> FoundList
@@ -27,11 +27,11 @@ fn keep_in_partition(found: &mut Vec<Found>, partition: Partition)
 fn keep_consistent(found: &mut Vec<Found>, delay: Span)
     ensures { found.new.items ≡ filter (λ block. is_consistent block delay) found.old.items }
 {
-    found.retain(|block| is_consistent(block, delay));
+    found.retain(|block| consistent(block, delay));
 }
 
 fn keep_unmarked(found: &mut Vec<Found>, delay: Span)
     ensures { found.new.items ≡ filter (λ block. is_unmarked block delay) found.old.items }
 {
-    found.retain(|block| is_unmarked(block, delay));
+    found.retain(|block| unmarked(block, delay));
 }

@@ -4,6 +4,7 @@
 mod filters;
 mod laws;
 mod rules;
+mod running;
 mod stage;
 mod sync;
 mod sync_end;
@@ -11,6 +12,7 @@ mod view;
 
 pub use laws::syncs_are_plans;
 pub use rules::SyncRules;
+pub use running::run_sync;
 pub use sync::Sync;
 pub use sync_end::SyncEnd;
 pub use view::View;

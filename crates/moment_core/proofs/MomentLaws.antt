@@ -5,11 +5,11 @@ use Rattle.std.specs.Str.Parse.{digits_value}
 use Rattle.std.proofs.lemmas.Bool.Decides.{nat_tests}
 use Rattle.std.proofs.lemmas.Nat.{div-add-mod'}
 use Rattle.jiff.specs.Words.{parse_timestamp, Error}
-use Rattle.reading_core.specs.ShortNumber.{is_number}
+use Rattle.base.specs.ShortNumber.{is_number}
 use Rattle.moment_core.specs.MomentText.{IsMomentText, moment_within, moment_of_timestamp, moment_of}
 use Rattle.moment_core.specs.Limits.{moment_limit}
 use Rattle.std.proofs.lemmas.Option.{cond_some, none-some}
-use Rattle.list_core.proofs.Options.{tested_some}
+use Rattle.base.proofs.Options.{tested_some}
 
 within_found : (value ms : ℕ) → moment_within value ≡ Some ms → (ms < moment_limit) × (value ≡ ms)
 within_found value ms is =

@@ -8,13 +8,13 @@ use Rattle.std.specs.Str.Parse.{digits_value}
 use Rattle.std.proofs.lemmas.Bool.Decides.{nat_tests}
 use Rattle.std.proofs.lemmas.List.{take-append-drop, take_at, drop_at}
 use Rattle.std.proofs.lemmas.List.Sums.{prefix_len-le-length}
-use Rattle.reading_core.specs.ShortNumber.{is_number, number_of}
+use Rattle.base.specs.ShortNumber.{is_number, number_of}
 use Rattle.moment_core.specs.SpanText.{IsUnit, IsSpanText, unit_of, is_no_digit, span_within, span_of}
 use Rattle.moment_core.specs.Limits.{longest_span}
 use Rattle.std.proofs.lemmas.Bool.{and_parts}
 use Rattle.std.proofs.lemmas.Option.{cond_some, none-some}
 use Rattle.std.proofs.Math.Numerals.{one-add}
-use Rattle.list_core.proofs.Bools.{same_texts}
+use Rattle.base.proofs.Bools.{same_texts}
 
 unwrap-test : (b : Bool) (k len : ℕ) → ltb k len ≡ b → k ≤ len → unwrap_or (cond b (Some k) None) len ≡ k
 unwrap-test true k len test low = refl

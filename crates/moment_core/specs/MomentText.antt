@@ -4,7 +4,7 @@ use Rattle.std.specs.Prelude.{◌≡◌, ℕ, ℤ, pos, negsuc, ◌*◌, ◌/◌
 use Rattle.std.specs.Bool.{MatchBool}
 use Rattle.std.specs.Str.Parse.{digits_value}
 use Rattle.jiff.specs.Words.{parse_timestamp, Error}
-use Rattle.reading_core.specs.ShortNumber.{is_number}
+use Rattle.base.specs.ShortNumber.{is_number}
 use Rattle.moment_core.specs.Limits.{moment_limit, moment_digits, one_millisecond}
 
 -- The text is that of the moment.

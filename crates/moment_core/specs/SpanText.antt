@@ -4,7 +4,7 @@ use Rattle.std.specs.Char.{is_ascii_digit}
 use Rattle.std.specs.List.{before_first, position_or_len}
 use Rattle.std.specs.Str.{bytes_eq}
 use Rattle.std.specs.Str.Parse.{digits_value}
-use Rattle.reading_core.specs.ShortNumber.{is_number, number_of}
+use Rattle.base.specs.ShortNumber.{is_number, number_of}
 use Rattle.moment_core.specs.Limits.{longest_span, one_second, one_minute, one_hour, span_digits}
 
 -- a unit and how many milliseconds it has

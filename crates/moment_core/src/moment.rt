@@ -5,9 +5,8 @@ ghost use Rattle.jiff.specs.Words.{parse_timestamp};
 ghost use Rattle.moment_core.specs.MomentText as words;
 
 use crate::MomentRefusal;
+use base::{NoMemory, TryCopy, short_number};
 use jiff::Timestamp;
-use list_core::{NoMemory, TryCopy};
-use reading_core::short_number;
 use std::alloc::Global;
 
 /// How many digits milliseconds have at most.

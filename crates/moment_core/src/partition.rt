@@ -1,7 +1,7 @@
 ghost use Rattle.std.specs.Prelude.{◌≡◌, ◌↔◌, ℤ};
 ghost use Rattle.moment_core.specs.Partitions.{IsIn, all_times, common};
 
-use list_core::{List, NoMemory, TryCopy};
+use base::{List, NoMemory, TryCopy};
 
 /// A range of times in milliseconds, closed at both ends.
 #[derive(Clone, Copy, Debug, PartialEq, Eq)]

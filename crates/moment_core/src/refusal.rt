@@ -1,7 +1,7 @@
 ghost use Rattle.std.specs.Prelude.{◌≡◌};
 ghost use Rattle.moment_core.specs.declared.refusal.MomentRefusal.TheVariants.{NoMemory};
 
-use list_core::NoMemory;
+use base::NoMemory;
 
 /// Why a text is no moment.
 #[derive(Clone, Copy, Debug, PartialEq, Eq)]

@@ -1,8 +1,8 @@
 ghost use Rattle.std.specs.Prelude.{◌≡◌};
 
 use crate::{HOUR, MINUTE, Span};
+use base::{NoMemory, TryCopy};
 use label_sets::TextList;
-use list_core::{NoMemory, TryCopy};
 use std::alloc::Global;
 
 /// The delays, limits, replica labels and retention that a run goes by.

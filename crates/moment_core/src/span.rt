@@ -5,8 +5,7 @@ ghost use Rattle.std.specs.Result.{result_ok};
 ghost use Rattle.moment_core.specs.SpanText as words;
 
 use crate::BadSpan;
-use list_core::{NoMemory, TryCopy};
-use reading_core::short_number;
+use base::{NoMemory, TryCopy, short_number};
 
 /// A second, in milliseconds.
 pub const SECOND: u64 = 1_000;

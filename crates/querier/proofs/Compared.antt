@@ -4,8 +4,8 @@ use Rattle.std.specs.Prelude.{All, Contains, remove}
 use Rattle.std.specs.List.{find}
 use Rattle.std.proofs.lemmas.List.{append-nil, append_assoc}
 use Rattle.std.proofs.lemmas.List.Elements.{All-contains, All-contains_itself, All-weaker, Contains-append_left}
-use Rattle.list_core.proofs.Lists.{split_place, take_none}
-use Rattle.list_core.proofs.Membership.{contains_first}
+use Rattle.base.proofs.Lists.{split_place, take_none}
+use Rattle.base.proofs.Membership.{contains_first}
 use Rattle.label_sets.specs.Triples.{Triple, has_same_key, triples_of}
 use Rattle.querier.specs.declared.answer.Answer.{Answer}
 use Rattle.querier.specs.Gathered.{gathered_samples, IsComparedWith, TellTheSame}

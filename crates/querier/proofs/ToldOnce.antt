@@ -8,8 +8,8 @@ use Rattle.std.proofs.lemmas.List.Elements.{All-append, All-contains, All-contai
 use Rattle.std.proofs.lemmas.List.Folds.{find-append}
 use Rattle.std.proofs.lemmas.List.Concat.{flat_map-append, flat_map-cons}
 use Rattle.std.proofs.lemmas.List.{append-nil}
-use Rattle.list_core.proofs.Membership.{member_cases, no_member}
-use Rattle.list_core.proofs.Bools.{Equal-from_is_eq}
+use Rattle.base.proofs.Membership.{member_cases, no_member}
+use Rattle.base.proofs.Bools.{Equal-from_is_eq}
 use Rattle.label_sets.specs.declared.label.Label.{Label}
 use Rattle.label_sets.specs.declared.sample.Sample.{Sample}
 use Rattle.label_sets.specs.declared.series.Series.{Series}

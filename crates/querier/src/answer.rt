@@ -2,9 +2,9 @@ ghost use Rattle.std.specs.Prelude.{◌≡◌, []};
 ghost use Rattle.querier.specs.Gathered.{IsComparedWith};
 
 use crate::repeats::are_same;
+use base::List;
 use block_meta::HasSources;
 use label_sets::SeriesList;
-use list_core::List;
 use std::alloc::Global;
 use ulid_core::{Ulid, UlidList};
 

@@ -1,4 +1,4 @@
-use list_core::{List, NoMemory, TryCopy};
+use base::{List, NoMemory, TryCopy};
 
 /// What one gateway is asked for: the times in milliseconds from `low` to `high`, both included.
 #[derive(Clone, Copy, Debug, PartialEq, Eq)]

@@ -2,7 +2,7 @@ ghost use Rattle.std.specs.Prelude.{◌≡◌, ◌<◌, ◌≤◌, ◌^◌, [], 
 ghost use Rattle.querier.specs.Asks.{asks_from, asks_of};
 
 use crate::{Ask, AskList};
-use list_core::NoMemory;
+use base::NoMemory;
 use moment_core::{Partition, PartitionList};
 use std::alloc::Global;
 

@@ -5,9 +5,9 @@ ghost use Rattle.querier.specs.Gathered.{answer, gathered_samples, IsGathered};
 
 use crate::repeats::without_repeats;
 use crate::{Answer, AnswerList, CompareWay};
+use base::{NoMemory, TryCopy};
 use block_meta::union_of_sources;
 use label_sets::SeriesList;
-use list_core::{NoMemory, TryCopy};
 use std::alloc::Global;
 use std::marker::Model;
 use ulid_core::UlidList;

@@ -5,8 +5,8 @@ ghost use Rattle.querier.specs.Gathered.{TellTheSame};
 ghost use Rattle.querier.specs.declared.answer.Answer.{Answer};
 
 use crate::{Answer, CompareWay};
+use base::NoMemory;
 use label_sets::{Sample, Series};
-use list_core::NoMemory;
 use std::alloc::Global;
 
 /// The answers without repeats. The way empties some of those that have the first one's series; then each that has the series of the one

@@ -1,13 +1,13 @@
 -- A missing object that a report tells of is one that a call or a compaction found missing.
-use Rattle.list_core.proofs.Membership.{contains_first, contains_later, member_cases, no_member}
+use Rattle.base.proofs.Membership.{contains_first, contains_later, member_cases, no_member}
 use Rattle.std.proofs.Common.{◌≡◌, inl, inr, ℕ, zero, suc, ◌+◌, ℤ, Bool, List, [], ◌∷◌, ◌++◌, Contains, Option, refl, sym, ◌∙◌, ap, subst, arith, Some, map}
 use Rattle.std.specs.List.{AllZip}
 use Rattle.std.proofs.lemmas.List.Elements.{Contains-append_cases, Contains-append_left}
 use Rattle.world_core.specs.declared.entry.Entry.{Entry}
 use Rattle.compactor.specs.declared.compact_end.CompactEnd.{CompactEnd}
 use Rattle.compactor.specs.declared.compact_end.CompactEnd.TheVariants as merged
-use Rattle.series_calls.specs.declared.series_end.SeriesEnd.{SeriesEnd}
-use Rattle.series_calls.specs.declared.series_end.SeriesEnd.TheVariants as called
+use Rattle.store_calls.specs.declared.series_end.SeriesEnd.{SeriesEnd}
+use Rattle.store_calls.specs.declared.series_end.SeriesEnd.TheVariants as called
 use Rattle.script_workers.specs.Hands.{gateway_count, gateway_of, hands_of_task}
 use Rattle.script_core.specs.Workers.{workers_of}
 use Rattle.script_core.specs.declared.script.Script.{Script}

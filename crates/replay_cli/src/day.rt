@@ -8,13 +8,13 @@ ghost use Rattle.call_verdicts.specs.Asked.{WasAsked, for_opening};
 ghost use Rattle.call_verdicts.specs.Noted.{IsNoted, met};
 ghost use Rattle.replay_cli.specs.Days.{EndsDay, IsBareFull, IsDay, IsDayNoted, IsDayRun};
 
+use base::NoMemory;
 use bucket_core::{Bucket, FailList, MemoryBucket};
 use call_verdicts::report_lines::{Tally, put_breach_of};
 use call_verdicts::script_running::Broken;
 use call_verdicts::{Conclusion, Ended, Verdict};
 use generated_day::generated_script;
 use line_running::do_in_line;
-use list_core::NoMemory;
 use run_notes::{Finished, RunNote};
 use script_core::Script;
 use std::alloc::Global;

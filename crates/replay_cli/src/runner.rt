@@ -7,12 +7,12 @@ ghost use Rattle.replay_cli.specs.Endings.{EndsReport};
 ghost use Rattle.replay_cli.specs.Ways.{HasRun, MayRun, beside, in_line};
 
 use crate::telling::Beside;
+use base::NoMemory;
 use bucket_core::Bucket;
 use call_verdicts::Verdict;
 use call_verdicts::report_lines::{Lines, LinesBy, SeriesWay, put_breach_of};
 use call_verdicts::script_running::{Broken, ShelfBlock, run_beside};
 use line_running::do_in_line;
-use list_core::NoMemory;
 use phase_runner::Gate;
 use run_notes::Finished;
 use script_core::Script;

@@ -4,9 +4,9 @@ ghost use Rattle.std.specs.Thread.{IsSync};
 ghost use Rattle.replay_cli.specs.Sharing.{sync_prop};
 
 use crate::text_parts::put_beside;
+use base::NoMemory;
 use call_verdicts::report_lines::SeriesWay;
 use label_sets::Series;
-use list_core::NoMemory;
 use std::thread::Threads;
 
 /// Beside each other, in threads.

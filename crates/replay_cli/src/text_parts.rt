@@ -5,9 +5,9 @@ ghost use Rattle.std.specs.List.{All, flat_map};
 ghost use Rattle.call_verdicts.specs.report_lines.specs.Reports.{series_line};
 ghost use Rattle.replay_cli.specs.TextParts.{IsPut, series_in};
 
+use base::NoMemory;
 use call_verdicts::report_lines::{make_room, put_all_series};
 use label_sets::{Series, sample_count};
-use list_core::NoMemory;
 use phase_runner::{for_each_beside, processors};
 use std::alloc::Global;
 use std::mem;

@@ -9,7 +9,7 @@ use Rattle.label_sets.specs.declared.label.Label.{Label}
 use Rattle.label_sets.proofs.LabelValues.{same_set}
 use Rattle.vertical_merge.proofs.Orders.{set_itself}
 use Rattle.report_lines.specs.Summed.{HasEach, each_once}
-use Rattle.list_core.proofs.Bools.{Equal-from_is_eq, or_or_false}
+use Rattle.base.proofs.Bools.{Equal-from_is_eq, or_or_false}
 
 abbrev is_same : List Label → List Label → Bool
 is_same one other = is_eq (compare_sets one other)

@@ -1,7 +1,7 @@
 -- The last line of a report, which tells the breach of the journal.
 use Rattle.std.specs.Prelude.{ℕ, List, [], ◌++◌, codes, Option, Some, None}
-use Rattle.reading_core.specs.Decimal.{decimal_text}
-use Rattle.reading_core.specs.Lines.{newline}
+use Rattle.base.specs.Decimal.{decimal_text}
+use Rattle.base.specs.Lines.{newline}
 use Rattle.world_core.specs.declared.entry.Entry.{Entry}
 use Rattle.script_core.specs.declared.script.Script.{Script}
 use Rattle.script_running.specs.lifecycle_core.specs.Setting.{FromShelf}

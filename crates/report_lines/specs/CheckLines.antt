@@ -1,7 +1,7 @@
 -- The line that tells what the check of a block came to.
 use Rattle.std.specs.Prelude.{ℕ, List, ◌++◌, codes}
-use Rattle.reading_core.specs.Decimal.{decimal_text}
-use Rattle.reading_core.specs.Lines.{newline}
+use Rattle.base.specs.Decimal.{decimal_text}
+use Rattle.base.specs.Lines.{newline}
 use Rattle.ulid_core.specs.UlidText.{text_of}
 use Rattle.report_lines.specs.declared.check_outcome.CheckOutcome.{CheckOutcome}
 use Rattle.report_lines.specs.declared.check_outcome.CheckOutcome.TheVariants.{Passed, Refused}

@@ -3,8 +3,8 @@ use Rattle.std.specs.Prelude.{ℕ, ◌-◌, ◌^◌, min, ℤ, Bool, true, false
 use Rattle.std.specs.List.{flat_map, list_any, sum_by}
 use Rattle.std.specs.Option.{option_map_or}
 use Rattle.std.specs.Ordering.{int_eq}
-use Rattle.reading_core.specs.Decimal.{decimal_text, signed_text}
-use Rattle.reading_core.specs.Lines.{newline}
+use Rattle.base.specs.Decimal.{decimal_text, signed_text}
+use Rattle.base.specs.Lines.{newline}
 use Rattle.ulid_core.specs.UlidText.{text_of}
 use Rattle.label_sets.specs.Counts.{sample_count}
 use Rattle.label_sets.specs.SampleText.{series_text}

@@ -7,8 +7,8 @@ ghost use Rattle.breach_finding.specs.declared.found.Breach.{Breach};
 ghost use Rattle.report_lines.specs.BreachLines.{HasBreach, breach_text};
 
 use crate::report::put_breach;
+use base::NoMemory;
 use breach_finding::find_breach;
-use list_core::NoMemory;
 use script_core::Script;
 use std::alloc::Global;
 use world_core::Entry;

@@ -6,7 +6,7 @@ ghost use Rattle.script_running.specs.Outcomes.{is_as_asked};
 
 use crate::report::put_activity;
 use crate::{InTurn, PhaseReport, SeriesWay};
-use list_core::NoMemory;
+use base::NoMemory;
 use script_core::{Script, Task};
 use script_running::{Broken, Outcome, Report};
 use std::alloc::Global;

@@ -3,7 +3,7 @@
 ghost use Rattle.std.specs.Prelude.{◌≡◌, [], true};
 
 use crate::{Lines, SeriesWay};
-use list_core::NoMemory;
+use base::NoMemory;
 use script_core::{Script, Task};
 use script_running::{Outcome, Report};
 use std::alloc::Global;

@@ -1,7 +1,7 @@
 ghost use Rattle.std.specs.Prelude.{◌≡◌, ◌++◌, ◌∷◌, ◌*◌, ◌-◌, ◌^◌, [], codes, length, min, OnOk};
 ghost use Rattle.std.specs.List.{flat_map, list_any};
-ghost use Rattle.reading_core.specs.Decimal.{decimal_text, signed_text};
-ghost use Rattle.reading_core.specs.Lines.{newline};
+ghost use Rattle.base.specs.Decimal.{decimal_text, signed_text};
+ghost use Rattle.base.specs.Lines.{newline};
 ghost use Rattle.ulid_core.specs.UlidText.{text_of};
 ghost use Rattle.label_sets.specs.Counts.{sample_count};
 ghost use Rattle.script_fields.specs.Limits.{longest_sample};
@@ -11,12 +11,11 @@ ghost use Rattle.report_lines.specs.BreachLines.{between, breach_line, breach_te
 
 use crate::SeriesWay;
 use crate::check_outcome::CheckOutcome;
+use base::{NoMemory, put_signed, put_unsigned};
 use breach_finding::{Breach, BreachRule};
 use label_sets::{Series, SeriesList, sample_count};
-use list_core::NoMemory;
 use moment_core::Partition;
 use querier::{Names, NamesList};
-use reading_core::{put_signed, put_unsigned};
 use script_core::{LONGEST_SAMPLE, Script, Task, Work};
 use script_running::{
     CleanOutcome, CompactOutcome, NoAnswer, Outcome, QueryOutcome, SyncOutcome, UploadOutcome,

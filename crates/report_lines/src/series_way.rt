@@ -6,8 +6,8 @@ ghost use Rattle.std.specs.List.{flat_map};
 ghost use Rattle.report_lines.specs.Reports.{series_line};
 
 use crate::report::put_all_series;
+use base::NoMemory;
 use label_sets::Series;
-use list_core::NoMemory;
 
 /// A way to put the lines of series.
 pub trait SeriesWay {

@@ -8,9 +8,9 @@ ghost use Rattle.report_lines.specs.Summed.{HasEach, IsSummary, all_seen, each_o
 ghost use Rattle.report_lines.specs.Tallies.{AreSums, answers_in};
 
 use crate::Sums;
+use base::NoMemory;
 use generated_day::{QueryCounts, Summary};
 use label_sets::{LabelSet, Series, TextList, final_labels, sample_count};
-use list_core::NoMemory;
 use script_core::{Block, Body, Script};
 use std::alloc::Global;
 use std::collections::BTreeSet;

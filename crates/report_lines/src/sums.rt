@@ -3,9 +3,9 @@
 ghost use Rattle.std.specs.Prelude.{◌≡◌, ◌++◌, OnOk};
 ghost use Rattle.report_lines.specs.Tallies.{AddsUp, IsOneMore, counts_in, counts_of};
 
+use base::NoMemory;
 use generated_day::QueryCounts;
 use label_sets::sample_count;
-use list_core::NoMemory;
 use querier::Answer;
 use script_running::{CleanOutcome, CompactOutcome, Outcome, QueryOutcome, UploadOutcome};
 

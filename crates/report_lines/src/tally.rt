@@ -9,8 +9,8 @@ ghost use Rattle.report_lines.specs.Tallies.{AddsUp, AreTallied, IsOneMore, amis
 use crate::summing::summary_of;
 use crate::sums::{NOTHING, added_by, put_counts};
 use crate::{InTurn, PhaseReport, Sums, put_activity};
+use base::NoMemory;
 use generated_day::QueryCounts;
-use list_core::NoMemory;
 use script_core::{Script, Task};
 use script_running::{Broken, Outcome, Report};
 use std::alloc::Global;

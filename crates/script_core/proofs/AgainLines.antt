@@ -3,7 +3,7 @@ use Rattle.std.proofs.Common.{◌≡◌, ℕ, ◌+◌, Bool, true, false, cond, 
 use Rattle.std.specs.Bool.{MatchBool}
 use Rattle.std.specs.Str.{is_utf8}
 use Rattle.std.proofs.lemmas.Bool.Decides.{nat_tests}
-use Rattle.reading_core.specs.Reading.{◌>>=◌, refused_as}
+use Rattle.base.specs.Reading.{◌>>=◌, refused_as}
 use Rattle.moment_core.specs.StandardRules.{standard_rules}
 use Rattle.script_fields.specs.declared.line_kind.LineKind.{LineKind}
 use Rattle.script_fields.specs.declared.line_kind.LineKind.TheVariants as kinds

@@ -2,14 +2,14 @@
 use Rattle.std.proofs.Common.{◌≡◌, ℕ, zero, suc, ◌+◌, ◌%◌, ◌^◌, ◌<◌, ◌≤◌, Bool, true, false, not, nat_lt, nat_le, int_lt, List, [], ◌∷◌, ◌++◌, length, Option, Some, None, is_some, Ok, refl, sym, ap, ◌∙◌, subst, arith, inl, inr, codes}
 use Rattle.std.specs.List.{list_all, range_with_len}
 use Rattle.std.proofs.lemmas.Bool.Decides.{nat_tests}
-use Rattle.list_core.proofs.Lists.{nil_not_middle}
-use Rattle.list_core.specs.Lists.{is_one_of}
+use Rattle.base.proofs.Lists.{nil_not_middle}
+use Rattle.base.specs.Lists.{is_one_of}
 use Rattle.matchers.specs.SelectorText.{IsSelectorText}
 use Rattle.matchers.specs.Selectors.{is_metric_name}
 use Rattle.matchers.specs.declared.matcher.Matcher.{Matcher}
 use Rattle.moment_core.specs.declared.moment.Moment.{Moment}
 use Rattle.moment_core.specs.declared.rules.Rules.{Rules}
-use Rattle.reading_core.specs.Decimal.{decimal_text}
+use Rattle.base.specs.Decimal.{decimal_text}
 use Rattle.script_fields.specs.declared.line_kind.LineKind.TheVariants as kinds
 use Rattle.script_workers.specs.declared.phase.Phase.{Phase}
 use Rattle.script_core.specs.declared.script.Script.{Script}

@@ -4,7 +4,7 @@ use Rattle.std.specs.List.{list_all, slice_split, join_with_byte, position_or_le
 use Rattle.std.proofs.lemmas.Bool.Decides.{nat_tests}
 use Rattle.std.proofs.lemmas.List.{length-append, drop_at, same_from_push}
 use Rattle.std.proofs.lemmas.List.Splits.{slice_split_at, slice_split_none}
-use Rattle.reading_core.specs.Decimal.{signed_of}
+use Rattle.base.specs.Decimal.{signed_of}
 use Rattle.label_sets.proofs.SampleTexts.{sample_of-only}
 use Rattle.label_sets.proofs.SetLaws.{set_text_again}
 use Rattle.label_sets.specs.Notation.{read_set}
@@ -31,7 +31,7 @@ use Rattle.script_core.proofs.FoundSeries.{sample_time, added, last_there}
 use Rattle.script_core.proofs.AgainSetup.{IsRead, starts_again}
 use Rattle.script_core.proofs.SpelledValues.{near_tested, ascend_tested, within_tested}
 use Rattle.script_core.proofs.SpelledSeries.{place_fresh, place_inserted}
-use Rattle.list_core.proofs.Lists.{pushed_not_nil}
+use Rattle.base.proofs.Lists.{pushed_not_nil}
 
 -- ---- texts that are joined and cut again
 

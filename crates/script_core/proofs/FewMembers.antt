@@ -24,7 +24,7 @@ use Rattle.script_core.specs.GivenUp.{GivesUnless, IsWholeGivenUp}
 use Rattle.script_core.specs.Reading.{script_of}
 use Rattle.script_core.specs.Spelling.{spaced, IsField, AreSampleFields, SoFar, nothing, GatewayLine, BlockLine, ShelfLine, SeriesLine, AtLine, AddsTask, UploadLine, SyncLine, CompactLine, CleanLine, QueryLine, RuleLine, ReplicaLine, RetentionLine, Says, Say, Spells}
 use Rattle.script_core.proofs.ReadScripts.{found_of}
-use Rattle.list_core.proofs.Lists.{sum_by-push}
+use Rattle.base.proofs.Lists.{sum_by-push}
 
 -- ---- fields
 

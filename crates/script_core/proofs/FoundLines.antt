@@ -4,8 +4,8 @@ use Rattle.std.specs.Bool.{MatchBool}
 use Rattle.std.specs.Str.{is_utf8}
 use Rattle.std.proofs.lemmas.Bool.Decides.{nat_tests}
 use Rattle.std.proofs.lemmas.Option.{same_Some}
-use Rattle.reading_core.specs.Reading.{◌>>=◌, ◌>>◌, refused_as}
-use Rattle.reading_core.proofs.Binds.{bind_ok, ok_is, refused_as_ok, then_ok}
+use Rattle.base.specs.Reading.{◌>>=◌, ◌>>◌, refused_as}
+use Rattle.base.proofs.Binds.{bind_ok, ok_is, refused_as_ok, then_ok}
 use Rattle.moment_core.specs.StandardRules.{standard_rules}
 use Rattle.script_fields.specs.declared.cause.LineCause.TheVariants as causes
 use Rattle.script_fields.specs.declared.line_kind.LineKind.{LineKind}

@@ -5,11 +5,11 @@ use Rattle.std.specs.Str.{bytes_eq}
 use Rattle.std.proofs.lemmas.Bool.Decides.{nat_tests}
 use Rattle.std.proofs.lemmas.Option.{same_Some}
 use Rattle.std.proofs.Math.Bool.{or-false}
-use Rattle.reading_core.proofs.Binds.{bind_ok, unless_ok, ok_is, refused_as_ok, unless_is, then_ok, ok_or_ok}
+use Rattle.base.proofs.Binds.{bind_ok, unless_ok, ok_is, refused_as_ok, unless_is, then_ok, ok_or_ok}
 use Rattle.std.proofs.lemmas.Bool.{and_parts, not-true, cases_Bool}
-use Rattle.list_core.proofs.Bools.{same_texts}
-use Rattle.list_core.specs.Lists.{is_one_of}
-use Rattle.list_core.proofs.Lists.{pushed_not_nil}
+use Rattle.base.proofs.Bools.{same_texts}
+use Rattle.base.specs.Lists.{is_one_of}
+use Rattle.base.proofs.Lists.{pushed_not_nil}
 use Rattle.moment_core.specs.declared.moment.Moment.{Moment}
 use Rattle.moment_core.specs.declared.rules.Rules.{Rules}
 use Rattle.script_fields.specs.declared.cause.LineCause.TheVariants as causes

@@ -5,10 +5,10 @@ use Rattle.std.proofs.lemmas.Bool.Decides.{nat_tests}
 use Rattle.std.proofs.lemmas.List.{take-append-drop}
 use Rattle.std.proofs.lemmas.List.Sums.{prefix_len-le-length}
 use Rattle.std.proofs.lemmas.List.Splits.{length-slice_split, join_with_byte-slice_split}
-use Rattle.reading_core.specs.Decimal.{signed_of}
-use Rattle.reading_core.specs.declared.refusal.NumberRefusal.{NumberRefusal}
-use Rattle.reading_core.specs.declared.refusal.NumberRefusal.TheVariants.{NotANumber, TooLarge}
-use Rattle.reading_core.proofs.Binds.{bind_ok, unless_ok, ok_is, refused_as_ok, unless_is, then_ok}
+use Rattle.base.specs.Decimal.{signed_of}
+use Rattle.base.specs.declared.refusal.NumberRefusal.{NumberRefusal}
+use Rattle.base.specs.declared.refusal.NumberRefusal.TheVariants.{NotANumber, TooLarge}
+use Rattle.base.proofs.Binds.{bind_ok, unless_ok, ok_is, refused_as_ok, unless_is, then_ok}
 use Rattle.std.proofs.lemmas.Bool.{and_parts, not-true}
 use Rattle.label_sets.proofs.SampleTexts.{sample_of-found, sample_of-fits, uncut}
 use Rattle.label_sets.proofs.SetLaws.{set_text_found}

@@ -3,7 +3,7 @@ use Rattle.std.proofs.Common.{◌≡◌, ℕ, ◌%◌, ◌^◌, ◌<◌, ℤ, �
 use Rattle.std.proofs.lemmas.Bool.Decides.{nat_tests}
 use Rattle.std.proofs.lemmas.Int.{ints}
 use Rattle.std.proofs.lemmas.Option.{same_Some}
-use Rattle.reading_core.proofs.Binds.{bind_ok, then_ok, unless_is, unless_ok, ok_is, refused_as_ok, ok_or_ok}
+use Rattle.base.proofs.Binds.{bind_ok, then_ok, unless_is, unless_ok, ok_is, refused_as_ok, ok_or_ok}
 use Rattle.std.proofs.lemmas.Bool.{and_parts, not-true}
 use Rattle.std.proofs.lemmas.List.{take_all}
 use Rattle.label_sets.proofs.SetLaws.{set_text_found}

@@ -17,9 +17,9 @@ use Rattle.std.specs.List.Sorted.{IsStrictlySortedBy}
 use Rattle.label_sets.specs.Labels.{compare_sets}
 use Rattle.label_sets.specs.declared.series.Series.{Series}
 use Rattle.moment_core.specs.declared.moment.Moment.{Moment}
-use Rattle.list_core.proofs.Bools.{same-from_Equal}
-use Rattle.list_core.proofs.Order.{sorted_nil}
-use Rattle.list_core.specs.Lists.{is_one_of}
+use Rattle.base.proofs.Bools.{same-from_Equal}
+use Rattle.base.proofs.Order.{sorted_nil}
+use Rattle.base.specs.Lists.{is_one_of}
 use Rattle.script_core.specs.declared.block.Block.{Block}
 use Rattle.script_core.specs.declared.body.Body.TheVariants.{OnShelf}
 use Rattle.script_workers.specs.declared.hand.Hand.{Hand}

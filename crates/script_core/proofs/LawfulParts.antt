@@ -23,7 +23,7 @@ use Rattle.script_workers.specs.declared.task.Task.{Task}
 use Rattle.script_fields.specs.Values.{is_time}
 use Rattle.script_core.specs.State.{insert_series}
 use Rattle.script_core.specs.Blocks.{declares}
-use Rattle.list_core.proofs.Lists.{last_or_none}
+use Rattle.base.proofs.Lists.{last_or_none}
 
 -- ---- ends of lists
 

@@ -18,8 +18,8 @@ use Rattle.moment_core.specs.declared.partition.Partition.{Partition}
 use Rattle.moment_core.specs.declared.rules.Rules.{Rules}
 use Rattle.moment_core.specs.declared.span.Span.{Span}
 use Rattle.moment_core.specs.Limits.{moment_limit}
-use Rattle.list_core.proofs.Order.{sorted_nil}
-use Rattle.list_core.proofs.Lists.{last_or_none, pushed_not_nil, nil_not_middle}
+use Rattle.base.proofs.Order.{sorted_nil}
+use Rattle.base.proofs.Lists.{last_or_none, pushed_not_nil, nil_not_middle}
 use Rattle.script_core.specs.declared.block.Block.{Block}
 use Rattle.script_core.specs.declared.body.Body.TheVariants.{Inline, OnShelf}
 use Rattle.script_workers.specs.declared.phase.Phase.{Phase}

@@ -8,10 +8,10 @@ use Rattle.std.proofs.lemmas.List.Elements.{All-contains, All-from_recursion}
 use Rattle.std.proofs.lemmas.Map.Views.{Contains-from_lookup}
 use Rattle.std.specs.List.{All}
 use Rattle.std.specs.Map.{lookup}
-use Rattle.reading_core.proofs.Binds.{unless_ok, ok_is, unless_is}
+use Rattle.base.proofs.Binds.{unless_ok, ok_is, unless_is}
 use Rattle.std.proofs.lemmas.Bool.{and_parts, not-true, not_from_false}
-use Rattle.list_core.proofs.Bools.{same_texts}
-use Rattle.list_core.proofs.Lists.{nil_not_middle, some-from_length, length-some, last_or_none, pushed_not_nil}
+use Rattle.base.proofs.Bools.{same_texts}
+use Rattle.base.proofs.Lists.{nil_not_middle, some-from_length, length-some, last_or_none, pushed_not_nil}
 use Rattle.script_core.specs.declared.block.Block.{Block}
 use Rattle.script_core.specs.declared.body.Body.TheVariants.{OnShelf}
 use Rattle.script_fields.specs.declared.cause.LineCause.TheVariants.{BadShape}

@@ -5,7 +5,7 @@ use Rattle.std.proofs.lemmas.Bool.Decides.{nat_tests}
 use Rattle.std.proofs.lemmas.List.{drop_all, length-append, take_all}
 use Rattle.std.proofs.lemmas.List.Splits.{slice_split_first, slice_split_none}
 use Rattle.std.proofs.lemmas.List.Sums.{fails_before_first}
-use Rattle.reading_core.proofs.Binds.{bind_ok, ok_is}
+use Rattle.base.proofs.Binds.{bind_ok, ok_is}
 use Rattle.script_fields.specs.declared.script_refusal.ScriptRefusal.{ScriptRefusal}
 use Rattle.script_fields.specs.Fields.{is_newline, lines_of}
 use Rattle.script_core.specs.GivenUp.{IsLineGivenUp, AreLinesGivenUp}

@@ -6,8 +6,8 @@ use Rattle.std.proofs.lemmas.Bool.Decides.{nat_tests}
 use Rattle.std.proofs.lemmas.List.{length-append, length-take, get_or-take}
 use Rattle.std.proofs.lemmas.List.Splits.{slice_split_at}
 use Rattle.std.proofs.lemmas.List.Sums.{AllPass-from_list_all, list_all-from_AllPass, split_at_first, passes_at_first, fails_before_first}
-use Rattle.reading_core.specs.Lines.{line_feed}
-use Rattle.reading_core.specs.Reading.{Gives}
+use Rattle.base.specs.Lines.{line_feed}
+use Rattle.base.specs.Reading.{Gives}
 use Rattle.moment_core.specs.StandardRules.{standard_rules}
 use Rattle.script_core.specs.declared.part_reader.PartReader.{PartReader}
 use Rattle.script_core.specs.declared.script.Script.{Script}

@@ -3,9 +3,9 @@ use Rattle.std.proofs.Common.{◌≡◌, ℕ, ◌-◌, ◌^◌, Bool, true, fals
 use Rattle.std.specs.List.{list_all, position_or_len, before_first, after_first}
 use Rattle.std.proofs.lemmas.Bool.{and_parts}
 use Rattle.std.proofs.lemmas.Bool.Decides.{nat_tests}
-use Rattle.reading_core.specs.Decimal.{signed_of}
-use Rattle.reading_core.specs.Reading.{◌>>◌, unless, Gives}
-use Rattle.reading_core.proofs.Binds.{bind_ok, ok_is, err_is, refused_as_ok}
+use Rattle.base.specs.Decimal.{signed_of}
+use Rattle.base.specs.Reading.{◌>>◌, unless, Gives}
+use Rattle.base.proofs.Binds.{bind_ok, ok_is, err_is, refused_as_ok}
 use Rattle.label_sets.proofs.SampleTexts.{uncut}
 use Rattle.label_sets.specs.SampleText.{sample_of, pattern_of}
 use Rattle.label_sets.specs.declared.sample.Sample.{Sample}

@@ -1,6 +1,6 @@
 -- What `Script::read` answers.
 use Rattle.std.proofs.Common.{◌≡◌, ◌≢◌, ℕ, ◌≤◌, true, List, [], ◌∷◌, ◌++◌, length, Option, Some, None, is_some, Result, Ok, Err, IfOk, MatchResult, inl, inr, sym, ap, ◌∙◌, subst, arith}
-use Rattle.reading_core.proofs.Binds.{one_answer, ok_not_err}
+use Rattle.base.proofs.Binds.{one_answer, ok_not_err}
 use Rattle.moment_core.specs.StandardRules.{standard_rules}
 use Rattle.script_fields.specs.declared.line_kind.LineKind.TheVariants as kinds
 use Rattle.script_core.specs.declared.script.Script.{Script}
@@ -19,7 +19,7 @@ use Rattle.script_core.proofs.FoundSetup.{closed}
 use Rattle.script_core.proofs.AgainLines.{script_again}
 use Rattle.script_core.proofs.Kept.{so_far_of, start_kept, start_is}
 use Rattle.script_core.proofs.LawfulScripts.{spelled_lawful}
-use Rattle.list_core.proofs.Lists.{pushed_not_nil}
+use Rattle.base.proofs.Lists.{pushed_not_nil}
 
 some_phase : (phases : List Phase) (phase : Option Phase) → is_some phase ≡ true → all_phases phases phase ≢ []
 some_phase phases None some = absurd cc

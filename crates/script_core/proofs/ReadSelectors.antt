@@ -1,8 +1,8 @@
 -- What is read of the text of a selector is what its relations say.
 use Rattle.std.proofs.Common.{◌≡◌, ℕ, Bool, true, false, ◌==◌, List, [], ◌∷◌, length, Result, Ok, Err, ◌⊎◌, inl, inr, refl, ap, ◌∙◌, subst, arith}
 use Rattle.std.proofs.lemmas.Bool.Decides.{nat_tests}
-use Rattle.reading_core.specs.Reading.{◌>>=◌, ◌>>◌, unless, refused_as}
-use Rattle.reading_core.proofs.Binds.{bind_ok, unless_ok, ok_is, refused_as_ok}
+use Rattle.base.specs.Reading.{◌>>=◌, ◌>>◌, unless, refused_as}
+use Rattle.base.proofs.Binds.{bind_ok, unless_ok, ok_is, refused_as_ok}
 use Rattle.matchers.specs.declared.matcher.Matcher.{Matcher}
 use Rattle.matchers.specs.declared.selector_refusal.SelectorRefusal.{SelectorRefusal}
 use Rattle.matchers.specs.declared.selector_refusal.SelectorRefusal.TheVariants as refusals

@@ -9,11 +9,11 @@ use Rattle.std.proofs.lemmas.Int.{ints}
 use Rattle.std.proofs.lemmas.List.{length-append, length-map}
 use Rattle.std.proofs.lemmas.List.Elements.{All-head, All-tail}
 use Rattle.std.proofs.lemmas.List.Folds.{list_all-append}
-use Rattle.reading_core.specs.Decimal.{decimal_text, signed_text}
-use Rattle.reading_core.specs.FixedDigits.{fixed_digits}
-use Rattle.reading_core.proofs.Decimals.{decimal_again, decimal_digits}
-use Rattle.reading_core.proofs.Positional.{length-fixed_digits}
-use Rattle.reading_core.proofs.Printed.{printed_signed}
+use Rattle.base.specs.Decimal.{decimal_text, signed_text}
+use Rattle.base.specs.FixedDigits.{fixed_digits}
+use Rattle.base.proofs.Decimals.{decimal_again, decimal_digits}
+use Rattle.base.proofs.Positional.{length-fixed_digits}
+use Rattle.base.proofs.Printed.{printed_signed}
 use Rattle.label_sets.specs.SampleText.{is_hex_sign, hex_sign, pattern_of, pattern_text, hex_text, hex_number, timed_text, sample_text, spaced_sample_text}
 use Rattle.label_sets.specs.declared.sample.Sample.{Sample}
 use Rattle.label_sets.proofs.HexTexts.{pattern_again}

@@ -17,8 +17,8 @@ use Rattle.label_sets.specs.declared.sample.Sample.{Sample}
 use Rattle.label_sets.proofs.SetLaws.{set_text_again}
 use Rattle.script_fields.specs.declared.line_kind.LineKind.TheVariants as kinds
 use Rattle.script_fields.specs.Fields.{is_empty, is_newline, is_silent, next_field}
-use Rattle.reading_core.specs.Reading.{Gives}
-use Rattle.reading_core.proofs.Binds.{ok_not_err, one_answer, unless_is, unless_ok}
+use Rattle.base.specs.Reading.{Gives}
+use Rattle.base.proofs.Binds.{ok_not_err, one_answer, unless_is, unless_ok}
 use Rattle.script_fields.specs.declared.cause.LineCause.{LineCause}
 use Rattle.script_fields.specs.declared.cause.LineCause.TheVariants as causes
 use Rattle.script_fields.specs.declared.line_refusal.LineRefusal.{LineRefusal}

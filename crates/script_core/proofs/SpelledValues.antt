@@ -10,9 +10,9 @@ use Rattle.std.proofs.lemmas.Bool.Decides.{nat_tests}
 use Rattle.std.proofs.lemmas.Int.{ints}
 use Rattle.std.proofs.lemmas.List.Elements.{All-nil, All-cons, All-head, All-tail}
 use Rattle.std.proofs.lemmas.Bool.{and_parts, le-leb, false_from_ne_true, true≢false}
-use Rattle.list_core.specs.Order.{ComesAfter}
-use Rattle.list_core.proofs.Order.{in_order_tells, order_from_sorted, sorted_from_order}
-use Rattle.list_core.proofs.Membership.{all_members}
+use Rattle.base.specs.Order.{ComesAfter}
+use Rattle.base.proofs.Order.{in_order_tells, order_from_sorted, sorted_from_order}
+use Rattle.base.proofs.Membership.{all_members}
 use Rattle.label_sets.specs.declared.sample.Sample.{Sample}
 use Rattle.label_sets.proofs.TimesWithin.{within_found, within_again}
 use Rattle.label_sets.specs.Times.{times_of, is_within, IsWithin}

@@ -3,11 +3,11 @@ use Rattle.std.proofs.Common.{◌≡◌, ℕ, ◌^◌, ◌<◌, ◌≤◌, ℤ, 
 use Rattle.std.specs.Int.{w64}
 use Rattle.std.specs.Int.RustNames.{FitsSigned}
 use Rattle.std.proofs.lemmas.Bool.Decides.{nat_tests}
-use Rattle.reading_core.specs.Decimal.{decimal_text, signed_text, unsigned_of, signed_of}
-use Rattle.reading_core.proofs.Binds.{bind_ok, unless_ok, ok_is, refused_as_ok, ok_or_ok}
+use Rattle.base.specs.Decimal.{decimal_text, signed_text, unsigned_of, signed_of}
+use Rattle.base.proofs.Binds.{bind_ok, unless_ok, ok_is, refused_as_ok, ok_or_ok}
 use Rattle.std.proofs.lemmas.Bool.{and_parts}
-use Rattle.reading_core.proofs.Parsed.{unsigned_again, unsigned_found}
-use Rattle.reading_core.proofs.ParsedSigned.{signed_again, signed_found}
+use Rattle.base.proofs.Parsed.{unsigned_again, unsigned_found}
+use Rattle.base.proofs.ParsedSigned.{signed_again, signed_found}
 use Rattle.moment_core.proofs.MomentLaws.{moment_of-found, moment_of-only}
 use Rattle.moment_core.proofs.SpanLaws.{span_of-found, span_of-only}
 use Rattle.moment_core.specs.MomentText.{IsMomentText, moment_of}
@@ -23,7 +23,7 @@ use Rattle.script_fields.specs.Values.{is_time, time_field, page_limit_field, st
 use Rattle.script_core.specs.Spelling.{IsValueText}
 use Rattle.moment_core.specs.Limits.{longest_tick}
 use Rattle.script_fields.specs.Limits.{latest_stop}
-use Rattle.list_core.proofs.Options.{option_map-Some}
+use Rattle.base.proofs.Options.{option_map-Some}
 
 pub is_none_is : {A : Type 0} (o : Option A) → is_none o ≡ true → o ≡ None
 is_none_is None h = refl

@@ -3,8 +3,8 @@
 use Rattle.std.specs.Prelude.{ℕ, List, [], length, drop, Bool, not, ◌&&◌, ◌==◌, nat_le, int_lt, ok_or, unwrap_or, Option, None, Some, is_none, is_some, Result, Ok, Err, ℤ, codes}
 use Rattle.std.specs.Str.{bytes_eq}
 use Rattle.std.specs.Ordering.{int_cmp}
-use Rattle.list_core.specs.Order.{are_in_order_after, comes_after}
-use Rattle.reading_core.specs.Reading.{◌>>=◌, ◌>>◌, unless, refused_as}
+use Rattle.base.specs.Order.{are_in_order_after, comes_after}
+use Rattle.base.specs.Reading.{◌>>=◌, ◌>>◌, unless, refused_as}
 use Rattle.label_sets.specs.declared.label.Label.{Label}
 use Rattle.label_sets.specs.declared.label_refusal.LabelRefusal.{LabelRefusal}
 use Rattle.label_sets.specs.declared.sample.Sample.{Sample}

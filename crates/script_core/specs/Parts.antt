@@ -4,14 +4,14 @@ use Rattle.std.specs.List.{flat_map, list_all}
 use Rattle.std.specs.List.Sorted.{IsStrictlySortedBy}
 use Rattle.std.specs.Ordering.{int_cmp}
 use Rattle.std.specs.Str.{is_utf8}
-use Rattle.reading_core.specs.Lines.{line_feed, newline}
+use Rattle.base.specs.Lines.{line_feed, newline}
 use Rattle.label_sets.specs.SampleText.{spaced_sample_text}
 use Rattle.label_sets.specs.SetText.{IsSetText}
 use Rattle.label_sets.specs.Times.{times_of}
 use Rattle.label_sets.specs.declared.label.Label.{Label}
 use Rattle.label_sets.specs.declared.sample.Sample.{Sample}
 use Rattle.moment_core.specs.StandardRules.{standard_rules}
-use Rattle.reading_core.specs.Reading.{◌>>◌, unless}
+use Rattle.base.specs.Reading.{◌>>◌, unless}
 use Rattle.script_fields.specs.declared.cause.LineCause.TheVariants.{BadNumber, BadShape, FallingTimes}
 use Rattle.script_fields.specs.declared.line_refusal.LineRefusal.{LineRefusal}
 use Rattle.script_fields.specs.declared.line_refusal.LineRefusal.TheVariants.{Bad}

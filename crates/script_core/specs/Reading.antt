@@ -1,7 +1,7 @@
 -- Reading a script, line by line.
 use Rattle.std.specs.Prelude.{ℕ, ◌+◌, List, [], ◌∷◌, length, Bool, true, false, nat_lt, ok_or, Option, None, Some, Result, Ok, Err, if◌then◌else◌}
 use Rattle.std.specs.Str.{is_utf8}
-use Rattle.reading_core.specs.Reading.{◌>>=◌, ◌>>◌, refused_as}
+use Rattle.base.specs.Reading.{◌>>=◌, ◌>>◌, refused_as}
 use Rattle.script_fields.specs.Limits.{longest_text}
 use Rattle.script_fields.specs.declared.cause.LineCause.TheVariants as causes
 use Rattle.script_fields.specs.declared.line_kind.LineKind.{LineKind}

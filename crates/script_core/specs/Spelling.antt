@@ -9,7 +9,7 @@ use Rattle.std.specs.List.Sorted.{IsStrictlySortedBy}
 use Rattle.std.specs.Ordering.{int_cmp}
 use Rattle.std.specs.Str.{is_utf8, bytes_eq}
 use Rattle.label_sets.specs.Characters.{space}
-use Rattle.reading_core.specs.Decimal.{decimal_text, signed_text}
+use Rattle.base.specs.Decimal.{decimal_text, signed_text}
 use Rattle.label_sets.specs.Labels.{compare_sets}
 use Rattle.label_sets.specs.Notation.{is_name}
 use Rattle.label_sets.specs.SetText.{IsSetText}

@@ -5,8 +5,8 @@ use Rattle.std.specs.Ordering.{is_eq, match_ordering, nat_cmp}
 use Rattle.std.specs.BTreeMap.{is_at}
 use Rattle.std.specs.BTreeSet.{insert_key}
 use Rattle.std.specs.Str.{bytes_eq}
-use Rattle.list_core.specs.Lists.{is_one_of}
-use Rattle.reading_core.specs.Reading.{◌>>=◌, ◌>>◌, unless}
+use Rattle.base.specs.Lists.{is_one_of}
+use Rattle.base.specs.Reading.{◌>>=◌, ◌>>◌, unless}
 use Rattle.label_sets.specs.Labels.{compare_sets}
 use Rattle.label_sets.specs.declared.label.Label.{Label}
 use Rattle.label_sets.specs.declared.sample.Sample.{Sample}

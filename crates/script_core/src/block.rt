@@ -1,6 +1,6 @@
 use crate::Body;
+use base::{List, NoMemory, TryCopy};
 use label_sets::LabelSet;
-use list_core::{List, NoMemory, TryCopy};
 use ulid_core::Ulid;
 
 /// A block that a script declares, with its external labels.

@@ -1,5 +1,5 @@
+use base::{NoMemory, TryCopy};
 use label_sets::SeriesList;
-use list_core::{NoMemory, TryCopy};
 
 /// Where the series of a declared block come from.
 #[derive(Drop)]

@@ -4,8 +4,8 @@ ghost use Rattle.script_workers.specs.Works.{has_compaction};
 
 use crate::inline_block::InlineBlock;
 use crate::{Block, BlockList, Script};
+use base::NoMemory;
 use label_sets::{Series, Text, TextList};
-use list_core::NoMemory;
 use matchers::{Selector, SelectorList};
 use moment_core::{Partition, PartitionList, Rules};
 use script_fields::{LineCause, LineRefusal, ScriptRefusal, are_within, text_place};
@@ -59,7 +59,7 @@ pub(crate) struct Draft {
 
 impl Draft {
     ghost use Rattle.std.specs.Prelude.{◌≡◌, ◌+◌, [], None, OnOk, ok_or, option_map, length};
-    ghost use Rattle.reading_core.specs.Reading.{Gives};
+    ghost use Rattle.base.specs.Reading.{Gives};
     ghost use Rattle.script_fields.specs.declared.cause.LineCause.TheVariants as causes;
     ghost use Rattle.script_fields.specs.declared.line_refusal.LineRefusal.TheVariants as line_refusals;
     ghost use Rattle.script_fields.specs.declared.script_refusal.ScriptRefusal.TheVariants as script_refusals;

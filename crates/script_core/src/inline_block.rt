@@ -1,7 +1,7 @@
 use crate::series_map::series_list;
 use crate::{Block, Body};
+use base::NoMemory;
 use label_sets::{LabelSet, SampleList, Series};
-use list_core::NoMemory;
 use std::alloc::Global;
 use std::collections::BTreeMap;
 use ulid_core::Ulid;

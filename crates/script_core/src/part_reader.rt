@@ -27,7 +27,7 @@ pub struct PartReader {
 impl PartReader {
     ghost use Rattle.std.specs.Prelude.{◌≡◌, ◌⊎◌, ◌<◌, ◌+◌, ℕ, List, [], ◌∷◌, ◌++◌, IfErr, IfOk, OnOk, IsTrue};
     ghost use Rattle.label_sets.specs.declared.label.Label.{Label};
-    ghost use Rattle.reading_core.specs.Reading.{Gives};
+    ghost use Rattle.base.specs.Reading.{Gives};
     ghost use Rattle.script_fields.specs.Limits.{longest_text};
     ghost use Rattle.script_core.specs.Reading.{script_of};
     ghost use Rattle.script_fields.specs.declared.script_refusal.ScriptRefusal.TheVariants as refusals;

@@ -1,7 +1,7 @@
 //! The lines of phases: their moments and their tasks.
 
 ghost use Rattle.std.specs.Prelude.{◌≡◌, option_copied};
-ghost use Rattle.reading_core.specs.Reading.{Answers, Gives};
+ghost use Rattle.base.specs.Reading.{Answers, Gives};
 ghost use Rattle.script_fields.specs.declared.line_refusal.LineRefusal.TheVariants as line_refusals;
 ghost use Rattle.script_fields.specs.Values.{agree, moment_field};
 ghost use Rattle.script_core.specs.GivenUp.{GivesUnless, IsQueryGivenUp, IsSelectorGivenUp};

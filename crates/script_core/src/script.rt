@@ -1,7 +1,7 @@
 use crate::BlockList;
 use crate::reader::read_script;
+use base::NoMemory;
 use label_sets::TextList;
-use list_core::NoMemory;
 use matchers::SelectorList;
 use moment_core::{PartitionList, Rules};
 use script_fields::ScriptRefusal;

@@ -1,8 +1,8 @@
 ghost use Rattle.std.specs.Prelude.{◌≡◌, map, IfOk};
 ghost use Rattle.script_core.specs.State.{series_of};
 
+use base::NoMemory;
 use label_sets::{LabelSet, SampleList, Series, SeriesList};
-use list_core::NoMemory;
 use std::alloc::Global;
 use std::collections::BTreeMap;
 

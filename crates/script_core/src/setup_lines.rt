@@ -2,7 +2,7 @@
 
 ghost use Rattle.std.specs.Prelude.{◌≡◌, ◌↔◌, IsOkAnd, IsTrue, option_copied};
 ghost use Rattle.std.specs.List.{list_all};
-ghost use Rattle.reading_core.specs.Reading.{Gives};
+ghost use Rattle.base.specs.Reading.{Gives};
 ghost use Rattle.script_fields.specs.declared.line_refusal.LineRefusal.TheVariants as line_refusals;
 ghost use Rattle.script_core.specs.Lines.{rule_line, partition_field, gateway_line, block_head, test_head, block_line, test_shelf, shelf_line, last_labels, line_samples, series_line, first_labels};
 ghost use Rattle.script_core.specs.Parts.{has_field};

@@ -2,7 +2,7 @@
 use Rattle.std.proofs.Common.{◌≡◌, ℕ, ◌+◌, ◌<◌, List, [], ◌∷◌, ◌++◌, length, Option, Some, None, Result, Ok, Err, refl, sym, ap, ◌∙◌, arith, append_assoc, append-nil}
 use Rattle.std.proofs.lemmas.List.{length-append}
 use Rattle.std.proofs.lemmas.List.Splits.{slice_split_at, slice_split_none}
-use Rattle.reading_core.specs.Reading.{◌>>=◌, refused_as}
+use Rattle.base.specs.Reading.{◌>>=◌, refused_as}
 use Rattle.label_sets.specs.SampleText.{sample_of}
 use Rattle.label_sets.specs.declared.sample.Sample.{Sample}
 use Rattle.script_fields.specs.declared.cause.LineCause.{LineCause}

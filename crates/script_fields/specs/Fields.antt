@@ -3,8 +3,8 @@ use Rattle.std.specs.Prelude.{ℕ, List, [], ◌∷◌, length, Bool, not, ◌&&
 use Rattle.std.specs.List.{slice_split, position_or_len, before_first, after_first}
 use Rattle.std.specs.Str.{byte as code, bytes_eq}
 use Rattle.std.specs.Map.{lookup}
-use Rattle.reading_core.specs.Reading.{◌>>◌, unless}
-use Rattle.reading_core.specs.Lines.{line_feed}
+use Rattle.base.specs.Reading.{◌>>◌, unless}
+use Rattle.base.specs.Lines.{line_feed}
 use Rattle.label_sets.specs.Characters.{space}
 use Rattle.script_fields.specs.declared.cause.LineCause.{LineCause}
 use Rattle.script_fields.specs.declared.cause.LineCause.TheVariants.{BadShape}

@@ -1,6 +1,6 @@
 -- What is wrong with a line, as the refusal of that line and of its script.
 use Rattle.std.specs.Prelude.{ℕ, Result}
-use Rattle.reading_core.specs.Reading.{refused_as}
+use Rattle.base.specs.Reading.{refused_as}
 use Rattle.script_fields.specs.declared.cause.LineCause.{LineCause}
 use Rattle.script_fields.specs.declared.line_refusal.LineRefusal.{LineRefusal}
 use Rattle.script_fields.specs.declared.line_refusal.LineRefusal.TheVariants as lines

@@ -1,7 +1,7 @@
 -- The numbers, times, spans and ULIDs that stand in fields.
 use Rattle.std.specs.Prelude.{ℕ, ◌+◌, ◌%◌, List, [], ◌∷◌, ◌++◌, Bool, ◌&&◌, ◌==◌, nat_le, nat_lt, Option, None, Some, option_map, ok_or, Result, Ok, ℤ, pos, negsuc, if◌then◌else◌}
-use Rattle.reading_core.specs.Reading.{◌>>=◌, ◌>>◌, unless, refused_as}
-use Rattle.reading_core.specs.Decimal.{unsigned_of, signed_of}
+use Rattle.base.specs.Reading.{◌>>=◌, ◌>>◌, unless, refused_as}
+use Rattle.base.specs.Decimal.{unsigned_of, signed_of}
 use Rattle.ulid_core.specs.UlidText.{ulid_of}
 use Rattle.ulid_core.specs.Reserved.{least_reserved}
 use Rattle.ulid_core.specs.Limits.{entropy_count}

@@ -1,6 +1,6 @@
 -- How reports word a refusal.
 use Rattle.std.specs.Prelude.{ℕ, List, [], ◌++◌, codes}
-use Rattle.reading_core.specs.Decimal.{decimal_text}
+use Rattle.base.specs.Decimal.{decimal_text}
 use Rattle.script_fields.specs.declared.cause.LineCause.{LineCause}
 use Rattle.script_fields.specs.declared.cause.LineCause.TheVariants as causes
 use Rattle.script_fields.specs.declared.script_refusal.ScriptRefusal.{ScriptRefusal}

@@ -1,5 +1,5 @@
 ghost use Rattle.std.specs.Prelude.{◌≡◌};
-ghost use Rattle.reading_core.specs.Reading.{unless};
+ghost use Rattle.base.specs.Reading.{unless};
 ghost use Rattle.script_fields.specs.Wording.{cause_number};
 ghost use Rattle.script_fields.specs.declared.line_refusal.LineRefusal.TheVariants.{Bad};
 

@@ -2,7 +2,7 @@
 
 ghost use Rattle.std.specs.Prelude.{◌≡◌, ◌<◌, length, drop, position, option_copied};
 ghost use Rattle.std.specs.List.{before_first, after_first};
-ghost use Rattle.reading_core.specs.Reading.{Answers};
+ghost use Rattle.base.specs.Reading.{Answers};
 ghost use Rattle.script_fields.specs.Fields.{is_newline, is_silent, next_field, only_field, after_space};
 
 use crate::LineCause;

@@ -2,7 +2,7 @@ ghost use Rattle.std.specs.Prelude.{◌≡◌};
 ghost use Rattle.script_fields.specs.declared.line_refusal.LineRefusal.TheVariants.{Bad, NoMemory};
 
 use crate::{LineCause, ScriptRefusal};
-use list_core::NoMemory;
+use base::NoMemory;
 use std::alloc::{AllocError, AllocFailed};
 
 /// Why a line was refused, without its number.
@@ -21,7 +21,7 @@ pub enum LineRefusal {
 
 impl LineRefusal {
     ghost use Rattle.std.specs.Prelude.{◌≡◌};
-    ghost use Rattle.reading_core.specs.Reading.{unless};
+    ghost use Rattle.base.specs.Reading.{unless};
     ghost use Rattle.script_fields.specs.LineRefusals.{of_line};
 
     /// The refusal of the line with this number.

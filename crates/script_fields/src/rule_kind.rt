@@ -1,4 +1,4 @@
-ghost use Rattle.reading_core.specs.Reading.{Answers, Gives};
+ghost use Rattle.base.specs.Reading.{Answers, Gives};
 ghost use Rattle.script_fields.specs.declared.line_refusal.LineRefusal.TheVariants as line_refusals;
 ghost use Rattle.script_fields.specs.LineRefusals.{bad};
 ghost use Rattle.script_fields.specs.Values.{add_replica, apply_rule, set_retention};

@@ -16,7 +16,7 @@ pub enum RuleName {
 
 impl RuleName {
     ghost use Rattle.std.specs.Prelude.{◌≡◌};
-    ghost use Rattle.reading_core.specs.Reading.{Answers};
+    ghost use Rattle.base.specs.Reading.{Answers};
     ghost use Rattle.script_fields.specs.Fields.{rule_name};
     ghost use Rattle.script_fields.specs.Values.{set_rule};
 

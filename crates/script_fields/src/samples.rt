@@ -1,7 +1,7 @@
 //! The samples of a series line, which single spaces keep apart.
 
 ghost use Rattle.std.specs.Prelude.{◌≡◌};
-ghost use Rattle.reading_core.specs.Reading.{Gives, refused_as};
+ghost use Rattle.base.specs.Reading.{Gives, refused_as};
 ghost use Rattle.label_sets.specs.SampleText.{sample_of};
 ghost use Rattle.script_fields.specs.declared.cause.LineCause.TheVariants.{BadSample};
 ghost use Rattle.script_fields.specs.declared.line_refusal.LineRefusal.TheVariants as line_refusals;
@@ -12,8 +12,8 @@ use crate::LineCause;
 use crate::fields::next_field;
 use crate::line_refusal::LineRefusal;
 use crate::values::is_time;
+use base::{NumberRefusal, read_signed};
 use label_sets::{Sample, SampleList, is_within};
-use reading_core::{NumberRefusal, read_signed};
 use std::alloc::Global;
 
 /// Whether no field is empty.

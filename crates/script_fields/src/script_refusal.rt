@@ -1,11 +1,10 @@
 ghost use Rattle.std.specs.Prelude.{◌≡◌, ◌++◌, IfOk, codes};
-ghost use Rattle.reading_core.specs.Decimal.{decimal_text};
+ghost use Rattle.base.specs.Decimal.{decimal_text};
 ghost use Rattle.script_fields.specs.declared.script_refusal.ScriptRefusal.TheVariants.{NoMemory};
 ghost use Rattle.script_fields.specs.Wording.{cause_number, line_text};
 
 use crate::LineCause;
-use list_core::NoMemory;
-use reading_core::put_unsigned;
+use base::{NoMemory, put_unsigned};
 use std::alloc::Global;
 
 /// Why a text is no script. A number is that of the line, from 1.

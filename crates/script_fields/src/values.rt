@@ -4,9 +4,9 @@ ghost use Rattle.std.specs.Prelude.{◌≡◌};
 ghost use Rattle.script_fields.specs.Values.{time_field, is_time, page_limit_field, stop_count, span_field, tick_field, ulid_field, is_reserved};
 
 use crate::LineCause;
+use base::{read_signed, read_unsigned};
 use label_sets::TIME_LIMIT;
 use moment_core::Span;
-use reading_core::{read_signed, read_unsigned};
 use ulid_core::{LEAST_RESERVED, Ulid};
 
 /// How many names a page has at most.

@@ -1,7 +1,7 @@
 -- Phases that were begun one after another are a run of the script, in whichever order their workers' entries fall.
 use Rattle.std.proofs.Common.{◌≡◌, ◌⊎◌, inl, inr, ℕ, ◌+◌, List, [], ◌∷◌, ◌++◌, length, map, Contains, Some, refl, sym, ◌∙◌, ap, subst, arith}
 use Rattle.std.specs.List.{All, AllByRecursion, AllZip}
-use Rattle.list_core.proofs.Lists.{cons_same}
+use Rattle.base.proofs.Lists.{cons_same}
 use Rattle.std.proofs.lemmas.List.Elements.{All-weaker}
 use Rattle.world_core.specs.declared.entry.Entry.{Entry}
 use Rattle.script_core.specs.Workers.{workers_of}

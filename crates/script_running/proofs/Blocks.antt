@@ -1,7 +1,7 @@
 -- Declared blocks by their ULIDs.
 use Rattle.std.proofs.Common.{◌≡◌, ℕ, Bool, true, false, List, [], ◌∷◌, refl}
 use Rattle.std.specs.Prelude.{◌==◌, ◌≢◌, None, Some, find}
-use Rattle.list_core.proofs.Lists.{find_holds}
+use Rattle.base.proofs.Lists.{find_holds}
 use Rattle.script_core.specs.Blocks.{declares}
 use Rattle.script_core.specs.Lawful.{IsLawfulBlock, IsLawfulScript}
 use Rattle.script_core.specs.declared.script.Script.{Script}

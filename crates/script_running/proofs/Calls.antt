@@ -1,17 +1,17 @@
 -- What a drive of a gateway's call leaves.
 use Rattle.std.proofs.Common.{◌≡◌, ℕ, ℤ, List, refl, ap, subst}
 use Rattle.std.specs.Prelude.{Option, Some, None, option_map, Ok, Err, IfSome}
-use Rattle.activity_runs.specs.Calls.{CallRun, end_by}
-use Rattle.activity_runs.specs.declared.call_left.CallLeft.{CallLeft}
-use Rattle.read_ranges.specs.Reads.{Cache, Query as Question}
-use Rattle.index_cache.specs.declared.cache.IndexCache.{IndexCache}
+use Rattle.store_calls.specs.CallRuns.{CallRun, end_by}
+use Rattle.store_calls.specs.declared.call_left.CallLeft.{CallLeft}
+use Rattle.store_ranges.specs.Reads.{Cache, Query as Question}
+use Rattle.store_ranges.specs.declared.cache.IndexCache.{IndexCache}
 use Rattle.world_core.specs.Machines.{Drives, end_of}
 use Rattle.world_core.specs.declared.driven.Driven.{Driven}
 use Rattle.world_core.specs.declared.driven.Driven.TheVariants.{Ended, Full}
 use Rattle.world_core.specs.declared.entry.Entry.{Entry}
 use Rattle.meta_fetcher.specs.declared.view.View.{View}
 use Rattle.matchers.specs.declared.matcher.Matcher.{Matcher}
-use Rattle.series_calls.specs.SeriesCalls.{CallEnd, SeriesRun, asking}
+use Rattle.store_calls.specs.SeriesCalls.{CallEnd, SeriesRun, asking}
 use Rattle.script_workers.specs.declared.work.Work.TheVariants as works
 use Rattle.lifecycle_core.specs.Holdings.{Use}
 use Rattle.lifecycle_core.specs.Tasks.{answered}

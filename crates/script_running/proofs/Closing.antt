@@ -2,8 +2,8 @@
 use Rattle.std.proofs.Common.{◌≡◌, inl, inr, ℕ, ◌+◌, ◌<◌, List, [], ◌∷◌, ◌++◌, length, map, Contains, Some, refl, sym, ◌∙◌, ap, subst, append_assoc, append-nil, arith}
 use Rattle.std.specs.Prelude.{Ok, Err, slice_get}
 use mathlib.Core.List.{IsPrefix}
-use Rattle.list_core.proofs.Lists.{cons_parts}
-use Rattle.list_core.proofs.Membership.{member_cases, no_member}
+use Rattle.base.proofs.Lists.{cons_parts}
+use Rattle.base.proofs.Membership.{member_cases, no_member}
 use Rattle.world_core.specs.Keeping.{IsFull}
 use Rattle.world_core.specs.Worlds.{IsJournal}
 use Rattle.world_core.specs.declared.entry.Entry.{Entry}

@@ -13,7 +13,7 @@ use Rattle.block_keys.specs.contracts.object.Object as Object
 use Rattle.label_sets.specs.contracts.label_set.LabelSet as LabelSet
 use Rattle.meta_fetcher.specs.contracts.view.View as View
 use Rattle.sync_filters.specs.contracts.found.Found as Found
-use Rattle.index_cache.specs.contracts.cache.IndexCache as IndexCache
+use Rattle.store_ranges.specs.contracts.cache.IndexCache as IndexCache
 use Rattle.script_core.specs.contracts.block.Block as Block
 use Rattle.script_core.specs.contracts.body.Body as Body
 use Rattle.script_workers.specs.contracts.task.Task as Task

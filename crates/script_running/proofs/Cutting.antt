@@ -5,9 +5,9 @@ use Rattle.std.proofs.lemmas.Bool.{cases_Bool, eq-eqb}
 use Rattle.std.proofs.lemmas.Bool.Decides.{nat_tests}
 use Rattle.std.proofs.lemmas.List.{length-append}
 use Rattle.std.proofs.lemmas.List.Elements.{All-contains, Contains-append_left, Contains-append_right, All-from_recursion}
-use Rattle.list_core.proofs.Lists.{cons_parts, filter_hit, filter_miss, nil_not_cons}
-use Rattle.list_core.proofs.Membership.{all_members, contains_first, contains_later, each_member, into_flat_map, into_map, member_cases, member_passes, no_member, of_filter, of_flat_map, of_map}
-use Rattle.list_core.proofs.Numbers.{above_zero}
+use Rattle.base.proofs.Lists.{cons_parts, filter_hit, filter_miss, nil_not_cons}
+use Rattle.base.proofs.Membership.{all_members, contains_first, contains_later, each_member, into_flat_map, into_map, member_cases, member_passes, no_member, of_filter, of_flat_map, of_map}
+use Rattle.base.proofs.Numbers.{above_zero}
 use Rattle.std.specs.Prelude.{nat_lt, Some}
 use Rattle.world_core.specs.Journals.{IsNumbered, entry_at, of_seat}
 use Rattle.world_core.specs.declared.entry.Entry.{Entry}

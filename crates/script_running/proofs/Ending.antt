@@ -5,7 +5,7 @@ use Rattle.std.specs.List.{All, AllByRecursion, AllZip}
 use Rattle.std.proofs.lemmas.List.{length-map}
 use Rattle.std.proofs.lemmas.List.Elements.{All-head, All-nil, All-weaker}
 use Rattle.std.proofs.lemmas.Option.{slice_get_within}
-use Rattle.list_core.proofs.Membership.{no_member}
+use Rattle.base.proofs.Membership.{no_member}
 use Rattle.world_core.specs.declared.entry.Entry.{Entry}
 use Rattle.phase_runner.specs.Phases.{RanTo, Runs}
 use Rattle.script_core.proofs.SeatLaws.{are_seated}

@@ -5,10 +5,10 @@ use Rattle.std.specs.List.{All, AllByRecursion, AllZip, flat_map, range_with_len
 use Rattle.std.proofs.lemmas.List.Elements.{All-contains, All-head, All-tail}
 use Rattle.std.proofs.lemmas.Option.{slice_get_within}
 use Rattle.std.proofs.lemmas.Slice.Zip.{AllZip-long}
-use Rattle.list_core.proofs.Lists.{cons_same}
-use Rattle.list_core.proofs.Membership.{contains_first, contains_later, contains_place, member_cases, no_member, place_of_member}
-use Rattle.list_core.proofs.Pairs.{second_in_zip, beside_first}
-use Rattle.list_core.proofs.Options.{one_value}
+use Rattle.base.proofs.Lists.{cons_same}
+use Rattle.base.proofs.Membership.{contains_first, contains_later, contains_place, member_cases, no_member, place_of_member}
+use Rattle.base.proofs.Pairs.{second_in_zip, beside_first}
+use Rattle.base.proofs.Options.{one_value}
 use Rattle.script_workers.specs.Hands.{gateway_count, gateway_of, hands_of, hands_of_task}
 use Rattle.script_workers.specs.Staff.{AreSeated, IsStaff, IsWorkerOf}
 use Rattle.script_workers.specs.Whose.{IsFor, IsTaskOf, asks, cleans, compacts, ships, syncs}

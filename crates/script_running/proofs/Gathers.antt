@@ -4,8 +4,8 @@ use Rattle.std.specs.Prelude.{IfSome, IsSome, MatchBool, Ok, Err, OnErr, OnOk, R
 use Rattle.std.specs.List.{All}
 use mathlib.Core.List.{IsPrefix}
 use Rattle.std.proofs.lemmas.List.Elements.{All-head, All-tail, All-weaker}
-use Rattle.list_core.specs.declared.memory.NoMemory.{NoMemory}
-use Rattle.list_core.proofs.Membership.{All-place}
+use Rattle.base.specs.declared.memory.NoMemory.{NoMemory}
+use Rattle.base.proofs.Membership.{All-place}
 use Rattle.world_core.specs.declared.entry.Entry.{Entry}
 use Rattle.script_workers.specs.Hands.{gateway_count, hands_of}
 use Rattle.script_workers.specs.Staff.{AreSeated}

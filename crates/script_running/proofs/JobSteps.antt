@@ -19,8 +19,8 @@ use Rattle.script_running.specs.Workers.{HasWorked, IsAtWork, MayWork, Post}
 use Rattle.script_running.specs.declared.came.Broken.TheVariants as broken
 use Rattle.script_running.specs.declared.sight.Sight.{Sight}
 use Rattle.script_running.specs.declared.worker.WorkerEnd.{WorkerEnd}
-use Rattle.list_core.proofs.Options.{one_value}
-use Rattle.list_core.proofs.Membership.{All-place}
+use Rattle.base.proofs.Options.{one_value}
+use Rattle.base.proofs.Membership.{All-place}
 
 rest : {X : Type 0} (xs ys : List X) → drop (length xs) (xs ++ ys) ≡ ys
 rest [] ys = refl

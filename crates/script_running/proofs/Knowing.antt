@@ -4,7 +4,7 @@ use Rattle.std.specs.List.{All, AllByRecursion}
 use Rattle.std.proofs.lemmas.List.Elements.{All-from_recursion, All-nil, All-push}
 use Rattle.std.proofs.lemmas.Option.{slice_get_within}
 use mathlib.Core.List.{IsPrefix}
-use Rattle.list_core.proofs.Lists.{AllByRecursion-weaker, map-push, flat_map-push}
+use Rattle.base.proofs.Lists.{AllByRecursion-weaker, map-push, flat_map-push}
 use Rattle.world_core.specs.Journals.{entry_at}
 use Rattle.world_core.specs.Operations.{entry_of}
 use Rattle.world_core.specs.declared.acted.Acted.TheVariants.{Done}

@@ -5,9 +5,9 @@ use Rattle.std.specs.List.{All, AllZip}
 use Rattle.std.proofs.lemmas.List.{length-append, length-take-le, take-append-drop}
 use Rattle.std.proofs.lemmas.List.Elements.{All-contains, All-from_recursion, All-head, All-weaker}
 use Rattle.std.proofs.lemmas.Option.{slice_get_within}
-use Rattle.list_core.proofs.Lists.{drop_place, take_place}
-use Rattle.list_core.proofs.Membership.{all_members, contains_place, place_of_member}
-use Rattle.list_core.proofs.Pairs.{AllZip-as_long}
+use Rattle.base.proofs.Lists.{drop_place, take_place}
+use Rattle.base.proofs.Membership.{all_members, contains_place, place_of_member}
+use Rattle.base.proofs.Pairs.{AllZip-as_long}
 use Rattle.world_core.specs.Operations.{entry_of}
 use Rattle.world_core.specs.declared.acted.Acted.TheVariants.{Done, Full, NoMemory}
 use Rattle.world_core.specs.declared.entry.Entry.{Entry}

@@ -9,10 +9,10 @@ use Rattle.block_keys.specs.declared.object.Object.{Object}
 use Rattle.block_meta.specs.MetaFields.{MetaFields, fields_of}
 use Rattle.block_meta.specs.MetaValue.{meta_text}
 use Rattle.block_meta.specs.declared.block_plan.BlockPlan.{BlockPlan}
-use Rattle.block_files.specs.Built.{objects_of}
-use Rattle.block_files.specs.declared.block_files.BlockFiles.{BlockFiles}
-use Rattle.block_files.specs.declared.build_refusal.BuildRefusal.{BuildRefusal}
-use Rattle.block_laws.specs.PutContent.{AreBytes}
+use Rattle.block_meta.specs.Built.{objects_of}
+use Rattle.block_meta.specs.declared.block_files.BlockFiles.{BlockFiles}
+use Rattle.block_meta.specs.declared.build_refusal.BuildRefusal.{BuildRefusal}
+use Rattle.block_merging.specs.PutContent.{AreBytes}
 use Rattle.block_writing.specs.Built.{AreBuildable, AreOfBlock, HaveNoBlock, IsBuilt}
 use Rattle.block_writing.specs.Put.{PlanFields}
 use Rattle.block_writing.specs.Writing.{plan_fields}

@@ -3,8 +3,8 @@ use Rattle.std.proofs.Common.{◌≡◌, ◌≢◌, ◌||◌, ◌⊎◌, inl, in
 use Rattle.std.specs.Prelude.{Ok, Err, Result}
 use Rattle.std.specs.List.{list_any}
 use Rattle.std.proofs.lemmas.List.Elements.{All-head, All-tail, All-weaker}
-use Rattle.list_core.proofs.Membership.{any_of_member}
-use Rattle.list_core.proofs.Bools.{or_false}
+use Rattle.base.proofs.Membership.{any_of_member}
+use Rattle.base.proofs.Bools.{or_false}
 use Rattle.world_turn.specs.declared.view.View.{View as Known}
 use Rattle.script_workers.specs.declared.phase.Phase.{Phase}
 use Rattle.script_running.specs.Gathering.{HaveCome}

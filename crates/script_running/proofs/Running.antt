@@ -2,8 +2,8 @@
 use Rattle.std.proofs.Common.{◌≡◌, ℕ, List, [], length, sym, ap, subst, arith}
 use Rattle.std.specs.Prelude.{Ok, Err, Result}
 use Rattle.std.specs.List.{All}
-use Rattle.list_core.proofs.Lists.{take_none}
-use Rattle.list_core.proofs.Membership.{All-place}
+use Rattle.base.proofs.Lists.{take_none}
+use Rattle.base.proofs.Membership.{All-place}
 use Rattle.world_core.specs.Worlds.{IsJournal}
 use Rattle.world_core.specs.declared.entry.Entry.{Entry}
 use Rattle.world_turn.specs.Closing.{AllJoined, Closes}

@@ -3,9 +3,9 @@ use Rattle.std.proofs.Common.{◌≡◌, ◌≢◌, ℕ, zero, suc, ◌+◌, Lis
 use Rattle.std.specs.Prelude.{slice_get}
 use Rattle.std.specs.List.{All, AllZip}
 use Rattle.std.proofs.lemmas.List.Elements.{All-cons, All-contains, All-head, All-nil}
-use Rattle.list_core.proofs.Lists.{All-append_left, All-append_right, take_none, take_place}
-use Rattle.list_core.proofs.Membership.{contains_place}
-use Rattle.list_core.proofs.Pairs.{AllZip-push}
+use Rattle.base.proofs.Lists.{All-append_left, All-append_right, take_none, take_place}
+use Rattle.base.proofs.Membership.{contains_place}
+use Rattle.base.proofs.Pairs.{AllZip-push}
 use Rattle.script_workers.specs.declared.worker.Worker.{Worker}
 use Rattle.lifecycle_core.specs.Holdings.{Holdings, holding_of, nothing_held}
 use Rattle.script_running.specs.Beside.{AreSeen}

@@ -1,5 +1,5 @@
 -- What is at hand of a block that a script takes from the shelf, and what comes of it.
-use Rattle.list_core.proofs.Lists.{find_holds}
+use Rattle.base.proofs.Lists.{find_holds}
 use Rattle.std.proofs.Common.{◌≡◌, ◌⊎◌, ◌==◌, ℕ, List, Option, None, Some, Result, Ok, Err, inl, inr, refl, sym, ◌∙◌, ap, subst}
 use Rattle.std.specs.Prelude.{IfErr, IfOk, IfSome}
 use Rattle.block_keys.specs.Blocks.{IsBlock}
@@ -7,16 +7,16 @@ use Rattle.block_keys.specs.declared.object.Object.{Object}
 use Rattle.block_meta.specs.Bounds.{HasFittingNumbers}
 use Rattle.block_meta.specs.MetaFields.{fields_of}
 use Rattle.block_meta.specs.MetaValue.{meta_text}
-use Rattle.block_files.specs.Built.{objects_of}
-use Rattle.block_files.specs.declared.block_files.BlockFiles.{BlockFiles}
-use Rattle.block_laws.specs.PutContent.{AreBytes}
+use Rattle.block_meta.specs.Built.{objects_of}
+use Rattle.block_meta.specs.declared.block_files.BlockFiles.{BlockFiles}
+use Rattle.block_merging.specs.PutContent.{AreBytes}
 use Rattle.block_content.proofs.ContentLaws.{content_again}
 use Rattle.block_content.specs.Checking.{HasPassed, Passes}
 use Rattle.block_content.specs.ContentReading.{content_at}
 use Rattle.block_content.specs.Shipped.{shipped_meta}
 use Rattle.block_content.specs.declared.check_refusal.CheckRefusal.{CheckRefusal}
-use Rattle.block_files.specs.declared.build_refusal.BuildRefusal.{BuildRefusal}
-use Rattle.block_files.specs.declared.build_refusal.BuildRefusal.TheVariants as build
+use Rattle.block_meta.specs.declared.build_refusal.BuildRefusal.{BuildRefusal}
+use Rattle.block_meta.specs.declared.build_refusal.BuildRefusal.TheVariants as build
 use Rattle.script_core.specs.declared.block.Block.{Block}
 use Rattle.script_core.specs.declared.body.Body.{Body}
 use Rattle.script_core.specs.declared.body.Body.TheVariants.{OnShelf}

@@ -6,8 +6,8 @@ use Rattle.std.proofs.Math.ListN.{set, length-set}
 use Rattle.std.proofs.lemmas.List.Elements.{All-cons, All-nil, All-push, All-weaker, Contains-append_left, Contains-append_right}
 use Rattle.std.proofs.lemmas.List.{drop_all}
 use Rattle.std.proofs.lemmas.Option.{slice_get-get_or, slice_get_within}
-use Rattle.list_core.proofs.Lists.{drop_none, drop_place, slice_get-set_other}
-use Rattle.list_core.proofs.Membership.{contains_first, contains_later, member_cases, no_member, All-place}
+use Rattle.base.proofs.Lists.{drop_none, drop_place, slice_get-set_other}
+use Rattle.base.proofs.Membership.{contains_first, contains_later, member_cases, no_member, All-place}
 use Rattle.script_workers.specs.declared.worker.Worker.{Worker}
 use Rattle.script_running.specs.declared.gathering.Column.{Column}
 use Rattle.script_running.specs.declared.gathering.Slots.{Slots}

@@ -13,9 +13,9 @@ use Rattle.meta_fetcher.specs.declared.sync_end.SyncEnd.TheVariants as fetched
 use Rattle.meta_fetcher.specs.declared.view.View.{View}
 use Rattle.meta_fetcher.specs.Syncs.{SyncRun}
 use Rattle.matchers.specs.declared.matcher.Matcher.{Matcher}
-use Rattle.read_ranges.specs.Reads.{Cache, Query as Question}
-use Rattle.index_cache.specs.declared.cache.IndexCache.{IndexCache}
-use Rattle.series_calls.specs.SeriesCalls.{CallEnd, SeriesRun, asking, series_call}
+use Rattle.store_ranges.specs.Reads.{Cache, Query as Question}
+use Rattle.store_ranges.specs.declared.cache.IndexCache.{IndexCache}
+use Rattle.store_calls.specs.SeriesCalls.{CallEnd, SeriesRun, asking, series_call}
 use Rattle.world_core.proofs.PlanLaws.{breaks_off}
 use Rattle.cleaner.specs.Cleanings.{cleaning}
 use Rattle.compactor.specs.Compactions.{compaction}

@@ -5,9 +5,9 @@ use Rattle.std.specs.List.{AllZip}
 use Rattle.std.proofs.lemmas.List.{take_all}
 use Rattle.std.proofs.lemmas.List.Elements.{All-contains}
 use Rattle.std.proofs.lemmas.Slice.Zip.{AllZip-long}
-use Rattle.list_core.proofs.Lists.{take_place, slice_get-below}
-use Rattle.list_core.proofs.Membership.{contains_place}
-use Rattle.list_core.proofs.Pairs.{AllZip-push}
+use Rattle.base.proofs.Lists.{take_place, slice_get-below}
+use Rattle.base.proofs.Membership.{contains_place}
+use Rattle.base.proofs.Pairs.{AllZip-push}
 use Rattle.matchers.specs.SelectorRefusals.{IsReadable}
 use Rattle.matchers.specs.SelectorText.{IsSelectorText}
 use Rattle.matchers.specs.declared.matcher.Matcher.{Matcher}

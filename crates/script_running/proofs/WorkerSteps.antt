@@ -26,9 +26,9 @@ use Rattle.script_running.specs.declared.came.Broken.TheVariants as broken
 use Rattle.script_running.specs.declared.part.Part.{Part}
 use Rattle.script_running.specs.declared.sight.Sight.{Sight}
 use Rattle.script_running.specs.declared.worker.WorkerEnd.{WorkerEnd}
-use Rattle.list_core.proofs.Bools.{or_false}
-use Rattle.list_core.proofs.Membership.{All-place}
-use Rattle.list_core.proofs.Lists.{slice_get-below}
+use Rattle.base.proofs.Bools.{or_false}
+use Rattle.base.proofs.Membership.{All-place}
+use Rattle.base.proofs.Lists.{slice_get-below}
 
 -- ---- the tasks at places
 

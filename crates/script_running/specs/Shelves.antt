@@ -3,14 +3,14 @@ use Rattle.std.specs.Prelude.{◌≡◌, ◌==◌, ℕ, List, [], All, Option, N
 use Rattle.block_keys.specs.Blocks.{IsBlock}
 use Rattle.block_keys.specs.declared.key.Key.TheVariants.{Meta}
 use Rattle.block_keys.specs.declared.object.Object.{Object}
-use Rattle.block_files.specs.declared.block_files.BlockFiles.{BlockFiles}
-use Rattle.block_files.specs.declared.build_refusal.BuildRefusal.{BuildRefusal}
-use Rattle.block_files.specs.declared.build_refusal.BuildRefusal.TheVariants as build
+use Rattle.block_meta.specs.declared.block_files.BlockFiles.{BlockFiles}
+use Rattle.block_meta.specs.declared.build_refusal.BuildRefusal.{BuildRefusal}
+use Rattle.block_meta.specs.declared.build_refusal.BuildRefusal.TheVariants as build
 use Rattle.block_meta.specs.Bounds.{HasFittingNumbers}
 use Rattle.block_meta.specs.MetaFields.{fields_of}
 use Rattle.block_meta.specs.MetaValue.{meta_text}
-use Rattle.block_files.specs.Built.{objects_of}
-use Rattle.block_laws.specs.PutContent.{AreBytes}
+use Rattle.block_meta.specs.Built.{objects_of}
+use Rattle.block_merging.specs.PutContent.{AreBytes}
 use Rattle.block_content.specs.Checking.{Passes}
 use Rattle.block_content.specs.ContentReading.{content_at}
 use Rattle.block_content.specs.Shipped.{shipped_meta}

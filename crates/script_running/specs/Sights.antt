@@ -1,8 +1,8 @@
 -- By what a gateway sees, and what it holds then.
 use Rattle.std.specs.Prelude.{◌≡◌, Option, Some, None, option_map}
-use Rattle.read_ranges.specs.Reads.{Cache}
-use Rattle.index_cache.specs.Caches.{held}
-use Rattle.index_cache.specs.declared.cache.IndexCache.{IndexCache}
+use Rattle.store_ranges.specs.Reads.{Cache}
+use Rattle.store_ranges.specs.Caches.{held}
+use Rattle.store_ranges.specs.declared.cache.IndexCache.{IndexCache}
 use Rattle.lifecycle_core.specs.Holdings.{Holding, Use, empty_cache}
 use Rattle.script_running.specs.declared.sight.Sight.{Sight}
 

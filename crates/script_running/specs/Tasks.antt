@@ -4,7 +4,7 @@ use Rattle.world_core.specs.declared.entry.Entry.{Entry}
 use Rattle.meta_fetcher.specs.declared.sync_end.SyncEnd.{SyncEnd}
 use Rattle.meta_fetcher.specs.declared.sync_end.SyncEnd.TheVariants as fetched
 use Rattle.meta_fetcher.specs.declared.view.View.{View}
-use Rattle.read_ranges.specs.Reads.{Query as Question}
+use Rattle.store_ranges.specs.Reads.{Query as Question}
 use Rattle.script_core.specs.Lawful.{IsLawfulWork}
 use Rattle.script_core.specs.declared.script.Script.{Script}
 use Rattle.script_workers.specs.declared.work.Work.{Work}

@@ -22,7 +22,7 @@ ghost use Rattle.script_running.specs.Tasks.{is_full_came};
 ghost use Rattle.script_running.specs.declared.outcome.Outcome.{Outcome};
 
 use crate::{Broken, Means, OutcomeList, Part, Report, Sight, WorkerEnd, WorkerJob, outcome_of};
-use list_core::{NoMemory, TryCopy};
+use base::{NoMemory, TryCopy};
 use querier::CompareWay;
 use script_core::{Phase, Script, Task, Work, Worker};
 use std::alloc::Global;

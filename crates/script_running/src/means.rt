@@ -5,8 +5,8 @@ ghost use Rattle.script_running.specs.Lending.{AreTextsOf};
 
 use crate::ShelfBlock;
 use crate::declared::{block_among, find_block};
+use base::NoMemory;
 use label_sets::{Text, TextList, sample_count};
-use list_core::NoMemory;
 use matchers::{Selector, SelectorList};
 use moment_core::{PartitionList, Rules};
 use script_core::{Block, Body, Script, Work};

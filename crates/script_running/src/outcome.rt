@@ -1,6 +1,6 @@
 ghost use Rattle.std.specs.Prelude.{◌≡◌};
 
-use list_core::List;
+use base::List;
 use querier::{Answer, NamesList};
 
 /// How one activity of the script ended, as its report line tells it. E counts entries of the journal from 1.

@@ -1,6 +1,6 @@
 ghost use Rattle.std.specs.Prelude.{◌≡◌, ◌≢◌, Err, IfErr, IfOk};
 ghost use Rattle.block_keys.specs.Blocks.{IsBlock};
-ghost use Rattle.block_files.specs.Built.{objects_of};
+ghost use Rattle.block_meta.specs.Built.{objects_of};
 ghost use Rattle.block_meta.specs.MetaFields.{fields_of};
 ghost use Rattle.block_meta.specs.MetaValue.{meta_text};
 ghost use Rattle.block_meta.specs.Lawful.{AreLawfulTimes};
@@ -12,12 +12,11 @@ ghost use Rattle.script_running.specs.Shelves.{Knows, WhereRefused, from_built};
 
 use crate::shelf::{ShelfBlock, TOO_LARGE, shelf_objects};
 use crate::unshipped::Unshipped;
-use block_files::{BlockFiles, BuildRefusal, files_objects};
+use base::{NoMemory, TryCopy};
 use block_keys::ObjectList;
-use block_meta::{BlockPlan, ParentList, own_sources};
+use block_meta::{BlockFiles, BlockPlan, BuildRefusal, ParentList, files_objects, own_sources};
 use block_writing::build;
 use label_sets::{SeriesList, Text};
-use list_core::{NoMemory, TryCopy};
 use script_core::{Block, Body};
 use std::alloc::Global;
 

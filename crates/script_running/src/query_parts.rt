@@ -8,7 +8,7 @@ ghost use Rattle.script_running.specs.declared.part.QueryPart.{QueryPart};
 ghost use Rattle.script_running.specs.declared.part.QueryPart.TheVariants as gives;
 
 use crate::{NoAnswer, Outcome, Part, QueryOutcome, QueryPart};
-use list_core::{NoMemory, TryCopy};
+use base::{NoMemory, TryCopy};
 use querier::{CompareWay, Gather, Names, NamesList};
 use std::alloc::Global;
 

@@ -3,7 +3,7 @@ ghost use Rattle.script_workers.specs.declared.task.Task.{Task};
 ghost use Rattle.script_running.specs.declared.outcome.Outcome.{Outcome};
 
 use crate::Outcome;
-use list_core::NoMemory;
+use base::NoMemory;
 use script_core::{Script, Task};
 
 /// A report of a run, to which one task is added after another.

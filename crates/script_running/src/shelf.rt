@@ -5,10 +5,10 @@ ghost use Rattle.lifecycle_core.specs.Shipped.{cause_number};
 ghost use Rattle.script_running.specs.Shelves.{found_in, from_found, numbered_by};
 
 use crate::unshipped::Unshipped;
+use base::{List, NoMemory, TryCopy};
 use block_content::{CheckRefusal, Checked};
-use block_files::BlockFiles;
 use block_keys::ObjectList;
-use list_core::{List, NoMemory, TryCopy};
+use block_meta::BlockFiles;
 use script_core::Block;
 use std::alloc::Global;
 use std::snapshot::Snapshot;

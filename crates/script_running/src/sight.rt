@@ -1,11 +1,11 @@
 ghost use Rattle.std.specs.Prelude.{◌≡◌, IfOk};
-ghost use Rattle.index_cache.specs.Caches.{held};
+ghost use Rattle.store_ranges.specs.Caches.{held};
 ghost use Rattle.script_running.specs.Sights.{cache_of, no_sight};
 
-use index_cache::IndexCache;
-use list_core::NoMemory;
+use base::NoMemory;
 use meta_fetcher::View;
 use std::alloc::Global;
+use store_ranges::IndexCache;
 
 /// How many ranges a cache has room for.
 const MOST_RANGES: usize = 1_024;

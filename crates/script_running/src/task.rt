@@ -3,7 +3,7 @@
 ghost use Rattle.std.specs.Prelude.{◌≡◌, ◌==◌, ◌<◌, ◌||◌, ◌⊎◌, ℕ, List, Err, FitsSigned, Some, IfOk, IfSome, IsTrue, find, length, option_map, slice_get};
 ghost use Rattle.std.specs.Int.{w64};
 ghost use Rattle.world_core.specs.Keeping.{IsFull};
-ghost use Rattle.series_calls.specs.SeriesCalls.{asking};
+ghost use Rattle.store_calls.specs.SeriesCalls.{asking};
 ghost use Rattle.matchers.specs.declared.matcher.Matcher.{Matcher};
 ghost use Rattle.script_workers.specs.declared.work.Work.TheVariants as works;
 ghost use Rattle.lifecycle_core.specs.Conducts.{Who};
@@ -17,12 +17,12 @@ use crate::activity::{call, sync, upload};
 use crate::sight::own_cache;
 use crate::upkeep::{clean, compact};
 use crate::{Broken, Came, Means, NoAnswer, Part, QueryPart, Sight};
-use index_cache::IndexCache;
-use list_core::NoMemory;
+use base::NoMemory;
 use meta_fetcher::View;
 use querier::{Ask, fan_out};
 use script_core::Work;
 use std::alloc::Global;
+use store_ranges::IndexCache;
 use world_core::Hand;
 
 /// Does what one worker has to do for a task, through a hand of the worker's seat: its upload, compaction or cleaning, its gateway's

@@ -14,9 +14,8 @@ ghost use Rattle.script_running.specs.declared.part.Part.TheVariants as part;
 
 use crate::stopping::{Stoppable, stopped_came};
 use crate::{Broken, Came, CleanOutcome, CompactOutcome, Part};
-use activity_runs::{run_cleaning, run_compaction};
-use cleaner::CleanEnd;
-use compactor::CompactEnd;
+use cleaner::{CleanEnd, run_cleaning};
+use compactor::{CompactEnd, run_compaction};
 use moment_core::Rules;
 use std::alloc::Global;
 use world_core::Hand;

@@ -8,8 +8,8 @@ use Rattle.std.specs.declared.cmp.Ordering.TheVariants.{Less}
 use Rattle.std.proofs.lemmas.Bool.{cond_both, false_from_ne_true}
 use Rattle.std.proofs.lemmas.List.Elements.{All-nil, All-cons, All-head, All-tail, All-push, All-weaker, All-from_recursion, All-contains_itself, Contains-append_left}
 use Rattle.std.proofs.lemmas.List.Quantifiers.{all_pairs_push}
-use Rattle.list_core.proofs.Membership.{contains_first, contains_later}
-use Rattle.list_core.proofs.Bools.{nat_cmp-Less}
+use Rattle.base.proofs.Membership.{contains_first, contains_later}
+use Rattle.base.proofs.Bools.{nat_cmp-Less}
 use Rattle.script_workers.specs.declared.hand.Hand.{Hand}
 use Rattle.script_workers.specs.declared.hand.Hand.TheVariants.{Alone, Gateway}
 use Rattle.script_workers.specs.declared.task.Task.{Task}

@@ -7,8 +7,8 @@ ghost use Rattle.script_workers.specs.Hands.{greatest, gateway_count, same_hand,
 
 use crate::hand::Hand;
 use crate::{Task, Work};
+use base::NoMemory;
 use label_sets::TextList;
-use list_core::NoMemory;
 use std::alloc::Global;
 use wire_bytes::NumberList;
 

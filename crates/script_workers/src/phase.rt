@@ -1,5 +1,5 @@
 use crate::TaskList;
-use list_core::{List, NoMemory, TryCopy};
+use base::{List, NoMemory, TryCopy};
 use moment_core::Moment;
 
 /// The tasks from one moment on, in the order of their lines.

@@ -1,5 +1,5 @@
 use crate::Work;
-use list_core::{List, NoMemory, TryCopy};
+use base::{List, NoMemory, TryCopy};
 
 /// A line of a phase, with its number in the script.
 #[derive(Clone, Copy, Debug, PartialEq, Eq)]

@@ -1,4 +1,4 @@
-use list_core::{NoMemory, TryCopy};
+use base::{NoMemory, TryCopy};
 use ulid_core::Ulid;
 
 /// What one line of a phase asks for.

@@ -1,4 +1,4 @@
-use list_core::{List, NoMemory, TryCopy};
+use base::{List, NoMemory, TryCopy};
 use wire_bytes::NumberList;
 
 /// Who does which tasks of a phase.

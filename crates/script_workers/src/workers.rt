@@ -6,7 +6,7 @@ ghost use Rattle.script_workers.specs.Hands.{hands_of, seats_from, worker_of, wo
 use crate::hand::Hand;
 use crate::hands::{hands_of, places_of, small_count};
 use crate::{Phase, Task, Worker, WorkerList};
-use list_core::NoMemory;
+use base::NoMemory;
 use std::alloc::Global;
 
 /// How many seats some phases take.

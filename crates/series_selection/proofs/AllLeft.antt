@@ -6,8 +6,8 @@ use Rattle.std.proofs.lemmas.List.{drop_all, take_more}
 use Rattle.std.proofs.lemmas.List.Concat.{flat_map-append}
 use Rattle.std.proofs.lemmas.List.{append-nil}
 use Rattle.std.proofs.lemmas.List.Elements.{Contains-append_cases}
-use Rattle.list_core.proofs.Membership.{only_member}
-use Rattle.reading_core.specs.Reading.{◌>>=◌}
+use Rattle.base.proofs.Membership.{only_member}
+use Rattle.base.specs.Reading.{◌>>=◌}
 use Rattle.label_sets.specs.declared.label.Label.{Label}
 use Rattle.label_sets.specs.Labels.{value_of}
 use Rattle.matchers.specs.declared.matcher.Matcher.{Matcher}

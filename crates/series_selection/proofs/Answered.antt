@@ -5,9 +5,9 @@ use Rattle.std.specs.List.{Contains, filter, flat_map}
 use Rattle.std.specs.List.Sorted.{IsPermutation, IsStrictlyIncreasing}
 use Rattle.std.proofs.lemmas.List.Elements.{filter_agree, Contains-append_cases}
 use Rattle.std.proofs.lemmas.List.Sorted.{list_any-IsPermutation}
-use Rattle.list_core.proofs.Membership.{contains_first, contains_later, no_member, only_member, of_filter, of_flat_map}
-use Rattle.list_core.specs.Lists.{is_one_of}
-use Rattle.reading_core.specs.Reading.{◌>>=◌, refused_as, Gives}
+use Rattle.base.proofs.Membership.{contains_first, contains_later, no_member, only_member, of_filter, of_flat_map}
+use Rattle.base.specs.Lists.{is_one_of}
+use Rattle.base.specs.Reading.{◌>>=◌, refused_as, Gives}
 use Rattle.label_sets.specs.declared.label.Label.{Label}
 use Rattle.label_sets.specs.Labels.{value_of}
 use Rattle.matchers.specs.declared.matcher.Matcher.{Matcher}
@@ -18,10 +18,10 @@ use Rattle.index_parts.specs.Postings.{IsNextPosting}
 use Rattle.index_parts.specs.PostingsReading.{posting_at}
 use Rattle.index_parts.proofs.ListLaws.{list_again}
 use Rattle.index_parts.proofs.PostingsLaws.{posting_turn}
-use Rattle.index_slices.specs.Parts.{Part, file, HoldsSection}
-use Rattle.index_file.specs.declared.index_series.IndexSeries.{IndexSeries}
-use Rattle.index_file.specs.Opened.{Opened}
-use Rattle.index_file.specs.IndexFile.{IsIndex}
+use Rattle.index_parts.specs.Parts.{Part, file, HoldsSection}
+use Rattle.index_parts.specs.declared.index_series.IndexSeries.{IndexSeries}
+use Rattle.index_parts.specs.Opened.{Opened}
+use Rattle.index_parts.specs.IndexFile.{IsIndex}
 use Rattle.index_v2.specs.declared.refusal.IndexRefusal.{IndexRefusal}
 use Rattle.index_v2.specs.declared.refusal.IndexRefusal.TheVariants.{NoMemory}
 use Rattle.index_v2.specs.Opening.{refused_in}

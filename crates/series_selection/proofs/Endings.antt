@@ -2,15 +2,15 @@
 use Rattle.std.proofs.Common.{◌≡◌, ℕ, not, List, [], ◌∷◌, ◌++◌, Option, Some, None, Result, Ok, Err, refl, sym, ap, ◌∙◌, inl, inr, ◌⊎◌}
 use Rattle.std.specs.Prelude.{slice_get, is_some, if◌then◌else◌, take, IsOk, OnOk, IfErr}
 use Rattle.std.specs.List.{Contains, filter, flat_map}
-use Rattle.list_core.proofs.Membership.{contains_first, contains_later}
-use Rattle.reading_core.specs.Reading.{◌>>=◌, ◌>>◌, refused_as, Gives}
+use Rattle.base.proofs.Membership.{contains_first, contains_later}
+use Rattle.base.specs.Reading.{◌>>=◌, ◌>>◌, refused_as, Gives}
 use Rattle.label_sets.specs.declared.label.Label.{Label}
 use Rattle.label_sets.specs.Labels.{value_of}
 use Rattle.matchers.specs.declared.matcher.Matcher.{Matcher}
 use Rattle.matchers.specs.Selectors.{is_accepted}
 use Rattle.index_parts.specs.declared.postings_row.PostingsRow.{PostingsRow}
-use Rattle.index_slices.specs.Parts.{Part, file, IsPartOf, HoldsSection}
-use Rattle.index_slices.proofs.Slices.{list_of_index}
+use Rattle.index_parts.specs.Parts.{Part, file, IsPartOf, HoldsSection}
+use Rattle.index_parts.proofs.Slices.{list_of_index}
 use Rattle.index_v2.specs.declared.refusal.IndexRefusal.{IndexRefusal}
 use Rattle.index_v2.specs.declared.refusal.IndexRefusal.TheVariants.{NoMemory}
 use Rattle.index_v2.specs.Opening.{refused_in}

@@ -3,19 +3,19 @@ use Rattle.std.proofs.Common.{◌≡◌, ℕ, ◌*◌, ◌≤◌, Bool, true, fa
 use Rattle.std.specs.Prelude.{IfOk, not, if◌then◌else◌}
 use Rattle.std.specs.List.{All, Contains, filter}
 use Rattle.std.proofs.lemmas.List.Elements.{All-contains, All-contains_itself}
-use Rattle.list_core.proofs.Membership.{no_member, of_filter}
-use Rattle.list_core.specs.Lists.{is_one_of}
-use Rattle.reading_core.proofs.Binds.{bind_ok, ok_is}
+use Rattle.base.proofs.Membership.{no_member, of_filter}
+use Rattle.base.specs.Lists.{is_one_of}
+use Rattle.base.proofs.Binds.{bind_ok, ok_is}
 use Rattle.label_sets.specs.declared.label.Label.{Label}
 use Rattle.label_sets.specs.Labels.{value_of}
 use Rattle.label_sets.proofs.LabelValues.{by_bool}
 use Rattle.matchers.specs.declared.matcher.Matcher.{Matcher}
 use Rattle.matchers.specs.Selectors.{is_accepted}
 use Rattle.index_parts.specs.declared.postings_row.PostingsRow.{PostingsRow}
-use Rattle.index_slices.specs.Parts.{Part}
+use Rattle.index_parts.specs.Parts.{Part}
 use Rattle.index_v2.specs.declared.refusal.IndexRefusal.{IndexRefusal}
 use Rattle.index_v2.specs.Held.{Held}
-use Rattle.reading_core.specs.Reading.{Gives}
+use Rattle.base.specs.Reading.{Gives}
 use Rattle.index_v2.specs.declared.refusal.IndexRefusal.TheVariants.{NoMemory}
 use Rattle.series_selection.specs.Selections.{decides}
 use Rattle.series_selection.specs.SelectionSteps.{kept_numbers, numbers_at, left_by, left_by_rows, left_at}

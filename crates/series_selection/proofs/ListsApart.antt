@@ -9,11 +9,11 @@ use Rattle.std.proofs.lemmas.Map.Keys.{sorted_tail}
 use Rattle.std.proofs.lemmas.List.{length-append, length-map}
 use Rattle.std.proofs.lemmas.List.Kept.{IsStrictlySortedBy-filter}
 use Rattle.std.proofs.lemmas.List.Elements.{Contains-append_left, Contains-append_right, Contains-append_cases}
-use Rattle.list_core.proofs.Order.{Less-at_places}
-use Rattle.list_core.proofs.Membership.{contains_first, contains_later, member_cases, no_member, into_map, place_of_member, of_filter, member_passes}
-use Rattle.list_core.proofs.Rising.{rest_rises}
-use Rattle.reading_core.specs.Reading.{refused_as}
-use Rattle.reading_core.proofs.Binds.{ok_is}
+use Rattle.base.proofs.Order.{Less-at_places}
+use Rattle.base.proofs.Membership.{contains_first, contains_later, member_cases, no_member, into_map, place_of_member, of_filter, member_passes}
+use Rattle.base.proofs.Rising.{rest_rises}
+use Rattle.base.specs.Reading.{refused_as}
+use Rattle.base.proofs.Binds.{ok_is}
 use Rattle.label_sets.specs.declared.label.Label.{Label}
 use Rattle.label_sets.specs.Labels.{value_of}
 use Rattle.matchers.specs.declared.matcher.Matcher.{Matcher}
@@ -23,9 +23,9 @@ use Rattle.index_parts.specs.PostingsReading.{posting_at}
 use Rattle.index_parts.specs.Rows.{compare_rows}
 use Rattle.index_parts.proofs.ListLaws.{list_again}
 use Rattle.index_parts.proofs.PostingsLaws.{posting_turn}
-use Rattle.index_slices.specs.Parts.{file}
-use Rattle.index_file.specs.declared.index_series.IndexSeries.{IndexSeries}
-use Rattle.index_file.specs.IndexFile.{IsIndex}
+use Rattle.index_parts.specs.Parts.{file}
+use Rattle.index_parts.specs.declared.index_series.IndexSeries.{IndexSeries}
+use Rattle.index_parts.specs.IndexFile.{IsIndex}
 use Rattle.index_v2.specs.declared.refusal.IndexRefusal.{IndexRefusal}
 use Rattle.index_v2.specs.Opening.{refused_in}
 use Rattle.index_v2.specs.PostingsLists.{list_of}

@@ -6,9 +6,9 @@ use Rattle.std.specs.List.Sorted.{IsStrictlyIncreasing}
 use Rattle.std.specs.Option.{option_or}
 use Rattle.std.proofs.lemmas.Bool.{and_parts, and_from}
 use Rattle.std.proofs.lemmas.List.Elements.{All-nil, All-cons, All-head, All-tail}
-use Rattle.list_core.proofs.Membership.{no_member, of_map, into_map, member_cases}
-use Rattle.list_core.proofs.Rising.{rest_rises}
-use Rattle.list_core.proofs.Bools.{not_both}
+use Rattle.base.proofs.Membership.{no_member, of_map, into_map, member_cases}
+use Rattle.base.proofs.Rising.{rest_rises}
+use Rattle.base.proofs.Bools.{not_both}
 use Rattle.label_sets.specs.declared.label.Label.{Label}
 use Rattle.label_sets.specs.Labels.{value_of, IsLabelSet, StandsBefore, ComesBefore}
 use Rattle.label_sets.specs.Finals.{final_of, is_among}
@@ -23,8 +23,8 @@ use Rattle.index_parts.specs.Postings.{IsNextPosting, IsPostings}
 use Rattle.index_parts.specs.PostingsReading.{posting_at, postings_at}
 use Rattle.index_parts.proofs.ListLaws.{list_again}
 use Rattle.index_parts.proofs.PostingsLaws.{posting_turn}
-use Rattle.index_file.specs.declared.index_series.IndexSeries.{IndexSeries}
-use Rattle.index_file.specs.IndexFile.{IsIndex, AreListed, BelongsTo}
+use Rattle.index_parts.specs.declared.index_series.IndexSeries.{IndexSeries}
+use Rattle.index_parts.specs.IndexFile.{IsIndex, AreListed, BelongsTo}
 use Rattle.index_v2.proofs.ListNumbers.{listed_rises}
 use Rattle.series_selection.specs.Selections.{HasNumber, IsListed, StandsUnder, TakesByRows, TakesBy, IsSelection, AreMatching}
 use Rattle.series_selection.proofs.Taking.{taken_apart, apart_taken, taken_among, among_taken}

@@ -3,11 +3,11 @@ use Rattle.std.proofs.Common.{◌≡◌, ℕ, List, [], ◌∷◌, ◌++◌, Som
 use Rattle.std.specs.List.{Contains, flat_map}
 use Rattle.std.proofs.lemmas.List.{append-nil}
 use Rattle.std.proofs.lemmas.List.Elements.{Contains-append_left, Contains-append_right, Contains-append_cases}
-use Rattle.list_core.proofs.Membership.{contains_first, contains_later, member_cases, no_member}
-use Rattle.reading_core.specs.Reading.{◌>>=◌}
-use Rattle.reading_core.proofs.Binds.{bind_ok, ok_is}
+use Rattle.base.proofs.Membership.{contains_first, contains_later, member_cases, no_member}
+use Rattle.base.specs.Reading.{◌>>=◌}
+use Rattle.base.proofs.Binds.{bind_ok, ok_is}
 use Rattle.index_parts.specs.declared.postings_row.PostingsRow.{PostingsRow}
-use Rattle.index_slices.specs.Parts.{Part}
+use Rattle.index_parts.specs.Parts.{Part}
 use Rattle.index_v2.specs.declared.refusal.IndexRefusal.{IndexRefusal}
 use Rattle.index_v2.specs.PostingsLists.{list_of}
 use Rattle.index_v2.specs.WholeReading.{lists_at}

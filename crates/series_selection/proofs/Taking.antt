@@ -7,18 +7,18 @@ use Rattle.std.specs.Str.{bytes_eq}
 use Rattle.std.specs.Cmp.Lexicographic.{bytes_decides}
 use Rattle.std.proofs.lemmas.Bool.{and_parts, not-true, not_from_false, eqb-true}
 use Rattle.std.proofs.lemmas.List.Elements.{All-nil, All-cons, All-head, All-tail, Contains-append_left, Contains-append_right}
-use Rattle.list_core.proofs.Membership.{contains_first, no_member, member_of_any, any_of_member, member_passes, of_filter, into_filter}
-use Rattle.list_core.specs.Lists.{is_one_of}
-use Rattle.list_core.proofs.Numbers.{equals_itself}
-use Rattle.list_core.proofs.Bools.{not_both}
-use Rattle.reading_core.proofs.Binds.{bind_ok, ok_is}
+use Rattle.base.proofs.Membership.{contains_first, no_member, member_of_any, any_of_member, member_passes, of_filter, into_filter}
+use Rattle.base.specs.Lists.{is_one_of}
+use Rattle.base.proofs.Numbers.{equals_itself}
+use Rattle.base.proofs.Bools.{not_both}
+use Rattle.base.proofs.Binds.{bind_ok, ok_is}
 use Rattle.label_sets.specs.declared.label.Label.{Label}
 use Rattle.label_sets.specs.Labels.{value_of}
 use Rattle.label_sets.proofs.LabelValues.{by_bool}
 use Rattle.matchers.specs.declared.matcher.Matcher.{Matcher}
 use Rattle.matchers.specs.Selectors.{is_accepted}
 use Rattle.index_parts.specs.declared.postings_row.PostingsRow.{PostingsRow}
-use Rattle.index_slices.specs.Parts.{Part}
+use Rattle.index_parts.specs.Parts.{Part}
 use Rattle.index_v2.specs.declared.refusal.IndexRefusal.{IndexRefusal}
 use Rattle.index_v2.specs.Held.{Held}
 use Rattle.index_v2.specs.PostingsLists.{list_of}

@@ -2,14 +2,14 @@
 use Rattle.std.proofs.Common.{◌≡◌, ◌≢◌, ℕ, zero, suc, ◌+◌, ◌*◌, ◌<◌, ◌≤◌, Bool, true, false, cond, List, [], ◌∷◌, ◌++◌, length, sum_by, take, drop, Option, Some, Result, Ok, Err, refl, sym, ap, subst, ◌∙◌, arith, inl, inr}
 use mathlib.Core.Bool.{beq}
 use Rattle.std.specs.Prelude.{slice_get, not, if◌then◌else◌, OnOk, IfOk}
-use Rattle.reading_core.specs.Reading.{Gives}
+use Rattle.base.specs.Reading.{Gives}
 use Rattle.std.specs.List.{filter}
 use Rattle.std.specs.List.Sorted.{IsStrictlyIncreasing, IsStrictlySortedBy}
 use Rattle.std.proofs.lemmas.List.{append-nil, length-append, take-append-drop}
 use Rattle.std.proofs.lemmas.List.Sums.{sum_by-append, sum_by-cons}
 use Rattle.std.proofs.lemmas.List.Elements.{filter-append, Contains-append_cases}
 use Rattle.std.proofs.lemmas.Option.{slice_get_within}
-use Rattle.list_core.proofs.Membership.{no_member, only_member}
+use Rattle.base.proofs.Membership.{no_member, only_member}
 use Rattle.label_sets.proofs.LabelValues.{bytes_eq_differs}
 use Rattle.matchers.specs.declared.condition.Condition.{Condition}
 use Rattle.matchers.specs.declared.matcher.Matcher.{Matcher}
@@ -17,8 +17,8 @@ use Rattle.matchers.specs.Selectors.{is_accepted}
 use Rattle.index_parts.specs.declared.postings_row.PostingsRow.{PostingsRow}
 use Rattle.index_parts.specs.Postings.{IsPostings}
 use Rattle.index_parts.specs.Rows.{compare_rows}
-use Rattle.index_file.specs.Opened.{Opened}
-use Rattle.list_core.proofs.Bools.{bytes_eq-itself}
+use Rattle.index_parts.specs.Opened.{Opened}
+use Rattle.base.proofs.Bools.{bytes_eq-itself}
 use Rattle.index_v2.specs.declared.refusal.IndexRefusal.{IndexRefusal}
 use Rattle.index_v2.specs.declared.refusal.IndexRefusal.TheVariants.{NoMemory}
 use Rattle.index_v2.specs.Held.{Held, IsHeldOf}

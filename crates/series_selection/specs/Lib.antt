@@ -2,7 +2,7 @@ pub use Rattle.label_sets.specs.Finals
 pub use Rattle.matchers.specs.Selectors
 pub use Rattle.matchers.specs.SelectorText
 pub use Rattle.index_parts.specs.Postings
-pub use Rattle.index_file.specs.IndexFile
+pub use Rattle.index_parts.specs.IndexFile
 pub use Rattle.index_v2.specs.Held
 pub use Rattle.index_v2.specs.PostingsLists
 pub use Rattle.index_v2.specs.WholeReading

@@ -3,8 +3,8 @@ use Rattle.std.specs.Prelude.{◌≡◌, ℕ, ◌+◌, ◌*◌, ◌≤◌, List,
 use Rattle.std.specs.List.{Contains, filter, flat_map}
 use Rattle.std.specs.List.Sorted.{IsStrictlyIncreasing}
 use Rattle.std.specs.Str.{bytes_eq}
-use Rattle.list_core.specs.Lists.{is_one_of}
-use Rattle.reading_core.specs.Reading.{◌>>=◌}
+use Rattle.base.specs.Lists.{is_one_of}
+use Rattle.base.specs.Reading.{◌>>=◌}
 use Rattle.label_sets.specs.declared.label.Label.{Label}
 use Rattle.label_sets.specs.Labels.{value_of}
 use Rattle.matchers.specs.declared.condition.Condition.{Condition}
@@ -12,8 +12,8 @@ use Rattle.matchers.specs.declared.matcher.Matcher.{Matcher}
 use Rattle.matchers.specs.Selectors.{is_accepted}
 use Rattle.index_parts.specs.declared.postings_row.PostingsRow.{PostingsRow}
 use Rattle.index_parts.specs.Postings.{IsPostings}
-use Rattle.index_slices.specs.Parts.{Part}
-use Rattle.index_file.specs.Opened.{Opened}
+use Rattle.index_parts.specs.Parts.{Part}
+use Rattle.index_parts.specs.Opened.{Opened}
 use Rattle.index_v2.specs.declared.refusal.IndexRefusal.{IndexRefusal}
 use Rattle.index_v2.specs.Held.{Held, IsHeldOf}
 use Rattle.index_v2.specs.Budget.{list_bytes, read_share}

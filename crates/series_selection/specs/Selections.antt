@@ -10,7 +10,7 @@ use Rattle.label_sets.specs.Labels.{value_of}
 use Rattle.label_sets.specs.Finals.{final_of}
 use Rattle.matchers.specs.declared.matcher.Matcher.{Matcher}
 use Rattle.matchers.specs.Selectors.{is_accepted, is_match}
-use Rattle.index_file.specs.declared.index_series.IndexSeries.{IndexSeries}
+use Rattle.index_parts.specs.declared.index_series.IndexSeries.{IndexSeries}
 use Rattle.index_parts.specs.declared.postings_row.PostingsRow.{PostingsRow}
 
 -- Below, Lists says which numbers the list of a row has.

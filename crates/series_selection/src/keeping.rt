@@ -1,10 +1,10 @@
 //! Numbers that are, or are not, among others.
 ghost use Rattle.std.specs.Prelude.{◌≡◌, ◌+◌, ◌-◌, ◌==◌, ◌<◌, ◌≤◌, ℕ, length, slice_index, take, drop, IfOk, true, if◌then◌else◌};
 ghost use Rattle.std.specs.List.Sorted.{IsNonDecreasing, IsStrictlyIncreasing};
-ghost use Rattle.list_core.specs.Lists.{is_one_of};
+ghost use Rattle.base.specs.Lists.{is_one_of};
 ghost use Rattle.series_selection.specs.SelectionSteps.{kept_numbers};
 
-use list_core::NoMemory;
+use base::NoMemory;
 use std::alloc::Global;
 use wire_bytes::NumberList;
 

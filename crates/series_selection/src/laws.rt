@@ -2,9 +2,9 @@
 ghost use Rattle.std.specs.Prelude.{◌≡◌, ◌≤◌, ℕ, List, Ok, length};
 ghost use Rattle.label_sets.specs.declared.label.Label.{Label};
 ghost use Rattle.matchers.specs.declared.matcher.Matcher.{Matcher};
-ghost use Rattle.index_slices.specs.Parts.{file};
-ghost use Rattle.index_file.specs.IndexFile.{IsIndex};
-ghost use Rattle.index_file.specs.declared.index_series.IndexSeries.{IndexSeries};
+ghost use Rattle.index_parts.specs.Parts.{file};
+ghost use Rattle.index_parts.specs.IndexFile.{IsIndex};
+ghost use Rattle.index_parts.specs.declared.index_series.IndexSeries.{IndexSeries};
 ghost use Rattle.series_selection.specs.Selections.{deciding};
 ghost use Rattle.series_selection.specs.SelectionSteps.{numbers_at};
 

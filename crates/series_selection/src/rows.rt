@@ -2,7 +2,7 @@
 ghost use Rattle.std.specs.Prelude.{◌≡◌, ◌⊎◌, ◌+◌, ◌-◌, ◌*◌, ◌^◌, ◌<◌, ◌≤◌, [], ◌++◌, not, true, All, length, min, slice_get, take, Err, IfOk, IfErr, IfSome, OnOk};
 ghost use Rattle.std.specs.List.{filter};
 ghost use Rattle.std.specs.List.Sorted.{IsStrictlyIncreasing};
-ghost use Rattle.reading_core.specs.Reading.{Gives};
+ghost use Rattle.base.specs.Reading.{Gives};
 ghost use Rattle.matchers.specs.ConditionSearches.{condition_asked};
 ghost use Rattle.matchers.specs.Selectors.{is_accepted};
 ghost use Rattle.index_v2.specs.Budget.{read_share};
@@ -11,9 +11,9 @@ ghost use Rattle.index_v2.specs.declared.refusal.IndexRefusal.TheVariants.{NoMem
 ghost use Rattle.series_selection.specs.Selections.{decides};
 ghost use Rattle.series_selection.specs.SelectionSteps.{numbers_at, ListsStand, IsWithinBudget, IsReadOn, IsDecidedBy};
 
+use base::NoMemory;
 use index_v2::{IndexReader, IndexRefusal, READ_SHARE, spend};
 use label_sets::Text;
-use list_core::NoMemory;
 use matchers::{Condition, ConditionSearcher, Matcher};
 use std::alloc::Global;
 use wire_bytes::NumberList;

@@ -1,17 +1,17 @@
 ghost use Rattle.std.specs.Prelude.{◌≡◌, ◌⊎◌, ◌*◌, ◌^◌, ◌<◌, ◌≤◌, ℕ, List, [], All, length, Some, Ok, Err, IfOk, IfErr, IsOk, OnOk, MatchResult, true, if◌then◌else◌};
 ghost use Rattle.std.specs.List.{Contains, filter, flat_map};
 ghost use Rattle.std.specs.List.Sorted.{IsStrictlyIncreasing, IsNonDecreasing, IsPermutation};
-ghost use Rattle.reading_core.specs.Reading.{Gives};
+ghost use Rattle.base.specs.Reading.{Gives};
 ghost use Rattle.label_sets.specs.Labels.{value_of};
 ghost use Rattle.matchers.specs.declared.matcher.Matcher.{Matcher};
 ghost use Rattle.matchers.specs.Selectors.{is_accepted};
 ghost use Rattle.matchers.specs.SelectorText.{named_replicas};
 ghost use Rattle.index_parts.specs.Postings.{IsPostings};
 ghost use Rattle.index_parts.specs.declared.postings_row.PostingsRow.{PostingsRow};
-ghost use Rattle.index_slices.specs.Parts.{file, HoldsSection};
-ghost use Rattle.index_file.specs.IndexFile.{IsIndex};
-ghost use Rattle.index_file.specs.Opened.{Opened};
-ghost use Rattle.index_file.specs.declared.index_series.IndexSeries.{IndexSeries};
+ghost use Rattle.index_parts.specs.Parts.{file, HoldsSection};
+ghost use Rattle.index_parts.specs.IndexFile.{IsIndex};
+ghost use Rattle.index_parts.specs.Opened.{Opened};
+ghost use Rattle.index_parts.specs.declared.index_series.IndexSeries.{IndexSeries};
 ghost use Rattle.index_v2.specs.Held.{IsWhole, IsHeldOf};
 ghost use Rattle.index_v2.specs.PostingsLists.{list_of};
 ghost use Rattle.index_v2.specs.WholeReading.{lists_at};
@@ -22,9 +22,9 @@ ghost use Rattle.series_selection.specs.SelectionSteps.{left_by, left_by_rows, l
 
 use crate::keeping::kept_numbers;
 use crate::rows::{Listed, all_listed, listed_by};
+use base::NoMemory as OutOfMemory;
 use index_v2::{IndexReader, IndexRefusal};
 use label_sets::LabelSet;
-use list_core::NoMemory as OutOfMemory;
 use matchers::{Matcher, Selector};
 use std::alloc::Global;
 use wire_bytes::NumberList;

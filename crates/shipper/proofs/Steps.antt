@@ -31,7 +31,7 @@ use Rattle.shipper.specs.declared.stage.Stage.TheVariants.{Looking, Putting}
 use Rattle.shipper.specs.declared.upload.Upload.{Upload}
 use Rattle.shipper.specs.declared.upload_end.UploadEnd.{UploadEnd}
 use Rattle.shipper.specs.declared.upload_end.UploadEnd.TheVariants.{Done, Already, Fault}
-use Rattle.list_core.proofs.Numbers.{above_zero}
+use Rattle.base.proofs.Numbers.{above_zero}
 
 -- the object at a place, with what is left behind it
 record ObjectAt (objects : List Object) (place : ℕ) : Type 0 where

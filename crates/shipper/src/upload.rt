@@ -11,8 +11,8 @@ ghost use Rattle.shipper.specs.declared.upload_end.UploadEnd.{UploadEnd};
 
 use crate::UploadEnd;
 use crate::stage::Stage;
+use base::NoMemory;
 use block_keys::{Key, Object, ObjectList};
-use list_core::NoMemory;
 use std::collections::VecDeque;
 use std::snapshot::Snapshot;
 use ulid_core::Ulid;

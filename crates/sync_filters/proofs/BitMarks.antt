@@ -13,7 +13,7 @@ use Rattle.std.proofs.lemmas.Bool.Decides.{nat_tests}
 use Rattle.std.proofs.lemmas.Option.{slice_get-map, slice_get-get_or, same_Some}
 use Rattle.std.proofs.lemmas.List.{take_all, length-map}
 use Rattle.std.proofs.lemmas.List.Folds.{list_any_more, list_any_at}
-use Rattle.list_core.proofs.Membership.{member_cases, no_member, contains_first, contains_later}
+use Rattle.base.proofs.Membership.{member_cases, no_member, contains_first, contains_later}
 use Rattle.sync_filters.specs.Filters.{is_better, has_all, has_more}
 use Rattle.sync_filters.specs.Holders.{with_bit, mark_of, mark_at, has_bits, covers_at}
 use Rattle.sync_filters.specs.declared.found.Found.{Found}

@@ -3,9 +3,9 @@ use Rattle.std.proofs.Common.{◌≡◌, ℕ, ◌<◌, List, [], ◌∷◌, leng
 use Rattle.std.specs.List.{Contains}
 use Rattle.std.specs.List.Sorted.{IsStrictlyIncreasing, IsStrictlySortedBy}
 use Rattle.std.proofs.lemmas.Map.Keys.{sorted_from_strictly_increasing, sorted_tail}
-use Rattle.list_core.proofs.Lists.{cons_same}
-use Rattle.list_core.proofs.Membership.{member_cases, contains_first, contains_later}
-use Rattle.list_core.proofs.Rising.{above_first}
+use Rattle.base.proofs.Lists.{cons_same}
+use Rattle.base.proofs.Membership.{member_cases, contains_first, contains_later}
+use Rattle.base.proofs.Rising.{above_first}
 
 -- what is above the first member of one list is behind the first member of the other
 behind_first : (m f x : ℕ) (ms : List ℕ) → IsStrictlySortedBy nat_cmp (m ∷ ms) → Contains (m ∷ ms) f → f < x → Contains (m ∷ ms) x → Contains ms x

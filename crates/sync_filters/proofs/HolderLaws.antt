@@ -10,8 +10,8 @@ use Rattle.std.proofs.lemmas.Bool.Decides.{nat_tests, Decides-int_eq}
 use Rattle.std.proofs.lemmas.Option.{slice_get_within}
 use Rattle.std.proofs.lemmas.List.Elements.{Contains-append_left, Contains-append_right}
 use Rattle.std.proofs.lemmas.List.Sorted.{Contains-permutation}
-use Rattle.list_core.proofs.Membership.{member_of_any, any_of_member, all_at_member, contains_place, place_of_member, into_map, contains_first}
-use Rattle.list_core.proofs.Bools.{equal_tests}
+use Rattle.base.proofs.Membership.{member_of_any, any_of_member, all_at_member, contains_place, place_of_member, into_map, contains_first}
+use Rattle.base.proofs.Bools.{equal_tests}
 use Rattle.block_meta.specs.declared.meta.Meta.{Meta}
 use Rattle.sync_filters.specs.Filters.{has_all, has_more, is_better, is_covered}
 use Rattle.sync_filters.specs.Holders.{holder, AreHolders, HasHoldersOf, HasLargerOf, HasLarger, covers_at, holders_at, each_source, digest_of, digest_alone}

@@ -4,8 +4,8 @@ use Rattle.std.specs.Prelude.{not, is_ok, IfOk}
 use Rattle.std.specs.List.{list_any, filter}
 use Rattle.std.specs.List.Sorted.{IsStrictlyIncreasing, IsBinarySearchResult, IsPermutation, IsNonDecreasingBy}
 use Rattle.std.specs.Ordering.{nat_cmp}
-use Rattle.list_core.specs.declared.memory.NoMemory.{NoMemory}
-use Rattle.list_core.proofs.Rising.{rise_le}
+use Rattle.base.specs.declared.memory.NoMemory.{NoMemory}
+use Rattle.base.proofs.Rising.{rise_le}
 use Rattle.sync_filters.specs.Filters.{is_covered, Splits}
 use Rattle.sync_filters.specs.declared.found.Found.{Found}
 use Rattle.std.proofs.lemmas.Bool.{ne_eqb, eq-eqb, cases_lt}

@@ -4,7 +4,7 @@ use Rattle.std.specs.List.{filter, list_any, list_all}
 use Rattle.std.specs.List.Sorted.{IsPermutation, IsNonDecreasingBy}
 use Rattle.std.specs.Ordering.{int_eq}
 use Rattle.std.specs.Str.{bytes_eq}
-use Rattle.list_core.specs.Lists.{is_one_of}
+use Rattle.base.specs.Lists.{is_one_of}
 use Rattle.ulid_core.specs.Times.{time_of}
 use Rattle.block_meta.specs.declared.deletion_mark.DeletionMark.{DeletionMark}
 use Rattle.block_meta.specs.declared.meta.Meta.{Meta}

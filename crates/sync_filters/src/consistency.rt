@@ -5,7 +5,7 @@ use crate::Found;
 use moment_core::Span;
 
 /// Tells whether a block is old enough to be looked at. A block of a compactor is at any age, for its meta is put last.
-pub fn is_consistent(found: &Found, delay: Span) -> bool
+pub fn consistent(found: &Found, delay: Span) -> bool
     ensures { result ≡ is_consistent found.now delay }
 {
     is_old(found.ulid.time(), delay.ms, found.meta_read.ms)

@@ -2,15 +2,15 @@ ghost use Rattle.std.specs.Prelude.{◌≡◌, ◌==◌, ◌&&◌, pos, not, map
 ghost use Rattle.std.specs.List.{filter, list_any};
 ghost use Rattle.std.specs.List.Sorted.{IsStrictlyIncreasing, IsPermutation, IsNonDecreasingBy, IsSortedBy};
 ghost use Rattle.std.specs.Ordering.{int_eq};
-ghost use Rattle.list_core.specs.Lists.{is_one_of};
+ghost use Rattle.base.specs.Lists.{is_one_of};
 ghost use Rattle.sync_filters.specs.Filters.{is_better, is_covered as is_covered_by, has_more as has_more_than, has_all as has_each, Splits};
 ghost use Rattle.sync_filters.specs.Holders.{AreHolders, comes_before, covers_at, digest_alone, each_source, mark_at};
 
 use crate::digest::{digest, has_bits, mark};
 use crate::holders::{Holder, by_digest, by_source, fewest_larger, holders_of};
 use crate::{Found, FoundList};
+use base::NoMemory;
 use block_meta::Meta;
-use list_core::NoMemory;
 use std::alloc::Global;
 use std::collections::VecDeque;
 use ulid_core::Ulid;

@@ -1,5 +1,5 @@
+use base::{List, NoMemory, TryCopy};
 use block_meta::{DeletionMark, Meta};
-use list_core::{List, NoMemory, TryCopy};
 use moment_core::Moment;
 use ulid_core::Ulid;
 

@@ -5,7 +5,7 @@ ghost use Rattle.sync_filters.specs.Holders.{AreHolders, HasHoldersOf, HasLarger
 use crate::Found;
 use crate::coverage::is_whole;
 use crate::digest::{digest, number_of};
-use list_core::NoMemory;
+use base::NoMemory;
 use std::alloc::Global;
 use std::cmp::Ordering;
 use ulid_core::Ulid;

@@ -10,9 +10,9 @@ mod holders;
 mod marks;
 mod partition;
 
-pub use consistency::is_consistent;
+pub use consistency::consistent;
 pub use coverage::{better, uncovered};
 pub use expiry::is_expired;
 pub use found::{Found, FoundList};
-pub use marks::is_unmarked;
+pub use marks::unmarked;
 pub use partition::in_partition;

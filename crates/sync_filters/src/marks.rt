@@ -6,7 +6,7 @@ use moment_core::{SECOND, Span};
 
 /// Tells whether a block's deletion mark is still to be passed over, as it is while it is not older than the delay.
 /// A mark counts from its second on.
-pub fn is_unmarked(found: &Found, delay: Span) -> bool
+pub fn unmarked(found: &Found, delay: Span) -> bool
     ensures { result ≡ is_unmarked found.now delay }
 {
     match &found.mark {

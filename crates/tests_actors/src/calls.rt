@@ -6,13 +6,12 @@ use crate::runs::add_answers;
 use crate::says::{cut, put, say, say_text};
 use crate::setting::{hand_of, sync_rules};
 use crate::told::print_ops;
-use activity_runs::{CallLeft, run_call, run_sync};
-use index_cache::IndexCache;
 use label_sets::TextList;
 use matchers::Selector;
-use meta_fetcher::{SyncEnd, View};
-use series_calls::SeriesEnd;
+use meta_fetcher::{SyncEnd, View, run_sync};
 use std::alloc::Global;
+use store_calls::{CallLeft, SeriesEnd, run_call};
+use store_ranges::IndexCache;
 use world_core::Driven;
 
 /// Prints the reads and the end of each call of a row: CAPACITY NAME.. / ANSWER.. / QUESTION / QUESTION

@@ -4,13 +4,11 @@ use crate::planning::partition_of;
 use crate::says::{cut, cut_at, number_of, put, say};
 use crate::setting::retention_of;
 use crate::told::print_blocks;
+use base::TryCopy;
 use block_meta::{DeletionMark, Meta};
-use list_core::TryCopy;
 use moment_core::{Moment, Span};
 use std::alloc::Global;
-use sync_filters::{
-    Found, FoundList, in_partition, is_consistent, is_expired, is_unmarked, uncovered,
-};
+use sync_filters::{Found, FoundList, consistent, in_partition, is_expired, uncovered, unmarked};
 
 /// How old a block has to be, half an hour.
 const DELAY: Span = Span { ms: 1_800_000 };
@@ -24,8 +22,8 @@ pub(crate) fn print_kept(rt: &HostRuntime, objects: &[Named], word: &str, text: 
     match found_of(rt.alloc(), objects, block) {
         Some(found) => {
             let kept = match word {
-                "young" => is_consistent(&found, DELAY),
-                "marked" => is_unmarked(&found, MARK_DELAY),
+                "young" => consistent(&found, DELAY),
+                "marked" => unmarked(&found, MARK_DELAY),
                 "expiring" => !is_expired(&found.meta, retention_of(rest), found.meta_read),
                 _ => in_partition(&found.meta, &partition_of(rest)),
             };

@@ -5,9 +5,9 @@ ghost use Rattle.world_core.specs.Operations.{IsLawful};
 
 use crate::names::{Named, bytes_of};
 use crate::says::{cut_at, limit_of, number_of};
+use base::NoMemory;
 use block_keys::Key;
 use label_sets::Text;
-use list_core::NoMemory;
 use moment_core::Moment;
 use std::alloc::Global;
 use ulid_core::Ulid;

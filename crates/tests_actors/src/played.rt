@@ -3,8 +3,8 @@ ghost use Rattle.std.specs.Prelude.{◌≡◌, [], ◌∷◌, ◌++◌, IsTrue, 
 ghost use Rattle.world_core.specs.Operations.{IsLawful, IsReplyTo, entry_of};
 
 use crate::replies::Answer;
+use base::{NoMemory, TryCopy};
 use bucket_core::MemoryBucket;
-use list_core::{NoMemory, TryCopy};
 use moment_core::Moment;
 use std::alloc::Global;
 use std::collections::VecDeque;

@@ -1,8 +1,8 @@
 //! The replies that rows write out.
 use crate::names::{Named, bytes_of, text_of};
 use crate::says::{cut_at, number_of};
+use base::NoMemory;
 use label_sets::{Text, TextList};
-use list_core::NoMemory;
 use std::alloc::Global;
 use wire_bytes::Blob;
 use world_core::Reply;

@@ -11,7 +11,9 @@ use crate::told::{
     print_copies, print_end, print_journal, print_ops, print_seen, print_sync, print_texts,
 };
 use crate::upload::uploaded;
-use activity_runs::{run_cleaning, run_compaction, run_sync};
+use cleaner::run_cleaning;
+use compactor::run_compaction;
+use meta_fetcher::run_sync;
 use moment_core::Rules;
 use std::alloc::Global;
 use world_core::{Acted, Hand};

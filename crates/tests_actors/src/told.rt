@@ -1,8 +1,8 @@
 //! What was done and told.
 use crate::says::{put, say, say_text};
+use base::{NoMemory, TryCopy};
 use block_keys::Key;
 use label_sets::Text;
-use list_core::{NoMemory, TryCopy};
 use meta_fetcher::SyncEnd;
 use std::fmt::Debug;
 use std::str;

@@ -3,10 +3,9 @@ ghost use Rattle.std.specs.Prelude.{ℕ, IfOk};
 ghost use Rattle.block_keys.specs.Blocks.{IsBlock};
 
 use crate::played::Played;
-use activity_runs::run_upload;
+use base::NoMemory;
 use block_keys::{Key, Object, ObjectList};
-use list_core::NoMemory;
-use shipper::UploadEnd;
+use shipper::{UploadEnd, run_upload};
 use std::alloc::Global;
 use ulid_core::Ulid;
 use wire_bytes::Blob;

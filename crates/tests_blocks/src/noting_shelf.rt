@@ -1,8 +1,8 @@
 //! A shelf that notes which names it is asked for.
+use base::NoMemory;
 use bucket_core::{Shelf, ShelfAnswer};
 use dir_bucket::DirShelf;
 use label_sets::{Text, TextList};
-use list_core::NoMemory;
 use std::alloc::Global;
 
 /// The files of a folder, on a shelf that notes the names which it is asked for. One of its readings may be told to fail.

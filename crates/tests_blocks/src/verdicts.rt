@@ -2,9 +2,9 @@
 use crate::checks::verdict_on;
 use crate::says::{put, say, say_text, show};
 use block_content::{CheckRefusal, Checked, content};
-use block_files::BlockFiles;
 use block_keys::Key;
 use block_loading::LoadRefusal;
+use block_meta::BlockFiles;
 use label_sets::Series;
 
 /// Prints whether the block that a row names may be shipped.

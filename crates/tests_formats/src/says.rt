@@ -1,7 +1,7 @@
 //! What the rows print. Want of memory, and a line that cannot be written, show as what is lacking in the output, by which the
 //! row fails; so no call here hands them on.
+use base::TryCopy;
 use label_sets::LabelSet;
-use list_core::TryCopy;
 use std::{fmt, fs, str};
 
 /// Prints a line.

@@ -11,7 +11,7 @@ use Rattle.replay_cli.specs.call_verdicts.specs.declared.status.Status.{Status}
 use Rattle.replay_cli.specs.call_verdicts.specs.declared.status.Status.TheVariants as status
 use Rattle.replay_cli.specs.call_verdicts.specs.declared.verdict.Verdict.{Verdict}
 use Rattle.replay_cli.specs.call_verdicts.specs.declared.verdict.Verdict.TheVariants.{WordsRefused, SourceFault, ScriptRefused, SiteFault, NotEmpty, Full, Report, Checked, NoMemory}
-use Rattle.call_notes.specs.Noted.{calls_told}
+use Rattle.bucket_core.specs.Noted.{calls_told}
 use Rattle.tests_runs.specs.Told.{IsAskedForAll}
 use Rattle.tests_runs.specs.declared.strange_bucket.StrangeBucket.{StrangeBucket}
 

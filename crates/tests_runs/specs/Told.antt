@@ -2,7 +2,7 @@
 use Rattle.std.specs.Prelude.{◌≡◌, List, ◌∷◌, Option, Some}
 use Rattle.world_core.specs.Asking.{calls_of, opening}
 use Rattle.world_core.specs.declared.entry.Entry.{Entry}
-use Rattle.call_notes.specs.Noted.{calls_told}
+use Rattle.bucket_core.specs.Noted.{calls_told}
 use Rattle.tests_runs.specs.declared.strange_bucket.StrangeBucket.{StrangeBucket}
 
 -- for the page that opens it, and then for the calls of the journal

@@ -5,10 +5,9 @@ ghost use Rattle.bucket_core.specs.Causes.{get_failed};
 
 use crate::setting::{Setting, fails_of};
 use bucket_core::{
-    Bucket, DeleteAnswer, GetAnswer, MemoryBucket, MemoryShelf, PageAnswer, PutAnswer, Site,
-    SiteRefusal,
+    Bucket, CallNotes, DeleteAnswer, GetAnswer, MemoryBucket, MemoryShelf, PageAnswer, PutAnswer,
+    Site, SiteRefusal,
 };
-use call_notes::CallNotes;
 use label_sets::{Text, TextList};
 use std::alloc::Global;
 use wire_bytes::Blob;
@@ -75,7 +74,7 @@ fn note(notes: &mut Vec<u8>, kind: &str, name: &str) {
 impl Bucket for StrangeBucket {
     ghost use Rattle.std.specs.Prelude.{None, Some};
     ghost use Rattle.bucket_core.specs.MemoryBucket.{faults_counted};
-    ghost use Rattle.call_notes.specs.Noted.{calls_told};
+    ghost use Rattle.bucket_core.specs.Noted.{calls_told};
 
     ghost contents = { λ b. None };
 

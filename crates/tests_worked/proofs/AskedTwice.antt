@@ -3,12 +3,12 @@ use Rattle.std.proofs.Common.{◌≡◌, ◌≢◌, inl, inr, ◌==◌, pos, fal
 use Rattle.std.specs.List.{All, AllZip}
 use Rattle.std.proofs.lemmas.Bool.Decides.{nat_tests}
 use Rattle.std.proofs.lemmas.List.Elements.{All-cons, All-nil, All-weaker, filter-append}
-use Rattle.list_core.proofs.Lists.{filter_none}
-use Rattle.list_core.proofs.Membership.{only_member}
+use Rattle.base.proofs.Lists.{filter_none}
+use Rattle.base.proofs.Membership.{only_member}
 use Rattle.world_core.specs.declared.entry.Entry.{Entry}
 use Rattle.world_core.proofs.PlanLaws.{same_op}
 use Rattle.meta_fetcher.specs.declared.sync_end.SyncEnd.TheVariants as fetched
-use Rattle.series_calls.specs.SeriesCalls.{CallEnd, SeriesRun, series_call}
+use Rattle.store_calls.specs.SeriesCalls.{CallEnd, SeriesRun, series_call}
 use Rattle.script_workers.specs.declared.phase.Phase.{Phase}
 use Rattle.script_workers.specs.declared.work.Work.TheVariants as works
 use Rattle.script_workers.specs.declared.worker.Worker.{Worker}

@@ -1,6 +1,6 @@
 -- Which entries are the sync of a gateway that asks for the first page twice.
 use Rattle.std.proofs.Common.{◌≡◌, ℕ, suc, List, [], ◌∷◌, ◌++◌, length, Contains, Option, Some, None, inr, refl, sym, ◌∙◌, ap, subst, append_assoc, arith}
-use Rattle.list_core.proofs.Membership.{contains_first}
+use Rattle.base.proofs.Membership.{contains_first}
 use Rattle.std.proofs.lemmas.List.{length-append}
 use Rattle.std.proofs.lemmas.List.Elements.{All-contains}
 use Rattle.ulid_core.specs.UlidText.{ulid_of}

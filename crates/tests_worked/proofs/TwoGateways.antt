@@ -4,8 +4,8 @@ use Rattle.std.specs.Prelude.{slice_get}
 use Rattle.std.specs.List.{find, flat_map, list_any}
 use Rattle.std.specs.List.Sorted.{IsStrictlySortedBy}
 use Rattle.std.proofs.lemmas.List.Elements.{All-cons, All-from_recursion, All-head, All-nil, All-tail}
-use Rattle.list_core.proofs.Lists.{cons_parts, nil_not_cons}
-use Rattle.reading_core.specs.Decimal.{decimal_text, signed_text}
+use Rattle.base.proofs.Lists.{cons_parts, nil_not_cons}
+use Rattle.base.specs.Decimal.{decimal_text, signed_text}
 use Rattle.ulid_core.specs.FixedDigits.{fixed_digits}
 use Rattle.ulid_core.specs.UlidText.{text_of, character, alphabet}
 use Rattle.label_sets.specs.Counts.{sample_count}
@@ -24,7 +24,7 @@ use Rattle.meta_fetcher.specs.declared.rules.SyncRules.{SyncRules}
 use Rattle.meta_fetcher.proofs.Ascending.{kept_ascend}
 use Rattle.meta_fetcher.specs.declared.sync_end.SyncEnd.TheVariants as fetched
 use Rattle.shipper.specs.declared.upload_end.UploadEnd.TheVariants as shipped
-use Rattle.series_calls.specs.SeriesCalls.{asking}
+use Rattle.store_calls.specs.SeriesCalls.{asking}
 use Rattle.querier.specs.declared.ask.Ask.{Ask}
 use Rattle.world_core.specs.Moments.{moment_after, last_moment}
 use Rattle.world_core.specs.Operations.{IsLawful, IsReplyTo}

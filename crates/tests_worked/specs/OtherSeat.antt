@@ -2,10 +2,10 @@
 -- view of the gateway's sync.
 use Rattle.std.specs.Prelude.{pos, List, [], ◌∷◌, ◌++◌}
 use Rattle.world_core.specs.declared.entry.Entry.{Entry}
-use Rattle.read_ranges.specs.Reads.{Query}
-use Rattle.series_calls.specs.SeriesCalls.{asking}
-use Rattle.series_calls.specs.declared.series_end.SeriesEnd.{SeriesEnd}
-use Rattle.series_calls.specs.declared.series_end.SeriesEnd.TheVariants as called
+use Rattle.store_ranges.specs.Reads.{Query}
+use Rattle.store_calls.specs.SeriesCalls.{asking}
+use Rattle.store_calls.specs.declared.series_end.SeriesEnd.{SeriesEnd}
+use Rattle.store_calls.specs.declared.series_end.SeriesEnd.TheVariants as called
 use Rattle.tests_worked.specs.Entries.{clock}
 use Rattle.tests_worked.specs.OneBlock as one
 use Rattle.tests_worked.specs.SmallBlock as small

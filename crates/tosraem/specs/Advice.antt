@@ -1,7 +1,7 @@
 -- What standard error is told of a call, by its status: nothing where there is a report or a verdict, how the program is
 -- called where the words are no form of a call, and else one line that says what to do.
 use Rattle.std.specs.Prelude.{ℕ, List, [], ◌++◌, codes}
-use Rattle.reading_core.specs.Lines.{newline}
+use Rattle.base.specs.Lines.{newline}
 use Rattle.replay_cli.specs.call_verdicts.specs.declared.status.Status.{Status}
 use Rattle.replay_cli.specs.call_verdicts.specs.declared.status.Status.TheVariants.{Done, WordsRefused, ScriptRefused, SourceFault, SinkFault, ActivityFailed, NoMemory, BucketNotEmpty, JournalFull, SiteFault}
 

@@ -4,8 +4,8 @@ use Rattle.std.specs.Int.Digits.{AllBelowBase}
 use Rattle.std.specs.Str.{IsUtf8, IsAscii}
 use Rattle.std.proofs.lemmas.Str.{IsUtf8-from_ascii}
 use Rattle.std.proofs.lemmas.Str.Ascii.{IsAscii-nil, IsAscii-cons}
-use Rattle.reading_core.specs.FixedDigits.{fixed_digits}
-use Rattle.reading_core.proofs.Positional.{below-fixed_digits}
+use Rattle.base.specs.FixedDigits.{fixed_digits}
+use Rattle.base.proofs.Positional.{below-fixed_digits}
 use Rattle.ulid_core.specs.UlidText.{IsUlidText, character, text_of}
 use Rattle.ulid_core.proofs.Tables.{character-range}
 

@@ -10,16 +10,16 @@ use Rattle.std.specs.List.{position, position_or_len}
 use Rattle.std.specs.Option.{is_none, unwrap_or}
 use Rattle.std.specs.Prelude.{IfOk}
 use Rattle.std.specs.Ordering.{nat_cmp, ordering_then}
-use Rattle.reading_core.proofs.Positional.{length-fixed_digits, below-fixed_digits, number-fixed_digits, cmp-digits, number_after-ge}
+use Rattle.base.proofs.Positional.{length-fixed_digits, below-fixed_digits, number-fixed_digits, cmp-digits, number_after-ge}
 use Rattle.ulid_core.proofs.Tables.{digit_of-character, character-digit_of, nat_cmp-character, leb-character}
-use Rattle.reading_core.specs.FixedDigits.{fixed_digits}
+use Rattle.base.specs.FixedDigits.{fixed_digits}
 use Rattle.ulid_core.specs.UlidText.{character, digit_of, IsUlidText, text_of, number_of, bad_place, read_characters, ulid_of}
 use Rattle.ulid_core.specs.declared.refusal.UlidRefusal.{UlidRefusal}
 use Rattle.ulid_core.specs.declared.refusal.UlidRefusal.TheVariants.{BadLength, BadCharacter, TooLarge}
-use Rattle.list_core.proofs.Bools.{by_bool, nat_cmp-Equal}
-use Rattle.list_core.proofs.Lists.{cons_parts, cons_same}
-use Rattle.list_core.proofs.Options.{some_not_none}
-use Rattle.reading_core.proofs.Binds.{cond_ok_second}
+use Rattle.base.proofs.Bools.{by_bool, nat_cmp-Equal}
+use Rattle.base.proofs.Lists.{cons_parts, cons_same}
+use Rattle.base.proofs.Options.{some_not_none}
+use Rattle.base.proofs.Binds.{cond_ok_second}
 
 pub IsUlidText-text_of : (ulid : ℕ) → ulid < 2 ^ 128 → IsUlidText (text_of ulid) ulid
 unfolding text_of

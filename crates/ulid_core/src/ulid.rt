@@ -8,7 +8,7 @@ ghost use Rattle.ulid_core.specs.Limits.{ulid_time_limit, entropy_count};
 
 use crate::UlidRefusal;
 use crate::characters::{TEXT_LENGTH, character, read_number};
-use list_core::{List, NoMemory, TryCopy};
+use base::{List, NoMemory, TryCopy};
 use std::alloc::Global;
 use std::marker::Model;
 

@@ -8,7 +8,7 @@ use Rattle.std.proofs.lemmas.List.{take_more}
 use Rattle.std.proofs.lemmas.List.Elements.{Contains-append_left, Contains-append_right, All-push, All-weaker}
 use Rattle.block_meta.specs.declared.meta.Meta.{Meta}
 use Rattle.vertical_merge.specs.Compacted.{IsLeast, IsGreatest, IsGreatestLevel, IsNextLevel}
-use Rattle.list_core.proofs.Lists.{take_whole}
+use Rattle.base.proofs.Lists.{take_whole}
 
 any_left : {A : Type 0} (P : A → Type 0) (xs ys : List A) → Any P xs → Any P (xs ++ ys)
 any_left P _ _ any =

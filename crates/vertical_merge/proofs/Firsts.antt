@@ -10,11 +10,11 @@ use Rattle.std.specs.List.Sorted.{IsStrictlySortedBy, IsSorted}
 use Rattle.std.proofs.lemmas.Cmp.{tied_itself}
 use Rattle.std.proofs.lemmas.List.Kept.{IsStrictlySortedBy-dedup}
 use Rattle.std.proofs.lemmas.List.Sorted.{ranks_by}
-use Rattle.list_core.specs.Ordered.{in_order, placed}
-use Rattle.list_core.proofs.Bools.{by_bool, swap_tests, Less-from_is_lt, Equal-from_is_eq}
-use Rattle.list_core.proofs.Membership.{member_cases, no_member, each_member, found_among}
-use Rattle.list_core.proofs.StableSorts.{Rises, Rises-in_order}
-use Rattle.list_core.proofs.SameMembers.{same_members}
+use Rattle.base.specs.Ordered.{in_order, placed}
+use Rattle.base.proofs.Bools.{by_bool, swap_tests, Less-from_is_lt, Equal-from_is_eq}
+use Rattle.base.proofs.Membership.{member_cases, no_member, each_member, found_among}
+use Rattle.base.proofs.StableSorts.{Rises, Rises-in_order}
+use Rattle.base.proofs.SameMembers.{same_members}
 
 pub is_some-find : {A : Type 0} (p : A → Bool) (xs : List A) → is_some (find p xs) ≡ list_any p xs
 is_some-find p [] = refl

@@ -6,8 +6,8 @@ use Rattle.std.proofs.lemmas.List.{take-append-drop}
 use Rattle.std.proofs.lemmas.List.Concat.{flat_map-append}
 use Rattle.std.proofs.lemmas.List.Folds.{find-append}
 use Rattle.label_sets.specs.declared.sample.Sample.{Sample}
-use Rattle.list_core.specs.Ordered.{in_order}
-use Rattle.list_core.specs.Lists.{joined as all_of}
+use Rattle.base.specs.Ordered.{in_order}
+use Rattle.base.specs.Lists.{joined as all_of}
 use Rattle.vertical_merge.specs.Joined.{compare_times, has_same_time, first_samples}
 use Rattle.vertical_merge.proofs.Firsts.{own_class, find-firsts, ascending-firsts, same_found}
 use Rattle.vertical_merge.proofs.Orders.{times_total}

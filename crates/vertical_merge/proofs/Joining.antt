@@ -13,12 +13,12 @@ use Rattle.label_sets.specs.declared.series.Series.{Series}
 use Rattle.label_sets.specs.Labels.{compare_sets}
 use Rattle.label_sets.specs.Triples.{Triple, triples_of, triples_under}
 use Rattle.label_sets.proofs.LabelValues.{same_set}
-use Rattle.list_core.specs.Order.{InOrderAfter, ComesAfter}
-use Rattle.list_core.proofs.Bools.{by_bool, by_order, Equal-from_is_eq}
-use Rattle.list_core.proofs.Lists.{map-push, flat_map-push}
-use Rattle.list_core.proofs.Order.{sorted_nil, sorted_from_order}
-use Rattle.list_core.proofs.StableSorts.{Rises}
-use Rattle.list_core.specs.Lists.{joined as all_of}
+use Rattle.base.specs.Order.{InOrderAfter, ComesAfter}
+use Rattle.base.proofs.Bools.{by_bool, by_order, Equal-from_is_eq}
+use Rattle.base.proofs.Lists.{map-push, flat_map-push}
+use Rattle.base.proofs.Order.{sorted_nil, sorted_from_order}
+use Rattle.base.proofs.StableSorts.{Rises}
+use Rattle.base.specs.Lists.{joined as all_of}
 use Rattle.vertical_merge.specs.declared.parts.Parts.{Parts}
 use Rattle.vertical_merge.specs.Joined.{has_lesser_labels, has_same_labels, joined, joined_to, series_of}
 use Rattle.vertical_merge.proofs.Orders.{sets_total}

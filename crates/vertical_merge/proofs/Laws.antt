@@ -10,8 +10,8 @@ use Rattle.std.proofs.lemmas.List.Elements.{All-contains, All-contains_itself, A
 use Rattle.std.proofs.lemmas.Map.Keys.{IsDistinct-from_sorted}
 use Rattle.label_sets.specs.declared.series.Series.{Series}
 use Rattle.label_sets.specs.Triples.{Triple, triples_of, has_same_key, compare_keys, IsOneToOne}
-use Rattle.list_core.proofs.Membership.{member_of_any, any_of_member, found_among}
-use Rattle.list_core.proofs.SameMembers.{same_members}
+use Rattle.base.proofs.Membership.{member_of_any, any_of_member, found_among}
+use Rattle.base.proofs.SameMembers.{same_members}
 use Rattle.vertical_merge.specs.Merged.{AreFirst, IsMerge, IsDeduplication, PatternsAgree}
 use Rattle.vertical_merge.proofs.Firsts.{found_itself, is_some-find}
 use Rattle.vertical_merge.proofs.Orders.{keys_total, same_key}

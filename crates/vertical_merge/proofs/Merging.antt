@@ -16,12 +16,12 @@ use Rattle.label_sets.specs.declared.sample.Sample.{Sample}
 use Rattle.label_sets.specs.declared.series.Series.{Series}
 use Rattle.label_sets.specs.Labels.{compare_sets}
 use Rattle.label_sets.specs.Triples.{Triple, triples_of, triples_under, has_same_key, compare_keys}
-use Rattle.list_core.proofs.Bools.{by_bool, Equal-from_then, Equal-from_is_eq}
-use Rattle.list_core.proofs.Lists.{AllByRecursion-append, AllByRecursion-map, find-map}
-use Rattle.list_core.proofs.Membership.{each_member, all_members, of_map}
-use Rattle.list_core.proofs.Order.{sorted_append, sorted_map}
-use Rattle.list_core.proofs.StableSorts.{Rises-from_sorted}
-use Rattle.list_core.specs.Lists.{joined as all_of}
+use Rattle.base.proofs.Bools.{by_bool, Equal-from_then, Equal-from_is_eq}
+use Rattle.base.proofs.Lists.{AllByRecursion-append, AllByRecursion-map, find-map}
+use Rattle.base.proofs.Membership.{each_member, all_members, of_map}
+use Rattle.base.proofs.Order.{sorted_append, sorted_map}
+use Rattle.base.proofs.StableSorts.{Rises-from_sorted}
+use Rattle.base.specs.Lists.{joined as all_of}
 use Rattle.vertical_merge.specs.declared.parts.Parts.{Parts}
 use Rattle.vertical_merge.specs.Joined.{has_lesser_labels, joined_to, compare_times, series_of, first_samples}
 use Rattle.vertical_merge.specs.Merged.{IsMerge}

@@ -1,6 +1,6 @@
 -- There is one merge of a list of samples.
-use Rattle.list_core.proofs.Membership.{member_of_any}
-use Rattle.list_core.proofs.SameMembers.{same_members}
+use Rattle.base.proofs.Membership.{member_of_any}
+use Rattle.base.proofs.SameMembers.{same_members}
 use Rattle.std.proofs.Common.{◌≡◌, ◌≢◌, Bool, true, List, [], ◌∷◌, ◌++◌, map, Contains, Some, refl, sym, ap, ap₂, subst, ◌∙◌}
 use Rattle.std.specs.Prelude.{All}
 use Rattle.std.specs.List.{AllByRecursion, find, list_any}

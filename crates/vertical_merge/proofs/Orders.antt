@@ -4,8 +4,8 @@ use Rattle.std.specs.declared.cmp.Ordering.TheVariants.{Equal}
 use Rattle.std.specs.Cmp.{IsTotalOrder, IsStrictWeakOrder}
 use Rattle.std.proofs.lemmas.Cmp.{nat_list_cmp_total, lists_total, then_total, on_total, int_cmp_total, tied_itself}
 use Rattle.std.proofs.lemmas.List.Sorted.{ranks_by}
-use Rattle.list_core.proofs.Bools.{Equal-from_then, Equal-from_is_eq}
-use Rattle.list_core.proofs.Integers.{same-from_int_cmp}
+use Rattle.base.proofs.Bools.{Equal-from_then, Equal-from_is_eq}
+use Rattle.base.proofs.Integers.{same-from_int_cmp}
 use Rattle.label_sets.specs.declared.label.Label.{Label}
 use Rattle.label_sets.specs.Labels.{compare_labels, compare_sets}
 use Rattle.label_sets.specs.Triples.{Triple, compare_keys, has_same_key}

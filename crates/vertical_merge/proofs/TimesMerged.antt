@@ -12,10 +12,10 @@ use Rattle.std.proofs.lemmas.List.Sorted.{sorted_far}
 use Rattle.std.proofs.lemmas.Map.Keys.{sorted_from_all_adjacent, Less-from_sorted}
 use Rattle.label_sets.specs.declared.sample.Sample.{Sample}
 use Rattle.label_sets.proofs.RepeatedNames.{tied}
-use Rattle.list_core.specs.Ordered.{placed, in_order}
-use Rattle.list_core.proofs.Bools.{by_bool, Less-from_is_lt, is_lt-from_Less}
-use Rattle.list_core.proofs.Lists.{take_none, drop_none, AllByRecursion-append, AllByRecursion-weaker}
-use Rattle.list_core.proofs.Order.{sorted_drop}
+use Rattle.base.specs.Ordered.{placed, in_order}
+use Rattle.base.proofs.Bools.{by_bool, Less-from_is_lt, is_lt-from_Less}
+use Rattle.base.proofs.Lists.{take_none, drop_none, AllByRecursion-append, AllByRecursion-weaker}
+use Rattle.base.proofs.Order.{sorted_drop}
 use Rattle.vertical_merge.specs.Joined.{compare_times, has_lesser_time, has_same_time, first_samples}
 use Rattle.vertical_merge.proofs.Firsts.{own_class, find-firsts, ascending-firsts, same_found}
 use Rattle.vertical_merge.proofs.Orders.{times_total, times_ranked}

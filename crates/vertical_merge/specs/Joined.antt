@@ -6,8 +6,8 @@ use Rattle.std.specs.List.{dedup}
 use Rattle.label_sets.specs.declared.sample.Sample.{Sample}
 use Rattle.label_sets.specs.declared.series.Series.{Series}
 use Rattle.label_sets.specs.Labels.{compare_sets}
-use Rattle.list_core.specs.Ordered.{in_order}
-use Rattle.list_core.specs.Lists.{joined as all_of}
+use Rattle.base.specs.Ordered.{in_order}
+use Rattle.base.specs.Lists.{joined as all_of}
 use Rattle.vertical_merge.specs.declared.parts.Parts.{Parts}
 
 abbrev pub has_lesser_labels : Series → Series → Bool

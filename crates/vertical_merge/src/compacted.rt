@@ -2,9 +2,9 @@ ghost use Rattle.std.specs.Prelude.{◌≡◌, ◌≤◌, ◌∷◌, map, length
 ghost use Rattle.std.specs.Int.{int_min};
 ghost use Rattle.vertical_merge.specs.Compacted.{IsCompactedPlan, IsLeast, IsGreatest, IsGreatestLevel, parent_of as to_parent};
 
+use base::{List, NoMemory, TryCopy};
 use block_meta::{BlockPlan, Meta, Parent, ParentList, later_end, union_of_sources};
 use label_sets::{LabelSet, Text};
-use list_core::{List, NoMemory, TryCopy};
 use std::alloc::Global;
 use ulid_core::Ulid;
 

@@ -1,14 +1,14 @@
 ghost use Rattle.std.specs.Prelude.{◌≡◌, ◌≢◌, [], ◌++◌, ◌∷◌, List, map, All, IfOk, OnOk, OnErr, IsTrue, ◌↔◌, fold};
 ghost use Rattle.std.specs.List.Sorted.{IsSortedBy, IsStableBy};
-ghost use Rattle.list_core.specs.Lists.{joined as all_of};
+ghost use Rattle.base.specs.Lists.{joined as all_of};
 ghost use Rattle.label_sets.specs.Triples.{Triple, triples_of, triples_under};
 ghost use Rattle.vertical_merge.specs.Merged.{IsMerge, IsDeduplication, PatternsAgree};
 ghost use Rattle.vertical_merge.specs.Joined.{has_lesser_labels, joined_to, series_of, first_samples};
 
 use crate::parts::Parts;
 use crate::sample_merge::first_of_parts;
+use base::{NoMemory, TryCopy};
 use label_sets::{LabelSet, SampleList, Series, SeriesList};
-use list_core::{NoMemory, TryCopy};
 use std::alloc::Global;
 use std::marker::Model;
 

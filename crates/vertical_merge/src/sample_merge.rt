@@ -1,12 +1,12 @@
 //! The first sample at each time. Parts that ascend already are merged, and not sorted anew.
 ghost use Rattle.std.specs.Prelude.{◌≡◌, ◌+◌, ◌<◌, ◌≤◌, ◌++◌, ℕ, length, take, slice_index_or, true, All, IfOk, MatchOption};
 ghost use Rattle.std.specs.List.Sorted.{IsStrictlySortedBy};
-ghost use Rattle.list_core.specs.Lists.{joined as all_of};
+ghost use Rattle.base.specs.Lists.{joined as all_of};
 ghost use Rattle.label_sets.specs.declared.sample.Sample.{Sample};
 ghost use Rattle.vertical_merge.specs.Joined.{compare_times, has_lesser_time, first_samples};
 
+use base::NoMemory;
 use label_sets::{Sample, SampleList};
-use list_core::NoMemory;
 use std::alloc::Global;
 
 /// The samples of all parts in the order of their times, of those at one time the first. The parts are merged two by two.

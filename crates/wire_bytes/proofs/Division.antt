@@ -10,8 +10,8 @@ use Rattle.std.proofs.lemmas.List.{take-append-drop, length-take, nil_from_lengt
 use Rattle.std.proofs.lemmas.List.Sums.{fold-append}
 use Rattle.std.proofs.lemmas.List.Concat.{flat_map-cons}
 use Rattle.std.proofs.lemmas.Grind.{flat_map-append}
-use Rattle.reading_core.specs.Grammar.{IsBytes}
-use Rattle.reading_core.proofs.Fronts.{IsBytes-drop, IsBytes-take}
+use Rattle.base.specs.Grammar.{IsBytes}
+use Rattle.base.proofs.Fronts.{IsBytes-drop, IsBytes-take}
 use Rattle.wire_bytes.specs.Crc.{castagnoli, times_x, times_x_to, with_bit, coefficients, remainder}
 
 -- ---- sums of polynomials

@@ -3,9 +3,9 @@ use Rattle.std.proofs.Common.{◌≡◌, ℕ, ◌+◌, ◌*◌, ◌/◌, ◌%◌
 use Rattle.std.specs.Prelude.{◌↔◌}
 use Rattle.std.proofs.lemmas.Bool.{cases_eq, ne_eqb}
 use Rattle.std.proofs.lemmas.List.{take-append-drop, drop_at, drop-drop, length-take}
-use Rattle.reading_core.specs.Reading.{Steps}
-use Rattle.reading_core.specs.Grammar.{IsBytes, HasFront}
-use Rattle.reading_core.proofs.Binds.{bind_ok, bind_err, ok_is}
+use Rattle.base.specs.Reading.{Steps}
+use Rattle.base.specs.Grammar.{IsBytes, HasFront}
+use Rattle.base.proofs.Binds.{bind_ok, bind_err, ok_is}
 use Rattle.wire_bytes.specs.declared.refusal.WireRefusal.{WireRefusal}
 use Rattle.wire_bytes.specs.declared.refusal.WireRefusal.TheVariants.{Short, Overlong}
 use Rattle.wire_bytes.specs.Position.{Position, left, further}

@@ -2,15 +2,15 @@
 use Rattle.std.proofs.Common.{◌≡◌, ℕ, ◌*◌, ◌%◌, ◌^◌, ◌<◌, ◌≤◌, ltb, false, List, [], ◌∷◌, ◌++◌, length, take, Result, Ok, Err, refl, sym, ap, subst, ◌∙◌, arith, inl, inr}
 use Rattle.std.specs.Prelude.{◌↔◌, IfOk}
 use Rattle.std.specs.Borrow.{Bor}
-use Rattle.reading_core.specs.Reading.{Steps}
+use Rattle.base.specs.Reading.{Steps}
 use Rattle.std.specs.Int.{Width, w8, w16, w32, w64, byte_len, from_be_bytes, to_be_bytes}
 use Rattle.std.specs.List.{flat_map}
 use Rattle.std.proofs.lemmas.List.Concat.{flat_map-cons}
 use Rattle.std.proofs.lemmas.Bool.{cases_lt, ltb-false, le-ltb, lt-ltb}
 use Rattle.std.proofs.lemmas.List.{take_at, take-append-drop, length-append, length-take}
 use Rattle.std.proofs.lemmas.Nat.{be_bytes_2, be_bytes_4, be_bytes_8, from_be_bytes-to_be_bytes_2, from_be_bytes-to_be_bytes_4, from_be_bytes-to_be_bytes_8}
-use Rattle.reading_core.specs.Grammar.{IsBytes, HasFront}
-use Rattle.reading_core.proofs.Binds.{cond_ok, ok_is}
+use Rattle.base.specs.Grammar.{IsBytes, HasFront}
+use Rattle.base.proofs.Binds.{cond_ok, ok_is}
 use Rattle.wire_bytes.specs.declared.refusal.WireRefusal.{WireRefusal}
 use Rattle.wire_bytes.specs.declared.refusal.WireRefusal.TheVariants.{Short}
 use Rattle.wire_bytes.specs.Position.{Position, left, further}
@@ -18,7 +18,7 @@ use Rattle.wire_bytes.specs.Fields.{number_at, bytes_at}
 use Rattle.wire_bytes.specs.FieldTexts.{IsFixed}
 use Rattle.wire_bytes.proofs.FieldLaws.{left-further}
 use Rattle.wire_bytes.proofs.ByteFields.{bytes_parts, bytes_split}
-use Rattle.reading_core.proofs.Fronts.{IsBytes-take}
+use Rattle.base.proofs.Fronts.{IsBytes-take}
 
 -- bytes and their number, both ways
 pub record IsWide (w : Width) : Type 0 where

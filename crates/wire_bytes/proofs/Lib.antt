@@ -8,3 +8,7 @@ pub mod GroupTexts
 pub mod ShortNumbers
 pub mod CrcTables
 pub mod Division
+pub mod BitLists
+pub mod Buffers
+pub mod Crossings
+pub mod Writers

@@ -1,7 +1,7 @@
 -- What reading a field gives at a position: its value and the position after it, or the refusal.
 use Rattle.std.specs.Prelude.{ℕ, zero, suc, ◌+◌, ◌-◌, ◌*◌, ◌/◌, ◌%◌, ◌^◌, List, [], ◌∷◌, length, take, Result, Ok, Err, nat_lt, ◌==◌, if◌then◌else◌, ℤ, pos, negsuc, ◌-ℤ◌}
 use Rattle.std.specs.Int.{Width, byte_len, from_be_bytes}
-use Rattle.reading_core.specs.Reading.{◌>>=◌}
+use Rattle.base.specs.Reading.{◌>>=◌}
 use Rattle.wire_bytes.specs.declared.refusal.WireRefusal.{WireRefusal}
 use Rattle.wire_bytes.specs.declared.refusal.WireRefusal.TheVariants.{Short, Overlong}
 use Rattle.wire_bytes.specs.Position.{Position, left, further}

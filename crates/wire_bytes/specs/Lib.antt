@@ -1,6 +1,6 @@
-pub use Rattle.reading_core.specs.Reading
-pub use Rattle.reading_core.specs.Members
-pub use Rattle.reading_core.specs.Grammar
+pub use Rattle.base.specs.Reading
+pub use Rattle.base.specs.Members
+pub use Rattle.base.specs.Grammar
 pub mod Position
 pub mod Fields
 pub mod FieldTexts
@@ -8,3 +8,6 @@ pub mod Written
 pub mod Crc
 pub mod Kept
 pub mod Files
+pub mod Bits
+pub mod Buffer
+pub mod Writing

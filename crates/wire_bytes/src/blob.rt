@@ -2,7 +2,7 @@ ghost use Rattle.std.specs.Prelude.{◌≡◌, List, ℕ, take, drop, IfOk};
 ghost use Rattle.std.specs.Arc.{arc_value};
 ghost use Rattle.wire_bytes.specs.Kept.{kept_bytes};
 
-use list_core::{List, NoMemory, TryCopy};
+use base::{List, NoMemory, TryCopy};
 use std::alloc::Global;
 use std::marker::Model;
 use std::sync::Arc;

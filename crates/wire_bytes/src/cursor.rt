@@ -1,6 +1,6 @@
 ghost use Rattle.std.specs.Prelude.{◌≡◌, ◌≤◌, ◌<◌, ◌++◌, ◌↔◌, length, Err, IfOk, ℕ, ℤ};
 ghost use Rattle.std.specs.Int.{w8, w16, w32, w64};
-ghost use Rattle.reading_core.specs.Grammar.{IsBytes};
+ghost use Rattle.base.specs.Grammar.{IsBytes};
 ghost use Rattle.wire_bytes.specs.Position.{Position, left, further};
 
 use crate::WireRefusal;
@@ -23,7 +23,7 @@ impl<'a> Model for Cursor<'a> {
 }
 
 impl<'a> Cursor<'a> {
-    ghost use Rattle.reading_core.specs.Reading.{Steps};
+    ghost use Rattle.base.specs.Reading.{Steps};
     ghost use Rattle.wire_bytes.specs.Fields.{bytes_at, number_at, uvarint_at, varint_at};
     ghost use Rattle.wire_bytes.specs.FieldTexts.{IsFixed, IsUvarint, IsVarint, EndsInside, PassesLimit, Found, Only};
 

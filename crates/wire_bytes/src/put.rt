@@ -5,7 +5,7 @@ ghost use Rattle.wire_bytes.specs.FieldTexts.{IsUvarint, IsVarint};
 ghost use Rattle.wire_bytes.specs.Written.{uvarint_text, varint_text};
 
 use crate::varint::{BASE, groups, zigzag};
-use list_core::NoMemory;
+use base::NoMemory;
 
 /// Appends a byte.
 pub fn put_u8(out: &mut Vec<u8>, n: u8) -> Result<(), NoMemory>

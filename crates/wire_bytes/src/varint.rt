@@ -1,5 +1,5 @@
 ghost use Rattle.std.specs.Prelude.{◌≡◌, ◌≤◌, ◌<◌, ◌^◌, ◌*◌, ◌+◌, drop, Ok, suc, length, take, IfOk, IfSome, ℕ, ℤ};
-ghost use Rattle.reading_core.specs.Reading.{Answers};
+ghost use Rattle.base.specs.Reading.{Answers};
 ghost use Rattle.wire_bytes.specs.Fields.{groups_of, field_value, zigzag, unzigzag, group_base, group_count, low_group_count};
 ghost use Rattle.wire_bytes.specs.Written.{uvarint_text};
 

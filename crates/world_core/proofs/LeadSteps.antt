@@ -1,6 +1,6 @@
 -- Steps of machines that wait at a state.
 use Rattle.std.proofs.Common.{◌≡◌, ℕ, ◌≤◌, List, [], ◌∷◌, refl, inr, Option, Some, None, Result, Ok, Err, arith}
-use Rattle.list_core.specs.declared.memory.NoMemory.{NoMemory}
+use Rattle.base.specs.declared.memory.NoMemory.{NoMemory}
 use Rattle.world_core.specs.Leads.{Leads, LeadsBy, after_entry, does}
 use Rattle.world_core.specs.Machines.{GoesOn, Falls}
 use Rattle.world_core.specs.Operations.{entry_of}

@@ -12,3 +12,4 @@ pub mod PlanParts
 pub mod LeadSteps
 pub mod Asking
 pub mod PageNames
+pub mod BegunDrives

@@ -4,7 +4,7 @@ use Rattle.std.specs.List.{AllByRecursion}
 use Rattle.world_core.specs.Plans.{Plan, ends, never, asks, finds, Runs, ComesTo, Keeps, asked}
 use Rattle.world_core.specs.declared.op.Op.{Op}
 use Rattle.world_core.specs.declared.entry.Entry.{Entry}
-use Rattle.list_core.proofs.Lists.{middle_not_nil}
+use Rattle.base.proofs.Lists.{middle_not_nil}
 
 -- ---- runs and their fronts
 

@@ -1,7 +1,7 @@
 -- The words of plans: for what they ask, and to which ends they come, with replies told apart here alone.
 use Rattle.std.proofs.Common.{◌≡◌, ℕ, zero, suc, Bool, true, false, List, [], ◌∷◌, ◌++◌, length, unwrap_or, refl, ap}
 use Rattle.std.specs.Prelude.{nat_lt, nat_le}
-use Rattle.list_core.specs.Order.{are_in_order_after, comes_after}
+use Rattle.base.specs.Order.{are_in_order_after, comes_after}
 use Rattle.label_sets.specs.Labels.{compare_texts}
 use Rattle.block_keys.specs.declared.key.Key.{Key}
 use Rattle.world_core.proofs.PlanLaws.{AsksFor, EndsAre}

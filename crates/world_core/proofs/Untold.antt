@@ -2,7 +2,7 @@
 -- which memory was wanted.
 use Rattle.std.proofs.Common.{◌≡◌, ℕ, false, Option, Some, None, IfSome, option_map, refl, sym, ◌∙◌, ap, subst}
 use Rattle.std.specs.Prelude.{Result, Ok, Err}
-use Rattle.list_core.specs.declared.memory.NoMemory.{NoMemory}
+use Rattle.base.specs.declared.memory.NoMemory.{NoMemory}
 use Rattle.bucket_core.specs.Causes.{KeepsFaults}
 use Rattle.bucket_core.specs.Contents.{Contents}
 use Rattle.world_core.specs.Operations.{has_failed}

@@ -1,6 +1,6 @@
 -- What a call of a machine means that waits at a state, from which what is left is known.
 use Rattle.std.specs.Prelude.{◌≡◌, List, [], Option, Some, Result, Ok, Err}
-use Rattle.list_core.specs.declared.memory.NoMemory.{NoMemory}
+use Rattle.base.specs.declared.memory.NoMemory.{NoMemory}
 use Rattle.world_core.specs.Operations.{IsLawful}
 use Rattle.world_core.specs.Plans.{Plan, Runs, ends, never, asks, finds}
 use Rattle.world_core.specs.declared.op.Op.{Op}

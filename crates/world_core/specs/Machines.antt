@@ -1,6 +1,6 @@
 -- What a machine promises of its calls, what a hand does, and what a drive leaves.
 use Rattle.std.specs.Prelude.{◌≡◌, ◌↔◌, ℕ, ◌<◌, ◌≤◌, Bool, true, false, List, [], ◌∷◌, ◌++◌, length, All, Option, Some, None, Result, Ok, Err}
-use Rattle.list_core.specs.declared.memory.NoMemory.{NoMemory}
+use Rattle.base.specs.declared.memory.NoMemory.{NoMemory}
 use Rattle.world_core.specs.Operations.{IsLawful, IsAnswer, entry_of, has_failed}
 use Rattle.world_core.specs.Stops.{IsStopped}
 use Rattle.world_core.specs.declared.op.Op.{Op}

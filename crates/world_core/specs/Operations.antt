@@ -3,7 +3,7 @@ use Rattle.std.specs.Prelude.{ℕ, ◌<◌, ◌≤◌, Bool, true, false}
 use Rattle.std.specs.List.{AllByRecursion}
 use Rattle.std.specs.Str.{IsUtf8}
 use Rattle.ulid_core.specs.Limits.{ulid_time_limit}
-use Rattle.reading_core.specs.Grammar.{IsBytes}
+use Rattle.base.specs.Grammar.{IsBytes}
 use Rattle.block_keys.specs.Keys.{IsLawfulKey}
 use Rattle.moment_core.specs.Limits.{moment_limit}
 use Rattle.world_core.specs.declared.op.Op.{Op}

@@ -1,6 +1,6 @@
 -- What doing an operation on a bucket means.
 use Rattle.std.specs.Prelude.{◌≡◌, ℕ, Bool, false, Option, IfSome, option_map, Result, Ok, Err, IfOk}
-use Rattle.list_core.specs.declared.memory.NoMemory.{NoMemory}
+use Rattle.base.specs.declared.memory.NoMemory.{NoMemory}
 use Rattle.bucket_core.specs.Causes.{KeepsFaults}
 use Rattle.bucket_core.specs.Contents.{Contents}
 use Rattle.bucket_core.specs.declared.answer.PutAnswer.{PutAnswer}

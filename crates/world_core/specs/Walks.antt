@@ -3,7 +3,7 @@
 use Rattle.std.specs.Prelude.{ℕ, zero, suc, nat_lt, nat_le, List, [], ◌++◌, length, Option, None, unwrap_or}
 use Rattle.std.specs.List.{last_or, filter_map}
 use Rattle.std.specs.Result.{result_ok}
-use Rattle.list_core.specs.Order.{are_in_order_after, comes_after}
+use Rattle.base.specs.Order.{are_in_order_after, comes_after}
 use Rattle.ulid_core.specs.UlidText.{ulid_of}
 use Rattle.label_sets.specs.Labels.{compare_texts}
 use Rattle.world_core.specs.Limits.{most_listed}

@@ -6,10 +6,10 @@ ghost use Rattle.world_core.specs.Operations.{IsLawful};
 ghost use Rattle.world_core.specs.Performing.{IsPerformed, put_reply, get_reply, delete_reply, page_reply};
 
 use crate::{Op, Reply};
+use base::NoMemory;
 use block_keys::Key;
 use bucket_core::{Bucket, DeleteAnswer, GetAnswer, PageAnswer, PutAnswer};
 use label_sets::Text;
-use list_core::NoMemory;
 use std::alloc::Global;
 use ulid_core::Ulid;
 use wire_bytes::Blob;

@@ -6,8 +6,8 @@ ghost use Rattle.world_core.specs.Machines.{Drives, is_driven_full};
 ghost use Rattle.world_core.specs.Worlds.{WorldGoesOn};
 
 use crate::{Act, Acted, Driven, Hand, Machine, World, WorldHand};
+use base::NoMemory;
 use bucket_core::Bucket;
-use list_core::NoMemory;
 
 /// Runs a machine to its end, or until as many operations are answered as `stop` says.
 ///

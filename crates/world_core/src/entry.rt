@@ -1,5 +1,5 @@
 use crate::{Op, Reply};
-use list_core::{List, NoMemory, TryCopy};
+use base::{List, NoMemory, TryCopy};
 use moment_core::Moment;
 
 /// One step of the system: an operation and its reply. Entries are numbered from 1.

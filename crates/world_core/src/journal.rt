@@ -8,8 +8,8 @@ ghost use Rattle.world_core.specs.Performing.{IsPerformed, reply_seen};
 
 use crate::bucket_calls::perform;
 use crate::{Entry, Op, Seen};
+use base::{NoMemory, TryCopy};
 use bucket_core::Bucket;
-use list_core::{NoMemory, TryCopy};
 use moment_core::Moment;
 use std::alloc::Global;
 use std::marker::Model;

@@ -3,6 +3,7 @@
 
 mod act;
 mod acted;
+mod beginning;
 mod bucket_calls;
 mod driven;
 mod driving;
@@ -22,6 +23,7 @@ mod world_hand;
 
 pub use act::Act;
 pub use acted::Acted;
+pub use beginning::run_begun;
 pub use driven::Driven;
 pub use driving::{drive, drive_over};
 pub use entry::{Entry, EntryList};

@@ -4,7 +4,7 @@ ghost use Rattle.world_core.specs.Machines.{GoesOn, Falls};
 ghost use Rattle.world_core.specs.declared.op.Op.{Op};
 
 use crate::{Act, Seen};
-use list_core::NoMemory;
+use base::NoMemory;
 
 /// An activity that asks for one operation at a time, and sees nothing of the world but the replies.
 ///

@@ -1,6 +1,6 @@
+use base::{NoMemory, TryCopy};
 use block_keys::Key;
 use label_sets::Text;
-use list_core::{NoMemory, TryCopy};
 use moment_core::Moment;
 use ulid_core::Ulid;
 use wire_bytes::Blob;

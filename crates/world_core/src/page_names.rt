@@ -1,12 +1,12 @@
 //! The names of a page, on which walks of pages go on.
 ghost use Rattle.std.specs.Prelude.{◌≡◌, ◌<◌, ◌^◌, ◌++◌, nat_lt, length, Some, IfOk, OnOk, IsTrue};
 ghost use Rattle.std.specs.Option.{option_copied};
-ghost use Rattle.list_core.specs.Order.{are_in_order_after, comes_after};
+ghost use Rattle.base.specs.Order.{are_in_order_after, comes_after};
 ghost use Rattle.label_sets.specs.Labels.{compare_texts};
 ghost use Rattle.world_core.specs.Walks.{last_listed, ulids_in};
 
+use base::{NoMemory, TryCopy};
 use label_sets::Text;
-use list_core::{NoMemory, TryCopy};
 use std::collections::VecDeque;
 use ulid_core::Ulid;
 

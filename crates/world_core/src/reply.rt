@@ -1,5 +1,5 @@
+use base::{NoMemory, TryCopy};
 use label_sets::TextList;
-use list_core::{NoMemory, TryCopy};
 use wire_bytes::Blob;
 
 /// What an operation was answered.

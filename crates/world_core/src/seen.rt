@@ -1,5 +1,5 @@
 use crate::Reply;
-use list_core::{NoMemory, TryCopy};
+use base::{NoMemory, TryCopy};
 use moment_core::Moment;
 
 /// What is told of an operation that was done: its entry's number and moment, and the reply.

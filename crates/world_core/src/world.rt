@@ -14,9 +14,9 @@ ghost use Rattle.world_core.specs.Moments.{moment_after, last_moment};
 
 use crate::keeping::{MAX_ENTRIES, MAX_KEPT, put_size, told_size};
 use crate::{Acted, Journal, Op, OpenRefusal};
+use base::NoMemory;
 use bucket_core::{Bucket, PageAnswer};
 use label_sets::{Text, TextList};
-use list_core::NoMemory;
 use moment_core::{Moment, Span};
 use std::alloc::Global;
 use std::marker::Model;

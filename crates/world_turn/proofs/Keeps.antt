@@ -22,7 +22,7 @@ use Rattle.world_turn.specs.Rule.{Fits, HasSeat, IsAsked, IsFrom, IsKept, IsSeen
 use Rattle.world_turn.specs.Closing.{AllJoined, Closes}
 use Rattle.world_turn.specs.Steps.{holding, adding, leaving, leaving_full, leaving_short, looking, one_more, next_seat, joining, comparing, Lies, Takes, Appends, Gives, GivesFull, GivesShort, Counts, Compares}
 use Rattle.world_turn.proofs.Fronts.{of_seat-own, of_seat-other, front_whole, front_none, front_more, front_length, no_front, one_last, longer_front, longer_first, longer_second, longer_whole}
-use Rattle.list_core.proofs.Lists.{AllByRecursion-weaker, AllByRecursion-push}
+use Rattle.base.proofs.Lists.{AllByRecursion-weaker, AllByRecursion-push}
 
 at_lt : {A : Type 0} (l : List A) (i : ℕ) (a : A) → get_elem? l i ≡ some a → i < length l
 at_lt [] i a e = absurd (some-ne-none a (sym e))

@@ -1,6 +1,6 @@
 -- A call through the turn leaves its pass with no less than it knew.
 use Rattle.std.proofs.Common.{◌≡◌, ◌↔◌, ◌||◌, ℕ, Bool, true, false, None, if◌then◌else◌, ne_eqb, ◌+◌, ◌-◌, ◌<◌, ◌≤◌, List, [], ◌∷◌, ◌++◌, length, slice_get, Some, refl, sym, ap, ◌∙◌, subst, arith, le_refl, append-nil, append_assoc}
-use Rattle.list_core.proofs.Bools.{or_false}
+use Rattle.base.proofs.Bools.{or_false}
 use mathlib.Core.List.{IsPrefix}
 use Rattle.world_core.specs.Journals.{entry_at}
 use Rattle.world_core.specs.Keeping.{IsFull}

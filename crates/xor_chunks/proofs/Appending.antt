@@ -2,13 +2,13 @@
 use Rattle.std.proofs.Common.{◌≡◌, ℕ, zero, suc, ◌+◌, ◌-◌, ◌*◌, ◌≤◌, Bool, true, false, List, [], ◌∷◌, ◌++◌, length, Result, Ok, Err, refl, sym, ap, subst, ◌∙◌, length-append, arith, ◌⊎◌, inl, inr}
 use Rattle.std.specs.Prelude.{IfOk, IsOkAnd, IsErrAnd}
 use Rattle.std.proofs.lemmas.List.{append-nil}
-use Rattle.reading_core.specs.Reading.{Gives}
-use Rattle.reading_core.specs.Grammar.{IsBytes}
-use Rattle.reading_core.proofs.Binds.{ok_is}
+use Rattle.base.specs.Reading.{Gives}
+use Rattle.base.specs.Grammar.{IsBytes}
+use Rattle.base.proofs.Binds.{ok_is}
 use Rattle.label_sets.specs.declared.sample.Sample.{Sample}
 use Rattle.xor_chunks.specs.declared.refusal.XorRefusal.{XorRefusal}
 use Rattle.xor_chunks.specs.declared.refusal.XorRefusal.TheVariants.{Trailing, NoMemory}
-use Rattle.wire_bits.specs.Bits.{bits_in}
+use Rattle.wire_bytes.specs.Bits.{bits_in}
 use Rattle.xor_chunks.specs.Samples.{of_first}
 use Rattle.xor_chunks.specs.Data.{count_at, first_at, rest_at, samples_at, is_filling, data_at, with_front, with_samples}
 use Rattle.xor_chunks.specs.Grammar.{IsText}

@@ -4,15 +4,15 @@ use Rattle.std.proofs.Math.Seq.{drop-nil}
 use Rattle.std.proofs.lemmas.Bool.{le-ltb, le-leb}
 use Rattle.std.proofs.lemmas.List.{drop_at, drop-drop, take_rest, take-append-drop, take-append-le, length-append, length-drop}
 use Rattle.std.proofs.lemmas.List.Concat.{flat_map-append}
-use Rattle.reading_core.specs.Reading.{◌>>=◌}
+use Rattle.base.specs.Reading.{◌>>=◌}
 use Rattle.xor_chunks.specs.State.{State, with_pattern}
-use Rattle.wire_bits.specs.Bits.{bits_of, bits_in, number_of, EndWith}
-use Rattle.wire_bits.specs.Buffer.{front, Shows}
+use Rattle.wire_bytes.specs.Bits.{bits_of, bits_in, number_of, EndWith}
+use Rattle.wire_bytes.specs.Buffer.{front, Shows}
 use Rattle.xor_chunks.specs.Window.{Window, told_by, IsInside, is_inside, changed_pattern}
 use Rattle.xor_chunks.specs.Steps.{take_at, behind, change_at, within_at, value_at, time_after, next_at}
 use Rattle.xor_chunks.specs.Spans.{end_at}
-use Rattle.wire_bits.proofs.BitLists.{length-bits_of, bits_of-append, length-bits_in}
-use Rattle.wire_bits.proofs.Buffers.{field_below, front-joined}
+use Rattle.wire_bytes.proofs.BitLists.{length-bits_of, bits_of-append, length-bits_in}
+use Rattle.wire_bytes.proofs.Buffers.{field_below, front-joined}
 use Rattle.xor_chunks.proofs.Takes.{no_change}
 use Rattle.xor_chunks.proofs.Peeks.{head_is, front-drop, same_behind, within_behind, opened_behind, follow_time, next_behind}
 use Rattle.xor_chunks.proofs.Followed.{passed_on}

@@ -10,10 +10,10 @@ use Rattle.std.proofs.lemmas.Nat.{pow-add, shl_whole, or_shifted, mod_below, pow
 use Rattle.xor_chunks.specs.declared.window_setting.WindowSetting.{WindowSetting}
 use Rattle.xor_chunks.specs.declared.window_setting.WindowSetting.TheVariants.{Unset, Set}
 use Rattle.xor_chunks.specs.Window.{Window}
-use Rattle.wire_bits.specs.Bits.{bits_of}
+use Rattle.wire_bytes.specs.Bits.{bits_of}
 use Rattle.xor_chunks.specs.Written.{fits_field, change_bits, reused, value_bits, window_after, window_around, trail}
-use Rattle.wire_bits.proofs.BitLists.{length-bits_of, bits_of-mod}
-use Rattle.wire_bits.proofs.Buffers.{bits_of-joined}
+use Rattle.wire_bytes.proofs.BitLists.{length-bits_of, bits_of-mod}
+use Rattle.wire_bytes.proofs.Buffers.{bits_of-joined}
 use Rattle.xor_chunks.proofs.Takes.{masked}
 
 joined_below : (high count width low : ℕ) → high < 2 ^ count → low < 2 ^ width → high * 2 ^ width + low < 2 ^ (count + width)

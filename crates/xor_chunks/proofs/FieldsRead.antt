@@ -5,13 +5,13 @@ use Rattle.std.specs.Prelude.{Result}
 use Rattle.std.proofs.lemmas.Bool.{lt-ltb, le-ltb, cases_lt}
 use Rattle.wire_bytes.specs.Fields.{field_value}
 use Rattle.xor_chunks.specs.declared.refusal.XorRefusal.{XorRefusal}
-use Rattle.wire_bits.specs.Bits.{bits_of}
+use Rattle.wire_bytes.specs.Bits.{bits_of}
 use Rattle.xor_chunks.specs.Steps.{field_at, whole_field_at, change_at, value_at, within_at, opened_at}
 use Rattle.xor_chunks.specs.Window.{Window, width_of, IsInside}
 use Rattle.xor_chunks.specs.Grammar.{StandsFor, IsRow, IsLongRow, IsChange, unchanged, row_14, row_17, row_20, row_64, IsInWindow, IsOpened, IsValue, same_pattern, in_window, opens}
 use Rattle.xor_chunks.proofs.Takes.{take_again, taken}
-use Rattle.reading_core.proofs.Bound.{OfValue, of_ok, of_err, of_weaker, of_bind}
-use Rattle.wire_bits.proofs.BitLists.{bits_of-high}
+use Rattle.base.proofs.Bound.{OfValue, of_ok, of_err, of_weaker, of_bind}
+use Rattle.wire_bytes.proofs.BitLists.{bits_of-high}
 
 -- The bits begin with a text of the value, and these are left after it.
 pub record HasText {V : Type 0} (IsText : List Bool → V → Type 0) (bits : List Bool) (value : V) (after : List Bool) : Type 0 where

@@ -1,14 +1,14 @@
 -- What is left behind a sample that was read, and that no time behind it depends on its pattern.
 use Rattle.std.proofs.Common.{◌≡◌, ℕ, zero, suc, Bool, true, false, List, [], ◌∷◌, ◌++◌, Result, Ok, Err, ℤ, pos, ◌+ℤ◌, refl, sym, ap, ◌∙◌, append_assoc}
-use Rattle.reading_core.specs.Reading.{◌>>=◌, ◌>>◌, unless}
-use Rattle.reading_core.specs.Members.{members_at}
-use Rattle.reading_core.proofs.Binds.{ok_is, err_is}
-use Rattle.reading_core.proofs.Bound.{OfValue, of_ok, of_err, of_weaker, of_bind, of_unless}
+use Rattle.base.specs.Reading.{◌>>=◌, ◌>>◌, unless}
+use Rattle.base.specs.Members.{members_at}
+use Rattle.base.proofs.Binds.{ok_is, err_is}
+use Rattle.base.proofs.Bound.{OfValue, of_ok, of_err, of_weaker, of_bind, of_unless}
 use Rattle.label_sets.specs.declared.sample.Sample.{Sample}
 use Rattle.xor_chunks.specs.State.{State, with_pattern}
 use Rattle.xor_chunks.specs.declared.refusal.XorRefusal.{XorRefusal}
 use Rattle.xor_chunks.specs.declared.refusal.XorRefusal.TheVariants.{OutOfRange}
-use Rattle.wire_bits.specs.Bits.{bits_of, EndWith}
+use Rattle.wire_bytes.specs.Bits.{bits_of, EndWith}
 use Rattle.xor_chunks.specs.Samples.{sample_of}
 use Rattle.xor_chunks.specs.Window.{Window, width_of, is_inside}
 use Rattle.xor_chunks.specs.Steps.{take_at, within_at, opened_at, value_at, time_after, follow_at, next_at}

@@ -3,12 +3,12 @@ use Rattle.std.proofs.Common.{◌≡◌, ℕ, zero, suc, ◌+◌, ◌-◌, ◌^�
 use Rattle.std.proofs.lemmas.List.{append-nil, nil_from_length, length-append}
 use Rattle.std.proofs.lemmas.Bool.{le-leb}
 use Rattle.std.proofs.Math.Nat.{mod-eq_of_lt}
-use Rattle.wire_bits.specs.Bits.{bits_of, bits_in, number_of}
-use Rattle.wire_bits.proofs.BitLists.{length-bits_of, number_of-bits_of}
+use Rattle.wire_bytes.specs.Bits.{bits_of, bits_in, number_of}
+use Rattle.wire_bytes.proofs.BitLists.{length-bits_of, number_of-bits_of}
 use Rattle.label_sets.specs.declared.sample.Sample.{Sample}
-use Rattle.reading_core.specs.Reading.{◌>>=◌}
-use Rattle.reading_core.specs.Members.{members_at}
-use Rattle.reading_core.proofs.Counted.{members_more, members_stop}
+use Rattle.base.specs.Reading.{◌>>=◌}
+use Rattle.base.specs.Members.{members_at}
+use Rattle.base.proofs.Counted.{members_more, members_stop}
 use Rattle.xor_chunks.specs.State.{State}
 use Rattle.xor_chunks.specs.declared.refusal.XorRefusal.{XorRefusal}
 use Rattle.xor_chunks.specs.Samples.{sample_of}

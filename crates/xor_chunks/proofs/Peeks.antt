@@ -3,17 +3,17 @@ use Rattle.std.proofs.Common.{◌≡◌, ℕ, zero, suc, ◌+◌, ◌-◌, ◌*�
 use Rattle.std.proofs.lemmas.Bool.{le-ltb}
 use Rattle.std.proofs.lemmas.List.{drop_at}
 use Rattle.std.proofs.lemmas.Nat.{pow-add, pow_pos, shr-shr, shl-shr, shr_high, mod-pow-add, mod_below, mod-mul-add}
-use Rattle.reading_core.specs.Reading.{◌>>=◌}
+use Rattle.base.specs.Reading.{◌>>=◌}
 use Rattle.wire_bytes.specs.Fields.{field_value}
 use Rattle.xor_chunks.specs.State.{State}
 use Rattle.xor_chunks.specs.declared.refusal.XorRefusal.{XorRefusal}
 use Rattle.xor_chunks.specs.declared.refusal.XorRefusal.TheVariants.{OutOfRange}
-use Rattle.wire_bits.specs.Bits.{bits_of, number_of}
-use Rattle.wire_bits.specs.Buffer.{front, Shows}
+use Rattle.wire_bytes.specs.Bits.{bits_of, number_of}
+use Rattle.wire_bytes.specs.Buffer.{front, Shows}
 use Rattle.xor_chunks.specs.Window.{Window, told_by, is_inside}
 use Rattle.xor_chunks.specs.Steps.{take_at, behind, field_behind, change_at, value_at, within_at, time_after, follow_at, next_at}
-use Rattle.wire_bits.proofs.BitLists.{length-bits_of}
-use Rattle.wire_bits.proofs.Buffers.{shl_cut, front-joined}
+use Rattle.wire_bytes.proofs.BitLists.{length-bits_of}
+use Rattle.wire_bytes.proofs.Buffers.{shl_cut, front-joined}
 use Rattle.xor_chunks.proofs.Takes.{take_again, take_found, take_cases, field_found, field_short, front-nil, front-cons, front-lt}
 use Rattle.xor_chunks.proofs.Values.{take_split, take_split_short, value_same, value_10, opened_found, opened_short}
 

@@ -14,9 +14,9 @@ use Rattle.label_sets.specs.declared.sample.Sample.{Sample}
 use Rattle.xor_chunks.specs.declared.last_written.LastWritten.{LastWritten}
 use Rattle.xor_chunks.specs.declared.window_setting.WindowSetting.{WindowSetting}
 use Rattle.xor_chunks.specs.declared.window_setting.WindowSetting.TheVariants.{Unset}
-use Rattle.wire_bits.specs.Bits.{bits_of, bits_in}
+use Rattle.wire_bytes.specs.Bits.{bits_of, bits_in}
 use Rattle.xor_chunks.specs.Written.{IsChunkTime, CanFollow, AreToCome, AreOfChunk, put_after, put_first, value_bits, window_after, others_bits, rest_bits, written}
-use Rattle.wire_bits.proofs.BitLists.{bits_in-bytes}
+use Rattle.wire_bytes.proofs.BitLists.{bits_in-bytes}
 
 record Apart (a b delta : ℤ) : Type 0 where
   low : pos 0 ≤ℤ delta

@@ -2,12 +2,12 @@
 use Rattle.std.proofs.Common.{◌≡◌, ℕ, zero, suc, ◌+◌, ◌<◌, ◌≤◌, Bool, true, false, List, [], ◌∷◌, ◌++◌, length, Ok, refl, sym, ap, ◌∙◌, append_assoc, length-append, arith, ℤ, pos, negsuc, ◌+ℤ◌}
 use Rattle.std.specs.Prelude.{cond, Err}
 use Rattle.std.proofs.lemmas.Bool.{leb-true, le-leb}
-use Rattle.reading_core.specs.Grammar.{IsBytes, HasFront}
+use Rattle.base.specs.Grammar.{IsBytes, HasFront}
 use Rattle.wire_bytes.specs.FieldTexts.{IsUvarint}
 use Rattle.wire_bytes.proofs.FieldLaws.{uvarint_found, uvarint_again, left_after}
 use Rattle.wire_bytes.specs.Position.{start}
-use Rattle.reading_core.specs.Decimal.{fits_signed}
-use Rattle.reading_core.specs.Members.{members_at}
+use Rattle.base.specs.Decimal.{fits_signed}
+use Rattle.base.specs.Members.{members_at}
 use Rattle.label_sets.specs.declared.sample.Sample.{Sample}
 use Rattle.xor_chunks.specs.State.{State}
 use Rattle.xor_chunks.specs.declared.refusal.XorRefusal.TheVariants.{OutOfRange}
@@ -16,8 +16,8 @@ use Rattle.xor_chunks.specs.Samples.{sample_of}
 use Rattle.xor_chunks.specs.Data.{gap_at, sample_at}
 use Rattle.xor_chunks.specs.Window.{Window, IsInside, is_inside}
 use Rattle.xor_chunks.specs.Grammar.{IsChange, unchanged, row_14, row_17, row_20, row_64, IsValue, same_pattern, in_window, opens, Follows, IsNext, AreOthers}
-use Rattle.reading_core.proofs.Bound.{OfValue, of_ok, of_err, of_weaker, of_bind, of_unless, of_bind_as}
-use Rattle.reading_core.proofs.SignedRanges.{fits_from_test, test_from_fits}
+use Rattle.base.proofs.Bound.{OfValue, of_ok, of_err, of_weaker, of_bind, of_unless, of_bind_as}
+use Rattle.base.proofs.SignedRanges.{fits_from_test, test_from_fits}
 use Rattle.xor_chunks.proofs.FieldsRead.{HasText, Finds, change_found, change_again, value_found, value_again, value_inside}
 
 after_at : (before delta : ℤ) (fits : Bool) → fits_signed (before +ℤ delta) ≡ fits → OfValue (cond fits (risen (before +ℤ delta) delta) (Err OutOfRange)) (λ x. (delta ≡ pos x.1) × Follows before x.0 x.1)

@@ -5,20 +5,20 @@ use Rattle.std.specs.Int.{w16, w64, byte_at, bytes_high_first, to_be_bytes}
 use Rattle.std.proofs.lemmas.Int.{ints}
 use Rattle.std.proofs.lemmas.List.{take_at, drop_at, take_all}
 use Rattle.std.proofs.lemmas.List.Elements.{All-cons, All-head, All-tail}
-use Rattle.reading_core.specs.Grammar.{IsBytes}
+use Rattle.base.specs.Grammar.{IsBytes}
 use Rattle.wire_bytes.specs.FieldTexts.{IsGroups}
 use Rattle.wire_bytes.specs.Written.{uvarint_text, varint_text}
 use Rattle.wire_bytes.proofs.GroupTexts.{uvarint_text_is, varint_text_is}
-use Rattle.reading_core.proofs.Fronts.{IsBytes-after}
-use Rattle.reading_core.proofs.SignedRanges.{pos-unsigned_abs}
+use Rattle.base.proofs.Fronts.{IsBytes-after}
+use Rattle.base.proofs.SignedRanges.{pos-unsigned_abs}
 use Rattle.label_sets.specs.declared.sample.Sample.{Sample}
 use Rattle.xor_chunks.specs.State.{State}
 use Rattle.xor_chunks.specs.declared.last_written.LastWritten.{LastWritten}
-use Rattle.wire_bits.specs.Bits.{bits_of, bits_in, filled}
+use Rattle.wire_bytes.specs.Bits.{bits_of, bits_in, filled}
 use Rattle.xor_chunks.specs.declared.window_setting.WindowSetting.TheVariants.{Unset}
 use Rattle.xor_chunks.specs.Written.{CanFollow, IsChunkTime, AreToCome, AreOfChunk, ArePatterns, put_after, put_first, change_bits, value_bits, window_after, next_bits, others_bits, rest_bits, written}
 use Rattle.xor_chunks.specs.Grammar.{Follows, IsNext, AreOthers, AreRest, AreFromFirst, IsText}
-use Rattle.wire_bits.proofs.BitLists.{length-bits_of, same_from_bits_of, bits_in-bytes}
+use Rattle.wire_bytes.proofs.BitLists.{length-bits_of, same_from_bits_of, bits_in-bytes}
 use Rattle.xor_chunks.proofs.PutTexts.{chunk_to_come}
 use Rattle.xor_chunks.proofs.Times.{fits_both}
 use Rattle.xor_chunks.proofs.ValuesWritten.{seen, IsSeen, value_written, kept_seen, step_written}

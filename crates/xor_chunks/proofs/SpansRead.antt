@@ -1,16 +1,16 @@
 -- What is told of samples that are passed over is told of those that would be read.
 use Rattle.std.proofs.Common.{◌≡◌, ℕ, zero, suc, ◌+◌, ◌-◌, ◌<◌, Bool, true, false, List, [], ◌∷◌, ◌++◌, length, Option, None, Some, Result, Ok, Err, ℤ, pos, refl, sym, ap, ◌∙◌, arith}
 use Rattle.std.specs.Prelude.{IfOk}
-use Rattle.reading_core.specs.Reading.{◌>>=◌, Answers}
-use Rattle.reading_core.specs.Grammar.{IsBytes}
-use Rattle.reading_core.proofs.Binds.{bind_ok, ok_is}
-use Rattle.reading_core.proofs.Bound.{OfValue, of_ok, of_bind}
+use Rattle.base.specs.Reading.{◌>>=◌, Answers}
+use Rattle.base.specs.Grammar.{IsBytes}
+use Rattle.base.proofs.Binds.{bind_ok, ok_is}
+use Rattle.base.proofs.Bound.{OfValue, of_ok, of_bind}
 use Rattle.label_sets.specs.declared.sample.Sample.{Sample}
 use Rattle.xor_chunks.specs.State.{State}
 use Rattle.xor_chunks.specs.declared.refusal.XorRefusal.{XorRefusal}
 use Rattle.xor_chunks.specs.declared.refusal.XorRefusal.TheVariants.{Trailing}
 use Rattle.xor_chunks.specs.declared.sample_span.SampleSpan.{SampleSpan}
-use Rattle.wire_bits.specs.Bits.{bits_in}
+use Rattle.wire_bytes.specs.Bits.{bits_in}
 use Rattle.xor_chunks.specs.Samples.{of_first, sample_of}
 use Rattle.xor_chunks.specs.Steps.{next_at, follow_at}
 use Rattle.xor_chunks.specs.Data.{count_at, first_at, gap_at, others_at, rest_at, samples_at, data_at, is_filling, with_front}

@@ -7,16 +7,16 @@ use Rattle.std.proofs.lemmas.List.{take_at as take_first, drop_at, take-append-d
 use Rattle.std.proofs.lemmas.Nat.{shr_below, mod_below, pow_pos, one_shl, and_mask}
 use Rattle.std.proofs.lemmas.Int.{to_z-of_z}
 use Rattle.std.proofs.Math.Nat.{mod-eq_of_lt}
-use Rattle.reading_core.specs.Reading.{◌>>=◌}
-use Rattle.reading_core.proofs.Binds.{err_is}
+use Rattle.base.specs.Reading.{◌>>=◌}
+use Rattle.base.proofs.Binds.{err_is}
 use Rattle.wire_bytes.specs.Fields.{field_value}
 use Rattle.xor_chunks.specs.declared.refusal.XorRefusal.{XorRefusal}
 use Rattle.xor_chunks.specs.declared.refusal.XorRefusal.TheVariants.{Short}
-use Rattle.wire_bits.specs.Bits.{bits_of, number_of}
-use Rattle.wire_bits.specs.Buffer.{front}
+use Rattle.wire_bytes.specs.Bits.{bits_of, number_of}
+use Rattle.wire_bytes.specs.Buffer.{front}
 use Rattle.xor_chunks.specs.Steps.{Reads, take_at, field_at, field_behind, whole_field_at, change_at}
-use Rattle.reading_core.proofs.Bound.{OfValue, of_ok, of_err}
-use Rattle.wire_bits.proofs.BitLists.{length-bits_of, number_of-bits_of, number_of-lt, bits_of-number_of, bits_of-append, bits_of-mod}
+use Rattle.base.proofs.Bound.{OfValue, of_ok, of_err}
+use Rattle.wire_bytes.proofs.BitLists.{length-bits_of, number_of-bits_of, number_of-lt, bits_of-number_of, bits_of-append, bits_of-mod}
 
 -- ---- taking
 

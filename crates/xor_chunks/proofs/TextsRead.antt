@@ -6,11 +6,11 @@ use Rattle.std.proofs.lemmas.Bool.{eqb-true, and_parts, leb-true, le-leb}
 use Rattle.std.proofs.lemmas.Int.{ints}
 use Rattle.std.proofs.lemmas.Result.{IfOk-weaker}
 use Rattle.std.proofs.lemmas.List.{length-replicate}
-use Rattle.reading_core.specs.Reading.{Gives}
-use Rattle.reading_core.specs.Grammar.{IsBytes, HasFront}
-use Rattle.reading_core.specs.Members.{members_at}
-use Rattle.reading_core.proofs.Fronts.{IsBytes-after}
-use Rattle.reading_core.proofs.Binds.{ok_is}
+use Rattle.base.specs.Reading.{Gives}
+use Rattle.base.specs.Grammar.{IsBytes, HasFront}
+use Rattle.base.specs.Members.{members_at}
+use Rattle.base.proofs.Fronts.{IsBytes-after}
+use Rattle.base.proofs.Binds.{ok_is}
 use Rattle.wire_bytes.specs.Position.{left, further, start}
 use Rattle.wire_bytes.specs.Fields.{number_at, varint_at}
 use Rattle.wire_bytes.specs.FieldTexts.{IsFixed, IsUvarint, IsVarint}
@@ -20,14 +20,14 @@ use Rattle.label_sets.specs.declared.sample.Sample.{Sample}
 use Rattle.xor_chunks.specs.State.{State}
 use Rattle.xor_chunks.specs.declared.refusal.XorRefusal.{XorRefusal}
 use Rattle.xor_chunks.specs.declared.refusal.XorRefusal.TheVariants.{NoMemory}
-use Rattle.wire_bits.specs.Bits.{bits_of, number_of}
+use Rattle.wire_bytes.specs.Bits.{bits_of, number_of}
 use Rattle.xor_chunks.specs.Samples.{of_first}
 use Rattle.xor_chunks.specs.Data.{count_at, first_at, sample_at, others_at, rest_at, samples_at, is_filling, data_at}
 use Rattle.xor_chunks.specs.Grammar.{AreOthers, AreRest, AreSamples, IsText}
 use Rattle.xor_chunks.specs.Window.{whole, IsInside}
-use Rattle.reading_core.proofs.Bound.{OfValue, of_ok, of_bind, of_unless, of_bind_as, of_gives}
+use Rattle.base.proofs.Bound.{OfValue, of_ok, of_bind, of_unless, of_bind_as, of_gives}
 use Rattle.xor_chunks.proofs.FieldsRead.{HasText, value_inside}
-use Rattle.wire_bits.proofs.BitLists.{bits_of-number_of, bits_of-zero, length-bits_in}
+use Rattle.wire_bytes.proofs.BitLists.{bits_of-number_of, bits_of-zero, length-bits_in}
 use Rattle.xor_chunks.proofs.Takes.{number_of-zeros}
 use Rattle.xor_chunks.proofs.SamplesRead.{follow_found, follow_again, others_found, others_again, value_some, others_few, gap_found, gap_again}
 

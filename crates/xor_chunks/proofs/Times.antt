@@ -5,9 +5,9 @@ use Rattle.std.specs.Result.{OkIff}
 use Rattle.std.specs.Int.{w64, w128, cast_signed, cast_unsigned}
 use Rattle.std.proofs.lemmas.Bool.{le-ltb, cases_lt}
 use Rattle.std.proofs.lemmas.Int.{ints, to_z-of_z}
-use Rattle.reading_core.specs.Decimal.{fits_signed}
-use Rattle.reading_core.proofs.Binds.{ok_is}
-use Rattle.reading_core.proofs.SignedRanges.{test_from_fits}
+use Rattle.base.specs.Decimal.{fits_signed}
+use Rattle.base.proofs.Binds.{ok_is}
+use Rattle.base.proofs.SignedRanges.{test_from_fits}
 use Rattle.xor_chunks.specs.declared.refusal.XorRefusal.TheVariants.{Falling, OutOfRange}
 use Rattle.xor_chunks.specs.Steps.{time_after}
 

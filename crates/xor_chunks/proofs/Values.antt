@@ -2,13 +2,13 @@
 use Rattle.std.proofs.Common.{◌≡◌, ℕ, ◌+◌, ◌/◌, ◌%◌, ◌^◌, ◌<◌, Bool, true, false, List, [], ◌∷◌, ◌++◌, length, Ok, Err, refl, sym, ap, ◌∙◌, append_assoc, arith, inl, inr, ◌⊎◌, length-append}
 use Rattle.std.proofs.lemmas.Bool.{le-ltb}
 use Rattle.std.proofs.lemmas.Nat.{shr_below, mod_below, pow_pos}
-use Rattle.reading_core.specs.Reading.{◌>>=◌}
+use Rattle.base.specs.Reading.{◌>>=◌}
 use Rattle.xor_chunks.specs.declared.refusal.XorRefusal.{XorRefusal}
-use Rattle.wire_bits.specs.Bits.{bits_of}
-use Rattle.wire_bits.specs.Buffer.{front}
+use Rattle.wire_bytes.specs.Bits.{bits_of}
+use Rattle.wire_bytes.specs.Buffer.{front}
 use Rattle.xor_chunks.specs.Steps.{take_at, value_at, within_at, opened_at}
 use Rattle.xor_chunks.specs.Window.{Window, told_by}
-use Rattle.wire_bits.proofs.BitLists.{length-bits_of, bits_of-append, bits_of-mod}
+use Rattle.wire_bytes.proofs.BitLists.{length-bits_of, bits_of-append, bits_of-mod}
 use Rattle.xor_chunks.proofs.Takes.{take_again, take_found, take_short, take_cases, take_err, front-cons, front-lt}
 
 -- two pieces that are taken at once

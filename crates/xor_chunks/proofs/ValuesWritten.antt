@@ -10,11 +10,11 @@ use Rattle.std.proofs.lemmas.Int.{ints, to_z-of_z}
 use Rattle.std.proofs.lemmas.Nat.{xor_lt, shr_below, mod_below, pow_pos}
 use Rattle.xor_chunks.specs.declared.window_setting.WindowSetting.{WindowSetting}
 use Rattle.xor_chunks.specs.declared.window_setting.WindowSetting.TheVariants.{Unset, Set}
-use Rattle.wire_bits.specs.Bits.{bits_of}
+use Rattle.wire_bytes.specs.Bits.{bits_of}
 use Rattle.xor_chunks.specs.Window.{Window, whole, IsInside}
 use Rattle.xor_chunks.specs.Written.{fits_field, change_bits, trail, window_around, is_around, in_window, reused, coded, kept, value_bits, window_after}
 use Rattle.xor_chunks.specs.Grammar.{StandsFor, IsRow, IsChange, unchanged, row_14, row_17, row_20, row_64, IsInWindow, IsValue, same_pattern, in_window as within_window, opens}
-use Rattle.wire_bits.proofs.BitLists.{bits_of-mod}
+use Rattle.wire_bytes.proofs.BitLists.{bits_of-mod}
 use Rattle.xor_chunks.proofs.Zeros.{trailing_low, leading_below, counts_apart}
 
 -- the window that a reader has where the writer has set this one or none

@@ -8,8 +8,8 @@
 -- 4. its time does not come after the one before it (Falling).
 use Rattle.std.specs.Prelude.{ℕ, zero, suc, Bool, List, [], ◌∷◌, ◌++◌, length, Result, Ok, nat_le, ◌==◌, ◌&&◌, pos}
 use Rattle.std.specs.Int.{w16, w64}
-use Rattle.reading_core.specs.Reading.{◌>>=◌, ◌>>◌, unless, refused_as}
-use Rattle.reading_core.specs.Members.{members_at}
+use Rattle.base.specs.Reading.{◌>>=◌, ◌>>◌, unless, refused_as}
+use Rattle.base.specs.Members.{members_at}
 use Rattle.wire_bytes.specs.Position.{left, start}
 use Rattle.wire_bytes.specs.Fields.{number_at, uvarint_at, varint_at}
 use Rattle.label_sets.specs.declared.sample.Sample.{Sample}
@@ -17,7 +17,7 @@ use Rattle.xor_chunks.specs.State.{State}
 use Rattle.xor_chunks.specs.declared.refusal.XorRefusal.{XorRefusal}
 use Rattle.xor_chunks.specs.declared.refusal.XorRefusal.TheVariants.{Trailing}
 use Rattle.xor_chunks.specs.Refusals.{xor_refusal}
-use Rattle.wire_bits.specs.Bits.{bits_in, number_of}
+use Rattle.wire_bytes.specs.Bits.{bits_in, number_of}
 use Rattle.xor_chunks.specs.Samples.{of_first, sample_of}
 use Rattle.xor_chunks.specs.Steps.{follow_at, next_at}
 

@@ -1,11 +1,11 @@
 -- XOR data and the samples that it stands for, apart from reading and writing.
 use Rattle.std.specs.Prelude.{◌≡◌, ℕ, ◌-◌, ◌^◌, ◌<◌, ◌≤◌, ◌⊎◌, Bool, true, false, List, [], ◌∷◌, ◌++◌, length, replicate, ℤ, pos, ◌+ℤ◌, ◌-ℤ◌, FitsSigned}
 use Rattle.std.specs.Int.{w16, w64, cast_signed}
-use Rattle.reading_core.specs.Grammar.{HasFront}
+use Rattle.base.specs.Grammar.{HasFront}
 use Rattle.wire_bytes.specs.FieldTexts.{IsFixed, IsUvarint, IsVarint}
 use Rattle.label_sets.specs.declared.sample.Sample.{Sample}
 use Rattle.xor_chunks.specs.State.{State}
-use Rattle.wire_bits.specs.Bits.{bits_of, bits_in}
+use Rattle.wire_bytes.specs.Bits.{bits_of, bits_in}
 use Rattle.xor_chunks.specs.Samples.{sample_of}
 use Rattle.xor_chunks.specs.Widths.{narrow_field, middle_field, wide_field, lead_field, width_field}
 use Rattle.xor_chunks.specs.Window.{Window, whole, IsInside, changed_pattern}

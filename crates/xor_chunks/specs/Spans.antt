@@ -1,6 +1,6 @@
 -- What is told of samples of which none is kept: how many there are, and the first and the last time.
 use Rattle.std.specs.Prelude.{ℕ, suc, ℤ, Bool, List, [], ◌∷◌, length, Option, None, Some, Result, Ok}
-use Rattle.reading_core.specs.Reading.{◌>>=◌}
+use Rattle.base.specs.Reading.{◌>>=◌}
 use Rattle.label_sets.specs.declared.sample.Sample.{Sample}
 use Rattle.xor_chunks.specs.declared.sample_span.SampleSpan.{SampleSpan}
 use Rattle.xor_chunks.specs.declared.refusal.XorRefusal.{XorRefusal}

@@ -1,13 +1,13 @@
 -- What reading the bits of one sample gives: it and the bits after it, or the first of the cases that refuse it.
 use Rattle.std.specs.Prelude.{◌≡◌, ℕ, zero, suc, Bool, true, false, List, ◌∷◌, length, take, drop, Result, Ok, Err, MatchResult, nat_lt, if◌then◌else◌, ℤ, pos, negsuc, ◌+ℤ◌}
 use Rattle.std.specs.Int.{cast_signed, w64}
-use Rattle.reading_core.specs.Reading.{◌>>=◌, ◌>>◌, unless}
-use Rattle.reading_core.specs.Decimal.{fits_signed}
+use Rattle.base.specs.Reading.{◌>>=◌, ◌>>◌, unless}
+use Rattle.base.specs.Decimal.{fits_signed}
 use Rattle.wire_bytes.specs.Fields.{field_value}
 use Rattle.xor_chunks.specs.State.{State}
 use Rattle.xor_chunks.specs.declared.refusal.XorRefusal.{XorRefusal}
 use Rattle.xor_chunks.specs.declared.refusal.XorRefusal.TheVariants.{Short, Falling, OutOfRange}
-use Rattle.wire_bits.specs.Bits.{number_of}
+use Rattle.wire_bytes.specs.Bits.{number_of}
 use Rattle.xor_chunks.specs.Widths.{narrow_field, middle_field, wide_field, lead_field, width_field}
 use Rattle.xor_chunks.specs.Window.{Window, width_of, is_inside, changed_pattern}
 

@@ -7,7 +7,7 @@ use Rattle.wire_bytes.specs.Written.{uvarint_text, varint_text}
 use Rattle.label_sets.specs.declared.sample.Sample.{Sample}
 use Rattle.label_sets.specs.Limits.{time_limit}
 use Rattle.label_sets.specs.Times.{times_of}
-use Rattle.wire_bits.specs.Bits.{bits_of, bits_in}
+use Rattle.wire_bytes.specs.Bits.{bits_of, bits_in}
 use Rattle.xor_chunks.specs.Widths.{narrow_field, middle_field, wide_field, lead_field, width_field}
 use Rattle.xor_chunks.specs.Window.{Window}
 use Rattle.xor_chunks.specs.declared.last_written.LastWritten.{LastWritten}

@@ -4,19 +4,18 @@ ghost use Rattle.label_sets.specs.declared.sample.Sample.{Sample};
 ghost use Rattle.xor_chunks.specs.Widths.{filling, stored_filling};
 ghost use Rattle.xor_chunks.specs.Grammar.{IsText};
 ghost use Rattle.xor_chunks.specs.Known.{state_of};
-ghost use Rattle.reading_core.specs.Reading.{Answers, Gives};
-ghost use Rattle.reading_core.specs.Grammar.{IsBytes};
+ghost use Rattle.base.specs.Reading.{Answers, Gives};
+ghost use Rattle.base.specs.Grammar.{IsBytes};
 ghost use Rattle.xor_chunks.specs.Data.{count_at, first_at, gap_at, others_at, rest_at, samples_at, data_at, is_filling, with_front, with_samples};
 
 use crate::XorRefusal;
 use crate::last::Last;
 use crate::step::{follow, next};
 use crate::widths::{FILLING, STORED_FILLING};
+use base::List;
 use label_sets::{Sample, SampleList};
-use list_core::List;
 use std::alloc::Global;
-use wire_bits::BitReader;
-use wire_bytes::Cursor;
+use wire_bytes::{BitReader, Cursor};
 
 /// How many samples there are, and the bytes after that.
 #[tactic(auto, unfolding(crate::specs::Data::count_at))]

@@ -3,19 +3,18 @@ ghost use Rattle.xor_chunks.specs.Widths.{wide_field, change_limit, filling};
 ghost use Rattle.xor_chunks.specs.Written.{fits_field, change_bits, reused, value_bits, window_after, CanFollow, put_after, next_bits, AreToCome, ArePatterns, others_bits, rest_bits, put_first, written, AreOfChunk};
 ghost use Rattle.wire_bytes.specs.Written.{varint_text};
 ghost use Rattle.xor_chunks.specs.Grammar.{IsText};
-ghost use Rattle.reading_core.specs.Grammar.{IsBytes};
-ghost use Rattle.wire_bits.specs.Bits.{bits_of, bits_in, filled};
+ghost use Rattle.base.specs.Grammar.{IsBytes};
+ghost use Rattle.wire_bytes.specs.Bits.{bits_of, bits_in, filled};
 
 use crate::last_written::LastWritten;
 use crate::pending_bits::PendingBits;
 use crate::widths::{LEAD_FIELD, MIDDLE_FIELD, NARROW_FIELD, WIDE_FIELD, WIDTH_FIELD};
 use crate::window::Window;
 use crate::window_setting::WindowSetting;
+use base::NoMemory;
 use label_sets::Sample;
-use list_core::NoMemory;
 use std::alloc::Global;
-use wire_bits::BitWriter;
-use wire_bytes::{Blob, put_u16, put_u64, put_uvarint, put_varint};
+use wire_bytes::{BitWriter, Blob, put_u16, put_u64, put_uvarint, put_varint};
 
 /// Whether a field of `width` bits can stand for the number.
 #[inline(always)]

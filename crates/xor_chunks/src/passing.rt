@@ -1,8 +1,8 @@
 //! Passing over samples of which only the last time is wanted. Well before the end of the bytes each is passed from the place at
 //! which it begins, so that none waits for the bits of the one before it, and no pattern is put together.
 ghost use Rattle.std.specs.Prelude.{◌≡◌, ◌+◌, ◌-◌, ◌*◌, ◌/◌, ◌^◌, ◌<◌, ◌≤◌, ◌<ℤ◌, pos, ℕ, Bool, List, Ok, IfSome, IsTrue, length, take, drop};
-ghost use Rattle.wire_bits.specs.Bits.{bits_of, bits_in, EndWith};
-ghost use Rattle.wire_bits.specs.Buffer.{Shows};
+ghost use Rattle.wire_bytes.specs.Bits.{bits_of, bits_in, EndWith};
+ghost use Rattle.wire_bytes.specs.Buffer.{Shows};
 ghost use Rattle.xor_chunks.specs.State.{State, with_pattern};
 ghost use Rattle.xor_chunks.specs.Window.{Window as WindowParts, IsInside};
 ghost use Rattle.xor_chunks.specs.Widths.{change_limit, head_limit, peeked, sample_limit, sample_room, soon_limit};
@@ -14,7 +14,7 @@ use crate::last::Last;
 use crate::step::{near_time, short_change};
 use crate::widths::HEAD_LIMIT;
 use crate::window::Window;
-use wire_bits::BitReader;
+use wire_bytes::BitReader;
 
 /// A sample is passed from its place where so many bytes stand from the one on in which it begins. It takes 101 bits at most,
 /// or its step's change takes 64.

@@ -1,9 +1,9 @@
 ghost use Rattle.std.specs.Prelude.{◌≡◌, ◌+◌, ◌<◌, ◌≤◌, ◌++◌, [], length, OnOk};
-ghost use Rattle.wire_bits.specs.Bits.{bits_of};
+ghost use Rattle.wire_bytes.specs.Bits.{bits_of};
 
-use list_core::NoMemory;
+use base::NoMemory;
 use std::marker::Model;
-use wire_bits::BitWriter;
+use wire_bytes::BitWriter;
 
 /// A few bits that are put together before they are written.
 #[derive(Drop)]
@@ -14,7 +14,7 @@ pub(crate) struct PendingBits {
 
 impl Model for PendingBits {
     ghost use Rattle.std.specs.Prelude.{Bool, List, ◌<◌, ◌≤◌, ◌^◌};
-    ghost use Rattle.wire_bits.specs.Bits.{bits_of as low_bits};
+    ghost use Rattle.wire_bytes.specs.Bits.{bits_of as low_bits};
 
     ghost Value = { List Bool };
 

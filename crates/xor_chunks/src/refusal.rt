@@ -3,8 +3,7 @@ ghost use Rattle.xor_chunks.specs.declared.refusal.XorRefusal.TheVariants.{Short
 ghost use Rattle.xor_chunks.specs.Refusals.{xor_refusal};
 
 use std::alloc::{AllocError, AllocFailed};
-use wire_bits::ShortBits;
-use wire_bytes::WireRefusal;
+use wire_bytes::{ShortBits, WireRefusal};
 
 /// Why bytes are no XOR data.
 #[derive(Clone, Copy, Debug, PartialEq, Eq)]

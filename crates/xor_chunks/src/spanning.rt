@@ -1,11 +1,11 @@
 //! How many samples XOR data stands for, and between which times. No sample is kept.
 ghost use Rattle.std.specs.Prelude.{◌≡◌, ◌≤◌, ◌<◌, ◌-◌, ℕ, List, Ok, IfOk};
 ghost use Rattle.label_sets.specs.declared.sample.Sample.{Sample};
-ghost use Rattle.reading_core.specs.Reading.{Answers};
-ghost use Rattle.reading_core.specs.Grammar.{IsBytes};
+ghost use Rattle.base.specs.Reading.{Answers};
+ghost use Rattle.base.specs.Grammar.{IsBytes};
 ghost use Rattle.xor_chunks.specs.Widths.{stored_filling};
 ghost use Rattle.xor_chunks.specs.Grammar.{IsText};
-ghost use Rattle.wire_bits.specs.Bits.{bits_in, EndWith};
+ghost use Rattle.wire_bytes.specs.Bits.{bits_in, EndWith};
 ghost use Rattle.xor_chunks.specs.Known.{state_of};
 ghost use Rattle.xor_chunks.specs.Data.{rest_at, samples_at};
 ghost use Rattle.xor_chunks.specs.Spans.{span_of, with_end, end_at, with_span, span_at};
@@ -17,7 +17,7 @@ use crate::step::{follow, next};
 use crate::widths::STORED_FILLING;
 use crate::{SampleSpan, XorRefusal};
 use label_sets::Sample;
-use wire_bits::BitReader;
+use wire_bytes::BitReader;
 
 /// Passes over `count` samples after the second one by one, and gives the last one.
 fn pass_each<'a>(

@@ -1,7 +1,7 @@
 ghost use Rattle.std.specs.Prelude.{◌≡◌, pos, negsuc, ◌+ℤ◌, ◌-ℤ◌, ◌≤ℤ◌, ◌<◌, ◌≤◌, ◌+◌, ◌-◌, ◌/◌, ◌%◌, ◌^◌, ℕ, ℤ, Bool, List, Ok, if◌then◌else◌, nat_lt, IsTrue, IfOk, IfSome, IfNone};
-ghost use Rattle.reading_core.specs.Reading.{Answers};
+ghost use Rattle.base.specs.Reading.{Answers};
 ghost use Rattle.wire_bytes.specs.Fields.{field_value};
-ghost use Rattle.wire_bits.specs.Buffer.{front, Shows};
+ghost use Rattle.wire_bytes.specs.Buffer.{front, Shows};
 ghost use Rattle.xor_chunks.specs.Widths.{wide_field, change_limit, head_limit, soon_limit};
 ghost use Rattle.xor_chunks.specs.Known.{state_of};
 ghost use Rattle.xor_chunks.specs.Steps.{Reads, take_at, behind, change_at, value_at, within_at, time_after, follow_at, next_at};
@@ -10,8 +10,7 @@ use crate::XorRefusal;
 use crate::last::Last;
 use crate::widths::{HEAD_LIMIT, MIDDLE_FIELD, NARROW_FIELD, PEEKED, WIDE_FIELD};
 use crate::window::Window;
-use wire_bits::BitReader;
-use wire_bytes::field_value;
+use wire_bytes::{BitReader, field_value};
 
 /// The time after a step, and how long that is: `delta`, as the step before it, and `change` more.
 #[inline(always)]

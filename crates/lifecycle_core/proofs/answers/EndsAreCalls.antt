@@ -10,9 +10,9 @@ use Rattle.world_core.specs.declared.entry.Entry.{Entry}
 use Rattle.meta_fetcher.specs.Syncs.{SyncRun}
 use Rattle.meta_fetcher.specs.declared.sync_end.SyncEnd.{SyncEnd}
 use Rattle.meta_fetcher.specs.declared.sync_end.SyncEnd.TheVariants as fetched
-use Rattle.read_ranges.specs.Reads.{Query as Question}
-use Rattle.series_calls.specs.SeriesCalls.{CallEnd, SeriesRun, asking}
-use Rattle.series_calls.specs.declared.series_end.SeriesEnd.{SeriesEnd}
+use Rattle.store_ranges.specs.Reads.{Query as Question}
+use Rattle.store_calls.specs.SeriesCalls.{CallEnd, SeriesRun, asking}
+use Rattle.store_calls.specs.declared.series_end.SeriesEnd.{SeriesEnd}
 use Rattle.querier.specs.declared.ask.Ask.{Ask}
 use Rattle.script_core.specs.Workers.{workers_of}
 use Rattle.script_workers.specs.declared.work.Work.{Work}
@@ -36,7 +36,7 @@ use Rattle.lifecycle_core.proofs.phases.ShipEnds.{ship_end, stopped_end}
 use Rattle.lifecycle_core.proofs.phases.OwnSyncs.{IsLatestAt}
 use Rattle.lifecycle_core.proofs.phases.TasksMade.{answers_are_last}
 use Rattle.lifecycle_core.proofs.answers.LastViews.{none_between, view_at}
-use Rattle.list_core.proofs.Options.{Some-option_map}
+use Rattle.base.proofs.Options.{Some-option_map}
 
 -- the call behind an end
 pub record IsAsked (setting : Setting) (gateway : Option ℕ) (w : Work) (held : Holding) (entries : List Entry) (used : Use) (end : SeriesEnd) : Type 0 where

@@ -1,7 +1,7 @@
 -- An answer over blocks each of which holds what its sources hold is exact: it is the deduplication of what the sources hold that the
 -- query asks for.
-use Rattle.list_core.proofs.Lists.{cons_same}
-use Rattle.list_core.proofs.Membership.{any_of_member, each_member, into_filter, into_flat_map, member_cases, member_of_any, member_passes, of_filter, of_flat_map, of_map}
+use Rattle.base.proofs.Lists.{cons_same}
+use Rattle.base.proofs.Membership.{any_of_member, each_member, into_filter, into_flat_map, member_cases, member_of_any, member_passes, of_filter, of_flat_map, of_map}
 use Rattle.std.proofs.Common.{◌≡◌, inl, inr, ℕ, ℤ, ◌≤ℤ◌, ◌<ℤ◌, true, ◌&&◌, List, [], ◌∷◌, map, Contains, refl, sym, ◌∙◌, ap, subst, arith}
 use Rattle.std.specs.Cmp.{IsEquivalence}
 use Rattle.std.specs.List.{All, AllByRecursion, AllZip, filter, list_any}
@@ -10,8 +10,8 @@ use Rattle.std.specs.Prelude.{int_le, int_lt}
 use Rattle.std.proofs.lemmas.Cmp.{eq_by_cmp_equiv}
 use Rattle.std.proofs.lemmas.Int.{ints}
 use Rattle.std.proofs.lemmas.List.Elements.{All-contains, All-from_recursion, Contains-append_cases, Contains-append_left, Contains-append_right}
-use Rattle.list_core.proofs.Membership.{all_members}
-use Rattle.list_core.proofs.Bools.{and_second}
+use Rattle.base.proofs.Membership.{all_members}
+use Rattle.base.proofs.Bools.{and_second}
 use Rattle.label_sets.specs.Finals.{final_of}
 use Rattle.label_sets.specs.declared.label.Label.{Label}
 use Rattle.label_sets.specs.declared.sample.Sample.{Sample}
@@ -24,14 +24,14 @@ use Rattle.vertical_merge.specs.Merged.{IsDeduplication, IsMerge}
 use Rattle.vertical_merge.proofs.Laws.{deduplicates}
 use Rattle.vertical_merge.proofs.Orders.{keys_total, same_key}
 use Rattle.block_meta.specs.MetaFields.{MetaFields, fields_of}
-use Rattle.read_ranges.specs.ChunkRanges.{IsSetOf}
-use Rattle.read_ranges.specs.Reads.{Query as Question, block_of}
-use Rattle.series_calls.specs.Exact.{asked_of, asked_of_all}
-use Rattle.series_calls.specs.SeriesCalls.{asking, meets, sources_of, to_read}
+use Rattle.store_ranges.specs.ChunkRanges.{IsSetOf}
+use Rattle.store_ranges.specs.Reads.{Query as Question, block_of}
+use Rattle.store_calls.specs.Exact.{asked_of, asked_of_all}
+use Rattle.store_calls.specs.SeriesCalls.{asking, meets, sources_of, to_read}
 use Rattle.sync_filters.specs.declared.found.Found.{Found}
 use Rattle.world_core.specs.declared.entry.Entry.{Entry}
-use Rattle.activity_laws.specs.MergedLabels.{seen_as}
-use Rattle.activity_laws.proofs.MergedBlocks.{are_same}
+use Rattle.lifecycle_core.specs.MergedLabels.{seen_as}
+use Rattle.lifecycle_core.proofs.activities.MergedBlocks.{are_same}
 use Rattle.lifecycle_core.specs.Held.{declared, held, held_by}
 use Rattle.lifecycle_core.specs.Setting.{Setting}
 use Rattle.lifecycle_core.proofs.blocks.Contents.{IsHeldWhole}

@@ -1,15 +1,15 @@
 -- What gateways gave to an answered query of a run: each part is the answer of a call in the journal, over the view of a sync in it.
-use Rattle.list_core.proofs.Membership.{into_map}
-use Rattle.list_core.proofs.Pairs.{AllZip-second}
+use Rattle.base.proofs.Membership.{into_map}
+use Rattle.base.proofs.Pairs.{AllZip-second}
 use Rattle.std.proofs.Common.{◌≡◌, ℕ, List, Contains, Option, Some, refl, sym, ◌∙◌, ap, subst}
 use Rattle.std.specs.Prelude.{get_or}
 use Rattle.std.specs.List.{All}
 use Rattle.std.proofs.lemmas.List.Elements.{All-contains_itself}
 use Rattle.label_sets.specs.declared.series.Series.{Series}
 use Rattle.world_core.specs.declared.entry.Entry.{Entry}
-use Rattle.series_calls.specs.SeriesCalls.{asking}
-use Rattle.series_calls.specs.declared.series_end.SeriesEnd.{SeriesEnd}
-use Rattle.series_calls.specs.declared.series_end.SeriesEnd.TheVariants as called
+use Rattle.store_calls.specs.SeriesCalls.{asking}
+use Rattle.store_calls.specs.declared.series_end.SeriesEnd.{SeriesEnd}
+use Rattle.store_calls.specs.declared.series_end.SeriesEnd.TheVariants as called
 use Rattle.querier.specs.declared.ask.Ask.{Ask}
 use Rattle.script_core.specs.Workers.{workers_of}
 use Rattle.lifecycle_core.specs.Conducts.{Who, who_of}

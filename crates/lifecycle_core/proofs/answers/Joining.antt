@@ -1,6 +1,6 @@
 -- The answers of several gateways, merged, are exact for all that they name.
-use Rattle.list_core.proofs.Membership.{any_of_member, into_flat_map, member_of_any, of_flat_map}
-use Rattle.list_core.proofs.Pairs.{AllZip-first, AllZip-second}
+use Rattle.base.proofs.Membership.{any_of_member, into_flat_map, member_of_any, of_flat_map}
+use Rattle.base.proofs.Pairs.{AllZip-first, AllZip-second}
 use Rattle.std.proofs.Common.{◌≡◌, ◌≢◌, ℤ, true, List, [], Contains, Some, refl, ◌∙◌, ap}
 use Rattle.std.specs.Prelude.{find}
 use Rattle.std.specs.List.{AllZip, flat_map, list_any}

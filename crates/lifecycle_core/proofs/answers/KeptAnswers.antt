@@ -1,20 +1,20 @@
 -- A call's answer over a view is exact, where the bucket is honest.
-use Rattle.list_core.proofs.Membership.{all_members}
+use Rattle.base.proofs.Membership.{all_members}
 use Rattle.std.proofs.Common.{◌≡◌, ℕ, ℤ, List, [], ◌∷◌, Contains, Option, Some, None, refl}
 use Rattle.std.specs.List.{All, AllByRecursion, AllZip, filter}
 use Rattle.label_sets.specs.declared.series.Series.{Series}
 use Rattle.label_sets.specs.Triples.{triples_of}
 use Rattle.block_keys.specs.KeyText.{key_text}
 use Rattle.block_keys.specs.declared.key.Key.{Key}
-use Rattle.read_ranges.specs.ChunkRanges.{IsSetOf}
-use Rattle.read_ranges.specs.Reads.{Cache, Query as Question}
+use Rattle.store_ranges.specs.ChunkRanges.{IsSetOf}
+use Rattle.store_ranges.specs.Reads.{Cache, Query as Question}
 use Rattle.matchers.specs.Selected.{IsQueryAnswer}
 use Rattle.matchers.specs.SelectorText.{named_replicas}
 use Rattle.matchers.specs.declared.matcher.Matcher.{Matcher}
-use Rattle.series_calls.specs.Asking.{IsReadOf}
-use Rattle.series_calls.specs.KeptRanges.{IsOfReads}
-use Rattle.series_calls.specs.SeriesCalls.{CallEnd, SeriesRun, asking, meets, sources_of}
-use Rattle.series_calls.specs.declared.series_end.SeriesEnd.TheVariants as called
+use Rattle.store_calls.specs.Asking.{IsReadOf}
+use Rattle.store_calls.specs.KeptRanges.{IsOfReads}
+use Rattle.store_calls.specs.SeriesCalls.{CallEnd, SeriesRun, asking, meets, sources_of}
+use Rattle.store_calls.specs.declared.series_end.SeriesEnd.TheVariants as called
 use Rattle.sync_filters.specs.declared.found.Found.{Found}
 use Rattle.meta_fetcher.specs.declared.rules.SyncRules.{SyncRules}
 use Rattle.meta_fetcher.specs.declared.view.View.{View}
@@ -23,7 +23,7 @@ use Rattle.world_core.specs.Worlds.{IsOfBytes}
 use Rattle.world_core.specs.declared.entry.Entry.{Entry}
 use Rattle.world_core.specs.declared.reply.Reply.TheVariants as reply
 use Rattle.script_core.specs.Lawful.{IsLawfulScript}
-use Rattle.activity_laws.specs.Sights.{IsSight}
+use Rattle.lifecycle_core.specs.Sights.{IsSight}
 use Rattle.lifecycle_core.specs.Breaches.{read_key}
 use Rattle.lifecycle_core.specs.Held.{held}
 use Rattle.lifecycle_core.specs.Setting.{Setting}

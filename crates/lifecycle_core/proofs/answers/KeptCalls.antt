@@ -1,5 +1,5 @@
 -- What a call over a view comes to, where the bucket is honest: what its reads show is what was ever put, and the view's blocks hold it.
-use Rattle.list_core.proofs.Membership.{contains_first, contains_later, into_filter, member_passes, of_filter, of_map}
+use Rattle.base.proofs.Membership.{contains_first, contains_later, into_filter, member_passes, of_filter, of_map}
 use Rattle.std.proofs.Common.{◌≡◌, ◌≢◌, inl, inr, ℕ, ◌+◌, ◌<◌, ◌^◌, Bool, true, false, List, [], ◌∷◌, ◌++◌, map, length, Contains, Option, Some, None, refl, sym, ◌∙◌, ap, subst, arith}
 use Rattle.std.specs.Prelude.{codes, get_or, option_map, ◌≤ℤ◌, ◌<ℤ◌}
 use Rattle.std.specs.List.{All, AllByRecursion, AllZip, filter}
@@ -14,7 +14,7 @@ use Rattle.block_keys.specs.declared.key.Key.{Key}
 use Rattle.block_keys.specs.declared.key.Key.TheVariants as key
 use Rattle.block_meta.specs.MetaFields.{MetaFields, fields_of}
 use Rattle.bucket_core.specs.Contents.{Contents, nothing, range_of}
-use Rattle.index_cache.specs.declared.range.Range.{Range}
+use Rattle.store_ranges.specs.declared.range.Range.{Range}
 use Rattle.sync_filters.specs.declared.found.Found.{Found}
 use Rattle.meta_fetcher.specs.declared.rules.SyncRules.{SyncRules}
 use Rattle.meta_fetcher.specs.declared.view.View.{View}
@@ -26,19 +26,19 @@ use Rattle.world_core.specs.declared.op.Op.{Op}
 use Rattle.world_core.specs.declared.op.Op.TheVariants as op
 use Rattle.world_core.specs.declared.reply.Reply.{Reply}
 use Rattle.world_core.specs.declared.reply.Reply.TheVariants as reply
-use Rattle.read_ranges.specs.Reads.{Block, Cache, Query as Question, block_of}
-use Rattle.series_calls.specs.Asking.{IsReadOf, IsReadOfOne}
+use Rattle.store_ranges.specs.Reads.{Block, Cache, Query as Question, block_of}
+use Rattle.store_calls.specs.Asking.{IsReadOf, IsReadOfOne}
 use Rattle.matchers.specs.SelectorText.{named_replicas}
 use Rattle.vertical_merge.specs.Merged.{IsMerge}
-use Rattle.series_calls.specs.Exact.{AreShown, HoldsBlock, HoldsWhole, IsCacheOf, StandsIn, asked_of_all}
-use Rattle.series_calls.specs.KeptRanges.{IsOfReads, IsReadIn}
-use Rattle.series_calls.specs.SeriesCalls.{CallEnd, SeriesRun, meets, to_read}
-use Rattle.series_calls.specs.declared.series_end.SeriesEnd.TheVariants as called
-use Rattle.series_calls.proofs.CallLaws.{call_asks}
-use Rattle.series_calls.proofs.ExactCalls.{answer_exact}
-use Rattle.series_calls.proofs.FoundBlocks.{finds_blocks}
+use Rattle.store_calls.specs.Exact.{AreShown, HoldsBlock, HoldsWhole, IsCacheOf, StandsIn, asked_of_all}
+use Rattle.store_calls.specs.KeptRanges.{IsOfReads, IsReadIn}
+use Rattle.store_calls.specs.SeriesCalls.{CallEnd, SeriesRun, meets, to_read}
+use Rattle.store_calls.specs.declared.series_end.SeriesEnd.TheVariants as called
+use Rattle.store_calls.proofs.CallLaws.{call_asks}
+use Rattle.store_calls.proofs.ExactCalls.{answer_exact}
+use Rattle.store_calls.proofs.FoundBlocks.{finds_blocks}
 use Rattle.script_core.specs.Lawful.{IsLawfulScript}
-use Rattle.activity_laws.specs.Sights.{IsSeen, IsSight}
+use Rattle.lifecycle_core.specs.Sights.{IsSeen, IsSight}
 use Rattle.lifecycle_core.specs.Breaches.{HoldsSamples, read_key}
 use Rattle.block_meta.specs.OfBlocks.{block_meta}
 use Rattle.lifecycle_core.specs.Completed.{IsCompletedAt}

@@ -1,16 +1,16 @@
 -- Which sources an answer names: those of the blocks of the view, each of which is an upload that was complete before.
-use Rattle.list_core.proofs.Membership.{all_members, into_flat_map, of_flat_map}
+use Rattle.base.proofs.Membership.{all_members, into_flat_map, of_flat_map}
 use Rattle.std.proofs.Common.{◌≡◌, ℕ, List, Contains, Option, Some, None, refl, subst, arith}
 use Rattle.std.specs.List.{All}
 use Rattle.std.specs.Prelude.{option_map}
 use Rattle.std.proofs.lemmas.List.Elements.{All-contains, All-from_recursion}
 use Rattle.label_sets.specs.declared.series.Series.{Series}
 use Rattle.block_meta.specs.MetaFields.{fields_of}
-use Rattle.read_ranges.specs.ChunkRanges.{IsSetOf}
-use Rattle.read_ranges.specs.Reads.{Query as Question, damaged, fault, missing}
-use Rattle.series_calls.specs.SeriesCalls.{CallEnd, Called, Gives, SeriesRun, broke, sources_of, took}
-use Rattle.series_calls.specs.declared.series_end.SeriesEnd.{SeriesEnd}
-use Rattle.series_calls.specs.declared.series_end.SeriesEnd.TheVariants as called
+use Rattle.store_ranges.specs.ChunkRanges.{IsSetOf}
+use Rattle.store_ranges.specs.Reads.{Query as Question, damaged, fault, missing}
+use Rattle.store_calls.specs.SeriesCalls.{CallEnd, Called, Gives, SeriesRun, broke, sources_of, took}
+use Rattle.store_calls.specs.declared.series_end.SeriesEnd.{SeriesEnd}
+use Rattle.store_calls.specs.declared.series_end.SeriesEnd.TheVariants as called
 use Rattle.sync_filters.specs.declared.found.Found.{Found}
 use Rattle.world_core.specs.Standing.{IsHonest}
 use Rattle.world_core.specs.declared.entry.Entry.{Entry}

@@ -1,6 +1,6 @@
 -- The view by which a worker did a task is its gateway's last one, and where the bucket is honest it is the gateway's view at each
 -- entry of the task.
-use Rattle.list_core.proofs.Membership.{all_members, contains_first, of_filter}
+use Rattle.base.proofs.Membership.{all_members, contains_first, of_filter}
 use Rattle.std.proofs.Common.{◌≡◌, ℕ, ◌<◌, ◌≤◌, ◌==◌, List, [], ◌∷◌, ◌++◌, Contains, Some, sym, ◌∙◌, ap, subst, append_assoc, arith}
 use Rattle.std.proofs.lemmas.List.Elements.{All-contains, Contains-append_left}
 use Rattle.world_core.specs.Standing.{IsHonest, stands}

@@ -3,7 +3,7 @@ use Rattle.std.proofs.Common.{List, Contains}
 use Rattle.label_sets.specs.declared.series.Series.{Series}
 use Rattle.world_core.specs.Standing.{IsHonest}
 use Rattle.world_core.specs.declared.entry.Entry.{Entry}
-use Rattle.series_calls.specs.SeriesCalls.{asking}
+use Rattle.store_calls.specs.SeriesCalls.{asking}
 use Rattle.script_core.specs.Lawful.{IsLawfulScript}
 use Rattle.lifecycle_core.specs.Guarantees.{Answered, IsGiven, LeavesNoneOut, Named, NamesAll}
 use Rattle.lifecycle_core.specs.Phases.{IsRunOf}

@@ -5,8 +5,8 @@ use Rattle.std.proofs.lemmas.List.Elements.{All-contains}
 use Rattle.world_core.specs.Standing.{IsHonest}
 use Rattle.world_core.specs.Worlds.{IsOfBytes}
 use Rattle.world_core.specs.declared.entry.Entry.{Entry}
-use Rattle.series_calls.specs.SeriesCalls.{asking}
-use Rattle.series_calls.specs.declared.series_end.SeriesEnd.TheVariants as called
+use Rattle.store_calls.specs.SeriesCalls.{asking}
+use Rattle.store_calls.specs.declared.series_end.SeriesEnd.TheVariants as called
 use Rattle.querier.specs.declared.ask.Ask.{Ask}
 use Rattle.script_core.specs.Lawful.{IsLawfulScript}
 use Rattle.compactor.specs.declared.compact_end.CompactEnd.TheVariants as compacting

@@ -7,9 +7,9 @@ use Rattle.label_sets.specs.declared.series.Series.{Series}
 use Rattle.matchers.specs.declared.matcher.Matcher.{Matcher}
 use Rattle.vertical_merge.specs.Merged.{IsMerge}
 use Rattle.world_core.specs.declared.entry.Entry.{Entry}
-use Rattle.read_ranges.specs.Reads.{Query as Question}
-use Rattle.series_calls.specs.SeriesCalls.{CallEnd}
-use Rattle.series_calls.specs.declared.series_end.SeriesEnd.TheVariants as called
+use Rattle.store_ranges.specs.Reads.{Query as Question}
+use Rattle.store_calls.specs.SeriesCalls.{CallEnd}
+use Rattle.store_calls.specs.declared.series_end.SeriesEnd.TheVariants as called
 use Rattle.querier.specs.declared.answer.Names.{Names}
 use Rattle.querier.specs.declared.ask.Ask.{Ask}
 use Rattle.script_core.specs.Workers.{workers_of}

@@ -1,5 +1,5 @@
 -- A call over a view of an honest journal is worth what is said.
-use Rattle.list_core.proofs.Membership.{each_member}
+use Rattle.base.proofs.Membership.{each_member}
 use Rattle.std.proofs.Common.{◌≡◌, ◌≢◌, ℕ, ℤ, ◌==◌, ◌<◌, List, [], Contains, Option, Some, None, ◌∙◌, ap, subst, append_assoc}
 use Rattle.std.specs.List.{All}
 use Rattle.std.proofs.lemmas.List.Elements.{All-contains}
@@ -7,22 +7,22 @@ use Rattle.label_sets.specs.declared.series.Series.{Series}
 use Rattle.label_sets.specs.Triples.{triples_of}
 use Rattle.block_keys.specs.KeyText.{key_text}
 use Rattle.block_keys.specs.declared.key.Key.{Key}
-use Rattle.read_ranges.specs.Reads.{Query as Question}
+use Rattle.store_ranges.specs.Reads.{Query as Question}
 use Rattle.matchers.specs.Selected.{IsQueryAnswer}
 use Rattle.matchers.specs.SelectorText.{named_replicas}
 use Rattle.matchers.specs.declared.matcher.Matcher.{Matcher}
-use Rattle.series_calls.specs.SeriesCalls.{SeriesRun, asking}
-use Rattle.series_calls.specs.declared.series_end.SeriesEnd.{SeriesEnd}
-use Rattle.series_calls.specs.declared.series_end.SeriesEnd.TheVariants as called
-use Rattle.series_calls.proofs.LastAbsent.{ArePresent, answer_present, damaged_present}
+use Rattle.store_calls.specs.SeriesCalls.{SeriesRun, asking}
+use Rattle.store_calls.specs.declared.series_end.SeriesEnd.{SeriesEnd}
+use Rattle.store_calls.specs.declared.series_end.SeriesEnd.TheVariants as called
+use Rattle.store_calls.proofs.LastAbsent.{ArePresent, answer_present, damaged_present}
 use Rattle.meta_fetcher.specs.declared.rules.SyncRules.{SyncRules}
 use Rattle.world_core.specs.Standing.{IsHonest}
 use Rattle.world_core.specs.Worlds.{IsOfBytes}
 use Rattle.world_core.specs.declared.entry.Entry.{Entry}
 use Rattle.world_core.specs.declared.reply.Reply.TheVariants as reply
 use Rattle.script_core.specs.Lawful.{IsLawfulScript}
-use Rattle.activity_laws.specs.Sights.{IsSight}
-use Rattle.activity_laws.proofs.SyncSights.{sync_sight}
+use Rattle.lifecycle_core.specs.Sights.{IsSight}
+use Rattle.lifecycle_core.proofs.activities.SyncSights.{sync_sight}
 use Rattle.lifecycle_core.specs.Breaches.{read_key, watched_call}
 use Rattle.world_core.specs.Journals.{of_seat}
 use Rattle.lifecycle_core.specs.Guarantees.{IsSoundCall}

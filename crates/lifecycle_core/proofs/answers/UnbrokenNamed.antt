@@ -1,5 +1,5 @@
 -- Where no entry breaks a rule, an answered query names each settled upload.
-use Rattle.list_core.proofs.Membership.{all_members, of_filter}
+use Rattle.base.proofs.Membership.{all_members, of_filter}
 use Rattle.std.proofs.Common.{ℕ, ◌==◌, List, [], ◌∷◌, ◌++◌, Contains, Some, sym, subst}
 use Rattle.std.proofs.lemmas.List.Elements.{Contains-append_left}
 use Rattle.label_sets.specs.declared.series.Series.{Series}
@@ -7,7 +7,7 @@ use Rattle.world_core.specs.Standing.{IsHonest, stands}
 use Rattle.world_core.specs.Worlds.{IsJournal, IsOfBytes}
 use Rattle.world_core.specs.declared.entry.Entry.{Entry}
 use Rattle.meta_fetcher.specs.declared.sync_end.SyncEnd.TheVariants as fetched
-use Rattle.series_calls.specs.SeriesCalls.{asking}
+use Rattle.store_calls.specs.SeriesCalls.{asking}
 use Rattle.script_core.specs.Lawful.{IsLawfulScript}
 use Rattle.lifecycle_core.specs.Breaches.{IsSeatOf, IsSyncIn, IsUnbroken}
 use Rattle.lifecycle_core.specs.Guarantees.{Answered, IsGiven, LeavesNoneOut, Named, NamesAll}

@@ -4,9 +4,9 @@ use Rattle.std.specs.List.{All, AllByRecursion, IsDistinct, list_any}
 use Rattle.std.specs.Prelude.{IfSome, IsSome}
 use Rattle.label_sets.specs.Triples.{has_same_key}
 use Rattle.chunk_files.specs.Layout.{greatest}
-use Rattle.block_files.specs.declared.block_files.BlockFiles.{BlockFiles}
+use Rattle.block_meta.specs.declared.block_files.BlockFiles.{BlockFiles}
 use Rattle.block_content.specs.Content.{IsContent}
-use Rattle.block_laws.specs.PutContent.{AreBytes}
+use Rattle.block_merging.specs.PutContent.{AreBytes}
 use Rattle.label_sets.specs.declared.series.Series.{Series}
 use Rattle.block_meta.specs.MetaFields.{MetaFields, fields_of}
 use Rattle.world_core.specs.Standing.{IsHonest}
@@ -15,7 +15,7 @@ use Rattle.world_core.specs.declared.entry.Entry.{Entry}
 use Rattle.script_core.specs.Lawful.{IsLawfulScript}
 use Rattle.lifecycle_core.specs.Completed.{IsCompletedAt}
 use Rattle.lifecycle_core.specs.Held.{declared, held}
-use Rattle.activity_laws.specs.MergedLabels.{seen_as}
+use Rattle.lifecycle_core.specs.MergedLabels.{seen_as}
 use Rattle.lifecycle_core.specs.PutBlocks.{HoldsItsSources, IsPutAs}
 use Rattle.lifecycle_core.specs.Setting.{Setting}
 use Rattle.lifecycle_core.proofs.blocks.FilesPut.{AreFilesPut}

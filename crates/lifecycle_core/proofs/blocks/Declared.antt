@@ -1,5 +1,5 @@
 -- The block that a script declares under a ULID.
-use Rattle.list_core.proofs.Lists.{find_passes, find_holds}
+use Rattle.base.proofs.Lists.{find_passes, find_holds}
 use Rattle.std.proofs.Common.{◌≡◌, ◌^◌, ◌<◌, ◌==◌, ℕ, Some, true, subst, arith}
 use Rattle.std.proofs.lemmas.Bool.Decides.{nat_tests}
 use Rattle.script_core.specs.declared.block.Block.{Block}

@@ -1,7 +1,7 @@
 -- The files with which a block was put before its meta, and that no put of the block has others.
-use Rattle.list_core.proofs.Lists.{nil_not_middle}
-use Rattle.list_core.proofs.Membership.{contains_later, member_cases, no_member}
-use Rattle.list_core.proofs.Pairs.{AllZip-first}
+use Rattle.base.proofs.Lists.{nil_not_middle}
+use Rattle.base.proofs.Membership.{contains_later, member_cases, no_member}
+use Rattle.base.proofs.Pairs.{AllZip-first}
 use Rattle.std.proofs.Common.{◌≡◌, ◌≢◌, ◌⊎◌, inl, inr, ℕ, ◌+◌, List, [], ◌∷◌, ◌++◌, Contains, Some, refl, sym, ◌∙◌, ap, subst, append_assoc, arith}
 use Rattle.std.specs.Prelude.{slice_get}
 use Rattle.std.proofs.lemmas.List.Elements.{Contains-append_cases, Contains-append_left, Contains-append_right}
@@ -9,13 +9,13 @@ use Rattle.block_keys.specs.declared.key.Key.TheVariants as key
 use Rattle.block_keys.specs.declared.object.Object.{Object}
 use Rattle.block_meta.specs.MetaFields.{fields_of}
 use Rattle.block_meta.specs.MetaValue.{meta_text}
-use Rattle.block_files.specs.Built.{objects_of}
+use Rattle.block_meta.specs.Built.{objects_of}
 use Rattle.world_core.specs.Standing.{has_landed}
 use Rattle.world_core.specs.declared.op.Op.TheVariants as op
 use Rattle.world_core.specs.declared.entry.Entry.{Entry}
 use Rattle.script_core.specs.Lawful.{IsLawfulScript}
 use Rattle.script_core.specs.declared.block.Block.{Block as Declared}
-use Rattle.activity_laws.specs.CompactionOps.{IsObjectMade, Stores}
+use Rattle.lifecycle_core.specs.CompactionOps.{IsObjectMade, Stores}
 use Rattle.world_core.specs.Journals.{of_seat}
 use Rattle.lifecycle_core.specs.PutBlocks.{WasPutBefore}
 use Rattle.lifecycle_core.specs.Setting.{Setting}

@@ -1,5 +1,5 @@
 -- The first put of a block's meta that landed: from there on the block is complete.
-use Rattle.list_core.proofs.Membership.{member_cases, no_member}
+use Rattle.base.proofs.Membership.{member_cases, no_member}
 use Rattle.std.proofs.Common.{◌≡◌, ◌⊎◌, inl, inr, ℕ, ◌≤◌, List, [], ◌∷◌, ◌++◌, All, Contains, refl, sym, ◌∙◌, ap, subst, arith}
 use Rattle.std.proofs.lemmas.Bool.{cases_Bool}
 use Rattle.std.proofs.lemmas.Bool.Decides.{eqb_tells}

@@ -1,11 +1,11 @@
 -- What a block holds that was compacted, by what its inputs hold.
-use Rattle.list_core.proofs.Membership.{all_members, into_flat_map, into_map, of_flat_map, of_map, place_of_member, contains_first, contains_later}
+use Rattle.base.proofs.Membership.{all_members, into_flat_map, into_map, of_flat_map, of_map, place_of_member, contains_first, contains_later}
 use Rattle.std.proofs.Common.{◌≡◌, ℕ, zero, suc, ◌+◌, ◌<◌, ◌≤◌, ◌^◌, true, List, [], ◌∷◌, ◌++◌, map, flat_map, length, All, Contains, Some, refl, sym, ◌∙◌, ap, subst, append_assoc, arith}
 use Rattle.std.specs.Prelude.{IfSome, slice_get}
 use Rattle.std.specs.List.{AllByRecursion, AllZip, list_any}
 use Rattle.std.specs.Option.{option_map_or}
 use Rattle.std.proofs.lemmas.List.Elements.{All-contains, All-from_recursion, Contains-append_left}
-use Rattle.reading_core.specs.Grammar.{IsBytes}
+use Rattle.base.specs.Grammar.{IsBytes}
 use Rattle.label_sets.specs.Labels.{IsLabelSet}
 use Rattle.label_sets.specs.Finals.{without}
 use Rattle.label_sets.specs.Triples.{Triple, has_same_key}
@@ -17,12 +17,12 @@ use Rattle.block_meta.specs.MetaFields.{MetaFields, fields_of}
 use Rattle.block_meta.specs.MetaReading.{meta_of_text}
 use Rattle.block_meta.specs.declared.meta.Meta.{Meta}
 use Rattle.block_meta.proofs.SameMetas.{same_meta}
-use Rattle.block_files.specs.declared.block_files.BlockFiles.{BlockFiles}
-use Rattle.block_laws.specs.PutContent.{AreBytes}
+use Rattle.block_meta.specs.declared.block_files.BlockFiles.{BlockFiles}
+use Rattle.block_merging.specs.PutContent.{AreBytes}
 use Rattle.block_writing.specs.Segments.{segment_text}
 use Rattle.block_writing.specs.WrittenMeta.{meta_with}
-use Rattle.list_core.proofs.Lists.{AllByRecursion-map}
-use Rattle.list_core.proofs.Pairs.{AllZip-first}
+use Rattle.base.proofs.Lists.{AllByRecursion-map}
+use Rattle.base.proofs.Pairs.{AllZip-first}
 use Rattle.world_core.specs.Operations.{IsLawful, PutsBytes}
 use Rattle.world_core.specs.Standing.{IsHonest}
 use Rattle.world_core.specs.Worlds.{IsOfBytes}
@@ -30,15 +30,15 @@ use Rattle.world_core.specs.declared.op.Op.TheVariants as op
 use Rattle.world_core.specs.declared.reply.Reply.TheVariants as reply
 use Rattle.world_core.specs.declared.entry.Entry.{Entry}
 use Rattle.sync_filters.specs.declared.found.Found.{Found}
-use Rattle.compaction_inputs.specs.Inputs.{IsInput}
-use Rattle.compaction_inputs.specs.Named.{named_segments}
-use Rattle.compaction_inputs.specs.declared.input.Input.{Input}
-use Rattle.compaction_inputs.specs.declared.input.Read.{Read}
+use Rattle.compactor.specs.Inputs.{IsInput}
+use Rattle.compactor.specs.Named.{named_segments}
+use Rattle.compactor.specs.declared.input.Input.{Input}
+use Rattle.compactor.specs.declared.input.Read.{Read}
 use Rattle.compactor.specs.Compactions.{metas_of}
 use Rattle.script_core.specs.Lawful.{IsLawfulScript}
-use Rattle.activity_laws.specs.CompactionOps.{HasMerged, IsObjectMade, ReadsObject, WasRead}
-use Rattle.activity_laws.specs.MergedLabels.{AreMergedAs, Holds, seen_as}
-use Rattle.activity_laws.specs.Sights.{IsSeen}
+use Rattle.lifecycle_core.specs.CompactionOps.{HasMerged, IsObjectMade, ReadsObject, WasRead}
+use Rattle.lifecycle_core.specs.MergedLabels.{AreMergedAs, Holds, seen_as}
+use Rattle.lifecycle_core.specs.Sights.{IsSeen}
 use Rattle.world_core.specs.Journals.{of_seat}
 use Rattle.lifecycle_core.specs.Held.{declared, held, held_by}
 use Rattle.lifecycle_core.specs.PutBlocks.{WasPutBefore}
@@ -46,8 +46,8 @@ use Rattle.lifecycle_core.specs.Setting.{Setting}
 use Rattle.lifecycle_core.proofs.blocks.FilesPut.{AreFilesPut, new_files}
 use Rattle.lifecycle_core.proofs.blocks.HeldPuts.{IsHeldPut, not_declared, seen_in, shipped_holds}
 use Rattle.lifecycle_core.proofs.blocks.InlineBlocks.{index_told}
-use Rattle.activity_laws.proofs.MergedBlocks.{HoldsThese, merge_joins}
-use Rattle.activity_laws.proofs.CompactionGroups.{plan_among, named_is}
+use Rattle.lifecycle_core.proofs.activities.MergedBlocks.{HoldsThese, merge_joins}
+use Rattle.lifecycle_core.proofs.activities.CompactionGroups.{plan_among, named_is}
 use Rattle.lifecycle_core.proofs.blocks.Known.{IsSoundPut, WasMetaPut, merged_again, read_put, sound_put}
 use Rattle.lifecycle_core.proofs.blocks.NamedContent.{named_content}
 use Rattle.lifecycle_core.proofs.blocks.NewMetas.{given, input_labels, merge, metas_are, source_in, source_of}

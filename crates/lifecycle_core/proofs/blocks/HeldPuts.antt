@@ -1,6 +1,6 @@
 -- What a block holds whose meta was put.
-use Rattle.list_core.proofs.Membership.{any_of_member}
-use Rattle.list_core.proofs.Rising.{one_rises}
+use Rattle.base.proofs.Membership.{any_of_member}
+use Rattle.base.proofs.Rising.{one_rises}
 use Rattle.std.proofs.Common.{◌≡◌, ℕ, ◌≤◌, true, is_some, List, [], ◌∷◌, ◌++◌, length, All, Contains, Option, Some, None, refl, sym, ◌∙◌, ap, subst, append-nil}
 use Rattle.std.specs.Prelude.{IfSome, IsSome}
 use Rattle.std.specs.List.{AllByRecursion, IsDistinct, list_any}
@@ -20,15 +20,15 @@ use Rattle.block_meta.specs.MetaReading.{meta_of_text}
 use Rattle.block_meta.specs.MetaValue.{meta_text}
 use Rattle.block_meta.specs.OfBlocks.{block_meta}
 use Rattle.block_meta.specs.declared.meta.Meta.{Meta}
-use Rattle.block_files.specs.declared.block_files.BlockFiles.{BlockFiles}
+use Rattle.block_meta.specs.declared.block_files.BlockFiles.{BlockFiles}
 use Rattle.block_content.specs.Content.{IsContent}
-use Rattle.block_laws.specs.PutContent.{AreBytes}
+use Rattle.block_merging.specs.PutContent.{AreBytes}
 use Rattle.world_core.specs.Standing.{IsHonest}
 use Rattle.world_core.specs.declared.op.Op.TheVariants as op
 use Rattle.world_core.specs.declared.entry.Entry.{Entry}
 use Rattle.script_core.specs.Lawful.{IsLawfulScript}
-use Rattle.activity_laws.specs.CompactionOps.{IsObjectMade}
-use Rattle.activity_laws.specs.MergedLabels.{seen_as}
+use Rattle.lifecycle_core.specs.CompactionOps.{IsObjectMade}
+use Rattle.lifecycle_core.specs.MergedLabels.{seen_as}
 use Rattle.world_core.specs.Journals.{of_seat}
 use Rattle.lifecycle_core.specs.Held.{declared, given, held, held_by}
 use Rattle.lifecycle_core.specs.Setting.{Setting}

@@ -5,7 +5,7 @@ use Rattle.std.specs.List.{AllByRecursion, AllZip}
 use Rattle.std.specs.Str.{bytes_eq}
 use Rattle.std.proofs.lemmas.Str.{IsUtf8-append}
 use Rattle.std.proofs.lemmas.List.Elements.{All-append, All-cons, All-nil}
-use Rattle.list_core.proofs.Lists.{AllByRecursion-map}
+use Rattle.base.proofs.Lists.{AllByRecursion-map}
 use Rattle.label_sets.specs.declared.label.Label.{Label}
 use Rattle.label_sets.specs.declared.series.Series.{Series}
 use Rattle.label_sets.specs.Counts.{sample_count}
@@ -19,8 +19,8 @@ use Rattle.block_meta.specs.declared.file_size.FileSize.{FileSize}
 use Rattle.block_meta.specs.MetaFields.{MetaFields, fields_of}
 use Rattle.block_meta.specs.MetaReading.{meta_of_text}
 use Rattle.block_meta.specs.MetaValue.{meta_text}
-use Rattle.block_files.specs.Built.{objects_of}
-use Rattle.block_files.specs.declared.block_files.BlockFiles.{BlockFiles}
+use Rattle.block_meta.specs.Built.{objects_of}
+use Rattle.block_meta.specs.declared.block_files.BlockFiles.{BlockFiles}
 use Rattle.chunk_files.specs.Layout.{greatest}
 use Rattle.index_writing.specs.WriteSteps as index_writing
 use Rattle.block_writing.specs.Put.{PlanFields, fitted}
@@ -33,8 +33,8 @@ use Rattle.block_writing.proofs.Names.{IsUtf8-six_digits}
 use Rattle.block_writing.proofs.OnePut.{put_once}
 use Rattle.block_writing.proofs.OneText.{one_index}
 use Rattle.block_content.specs.Content.{AreWithin, HoldsSeries, IsContent}
-use Rattle.block_laws.proofs.Content.{built_holds}
-use Rattle.block_laws.proofs.OneBlock.{written_once}
+use Rattle.block_merging.proofs.Content.{built_holds}
+use Rattle.block_merging.proofs.OneBlock.{written_once}
 use Rattle.script_core.specs.declared.block.Block.{Block}
 use Rattle.script_core.specs.declared.body.Body.TheVariants.{Inline}
 use Rattle.lifecycle_core.specs.Held.{given_by}

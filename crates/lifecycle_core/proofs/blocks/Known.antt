@@ -4,9 +4,9 @@ use Rattle.std.specs.Prelude.{pos}
 use Rattle.std.specs.List.{All}
 use Rattle.std.specs.List.Sorted.{IsStrictlyIncreasing}
 use Rattle.std.proofs.lemmas.List.Elements.{All-cons, All-contains, All-from_recursion, All-nil}
-use Rattle.list_core.proofs.Membership.{all_members, of_map}
-use Rattle.list_core.proofs.Integers.{le_le, le_itself}
-use Rattle.list_core.proofs.Rising.{one_rises}
+use Rattle.base.proofs.Membership.{all_members, of_map}
+use Rattle.base.proofs.Integers.{le_le, le_itself}
+use Rattle.base.proofs.Rising.{one_rises}
 use Rattle.block_keys.specs.declared.key.Key.TheVariants as key
 use Rattle.block_meta.specs.MetaFields.{MetaFields, fields_of}
 use Rattle.block_meta.specs.MetaReading.{meta_of_text}
@@ -23,9 +23,9 @@ use Rattle.world_core.specs.declared.reply.Reply.TheVariants as reply
 use Rattle.world_core.specs.declared.entry.Entry.{Entry}
 use Rattle.compactor.specs.Compactions.{metas_of}
 use Rattle.script_core.specs.Lawful.{AreLawfulLabels, IsLawfulScript}
-use Rattle.activity_laws.specs.CompactionOps.{HasMerged, IsObjectMade}
-use Rattle.activity_laws.specs.Sights.{IsSeen}
-use Rattle.activity_laws.proofs.CompactionGroups.{plan_among, named_is}
+use Rattle.lifecycle_core.specs.CompactionOps.{HasMerged, IsObjectMade}
+use Rattle.lifecycle_core.specs.Sights.{IsSeen}
+use Rattle.lifecycle_core.proofs.activities.CompactionGroups.{plan_among, named_is}
 use Rattle.lifecycle_core.specs.Completed.{IsCompletedAt}
 use Rattle.world_core.specs.Journals.{of_seat}
 use Rattle.lifecycle_core.specs.PutBlocks.{LiesWithin, WasPutBefore}

@@ -32,7 +32,7 @@ use Rattle.block_meta.proofs.Lists.{each_again}
 use Rattle.block_meta.proofs.Rising.{ascending_already, lawful_passes}
 use Rattle.block_meta.proofs.Texts.{meta_reads}
 use Rattle.ulid_core.proofs.AsciiTexts.{IsUtf8-text_of}
-use Rattle.block_files.proofs.JsonAgain.{FitsNumber, keys, IsPlain, ArePlainItems, ArePlainMembers, plain_read, plain_utf8}
+use Rattle.block_meta.proofs.JsonAgain.{FitsNumber, keys, IsPlain, ArePlainItems, ArePlainMembers, plain_read, plain_utf8}
 
 -- What a meta's text needs to be read as the meta. A shipped meta drops no samples.
 pub record IsReadAgain (m : MetaFields) : Type 0 where

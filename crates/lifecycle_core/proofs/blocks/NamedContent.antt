@@ -3,19 +3,19 @@ use Rattle.std.proofs.Common.{◌≡◌, inl, inr, ℕ, ◌<◌, ◌≤◌, Bool
 use Rattle.std.specs.Prelude.{slice_get}
 use Rattle.std.specs.List.{AllByRecursion, AllZip}
 use Rattle.std.proofs.lemmas.Option.{slice_get_cases}
-use Rattle.list_core.proofs.Membership.{contains_first, contains_later, into_flat_map, into_map, member_cases, no_member}
+use Rattle.base.proofs.Membership.{contains_first, contains_later, into_flat_map, into_map, member_cases, no_member}
 use Rattle.label_sets.specs.declared.sample.Sample.{Sample}
 use Rattle.label_sets.specs.declared.series.Series.{Series}
 use Rattle.index_parts.specs.declared.chunk_place.ChunkPlace.{ChunkPlace}
-use Rattle.index_file.specs.IndexFile.{IsIndex}
-use Rattle.index_file.specs.declared.index_series.IndexSeries.{IndexSeries}
+use Rattle.index_parts.specs.IndexFile.{IsIndex}
+use Rattle.index_parts.specs.declared.index_series.IndexSeries.{IndexSeries}
 use Rattle.block_meta.specs.declared.meta.Meta.{Meta}
-use Rattle.block_files.specs.declared.block_files.BlockFiles.{BlockFiles}
+use Rattle.block_meta.specs.declared.block_files.BlockFiles.{BlockFiles}
 use Rattle.block_content.specs.Content.{AreWithin, HoldsSeries, IsChunkOf, IsContent, StandsAt}
 use Rattle.block_content.specs.ContentReading.{index_at}
 use Rattle.block_content.proofs.TimesAndOrder.{index_again}
-use Rattle.block_laws.specs.PutContent.{AreBytes}
-use Rattle.compaction_inputs.specs.Named.{if_few, last_named, named_by, named_segments, segment_number}
+use Rattle.block_merging.specs.PutContent.{AreBytes}
+use Rattle.compactor.specs.Named.{if_few, last_named, named_by, named_segments, segment_number}
 
 -- ---- the greatest of numbers
 

@@ -6,16 +6,16 @@ use Rattle.std.proofs.lemmas.Bool.{le-leb}
 use Rattle.std.proofs.lemmas.List.{map-append}
 use Rattle.std.proofs.lemmas.List.Sums.{fold-append}
 use Rattle.std.proofs.lemmas.Option.{slice_get_within}
-use Rattle.block_laws.specs.PutContent.{AreBytes}
+use Rattle.block_merging.specs.PutContent.{AreBytes}
 use Rattle.block_content.specs.Content.{HoldsSeries, IsChunkOf, IsContent}
 use Rattle.block_content.specs.ContentReading.{index_at}
 use Rattle.block_content.proofs.TimesAndOrder.{index_again}
-use Rattle.block_files.specs.declared.block_files.BlockFiles.{BlockFiles}
-use Rattle.index_file.specs.declared.index_series.IndexSeries.{IndexSeries}
+use Rattle.block_meta.specs.declared.block_files.BlockFiles.{BlockFiles}
+use Rattle.index_parts.specs.declared.index_series.IndexSeries.{IndexSeries}
 use Rattle.index_parts.specs.declared.chunk_place.ChunkPlace.{ChunkPlace}
 use Rattle.label_sets.specs.declared.sample.Sample.{Sample}
 use Rattle.label_sets.specs.declared.series.Series.{Series}
-use Rattle.compaction_inputs.specs.Named.{if_few, last_named, named_by, named_segments, segment_number}
+use Rattle.compactor.specs.Named.{if_few, last_named, named_by, named_segments, segment_number}
 use Rattle.lifecycle_core.proofs.blocks.NamedContent.{few_is}
 
 chunks_within : (segments : List (List ℕ)) (chunks : List ChunkPlace) (parts : List (List Sample)) → AllZip (IsChunkOf segments) chunks parts → (before : ℕ) → before ≤ length segments → fold max before (map segment_number chunks) ≤ length segments

@@ -1,7 +1,7 @@
 -- What the meta of a block says that was compacted from others, and that its text is read again.
-use Rattle.list_core.proofs.Bools.{Equal-from_then, Equal-from_is_eq}
-use Rattle.list_core.proofs.Lists.{AllByRecursion-map, cons_same}
-use Rattle.list_core.proofs.Membership.{all_members, into_flat_map, member_passes, no_member, of_filter, of_flat_map, of_in_order, of_map, some_member}
+use Rattle.base.proofs.Bools.{Equal-from_then, Equal-from_is_eq}
+use Rattle.base.proofs.Lists.{AllByRecursion-map, cons_same}
+use Rattle.base.proofs.Membership.{all_members, into_flat_map, member_passes, no_member, of_filter, of_flat_map, of_in_order, of_map, some_member}
 use Rattle.std.proofs.Common.{◌≡◌, ◌≢◌, ℕ, ℤ, ◌+◌, ◌<◌, ◌≤ℤ◌, ◌^◌, Bool, true, false, cond, pos, min, eqb, List, [], ◌∷◌, map, flat_map, filter, not, All, Contains, Some, None, Result, Ok, Err, IsUtf8, IsTrue, codes, rules, refl, sym, ◌∙◌, ap, subst, arith}
 use Rattle.std.specs.declared.cmp.Ordering.TheVariants.{Equal}
 use Rattle.std.specs.List.{AllByRecursion, AllZip}
@@ -26,7 +26,7 @@ use Rattle.block_meta.specs.declared.meta.Meta.{Meta}
 use Rattle.block_meta.specs.declared.refusal.MetaRefusal.{MetaRefusal}
 use Rattle.block_meta.proofs.AscendingOnce.{ascending_same}
 use Rattle.block_meta.proofs.FoundTexts.{meta_text_found}
-use Rattle.block_files.specs.declared.block_files.BlockFiles.{BlockFiles}
+use Rattle.block_meta.specs.declared.block_files.BlockFiles.{BlockFiles}
 use Rattle.block_writing.specs.Put.{PlanFields}
 use Rattle.block_writing.specs.Writing.{plan_fields}
 use Rattle.block_writing.specs.WrittenMeta.{counts_of, meta_with}
@@ -37,13 +37,13 @@ use Rattle.group_planner.specs.declared.group.Group.{Group}
 use Rattle.moment_core.specs.declared.rules.Rules.{Rules}
 use Rattle.world_core.specs.declared.entry.Entry.{Entry}
 use Rattle.meta_fetcher.specs.declared.view.View.{View}
-use Rattle.compaction_inputs.specs.Inputs.{IsInput}
-use Rattle.compaction_inputs.specs.Merges.{Given}
-use Rattle.compaction_inputs.specs.declared.input.Input.{Input}
+use Rattle.compactor.specs.Inputs.{IsInput}
+use Rattle.compactor.specs.Merges.{Given}
+use Rattle.compactor.specs.declared.input.Input.{Input}
 use Rattle.compactor.specs.Compactions.{metas_of}
 use Rattle.script_core.specs.Lawful.{AreLawfulLabels}
-use Rattle.activity_laws.specs.CompactionOps.{HasMerged, WasRead}
-use Rattle.activity_laws.proofs.CompactionGroups.{plan_among}
+use Rattle.lifecycle_core.specs.CompactionOps.{HasMerged, WasRead}
+use Rattle.lifecycle_core.proofs.activities.CompactionGroups.{plan_among}
 use Rattle.lifecycle_core.proofs.blocks.InlineBlocks.{all_fit, count_fits, names_fit, samples_fit}
 use Rattle.lifecycle_core.proofs.blocks.MetasAgain.{IsReadAgain, lawful_fits, meta_read_again}
 

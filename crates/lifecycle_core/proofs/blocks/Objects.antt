@@ -2,12 +2,12 @@
 use Rattle.std.proofs.Common.{◌≡◌, ℕ, zero, suc, ◌+◌, List, [], ◌∷◌, ◌++◌, Contains, Some, refl, sym, ◌∙◌, ap, subst, append_assoc, inl, inr, arith}
 use Rattle.std.specs.Prelude.{slice_get}
 use Rattle.std.proofs.lemmas.List.Elements.{Contains-append_cases, Contains-append_left, Contains-append_right}
-use Rattle.list_core.proofs.Membership.{contains_first, contains_later, member_cases, no_member, only_member}
+use Rattle.base.proofs.Membership.{contains_first, contains_later, member_cases, no_member, only_member}
 use Rattle.block_keys.specs.Keys.{key_ulid}
 use Rattle.block_keys.specs.declared.key.Key.{Key}
 use Rattle.block_keys.specs.declared.key.Key.TheVariants as key
 use Rattle.block_keys.specs.declared.object.Object.{Object}
-use Rattle.block_files.specs.Built.{objects_of, segment_objects}
+use Rattle.block_meta.specs.Built.{objects_of, segment_objects}
 
 abbrev pub object : Key → List ℕ → Object
 object k bytes = record { key = k; bytes = bytes }

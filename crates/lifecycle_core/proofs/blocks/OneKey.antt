@@ -1,6 +1,6 @@
 -- All puts under one key, marks aside, have the same bytes.
-use Rattle.list_core.proofs.Membership.{into_filter, member_cases, no_member}
-use Rattle.list_core.proofs.Pairs.{AllZip-second}
+use Rattle.base.proofs.Membership.{into_filter, member_cases, no_member}
+use Rattle.base.proofs.Pairs.{AllZip-second}
 use Rattle.std.proofs.Common.{◌≡◌, inl, inr, ℕ, ◌+◌, ◌*◌, ◌%◌, ◌<◌, ◌≤◌, ◌^◌, ◌==◌, true, List, [], ◌∷◌, ◌++◌, length, Contains, Some, refl, sym, ◌∙◌, ap, subst, append_assoc, arith}
 use Rattle.std.proofs.lemmas.Bool.Decides.{nat_tests}
 use Rattle.std.proofs.lemmas.Bool.{le-leb}
@@ -9,7 +9,7 @@ use Rattle.std.proofs.lemmas.List.Elements.{Contains-append_cases, Contains-appe
 use Rattle.block_keys.specs.Keys.{key_ulid}
 use Rattle.block_keys.specs.declared.key.Key.{Key}
 use Rattle.block_keys.specs.declared.object.Object.{Object}
-use Rattle.block_files.specs.Built.{objects_of}
+use Rattle.block_meta.specs.Built.{objects_of}
 use Rattle.block_meta.specs.MetaFields.{fields_of}
 use Rattle.block_meta.specs.MetaValue.{meta_text}
 use Rattle.world_core.specs.declared.op.Op.TheVariants as op
@@ -20,7 +20,7 @@ use Rattle.script_core.specs.declared.block.Block.{Block as Declared}
 use Rattle.compactor.specs.NewBlocks.{new_ulid}
 use Rattle.ulid_core.specs.Limits.{entropy_count}
 use Rattle.ulid_core.specs.Reserved.{least_reserved, reserved_count}
-use Rattle.activity_laws.specs.CompactionOps.{IsObjectMade, Stores}
+use Rattle.lifecycle_core.specs.CompactionOps.{IsObjectMade, Stores}
 use Rattle.world_core.specs.Journals.{of_seat}
 use Rattle.lifecycle_core.specs.Held.{declared}
 use Rattle.lifecycle_core.specs.Setting.{Setting}

@@ -1,10 +1,10 @@
 -- What is planned of a group are members of it, which are blocks that the view keeps.
-use Rattle.list_core.proofs.Membership.{contains_first, contains_later, member_cases, no_member, of_filter, of_in_order, of_map, found_among}
+use Rattle.base.proofs.Membership.{contains_first, contains_later, member_cases, no_member, of_filter, of_in_order, of_map, found_among}
 use Rattle.std.proofs.Common.{◌≡◌, inl, inr, ℕ, ℤ, ◌-◌, Bool, true, false, cond, List, [], ◌∷◌, ◌++◌, map, Contains, Option, Some, None, sym, subst}
 use Rattle.std.specs.Prelude.{find}
 use Rattle.std.specs.List.{filter}
 use Rattle.std.specs.Option.{option_map_or}
-use Rattle.list_core.specs.Ordered.{in_order}
+use Rattle.base.specs.Ordered.{in_order}
 use Rattle.std.proofs.lemmas.List.Elements.{Contains-append_cases, Contains-append_left, Contains-append_right}
 use Rattle.block_meta.specs.declared.meta.Meta.{Meta}
 use Rattle.group_planner.specs.Groups.{AreGroups, comes_before, group_of, has_key}

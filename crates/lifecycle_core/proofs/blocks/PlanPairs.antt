@@ -1,7 +1,7 @@
 -- A plan has two blocks of different ULIDs at least, so to each of its blocks there is another one.
-use Rattle.list_core.proofs.Bools.{lt-from_Less}
-use Rattle.list_core.proofs.Lists.{filter_hit, filter_miss}
-use Rattle.list_core.proofs.Membership.{contains_first, contains_later, each_member, into_map, member_cases, no_member, of_filter, of_in_order, of_map, of_placed}
+use Rattle.base.proofs.Bools.{lt-from_Less}
+use Rattle.base.proofs.Lists.{filter_hit, filter_miss}
+use Rattle.base.proofs.Membership.{contains_first, contains_later, each_member, into_map, member_cases, no_member, of_filter, of_in_order, of_map, of_placed}
 use Rattle.std.proofs.Common.{◌≡◌, ◌≢◌, ◌⊎◌, inl, inr, ℕ, ℤ, ◌-◌, ◌<◌, ◌≤◌, ◌==◌, Bool, true, false, cond, List, [], ◌∷◌, ◌++◌, map, filter, drop, length, Contains, Option, Some, None, refl, sym, ◌∙◌, ap, subst, append_assoc, arith, Less, nat_cmp, take-append-drop}
 use Rattle.std.specs.Prelude.{nat_le}
 use Rattle.std.specs.List.{find}
@@ -11,11 +11,11 @@ use Rattle.std.proofs.lemmas.Bool.{and_parts, cases_Bool}
 use Rattle.std.proofs.lemmas.Bool.Decides.{nat_tests}
 use Rattle.std.proofs.lemmas.List.Elements.{Contains-append_cases, Contains-append_left}
 use Rattle.std.proofs.lemmas.Map.Keys.{sorted_from_strictly_increasing, sorted_head, sorted_tail}
-use Rattle.list_core.specs.Ordered.{in_order, placed}
+use Rattle.base.specs.Ordered.{in_order, placed}
 use Rattle.block_meta.specs.MetaFields.{fields_of}
 use Rattle.block_meta.specs.MetaReading.{meta_of_text}
 use Rattle.block_meta.specs.declared.meta.Meta.{Meta}
-use Rattle.block_files.specs.declared.block_files.BlockFiles.{BlockFiles}
+use Rattle.block_meta.specs.declared.block_files.BlockFiles.{BlockFiles}
 use Rattle.moment_core.specs.declared.rules.Rules.{Rules}
 use Rattle.world_core.specs.declared.entry.Entry.{Entry}
 use Rattle.sync_filters.specs.declared.found.Found.{Found}
@@ -32,8 +32,8 @@ use Rattle.group_planner.specs.Plans.{IsPlan, without_last}
 use Rattle.group_planner.specs.Selections.{AreCandidates, Candidate, IsSelection, is_wanted, last_begin, ranges}
 use Rattle.group_planner.specs.declared.group.Group.{Group}
 use Rattle.compactor.specs.Compactions.{metas_of, sync_rules}
-use Rattle.activity_laws.specs.CompactionOps.{HasMerged, HasSynced}
-use Rattle.activity_laws.proofs.CompactionGroups.{named_is}
+use Rattle.lifecycle_core.specs.CompactionOps.{HasMerged, HasSynced}
+use Rattle.lifecycle_core.proofs.activities.CompactionGroups.{named_is}
 use Rattle.lifecycle_core.proofs.marks.Reasons.{kept_seen}
 
 -- ---- blocks of different ULIDs

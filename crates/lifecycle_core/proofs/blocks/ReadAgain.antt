@@ -1,22 +1,22 @@
 -- A block as it was read, with the segments that its index names, holds what the block holds.
-use Rattle.list_core.proofs.Membership.{contains_first, contains_later}
+use Rattle.base.proofs.Membership.{contains_first, contains_later}
 use Rattle.std.proofs.Common.{◌≡◌, ℕ, ◌<◌, List, [], ◌∷◌, Contains, Some, Ok, sym, ◌∙◌, ap, subst}
 use Rattle.std.specs.Prelude.{nat_le, slice_get}
 use Rattle.std.specs.List.{AllByRecursion, AllZip}
 use Rattle.block_meta.specs.MetaFields.{fields_of}
 use Rattle.block_meta.specs.declared.meta.Meta.{Meta}
 use Rattle.block_meta.proofs.SameMetas.{same_meta}
-use Rattle.block_laws.specs.PutContent.{AreBytes}
+use Rattle.block_merging.specs.PutContent.{AreBytes}
 use Rattle.block_content.specs.Content.{AreWithin, HoldsSeries, IsChunkOf, IsContent}
 use Rattle.block_content.specs.ContentReading.{index_at}
 use Rattle.block_content.proofs.TimesAndOrder.{index_again}
-use Rattle.block_files.specs.declared.block_files.BlockFiles.{BlockFiles}
-use Rattle.index_file.specs.IndexFile.{IsIndex}
-use Rattle.index_file.specs.declared.index_series.IndexSeries.{IndexSeries}
+use Rattle.block_meta.specs.declared.block_files.BlockFiles.{BlockFiles}
+use Rattle.index_parts.specs.IndexFile.{IsIndex}
+use Rattle.index_parts.specs.declared.index_series.IndexSeries.{IndexSeries}
 use Rattle.index_parts.specs.declared.chunk_place.ChunkPlace.{ChunkPlace}
 use Rattle.label_sets.specs.declared.sample.Sample.{Sample}
 use Rattle.label_sets.specs.declared.series.Series.{Series}
-use Rattle.compaction_inputs.specs.Named.{last_named, named_by, named_segments}
+use Rattle.compactor.specs.Named.{last_named, named_by, named_segments}
 use Rattle.lifecycle_core.proofs.blocks.NamedContent.{few_is, chunk_named}
 
 -- ---- the segments that an index names

@@ -16,7 +16,7 @@ use Rattle.block_keys.specs.declared.key.Key.TheVariants as key
 use Rattle.block_keys.specs.declared.object.Object.{Object}
 use Rattle.block_meta.specs.declared.file_size.FileSize.{FileSize}
 use Rattle.block_meta.specs.MetaFields.{MetaFields}
-use Rattle.block_files.specs.Built.{segment_objects}
+use Rattle.block_meta.specs.Built.{segment_objects}
 use Rattle.block_writing.proofs.Names.{IsUtf8-six_digits}
 use Rattle.block_content.specs.Content.{AreWithin, HoldsSeries}
 use Rattle.block_content.specs.Shipped.{names_of, segment_name, shipped_meta, size_of, sizes_of}

@@ -2,17 +2,17 @@
 use Rattle.std.specs.Prelude.{◌≡◌, ◌≤◌, ◌≤ℤ◌, ◌<ℤ◌, ℕ, ℤ, pos, List, [], ◌∷◌, length, codes, find, option_map, Option, IfSome, Ok}
 use Rattle.std.specs.List.{AllByRecursion, AllZip}
 use Rattle.std.specs.Str.{bytes_eq}
-use Rattle.reading_core.specs.Grammar.{IsBytes}
+use Rattle.base.specs.Grammar.{IsBytes}
 use Rattle.block_keys.specs.declared.object.Object.{Object}
 use Rattle.block_meta.specs.declared.file_size.FileSize.{FileSize}
 use Rattle.block_meta.specs.MetaFields.{MetaFields}
 use Rattle.block_meta.specs.MetaReading.{meta_of_text}
 use Rattle.block_meta.specs.MetaValue.{meta_text}
-use Rattle.block_files.specs.Built.{objects_of}
+use Rattle.block_meta.specs.Built.{objects_of}
 use Rattle.block_content.specs.Content.{HoldsSeries, IsApart}
 use Rattle.chunk_files.specs.Layout.{greatest}
-use Rattle.index_file.specs.IndexFile.{IsIndex}
-use Rattle.index_file.specs.declared.index_series.IndexSeries.{IndexSeries}
+use Rattle.index_parts.specs.IndexFile.{IsIndex}
+use Rattle.index_parts.specs.declared.index_series.IndexSeries.{IndexSeries}
 use Rattle.script_core.specs.declared.block.Block.{Block}
 use Rattle.script_core.specs.declared.body.Body.{Body}
 use Rattle.script_core.specs.declared.body.Body.TheVariants.{Inline, OnShelf}

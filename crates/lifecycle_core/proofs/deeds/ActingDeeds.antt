@@ -9,9 +9,9 @@ use Rattle.std.proofs.lemmas.List.Elements.{All-contains, All-contains_itself, A
 use Rattle.std.proofs.lemmas.Map.Keys.{below_from_sorted}
 use Rattle.std.proofs.lemmas.Option.{get_or_from_slice_get, slice_get_within}
 use Rattle.std.proofs.lemmas.Bool.{eq-eqb}
-use Rattle.list_core.proofs.Lists.{filter_none, slice_get-below}
-use Rattle.list_core.proofs.Membership.{contains_first, contains_later, contains_place, each_member, into_filter, into_flat_map, into_map, member_cases, member_passes, no_member, of_filter, of_map, only_member, place_of_member}
-use Rattle.list_core.proofs.Pairs.{AllZip-second}
+use Rattle.base.proofs.Lists.{filter_none, slice_get-below}
+use Rattle.base.proofs.Membership.{contains_first, contains_later, contains_place, each_member, into_filter, into_flat_map, into_map, member_cases, member_passes, no_member, of_filter, of_map, only_member, place_of_member}
+use Rattle.base.proofs.Pairs.{AllZip-second}
 use Rattle.world_core.specs.declared.op.Op.{Op}
 use Rattle.world_core.specs.declared.op.Op.TheVariants as op
 use Rattle.world_core.specs.declared.entry.Entry.{Entry}

@@ -1,5 +1,5 @@
 -- The order of a journal's entries: by their places, their numbers and their moments.
-use Rattle.list_core.proofs.Membership.{into_filter, member_cases, member_passes, no_member, of_filter}
+use Rattle.base.proofs.Membership.{into_filter, member_cases, member_passes, no_member, of_filter}
 use Rattle.std.proofs.Common.{◌≡◌, ◌⊎◌, inl, inr, ℕ, ◌<◌, ◌≤◌, ◌==◌, true, List, [], ◌∷◌, ◌++◌, Contains, refl, sym, ◌∙◌, ap, subst, arith}
 use Rattle.std.proofs.lemmas.Bool.{eq-eqb}
 use Rattle.std.proofs.lemmas.Bool.Decides.{nat_tests}

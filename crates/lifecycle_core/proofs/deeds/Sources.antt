@@ -1,12 +1,12 @@
 -- By whom an object was put or deleted.
-use Rattle.list_core.proofs.Membership.{no_member}
+use Rattle.base.proofs.Membership.{no_member}
 use Rattle.std.proofs.Common.{◌≡◌, inl, inr, ℕ, zero, suc, ◌<◌, ◌^◌, List, [], ◌∷◌, ◌++◌, length, Contains, Option, Some, None, refl, sym, ◌∙◌, ap, subst, append_assoc, arith}
 use Rattle.std.proofs.lemmas.List.Elements.{All-contains, Contains-append_cases, Contains-append_left}
 use Rattle.block_keys.specs.Keys.{key_ulid}
 use Rattle.block_keys.specs.declared.key.Key.{Key}
 use Rattle.block_keys.specs.declared.key.Key.TheVariants as key
 use Rattle.block_keys.specs.declared.object.Object.{Object}
-use Rattle.block_files.specs.Built.{objects_of}
+use Rattle.block_meta.specs.Built.{objects_of}
 use Rattle.block_meta.specs.MetaFields.{fields_of}
 use Rattle.block_meta.specs.MetaValue.{meta_text}
 use Rattle.world_core.specs.Plans.{Runs, ends as comes_to}
@@ -25,9 +25,9 @@ use Rattle.moment_core.specs.declared.moment.Moment.{Moment}
 use Rattle.ulid_core.specs.Limits.{ulid_time_limit}
 use Rattle.script_core.specs.Lawful.{IsLawfulScript}
 use Rattle.script_core.specs.declared.block.Block.{Block}
-use Rattle.activity_laws.specs.CleaningOps.{IsCleanOp, IsDeleting}
-use Rattle.activity_laws.specs.CompactionOps.{IsCompactOp, IsMarkMade, IsObjectMade, Stores}
-use Rattle.activity_laws.proofs.CleaningAsks.{cleaning_op, each_at}
+use Rattle.lifecycle_core.specs.CleaningOps.{IsCleanOp, IsDeleting}
+use Rattle.lifecycle_core.specs.CompactionOps.{IsCompactOp, IsMarkMade, IsObjectMade, Stores}
+use Rattle.lifecycle_core.proofs.activities.CleaningAsks.{cleaning_op, each_at}
 use Rattle.lifecycle_core.specs.Acting.{IsReading}
 use Rattle.world_core.specs.Journals.{of_seat}
 use Rattle.lifecycle_core.specs.Held.{declared}
@@ -38,7 +38,7 @@ use Rattle.lifecycle_core.proofs.blocks.Declared.{declared_ulid}
 use Rattle.lifecycle_core.proofs.blocks.Objects.{object_is, object_ulid}
 use Rattle.lifecycle_core.proofs.blocks.OneShipped.{ends_with_meta}
 use Rattle.lifecycle_core.proofs.blocks.Readable.{is_readable}
-use Rattle.activity_laws.proofs.CompactionAsks.{compaction_op}
+use Rattle.lifecycle_core.proofs.activities.CompactionAsks.{compaction_op}
 use Rattle.lifecycle_core.proofs.deeds.Fronts.{at_seat, done_at}
 use Rattle.lifecycle_core.proofs.deeds.Orders.{in_seat}
 use Rattle.lifecycle_core.proofs.deeds.Words.{AreDeeds, Compacts, Deed, Done, IsClock, cleaning, cleans, clocking, clocks, compacting, compacts, reading, reads, shipping, ships}

@@ -1,5 +1,5 @@
 -- What stands in a journal of deeds: what was put last and not deleted since.
-use Rattle.list_core.proofs.Membership.{contains_later, member_cases}
+use Rattle.base.proofs.Membership.{contains_later, member_cases}
 use Rattle.std.proofs.Common.{◌≡◌, ◌≢◌, ◌⊎◌, inl, inr, ℕ, ◌<◌, ◌^◌, Bool, true, false, cond, List, [], ◌∷◌, ◌++◌, Contains, Option, Some, None, IsTrue, refl, sym, ◌∙◌, ap, subst, append_assoc}
 use Rattle.std.specs.Str.{bytes_eq}
 use Rattle.std.proofs.lemmas.List.Elements.{All-contains, All-contains_itself, All-from_recursion, All-weaker, Contains-append_cases, Contains-append_right, recursion_from_All}

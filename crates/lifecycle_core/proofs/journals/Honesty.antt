@@ -1,5 +1,5 @@
 -- An honest journal tells no lie: what an operation owes is one thing.
-use Rattle.list_core.proofs.Membership.{contains_first}
+use Rattle.base.proofs.Membership.{contains_first}
 use Rattle.std.proofs.Common.{◌≡◌, ◌⊎◌, inl, inr, ℕ, zero, suc, ◌≤◌, List, [], ◌∷◌, ◌++◌, length, codes, Contains, Option, Some, None, refl, sym, ◌∙◌, ap, subst, append_assoc, append-nil, arith}
 use Rattle.std.specs.Prelude.{option_map}
 use Rattle.std.specs.List.{All, flat_map}
@@ -13,7 +13,7 @@ use Rattle.std.proofs.lemmas.List.Elements.{All-contains, Contains-append_cases}
 use Rattle.std.proofs.lemmas.Map.Text.{is_eq-slice_cmp}
 use Rattle.std.proofs.lemmas.Slice.Eq.{bytes_eq-Decides}
 use Rattle.std.specs.Ordering.{is_eq, ordering_reverse}
-use Rattle.list_core.specs.Order.{InOrderAfter, ComesAfter}
+use Rattle.base.specs.Order.{InOrderAfter, ComesAfter}
 use Rattle.block_keys.specs.KeyText.{key_text}
 use Rattle.bucket_core.specs.Contents.{Contents, range_of}
 use Rattle.bucket_core.specs.Pages.{IsName, IsPage}

@@ -1,5 +1,5 @@
 -- Where the entries of a list and of the lists that it is made of stand.
-use Rattle.list_core.proofs.Membership.{contains_first}
+use Rattle.base.proofs.Membership.{contains_first}
 use Rattle.std.proofs.Common.{◌≡◌, ◌⊎◌, inl, inr, suc, zero, Bool, true, false, List, [], ◌∷◌, ◌++◌, Contains, refl, ◌∙◌, ap, subst, arith}
 use Rattle.std.specs.List.{AllZip, filter, zip}
 use Rattle.std.proofs.lemmas.List.Elements.{filter-append, Contains-append_right}

@@ -5,7 +5,7 @@ use Rattle.std.specs.Int.Digits.{AllBelowBase}
 use Rattle.std.proofs.lemmas.Bool.Decides.{nat_tests}
 use Rattle.std.proofs.lemmas.List.{length-append}
 use Rattle.std.proofs.lemmas.List.Elements.{All-cons, All-nil, All-weaker}
-use Rattle.reading_core.proofs.Positional.{below-fixed_digits}
+use Rattle.base.proofs.Positional.{below-fixed_digits}
 use Rattle.ulid_core.proofs.Tables.{character-range}
 use Rattle.ulid_core.proofs.UlidLaws.{IsUlidText-text_of}
 use Rattle.ulid_core.specs.FixedDigits.{fixed_digits}
@@ -21,7 +21,7 @@ use Rattle.world_core.specs.declared.entry.Entry.{Entry}
 use Rattle.world_core.proofs.Growing.{last_more}
 use Rattle.lifecycle_core.proofs.journals.Told.{Rises}
 use Rattle.lifecycle_core.proofs.journals.Unbroken.{after_more}
-use Rattle.list_core.proofs.Numbers.{one_more_is}
+use Rattle.base.proofs.Numbers.{one_more_is}
 
 -- ---- numbers and moments
 

@@ -1,7 +1,7 @@
 -- A journal without a lie is honest: there is a reply that shows what stands, and it differs from any other one in its text. So each
 -- reply tells, or is a lie.
-use Rattle.list_core.proofs.Membership.{contains_first}
-use Rattle.list_core.proofs.Options.{Some-from_is_some}
+use Rattle.base.proofs.Membership.{contains_first}
+use Rattle.base.proofs.Options.{Some-from_is_some}
 use Rattle.std.proofs.Common.{◌≡◌, ◌↔◌, ◌⊎◌, inl, inr, ℕ, zero, suc, true, List, [], ◌∷◌, ◌++◌, codes, take, drop, Contains, Option, Some, None, refl, sym, ◌∙◌, ap, subst, arith, append_assoc}
 use Rattle.std.specs.Prelude.{IsSome, option_map, ltb}
 use Rattle.std.specs.List.{list_all}

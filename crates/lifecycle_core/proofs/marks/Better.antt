@@ -1,7 +1,7 @@
 -- Of two blocks that a view keeps neither has all sources of the other.
-use Rattle.list_core.proofs.Lists.{cons_same}
-use Rattle.list_core.proofs.Membership.{all_of_members, any_of_member, contains_first, contains_later, member_cases, member_passes, no_member, of_filter}
-use Rattle.list_core.proofs.Rising.{above_first}
+use Rattle.base.proofs.Lists.{cons_same}
+use Rattle.base.proofs.Membership.{all_of_members, any_of_member, contains_first, contains_later, member_cases, member_passes, no_member, of_filter}
+use Rattle.base.proofs.Rising.{above_first}
 use Rattle.std.proofs.Common.{◌≡◌, ◌≢◌, ◌⊎◌, inl, inr, ℕ, ◌<◌, ◌==◌, Bool, true, false, ◌&&◌, not, List, [], ◌∷◌, filter, length, Contains, refl, sym, ap, subst, arith, nat_cmp}
 use Rattle.std.specs.Prelude.{nat_lt, pos}
 use Rattle.std.specs.Ordering.{int_eq}
@@ -17,7 +17,7 @@ use Rattle.sync_filters.specs.declared.found.Found.{Found}
 use Rattle.meta_fetcher.specs.Sightings.{passed_by}
 use Rattle.meta_fetcher.specs.declared.rules.SyncRules.{SyncRules}
 use Rattle.meta_fetcher.specs.declared.view.View.{View}
-use Rattle.activity_laws.specs.Sights.{IsSight}
+use Rattle.lifecycle_core.specs.Sights.{IsSight}
 
 -- ---- ascending lists
 

@@ -1,5 +1,5 @@
 -- Why the marks of a journal were put.
-use Rattle.list_core.proofs.Membership.{contains_first, member_of_any, member_passes, of_filter, of_map, only_member}
+use Rattle.base.proofs.Membership.{contains_first, member_of_any, member_passes, of_filter, of_map, only_member}
 use Rattle.std.proofs.Common.{◌≡◌, ◌⊎◌, inl, inr, ℕ, ◌<◌, ◌≤◌, ◌^◌, ◌==◌, ℤ, true, ◌&&◌, List, [], ◌∷◌, ◌++◌, length, Contains, Option, Some, None, refl, sym, ◌∙◌, ap, subst, append_assoc, arith}
 use Rattle.std.specs.Prelude.{int_lt, nat_lt, pos, ◌+ℤ◌, ◌<ℤ◌}
 use Rattle.std.specs.Ordering.{int_eq}
@@ -25,9 +25,9 @@ use Rattle.sync_filters.specs.declared.found.Found.{Found}
 use Rattle.sync_filters.proofs.HolderLaws.{has_source}
 use Rattle.meta_fetcher.specs.Sightings.{passed_by}
 use Rattle.compactor.specs.Compactions.{metas_of, sync_rules}
-use Rattle.activity_laws.specs.CompactionOps.{HasMerged, IsMarkMade, IsObjectMade, IsReason, WasCompacted, compacted, covered, expired}
-use Rattle.activity_laws.specs.Sights.{IsSeen, IsSight}
-use Rattle.activity_laws.proofs.CompactionGroups.{plan_among, named_is}
+use Rattle.lifecycle_core.specs.CompactionOps.{HasMerged, IsMarkMade, IsObjectMade, IsReason, WasCompacted, compacted, covered, expired}
+use Rattle.lifecycle_core.specs.Sights.{IsSeen, IsSight}
+use Rattle.lifecycle_core.proofs.activities.CompactionGroups.{plan_among, named_is}
 use Rattle.script_core.specs.Lawful.{IsLawfulScript}
 use Rattle.lifecycle_core.specs.Completed.{IsCompletedAt, IsExpired}
 use Rattle.world_core.specs.Journals.{of_seat}

@@ -12,7 +12,7 @@ use Rattle.world_core.specs.Standing.{IsHonest}
 use Rattle.world_core.specs.declared.op.Op.TheVariants as op
 use Rattle.world_core.specs.declared.entry.Entry.{Entry}
 use Rattle.script_core.specs.Lawful.{IsLawfulScript}
-use Rattle.activity_laws.specs.CleaningOps.{IsDecision, IsOldMarkRead, IsOldPartialRead}
+use Rattle.lifecycle_core.specs.CleaningOps.{IsDecision, IsOldMarkRead, IsOldPartialRead}
 use Rattle.lifecycle_core.specs.Completed.{PutsMeta}
 use Rattle.lifecycle_core.specs.Marked.{PutsSomeMark}
 use Rattle.lifecycle_core.specs.Setting.{Setting}
@@ -25,7 +25,7 @@ use Rattle.lifecycle_core.proofs.journals.Positions.{stands_in}
 use Rattle.lifecycle_core.proofs.journals.Rising.{journal_rises}
 use Rattle.lifecycle_core.proofs.journals.Told.{Rises}
 use Rattle.lifecycle_core.proofs.marks.Looks.{looked_at, mark_is_read}
-use Rattle.list_core.proofs.Lists.{middle_not_nil}
+use Rattle.base.proofs.Lists.{middle_not_nil}
 
 -- a decision among entries
 pub record HasDecision (setting : Setting) (ulid : ℕ) (entries : List Entry) : Type 0 where

@@ -1,6 +1,6 @@
 -- What becomes of a block that was complete, where it was uploaded in time: nothing of it is put once a cleaning has decided to delete
 -- it; what deletes it comes after its first mark, and late; and while its meta stands nothing of it was deleted.
-use Rattle.list_core.proofs.Membership.{contains_later, member_cases, no_member, into_filter}
+use Rattle.base.proofs.Membership.{contains_later, member_cases, no_member, into_filter}
 use Rattle.std.proofs.Common.{◌≡◌, ◌≢◌, ◌⊎◌, inl, inr, ℕ, zero, suc, ◌+◌, ◌*◌, ◌<◌, ◌^◌, ◌==◌, Bool, true, false, List, [], ◌∷◌, ◌++◌, length, Contains, Some, IsTrue, refl, sym, ◌∙◌, ap, subst, append_assoc, arith}
 use Rattle.std.specs.List.{All}
 use Rattle.std.proofs.lemmas.Bool.Decides.{nat_tests}
@@ -17,8 +17,8 @@ use Rattle.world_core.specs.declared.op.Op.{Op}
 use Rattle.world_core.specs.declared.op.Op.TheVariants as op
 use Rattle.world_core.specs.declared.entry.Entry.{Entry}
 use Rattle.script_core.specs.Lawful.{IsLawfulScript}
-use Rattle.activity_laws.specs.CleaningOps.{IsDecision}
-use Rattle.activity_laws.proofs.MarkTexts.{one_mark}
+use Rattle.lifecycle_core.specs.CleaningOps.{IsDecision}
+use Rattle.lifecycle_core.proofs.activities.MarkTexts.{one_mark}
 use Rattle.lifecycle_core.specs.Completed.{IsCompletedAt, PutsMeta}
 use Rattle.world_core.specs.Journals.{of_seat}
 use Rattle.lifecycle_core.specs.Decisions.{DecidesToDelete}

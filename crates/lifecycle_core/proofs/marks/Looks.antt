@@ -10,26 +10,26 @@ use Rattle.block_meta.specs.MetaText.{IsMarkText}
 use Rattle.block_meta.specs.OfBlocks.{block_mark, named_mark}
 use Rattle.block_meta.specs.declared.refusal.MetaRefusal.{MetaRefusal}
 use Rattle.block_meta.proofs.FoundTexts.{mark_text_found}
-use Rattle.block_marking.specs.Marking.{details_of}
-use Rattle.block_marking.specs.NewMarks.{new_mark}
-use Rattle.block_marking.specs.declared.reason.Reason.{Reason}
-use Rattle.block_marking.specs.declared.reason.Reason.TheVariants as reason_is
+use Rattle.compactor.specs.Marking.{details_of}
+use Rattle.compactor.specs.NewMarks.{new_mark}
+use Rattle.compactor.specs.declared.reason.Reason.{Reason}
+use Rattle.compactor.specs.declared.reason.Reason.TheVariants as reason_is
 use Rattle.world_core.specs.declared.op.Op.TheVariants as op
 use Rattle.world_core.specs.declared.entry.Entry.{Entry}
 use Rattle.script_core.specs.Lawful.{IsLawfulScript}
 use Rattle.sync_filters.specs.declared.found.Found.{Found}
-use Rattle.activity_laws.specs.CompactionOps.{IsMarkMade}
-use Rattle.activity_laws.specs.Sights.{IsSeen}
+use Rattle.lifecycle_core.specs.CompactionOps.{IsMarkMade}
+use Rattle.lifecycle_core.specs.Sights.{IsSeen}
 use Rattle.world_core.specs.Journals.{of_seat}
 use Rattle.lifecycle_core.specs.Setting.{Setting}
 use Rattle.lifecycle_core.specs.TimeRules.{PutsMark}
-use Rattle.activity_laws.proofs.MarkTexts.{mark_text_is, one_mark}
+use Rattle.lifecycle_core.proofs.activities.MarkTexts.{mark_text_is, one_mark}
 use Rattle.lifecycle_core.proofs.deeds.Orders.{StandsWhole, stands_whole}
 use Rattle.lifecycle_core.proofs.deeds.Sources.{mark_source, put_is_small}
 use Rattle.lifecycle_core.proofs.deeds.Words.{AreDeeds, Compacts}
 use Rattle.lifecycle_core.proofs.journals.Positions.{split}
 use Rattle.lifecycle_core.proofs.marks.Reasons.{reason_seen}
-use Rattle.list_core.proofs.Lists.{middle_not_nil}
+use Rattle.base.proofs.Lists.{middle_not_nil}
 
 -- ---- the text of a mark
 

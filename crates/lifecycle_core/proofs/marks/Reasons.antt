@@ -1,5 +1,5 @@
 -- What a compaction had seen of a block that it marks.
-use Rattle.list_core.proofs.Membership.{of_filter, of_map}
+use Rattle.base.proofs.Membership.{of_filter, of_map}
 use Rattle.std.proofs.Common.{◌≡◌, ℕ, ◌==◌, Bool, true, false, cond, List, ◌∷◌, ◌++◌, Contains, Some, None, sym, ◌∙◌, ap, subst, append_assoc, arith}
 use Rattle.std.proofs.lemmas.Bool.Decides.{nat_tests}
 use Rattle.std.proofs.lemmas.List.Elements.{All-contains}
@@ -13,10 +13,10 @@ use Rattle.meta_fetcher.specs.Sightings.{covered_by, passed_by}
 use Rattle.meta_fetcher.specs.declared.rules.SyncRules.{SyncRules}
 use Rattle.meta_fetcher.specs.declared.view.View.{View}
 use Rattle.compactor.specs.Compactions.{metas_of, sync_rules}
-use Rattle.activity_laws.specs.CompactionOps.{HasSynced, IsKept, IsReason, WasCompacted, compacted, covered, expired}
-use Rattle.activity_laws.specs.Sights.{IsSeen, IsSight}
-use Rattle.activity_laws.proofs.SyncSights.{sync_sight}
-use Rattle.activity_laws.proofs.CompactionGroups.{plan_among, named_is, of_passed}
+use Rattle.lifecycle_core.specs.CompactionOps.{HasSynced, IsKept, IsReason, WasCompacted, compacted, covered, expired}
+use Rattle.lifecycle_core.specs.Sights.{IsSeen, IsSight}
+use Rattle.lifecycle_core.proofs.activities.SyncSights.{sync_sight}
+use Rattle.lifecycle_core.proofs.activities.CompactionGroups.{plan_among, named_is, of_passed}
 use Rattle.lifecycle_core.proofs.blocks.PlanMembers.{member_within}
 
 -- ---- what a view's sync saw

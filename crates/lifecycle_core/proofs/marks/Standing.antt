@@ -7,7 +7,7 @@ use Rattle.block_keys.specs.KeyText.{key_text}
 use Rattle.block_keys.specs.declared.key.Key.{Key}
 use Rattle.block_keys.specs.declared.key.Key.TheVariants as key
 use Rattle.block_meta.specs.MetaFields.{MetaFields}
-use Rattle.block_files.specs.declared.block_files.BlockFiles.{BlockFiles}
+use Rattle.block_meta.specs.declared.block_files.BlockFiles.{BlockFiles}
 use Rattle.world_core.specs.Operations.{IsLawful}
 use Rattle.world_core.specs.Standing.{IsHonest, has_landed, stands}
 use Rattle.world_core.specs.declared.op.Op.TheVariants as op

@@ -1,5 +1,5 @@
 -- Why a call misses an object.
-use Rattle.list_core.proofs.Membership.{member_cases, no_member, of_filter, of_map}
+use Rattle.base.proofs.Membership.{member_cases, no_member, of_filter, of_map}
 use Rattle.std.proofs.Common.{◌≡◌, ◌⊎◌, inl, inr, ℕ, suc, ◌<◌, ◌^◌, List, [], ◌∷◌, ◌++◌, get_or, Contains, Option, Some, None, refl, sym, ◌∙◌, ap, subst, append_assoc, arith}
 use Rattle.std.specs.List.{All, AllPairs, filter}
 use Rattle.std.proofs.lemmas.List.Elements.{All-contains, Contains-append_cases, Contains-append_left}
@@ -7,14 +7,14 @@ use Rattle.block_keys.specs.Keys.{key_ulid}
 use Rattle.block_keys.specs.KeyText.{key_text}
 use Rattle.block_keys.specs.declared.key.Key.{Key}
 use Rattle.bucket_core.specs.Contents.{Contents}
-use Rattle.read_ranges.specs.Reads.{Block, Query as Question, block_of}
-use Rattle.series_calls.specs.Asking.{IsReadOfOne}
-use Rattle.series_calls.specs.LastEntries.{EndsWith}
-use Rattle.series_calls.specs.SeriesCalls.{CallEnd, SeriesRun, meets, to_read}
-use Rattle.series_calls.specs.declared.series_end.SeriesEnd.TheVariants as called
-use Rattle.series_calls.proofs.CallLaws.{call_asks}
-use Rattle.series_calls.proofs.LastAbsent.{call_present}
-use Rattle.series_calls.proofs.ShownEnds.{shows_missing}
+use Rattle.store_ranges.specs.Reads.{Block, Query as Question, block_of}
+use Rattle.store_calls.specs.Asking.{IsReadOfOne}
+use Rattle.store_calls.specs.LastEntries.{EndsWith}
+use Rattle.store_calls.specs.SeriesCalls.{CallEnd, SeriesRun, meets, to_read}
+use Rattle.store_calls.specs.declared.series_end.SeriesEnd.TheVariants as called
+use Rattle.store_calls.proofs.CallLaws.{call_asks}
+use Rattle.store_calls.proofs.LastAbsent.{call_present}
+use Rattle.store_calls.proofs.ShownEnds.{shows_missing}
 use Rattle.sync_filters.specs.declared.found.Found.{Found}
 use Rattle.world_core.specs.Standing.{IsHonest}
 use Rattle.world_core.specs.Worlds.{IsOfBytes}

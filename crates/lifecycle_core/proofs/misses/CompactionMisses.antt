@@ -1,5 +1,5 @@
 -- Why a compaction misses an object.
-use Rattle.list_core.proofs.Membership.{contains_later, into_filter, member_cases, no_member}
+use Rattle.base.proofs.Membership.{contains_later, into_filter, member_cases, no_member}
 use Rattle.std.proofs.Common.{◌≡◌, ◌⊎◌, inl, inr, ℕ, ◌+◌, ◌<◌, ◌≤◌, ◌/◌, ◌^◌, ◌==◌, true, List, [], ◌∷◌, ◌++◌, length, Contains, Some, refl, sym, ◌∙◌, ap, subst, append_assoc, arith}
 use Rattle.std.specs.Prelude.{slice_get}
 use Rattle.std.proofs.lemmas.Bool.Decides.{nat_tests}
@@ -9,7 +9,7 @@ use Rattle.block_keys.specs.Keys.{IsLawfulKey, key_ulid}
 use Rattle.block_keys.specs.declared.key.Key.{Key}
 use Rattle.block_keys.specs.declared.key.Key.TheVariants as key
 use Rattle.block_meta.specs.MetaFields.{MetaFields}
-use Rattle.compaction_inputs.specs.Named.{named_segments}
+use Rattle.compactor.specs.Named.{named_segments}
 use Rattle.world_core.specs.Standing.{IsHonest}
 use Rattle.world_core.specs.Worlds.{IsOfBytes}
 use Rattle.world_core.specs.declared.op.Op.TheVariants as op
@@ -19,9 +19,9 @@ use Rattle.sync_filters.specs.declared.found.Found.{Found}
 use Rattle.compactor.specs.Compactions.{CompactRun}
 use Rattle.compactor.specs.declared.compact_end.CompactEnd.TheVariants as compacting
 use Rattle.script_core.specs.Lawful.{IsLawfulScript}
-use Rattle.activity_laws.specs.CompactionOps.{IsCompactOp, IsInputRead}
-use Rattle.activity_laws.specs.Sights.{IsSeen}
-use Rattle.activity_laws.proofs.CompactionAsks.{compaction_op}
+use Rattle.lifecycle_core.specs.CompactionOps.{IsCompactOp, IsInputRead}
+use Rattle.lifecycle_core.specs.Sights.{IsSeen}
+use Rattle.lifecycle_core.proofs.activities.CompactionAsks.{compaction_op}
 use Rattle.lifecycle_core.specs.Acting.{IsReading}
 use Rattle.lifecycle_core.specs.Breaches.{Rule, Watch, honesty, read_key, read_time, upload_time, watched_compaction}
 use Rattle.lifecycle_core.specs.Causes.{IsBlamedInCompaction, IsExplainedBy}

@@ -1,5 +1,5 @@
 -- Why a read of a kept block finds nothing where the bucket is honest: by the rules of time it is never so.
-use Rattle.list_core.proofs.Membership.{contains_later, member_cases, member_passes, of_filter}
+use Rattle.base.proofs.Membership.{contains_later, member_cases, member_passes, of_filter}
 use Rattle.std.proofs.Common.{◌≡◌, ◌≢◌, ◌⊎◌, inl, inr, ℕ, zero, suc, ◌+◌, ◌*◌, ◌<◌, ◌≤◌, ◌/◌, ◌^◌, ◌==◌, Bool, true, false, not, List, [], ◌∷◌, ◌++◌, Contains, Option, Some, None, refl, sym, ◌∙◌, ap, subst, append_assoc, arith}
 use Rattle.std.specs.Prelude.{nat_le, option_map}
 use Rattle.std.proofs.lemmas.Bool.{leb-true}
@@ -38,11 +38,11 @@ use Rattle.lifecycle_core.specs.PutBlocks.{WasPutBefore}
 use Rattle.lifecycle_core.specs.Setting.{Setting}
 use Rattle.lifecycle_core.specs.Tasks.{sync_rules}
 use Rattle.lifecycle_core.specs.TimeRules.{IsBlockObject, IsMarkedInTime, IsReadInTime, IsUploadedInTime, PutsMark}
-use Rattle.activity_laws.specs.CompactionOps.{IsCompactOp, IsInputRead}
-use Rattle.activity_laws.specs.Sights.{IsSeen, IsSight, TellsMark}
-use Rattle.activity_laws.proofs.SyncSights.{sync_sight}
-use Rattle.activity_laws.proofs.CompactionAsks.{compaction_op}
-use Rattle.activity_laws.proofs.MarkTexts.{one_mark}
+use Rattle.lifecycle_core.specs.CompactionOps.{IsCompactOp, IsInputRead}
+use Rattle.lifecycle_core.specs.Sights.{IsSeen, IsSight, TellsMark}
+use Rattle.lifecycle_core.proofs.activities.SyncSights.{sync_sight}
+use Rattle.lifecycle_core.proofs.activities.CompactionAsks.{compaction_op}
+use Rattle.lifecycle_core.proofs.activities.MarkTexts.{one_mark}
 use Rattle.lifecycle_core.proofs.blocks.Contents.{IsPutWhole, complete_put}
 use Rattle.lifecycle_core.proofs.blocks.Known.{put_is_complete}
 use Rattle.lifecycle_core.proofs.deeds.Fronts.{at_seat}

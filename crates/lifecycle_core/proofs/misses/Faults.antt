@@ -20,10 +20,10 @@ use Rattle.meta_fetcher.specs.declared.rules.SyncRules.{SyncRules}
 use Rattle.meta_fetcher.specs.declared.sync_end.SyncEnd.{SyncEnd}
 use Rattle.meta_fetcher.specs.declared.sync_end.SyncEnd.TheVariants as fetched
 use Rattle.meta_fetcher.specs.declared.view.View.{View}
-use Rattle.read_ranges.specs.Reads.{Cache, Query as Question}
-use Rattle.series_calls.specs.SeriesCalls.{CallEnd, SeriesRun}
-use Rattle.series_calls.proofs.ShownEnds.{shows_failed}
-use Rattle.series_calls.specs.declared.series_end.SeriesEnd.TheVariants as called
+use Rattle.store_ranges.specs.Reads.{Cache, Query as Question}
+use Rattle.store_calls.specs.SeriesCalls.{CallEnd, SeriesRun}
+use Rattle.store_calls.proofs.ShownEnds.{shows_failed}
+use Rattle.store_calls.specs.declared.series_end.SeriesEnd.TheVariants as called
 use Rattle.lifecycle_core.proofs.journals.Positions.{stands_in}
 
 -- an entry of this number was answered that its call failed

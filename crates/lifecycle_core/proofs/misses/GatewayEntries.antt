@@ -10,10 +10,10 @@ use Rattle.meta_fetcher.proofs.SyncLaws.{only_asks}
 use Rattle.meta_fetcher.specs.declared.rules.SyncRules.{SyncRules}
 use Rattle.meta_fetcher.specs.declared.sync_end.SyncEnd.{SyncEnd}
 use Rattle.meta_fetcher.specs.declared.view.View.{View}
-use Rattle.read_ranges.specs.Reads.{Cache, Query as Question}
-use Rattle.series_calls.specs.Asking.{IsReadOf, IsReadOfOne}
-use Rattle.series_calls.specs.SeriesCalls.{CallEnd, SeriesRun, to_read}
-use Rattle.series_calls.proofs.CallLaws.{call_asks}
+use Rattle.store_ranges.specs.Reads.{Cache, Query as Question}
+use Rattle.store_calls.specs.Asking.{IsReadOf, IsReadOfOne}
+use Rattle.store_calls.specs.SeriesCalls.{CallEnd, SeriesRun, to_read}
+use Rattle.store_calls.proofs.CallLaws.{call_asks}
 use Rattle.lifecycle_core.specs.Acting.{IsReading}
 
 -- ---- syncs

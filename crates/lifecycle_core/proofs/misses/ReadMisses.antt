@@ -1,6 +1,6 @@
 -- Why a read of a block that a view keeps finds nothing.
-use Rattle.list_core.proofs.Membership.{contains_later, member_cases, no_member}
-use Rattle.list_core.proofs.Lists.{middle_not_nil}
+use Rattle.base.proofs.Membership.{contains_later, member_cases, no_member}
+use Rattle.base.proofs.Lists.{middle_not_nil}
 use Rattle.std.proofs.Common.{◌≡◌, ◌⊎◌, inl, inr, ℕ, ◌+◌, ◌<◌, ◌≤◌, ◌==◌, List, [], ◌∷◌, ◌++◌, Contains, Some, IsTrue, refl, sym, ◌∙◌, ap, subst, append_assoc, arith}
 use Rattle.std.proofs.lemmas.List.Elements.{Contains-append_cases, Contains-append_left, Contains-append_right}
 use Rattle.block_keys.specs.Keys.{key_ulid}
@@ -15,8 +15,8 @@ use Rattle.world_core.specs.declared.entry.Entry.{Entry}
 use Rattle.sync_filters.specs.declared.found.Found.{Found}
 use Rattle.script_core.specs.Lawful.{IsLawfulScript}
 use Rattle.script_core.specs.declared.block.Block.{Block}
-use Rattle.activity_laws.specs.Sights.{IsSeen, IsSight}
-use Rattle.activity_laws.proofs.SyncSights.{sync_sight}
+use Rattle.lifecycle_core.specs.Sights.{IsSeen, IsSight}
+use Rattle.lifecycle_core.proofs.activities.SyncSights.{sync_sight}
 use Rattle.lifecycle_core.specs.Breaches.{HoldsSamples, Rule, Watch, honesty, mark_time, read_key, upload_time, view_time}
 use Rattle.lifecycle_core.specs.Causes.{IsBlamed, IsExplainedUnder}
 use Rattle.world_core.specs.Journals.{of_seat}

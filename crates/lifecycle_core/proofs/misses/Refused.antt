@@ -25,7 +25,7 @@ use Rattle.lifecycle_core.specs.TimeRules.{IsBlockObject, IsMarkedInTime, IsUplo
 use Rattle.lifecycle_core.proofs.journals.Positions.{split}
 use Rattle.lifecycle_core.proofs.journals.Standing.{parted}
 use Rattle.lifecycle_core.proofs.journals.UnbrokenHonest.{tells_or_lies}
-use Rattle.list_core.proofs.Lists.{middle_not_nil}
+use Rattle.base.proofs.Lists.{middle_not_nil}
 
 -- an entry that the rule refuses
 pub record HasRefused (setting : Setting) (watch : Watch) (journal : List Entry) (rule : Rule) (Is : Entry → Type 0) : Type 0 where

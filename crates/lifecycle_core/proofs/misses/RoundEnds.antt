@@ -29,17 +29,17 @@ use Rattle.group_planner.proofs.GroupLaws.{one_answer}
 use Rattle.group_planner.specs.Groups.{AreGroups}
 use Rattle.group_planner.specs.Members.{ulids_of}
 use Rattle.group_planner.specs.declared.group.Group.{Group}
-use Rattle.block_marking.specs.FoundNames.{expired_at, names_of}
-use Rattle.block_marking.specs.Marking.{details_of, marking}
-use Rattle.block_marking.specs.NewMarks.{new_mark_text}
-use Rattle.block_marking.specs.declared.reason.Reason.{Reason}
-use Rattle.block_marking.specs.declared.reason.Reason.TheVariants.{Covered, Compacted, Expired}
-use Rattle.compaction_inputs.specs.Named.{named_segments}
-use Rattle.compaction_inputs.specs.Reading.{after_index, read_at, reads, reads_block, reads_blocks, reads_segments}
-use Rattle.compaction_inputs.specs.declared.input.Input.{Input}
-use Rattle.compaction_inputs.specs.declared.input.Read.{Read}
-use Rattle.compaction_inputs.specs.declared.merging.Merging.{Merging}
-use Rattle.compaction_inputs.specs.declared.merging.Merging.TheVariants as merging_is
+use Rattle.compactor.specs.FoundNames.{expired_at, names_of}
+use Rattle.compactor.specs.Marking.{details_of, marking}
+use Rattle.compactor.specs.NewMarks.{new_mark_text}
+use Rattle.compactor.specs.declared.reason.Reason.{Reason}
+use Rattle.compactor.specs.declared.reason.Reason.TheVariants.{Covered, Compacted, Expired}
+use Rattle.compactor.specs.Named.{named_segments}
+use Rattle.compactor.specs.Reading.{after_index, read_at, reads, reads_block, reads_blocks, reads_segments}
+use Rattle.compactor.specs.declared.input.Input.{Input}
+use Rattle.compactor.specs.declared.input.Read.{Read}
+use Rattle.compactor.specs.declared.merging.Merging.{Merging}
+use Rattle.compactor.specs.declared.merging.Merging.TheVariants as merging_is
 use Rattle.compactor.specs.Compactions.{CompactRun, after_merge, after_sync, after_upload, compacting, compacting_groups, last_number, merging, metas_of, read_ends, rounds, sync_rules}
 use Rattle.compactor.specs.NewBlocks.{block_objects, new_ulid}
 use Rattle.compactor.specs.declared.compact_end.CompactEnd.{CompactEnd}

@@ -24,26 +24,26 @@ use Rattle.group_planner.specs.Groups.{AreGroups}
 use Rattle.group_planner.specs.Members.{ulids_of}
 use Rattle.group_planner.specs.Plans.{IsPlan}
 use Rattle.group_planner.specs.declared.group.Group.{Group}
-use Rattle.block_marking.specs.FoundNames.{expired_at, names_of}
-use Rattle.block_marking.specs.Marking.{details_of, marking}
-use Rattle.block_marking.specs.NewMarks.{new_mark_text}
-use Rattle.block_marking.specs.declared.reason.Reason.{Reason}
-use Rattle.block_marking.specs.declared.reason.Reason.TheVariants.{Covered, Compacted, Expired}
-use Rattle.compaction_inputs.specs.Merges.{IsMerging}
-use Rattle.compaction_inputs.specs.Named.{named_segments}
-use Rattle.compaction_inputs.specs.Reading.{after_index, read_at, reads, reads_block, reads_blocks, reads_segments}
-use Rattle.compaction_inputs.specs.declared.input.Input.{Input}
-use Rattle.compaction_inputs.specs.declared.input.Read.{Read}
-use Rattle.compaction_inputs.specs.declared.merging.Merging.{Merging}
-use Rattle.compaction_inputs.specs.declared.merging.Merging.TheVariants as merging_is
+use Rattle.compactor.specs.FoundNames.{expired_at, names_of}
+use Rattle.compactor.specs.Marking.{details_of, marking}
+use Rattle.compactor.specs.NewMarks.{new_mark_text}
+use Rattle.compactor.specs.declared.reason.Reason.{Reason}
+use Rattle.compactor.specs.declared.reason.Reason.TheVariants.{Covered, Compacted, Expired}
+use Rattle.compactor.specs.Merges.{IsMerging}
+use Rattle.compactor.specs.Named.{named_segments}
+use Rattle.compactor.specs.Reading.{after_index, read_at, reads, reads_block, reads_blocks, reads_segments}
+use Rattle.compactor.specs.declared.input.Input.{Input}
+use Rattle.compactor.specs.declared.input.Read.{Read}
+use Rattle.compactor.specs.declared.merging.Merging.{Merging}
+use Rattle.compactor.specs.declared.merging.Merging.TheVariants as merging_is
 use Rattle.compactor.specs.Compactions.{CompactRun, after_merge, after_upload, compacting, compacting_groups, last_number, merging, metas_of, read_ends, rounds, sync_rules}
 use Rattle.compactor.specs.NewBlocks.{block_objects, new_ulid}
 use Rattle.compactor.specs.declared.compact_end.CompactEnd.{CompactEnd}
 use Rattle.compactor.specs.declared.compact_end.CompactEnd.TheVariants as compact
-use Rattle.activity_laws.specs.CompactionOps.{HasSynced, ReadsObject, WasRead}
-use Rattle.activity_laws.proofs.CompactionSoFar.{AreRead, inputs_more, object_more, object_now, segments_and, synced_more}
-use Rattle.list_core.proofs.Membership.{contains_first, contains_later}
-use Rattle.list_core.proofs.Pairs.{AllZip-push}
+use Rattle.lifecycle_core.specs.CompactionOps.{HasSynced, ReadsObject, WasRead}
+use Rattle.lifecycle_core.proofs.activities.CompactionSoFar.{AreRead, inputs_more, object_more, object_now, segments_and, synced_more}
+use Rattle.base.proofs.Membership.{contains_first, contains_later}
+use Rattle.base.proofs.Pairs.{AllZip-push}
 use Rattle.lifecycle_core.proofs.misses.RoundEnds.{EndsIn, both_are, by_rounds, by_sync, ends_in, noting_are}
 
 -- ---- what is shown

@@ -1,14 +1,14 @@
 -- A compaction's miss is explained where the script's gateways and compactions are watched; and where nothing deletes, an honest bucket
 -- misses nothing of a compaction.
-use Rattle.list_core.proofs.Membership.{contains_later}
-use Rattle.list_core.proofs.Lists.{slice_get-below}
+use Rattle.base.proofs.Membership.{contains_later}
+use Rattle.base.proofs.Lists.{slice_get-below}
 use Rattle.std.proofs.Common.{◌≡◌, ℕ, ◌+◌, ◌<◌, ◌^◌, List, [], ◌∷◌, ◌++◌, Contains, Some, refl, sym, subst, arith}
 use Rattle.std.proofs.lemmas.List.Elements.{Contains-append_left, Contains-append_right}
 use Rattle.block_keys.specs.Keys.{IsLawfulKey, key_ulid}
 use Rattle.block_keys.specs.declared.key.Key.{Key}
 use Rattle.block_keys.specs.declared.key.Key.TheVariants as key
 use Rattle.block_meta.specs.MetaFields.{MetaFields}
-use Rattle.compaction_inputs.specs.Named.{named_segments}
+use Rattle.compactor.specs.Named.{named_segments}
 use Rattle.world_core.specs.Operations.{IsLawful}
 use Rattle.world_core.specs.Standing.{IsHonest}
 use Rattle.world_core.specs.Worlds.{IsOfBytes}
@@ -17,9 +17,9 @@ use Rattle.world_core.specs.declared.entry.Entry.{Entry}
 use Rattle.compactor.specs.Compactions.{CompactRun}
 use Rattle.compactor.specs.declared.compact_end.CompactEnd.TheVariants as compact
 use Rattle.script_core.specs.Lawful.{IsLawfulScript}
-use Rattle.activity_laws.specs.CompactionOps.{IsCompactOp, IsInputRead}
-use Rattle.activity_laws.specs.Sights.{IsSeen}
-use Rattle.activity_laws.proofs.CompactionAsks.{compaction_op}
+use Rattle.lifecycle_core.specs.CompactionOps.{IsCompactOp, IsInputRead}
+use Rattle.lifecycle_core.specs.Sights.{IsSeen}
+use Rattle.lifecycle_core.proofs.activities.CompactionAsks.{compaction_op}
 use Rattle.lifecycle_core.specs.Breaches.{IsCompactorSeat, RefusesUnder, Rule, honesty, mark_time, read_time, sync_time, upload_time, view_time, watched, watched_compaction}
 use Rattle.lifecycle_core.specs.Causes.{IsBlamedInCompaction, IsExplainedBy}
 use Rattle.world_core.specs.Journals.{of_seat}

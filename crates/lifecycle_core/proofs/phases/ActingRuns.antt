@@ -6,11 +6,11 @@ use Rattle.std.proofs.lemmas.Bool.Decides.{nat_tests}
 use Rattle.std.proofs.lemmas.List.{length-append}
 use Rattle.std.proofs.lemmas.List.Elements.{All-append, All-contains, All-contains_itself, All-from_recursion, All-nil, All-weaker, recursion_from_All}
 use Rattle.std.proofs.lemmas.Option.{slice_get_within}
-use Rattle.list_core.proofs.Membership.{into_filter, into_map, member_passes, of_filter, of_map, place_of_member}
-use Rattle.list_core.proofs.Pairs.{AllZip-second}
-use Rattle.list_core.proofs.Lists.{slice_get-below}
+use Rattle.base.proofs.Membership.{into_filter, into_map, member_passes, of_filter, of_map, place_of_member}
+use Rattle.base.proofs.Pairs.{AllZip-second}
+use Rattle.base.proofs.Lists.{slice_get-below}
 use Rattle.world_core.specs.declared.entry.Entry.{Entry}
-use Rattle.read_ranges.specs.Reads.{Query as Question}
+use Rattle.store_ranges.specs.Reads.{Query as Question}
 use Rattle.script_core.proofs.SeatLaws.{are_seated}
 use Rattle.script_core.specs.Lawful.{IsLawfulScript}
 use Rattle.script_core.specs.Workers.{workers_before, workers_of}

@@ -1,6 +1,6 @@
 -- Fronts of lawful journals are lawful.
-use Rattle.list_core.proofs.Membership.{of_filter}
-use Rattle.list_core.proofs.Lists.{All-append_right, All-append_left}
+use Rattle.base.proofs.Membership.{of_filter}
+use Rattle.base.proofs.Lists.{All-append_right, All-append_left}
 use Rattle.std.proofs.lemmas.Bool.{or_parts}
 use Rattle.std.proofs.Common.{◌≡◌, ◌≢◌, ◌⊎◌, inl, inr, ℕ, suc, ◌+◌, ◌==◌, true, false, List, [], ◌∷◌, ◌++◌, length, map, Contains, Option, Some, None, refl, sym, ◌∙◌, ap, subst, arith, append-nil}
 use Rattle.std.specs.Prelude.{get_or, slice_get}

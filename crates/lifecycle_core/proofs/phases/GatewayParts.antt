@@ -1,19 +1,19 @@
 -- A gateway's part of a query: nothing is done where it is not asked, and else its view is.
-use Rattle.list_core.proofs.Membership.{contains_place, member_cases, of_filter}
+use Rattle.base.proofs.Membership.{contains_place, member_cases, of_filter}
 use Rattle.std.proofs.Common.{◌≡◌, inl, inr, ℕ, ℤ, zero, suc, ◌+◌, ◌<◌, ◌≤◌, ◌==◌, Bool, true, false, cond, List, [], ◌∷◌, map, length, Contains, Option, Some, None, refl, sym, ◌∙◌, ap, subst, arith}
 use Rattle.std.specs.Prelude.{find, option_map, slice_get, ◌⊎◌}
 use Rattle.std.specs.List.{enumerate_from}
 use Rattle.std.proofs.lemmas.Bool.Decides.{nat_tests}
 use Rattle.std.proofs.lemmas.List.Elements.{All-contains_itself}
-use Rattle.list_core.proofs.Lists.{find_holds, find_passes}
+use Rattle.base.proofs.Lists.{find_holds, find_passes}
 use Rattle.moment_core.specs.declared.partition.Partition.{Partition}
 use Rattle.querier.specs.declared.ask.Ask.{Ask}
 use Rattle.querier.specs.Asks.{ask_of, asks_from, has_times}
 use Rattle.world_core.specs.declared.entry.Entry.{Entry}
-use Rattle.read_ranges.specs.Reads.{Query as Question}
+use Rattle.store_ranges.specs.Reads.{Query as Question}
 use Rattle.lifecycle_core.specs.Holdings.{Holding, Use}
 use Rattle.lifecycle_core.specs.Setting.{Setting}
-use Rattle.series_calls.specs.SeriesCalls.{CallEnd, SeriesRun}
+use Rattle.store_calls.specs.SeriesCalls.{CallEnd, SeriesRun}
 use Rattle.lifecycle_core.specs.Tasks.{End, NothingDone, PartTask, QueryTask, answered, ask_to, asks_in, called_with, not_asked, question_of, without_view}
 
 module _ (setting : Setting) (selector : ℕ) where

@@ -1,5 +1,5 @@
 -- The hands of a phase: each duty's hand is among them, each once, and there are no more than duties. A task has each of its hands once.
-use Rattle.list_core.proofs.Lists.{AllByRecursion-push}
+use Rattle.base.proofs.Lists.{AllByRecursion-push}
 use Rattle.std.proofs.lemmas.Bool.{or_from, or_left, or_parts, or_right}
 use Rattle.std.proofs.Common.{◌≡◌, ℕ, zero, suc, ◌+◌, ◌<◌, ◌≤◌, ◌==◌, Bool, true, false, ◌||◌, cond, List, [], ◌∷◌, ◌++◌, length, map, refl, sym, ◌∙◌, ap, subst, arith}
 use Rattle.std.specs.Prelude.{fold}

@@ -1,6 +1,6 @@
 -- A journal tells which phases were done: so two runs over one journal that were broken off while an operation was due, and such a run is no finished one.
-use Rattle.list_core.proofs.Membership.{member_cases, no_member}
-use Rattle.list_core.proofs.Lists.{middle_not_nil}
+use Rattle.base.proofs.Membership.{member_cases, no_member}
+use Rattle.base.proofs.Lists.{middle_not_nil}
 use Rattle.std.proofs.Common.{◌≡◌, ◌≢◌, ◌⊎◌, inl, inr, ℕ, ◌+◌, ◌==◌, Bool, true, false, List, [], ◌∷◌, ◌++◌, length, map, All, Contains, Option, Some, None, refl, sym, ◌∙◌, ap, subst, arith, append_assoc, append-nil}
 use Rattle.std.specs.List.{AllZip}
 use Rattle.std.proofs.lemmas.Bool.Decides.{nat_tests}

@@ -1,7 +1,7 @@
 -- A journal tells the ends of what is done: two runs of a script over one journal came to the same ends.
-use Rattle.list_core.proofs.Membership.{contains_first}
-use Rattle.list_core.proofs.Lists.{middle_not_nil}
-use Rattle.list_core.proofs.Options.{Some-option_map}
+use Rattle.base.proofs.Membership.{contains_first}
+use Rattle.base.proofs.Lists.{middle_not_nil}
+use Rattle.base.proofs.Options.{Some-option_map}
 use Rattle.std.proofs.Common.{◌≡◌, ◌≢◌, ◌⊎◌, inl, inr, ℕ, ◌+◌, ◌<◌, ◌==◌, Bool, true, false, List, [], ◌∷◌, ◌++◌, length, map, All, Contains, Option, Some, None, refl, sym, ◌∙◌, ap, subst, arith, append-nil}
 use Rattle.std.specs.Prelude.{option_map, slice_get}
 use Rattle.std.specs.List.{AllZip}
@@ -19,9 +19,9 @@ use Rattle.cleaner.specs.Cleanings.{cleaning}
 use Rattle.shipper.specs.declared.upload_end.UploadEnd.{UploadEnd}
 use Rattle.meta_fetcher.specs.Syncs.{IsEnd, SyncRun, sync}
 use Rattle.meta_fetcher.specs.declared.sync_end.SyncEnd.{SyncEnd}
-use Rattle.read_ranges.specs.Reads.{Query as Question}
-use Rattle.series_calls.specs.SeriesCalls.{CallEnd, Gives, SeriesRun, series_call, sources_of}
-use Rattle.series_calls.proofs.OneCall.{call_tells}
+use Rattle.store_ranges.specs.Reads.{Query as Question}
+use Rattle.store_calls.specs.SeriesCalls.{CallEnd, Gives, SeriesRun, series_call, sources_of}
+use Rattle.store_calls.proofs.OneCall.{call_tells}
 use Rattle.script_workers.specs.Hands.{gateway_count, hands_of, seats_after, workers_from}
 use Rattle.script_workers.specs.declared.hand.Hand.{Hand}
 use Rattle.script_workers.specs.declared.phase.Phase.{Phase}

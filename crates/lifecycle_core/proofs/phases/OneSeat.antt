@@ -1,5 +1,5 @@
 -- In a lawful script each seat is one worker's.
-use Rattle.list_core.proofs.Membership.{place_of_member}
+use Rattle.base.proofs.Membership.{place_of_member}
 use Rattle.std.proofs.Common.{◌≡◌, ℕ, zero, suc, ◌+◌, ◌<◌, ◌≤◌, ◌==◌, Bool, true, false, List, length, Contains, Option, Some, None, get_or, refl, sym, ◌∙◌, ap, subst, arith}
 use Rattle.std.specs.Prelude.{slice_get}
 use Rattle.std.proofs.lemmas.Bool.Decides.{nat_tests}

@@ -1,6 +1,6 @@
 -- Where a gateway's tasks have come to their ends, each of its syncs that gave a view is one of them. So the view that it holds is
 -- that of its last sync that gave one.
-use Rattle.list_core.proofs.Membership.{contains_first, into_filter, member_cases, no_member, of_filter, of_map}
+use Rattle.base.proofs.Membership.{contains_first, into_filter, member_cases, no_member, of_filter, of_map}
 use Rattle.std.proofs.Common.{◌≡◌, ◌≢◌, ◌⊎◌, inl, inr, ℕ, ◌+◌, ◌<◌, ◌≤◌, ◌==◌, List, [], ◌∷◌, ◌++◌, length, map, Contains, Option, Some, None, refl, sym, ◌∙◌, ap, subst, append_assoc, append-nil, arith}
 use Rattle.std.specs.Prelude.{option_map}
 use Rattle.std.specs.List.{All}
@@ -16,10 +16,10 @@ use Rattle.meta_fetcher.specs.declared.rules.SyncRules.{SyncRules}
 use Rattle.meta_fetcher.specs.declared.sync_end.SyncEnd.{SyncEnd}
 use Rattle.meta_fetcher.specs.declared.sync_end.SyncEnd.TheVariants as fetched
 use Rattle.meta_fetcher.specs.declared.view.View.{View}
-use Rattle.read_ranges.specs.Reads.{Query as Question}
-use Rattle.series_calls.specs.Asking.{IsReadOf, IsReadOfOne}
-use Rattle.series_calls.specs.SeriesCalls.{to_read}
-use Rattle.series_calls.proofs.CallLaws.{call_asks}
+use Rattle.store_ranges.specs.Reads.{Query as Question}
+use Rattle.store_calls.specs.Asking.{IsReadOf, IsReadOfOne}
+use Rattle.store_calls.specs.SeriesCalls.{to_read}
+use Rattle.store_calls.proofs.CallLaws.{call_asks}
 use Rattle.script_core.specs.Lawful.{IsLawfulScript}
 use Rattle.script_core.specs.Workers.{workers_of}
 use Rattle.script_workers.specs.declared.task.Task.{Task}

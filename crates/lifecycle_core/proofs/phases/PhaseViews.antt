@@ -1,5 +1,5 @@
 -- What a phase leaves of the views: each gateway's is its worker's last one, or that from before.
-use Rattle.list_core.proofs.Membership.{contains_first, contains_later}
+use Rattle.base.proofs.Membership.{contains_first, contains_later}
 use Rattle.std.proofs.Common.{◌≡◌, ◌≢◌, ◌⊎◌, inl, inr, ℕ, ◌==◌, Bool, true, false, List, [], ◌∷◌, Contains, Option, Some, None, refl, sym, ◌∙◌, ap, subst, arith}
 use Rattle.std.specs.List.{All, AllZip}
 use Rattle.std.proofs.lemmas.Bool.Decides.{nat_tests}

@@ -1,6 +1,6 @@
 -- The entries of a seat, among entries that were all made by one.
 use Rattle.std.proofs.lemmas.List.Elements.{filter-append}
-use Rattle.list_core.proofs.Lists.{filter_all, filter_none}
+use Rattle.base.proofs.Lists.{filter_all, filter_none}
 use Rattle.std.proofs.Common.{◌≡◌, ◌≢◌, ℕ, Bool, true, false, List, ◌++◌, get_or, sym, ◌∙◌, ap}
 use Rattle.std.specs.Prelude.{◌==◌}
 use Rattle.std.specs.List.{All, filter}

@@ -1,5 +1,5 @@
 -- Parts of a journal, in their order, and the stretches of a seat.
-use Rattle.list_core.proofs.Membership.{of_filter}
+use Rattle.base.proofs.Membership.{of_filter}
 use Rattle.std.proofs.Common.{◌≡◌, ℕ, suc, ◌<◌, ◌≤◌, ◌==◌, Bool, true, false, List, [], ◌∷◌, ◌++◌, Contains, Option, Some, None, refl, sym, ◌∙◌, ap, append_assoc}
 use Rattle.std.specs.Prelude.{fold}
 use Rattle.std.specs.List.{All, filter}

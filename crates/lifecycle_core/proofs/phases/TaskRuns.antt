@@ -11,8 +11,8 @@ use Rattle.meta_fetcher.specs.Syncs.{SyncRun}
 use Rattle.meta_fetcher.specs.declared.view.View.{View}
 use Rattle.meta_fetcher.specs.declared.sync_end.SyncEnd.{SyncEnd}
 use Rattle.meta_fetcher.specs.declared.sync_end.SyncEnd.TheVariants as fetched
-use Rattle.read_ranges.specs.Reads.{Query as Question}
-use Rattle.series_calls.specs.SeriesCalls.{CallEnd, SeriesRun, series_call}
+use Rattle.store_ranges.specs.Reads.{Query as Question}
+use Rattle.store_calls.specs.SeriesCalls.{CallEnd, SeriesRun, series_call}
 use Rattle.world_core.proofs.PlanLaws.{breaks_off}
 use Rattle.matchers.specs.declared.matcher.Matcher.{Matcher}
 use Rattle.querier.specs.declared.ask.Ask.{Ask}
@@ -26,7 +26,7 @@ use Rattle.lifecycle_core.specs.Holdings.{Holding, Use}
 use Rattle.lifecycle_core.specs.Setting.{Setting}
 use Rattle.lifecycle_core.specs.Tasks.{End, PartTask, QueryTask, StoppedRun, TaskRun, cleaned, compacted, ask_to, called_with, last_number, question_of, sync_rules, synced_with}
 use Rattle.lifecycle_core.proofs.phases.GatewayParts.{query_is}
-use Rattle.list_core.proofs.Lists.{slice_get-below}
+use Rattle.base.proofs.Lists.{slice_get-below}
 
 found_first : {X : Type 0} (P : X → Type 0) (p : X → Bool) (x : X) (xs : List X) (b : Bool) → p x ≡ b → P x → (list_any p xs ≡ true → (y : X) × (find p xs ≡ Some y) × P y) → list_any p (x ∷ xs) ≡ true
     → (y : X) × (find p (x ∷ xs) ≡ Some y) × P y

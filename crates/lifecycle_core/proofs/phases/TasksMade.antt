@@ -1,6 +1,6 @@
 -- Whence the ends of a run come: each from a task's run, whose entries are part of the journal, with a view that such a run gave.
-use Rattle.list_core.proofs.Membership.{all_members, contains_first, contains_later, member_cases, no_member}
-use Rattle.list_core.proofs.Pairs.{AllZip-weaker_where, AllZip-first}
+use Rattle.base.proofs.Membership.{all_members, contains_first, contains_later, member_cases, no_member}
+use Rattle.base.proofs.Pairs.{AllZip-weaker_where, AllZip-first}
 use Rattle.std.proofs.Common.{◌≡◌, ◌≢◌, inl, inr, ℕ, zero, suc, ◌+◌, ◌<◌, ◌≤◌, ◌==◌, Bool, List, [], ◌∷◌, ◌++◌, length, map, Contains, Option, Some, None, refl, sym, ◌∙◌, ap, subst, append_assoc, arith}
 use Rattle.std.specs.Prelude.{slice_get}
 use Rattle.std.specs.List.{All, AllByRecursion, AllZip, zip}
@@ -26,12 +26,12 @@ use Rattle.lifecycle_core.specs.Breaches.{IsSeatOf}
 use Rattle.lifecycle_core.specs.Causes.{SomeCame}
 use Rattle.world_core.specs.Journals.{of_seat}
 use Rattle.lifecycle_core.specs.Conducts.{AreDone, Assigned, CameTo, PhaseRun, TasksAt, TasksRun, Who, WorkerRun, who_of}
-use Rattle.index_cache.specs.declared.range.Range.{Range}
-use Rattle.read_ranges.specs.Reads.{Cache, Query as Question}
-use Rattle.series_calls.specs.KeptRanges.{IsOfReads, IsReadIn}
-use Rattle.series_calls.specs.SeriesCalls.{CallEnd, SeriesRun, to_read}
-use Rattle.series_calls.specs.Asking.{IsReadOfOne}
-use Rattle.series_calls.proofs.CallLaws.{call_asks, call_keeps}
+use Rattle.store_ranges.specs.declared.range.Range.{Range}
+use Rattle.store_ranges.specs.Reads.{Cache, Query as Question}
+use Rattle.store_calls.specs.KeptRanges.{IsOfReads, IsReadIn}
+use Rattle.store_calls.specs.SeriesCalls.{CallEnd, SeriesRun, to_read}
+use Rattle.store_calls.specs.Asking.{IsReadOfOne}
+use Rattle.store_calls.proofs.CallLaws.{call_asks, call_keeps}
 use Rattle.lifecycle_core.specs.Holdings.{Holding, Holdings, Use, holding_of, none_held, nothing_held}
 use Rattle.lifecycle_core.specs.Phases.{IsInTurn, IsRunOf, by_script, by_workers}
 use Rattle.lifecycle_core.specs.Setting.{Setting}

@@ -1,6 +1,6 @@
 -- A compaction is all that its seat did.
-use Rattle.list_core.proofs.Membership.{contains_first, contains_later, member_cases, no_member, of_map, only_member}
-use Rattle.list_core.proofs.Pairs.{AllZip-first}
+use Rattle.base.proofs.Membership.{contains_first, contains_later, member_cases, no_member, of_map, only_member}
+use Rattle.base.proofs.Pairs.{AllZip-first}
 use Rattle.std.proofs.Common.{◌≡◌, ◌≢◌, ◌⊎◌, inl, inr, ℕ, suc, ◌+◌, ◌<◌, ◌≤◌, List, [], ◌∷◌, ◌++◌, map, Contains, Option, Some, None, refl, sym, ◌∙◌, ap, subst, append-nil, arith}
 use Rattle.std.specs.Prelude.{option_map, slice_get}
 use Rattle.std.proofs.lemmas.List.Elements.{All-contains}
@@ -9,7 +9,7 @@ use Rattle.meta_fetcher.specs.declared.sync_end.SyncEnd.{SyncEnd}
 use Rattle.compactor.specs.Compactions.{CompactRun, compaction}
 use Rattle.compactor.specs.declared.compact_end.CompactEnd.{CompactEnd}
 use Rattle.cleaner.specs.Cleanings.{cleaning}
-use Rattle.series_calls.specs.SeriesCalls.{CallEnd}
+use Rattle.store_calls.specs.SeriesCalls.{CallEnd}
 use Rattle.script_core.specs.Lawful.{IsLawfulScript}
 use Rattle.script_core.specs.Workers.{workers_of}
 use Rattle.script_workers.specs.declared.phase.Phase.{Phase}

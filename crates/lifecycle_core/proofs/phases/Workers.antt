@@ -1,5 +1,5 @@
 -- The workers of a phase by their hands, and that no two of them have one seat.
-use Rattle.list_core.proofs.Membership.{contains_first, contains_later}
+use Rattle.base.proofs.Membership.{contains_first, contains_later}
 use Rattle.std.proofs.lemmas.Bool.{or_parts}
 use Rattle.std.proofs.Common.{◌≡◌, ◌≢◌, ◌⊎◌, ℕ, ◌+◌, ◌<◌, ◌≤◌, Bool, true, false, ◌||◌, cond, List, [], ◌∷◌, length, map, refl, sym, ◌∙◌, ap, subst, inl, inr, arith}
 use Rattle.std.specs.Prelude.{◌==◌}

@@ -1,7 +1,7 @@
 -- No sync and no compaction of an honest journal lists too many names: each name that its pages list is that of a block of which an
 -- object was put, behind a look at one of its objects, and names strictly ascend, so that they are at most half as many as the entries.
-use Rattle.list_core.proofs.Membership.{contains_first, contains_later, member_cases, no_member}
-use Rattle.list_core.proofs.Options.{Some-from_is_some}
+use Rattle.base.proofs.Membership.{contains_first, contains_later, member_cases, no_member}
+use Rattle.base.proofs.Options.{Some-from_is_some}
 use Rattle.std.proofs.Common.{◌≡◌, inl, inr, ℕ, suc, zero, ◌+◌, ◌≤◌, ◌==◌, ℤ, true, List, [], ◌∷◌, ◌++◌, length, Contains, Option, Some, None, refl, sym, ◌∙◌, ap, subst, arith}
 use Rattle.std.specs.Prelude.{fold, nat_le, option_map, unwrap_or}
 use Rattle.std.specs.List.{All, before_first, last_or}
@@ -9,14 +9,14 @@ use Rattle.std.proofs.lemmas.Bool.{leb-true}
 use Rattle.std.proofs.lemmas.Cmp.{nat_list_cmp_total, tied_itself}
 use Rattle.std.proofs.lemmas.List.{length-append}
 use Rattle.std.proofs.lemmas.List.Elements.{All-append, All-cons, All-contains, All-contains_itself, All-nil, All-weaker, Contains-append_cases, Contains-append_left, Contains-append_right, recursion_from_All}
-use Rattle.list_core.specs.Order.{InOrderAfter, ComesAfter}
+use Rattle.base.specs.Order.{InOrderAfter, ComesAfter}
 use Rattle.ulid_core.specs.UlidText.{text_of}
 use Rattle.label_sets.specs.Labels.{ComesBefore, compare_texts}
 use Rattle.block_keys.specs.Keys.{key_ulid}
 use Rattle.block_keys.specs.declared.key.Key.{Key}
 use Rattle.block_keys.specs.declared.key.Key.TheVariants as key
 use Rattle.block_keys.specs.declared.object.Object.{Object}
-use Rattle.block_files.specs.Built.{objects_of}
+use Rattle.block_meta.specs.Built.{objects_of}
 use Rattle.block_meta.specs.MetaFields.{fields_of}
 use Rattle.block_meta.specs.MetaValue.{meta_text}
 use Rattle.moment_core.specs.declared.rules.Rules.{Rules}
@@ -44,15 +44,15 @@ use Rattle.compactor.specs.Compactions as compactions
 use Rattle.compactor.specs.declared.compact_end.CompactEnd.{CompactEnd}
 use Rattle.compactor.specs.declared.compact_end.CompactEnd.TheVariants as compact
 use Rattle.cleaner.specs.Cleanings.{cleaning}
-use Rattle.read_ranges.specs.Reads.{Query as Question}
-use Rattle.series_calls.specs.SeriesCalls.{CallEnd}
-use Rattle.series_calls.specs.declared.series_end.SeriesEnd.{SeriesEnd}
+use Rattle.store_ranges.specs.Reads.{Query as Question}
+use Rattle.store_calls.specs.SeriesCalls.{CallEnd}
+use Rattle.store_calls.specs.declared.series_end.SeriesEnd.{SeriesEnd}
 use Rattle.script_core.specs.declared.block.Block.{Block}
 use Rattle.script_workers.specs.declared.work.Work.{Work}
 use Rattle.script_workers.specs.declared.work.Work.TheVariants.{Upload, Sync, Compact, Clean, Query}
-use Rattle.activity_laws.specs.CleaningOps.{IsCleanOp}
-use Rattle.activity_laws.specs.CompactionOps.{IsCompactOp, IsObjectMade}
-use Rattle.activity_laws.proofs.CleaningAsks.{cleaning_op, each_at}
+use Rattle.lifecycle_core.specs.CleaningOps.{IsCleanOp}
+use Rattle.lifecycle_core.specs.CompactionOps.{IsCompactOp, IsObjectMade}
+use Rattle.lifecycle_core.proofs.activities.CleaningAsks.{cleaning_op, each_at}
 use Rattle.lifecycle_core.specs.Acting.{IsReading}
 use Rattle.lifecycle_core.specs.Causes.{SomeCame}
 use Rattle.world_core.specs.Journals.{of_seat}
@@ -66,7 +66,7 @@ use Rattle.lifecycle_core.specs.Tasks.{End, QueryTask, TaskRun, answered, ask_to
 use Rattle.lifecycle_core.proofs.blocks.Declared.{declared_ulid}
 use Rattle.lifecycle_core.proofs.blocks.Objects.{object_is, object_ulid}
 use Rattle.lifecycle_core.proofs.blocks.OneShipped.{ends_with_meta}
-use Rattle.activity_laws.proofs.CompactionAsks.{compaction_op}
+use Rattle.lifecycle_core.proofs.activities.CompactionAsks.{compaction_op}
 use Rattle.lifecycle_core.proofs.deeds.Fronts.{done_at}
 use Rattle.lifecycle_core.proofs.deeds.Orders.{in_seat}
 use Rattle.lifecycle_core.proofs.deeds.Words.{AreDeeds, Done, IsClock, cleaning as cleans, clocking, compacting, reading, shipping}

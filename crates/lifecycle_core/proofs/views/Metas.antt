@@ -4,7 +4,7 @@ use Rattle.lifecycle_core.proofs.blocks.NewMetas.{named_again}
 use Rattle.lifecycle_core.proofs.blocks.Objects.{object, object_is}
 use Rattle.lifecycle_core.proofs.blocks.OneShipped.{ends_with_meta}
 use Rattle.lifecycle_core.proofs.blocks.Whole.{IsWholeBlock, Spans}
-use Rattle.list_core.proofs.Membership.{only_member}
+use Rattle.base.proofs.Membership.{only_member}
 use Rattle.std.proofs.lemmas.List.Elements.{Contains-append_cases}
 use Rattle.std.proofs.Common.{◌≡◌, ℕ, List, [], ◌∷◌, Contains, Some, Ok, refl, sym, ◌∙◌, ap, subst, inl, inr}
 use Rattle.block_keys.specs.declared.key.Key.TheVariants as key

@@ -2,8 +2,8 @@
 use Rattle.std.proofs.Common.{◌≢◌, inl, inr, ℕ, Bool, List, [], ◌∷◌, Some, sym, subst}
 use Rattle.std.specs.List.{AllByRecursion, filter}
 use Rattle.std.proofs.lemmas.Bool.{cases_Bool}
-use Rattle.list_core.proofs.Lists.{filter_hit, filter_miss}
-use Rattle.list_core.specs.Order.{InOrderAfter, ComesAfter}
+use Rattle.base.proofs.Lists.{filter_hit, filter_miss}
+use Rattle.base.specs.Order.{InOrderAfter, ComesAfter}
 use Rattle.label_sets.specs.Labels.{compare_texts}
 use Rattle.label_sets.proofs.LabelValues.{above_nothing}
 use Rattle.bucket_core.specs.Contents.{Contents}

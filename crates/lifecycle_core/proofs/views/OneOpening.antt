@@ -3,7 +3,7 @@ use Rattle.std.proofs.Common.{◌≡◌, ◌≢◌, ℕ, zero, suc, ◌≤◌, f
 use Rattle.std.specs.Prelude.{nat_le, nat_lt, unwrap_or}
 use Rattle.std.specs.List.{AllByRecursion, last_or}
 use Rattle.std.proofs.lemmas.Bool.{ltb-false}
-use Rattle.list_core.specs.Order.{are_in_order_after, comes_after}
+use Rattle.base.specs.Order.{are_in_order_after, comes_after}
 use Rattle.label_sets.specs.Labels.{compare_texts}
 use Rattle.block_keys.specs.declared.key.Key.{Key}
 use Rattle.block_keys.specs.declared.key.Key.TheVariants as key

@@ -1,7 +1,7 @@
 -- No compaction of an honest journal finds bytes or names that are not of the form.
-use Rattle.list_core.proofs.Membership.{contains_later, contains_place, into_filter, member_cases, no_member, of_map}
-use Rattle.list_core.proofs.Pairs.{AllZip-first}
-use Rattle.list_core.proofs.Lists.{slice_get-below}
+use Rattle.base.proofs.Membership.{contains_later, contains_place, into_filter, member_cases, no_member, of_map}
+use Rattle.base.proofs.Pairs.{AllZip-first}
+use Rattle.base.proofs.Lists.{slice_get-below}
 use Rattle.std.proofs.Common.{◌≡◌, inl, inr, ℕ, zero, suc, ◌+◌, ◌<◌, ◌≤◌, ◌^◌, ◌==◌, true, List, [], ◌∷◌, ◌++◌, length, map, Contains, Some, None, sym, ◌∙◌, ap, subst, append_assoc, arith}
 use Rattle.std.specs.Prelude.{slice_get}
 use Rattle.std.proofs.lemmas.Bool.Decides.{nat_tests}
@@ -10,7 +10,7 @@ use Rattle.std.proofs.lemmas.List.Elements.{Contains-append_cases, Contains-appe
 use Rattle.block_keys.specs.Keys.{key_ulid}
 use Rattle.block_keys.specs.declared.key.Key.{Key}
 use Rattle.block_keys.specs.declared.key.Key.TheVariants as key
-use Rattle.block_files.specs.Built.{objects_of}
+use Rattle.block_meta.specs.Built.{objects_of}
 use Rattle.block_meta.specs.MetaFields.{MetaFields, fields_of}
 use Rattle.block_meta.specs.MetaReading.{meta_of_text}
 use Rattle.block_meta.specs.MetaValue.{meta_text}
@@ -19,13 +19,13 @@ use Rattle.block_content.specs.Content.{IsContent}
 use Rattle.block_content.specs.ContentRefusals.{RefusesContent}
 use Rattle.block_content.specs.declared.check_refusal.CheckRefusal.{CheckRefusal}
 use Rattle.block_content.proofs.ContentLaws.{content_again, content_refuses}
-use Rattle.block_files.specs.declared.block_files.BlockFiles.{BlockFiles}
+use Rattle.block_meta.specs.declared.block_files.BlockFiles.{BlockFiles}
 use Rattle.sync_filters.specs.declared.found.Found.{Found}
 use Rattle.meta_fetcher.specs.declared.view.View.{View}
-use Rattle.compaction_inputs.specs.Inputs.{IsInput}
-use Rattle.compaction_inputs.specs.declared.input.Input.{Input}
-use Rattle.compaction_inputs.specs.declared.input.Read.{Read}
-use Rattle.compaction_inputs.specs.Named.{last_named, named_segments}
+use Rattle.compactor.specs.Inputs.{IsInput}
+use Rattle.compactor.specs.declared.input.Input.{Input}
+use Rattle.compactor.specs.declared.input.Read.{Read}
+use Rattle.compactor.specs.Named.{last_named, named_segments}
 use Rattle.world_core.specs.Operations.{IsLawful}
 use Rattle.world_core.specs.Standing.{IsHonest}
 use Rattle.world_core.specs.Worlds.{IsOfBytes}
@@ -37,10 +37,10 @@ use Rattle.compactor.specs.NewBlocks.{new_ulid}
 use Rattle.compactor.specs.declared.compact_end.CompactEnd.TheVariants as compact
 use Rattle.script_core.specs.Lawful.{IsLawfulScript}
 use Rattle.script_fields.specs.Values.{is_reserved}
-use Rattle.activity_laws.specs.CompactionOps.{HasSynced, IsCompactOp, IsInputRead, IsObjectMade, ReadsObject, WasRead}
-use Rattle.activity_laws.specs.Sights.{IsSeen}
-use Rattle.activity_laws.proofs.CompactionAsks.{compaction_op}
-use Rattle.activity_laws.proofs.CompactionGroups.{plan_among, named_is}
+use Rattle.lifecycle_core.specs.CompactionOps.{HasSynced, IsCompactOp, IsInputRead, IsObjectMade, ReadsObject, WasRead}
+use Rattle.lifecycle_core.specs.Sights.{IsSeen}
+use Rattle.lifecycle_core.proofs.activities.CompactionAsks.{compaction_op}
+use Rattle.lifecycle_core.proofs.activities.CompactionGroups.{plan_among, named_is}
 use Rattle.world_core.specs.Journals.{of_seat}
 use Rattle.lifecycle_core.specs.PutBlocks.{WasPutBefore}
 use Rattle.lifecycle_core.specs.Setting.{Setting}

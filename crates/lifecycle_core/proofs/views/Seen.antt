@@ -1,6 +1,6 @@
 -- What a sync of an honest journal comes to: the blocks that it keeps are complete, and the one that holds a settled upload is kept.
-use Rattle.list_core.proofs.Membership.{any_of_member, contains_first, contains_later, into_filter, member_cases, member_of_any, no_member, only_member}
-use Rattle.list_core.proofs.Integers.{le_le}
+use Rattle.base.proofs.Membership.{any_of_member, contains_first, contains_later, into_filter, member_cases, member_of_any, no_member, only_member}
+use Rattle.base.proofs.Integers.{le_le}
 use Rattle.std.proofs.Common.{◌≡◌, ◌⊎◌, inl, inr, ℕ, ◌+◌, ◌*◌, ◌<◌, ◌≤◌, ◌^◌, ◌==◌, ℤ, Bool, true, false, not, ◌&&◌, cond, List, [], ◌∷◌, ◌++◌, length, Contains, Option, Some, None, refl, sym, ◌∙◌, ap, subst, append_assoc, arith}
 use Rattle.std.specs.Prelude.{int_le, is_some, nat_lt, nat_le, option_map, pos, ◌+ℤ◌, ◌<ℤ◌, ◌≤ℤ◌}
 use Rattle.std.specs.List.{All, list_any}
@@ -31,8 +31,8 @@ use Rattle.sync_filters.specs.declared.found.Found.{Found}
 use Rattle.sync_filters.proofs.HolderLaws.{has_source}
 use Rattle.meta_fetcher.specs.Sightings.{kept_by, passed_by}
 use Rattle.meta_fetcher.specs.declared.rules.SyncRules.{SyncRules}
-use Rattle.activity_laws.specs.Sights.{IsSeen, IsSight, ShowsBlock, TellsMark}
-use Rattle.activity_laws.proofs.SyncSights.{sync_sight}
+use Rattle.lifecycle_core.specs.Sights.{IsSeen, IsSight, ShowsBlock, TellsMark}
+use Rattle.lifecycle_core.proofs.activities.SyncSights.{sync_sight}
 use Rattle.script_core.specs.Lawful.{IsLawfulScript}
 use Rattle.lifecycle_core.specs.Completed.{IsCompletedAt, IsExpired, IsSettled}
 use Rattle.world_core.specs.Journals.{of_seat}

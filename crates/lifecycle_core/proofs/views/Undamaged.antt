@@ -4,17 +4,17 @@ use Rattle.std.proofs.Common.{◌≡◌, ℕ, ◌+◌, ◌<◌, ◌^◌, List, [
 use Rattle.std.specs.Prelude.{fold}
 use Rattle.std.proofs.lemmas.Bool.{both_ways}
 use Rattle.std.proofs.lemmas.List.Elements.{All-contains_itself, All-weaker, Contains-append_left, recursion_from_All}
-use Rattle.list_core.specs.Order.{InOrderAfter, ComesAfter}
+use Rattle.base.specs.Order.{InOrderAfter, ComesAfter}
 use Rattle.label_sets.specs.Labels.{compare_texts}
 use Rattle.block_keys.specs.Keys.{IsLawfulKey, key_ulid}
 use Rattle.block_keys.specs.declared.key.Key.{Key}
 use Rattle.block_keys.specs.declared.key.Key.TheVariants as key
 use Rattle.block_meta.specs.MetaFields.{MarkFields, MetaFields}
 use Rattle.block_meta.specs.OfBlocks.{block_mark, block_meta}
-use Rattle.block_marking.specs.Marking.{details_of}
-use Rattle.block_marking.specs.NewMarks.{new_mark}
-use Rattle.block_marking.specs.declared.reason.Reason.{Reason}
-use Rattle.block_marking.specs.declared.reason.Reason.TheVariants as reason_is
+use Rattle.compactor.specs.Marking.{details_of}
+use Rattle.compactor.specs.NewMarks.{new_mark}
+use Rattle.compactor.specs.declared.reason.Reason.{Reason}
+use Rattle.compactor.specs.declared.reason.Reason.TheVariants as reason_is
 use Rattle.moment_core.specs.declared.rules.Rules.{Rules}
 use Rattle.world_core.specs.Limits.{most_listed}
 use Rattle.world_core.specs.Plans.{Plan, after_delete, choose, ends}
@@ -40,8 +40,8 @@ use Rattle.cleaner.specs.declared.clean_end.CleanEnd.{CleanEnd}
 use Rattle.cleaner.specs.declared.clean_end.CleanEnd.TheVariants as clean
 use Rattle.cleaner.specs.declared.clean_rules.CleanRules.{CleanRules}
 use Rattle.script_core.specs.Lawful.{IsLawfulScript}
-use Rattle.activity_laws.proofs.MarkTexts.{own_mark}
-use Rattle.activity_laws.proofs.Listing.{ascends_after}
+use Rattle.lifecycle_core.proofs.activities.MarkTexts.{own_mark}
+use Rattle.lifecycle_core.proofs.activities.Listing.{ascends_after}
 use Rattle.lifecycle_core.specs.PutBlocks.{WasPutBefore}
 use Rattle.lifecycle_core.specs.Setting.{Setting}
 use Rattle.lifecycle_core.proofs.blocks.Known.{put_is_complete}

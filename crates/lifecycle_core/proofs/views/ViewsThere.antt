@@ -1,7 +1,7 @@
 -- Whoever is asked has a view: in a lawful script each gateway has a sync before each query, and a phase begins only when
 -- all syncs of the one before have come to their ends.
-use Rattle.list_core.proofs.Membership.{contains_first, contains_later}
-use Rattle.list_core.proofs.Pairs.{AllZip-first, AllZip-second}
+use Rattle.base.proofs.Membership.{contains_first, contains_later}
+use Rattle.base.proofs.Pairs.{AllZip-first, AllZip-second}
 use Rattle.std.proofs.Common.{◌≡◌, ◌≢◌, ◌⊎◌, inl, inr, ℕ, ℤ, zero, suc, ◌+◌, ◌<◌, ◌≤◌, ◌==◌, ◌||◌, Bool, true, false, cond, List, [], ◌∷◌, ◌++◌, length, Contains, Option, Some, None, refl, sym, ◌∙◌, ap, subst, arith}
 use Rattle.std.specs.Prelude.{slice_get, option_map}
 use Rattle.std.specs.List.{All, AllByRecursion, AllZip, list_any}
@@ -14,7 +14,7 @@ use Rattle.world_core.specs.declared.entry.Entry.{Entry}
 use Rattle.meta_fetcher.specs.declared.view.View.{View}
 use Rattle.meta_fetcher.specs.declared.sync_end.SyncEnd.{SyncEnd}
 use Rattle.meta_fetcher.specs.declared.sync_end.SyncEnd.TheVariants as fetched
-use Rattle.read_ranges.specs.Reads.{Query as Question}
+use Rattle.store_ranges.specs.Reads.{Query as Question}
 use Rattle.script_workers.specs.Hands.{does, gateway_count, gateway_of, greatest, hands_of, places_from, same_hand, seats_after, worker_of, workers_from}
 use Rattle.script_core.specs.Workers.{seats_before, workers_after, workers_of}
 use Rattle.script_core.specs.Lawful.{IsLawfulScript}
@@ -38,7 +38,7 @@ use Rattle.lifecycle_core.specs.Holdings.{Holding, Holdings, Use, holding_of, no
 use Rattle.lifecycle_core.specs.Phases.{IsInTurn, IsRunOf, by_script, by_workers}
 use Rattle.lifecycle_core.specs.Setting.{Setting}
 use Rattle.querier.specs.declared.ask.Ask.{Ask}
-use Rattle.series_calls.specs.SeriesCalls.{CallEnd}
+use Rattle.store_calls.specs.SeriesCalls.{CallEnd}
 use Rattle.lifecycle_core.specs.Tasks.{End, PartTask, QueryTask, TaskRun, answered, ask_to, cleaned, compacted, question_of, synced, synced_with, without_view}
 use Rattle.lifecycle_core.specs.Ways.{AreInTurn, PhasesRun}
 use Rattle.lifecycle_core.proofs.phases.GatewayParts.{query_is}

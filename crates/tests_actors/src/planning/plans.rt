@@ -1,8 +1,8 @@
 use crate::says::{cut, cut_at, put, put_number, say};
+use base::NoMemory;
 use block_meta::{BlockPlan, Meta};
 use group_planner::{Group, MetaList, overlapping, plan, select, split_by_range};
 use label_sets::LabelSet;
-use list_core::NoMemory;
 use std::alloc::Global;
 use ulid_core::{Ulid, UlidList};
 use vertical_merge::compacted_plan;

@@ -2,10 +2,9 @@
 //! whether these have a byte of zeros that our own writer leaves out, and its samples.
 use crate::says::say;
 use block_content::read_index;
-use block_files::BlockFiles;
+use block_meta::BlockFiles;
 use chunk_files::read_chunk;
-use index_file::IndexSeries;
-use index_parts::ChunkPlace;
+use index_parts::{ChunkPlace, IndexSeries};
 use label_sets::{LabelSet, Sample};
 use std::str;
 use wire_bytes::Blob;

@@ -3,8 +3,8 @@ ghost use Rattle.std.specs.Prelude.{◌≤◌, length, IfOk};
 
 use crate::built::block_of;
 use crate::merging::series::read_list;
-use block_files::BlockFiles;
-use list_core::{List, NoMemory};
+use base::{List, NoMemory};
+use block_meta::BlockFiles;
 use std::alloc::Global;
 use wire_bytes::Blob;
 

@@ -1,9 +1,8 @@
 use crate::built::wide_plan;
 use crate::merging::chunks::print_block;
 use crate::says::say;
-use block_files::BlockFiles;
 use block_merging::{may_merge, merge_blocks};
-use block_meta::BlockPlan;
+use block_meta::{BlockFiles, BlockPlan};
 use label_sets::{Text, TextList};
 use std::alloc::Global;
 

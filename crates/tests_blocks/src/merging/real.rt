@@ -4,11 +4,11 @@ use crate::checks::open;
 use crate::merging::given::add_block;
 use crate::merging::merges::print_merge;
 use crate::says::{cut, say};
+use base::TryCopy;
 use block_content::content;
-use block_files::BlockFiles;
 use block_loading::load;
+use block_meta::BlockFiles;
 use label_sets::{Sample, SampleList, Series, SeriesList};
-use list_core::TryCopy;
 use std::alloc::Global;
 use ulid_core::Ulid;
 

@@ -1,7 +1,7 @@
 use crate::says::{cut_at, put, say};
 use block_keys::Key;
-use index_cache::IndexCache;
 use std::str;
+use store_ranges::IndexCache;
 use ulid_core::Ulid;
 use wire_bytes::Blob;
 

@@ -1,7 +1,7 @@
 use crate::says::{cut, say_hex};
 use crate::texts::texts_of;
 use index_parts::read_toc;
-use section_writers::{write_symbols, write_toc};
+use index_writing::{write_symbols, write_toc};
 
 /// Prints the bytes of a section: `symbols TEXT,TEXT` has these symbols, and `toc` is the index's table of contents, made again
 /// of what is read of it.

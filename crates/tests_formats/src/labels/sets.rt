@@ -1,7 +1,7 @@
 use crate::says::{cut, put, put_labels, say, show, tell};
 use crate::texts::texts_of;
-use label_sets::{LabelSet, final_labels, reduced_labels};
-use list_core::{NoMemory, TryCopy};
+use base::{NoMemory, TryCopy};
+use label_sets::{LabelSet, final_labels, reduced};
 use std::alloc::Global;
 
 /// Prints a label set as its copy is written and how many bytes it took, or why the text is none.
@@ -39,7 +39,7 @@ pub(crate) fn print_final(rt: &HostRuntime, text: &str) {
     let external = set_of(rt.alloc(), external);
     let replicas = texts_of(rt.alloc(), replica);
     put_made(rt, final_labels(rt.alloc(), &own, &external, &replicas));
-    put_made(rt, reduced_labels(rt.alloc(), &own, &external, &replicas));
+    put_made(rt, reduced(rt.alloc(), &own, &external, &replicas));
     say(rt, "");
 }
 

@@ -1,7 +1,7 @@
 use crate::metas::fields::print_fields;
 use crate::says::{copied, file_of, put, say};
+use base::NoMemory;
 use block_meta::{DeletionMark, Meta, MetaRefusal};
-use list_core::NoMemory;
 use wire_bytes::Blob;
 
 /// A lawful meta without its last brace.

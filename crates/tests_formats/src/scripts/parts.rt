@@ -1,5 +1,5 @@
 use crate::says::{put, say, show, tell};
-use list_core::NoMemory;
+use base::NoMemory;
 use script_core::{Block, Body, Phase, Script, WorkerList};
 
 /// A script of three phases.

@@ -1,5 +1,5 @@
 -- What the run shows in which a block is deleted while it is uploaded: its breach, and why an object was missing.
-use Rattle.list_core.proofs.Membership.{contains_first}
+use Rattle.base.proofs.Membership.{contains_first}
 use Rattle.std.proofs.Common.{◌≡◌, inr, ℕ, ◌+◌, ◌<◌, ◌≤◌, List, [], ◌∷◌, Contains, refl, sym, subst, arith, lit<, lit≤}
 use Rattle.std.specs.Prelude.{drop}
 use Rattle.std.specs.List.{All}

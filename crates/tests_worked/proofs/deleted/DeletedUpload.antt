@@ -19,9 +19,9 @@ use Rattle.cleaner.specs.Objects.{objects_of}
 use Rattle.cleaner.specs.declared.clean_end.CleanEnd.{CleanEnd}
 use Rattle.cleaner.specs.declared.clean_end.CleanEnd.TheVariants as cleaning
 use Rattle.cleaner.specs.declared.clean_rules.CleanRules.{CleanRules}
-use Rattle.read_ranges.specs.Reads.{missing}
-use Rattle.series_calls.specs.SeriesCalls.{broke}
-use Rattle.series_calls.specs.declared.series_end.SeriesEnd.TheVariants as called
+use Rattle.store_ranges.specs.Reads.{missing}
+use Rattle.store_calls.specs.SeriesCalls.{broke}
+use Rattle.store_calls.specs.declared.series_end.SeriesEnd.TheVariants as called
 use Rattle.script_workers.specs.Hands.{hands_of_task, with_hands, hands_from, places_from, workers_from, seats_from}
 use Rattle.script_workers.specs.declared.work.Work.TheVariants as works
 use Rattle.script_workers.specs.declared.worker.Worker.{Worker}

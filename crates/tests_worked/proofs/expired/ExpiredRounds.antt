@@ -1,7 +1,7 @@
 -- The compaction that marks the block that expired, and the cleanings.
 use Rattle.std.proofs.Common.{◌≡◌, inr, ℕ, suc, pos, List, [], ◌∷◌, Option, Some, None, refl, sym, ap, subst}
 use Rattle.std.specs.List.Sorted.{IsStrictlySortedBy}
-use Rattle.list_core.specs.Ordered.{in_order, placed}
+use Rattle.base.specs.Ordered.{in_order, placed}
 use Rattle.label_sets.specs.Finals.{is_among, without}
 use Rattle.block_keys.specs.KeyText.{key_named, number_of, segment_of}
 use Rattle.block_keys.specs.declared.key.Key.{Key}

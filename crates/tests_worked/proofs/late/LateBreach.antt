@@ -1,5 +1,5 @@
 -- What the run shows in which a compaction reads late: its breach, and why an object was missing.
-use Rattle.list_core.proofs.Membership.{contains_first}
+use Rattle.base.proofs.Membership.{contains_first}
 use Rattle.std.proofs.Common.{◌≡◌, inl, inr, ℕ, zero, suc, ◌+◌, ◌*◌, ◌<◌, ◌≤◌, List, [], ◌∷◌, ◌++◌, Contains, Ok, None, append_assoc, refl, sym, ◌∙◌, ap, subst, arith, lit<, lit≤}
 use Rattle.std.specs.Prelude.{drop}
 use Rattle.std.specs.List.{All}

@@ -2,7 +2,7 @@
 use Rattle.std.proofs.Common.{◌≡◌, Ok, Some, refl, codes}
 use Rattle.std.specs.Fmt.{digits}
 use Rattle.std.specs.Str.{is_utf8, chars}
-use Rattle.block_marking.specs.NewMarks.{new_mark_text}
+use Rattle.compactor.specs.NewMarks.{new_mark_text}
 use Rattle.block_meta.proofs.Plain.{mark_is_object}
 use Rattle.block_meta.specs.Members.{json_of, object_of, member_of, needed_of, of_kind, unsigned_of, version_of}
 use Rattle.block_meta.specs.Members as members

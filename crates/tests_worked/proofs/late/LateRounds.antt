@@ -34,7 +34,7 @@ use Rattle.tests_worked.proofs.late.LateMark.{block_mark_reads, mark_is}
 use Rattle.tests_worked.proofs.pair.PairMetas.{b_block_meta, b_reads}
 use Rattle.tests_worked.proofs.pair.PairRounds.{a_block_meta, both, both_planned, group, index_is, none_ascend, one_group as pair_group, two_ascend}
 use Rattle.tests_worked.proofs.small.SmallMeta.{a_reads}
-use Rattle.list_core.proofs.Rising.{one_rises}
+use Rattle.base.proofs.Rising.{one_rises}
 
 -- ---- the compactions' syncs
 

@@ -3,7 +3,7 @@ use Rattle.std.proofs.Common.{◌≡◌, ℕ, true, refl}
 use Rattle.std.specs.Str.{chars, is_utf8}
 use lib.Utf8.{encode}
 use Rattle.std.proofs.lemmas.Str.{IsUtf8-from_is_utf8}
-use Rattle.reading_core.specs.Grammar.{IsBytes}
+use Rattle.base.specs.Grammar.{IsBytes}
 use Rattle.block_meta.specs.MetaFields.{MetaFields}
 use Rattle.world_core.specs.Operations.{PutsBytes, ShowsBytes}
 use Rattle.world_core.specs.Standing.{IsHonest}

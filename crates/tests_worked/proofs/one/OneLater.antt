@@ -11,8 +11,8 @@ use Rattle.world_core.specs.Plans.{Runs, noting}
 use Rattle.meta_fetcher.specs.declared.view.View.{View}
 use Rattle.meta_fetcher.specs.declared.sync_end.SyncEnd.{SyncEnd}
 use Rattle.meta_fetcher.specs.declared.sync_end.SyncEnd.TheVariants as fetched
-use Rattle.read_ranges.specs.Reads.{Cache, Query}
-use Rattle.series_calls.specs.SeriesCalls.{CallEnd, SeriesRun, reading, to_read}
+use Rattle.store_ranges.specs.Reads.{Cache, Query}
+use Rattle.store_calls.specs.SeriesCalls.{CallEnd, SeriesRun, reading, to_read}
 use Rattle.script_workers.specs.declared.task.Task.{Task}
 use Rattle.script_workers.specs.declared.work.Work.TheVariants as works
 use Rattle.script_workers.specs.declared.worker.Worker.{Worker}

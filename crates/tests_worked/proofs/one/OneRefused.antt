@@ -21,7 +21,7 @@ use Rattle.tests_worked.specs.Entries.{clock, stored, absent, found, listed}
 use Rattle.tests_worked.specs.OneBlock as one
 use Rattle.tests_worked.specs.OneBlockChanged as changed
 use Rattle.tests_worked.proofs.one.OneLater.{no_read_after_absent}
-use Rattle.list_core.proofs.Membership.{only_member}
+use Rattle.base.proofs.Membership.{only_member}
 use Rattle.tests_worked.proofs.one.OneUpload.{BeginsAnew, FirstPhase, second, first_phase_of, stays, upload_of, uploads_of, first_is_look, second_is_put}
 use Rattle.tests_worked.proofs.small.Each.{workers_seats}
 

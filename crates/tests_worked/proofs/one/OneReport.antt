@@ -1,6 +1,6 @@
 -- The report of the script of one block.
 use Rattle.std.proofs.Common.{◌≡◌, None, pos, true, List, [], ◌∷◌, ◌++◌, refl, sym, subst, lit<}
-use Rattle.reading_core.specs.Decimal.{decimal_text, signed_text}
+use Rattle.base.specs.Decimal.{decimal_text, signed_text}
 use Rattle.ulid_core.specs.FixedDigits.{fixed_digits}
 use Rattle.ulid_core.specs.UlidText.{text_of, character, alphabet}
 use Rattle.label_sets.specs.Counts.{sample_count}
@@ -8,7 +8,7 @@ use Rattle.label_sets.specs.Notation.{quoted_byte, quoted, pair_text, comma_pair
 use Rattle.label_sets.specs.SampleText.{hex_sign, hex_text, pattern_text, timed_text, sample_text, spaced_sample_text, series_text}
 use Rattle.shipper.specs.declared.upload_end.UploadEnd.TheVariants as shipped
 use Rattle.meta_fetcher.specs.declared.sync_end.SyncEnd.TheVariants as fetched
-use Rattle.series_calls.specs.declared.series_end.SeriesEnd.TheVariants as called
+use Rattle.store_calls.specs.declared.series_end.SeriesEnd.TheVariants as called
 use Rattle.script_workers.specs.Hands.{hands_of_task}
 use Rattle.script_workers.specs.declared.worker.Worker.{Worker}
 use Rattle.lifecycle_core.specs.Tasks.{answered, synced, uploaded}

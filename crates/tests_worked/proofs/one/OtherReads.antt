@@ -13,10 +13,10 @@ use Rattle.world_core.specs.declared.reply.Reply.TheVariants as reply
 use Rattle.index_parts.specs.declared.refusal.PartRefusal.TheVariants as part
 use Rattle.index_v2.specs.Opening.{contents_at, opened_at}
 use Rattle.index_v2.specs.declared.refusal.IndexRefusal.TheVariants.{BadSection}
-use Rattle.read_ranges.specs.Reads.{damaged, fault}
-use Rattle.series_calls.specs.SeriesCalls.{CallEnd, broke}
-use Rattle.series_calls.specs.declared.series_end.SeriesEnd.{SeriesEnd}
-use Rattle.series_calls.specs.declared.series_end.SeriesEnd.TheVariants as called
+use Rattle.store_ranges.specs.Reads.{damaged, fault}
+use Rattle.store_calls.specs.SeriesCalls.{CallEnd, broke}
+use Rattle.store_calls.specs.declared.series_end.SeriesEnd.{SeriesEnd}
+use Rattle.store_calls.specs.declared.series_end.SeriesEnd.TheVariants as called
 use Rattle.lifecycle_core.specs.Causes.{AreUndamaged, AreWell, SomeCame}
 use Rattle.lifecycle_core.specs.Holdings.{empty_cache}
 use Rattle.lifecycle_core.specs.Phases.{IsFinished, IsRunOf}

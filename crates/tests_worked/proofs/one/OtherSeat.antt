@@ -1,6 +1,6 @@
 -- The run of the script of one block, where somebody else asks the query.
 use Rattle.std.proofs.Common.{◌≡◌, ◌≢◌, ◌⊎◌, inl, inr, ℕ, zero, suc, ◌+◌, ◌^◌, ◌<◌, pos, List, [], ◌∷◌, ◌++◌, length, map, Contains, Some, refl, sym, ap, subst, arith, lit<, lit≤}
-use Rattle.list_core.proofs.Membership.{no_member, only_member}
+use Rattle.base.proofs.Membership.{no_member, only_member}
 use Rattle.std.specs.List.{All, AllPairs}
 use Rattle.std.proofs.lemmas.List.Kept.{AllPairs-cons}
 use Rattle.std.proofs.lemmas.List.Elements.{All-contains, All-cons, All-from_recursion, All-nil, All-weaker, Contains-append_right}
@@ -16,9 +16,9 @@ use Rattle.script_workers.specs.declared.worker.Worker.{Worker}
 use Rattle.lifecycle_core.specs.Acting.{IsActing, IsReading, acting, actors}
 use Rattle.lifecycle_core.specs.Breaches.{IsSeatOf, Refuses, RefusesUnder, view_time, watched_call}
 use Rattle.lifecycle_core.specs.Conducts.{PhaseRun, working}
-use Rattle.index_cache.specs.declared.range.Range.{Range}
-use Rattle.series_calls.specs.Asking.{IsReadOf}
-use Rattle.series_calls.specs.KeptRanges.{IsReadIn}
+use Rattle.store_ranges.specs.declared.range.Range.{Range}
+use Rattle.store_calls.specs.Asking.{IsReadOf}
+use Rattle.store_calls.specs.KeptRanges.{IsReadIn}
 use Rattle.lifecycle_core.specs.Holdings.{empty_cache, none_held, nothing_held}
 use Rattle.lifecycle_core.specs.Phases.{IsLawfulJournal, by_workers}
 use Rattle.lifecycle_core.specs.SyncsAndCalls.{IsCallIn, IsViewOf}

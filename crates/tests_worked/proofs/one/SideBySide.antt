@@ -30,7 +30,7 @@ use Rattle.world_core.specs.Worlds.{IsJournal}
 use Rattle.world_core.specs.declared.entry.Entry.{Entry}
 use Rattle.shipper.specs.declared.upload_end.UploadEnd.TheVariants as shipped
 use Rattle.meta_fetcher.specs.declared.sync_end.SyncEnd.TheVariants as fetched
-use Rattle.series_calls.specs.declared.series_end.SeriesEnd.TheVariants as called
+use Rattle.store_calls.specs.declared.series_end.SeriesEnd.TheVariants as called
 use Rattle.script_workers.specs.Hands.{hands_of_task, with_hands, hands_from, places_from, workers_from, seats_from}
 use Rattle.script_core.specs.Workers.{workers_of}
 use Rattle.script_workers.specs.declared.work.Work.TheVariants as works
@@ -48,7 +48,7 @@ use Rattle.tests_worked.specs.SideBySide as side
 use Rattle.tests_worked.proofs.small.Bucket.{segment_key, index_key, meta_key, mark_key, one_folder, page_of, query_told, segment_folder}
 use Rattle.tests_worked.proofs.small.SmallMeta.{meta_is}
 use Rattle.tests_worked.proofs.small.Each.{each_of, by_workers_alone}
-use Rattle.list_core.proofs.Membership.{only_member}
+use Rattle.base.proofs.Membership.{only_member}
 use Rattle.tests_worked.proofs.small.SmallCalls.{all_asked, called_by, merge_given, query_task, synced_by}
 use Rattle.tests_worked.proofs.small.SmallTasks.{upload_task_by, sync_run_by}
 use Rattle.tests_worked.proofs.young.YoungBlock.{with_held, kept_else}

@@ -2,8 +2,8 @@
 use Rattle.std.proofs.Common.{◌≡◌, ◌≤◌, inl, inr, ℕ, true, List, [], ◌∷◌, All, Contains, Some, None, is_some, bytes_eq, refl, sym, ◌∙◌, ap, subst, length, lit<, lit≤}
 use Rattle.std.proofs.lemmas.List.Elements.{All-contains, All-from_recursion}
 use Rattle.std.proofs.lemmas.Slice.Eq.{bytes_eq-Decides}
-use Rattle.list_core.proofs.Membership.{contains_first, contains_later}
-use Rattle.list_core.specs.Order.{InOrderAfter, ComesAfter}
+use Rattle.base.proofs.Membership.{contains_first, contains_later}
+use Rattle.base.specs.Order.{InOrderAfter, ComesAfter}
 use Rattle.ulid_core.specs.FixedDigits.{fixed_digits}
 use Rattle.ulid_core.specs.UlidText.{text_of, character, alphabet}
 use Rattle.label_sets.specs.Labels.{compare_texts}

@@ -5,8 +5,8 @@ use Rattle.std.specs.List.{find, list_any}
 use Rattle.std.specs.List.Sorted.{IsStrictlySortedBy}
 use Rattle.std.proofs.lemmas.Int.{ints}
 use Rattle.std.proofs.lemmas.List.Elements.{All-cons, All-nil, All-from_recursion}
-use Rattle.list_core.proofs.Membership.{member_cases, only_member}
-use Rattle.reading_core.specs.FixedDigits.{fixed_digits}
+use Rattle.base.proofs.Membership.{member_cases, only_member}
+use Rattle.base.specs.FixedDigits.{fixed_digits}
 use Rattle.block_keys.specs.KeyText.{six_digits}
 use Rattle.label_sets.specs.Counts.{sample_count}
 use Rattle.label_sets.specs.Finals.{is_among, reduced_of, without}
@@ -16,7 +16,7 @@ use Rattle.vertical_merge.specs.Compacted.{IsCompactedPlan}
 use Rattle.vertical_merge.specs.Merged.{AreFirst, IsMerge}
 use Rattle.block_meta.specs.MetaFields.{fields_of}
 use Rattle.block_meta.specs.declared.block_plan.BlockPlan.{BlockPlan}
-use Rattle.block_files.specs.declared.block_files.BlockFiles.{BlockFiles}
+use Rattle.block_meta.specs.declared.block_files.BlockFiles.{BlockFiles}
 use Rattle.block_writing.specs.Put.{IsPut, IsStored, Put, PutChunk, PutSeries}
 use Rattle.block_writing.specs.Standing.{content_at}
 use Rattle.block_writing.specs.Writing.{plan_fields}
@@ -28,10 +28,10 @@ use Rattle.block_merging.specs.Inputs.{taken}
 use Rattle.block_merging.specs.MergedBlock.{AreMerges, IsMergeOf}
 use Rattle.block_merging.specs.MergedSeries.{AreMerged, IsMergedSeries}
 use Rattle.block_merging.specs.Runs.{AreConnected, AreRuns, Span, lies_in}
-use Rattle.compaction_inputs.specs.Inputs.{IsInput}
-use Rattle.compaction_inputs.specs.Merges.{IsMerging}
-use Rattle.compaction_inputs.specs.declared.input.Input.{Input}
-use Rattle.compaction_inputs.specs.declared.merging.Merging.TheVariants.{Merged}
+use Rattle.compactor.specs.Inputs.{IsInput}
+use Rattle.compactor.specs.Merges.{IsMerging}
+use Rattle.compactor.specs.declared.input.Input.{Input}
+use Rattle.compactor.specs.declared.merging.Merging.TheVariants.{Merged}
 use Rattle.tests_worked.specs.CompactedPair as row
 use Rattle.tests_worked.specs.SmallBlock as small
 use Rattle.tests_worked.specs.SmallFiles as files

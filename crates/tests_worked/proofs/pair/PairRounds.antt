@@ -1,9 +1,9 @@
 -- What the compaction of the two blocks does, and the gateway's sync behind it.
 use Rattle.std.proofs.Common.{◌≡◌, ◌<◌, inl, inr, ℕ, ℤ, zero, suc, pos, true, List, [], ◌∷◌, ◌++◌, map, Contains, Some, None, refl, sym, ap, subst, arith, lit<}
 use Rattle.std.specs.List.Sorted.{IsStrictlyIncreasing, IsStrictlySortedBy}
-use Rattle.list_core.proofs.Membership.{contains_first, member_cases, only_member}
-use Rattle.list_core.specs.Ordered.{in_order, placed}
-use Rattle.list_core.proofs.Rising.{one_rises}
+use Rattle.base.proofs.Membership.{contains_first, member_cases, only_member}
+use Rattle.base.specs.Ordered.{in_order, placed}
+use Rattle.base.proofs.Rising.{one_rises}
 use Rattle.label_sets.specs.Finals.{is_among, without}
 use Rattle.block_content.specs.ContentReading.{index_at}
 use Rattle.block_keys.specs.declared.key.Key.TheVariants as key
@@ -23,8 +23,8 @@ use Rattle.meta_fetcher.specs.Syncs.{Course, IsEnd, SyncRun, listing, sighted, s
 use Rattle.sync_filters.specs.declared.found.Found.{Found}
 use Rattle.meta_fetcher.specs.declared.rules.SyncRules.{SyncRules}
 use Rattle.meta_fetcher.specs.declared.sync_end.SyncEnd.TheVariants as fetched
-use Rattle.compaction_inputs.specs.Named.{named_segments}
-use Rattle.compaction_inputs.specs.declared.merging.Merging.TheVariants.{Merged}
+use Rattle.compactor.specs.Named.{named_segments}
+use Rattle.compactor.specs.declared.merging.Merging.TheVariants.{Merged}
 use Rattle.group_planner.specs.Groups.{AreGroups, Key}
 use Rattle.group_planner.specs.Parts.{IsNextPart, fits_at}
 use Rattle.group_planner.specs.Plans.{IsPlan}

@@ -2,13 +2,13 @@
 use Rattle.std.proofs.Common.{◌≡◌, ℕ, pos, List, [], ◌∷◌, length, codes, refl, sym, ap, subst, ◌∙◌, append-nil, arith, lit<, lit≤, ◌≤◌}
 use Rattle.std.proofs.lemmas.Int.{ints}
 use Rattle.std.specs.List.Sorted.{IsStrictlySortedBy}
-use Rattle.reading_core.specs.FixedDigits.{fixed_digits}
+use Rattle.base.specs.FixedDigits.{fixed_digits}
 use Rattle.block_keys.specs.KeyText.{six_digits}
 use Rattle.block_meta.specs.declared.block_plan.BlockPlan.{BlockPlan}
 use Rattle.block_meta.specs.MetaFields.{fields_of}
 use Rattle.block_meta.specs.MetaValue.{meta_text}
-use Rattle.block_files.specs.Built.{objects_of, segment_objects}
-use Rattle.block_files.specs.declared.block_files.BlockFiles.{BlockFiles}
+use Rattle.block_meta.specs.Built.{objects_of, segment_objects}
+use Rattle.block_meta.specs.declared.block_files.BlockFiles.{BlockFiles}
 use Rattle.label_sets.specs.Counts.{sample_count}
 use Rattle.chunk_files.specs.Chunk.{frame_text}
 use Rattle.chunk_files.specs.Layout.{greatest}
@@ -19,8 +19,8 @@ use Rattle.block_writing.specs.Segments.{segment_text}
 use Rattle.block_writing.specs.Writing.{plan_fields}
 use Rattle.block_writing.specs.WrittenMeta.{counts_of, meta_with, names_from, sizes_from, sizes_of}
 use Rattle.block_content.specs.Content.{IsContent}
-use Rattle.block_laws.specs.PutContent.{AreBytes}
-use Rattle.block_laws.proofs.Content.{built_holds}
+use Rattle.block_merging.specs.PutContent.{AreBytes}
+use Rattle.block_merging.proofs.Content.{built_holds}
 use Rattle.lifecycle_core.specs.Setting.{Setting}
 use Rattle.lifecycle_core.specs.Shipped.{IsShipped}
 use Rattle.tests_worked.specs.SmallBlock as small

@@ -1,5 +1,5 @@
 -- To what workers came.
-use Rattle.list_core.proofs.Membership.{only_member}
+use Rattle.base.proofs.Membership.{only_member}
 use Rattle.std.proofs.Common.{◌≡◌, ◌⊎◌, inl, inr, ℕ, zero, suc, List, [], ◌∷◌, All, Contains, Option, sym, subst, arith}
 use Rattle.std.specs.List.{zip}
 use Rattle.std.proofs.lemmas.List.Elements.{All-contains}

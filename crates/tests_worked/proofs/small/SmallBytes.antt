@@ -3,11 +3,11 @@ use Rattle.std.proofs.Common.{◌≡◌, ℕ, zero, suc, true, List, [], ◌∷�
 use Rattle.std.specs.Prelude.{nat_lt}
 use Rattle.std.specs.List.{list_all}
 use Rattle.std.proofs.lemmas.Bool.{and_parts, ltb-true}
-use Rattle.reading_core.specs.Grammar.{IsBytes}
+use Rattle.base.specs.Grammar.{IsBytes}
 use Rattle.wire_bytes.specs.Fields.{bytes_at, groups_of, number_at, uvarint_at, varint_at}
 use Rattle.wire_bytes.specs.Written.{groups_text, varint_text}
 use Rattle.wire_bytes.specs.Crc.{crc, remainder}
-use Rattle.wire_bits.specs.Bits.{bits_in, bits_of, filled, number_of}
+use Rattle.wire_bytes.specs.Bits.{bits_in, bits_of, filled, number_of}
 use Rattle.xor_chunks.specs.Data.{count_at, data_at, first_at, rest_at, samples_at}
 use Rattle.xor_chunks.specs.Grammar.{IsText}
 use Rattle.xor_chunks.specs.Written.{written}

@@ -5,7 +5,7 @@ use Rattle.std.specs.List.{find, list_any}
 use Rattle.std.specs.List.Sorted.{IsStrictlySortedBy}
 use Rattle.std.specs.Ordering.{int_cmp, is_le}
 use Rattle.std.proofs.lemmas.List.Elements.{All-nil, All-cons}
-use Rattle.list_core.proofs.Membership.{only_member}
+use Rattle.base.proofs.Membership.{only_member}
 use Rattle.wire_bytes.specs.Fields.{groups_of, uvarint_at}
 use Rattle.label_sets.specs.Finals.{is_among, without, final_of}
 use Rattle.label_sets.specs.Labels.{value_of}
@@ -20,21 +20,22 @@ use Rattle.vertical_merge.specs.Merged.{AreFirst, IsMerge}
 use Rattle.world_core.specs.Plans.{Runs}
 use Rattle.world_core.proofs.PlanParts.{joined}
 use Rattle.index_parts.specs.declared.postings_row.PostingsRow.{PostingsRow}
-use Rattle.index_slices.specs.Parts.{known}
+use Rattle.index_parts.specs.Parts.{known}
 use Rattle.index_v2.specs.PostingsLists.{list_of}
 use Rattle.index_v2.specs.SeriesLabels.{numbered_at}
 use Rattle.index_v2.specs.WholeReading.{lists_at}
 use Rattle.series_selection.specs.Selections.{IsListed, IsSelection, IsTaken, TakesBy, rows_read}
 use Rattle.meta_fetcher.specs.declared.view.View.{View}
-use Rattle.reading_core.specs.Firsts.{each_at}
-use Rattle.chunk_ranges.specs.BlockReads.{gives, block_call, shown}
-use Rattle.read_ranges.specs.ChunkRanges.{IsSetOf, group_of}
-use Rattle.chunk_ranges.specs.ChunkReads.{chunk_len_at, chunk_samples_at, glimpse_at, read, shows, stored_at, tests_at}
-use Rattle.read_ranges.specs.IndexRanges.{end_of}
-use Rattle.read_ranges.specs.Reads.{Block, Cache, Query, kept, range_of, used as used_range}
-use Rattle.block_ranges.proofs.SmallReads.{one_number, one_stretch, only, piece}
-use Rattle.series_calls.specs.SeriesCalls.{CallEnd, SeriesRun, after_block, asking, reading, took}
-use Rattle.series_calls.specs.declared.series_end.SeriesEnd.TheVariants as called
+use Rattle.base.specs.Firsts.{each_at}
+use Rattle.store_chunks.specs.Taken.{shown}
+use Rattle.store_calls.specs.BlockReads.{gives, block_call}
+use Rattle.store_ranges.specs.ChunkRanges.{IsSetOf, group_of}
+use Rattle.store_chunks.specs.ChunkReads.{chunk_len_at, chunk_samples_at, glimpse_at, read, shows, stored_at, tests_at}
+use Rattle.store_ranges.specs.IndexRanges.{end_of}
+use Rattle.store_ranges.specs.Reads.{Block, Cache, Query, kept, range_of, used as used_range}
+use Rattle.store_calls.proofs.SmallReads.{one_number, one_stretch, only, piece}
+use Rattle.store_calls.specs.SeriesCalls.{CallEnd, SeriesRun, after_block, asking, reading, took}
+use Rattle.store_calls.specs.declared.series_end.SeriesEnd.TheVariants as called
 use Rattle.lifecycle_core.specs.Holdings.{Holding, Use, empty_cache}
 use Rattle.lifecycle_core.specs.Tasks.{QueryTask, answered}
 use Rattle.tests_worked.specs.OneBlock as one

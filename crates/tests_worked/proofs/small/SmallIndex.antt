@@ -3,7 +3,7 @@ use Rattle.std.proofs.Common.{◌≡◌, ℕ, pos, List, [], ◌∷◌, Some, Ok
 use Rattle.std.specs.Prelude.{slice_get}
 use Rattle.std.specs.Str.{is_utf8, chars}
 use lib.Utf8.{encode}
-use Rattle.reading_core.specs.Members.{members_at}
+use Rattle.base.specs.Members.{members_at}
 use Rattle.wire_bytes.specs.Crc.{crc, remainder}
 use Rattle.wire_bytes.specs.Fields.{bytes_at, groups_of, number_at, uvarint_at, varint_at}
 use Rattle.wire_bytes.specs.Written.{groups_text, varint_text}
@@ -23,10 +23,10 @@ use Rattle.index_parts.specs.SymbolsReading.{symbol_at, symbols_at}
 use Rattle.index_parts.specs.declared.chunk_place.ChunkPlace.{ChunkPlace}
 use Rattle.index_parts.specs.declared.postings_row.PostingsRow.{PostingsRow}
 use Rattle.index_parts.specs.declared.toc.Toc.{Toc}
-use Rattle.index_slices.specs.Parts.{Part, known}
-use Rattle.index_file.specs.declared.index_series.IndexSeries.{IndexSeries}
-use Rattle.index_file.specs.IndexFile.{IsIndex}
-use Rattle.index_file.specs.Opened.{Opened}
+use Rattle.index_parts.specs.Parts.{Part, known}
+use Rattle.index_parts.specs.declared.index_series.IndexSeries.{IndexSeries}
+use Rattle.index_parts.specs.IndexFile.{IsIndex}
+use Rattle.index_parts.specs.Opened.{Opened}
 use Rattle.index_writing.specs.Aligned.{each_at, padded, places_at}
 use Rattle.index_writing.specs.LabelGroups.{all_entries, entries_of, grouped, names_of, rows_of}
 use Rattle.index_writing.specs.SymbolsInUse.{number_of, raw_of, symbol_of, symbols_of, texts_of}

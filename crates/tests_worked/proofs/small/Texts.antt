@@ -2,7 +2,7 @@
 use Rattle.std.proofs.Common.{◌≡◌, Ok, refl}
 use Rattle.std.specs.Str.{is_utf8, chars}
 use lib.Utf8.{encode}
-use Rattle.reading_core.specs.Decimal.{is_decimal, is_signed_decimal, unsigned_of, signed_of}
+use Rattle.base.specs.Decimal.{is_decimal, is_signed_decimal, unsigned_of, signed_of}
 use Rattle.ulid_core.specs.UlidText.{alphabet, digit_of, number_of, bad_place, ulid_of}
 use Rattle.label_sets.specs.Notation.{is_name, rest_past, name_length, name_at, with_byte, value_at, pair_at, with_label, stopped_at, at_end, end_at, at_comma, after_pair, on_pair, pairs_at, after_brace, at_brace, walk_at, repeats, placed_at, conclusion, read_set}
 use Rattle.label_sets.specs.Finals.{is_among}

@@ -1,6 +1,6 @@
 -- The report of the script of a young block, which is the same for both runs.
 use Rattle.std.proofs.Common.{◌≡◌, pos, None, true, List, [], ◌∷◌, ◌++◌, length, refl, sym, subst, lit<}
-use Rattle.reading_core.specs.Decimal.{decimal_text, signed_text}
+use Rattle.base.specs.Decimal.{decimal_text, signed_text}
 use Rattle.ulid_core.specs.FixedDigits.{fixed_digits}
 use Rattle.ulid_core.specs.UlidText.{text_of, character, alphabet}
 use Rattle.label_sets.specs.Counts.{sample_count}

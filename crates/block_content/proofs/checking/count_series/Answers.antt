@@ -1,5 +1,5 @@
 use Rattle.std.proofs.Common.{refl, ap, ◌∙◌, arith}
-use Rattle.reading_core.specs.Firsts.{or_else}
+use Rattle.base.specs.Firsts.{or_else}
 use Rattle.block_content.proofs.Counting.{counted_start, counted_step, counted_stopped}
 use Rattle.block_content.proofs.checking.count_series.Goals as goal
 

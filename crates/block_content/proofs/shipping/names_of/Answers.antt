@@ -1,5 +1,5 @@
 use Rattle.std.proofs.Common.{ℕ, List, [], ◌∷◌, ◌++◌, take, map, refl, sym, ap, ◌∙◌, arith}
-use Rattle.block_files.specs.Built.{segment_objects}
+use Rattle.block_meta.specs.Built.{segment_objects}
 use Rattle.block_content.specs.Shipped.{segment_name}
 use Rattle.block_content.proofs.ListedFiles.{no_names, names_more, all_names}
 use Rattle.block_content.proofs.shipping.names_of.Goals as goal

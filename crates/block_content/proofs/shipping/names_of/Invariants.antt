@@ -1,5 +1,5 @@
 use Rattle.std.proofs.Common.{◌≡◌, take, map}
-use Rattle.block_files.specs.Built.{segment_objects}
+use Rattle.block_meta.specs.Built.{segment_objects}
 use Rattle.block_content.specs.Shipped.{segment_name}
 use Rattle.block_content.proofs.shipping.names_of.Given as goal
 

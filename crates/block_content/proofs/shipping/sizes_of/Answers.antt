@@ -1,12 +1,12 @@
 use Rattle.std.proofs.Common.{ℕ, List, [], ◌∷◌, ◌++◌, take, map, refl, sym, ap, subst, ◌∙◌, arith}
 use Rattle.std.proofs.lemmas.List.{take_all}
 use Rattle.std.specs.List.{AllByRecursion}
-use Rattle.list_core.proofs.Lists.{take_none}
-use Rattle.reading_core.specs.Grammar.{IsBytes}
+use Rattle.base.proofs.Lists.{take_none}
+use Rattle.base.specs.Grammar.{IsBytes}
 use Rattle.block_keys.specs.declared.key.Key.TheVariants as key
 use Rattle.block_meta.specs.declared.file_size.FileSize.{FileSize}
-use Rattle.block_files.proofs.Blocks.{front_more}
-use Rattle.block_files.specs.Built.{segment_objects}
+use Rattle.block_meta.proofs.Blocks.{front_more}
+use Rattle.block_meta.specs.Built.{segment_objects}
 use Rattle.block_content.specs.Shipped.{size_of}
 use Rattle.block_content.proofs.ListedFiles.{no_sizes, sizes_more, all_sizes}
 use Rattle.block_content.proofs.shipping.sizes_of.Goals as goal

@@ -1,7 +1,7 @@
 use Rattle.std.proofs.Common.{◌≡◌, take, map}
 use Rattle.std.specs.List.{AllByRecursion}
-use Rattle.reading_core.specs.Grammar.{IsBytes}
-use Rattle.block_files.specs.Built.{segment_objects}
+use Rattle.base.specs.Grammar.{IsBytes}
+use Rattle.block_meta.specs.Built.{segment_objects}
 use Rattle.block_content.specs.Shipped.{size_of}
 use Rattle.block_content.proofs.shipping.sizes_of.Given as goal
 

@@ -1,5 +1,5 @@
 use Rattle.std.proofs.Common.{inl, inr, subst}
-use Rattle.block_files.specs.declared.block_files.BlockFiles.{BlockFiles}
+use Rattle.block_meta.specs.declared.block_files.BlockFiles.{BlockFiles}
 use Rattle.block_loading.specs.Loading.{AreNamed, AreWithinLimit, IsLoaded, StopsAt, StopsOnShelf}
 use Rattle.block_loading.specs.LoadedChecks.{EndsCheck, loaded_files, loaded_ulid}
 use Rattle.block_loading.specs.declared.loaded_block.LoadedBlock.{LoadedBlock}

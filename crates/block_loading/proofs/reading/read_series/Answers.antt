@@ -1,5 +1,5 @@
 use Rattle.std.proofs.Common.{inl, refl}
-use Rattle.reading_core.proofs.Binds.{refused_as_ok}
+use Rattle.base.proofs.Binds.{refused_as_ok}
 use Rattle.block_keys.specs.declared.key.Key.TheVariants.{Index}
 use Rattle.block_content.specs.ContentReading.{index_at, refused_index}
 use Rattle.block_loading.specs.Loading.{StopsAt}

@@ -1,7 +1,7 @@
 use Rattle.std.proofs.Common.{List, map, sym, subst}
 use Rattle.std.specs.List.{AllByRecursion}
-use Rattle.list_core.proofs.StableSorts.{Rises}
-use Rattle.list_core.specs.Lists.{joined}
+use Rattle.base.proofs.StableSorts.{Rises}
+use Rattle.base.specs.Lists.{joined}
 use Rattle.index_v2.specs.LentLabels.{as_label}
 use Rattle.block_writing.specs.Put.{IsStored}
 use Rattle.block_merging.specs.declared.input_chunk.InputChunk.{InputChunk}

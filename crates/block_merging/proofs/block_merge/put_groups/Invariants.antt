@@ -1,6 +1,6 @@
 use Rattle.std.proofs.Common.{length}
 use Rattle.std.specs.List.{AllByRecursion}
-use Rattle.list_core.specs.Lists.{joined}
+use Rattle.base.specs.Lists.{joined}
 use Rattle.block_merging.specs.Queues.{IsQueue, lefts_in}
 use Rattle.block_merging.proofs.GroupsTaken.{WalkSoFar}
 use Rattle.block_merging.proofs.block_merge.put_groups.Given as goal

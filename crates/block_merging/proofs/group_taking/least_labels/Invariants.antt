@@ -1,6 +1,6 @@
 use Rattle.std.proofs.Common.{map, take}
 use Rattle.std.specs.Prelude.{option_map}
-use Rattle.list_core.specs.Lists.{joined}
+use Rattle.base.specs.Lists.{joined}
 use Rattle.index_v2.specs.LentLabels.{as_label}
 use Rattle.block_merging.specs.Queues.{LeastIs, lefts_in}
 use Rattle.block_merging.proofs.group_taking.least_labels.Given as goal

@@ -1,5 +1,5 @@
 use Rattle.std.proofs.Common.{map, [], ap, sym, ◌∙◌}
-use Rattle.list_core.proofs.Lists.{take_none}
+use Rattle.base.proofs.Lists.{take_none}
 use Rattle.block_merging.specs.Queues.{place_pair, listed_pair}
 use Rattle.block_merging.proofs.InputWalks.{mapped_more}
 use Rattle.block_merging.proofs.listing.places_of.Goals as goal

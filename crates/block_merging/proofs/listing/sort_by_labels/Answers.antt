@@ -1,6 +1,6 @@
 use Rattle.std.proofs.Common.{rules}
 use Rattle.std.proofs.lemmas.List.Sorted.{answers_always}
-use Rattle.list_core.proofs.StableSorts.{in_order-from_sort}
+use Rattle.base.proofs.StableSorts.{in_order-from_sort}
 use Rattle.block_merging.specs.Queues.{is_listed_before}
 use Rattle.block_merging.proofs.QueueSteps.{listed_ranked}
 use Rattle.block_merging.proofs.listing.sort_by_labels.Goals as goal

@@ -1,6 +1,6 @@
 use Rattle.std.proofs.Common.{rules}
 use Rattle.std.proofs.lemmas.List.Sorted.{answers_always}
-use Rattle.list_core.proofs.StableSorts.{in_order-from_sort}
+use Rattle.base.proofs.StableSorts.{in_order-from_sort}
 use Rattle.block_merging.specs.declared.placed_chunk.PlacedChunk.{PlacedChunk}
 use Rattle.block_merging.specs.Placed.{begins_before}
 use Rattle.block_merging.proofs.PlacedOrders.{begins_ranked}

@@ -1,5 +1,5 @@
 use Rattle.std.proofs.Common.{◌≡◌, rules}
-use Rattle.list_core.specs.Ordered.{in_order}
+use Rattle.base.specs.Ordered.{in_order}
 use Rattle.block_writing.specs.Put.{IsStored}
 use Rattle.block_merging.specs.Placed.{begins_before, placed_from}
 use Rattle.block_merging.proofs.Sweeping.{sorted_stored, sorted_by, runs_told}

@@ -1,4 +1,4 @@
-use Rattle.reading_core.proofs.Binds.{ok_is}
+use Rattle.base.proofs.Binds.{ok_is}
 use Rattle.wire_bytes.specs.declared.refusal.WireRefusal.{WireRefusal}
 use Rattle.block_merging.proofs.StandingData.{front_within, left_behind}
 use Rattle.block_merging.proofs.standing_data.sum_behind.Goals as goal

@@ -5,7 +5,7 @@ use Rattle.std.proofs.lemmas.List.Sorted.{answers_always}
 use Rattle.label_sets.specs.declared.label.Label.{Label}
 use Rattle.label_sets.specs.declared.series.Series.{Series}
 use Rattle.label_sets.specs.Labels.{compare_sets}
-use Rattle.list_core.proofs.Ascending.{ascends_answer}
+use Rattle.base.proofs.Ascending.{ascends_answer}
 use Rattle.block_writing.proofs.buildable.ascend.Goals as goal
 
 pub returns : goal.returns

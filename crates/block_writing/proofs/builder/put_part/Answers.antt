@@ -1,6 +1,6 @@
 use Rattle.std.proofs.Common.{◌≡◌, ℕ, List, rules, arith, subst, sym, ap, ◌∙◌}
-use Rattle.reading_core.specs.Grammar.{IsBytes}
-use Rattle.wire_bits.specs.Bits.{bits_in}
+use Rattle.base.specs.Grammar.{IsBytes}
+use Rattle.wire_bytes.specs.Bits.{bits_in}
 use Rattle.xor_chunks.specs.Grammar.{IsText}
 use Rattle.block_writing.proofs.Parts.{data_of_part, told_time, part_returns}
 use Rattle.block_writing.proofs.builder.put_part.Goals as goal

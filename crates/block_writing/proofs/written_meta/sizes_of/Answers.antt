@@ -1,10 +1,10 @@
 use Rattle.std.proofs.Common.{List, [], ◌∷◌, ◌++◌, take, refl, sym, ap, subst, ◌∙◌, arith}
 use Rattle.std.proofs.lemmas.List.{take_all}
 use Rattle.std.specs.List.{AllByRecursion}
-use Rattle.list_core.proofs.Lists.{take_none}
-use Rattle.reading_core.specs.Grammar.{IsBytes}
+use Rattle.base.proofs.Lists.{take_none}
+use Rattle.base.specs.Grammar.{IsBytes}
 use Rattle.block_meta.specs.declared.file_size.FileSize.{FileSize}
-use Rattle.block_files.proofs.Blocks.{front_more}
+use Rattle.block_meta.proofs.Blocks.{front_more}
 use Rattle.block_writing.specs.WrittenMeta.{sizes_from}
 use Rattle.block_writing.proofs.Names.{sizes_more}
 use Rattle.block_writing.proofs.written_meta.sizes_of.Goals as goal

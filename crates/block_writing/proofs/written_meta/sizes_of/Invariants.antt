@@ -1,6 +1,6 @@
 use Rattle.std.proofs.Common.{◌≡◌, take}
 use Rattle.std.specs.List.{AllByRecursion}
-use Rattle.reading_core.specs.Grammar.{IsBytes}
+use Rattle.base.specs.Grammar.{IsBytes}
 use Rattle.block_writing.specs.WrittenMeta.{sizes_from}
 use Rattle.block_writing.proofs.written_meta.sizes_of.Given as goal
 

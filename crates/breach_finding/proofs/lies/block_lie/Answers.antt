@@ -2,11 +2,11 @@ use Rattle.std.proofs.Common.{List, ℕ, subst}
 use Rattle.ulid_core.specs.UlidText.{text_of}
 use Rattle.bucket_core.specs.Contents.{Contents}
 use Rattle.world_core.specs.declared.entry.Entry.{Entry}
-use Rattle.standing_objects.specs.Standings.{IsStanding}
+use Rattle.breach_finding.specs.Standings.{IsStanding}
 use Rattle.lifecycle_core.specs.Breaches.{shown_by}
 use Rattle.breach_finding.specs.Told.{IsPageWrong, IsShownWrong, names_text}
 use Rattle.breach_finding.proofs.lies.block_lie.Goals as goal
-use Rattle.list_core.proofs.Options.{if_ok}
+use Rattle.base.proofs.Options.{if_ok}
 
 pub returns : goal.returns
 returns c =

@@ -5,14 +5,14 @@ use Rattle.bucket_core.specs.Contents.{Contents}
 use Rattle.world_core.specs.Operations.{IsReplyTo}
 use Rattle.world_core.specs.Standing.{stands}
 use Rattle.world_core.specs.declared.entry.Entry.{Entry}
-use Rattle.standing_objects.specs.Standings.{IsStanding}
+use Rattle.breach_finding.specs.Standings.{IsStanding}
 use Rattle.world_core.specs.declared.op.Op.{Op}
 use Rattle.world_core.specs.declared.reply.Reply.{Reply}
 use Rattle.lifecycle_core.specs.Breaches.{IsLie, shown_by}
 use Rattle.breach_finding.specs.Told.{IsPageWrong, IsTold}
 use Rattle.breach_finding.proofs.Owed.{block_told, clock_silent, delete_silent, get_told, part_told, put_silent, root_told, silent_told}
 use Rattle.breach_finding.proofs.lies.lie.Goals as goal
-use Rattle.list_core.proofs.Options.{if_ok}
+use Rattle.base.proofs.Options.{if_ok}
 
 pub returns-in-Get : goal.returns-in-Get
 returns-in-Get c before is = get_told before c.args.entry.now c.object_lie.result c.in-Get.key (option_copied c.get.result) c.in-Get.is (c.get.ensures (stands before) is) c.object_lie.ensures

@@ -3,7 +3,7 @@ use Rattle.lifecycle_core.specs.Breaches.{shown_by}
 use Rattle.breach_finding.specs.Told.{IsDifference, IsShownWrong, ended_names}
 use Rattle.breach_finding.proofs.Texts.{shown_names}
 use Rattle.breach_finding.proofs.lies.names_lie.Goals as goal
-use Rattle.list_core.proofs.Options.{if_ok}
+use Rattle.base.proofs.Options.{if_ok}
 
 pub returns-in-Names : goal.returns-in-Names
 returns-in-Names c =

@@ -7,7 +7,7 @@ use Rattle.lifecycle_core.specs.Setting.{Setting}
 use Rattle.breach_finding.specs.Told.{IsLateMark, IsTold}
 use Rattle.breach_finding.proofs.PutTimes.{mark_told, some_mark}
 use Rattle.breach_finding.proofs.puts.mark_breach.Goals as goal
-use Rattle.list_core.proofs.Options.{if_ok}
+use Rattle.base.proofs.Options.{if_ok}
 
 pub returns-else-not-has_landed : goal.returns-else-not-has_landed
 returns-else-not-has_landed c =

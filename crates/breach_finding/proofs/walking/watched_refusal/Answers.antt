@@ -2,7 +2,7 @@ use Rattle.std.proofs.Common.{inl, inr, refl, sym}
 use Rattle.breach_finding.specs.Entries.{IsWatchedTold}
 use Rattle.breach_finding.specs.Judging.{IsLateTold}
 use Rattle.breach_finding.proofs.walking.watched_refusal.Goals as goal
-use Rattle.list_core.proofs.Options.{if_ok}
+use Rattle.base.proofs.Options.{if_ok}
 
 pub returns-in-Some : goal.returns-in-Some
 returns-in-Some c =

@@ -1,7 +1,7 @@
 use Rattle.std.proofs.Common.{◌+◌, ◌∙◌, ◌++◌, ◌∷◌, [], List, refl, subst, sym, ap, arith, append_assoc, take}
 use Rattle.std.specs.List.{AllZip}
 use Rattle.std.proofs.lemmas.List.{append-nil, take_all}
-use Rattle.list_core.proofs.Lists.{take_none, take_place}
+use Rattle.base.proofs.Lists.{take_none, take_place}
 use Rattle.script_core.specs.declared.block.Block.{Block}
 use Rattle.report_lines.specs.script_running.proofs.Taking.{found}
 use Rattle.call_verdicts.specs.Asked.{WasRead, shelf_ulids}

@@ -1,6 +1,6 @@
 use Rattle.std.proofs.Common.{◌≡◌, ◌∙◌, ◌++◌, ◌∷◌, [], List, None, refl, sym, ap, subst, arith, append_assoc, slice_index_or, take}
 use Rattle.std.proofs.lemmas.List.{get_or-set_other, take_all}
-use Rattle.list_core.proofs.Lists.{take_place}
+use Rattle.base.proofs.Lists.{take_place}
 use Rattle.script_core.specs.declared.block.Block.{Block}
 use Rattle.report_lines.specs.script_running.proofs.Taking.{found}
 use Rattle.call_verdicts.specs.ShelfReads.{AreRead}

@@ -1,5 +1,5 @@
 use Rattle.std.proofs.Common.{◌∙◌, List, ap, map}
-use Rattle.list_core.specs.Ordered.{in_order}
+use Rattle.base.specs.Ordered.{in_order}
 use Rattle.sync_filters.specs.declared.found.Found.{Found}
 use Rattle.group_planner.specs.Groups.{comes_before}
 use Rattle.group_planner.proofs.GroupLaws.{groups_made, one_answer}

@@ -1,6 +1,6 @@
 use Rattle.std.proofs.Common.{rules}
 use Rattle.std.proofs.lemmas.List.Sorted.{answers_always}
-use Rattle.list_core.proofs.StableSorts.{in_order-from_sort}
+use Rattle.base.proofs.StableSorts.{in_order-from_sort}
 use Rattle.group_planner.specs.Groups.{comes_before}
 use Rattle.group_planner.proofs.KeyOrders.{members_ranked}
 use Rattle.group_planner.proofs.keyed.sort_members.Goals as goal

@@ -1,6 +1,6 @@
 use Rattle.std.proofs.Common.{rules, refl, ap, map, ◌∙◌}
 use Rattle.std.proofs.lemmas.List.{map_push}
-use Rattle.reading_core.proofs.Counted.{loop_start, loop_step}
+use Rattle.base.proofs.Counted.{loop_start, loop_step}
 use Rattle.index_parts.specs.ListReading.{turns_at}
 use Rattle.index_parts.proofs.Loops.{turns_exit, turns_end}
 use Rattle.index_parts.proofs.list_reading.members_of.Goals as goal

@@ -1,6 +1,6 @@
 use Rattle.std.proofs.Common.{◌≡◌, None, Ok, map}
 use Rattle.std.specs.Prelude.{option_map}
-use Rattle.reading_core.specs.Members.{members_at}
+use Rattle.base.specs.Members.{members_at}
 use Rattle.index_parts.proofs.list_reading.members_of.Given as goal
 
 abbrev pub invariant-loop : goal.invariant-loop

@@ -1,7 +1,7 @@
 use Rattle.std.proofs.Common.{◌≡◌, ◌≤◌, length, map, take, drop, true, vec_len, vec_capacity}
 use Rattle.std.specs.Int.{w32, from_be_bytes}
 use Rattle.std.specs.Ordering.{nat_cmp}
-use Rattle.list_core.specs.Order.{ComesAfter}
+use Rattle.base.specs.Order.{ComesAfter}
 use Rattle.index_parts.specs.Turns.{InOrder, InOrderAfter}
 use Rattle.index_parts.proofs.Decoding.{below_least}
 use Rattle.index_parts.proofs.postings_reading.decoded_numbers.Given as goal

@@ -1,6 +1,6 @@
 use Rattle.std.proofs.Common.{◌<◌, ◌≤◌, rules, [], ◌∷◌, ◌++◌, ◌∙◌, ap, arith}
 use Rattle.std.proofs.lemmas.Bool.Decides.{nat_tests}
-use Rattle.reading_core.proofs.Counted.{loop_start, loop_step, members_more}
+use Rattle.base.proofs.Counted.{loop_start, loop_step, members_more}
 use Rattle.index_parts.specs.SeriesReading.{chunk_at}
 use Rattle.index_parts.specs.ListReading.{turns_at}
 use Rattle.index_parts.proofs.Loops.{turns_exit, turns_end}

@@ -1,5 +1,5 @@
 use Rattle.std.proofs.Common.{◌≡◌, None, Some, Ok}
-use Rattle.reading_core.specs.Members.{members_at}
+use Rattle.base.specs.Members.{members_at}
 use Rattle.index_parts.specs.SeriesReading.{chunk_at}
 use Rattle.index_parts.proofs.series_reading.chunks_of.Given as goal
 

@@ -1,7 +1,7 @@
 use Rattle.std.proofs.Common.{◌≡◌, ◌⊎◌, ◌*◌, ◌-◌, Ok, Err, subst, arith}
 use Rattle.index_parts.specs.declared.refusal.PartRefusal.TheVariants.{NoMemory}
-use Rattle.index_slices.specs.Parts.{part_of}
-use Rattle.index_slices.proofs.Slices.{fits_in}
+use Rattle.index_parts.specs.Parts.{part_of}
+use Rattle.index_parts.proofs.Slices.{fits_in}
 use Rattle.index_v2.specs.SeriesLabels.{labelled_at}
 use Rattle.index_v2.proofs.SeriesSlices.{series_known_told, series_index_told, series_stands_in, number_found, number_refused, series_few_in, refused_or_none}
 use Rattle.index_v2.proofs.SeriesOutside.{series_outside}

@@ -1,7 +1,7 @@
 use Rattle.std.proofs.Common.{ap, List, ℕ}
-use Rattle.reading_core.specs.Reading.{refused_as}
+use Rattle.base.specs.Reading.{refused_as}
 use Rattle.index_parts.specs.PostingsReading.{postings_at}
-use Rattle.index_slices.specs.Parts.{part_of, known}
+use Rattle.index_parts.specs.Parts.{part_of, known}
 use Rattle.index_v2.specs.Opening.{refused_in}
 use Rattle.index_v2.proofs.ListNumbers.{numbers_rise, numbers_small}
 use Rattle.index_v2.proofs.HeldLaws.{known_is, section_refused, section_outside, not_refused}

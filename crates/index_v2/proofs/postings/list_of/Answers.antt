@@ -2,7 +2,7 @@ use Rattle.std.proofs.Common.{◌<◌, ◌^◌, sym, ◌∙◌, ap, subst, Ok}
 use Rattle.std.specs.List.{All}
 use Rattle.std.specs.List.Sorted.{IsStrictlyIncreasing}
 use Rattle.std.proofs.lemmas.Option.{same_Some}
-use Rattle.index_slices.specs.Parts.{part_of, file, HoldsSection}
+use Rattle.index_parts.specs.Parts.{part_of, file, HoldsSection}
 use Rattle.index_v2.proofs.HeldLaws.{no_row, found_of_row}
 use Rattle.index_v2.proofs.RowsFound.{list_found, list_absent, row_found, row_absent}
 use Rattle.index_v2.proofs.ListNumbers.{none_rise, none_small}

@@ -1,5 +1,5 @@
 use Rattle.index_parts.proofs.RowPlaces.{table_ascends, table_small}
-use Rattle.index_slices.specs.Parts.{part_of, known}
+use Rattle.index_parts.specs.Parts.{part_of, known}
 use Rattle.index_v2.proofs.HeldLaws.{known_is}
 use Rattle.index_v2.proofs.rows.rows_at.Goals as goal
 

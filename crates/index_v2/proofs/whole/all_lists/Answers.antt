@@ -2,7 +2,7 @@ use Rattle.std.proofs.Common.{sym, ap, arith, sum_by}
 use Rattle.std.proofs.lemmas.List.{take_all}
 use Rattle.index_v2.proofs.WholeLoops.{lists_step, lists_stop, lists_end, front_more, gives_stop}
 use Rattle.index_v2.proofs.Spending.{spent}
-use Rattle.index_slices.specs.Parts.{part_of}
+use Rattle.index_parts.specs.Parts.{part_of}
 use Rattle.index_v2.specs.Budget.{list_bytes}
 use Rattle.index_v2.proofs.whole.all_lists.Goals as goal
 

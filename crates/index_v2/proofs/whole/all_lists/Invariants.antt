@@ -1,5 +1,5 @@
 use Rattle.std.proofs.Common.{◌+◌, ◌*◌, ◌≤◌, length, take, sum_by}
-use Rattle.index_slices.specs.Parts.{part_of}
+use Rattle.index_parts.specs.Parts.{part_of}
 use Rattle.index_v2.specs.Budget.{list_bytes}
 use Rattle.index_v2.proofs.WholeLoops.{ListsSoFar}
 use Rattle.index_v2.proofs.whole.all_lists.Given as goal

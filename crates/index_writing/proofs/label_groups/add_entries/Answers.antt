@@ -1,5 +1,5 @@
 use Rattle.std.proofs.lemmas.Slice.Zip.{Zip-more, either_empty_from_Zip}
-use Rattle.section_writers.proofs.PairLists.{two_more, two_all}
+use Rattle.index_writing.proofs.PairLists.{two_more, two_all}
 use Rattle.index_writing.proofs.Entries.{labels_with, entry_with, labels_law, no_labels, no_values}
 use Rattle.index_writing.proofs.label_groups.add_entries.Goals as goal
 

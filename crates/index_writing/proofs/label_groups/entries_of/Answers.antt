@@ -1,5 +1,5 @@
 use Rattle.std.proofs.lemmas.Slice.Zip.{Zip-more, either_empty_from_Zip}
-use Rattle.section_writers.proofs.PairLists.{two_more, two_all}
+use Rattle.index_writing.proofs.PairLists.{two_more, two_all}
 use Rattle.index_writing.specs.LabelGroups.{entries_of, all_entries}
 use Rattle.index_writing.proofs.Entries.{all_law, none_law, no_numbers, entries_added}
 use Rattle.index_writing.proofs.label_groups.entries_of.Goals as goal

@@ -2,7 +2,7 @@ use Rattle.std.proofs.Common.{rules}
 use Rattle.std.proofs.lemmas.List.Sorted.{answers_always, ranks_by}
 use Rattle.std.specs.Cmp.Lexicographic.{nat_list_cmp_total}
 use Rattle.label_sets.specs.Labels.{has_lesser_name}
-use Rattle.list_core.proofs.StableSorts.{in_order-from_sort}
+use Rattle.base.proofs.StableSorts.{in_order-from_sort}
 use Rattle.label_sets.proofs.label_set.sort_by_name.Goals as goal
 
 pub returns-clause-sorted : goal.returns-clause-sorted

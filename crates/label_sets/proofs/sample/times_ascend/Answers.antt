@@ -2,7 +2,7 @@ use Rattle.std.proofs.Common.{rules}
 use Rattle.std.specs.Ordering.{int_cmp, is_lt}
 use Rattle.std.proofs.lemmas.Cmp.{int_cmp_total}
 use Rattle.std.proofs.lemmas.List.Sorted.{answers_always}
-use Rattle.list_core.proofs.Ascending.{ascends_answer}
+use Rattle.base.proofs.Ascending.{ascends_answer}
 use Rattle.label_sets.proofs.sample.times_ascend.Goals as goal
 
 pub returns : goal.returns

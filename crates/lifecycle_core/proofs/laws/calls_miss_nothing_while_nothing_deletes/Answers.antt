@@ -4,7 +4,7 @@ use Rattle.lifecycle_core.proofs.journals.Standing.{parted}
 use Rattle.lifecycle_core.proofs.misses.CallMisses.{call_stands}
 use Rattle.lifecycle_core.proofs.misses.ReadMisses.{shipped_is, shipped_stands}
 use Rattle.lifecycle_core.proofs.views.Seen.{settled_is_kept}
-use Rattle.series_calls.specs.SeriesCalls.{asking}
+use Rattle.store_calls.specs.SeriesCalls.{asking}
 use Rattle.lifecycle_core.proofs.laws.calls_miss_nothing_while_nothing_deletes.Goals as goal
 
 pub returns : goal.returns

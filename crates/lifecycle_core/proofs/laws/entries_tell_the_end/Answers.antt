@@ -2,7 +2,7 @@ use Rattle.world_core.proofs.PlanLaws.{one_end}
 use Rattle.shipper.specs.Uploads.{upload}
 use Rattle.compactor.specs.Compactions.{compaction}
 use Rattle.cleaner.specs.Cleanings.{cleaning}
-use Rattle.series_calls.proofs.OneCall.{call_tells}
+use Rattle.store_calls.proofs.OneCall.{call_tells}
 use Rattle.lifecycle_core.proofs.views.SyncEnds.{sync_tells}
 use Rattle.lifecycle_core.proofs.laws.entries_tell_the_end.Goals as goal
 

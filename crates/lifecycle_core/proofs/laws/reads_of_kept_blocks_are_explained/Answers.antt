@@ -1,4 +1,4 @@
-use Rattle.list_core.proofs.Membership.{contains_first}
+use Rattle.base.proofs.Membership.{contains_first}
 use Rattle.std.proofs.Common.{◌∷◌, [], refl}
 use Rattle.lifecycle_core.specs.Breaches.{watched_call}
 use Rattle.lifecycle_core.proofs.deeds.ActingDeeds.{acting_deeds}

@@ -2,7 +2,7 @@ use Rattle.std.proofs.Common.{ℕ, ◌++◌, ◌∷◌, [], map, drop, length, l
 use Rattle.std.proofs.lemmas.Iterator.Adapters.{YieldsList-from_vec}
 use Rattle.std.proofs.lemmas.Iterator.Consumers.{YieldsList-end, YieldsList-turn}
 use mathlib.Core.List.{map-append}
-use Rattle.list_core.proofs.Lists.{drop_none}
+use Rattle.base.proofs.Lists.{drop_none}
 use Rattle.phase_runner.proofs.Seating.{HasSeated, all_seated, left_more, left_none, none_seated, one_seated}
 use Rattle.phase_runner.specs.Phases.{HasSplit}
 use Rattle.phase_runner.proofs.phase.split_all.Goals as goal

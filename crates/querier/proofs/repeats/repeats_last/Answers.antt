@@ -1,5 +1,5 @@
 use Rattle.std.proofs.Common.{◌∙◌, ◌-◌, length, sym}
-use Rattle.list_core.proofs.Membership.{contains_place}
+use Rattle.base.proofs.Membership.{contains_place}
 use Rattle.querier.proofs.repeats.repeats_last.Goals as goal
 
 pub returns-in-Some : goal.returns-in-Some

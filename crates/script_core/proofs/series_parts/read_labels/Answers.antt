@@ -2,7 +2,7 @@ use Rattle.std.proofs.Common.{sym, ap, ◌∙◌, Ok}
 use Rattle.std.specs.Option.{option_copied}
 use Rattle.std.proofs.lemmas.Option.{same_Some}
 use Rattle.std.proofs.lemmas.Result.{err_from_is_err_and}
-use Rattle.reading_core.proofs.Binds.{ok_or_ok}
+use Rattle.base.proofs.Binds.{ok_or_ok}
 use Rattle.script_core.proofs.SeriesParts.{labels_are, no_refusal, set_is, set_there}
 use Rattle.script_core.proofs.series_parts.read_labels.Goals as goal
 

@@ -1,7 +1,7 @@
 use Rattle.std.specs.Int.{w64}
 use Rattle.std.proofs.lemmas.Int.{to_z-of_z}
-use Rattle.index_cache.specs.Caches.{held}
-use Rattle.series_calls.specs.SeriesCalls.{asking}
+use Rattle.store_ranges.specs.Caches.{held}
+use Rattle.store_calls.specs.SeriesCalls.{asking}
 use Rattle.script_running.proofs.Calls.{drives_same, ended_told, full_told}
 use Rattle.script_running.proofs.activity.call.Goals as goal
 

@@ -4,7 +4,7 @@ use Rattle.script_running.specs.Tasks.{is_full_came}
 use Rattle.script_running.proofs.Syncs.{wanted_by}
 use Rattle.script_running.proofs.Uploads.{unshipped_told, upload_told}
 use Rattle.script_running.proofs.activity.upload.Goals as goal
-use Rattle.list_core.proofs.Bools.{or_false}
+use Rattle.base.proofs.Bools.{or_false}
 
 pub returns-in-Ok-clause-ran : goal.returns-in-Ok-clause-ran
 returns-in-Ok-clause-ran g c = λ setting ulid known.

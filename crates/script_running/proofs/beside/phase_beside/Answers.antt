@@ -18,8 +18,8 @@ use Rattle.script_running.proofs.Gathers.{gateways_counted}
 use Rattle.script_running.proofs.Phasing.{always, at_work, clock_refused, ends_long, few_seats, idled, if_false, if_true, joined_on, moment_lawful, next_seats, no_room, phase_apart, phase_comes, within_gateways, within_tasks, workers_here}
 use Rattle.script_running.proofs.Refused.{clock_done, clock_tells, clock_unwanted, come_tells, come_unwanted, phase_tells, phase_unwanted}
 use Rattle.script_running.proofs.beside.phase_beside.Goals as goal
-use Rattle.list_core.proofs.Bools.{or_false}
-use Rattle.list_core.proofs.Pairs.{AllZip-as_long}
+use Rattle.base.proofs.Bools.{or_false}
+use Rattle.base.proofs.Pairs.{AllZip-as_long}
 
 pub returns-in_default-clause-came : goal.returns-in_default-clause-came
 returns-in_default-clause-came g c = no_room c.args.script.now c.args.means.now.shelf c.args.place c.args.phase.now c.requires.at (view_of c.args.root) c.args.standing.now.sights.items c.args.standing.now.outcomes c.requires.gone

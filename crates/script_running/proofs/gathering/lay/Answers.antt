@@ -5,7 +5,7 @@ use Rattle.std.proofs.lemmas.Option.{slice_get-get_or}
 use Rattle.std.proofs.Math.ListN.{length-set}
 use Rattle.script_running.proofs.Taking.{found, lay_end, lay_past, lay_start, lay_step}
 use Rattle.script_running.proofs.gathering.lay.Goals as goal
-use Rattle.list_core.proofs.Membership.{All-place}
+use Rattle.base.proofs.Membership.{All-place}
 
 pub loop-part-init : goal.loop-part-init
 loop-part-init c = record {

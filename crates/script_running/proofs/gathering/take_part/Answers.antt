@@ -1,7 +1,7 @@
 use Rattle.std.proofs.Common.{sym, ◌∙◌, arith}
 use Rattle.script_running.proofs.Telling.{empty_laid, part_laid, past_laid}
 use Rattle.script_running.proofs.gathering.take_part.Goals as goal
-use Rattle.list_core.proofs.Lists.{slice_get-set_other}
+use Rattle.base.proofs.Lists.{slice_get-set_other}
 
 pub returns-then-place-len-clause-parts : goal.returns-then-place-len-clause-parts
 returns-then-place-len-clause-parts c =

@@ -1,7 +1,7 @@
 use Rattle.std.proofs.Common.{◌≡◌, Err, ap, subst}
 use Rattle.std.specs.Prelude.{IfOk}
-use Rattle.block_files.specs.declared.build_refusal.BuildRefusal.{BuildRefusal}
-use Rattle.block_files.specs.declared.build_refusal.BuildRefusal.TheVariants as refusal
+use Rattle.block_meta.specs.declared.build_refusal.BuildRefusal.{BuildRefusal}
+use Rattle.block_meta.specs.declared.build_refusal.BuildRefusal.TheVariants as refusal
 use Rattle.std.specs.Int.{w64}
 use Rattle.std.proofs.lemmas.Int.{to_z-of_z}
 use Rattle.block_keys.specs.Blocks.{IsBlock}

@@ -2,12 +2,12 @@ use Rattle.std.proofs.Common.{refl, ◌∙◌, ap}
 use Rattle.std.specs.Prelude.{slice_get}
 use Rattle.std.specs.Int.{w64}
 use Rattle.std.proofs.lemmas.Int.{to_z-of_z}
-use Rattle.index_cache.specs.Caches.{held}
-use Rattle.series_calls.specs.SeriesCalls.{asking}
+use Rattle.store_ranges.specs.Caches.{held}
+use Rattle.store_calls.specs.SeriesCalls.{asking}
 use Rattle.script_running.specs.Sights.{cache_of}
 use Rattle.script_running.proofs.TaskSteps.{asked_again, asked_told, blind_asked, call_asked, short_asked}
 use Rattle.script_running.proofs.task.ask_view.Goals as goal
-use Rattle.list_core.proofs.Options.{one_value}
+use Rattle.base.proofs.Options.{one_value}
 
 pub returns-in-Ok-own_cache-clause-asked : goal.returns-in-Ok-own_cache-clause-asked
 returns-in-Ok-own_cache-clause-asked g c = λ holding selector sees at.

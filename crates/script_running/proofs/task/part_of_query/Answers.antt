@@ -7,7 +7,7 @@ use Rattle.script_running.specs.Lending.{setting_in}
 use Rattle.script_running.specs.declared.sight.Sight.{Sight}
 use Rattle.script_running.proofs.TaskSteps.{asked_done, asked_so, asked_where, short_done, unasked_done}
 use Rattle.script_running.proofs.task.part_of_query.Goals as goal
-use Rattle.list_core.proofs.Lists.{slice_get-below}
+use Rattle.base.proofs.Lists.{slice_get-below}
 
 pub returns-in-Some-clause-done : goal.returns-in-Some-clause-done
 returns-in-Some-clause-done g c = λ who place held by sees.

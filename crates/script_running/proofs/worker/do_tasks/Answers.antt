@@ -5,7 +5,7 @@ use Rattle.script_running.specs.Lending.{setting_in}
 use Rattle.script_running.specs.Tasks.{is_full_came}
 use Rattle.script_running.proofs.WorkerSteps.{all_worked, none_done, none_worked, refused_broken, refused_none, short_by, step_broken, step_worked, unrefused}
 use Rattle.script_running.proofs.worker.do_tasks.Goals as goal
-use Rattle.list_core.proofs.Lists.{get_or-any}
+use Rattle.base.proofs.Lists.{get_or-any}
 
 pub returns-in_default-clause-worked : goal.returns-in_default-clause-worked
 returns-in_default-clause-worked g c = λ who held by sees.

@@ -1,5 +1,5 @@
 use Rattle.std.proofs.Common.{◌≡◌, ℕ, ◌+◌, ◌-◌, ◌<◌, ◌≤◌, length, slice_index, true}
-use Rattle.list_core.specs.Lists.{is_one_of}
+use Rattle.base.specs.Lists.{is_one_of}
 use Rattle.series_selection.proofs.keeping.behind_matches.Given as goal
 
 abbrev pub invariant-loop-behind : goal.invariant-loop-behind

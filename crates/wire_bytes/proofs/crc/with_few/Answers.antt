@@ -1,4 +1,4 @@
-use Rattle.reading_core.proofs.Fronts.{IsBytes-drop}
+use Rattle.base.proofs.Fronts.{IsBytes-drop}
 use Rattle.wire_bytes.specs.Crc.{remainder}
 use Rattle.wire_bytes.proofs.Division.{half_more, byte_more, all_read}
 use Rattle.wire_bytes.proofs.crc.with_few.Goals as goal

@@ -1,5 +1,5 @@
 use Rattle.std.proofs.Common.{◌≡◌, length, drop}
-use Rattle.reading_core.specs.Grammar.{IsBytes}
+use Rattle.base.specs.Grammar.{IsBytes}
 use Rattle.wire_bytes.specs.Crc.{remainder}
 use Rattle.wire_bytes.proofs.crc.with_few.Given as goal
 

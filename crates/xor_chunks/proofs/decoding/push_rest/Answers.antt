@@ -1,7 +1,7 @@
 use Rattle.std.proofs.Common.{ap, subst, ◌∙◌, ◌++◌, ◌∷◌, [], List, Bool, Result, arith}
 use Rattle.label_sets.specs.declared.sample.Sample.{Sample}
 use Rattle.std.proofs.lemmas.Int.{ints}
-use Rattle.reading_core.specs.Reading.{Gives}
+use Rattle.base.specs.Reading.{Gives}
 use Rattle.xor_chunks.specs.declared.refusal.XorRefusal.{XorRefusal}
 use Rattle.xor_chunks.specs.declared.refusal.XorRefusal.TheVariants.{NoMemory}
 use Rattle.xor_chunks.specs.Known.{state_of}

@@ -1,5 +1,5 @@
 use Rattle.std.proofs.Common.{inr, ap, subst, ◌∙◌, ◌++◌, ◌∷◌, ◌-◌, []}
-use Rattle.reading_core.specs.Reading.{Gives}
+use Rattle.base.specs.Reading.{Gives}
 use Rattle.xor_chunks.specs.declared.refusal.XorRefusal.TheVariants.{NoMemory}
 use Rattle.xor_chunks.specs.Data.{rest_at, with_front}
 use Rattle.xor_chunks.proofs.Appending.{gives_stop, no_samples, no_first, first_steps}

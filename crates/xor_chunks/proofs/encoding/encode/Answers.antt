@@ -1,5 +1,5 @@
 use Rattle.std.proofs.Common.{ap, ◌∙◌}
-use Rattle.wire_bits.specs.Bits.{filled}
+use Rattle.wire_bytes.specs.Bits.{filled}
 use Rattle.xor_chunks.proofs.SamplesWritten.{text_written, all_patterns}
 use Rattle.xor_chunks.proofs.PutTexts.{whole_put, rest_to_come}
 use Rattle.xor_chunks.proofs.encoding.encode.Goals as goal

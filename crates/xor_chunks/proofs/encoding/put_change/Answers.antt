@@ -2,7 +2,7 @@ use Rattle.std.proofs.Common.{◌++◌, ap, sym, ◌∙◌, append_assoc}
 use Rattle.std.specs.Int.{w64}
 use Rattle.std.proofs.lemmas.Int.{to_z-of_z}
 use Rattle.std.proofs.lemmas.List.{append-nil}
-use Rattle.wire_bits.specs.Bits.{bits_of}
+use Rattle.wire_bytes.specs.Bits.{bits_of}
 use Rattle.xor_chunks.proofs.Codes.{put_none, put_14, put_17, put_20, put_64}
 use Rattle.xor_chunks.proofs.encoding.put_change.Goals as goal
 

@@ -1,5 +1,5 @@
 use Rattle.std.proofs.Common.{◌++◌, List, Bool, ap, sym, ◌∙◌}
-use Rattle.wire_bits.specs.Bits.{bits_of}
+use Rattle.wire_bytes.specs.Bits.{bits_of}
 use Rattle.xor_chunks.proofs.Codes.{put_one, put_two, value_same, value_within, value_opens, is_unset, opened_head}
 use Rattle.xor_chunks.proofs.encoding.put_value.Goals as goal
 

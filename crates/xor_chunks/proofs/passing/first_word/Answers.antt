@@ -1,6 +1,6 @@
 use Rattle.std.proofs.Common.{ap, ◌∙◌, arith}
-use Rattle.wire_bits.specs.Bits.{bits_of}
-use Rattle.wire_bits.proofs.Buffers.{word_bits}
+use Rattle.wire_bytes.specs.Bits.{bits_of}
+use Rattle.wire_bytes.proofs.Buffers.{word_bits}
 use Rattle.xor_chunks.proofs.passing.first_word.Goals as goal
 
 pub returns : goal.returns

@@ -1,5 +1,5 @@
 use Rattle.std.proofs.Common.{refl, ◌∙◌, arith}
-use Rattle.wire_bits.specs.Bits.{bits_in}
+use Rattle.wire_bytes.specs.Bits.{bits_in}
 use Rattle.xor_chunks.proofs.Peeks.{shows_less}
 use Rattle.xor_chunks.proofs.BitPlaces.{ends_on, bits_left}
 use Rattle.xor_chunks.proofs.passing.pass_near.Goals as goal

@@ -1,5 +1,5 @@
 use Rattle.std.proofs.Common.{◌*◌, ◌≤◌, drop, length}
-use Rattle.wire_bits.specs.Bits.{bits_in}
+use Rattle.wire_bytes.specs.Bits.{bits_in}
 use Rattle.xor_chunks.specs.Known.{state_of}
 use Rattle.xor_chunks.proofs.BitPlaces.{EndsAlike}
 use Rattle.xor_chunks.proofs.passing.pass_near.Given as goal

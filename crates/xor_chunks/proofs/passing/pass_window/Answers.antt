@@ -1,7 +1,7 @@
 use Rattle.std.proofs.Common.{◌≡◌, ◌+◌, ◌-◌, ◌^◌, ℕ, negsuc, ◌+ℤ◌, ◌≤ℤ◌, drop, rules, refl, sym, ap, ◌∙◌, arith}
 use Rattle.std.specs.Int.{w64, cast_signed, cast_unsigned}
 use Rattle.std.proofs.lemmas.Int.{ints}
-use Rattle.wire_bits.specs.Bits.{bits_in}
+use Rattle.wire_bytes.specs.Bits.{bits_in}
 use Rattle.xor_chunks.specs.Known.{state_of}
 use Rattle.xor_chunks.specs.Spans.{end_at}
 use Rattle.xor_chunks.proofs.Peeks.{shows_less}

@@ -1,5 +1,5 @@
 use Rattle.std.proofs.Common.{refl, ◌∙◌, ap, length, length-append, arith}
-use Rattle.wire_bits.proofs.BitLists.{length-bits_in}
+use Rattle.wire_bytes.proofs.BitLists.{length-bits_in}
 use Rattle.xor_chunks.proofs.BitPlaces.{stands_at}
 use Rattle.xor_chunks.proofs.passing.place_of.Goals as goal
 

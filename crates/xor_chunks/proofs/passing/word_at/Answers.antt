@@ -1,6 +1,6 @@
 use Rattle.std.proofs.Common.{◌≤◌, ◌/◌, take, length, sym, ap, subst, refl, ◌∙◌, arith}
 use Rattle.std.proofs.lemmas.List.{take_rest, length-drop}
-use Rattle.wire_bits.specs.Bits.{bits_in}
+use Rattle.wire_bytes.specs.Bits.{bits_in}
 use Rattle.xor_chunks.proofs.BitPlaces.{word_shows}
 use Rattle.xor_chunks.proofs.passing.word_at.Goals as goal
 

@@ -1,5 +1,5 @@
 use Rattle.std.proofs.Common.{sym, subst}
-use Rattle.reading_core.specs.Reading.{Answers}
+use Rattle.base.specs.Reading.{Answers}
 use Rattle.xor_chunks.proofs.spanning.pass_others.Goals as goal
 
 pub returns : goal.returns

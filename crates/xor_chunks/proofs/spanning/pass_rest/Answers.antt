@@ -1,6 +1,6 @@
 use Rattle.std.proofs.Common.{subst, ℤ, List, Bool, Result, arith}
 use Rattle.std.proofs.lemmas.Int.{ints}
-use Rattle.reading_core.specs.Reading.{Answers}
+use Rattle.base.specs.Reading.{Answers}
 use Rattle.xor_chunks.specs.declared.refusal.XorRefusal.{XorRefusal}
 use Rattle.xor_chunks.proofs.SpansRead.{rest_ends}
 use Rattle.xor_chunks.proofs.Followed.{followed_end}

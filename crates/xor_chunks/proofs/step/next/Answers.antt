@@ -3,7 +3,7 @@ use Rattle.std.specs.Int.{w128, cast_signed, cast_unsigned}
 use Rattle.std.proofs.lemmas.Int.{ints}
 use Rattle.std.proofs.lemmas.Result.{err_from_is_err_and}
 use Rattle.xor_chunks.specs.Known.{state_of}
-use Rattle.wire_bits.specs.Buffer.{front}
+use Rattle.wire_bytes.specs.Buffer.{front}
 use Rattle.xor_chunks.proofs.Takes.{no_change}
 use Rattle.xor_chunks.proofs.Peeks.{next_known, shows_less}
 use Rattle.xor_chunks.proofs.step.next.Goals as goal

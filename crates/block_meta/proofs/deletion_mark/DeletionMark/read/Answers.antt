@@ -1,4 +1,4 @@
-use Rattle.reading_core.proofs.Bound.{of_gives}
+use Rattle.base.proofs.Bound.{of_gives}
 use Rattle.block_meta.proofs.FoundTexts.{mark_text_found, mark_text_only}
 use Rattle.block_meta.proofs.deletion_mark.DeletionMark.read.Goals as goal
 

@@ -1,4 +1,4 @@
-use Rattle.reading_core.proofs.Bound.{of_gives, of_weaker}
+use Rattle.base.proofs.Bound.{of_gives, of_weaker}
 use Rattle.block_meta.proofs.FewMembers.{meta_few}
 use Rattle.block_meta.proofs.FoundTexts.{meta_text_found, meta_text_only}
 use Rattle.block_meta.proofs.meta.Meta.read.Goals as goal

@@ -1,6 +1,6 @@
 use Rattle.std.proofs.Common.{◌≡◌, [], ◌∷◌, ◌++◌, List, rules, sym, ap, subst, ◌∙◌}
 use Rattle.index_parts.specs.declared.chunk_place.ChunkPlace.{ChunkPlace}
-use Rattle.index_file.specs.declared.index_series.IndexSeries.{IndexSeries}
+use Rattle.index_parts.specs.declared.index_series.IndexSeries.{IndexSeries}
 use Rattle.block_writing.specs.Put.{Put, IsAfterSeries, with_series}
 use Rattle.block_writing.specs.Writing.{IsWriting}
 use Rattle.block_writing.proofs.Puts.{behind_put, series_put}

@@ -1,10 +1,10 @@
 use Rattle.std.proofs.Common.{Ok, refl, arith, ap}
 use Rattle.world_core.specs.declared.act.Act.TheVariants as act
 use Rattle.compactor.specs.CompactStates.{after_marks, asked_compact, count_of as count_of_all}
-use Rattle.block_marking.specs.contracts.marks.MarksMachine.TheImpl.{ghosts as marks}
-use Rattle.block_marking.specs.declared.reason.Reason.TheVariants.{Expired}
+use Rattle.compactor.specs.contracts.marks.MarksMachine.TheImpl.{ghosts as marks}
+use Rattle.compactor.specs.declared.reason.Reason.TheVariants.{Expired}
 use Rattle.compactor.proofs.Beginnings.{marks_ask, marks_end}
-use Rattle.block_marking.proofs.MarkRooms.{marks_few}
+use Rattle.compactor.proofs.MarkRooms.{marks_few}
 use Rattle.compactor.proofs.CompactCounts.{under_at}
 use Rattle.compactor.proofs.CompactSteps.{to_state}
 use Rattle.compactor.proofs.compact.Compact.expire.Goals as goal

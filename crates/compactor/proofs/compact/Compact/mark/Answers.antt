@@ -1,8 +1,8 @@
 use Rattle.std.proofs.Common.{refl, ◌+◌, length, arith, ap}
 use Rattle.compactor.specs.CompactStates.{after_marks, level_of, asked_compact, count_of as count_of_all}
-use Rattle.block_marking.specs.contracts.marks.MarksMachine.TheImpl.{ghosts as marks}
+use Rattle.compactor.specs.contracts.marks.MarksMachine.TheImpl.{ghosts as marks}
 use Rattle.compactor.proofs.Beginnings.{marks_ask, marks_end}
-use Rattle.block_marking.proofs.MarkRooms.{marks_few}
+use Rattle.compactor.proofs.MarkRooms.{marks_few}
 use Rattle.compactor.proofs.CompactCounts.{under_at}
 use Rattle.world_core.proofs.LeadSteps.{falls_more}
 use Rattle.compactor.proofs.CompactSteps.{to_state}

@@ -1,9 +1,9 @@
 use Rattle.std.proofs.Common.{Ok, subst}
 use Rattle.world_core.specs.declared.act.Act.TheVariants as act
-use Rattle.compaction_inputs.specs.Merges.{IsMerging}
+use Rattle.compactor.specs.Merges.{IsMerging}
 use Rattle.compactor.specs.declared.compact_end.CompactEnd.TheVariants as compact
 use Rattle.compactor.proofs.AfterMerge.{merges}
-use Rattle.compaction_inputs.proofs.MergedInputs.{merged_ulid}
+use Rattle.compactor.proofs.MergedInputs.{merged_ulid}
 use Rattle.world_core.proofs.LeadSteps.{ended}
 use Rattle.compactor.proofs.compact.Compact.merge.Goals as goal
 

@@ -1,9 +1,9 @@
 use Rattle.std.proofs.Common.{arith, subst}
-use Rattle.compaction_inputs.specs.Jobs.{Takes}
+use Rattle.compactor.specs.Jobs.{Takes}
 use Rattle.compactor.proofs.CompactCounts.{left_fewer}
 use Rattle.compactor.proofs.Rounds.{group_begins, none_begins}
 use Rattle.world_core.proofs.LeadSteps.{falls_more}
-use Rattle.compaction_inputs.proofs.TwoPlanned.{others_planned}
+use Rattle.compactor.proofs.TwoPlanned.{others_planned}
 use Rattle.compactor.proofs.compact.Compact.next_group.Goals as goal
 
 pub invariant_of-self : goal.invariant_of-self

@@ -1,8 +1,8 @@
 use Rattle.std.proofs.Common.{[], ◌+◌, ◌*◌, length, arith, ap}
-use Rattle.compaction_inputs.specs.contracts.reads.ReadsMachine.TheImpl.{ghosts as reads}
+use Rattle.compactor.specs.contracts.reads.ReadsMachine.TheImpl.{ghosts as reads}
 use Rattle.compactor.proofs.Beginnings.{reads_ask, reads_end}
 use Rattle.compactor.proofs.CompactBegins.{fits_first}
-use Rattle.compaction_inputs.proofs.ReadCounts.{reads_few}
+use Rattle.compactor.proofs.ReadCounts.{reads_few}
 use Rattle.compactor.proofs.CompactCounts.{under_at}
 use Rattle.world_core.proofs.LeadSteps.{falls_more}
 use Rattle.compactor.specs.CompactStates.{asked_compact, count_of as count_of_all}

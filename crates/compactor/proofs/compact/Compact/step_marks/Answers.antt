@@ -1,6 +1,6 @@
 use Rattle.std.proofs.Common.{[], ◌∷◌, ◌*◌, length, ap}
 use Rattle.world_core.specs.Operations.{entry_of}
-use Rattle.block_marking.specs.contracts.marks.MarksMachine.TheImpl.{ghosts as marks}
+use Rattle.compactor.specs.contracts.marks.MarksMachine.TheImpl.{ghosts as marks}
 use Rattle.compactor.specs.CompactStates.{most_asked, after_marks, level_of, asked_compact, count_of as count_of_all}
 use Rattle.compactor.proofs.CompactCounts.{same_level, level_falls, falls_at}
 use Rattle.compactor.proofs.CompactSteps.{part_asks, part_ends, to_state}

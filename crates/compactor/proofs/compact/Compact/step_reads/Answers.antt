@@ -1,6 +1,6 @@
 use Rattle.std.proofs.Common.{[], ◌∷◌, ◌+◌, ◌*◌, length, ap}
 use Rattle.world_core.specs.Operations.{entry_of}
-use Rattle.compaction_inputs.specs.contracts.reads.ReadsMachine.TheImpl.{ghosts as reads}
+use Rattle.compactor.specs.contracts.reads.ReadsMachine.TheImpl.{ghosts as reads}
 use Rattle.compactor.specs.CompactStates.{most_asked, after_reads, asked_compact, count_of as count_of_all}
 use Rattle.compactor.proofs.CompactBegins.{fits_step}
 use Rattle.compactor.proofs.CompactCounts.{same_level, level_falls, falls_at}

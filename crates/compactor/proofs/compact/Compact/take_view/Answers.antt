@@ -1,6 +1,6 @@
 use Rattle.std.proofs.Common.{sym, ap, subst, arith, ◌∙◌}
 use Rattle.group_planner.specs.Groups.{AreGroups}
-use Rattle.block_marking.specs.FoundNames.{names_of, expired_at}
+use Rattle.compactor.specs.FoundNames.{names_of, expired_at}
 use Rattle.compactor.specs.Compactions.{metas_of}
 use Rattle.compactor.proofs.Rounds.{view_begins}
 use Rattle.world_core.proofs.LeadSteps.{falls_more}

@@ -1,5 +1,5 @@
 use Rattle.std.proofs.Common.{arith, ap, length}
-use Rattle.index_slices.specs.Parts.{part_of}
+use Rattle.index_parts.specs.Parts.{part_of}
 use Rattle.index_v2.specs.Held.{Held}
 use Rattle.index_v2.proofs.FewLaws.{values_few}
 use Rattle.index_v2.proofs.ReadersOf.{reader_holds}

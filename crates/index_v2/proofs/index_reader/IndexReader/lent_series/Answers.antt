@@ -1,6 +1,6 @@
 use Rattle.std.proofs.Common.{subst}
-use Rattle.index_file.specs.IndexFile.{IsSeriesOf}
-use Rattle.index_slices.specs.Parts.{part_of}
+use Rattle.index_parts.specs.IndexFile.{IsSeriesOf}
+use Rattle.index_parts.specs.Parts.{part_of}
 use Rattle.index_v2.specs.Held.{Held}
 use Rattle.index_v2.proofs.PostingsLaws.{opened_is}
 use Rattle.index_v2.proofs.HeldLaws.{opened_from}

@@ -1,8 +1,8 @@
 use Rattle.std.proofs.Common.{◌≡◌, ap, subst, ◌∙◌, Ok}
 use Rattle.std.specs.Prelude.{IfOk}
-use Rattle.reading_core.specs.Reading.{Gives}
+use Rattle.base.specs.Reading.{Gives}
 use Rattle.index_v2.specs.declared.refusal.IndexRefusal.TheVariants.{NoMemory}
-use Rattle.index_slices.specs.Parts.{part_of, file}
+use Rattle.index_parts.specs.Parts.{part_of, file}
 use Rattle.index_v2.specs.Held.{Held}
 use Rattle.index_v2.specs.PostingsLists.{row_of, list_of}
 use Rattle.index_v2.proofs.PostingsLaws.{list_read}

@@ -1,4 +1,4 @@
-use Rattle.index_slices.specs.Parts.{part_of}
+use Rattle.index_parts.specs.Parts.{part_of}
 use Rattle.index_v2.specs.Held.{Held}
 use Rattle.index_v2.proofs.ReadersOf.{reader_holds}
 use Rattle.index_v2.proofs.index_reader.IndexReader.row_count.Goals as goal

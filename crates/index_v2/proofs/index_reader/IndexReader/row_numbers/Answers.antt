@@ -1,5 +1,5 @@
 use Rattle.index_parts.specs.declared.postings_row.PostingsRow.{PostingsRow}
-use Rattle.index_slices.specs.Parts.{part_of}
+use Rattle.index_parts.specs.Parts.{part_of}
 use Rattle.index_v2.specs.Held.{Held}
 use Rattle.index_v2.proofs.ReadersOf.{reader_holds, has_reader, row_is, row_agrees, row_wanting}
 use Rattle.index_v2.proofs.index_reader.IndexReader.row_numbers.Goals as goal

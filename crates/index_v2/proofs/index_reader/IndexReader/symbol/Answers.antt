@@ -1,6 +1,6 @@
 use Rattle.std.proofs.Common.{ap, ◌∙◌}
 use Rattle.std.specs.Prelude.{slice_get}
-use Rattle.index_slices.specs.Parts.{part_of}
+use Rattle.index_parts.specs.Parts.{part_of}
 use Rattle.index_v2.specs.Held.{Held}
 use Rattle.index_v2.proofs.ReadersOf.{reader_holds}
 use Rattle.index_v2.proofs.index_reader.IndexReader.symbol.Goals as goal

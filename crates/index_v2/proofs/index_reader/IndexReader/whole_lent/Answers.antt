@@ -1,4 +1,4 @@
-use Rattle.index_slices.specs.Parts.{part_of}
+use Rattle.index_parts.specs.Parts.{part_of}
 use Rattle.index_v2.specs.Held.{Held}
 use Rattle.index_v2.proofs.WholeGives.{gives_whole}
 use Rattle.index_v2.proofs.index_reader.IndexReader.whole_lent.Goals as goal

@@ -1,5 +1,5 @@
 use Rattle.std.proofs.Common.{◌∙◌, sym, ap, None}
-use Rattle.list_core.specs.Order.{are_in_order_after, comes_after}
+use Rattle.base.specs.Order.{are_in_order_after, comes_after}
 use Rattle.label_sets.specs.Labels.{compare_texts}
 use Rattle.meta_fetcher.proofs.Pages.{first_damaged, first_failed, first_page}
 use Rattle.meta_fetcher.proofs.sync.Sync.after_first_page.Goals as goal

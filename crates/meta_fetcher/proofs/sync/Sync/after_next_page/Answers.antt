@@ -1,5 +1,5 @@
 use Rattle.std.proofs.Common.{◌∙◌, sym, ap, Some}
-use Rattle.list_core.specs.Order.{are_in_order_after, comes_after}
+use Rattle.base.specs.Order.{are_in_order_after, comes_after}
 use Rattle.label_sets.specs.Labels.{compare_texts}
 use Rattle.meta_fetcher.proofs.Pages.{next_damaged, next_failed, next_page}
 use Rattle.meta_fetcher.proofs.sync.Sync.after_next_page.Goals as goal

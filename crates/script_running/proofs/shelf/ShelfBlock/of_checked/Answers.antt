@@ -1,6 +1,6 @@
 use Rattle.std.proofs.Common.{◌≡◌, sym, ◌∙◌, subst}
 use Rattle.block_content.specs.Checked.{checked_files, checked_samples, checked_series}
-use Rattle.block_files.specs.declared.block_files.BlockFiles.{BlockFiles}
+use Rattle.block_meta.specs.declared.block_files.BlockFiles.{BlockFiles}
 use Rattle.script_running.specs.Shelves.{AreObjects}
 use Rattle.script_running.proofs.Shelves.{objects_held}
 use Rattle.script_running.proofs.shelf.ShelfBlock.of_checked.Goals as goal

@@ -1,5 +1,5 @@
 use Rattle.std.proofs.Common.{arith}
-use Rattle.section_writers.proofs.Sizes.{texts_small}
+use Rattle.index_writing.proofs.Sizes.{texts_small}
 use Rattle.tests_formats.proofs.indexes.made_sections.print_made.Goals as goal
 
 pub write_symbols-requires : goal.write_symbols-requires

@@ -1,6 +1,6 @@
 use Rattle.std.proofs.Common.{◌≡◌, ◌<◌, ◌≤◌, ◌^◌, ◌-◌, subst, arith, length, refl, ◌∙◌}
 use Rattle.std.proofs.lemmas.List.{length-set}
-use Rattle.reading_core.proofs.FixedTexts.{none_written, one_written, all_written}
+use Rattle.base.proofs.FixedTexts.{none_written, one_written, all_written}
 use Rattle.ulid_core.proofs.UlidLaws.{IsUlidText-text_of}
 use Rattle.ulid_core.specs.UlidText.{character, text_of}
 use Rattle.ulid_core.proofs.ulid.Ulid.text.Goals as goal

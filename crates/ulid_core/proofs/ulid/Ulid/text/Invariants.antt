@@ -1,5 +1,5 @@
 use Rattle.std.proofs.Common.{◌≡◌, ◌++◌, map, drop, length}
-use Rattle.reading_core.specs.FixedDigits.{fixed_digits}
+use Rattle.base.specs.FixedDigits.{fixed_digits}
 use Rattle.ulid_core.specs.UlidText.{character, text_of}
 use Rattle.ulid_core.proofs.ulid.Ulid.text.Given as goal
 

@@ -1,6 +1,6 @@
 use Rattle.std.proofs.Common.{◌+◌, ◌++◌, length, sym, ap, ◌∙◌}
-use Rattle.wire_bits.specs.Bits.{bits_of}
-use Rattle.wire_bits.proofs.BitLists.{length-bits_of}
+use Rattle.wire_bytes.specs.Bits.{bits_of}
+use Rattle.wire_bytes.proofs.BitLists.{length-bits_of}
 use Rattle.xor_chunks.proofs.Codes.{code_field, code_room}
 use Rattle.xor_chunks.proofs.pending_bits.PendingBits.and_field.Goals as goal
 

@@ -1,2 +1,0 @@
-mod Driving
-mod Ended

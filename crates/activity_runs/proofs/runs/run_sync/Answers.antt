@@ -1,8 +1,0 @@
-use Rattle.std.proofs.Common.{refl}
-use Rattle.std.specs.Prelude.{None}
-use Rattle.meta_fetcher.specs.Syncs.{SyncRun}
-use Rattle.activity_runs.proofs.Driving.{begun_as}
-use Rattle.activity_runs.proofs.runs.run_sync.Goals as goal
-
-pub returns-clause-run : goal.returns-clause-run
-returns-clause-run g c = begun_as _ (SyncRun c.args.rules) c.start.result (g.H.Hand.seat c.args.hand.now) None c.run_begun.result (g.H.Hand.entries c.args.hand.now) (g.H.Hand.entries c.run_begun.new.hand) refl c.start.ensures.run c.run_begun.ensures.run

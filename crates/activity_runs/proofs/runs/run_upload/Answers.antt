@@ -1,8 +1,0 @@
-use Rattle.world_core.proofs.PlanLaws.{breaks_off}
-use Rattle.world_core.specs.Plans.{Runs}
-use Rattle.shipper.specs.Uploads.{upload}
-use Rattle.activity_runs.proofs.Driving.{begun_as}
-use Rattle.activity_runs.proofs.runs.run_upload.Goals as goal
-
-pub returns-clause-run : goal.returns-clause-run
-returns-clause-run g c = λ ulid block. begun_as _ (Runs (upload ulid c.args.objects)) c.start.result (g.H.Hand.seat c.args.hand.now) c.args.stop c.run_begun.result (g.H.Hand.entries c.args.hand.now) (g.H.Hand.entries c.run_begun.new.hand) (breaks_off (upload ulid c.args.objects)) (c.start.ensures.run ulid block) c.run_begun.ensures.run

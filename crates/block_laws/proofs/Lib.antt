@@ -1,4 +1,0 @@
-pub mod Standing
-pub mod Content
-pub mod Passing
-pub mod OneBlock

@@ -1,5 +1,0 @@
-use Rattle.block_laws.proofs.OneBlock.{built_once}
-use Rattle.block_laws.proofs.laws.built_is_one.Goals as goal
-
-pub returns : goal.returns
-returns c plan series files other is too = built_once plan series files other is too

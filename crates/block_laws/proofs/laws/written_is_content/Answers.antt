@@ -1,5 +1,0 @@
-use Rattle.block_laws.proofs.Content.{written_holds, written_only}
-use Rattle.block_laws.proofs.laws.written_is_content.Goals as goal
-
-pub returns : goal.returns
-returns c = record { held = written_holds; only = written_only }

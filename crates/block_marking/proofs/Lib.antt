@@ -1,3 +1,0 @@
-pub mod MarkSteps
-pub mod MarkRooms
-mod Expired

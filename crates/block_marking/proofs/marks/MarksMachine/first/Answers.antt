@@ -1,6 +1,0 @@
-use Rattle.block_marking.specs.declared.mark_stage.MarkStage.TheVariants.{Fresh}
-use Rattle.block_marking.proofs.MarkSteps.{mark_opens}
-use Rattle.block_marking.proofs.marks.MarksMachine.first.Goals as goal
-
-pub returns : goal.returns
-returns c = mark_opens c.args.self.now c.look_next.new.self c.look_next.result Fresh c.requires c.look_next.ensures.leads

@@ -1,9 +1,0 @@
-pub mod FoundNames
-pub mod NewMarks
-pub mod Marking
-pub mod MarkCounts
-pub mod MarkStates
-pub use Rattle.block_meta.specs.MetaFields
-pub use Rattle.block_meta.specs.MetaValue
-pub use Rattle.sync_filters.specs.Filters
-pub use Rattle.world_core.specs.Plans

@@ -1,7 +1,0 @@
-use Rattle.std.proofs.Common.{arith}
-use Rattle.block_ranges.specs.BlockRuns.{most_reads}
-use Rattle.block_ranges.proofs.block_call.BlockCall.start.Goals as goal
-
-pub returns-clause-few : goal.returns-clause-few
-unfolding most_reads
-returns-clause-few c = omega arith

@@ -1,8 +1,0 @@
-use Rattle.std.proofs.Common.{◌≡◌, true, take}
-use Rattle.std.specs.List.{list_all}
-use Rattle.read_ranges.specs.Asking.{block_asked}
-use Rattle.chunk_ranges.specs.ChunkReads.{is_chunk_of}
-use Rattle.chunk_ranges.proofs.chunks.are_chunks_of.Given as goal
-
-abbrev pub invariant-loop-place : goal.invariant-loop-place
-invariant-loop-place l = list_all (is_chunk_of (block_asked l.asked) l.samples) (take l.place-index l.places) ≡ true

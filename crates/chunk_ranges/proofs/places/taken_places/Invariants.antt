@@ -1,8 +1,0 @@
-use Rattle.std.proofs.Common.{◌≡◌, take}
-use Rattle.std.specs.List.{flat_map}
-use Rattle.read_ranges.specs.Asking.{query_asked}
-use Rattle.chunk_ranges.specs.BlockReads.{taken}
-use Rattle.chunk_ranges.proofs.places.taken_places.Given as goal
-
-abbrev pub invariant-loop-one : goal.invariant-loop-one
-invariant-loop-one l = l.places.items ≡ flat_map (taken (query_asked l.asked)) (take l.one-index l.series)

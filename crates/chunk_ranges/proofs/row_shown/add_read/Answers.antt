@@ -1,7 +1,0 @@
-use Rattle.std.proofs.Common.{◌∙◌, refl}
-use Rattle.chunk_ranges.proofs.RowsApart.{apart_one}
-use Rattle.chunk_ranges.proofs.row_shown.add_read.Goals as goal
-
-pub returns : goal.returns
-returns c = apart_one c.args.apart.now.items c.push.new.self.items c.args.reference c.args.samples.now (record { reference = c.args.reference; samples = c.from_vec.result }) c.in_ok-push.ensures.items refl
-    (c.from_vec.ensures ∙ c.in_ok-own.ensures.items)

@@ -1,7 +1,0 @@
--- How many samples the chunks of a row have.
-use Rattle.std.specs.Prelude.{ℕ, ◌+◌, List, [], ◌∷◌}
-use Rattle.chunk_ranges.specs.declared.row_chunk.RowChunk.{RowChunk}
-
-abbrev pub counted : List RowChunk → ℕ
-counted [] = 0
-counted (chunk ∷ chunks) = chunk.count + counted chunks

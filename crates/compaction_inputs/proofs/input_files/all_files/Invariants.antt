@@ -1,5 +1,0 @@
-use Rattle.compaction_inputs.specs.InputFiles.{AreFiles}
-use Rattle.compaction_inputs.proofs.input_files.all_files.Given as goal
-
-abbrev pub invariant-loop-input : goal.invariant-loop-input
-invariant-loop-input l = AreFiles l.yielded l.blocks l.numbers

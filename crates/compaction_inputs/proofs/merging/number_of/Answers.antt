@@ -1,8 +1,0 @@
-use Rattle.std.proofs.Common.{sym}
-use Rattle.compaction_inputs.proofs.Refusing.{shown_at}
-use Rattle.compaction_inputs.proofs.merging.number_of.Goals as goal
-
-pub returns-in-Some : goal.returns-in-Some
-returns-in-Some c =
-    shown_at c.args.read.now c.args.block.now c.args.cause c.in-BadChunk.series c.in-BadChunk.chunk c.in-BadChunk.cause c.in_ok-place.place c.in-Some.number.now
-    c.in-BadChunk.is c.requires c.bytes.result.now c.bytes.ensures c.in_ok-place.ensures (sym c.in-Some.ensures)

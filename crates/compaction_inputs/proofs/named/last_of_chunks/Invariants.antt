@@ -1,6 +1,0 @@
-use Rattle.std.proofs.Common.{◌≡◌, fold, max, map, take}
-use Rattle.compaction_inputs.specs.Named.{segment_number}
-use Rattle.compaction_inputs.proofs.named.last_of_chunks.Given as goal
-
-abbrev pub invariant-loop-place : goal.invariant-loop-place
-invariant-loop-place l = l.last ≡ fold max l.before (map segment_number (take l.place-index l.chunks))

@@ -1,0 +1,92 @@
+-- The entry that shows why a block is refused.
+use Rattle.std.proofs.Common.{◌≡◌, ◌<◌, ℕ, zero, suc, List, [], ◌∷◌, map, Some, Result, Ok, Err, IfOk, refl, sym, ap, subst, ◌∙◌, arith}
+use Rattle.std.specs.Prelude.{slice_get}
+use Rattle.std.specs.List.{AllZip}
+use Rattle.base.specs.declared.memory.NoMemory.{NoMemory as OutOfMemory}
+use Rattle.base.proofs.Binds.{ok_is}
+use Rattle.base.specs.Grammar.{IsBytes}
+use Rattle.index_parts.specs.declared.index_series.IndexSeries.{IndexSeries}
+use Rattle.index_parts.specs.IndexFile.{IsIndex}
+use Rattle.index_parts.specs.declared.chunk_place.ChunkPlace.{ChunkPlace}
+use Rattle.index_v2.specs.declared.refusal.IndexRefusal.{IndexRefusal}
+use Rattle.block_meta.specs.declared.block_files.BlockFiles.{BlockFiles}
+use Rattle.block_content.specs.ContentReading.{fitted, index_at}
+use Rattle.block_content.specs.ContentRefusals.{RefusesContent, HasBadChunk}
+use Rattle.block_content.specs.declared.check_refusal.CheckRefusal.{CheckRefusal}
+use Rattle.block_content.specs.declared.check_refusal.CheckRefusal.TheVariants.{BadChunk}
+use Rattle.block_content.specs.declared.chunk_cause.ChunkCause.{ChunkCause}
+use Rattle.base.proofs.FirstLaws.{some_is}
+use Rattle.block_content.proofs.TimesAndOrder.{index_again}
+use Rattle.block_merging.specs.Inputs.{IsFirstRefused}
+use Rattle.compactor.specs.Inputs.{IsInput}
+use Rattle.compactor.specs.InputFiles.{numbers_of, IsShownBy}
+use Rattle.compactor.specs.Merges.{WasReadAt, IsRefused}
+use Rattle.compactor.specs.declared.input.Input.{Input}
+use Rattle.compactor.specs.declared.input_files.Numbers.{Numbers}
+
+-- a number of 32 bits below the greatest one stands for itself
+pub stands_for_itself : (number place : ℕ) → number < 4294967295 → number ≡ fitted place → number ≡ place
+stands_for_itself number place less is = omega (arith, less, is)
+
+-- ---- the block
+
+-- what was read of a block was read at the same place
+input_at : (inputs : List Input) (blocks : List BlockFiles) (k : ℕ) (block : BlockFiles) → AllZip IsInput inputs blocks → slice_get blocks k ≡ Some block
+    → (input : Input) × (slice_get inputs k ≡ Some input) × (slice_get (map numbers_of inputs) k ≡ Some (numbers_of input))
+input_at [] [] k block are is = absurd (none k is)
+  where
+    none : (k : ℕ) → slice_get {X = BlockFiles} [] k ≡ Some block → ⊥
+    none k e = absurd cc
+input_at [] (b ∷ bs) k block are is = absurd are
+input_at (i ∷ others) [] k block are is = absurd are
+input_at (i ∷ others) (b ∷ bs) zero block are is = (i, refl, refl)
+input_at (i ∷ others) (b ∷ bs) (suc k) block are is = input_at others bs k block are.1 is
+
+was_read : (input : Input) (block : BlockFiles) (cause : CheckRefusal) (number : ℕ) → IsShownBy (numbers_of input) block cause number → WasReadAt input block cause number
+was_read input block (BadChunk series chunk cause) number is = is
+was_read input block other number is = is
+
+pub refused_so : (blocks : List BlockFiles) (numbers : List Numbers) (place at number : ℕ) (cause : CheckRefusal) (block : BlockFiles) (read : Numbers) → place < 4294967295
+    → place ≡ fitted at → (first : IsFirstRefused blocks at cause) → slice_get blocks place ≡ Some block → slice_get numbers place ≡ Some read
+    → IsShownBy read block cause number → (inputs : List Input) → AllZip IsInput inputs blocks → numbers ≡ map numbers_of inputs → IsRefused inputs blocks number
+refused_so blocks numbers place at number cause block read other is first stands told shown inputs are numbered =
+    let same : place ≡ at = stands_for_itself place at other is in
+    let here = input_at inputs blocks at first.member are first.stands in
+    let one : block ≡ first.member = some_is block first.member (sym stands ∙ ap (slice_get blocks) same ∙ first.stands) in
+    let its : read ≡ numbers_of here.0 = some_is read (numbers_of here.0) (sym told ∙ ap (slice_get numbers) same ∙ ap (λ (l : List Numbers). slice_get l at) numbered ∙ here.2) in
+    record {
+      place = at;
+      cause = cause;
+      first = first;
+      input = here.0;
+      stands = here.1;
+      shown = was_read here.0 first.member cause number (subst (λ (b : BlockFiles). IsShownBy (numbers_of here.0) b cause number) one (subst (λ (r : Numbers). IsShownBy r block cause number) its shown));
+    }
+
+-- ---- the entry
+
+abbrev pub IsPlaceOf : List ℕ → ℕ → ℕ → ChunkPlace → Type 0
+IsPlaceOf bytes series chunk place =
+    (indexed : List IndexSeries) (one : IndexSeries) (found : ChunkPlace) (at_series at_chunk : ℕ) → IsIndex bytes indexed → series ≡ fitted at_series → chunk ≡ fitted at_chunk
+    → slice_get indexed at_series ≡ Some one → slice_get one.chunks at_chunk ≡ Some found → place ≡ found
+
+pub shown_at : (read : Numbers) (block : BlockFiles) (cause : CheckRefusal) (series chunk : ℕ) (c : ChunkCause) (place : ChunkPlace) (number : ℕ) → cause ≡ BadChunk series chunk c → RefusesContent block cause
+    → (bytes : List ℕ) → bytes ≡ block.index → IsPlaceOf bytes series chunk place → slice_get read.segments place.segment ≡ Some number → IsShownBy read block cause number
+shown_at read block cause series chunk c place number is refuses bytes bytes_are places there =
+    let bad : HasBadChunk block series chunk c = (subst (RefusesContent block) is refuses).0 in
+    let same : place ≡ bad.first.bad.member =
+    places bad.indexed bad.first.member bad.first.bad.member bad.at_series bad.at_chunk (subst (λ (b : List ℕ). IsIndex b bad.indexed) (sym bytes_are) bad.index_is) bad.series_is bad.chunk_is bad.first.stands bad.first.bad.stands in
+    subst (λ (k : CheckRefusal). IsShownBy read block k number) (sym is) (bad, ap (λ (p : ChunkPlace). slice_get read.segments p.segment) (sym same) ∙ there)
+
+pub refused_result : (r : Result ℕ OutOfMemory) (blocks : List BlockFiles) (numbers : List Numbers) (place at : ℕ) (cause : CheckRefusal) (block : BlockFiles) (read : Numbers) → place < 4294967295
+    → place ≡ fitted at → (first : IsFirstRefused blocks at cause) → slice_get blocks place ≡ Some block → slice_get numbers place ≡ Some read → IfOk r (IsShownBy read block cause)
+    → IfOk r (λ number. (inputs : List Input) → AllZip IsInput inputs blocks → numbers ≡ map numbers_of inputs → IsRefused inputs blocks number)
+refused_result (Ok number) blocks numbers place at cause block read less is first stands told shown = refused_so blocks numbers place at number cause block read less is first stands told shown
+refused_result (Err none) blocks numbers place at cause block read less is first stands told shown = tt
+
+pub place_is : (bytes : List ℕ) (read : List IndexSeries) (series chunk : ℕ) (one : IndexSeries) (place : ChunkPlace) → IsBytes bytes → index_at bytes ≡ Ok read → series < 4294967295 → chunk < 4294967295
+    → slice_get read series ≡ Some one → slice_get one.chunks chunk ≡ Some place → IsPlaceOf bytes series chunk place
+place_is bytes read series chunk one place is_bytes is small few stands there indexed other found at_series at_chunk index_is series_is chunk_is so found_there =
+    let lists : read ≡ indexed = ok_is {E = IndexRefusal} read indexed (sym is ∙ index_again bytes indexed is_bytes index_is) in
+    let members : one ≡ other = some_is one other (sym stands ∙ ap (λ (l : List IndexSeries). slice_get l series) lists ∙ ap (slice_get indexed) (stands_for_itself series at_series small series_is) ∙ so) in
+    some_is place found (sym there ∙ ap (λ (s : IndexSeries). slice_get s.chunks chunk) members ∙ ap (slice_get other.chunks) (stands_for_itself chunk at_chunk few chunk_is) ∙ found_there)

@@ -1,0 +1,8 @@
+use Rattle.compactor.proofs.MergedInputs.{blocks_many}
+use Rattle.compactor.proofs.merging.merge_inputs.Goals as goal
+
+pub merge_files-merging-requires : goal.merge_files-merging-requires
+merge_files-merging-requires c = record { many = blocks_many c.args.inputs c.in_ok-files.files.blocks c.in_ok-files.ensures.read c.requires.many }
+
+pub returns : goal.returns
+returns c = c.merge_files-merging.ensures c.args.inputs c.in_ok-files.ensures

@@ -1,0 +1,8 @@
+use Rattle.std.proofs.Common.{sym, arith}
+use Rattle.compactor.proofs.Refusing.{refused_result}
+use Rattle.compactor.proofs.merging.refused_at.Goals as goal
+
+pub returns : goal.returns
+returns c =
+    refused_result c.number_of.result c.args.blocks.now c.args.numbers.now c.args.place c.requires.0 c.args.cause c.in-Some.block.now c.in-Some-get.read.now
+    (omega (arith, c.if-place-eq4294967295.false, c.ranges.place.fits)) c.requires.2 c.requires.1 (sym c.in-Some.ensures) (sym c.in-Some-get.ensures) c.number_of.ensures

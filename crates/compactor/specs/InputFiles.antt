@@ -1,0 +1,32 @@
+-- The files of blocks that were read, and the entries at which they were read.
+use Rattle.std.specs.Prelude.{◌≡◌, ℕ, List, map, Some, slice_get}
+use Rattle.std.specs.List.{AllByRecursion, AllZip}
+use Rattle.base.specs.Grammar.{IsBytes}
+use Rattle.block_meta.specs.declared.block_files.BlockFiles.{BlockFiles}
+use Rattle.block_content.specs.ContentRefusals.{HasBadChunk}
+use Rattle.block_content.specs.declared.check_refusal.CheckRefusal.{CheckRefusal}
+use Rattle.block_content.specs.declared.check_refusal.CheckRefusal.TheVariants.{BadChunk}
+use Rattle.compactor.specs.Inputs.{IsInput}
+use Rattle.compactor.specs.declared.input.Input.{Input}
+use Rattle.compactor.specs.declared.input.Read.{Read}
+use Rattle.compactor.specs.declared.input_files.Numbers.{Numbers}
+
+abbrev pub numbers_of : Input → Numbers
+numbers_of input = record { index = input.index.number; segments = map (λ segment. segment.number) input.segments }
+
+-- the blocks' files are those that were read, at the entries of these numbers
+pub record AreFiles (inputs : List Input) (blocks : List BlockFiles) (numbers : List Numbers) : Type 0 where
+  pub read : AllZip IsInput inputs blocks
+  pub numbers_are : numbers ≡ map numbers_of inputs
+
+-- the same of a block's segments
+pub record AreSegments (segments : List Read) (files : List (List ℕ)) (numbers : List ℕ) : Type 0 where
+  pub files_are : files ≡ map (λ segment. segment.bytes) segments
+  pub numbers_are : numbers ≡ map (λ segment. segment.number) segments
+  pub bytes : AllByRecursion IsBytes files
+
+-- the entry at which the cause of a refusal was read
+abbrev pub IsShownBy : Numbers → BlockFiles → CheckRefusal → ℕ → Type 0
+IsShownBy read block (BadChunk series chunk cause) number =
+    (bad : HasBadChunk block series chunk cause) × (slice_get read.segments bad.first.bad.member.segment ≡ Some number)
+IsShownBy read block other number = number ≡ read.index

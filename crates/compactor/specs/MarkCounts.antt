@@ -1,0 +1,10 @@
+-- Which blocks a marking still counts.
+use Rattle.std.specs.Prelude.{ℕ}
+use Rattle.compactor.specs.declared.mark_stage.MarkStage.{MarkStage}
+use Rattle.compactor.specs.declared.mark_stage.MarkStage.TheVariants.{Fresh, Looking, Putting}
+
+-- the block at hand, if there is one
+abbrev pub held : MarkStage → ℕ
+held Fresh = 0
+held (Looking ulid) = 1
+held (Putting ulid looked) = 1

@@ -1,3 +1,0 @@
-pub use Rattle.block_keys.specs.Keys
-pub mod Caches
-pub mod Lends

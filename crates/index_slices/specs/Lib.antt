@@ -1,3 +1,0 @@
-pub use Rattle.index_parts.specs
-pub mod Parts
-pub mod Shifting

@@ -1,9 +1,0 @@
-pub mod Behind
-pub mod Spans
-pub mod Readings
-pub mod NotKept
-pub mod Cutting
-pub mod Sorting
-pub mod TextsKept
-pub mod LabelsAdded
-pub mod SeriesNamed

@@ -1,6 +1,0 @@
-use Rattle.read_ranges.specs.ChunkRanges.{IsNear}
-use Rattle.read_ranges.proofs.Cutting.{IsCutUpto}
-use Rattle.read_ranges.proofs.groups.groups_of_references.Given as goal
-
-abbrev pub invariant-loop-place : goal.invariant-loop-place
-invariant-loop-place l = IsCutUpto IsNear l.references l.groups.items l.start l.place

@@ -1,6 +1,0 @@
-use Rattle.std.proofs.Common.{◌≡◌, take}
-use Rattle.read_ranges.specs.TextPlaces.{AreTextsAt, texts_at}
-use Rattle.read_ranges.proofs.symbol_texts.texts_of_table.Given as goal
-
-abbrev pub invariant-loop-number : goal.invariant-loop-number
-invariant-loop-number l = AreTextsAt l.bytes.items l.places.items × (texts_at l.bytes.items l.places.items ≡ take l.number l.table)

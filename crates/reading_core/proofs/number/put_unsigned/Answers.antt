@@ -1,6 +1,0 @@
-use Rattle.std.proofs.Common.{rules}
-use Rattle.reading_core.proofs.Printed.{printed}
-use Rattle.reading_core.proofs.number.put_unsigned.Goals as goal
-
-pub returns-clause-ok : goal.returns-clause-ok
-returns-clause-ok c = search (rules, printed)

@@ -1,5 +1,0 @@
-use Rattle.series_calls.proofs.ExactCalls.{answer_exact}
-use Rattle.series_calls.proofs.laws.calls_are_exact.Goals as goal
-
-pub returns : goal.returns
-returns c = answer_exact

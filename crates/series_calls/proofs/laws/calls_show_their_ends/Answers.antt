@@ -1,5 +1,0 @@
-use Rattle.series_calls.proofs.ShownEnds.{shows_failed, shows_missing}
-use Rattle.series_calls.proofs.laws.calls_show_their_ends.Goals as goal
-
-pub returns : goal.returns
-returns c = record { missing = shows_missing; failed = shows_failed }

@@ -1,0 +1,106 @@
+-- The samples of an answer lie in the range that is asked for.
+use Rattle.std.proofs.Common.{◌≡◌, ℕ, true, List, [], ◌∷◌, ◌++◌, Some, sym, subst, inl, inr}
+use Rattle.std.specs.Prelude.{All}
+use Rattle.std.specs.List.{find, flat_map}
+use Rattle.std.proofs.lemmas.List.Elements.{All-append, All-contains, All-nil, All-weaker, filter_passes}
+use Rattle.label_sets.specs.declared.series.Series.{Series}
+use Rattle.label_sets.specs.Finals.{final_of}
+use Rattle.label_sets.specs.Triples.{Triple, has_same_key, triples_of, triples_under}
+use Rattle.matchers.specs.Selected.{is_between}
+use Rattle.vertical_merge.specs.Merged.{IsMerge}
+use Rattle.vertical_merge.proofs.Laws.{found_contains}
+use Rattle.world_core.specs.Plans.{Runs, ends}
+use Rattle.world_core.specs.declared.entry.Entry.{Entry}
+use Rattle.world_core.proofs.PlanLaws.{EndsAre, end_is, nothing_given}
+use Rattle.world_core.proofs.PlanParts.{Parts, broken, both, parts}
+use Rattle.index_parts.specs.declared.index_series.IndexSeries.{IndexSeries}
+use Rattle.meta_fetcher.specs.declared.view.View.{View}
+use Rattle.store_chunks.specs.ChunkReads.{Read}
+use Rattle.store_ranges.specs.Reads.{Block, Cache, Query, missing, damaged, fault}
+use Rattle.store_chunks.specs.Taken.{samples_of, shown, taken}
+use Rattle.store_calls.specs.BlockReads.{BlockEnd, gives, breaks_off, block_call}
+use Rattle.store_calls.specs.SeriesCalls.{Called, took, broke, CallEnd, Gives, SeriesRun, after_block, reading, sources_of, to_read}
+use Rattle.store_calls.specs.declared.series_end.SeriesEnd.TheVariants as ended
+use Rattle.store_calls.proofs.BlockWalk.{block_holds}
+
+abbrev IsIn : Query → Triple → Type 0
+IsIn query t = is_between query.low query.high t.time ≡ true
+
+abbrev AreIn : Query → List Triple → Type 0
+AreIn query triples = All (IsIn query) triples
+
+-- ---- of one block
+
+shown_in : (query : Query) (block : Block) (found : List Read) (series : IndexSeries) → AreIn query (shown query block found series)
+unfolding shown
+shown_in query block found series =
+    filter_passes (λ t. is_between query.low query.high t.time)
+    (triples_under (final_of series.labels block.external query.replicas) (flat_map (samples_of found) (taken query series)))
+
+all_in : (query : Query) (block : Block) (found : List Read) (series : List IndexSeries) → AreIn query (flat_map (shown query block found) series)
+all_in query block found [] = All-nil (IsIn query)
+all_in query block found (s ∷ series) =
+    All-append (IsIn query) (shown query block found s) (flat_map (shown query block found) series) (shown_in query block found s) (all_in query block found series)
+
+abbrev EndIn : Query → BlockEnd → Type 0
+EndIn query (gives triples cache) = AreIn query triples
+EndIn query (breaks_off why cache) = Unit {0}
+
+block_in : (query : Query) (block : Block) (cache : Cache) → EndsAre (λ e. Unit {0}) (λ made end. EndIn query end) [] (block_call query block cache)
+block_in query block cache =
+    block_holds {E = BlockEnd} breaks_off (EndsAre (λ e. Unit {0}) (λ made end. EndIn query end)) (λ op. Unit {0}) (λ e. Unit {0}) (λ c. Unit {0}) (λ key piece bytes. Unit {0}) (λ key bytes. Unit {0})
+    (λ made. tt) (λ made op next is on. on) (λ A made Such one next on. on) (λ made e op c is same given absent fine. tt) (λ made e landed c given so fine. tt) (λ range c fine. tt) (λ e key piece bytes c same given found none fine. tt)
+    (λ e key piece bytes same given found. tt) (λ key piece bytes c fine has. tt) (λ e key bytes same given found. tt)
+    query block tt (λ from len. tt) (λ series are reference sought from len. tt) (λ made number c spoilt fine. tt) (λ after triples. ends (gives triples after)) (λ made after series all are read_so set fine. all_in query block all series) [] cache tt
+
+-- ---- of a call
+
+abbrev ToldIn : Query → Called → Type 0
+ToldIn query (took taken cache) = AreIn query taken
+ToldIn query (broke why cache) = Unit {0}
+
+abbrev AllTakeIn : Query → List Block → Type 0
+AllTakeIn query blocks =
+    (taken : List Triple) (before : Cache) (entries : List Entry) (told : Called) → AreIn query taken → Runs (reading query blocks taken before) entries (Some told) → ToldIn query told
+
+first_in : (query : Query) (block : Block) (blocks : List Block) → AllTakeIn query blocks → AllTakeIn query (block ∷ blocks)
+first_in query block blocks later taken before entries told all run =
+    by_parts (parts (block_call query block before) (after_block taken (reading query blocks)) entries (Some told) run)
+  where
+    by_end : (others : List Entry) (last : BlockEnd) → EndIn query last → Runs (after_block taken (reading query blocks) last) others (Some told) → ToldIn query told
+    by_end others (gives share next) own run = later (taken ++ share) next others told (All-append (IsIn query) taken share all own) run
+    by_end others (breaks_off why next) own (none, inl wrong) = absurd (cc (wrong))
+    by_end others (breaks_off why next) own (none, inr is) = let same : told ≡ broke why next = cc (is) in subst (ToldIn query) (sym same) tt
+
+    by_parts : Parts (block_call query block before) (after_block taken (reading query blocks)) entries (Some told) → ToldIn query told
+    by_parts (broken first none) = absurd (cc (none))
+    by_parts (both own others last is first rest) =
+        by_end others last
+        (end_is (λ e. Unit {0}) (λ made end. EndIn query end) (block_call query block before) [] own last (block_in query block before) (nothing_given own) first) rest
+
+reading_in : (query : Query) (blocks : List Block) → AllTakeIn query blocks
+reading_in query [] taken before entries told all (none, inl wrong) = absurd (cc (wrong))
+reading_in query [] taken before entries told all (none, inr is) = let same : told ≡ took taken before = cc (is) in subst (ToldIn query) (sym same) all
+reading_in query (block ∷ blocks) taken before entries told all run = first_in query block blocks (reading_in query blocks) taken before entries told all run
+
+-- what is merged was taken
+merged_in : (query : Query) (taken : List Triple) (series : List Series) → AreIn query taken → IsMerge taken series → AreIn query (triples_of series)
+merged_in query taken series all merge =
+    All-weaker (λ (t : Triple). find (has_same_key t) taken ≡ Some t) (IsIn query) (λ t first. All-contains (IsIn query) taken t all (found_contains (has_same_key t) taken t first)) (triples_of series) merge.first.first
+
+abbrev answer : List Series → List ℕ → Cache → CallEnd
+answer series sources after = record { end = ended.Answer series sources; cache = after }
+
+by_told : (query : Query) (all : List ℕ) (told : Called) (series : List Series) (sources : List ℕ) (after : Cache) → ToldIn query told → Gives all told (answer series sources after)
+    → AreIn query (triples_of series)
+by_told query all (took taken cache) series sources after own ((others, set, is, merge, of), same) =
+    let same_series : series ≡ others = cc (is) in
+    subst (λ (l : List Series). AreIn query (triples_of l)) (sym same_series) (merged_in query taken others own merge)
+by_told query all (broke (missing number) cache) series sources after own (is, same) = absurd (cc (is))
+by_told query all (broke (damaged number) cache) series sources after own (is, same) = absurd (cc (is))
+by_told query all (broke (fault number) cache) series sources after own (is, same) = absurd (cc (is))
+
+pub answer_in : (view : View) (query : Query) (before after : Cache) (entries : List Entry) (series : List Series) (sources : List ℕ)
+    → SeriesRun view query before entries (Some (answer series sources after)) → AreIn query (triples_of series)
+answer_in view query before after entries series sources (told, run, is) =
+    by_told query (sources_of view.kept) told series sources after (reading_in query (to_read query view.kept) [] before entries told (All-nil (IsIn query)) run) is

@@ -1,0 +1,58 @@
+//! A gateway's call, which hands on what it keeps.
+
+ghost use Rattle.std.specs.Prelude.{◌≡◌, ◌||◌, ◌⊎◌, None, IfSome, IsTrue};
+ghost use Rattle.store_ranges.specs.Caches.{held};
+ghost use Rattle.world_core.specs.Keeping.{IsFull};
+ghost use Rattle.world_core.specs.Machines.{Drives, is_driven_full};
+ghost use Rattle.store_calls.specs.SeriesCalls.{asking};
+ghost use Rattle.store_calls.specs.CallRuns.{CallRun};
+
+use crate::{CallLeft, SeriesCall};
+use base::NoMemory;
+use label_sets::TextList;
+use matchers::Selector;
+use meta_fetcher::View;
+use std::alloc::Global;
+use store_ranges::IndexCache;
+use world_core::{Driven, Hand, drive};
+
+/// A gateway's call over a view, for the series that the selector matches, with their samples from `low` to `high`, by the
+/// ranges that it kept. It hands on what it keeps then, unless it is broken off.
+pub fn run_call<H: Hand>(
+    alloc: Global,
+    view: &View,
+    selector: &Selector,
+    replicas: &TextList,
+    low: i64,
+    high: i64,
+    cache: IndexCache,
+    hand: &mut H,
+) -> Driven<CallLeft>
+    ensures run { Drives
+        (CallRun view.now (asking selector.now replicas.now low high) (held cache))
+        (H.seat hand.old) None result (H.entries hand.old) (H.entries hand.new) }
+    ensures seat { H.seat hand.new ≡ H.seat hand.old }
+    ensures keeps { H.keeps hand.old hand.new }
+    ensures wanted { IsTrue (H.wanted hand.new)
+        → IsTrue (H.wanted hand.old) ⊎ (result ≡ Driven.NoMemory) }
+    ensures refused { H.refused hand.new ≡ (H.refused hand.old || is_driven_full result) }
+    ensures full { result ≡ Driven.Full → IfSome (H.front hand.new) IsFull }
+{
+    match SeriesCall::start(alloc, view, selector, replicas, low, high, cache) {
+        Ok(mut machine) => match drive(&mut machine, hand, None) {
+            Driven::Ended(end) => {
+                let left = machine.into_cache();
+                Driven::Ended(CallLeft { end, cache: left })
+            }
+            Driven::Full => {
+                drop(machine);
+                Driven::Full
+            }
+            Driven::Stopped(_) | Driven::NoMemory => {
+                drop(machine);
+                Driven::NoMemory
+            }
+        },
+        Err(NoMemory) => Driven::NoMemory,
+    }
+}

@@ -1,0 +1,7 @@
+-- How many samples the chunks of a row have.
+use Rattle.std.specs.Prelude.{ℕ, ◌+◌, List, [], ◌∷◌}
+use Rattle.store_chunks.specs.declared.row_chunk.RowChunk.{RowChunk}
+
+abbrev pub counted : List RowChunk → ℕ
+counted [] = 0
+counted (chunk ∷ chunks) = chunk.count + counted chunks

@@ -1,0 +1,10 @@
+pub mod SameRanges
+pub mod Behind
+pub mod Spans
+pub mod Readings
+pub mod NotKept
+pub mod Cutting
+pub mod Sorting
+pub mod TextsKept
+pub mod LabelsAdded
+pub mod SeriesNamed

@@ -1,0 +1,16 @@
+pub use Rattle.block_keys.specs.Keys
+pub mod Caches
+pub mod Lends
+pub mod Stretches
+pub mod OneCut
+pub mod IndexRanges
+pub mod ChunkRanges
+pub mod OneSet
+pub mod Reads
+pub mod Asking
+pub mod Findings
+pub mod TextPlaces
+pub mod IndexReads
+pub mod ToRead
+pub mod Selecting
+pub mod Caching

@@ -1,4 +1,0 @@
-pub mod BitLists
-pub mod Buffers
-pub mod Crossings
-pub mod Writers

@@ -1,9 +1,0 @@
-use Rattle.std.proofs.Common.{length, sym, ap, ◌∙◌, arith}
-use Rattle.wire_bits.proofs.Buffers.{length-buffered}
-use Rattle.wire_bits.proofs.bit_reader.BitReader.left.Goals as goal
-
-pub returns : goal.returns
-returns c =
-    let i = c.self.inside in
-    let len = sym (ap length c.self.view_is) ∙ length-buffered _ _ _ in
-    omega arith

@@ -1,5 +1,0 @@
-use Rattle.wire_bits.proofs.Writers.{nothing_written}
-use Rattle.wire_bits.proofs.bit_writer.BitWriter.new.Goals as goal
-
-pub returns : goal.returns
-returns c = nothing_written _ c.new.ensures.items

@@ -1,3 +1,0 @@
-pub mod Bits
-pub mod Buffer
-pub mod Writing
