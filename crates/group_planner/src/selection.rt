@@ -1,5 +1,5 @@
-//! Which blocks without overlaps are compacted: those of the shortest stretch that is due. A stretch is due once it is
-//! full, or once a later block has begun behind it, so that no more is to be expected.
+//! Which blocks without overlaps are compacted: those of the shortest stretch that is due. It is due once its blocks
+//! fill it, or once a later block begins behind them, so that no more is to be expected.
 
 ghost use Rattle.std.specs.Prelude.{◌≡◌, ◌<ℤ◌, ◌-ℤ◌, int_le, pos, ℤ, List, All, IfOk, MatchOption, Some, None};
 ghost use Rattle.std.specs.List.{find};
