@@ -1,3 +1,6 @@
+//! The hand of one worker in its thread: each operation takes a turn on the shared world. The gate is asked before the
+//! turn is, so that a worker that is held up there keeps no other waiting.
+
 ghost use Rattle.std.specs.Prelude.{◌≡◌};
 ghost use Rattle.world_turn.specs.Passes.{table_of, view_of};
 

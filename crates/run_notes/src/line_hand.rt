@@ -1,3 +1,6 @@
+//! The hand of a run in line, which does the operations of all workers. It keeps what it met, and no caller can make it
+//! forget that: so the note that is made of it can be relied on.
+
 ghost use Rattle.std.specs.Prelude.{◌≡◌, false};
 
 use bucket_core::Bucket;

@@ -1,3 +1,6 @@
+//! A gate by which two workers prove that they run beside each other: before its operation number 2 each waits until
+//! the other has come to its own. If they ran one behind the other, the first would wait in vain.
+
 use phase_runner::Gate;
 use std::hint;
 use std::sync::atomic::{AtomicBool, AtomicU64, Ordering};

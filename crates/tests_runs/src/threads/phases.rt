@@ -1,3 +1,6 @@
+//! Phases of workers in threads: that the journal has the operations of all, that they truly run beside each other, and
+//! that a fault of one stops no other. How threads fall differs, so each is tried a hundred times.
+
 ghost use Rattle.std.specs.Prelude.{◌≡◌, IfSome, vec_len};
 
 use crate::threads::gates::Watch;
