@@ -27,5 +27,5 @@ advice_of SourceFault = line (codes "The script comes from standard input: see t
 advice_of SinkFault = line (codes "The report goes to standard output: see that its reader stays and that there is room for it, and run again.")
 advice_of NoMemory = line (codes "There was not enough memory: run again where there is more of it.")
 advice_of BucketNotEmpty = line (codes "A run begins with an empty bucket, and this folder holds something: name a new one. (BUCKET comes first, SHELF second.)")
-advice_of JournalFull = line (codes "One run takes about a million operations: split the script into several runs.")
+advice_of JournalFull = line (codes "The journal of one run has room for 1,048,576 operations and for a gibibyte of what they move: only a script that does less runs to its end.")
 advice_of SiteFault = line (codes "BUCKET or SHELF could not be opened or read: see that SHELF is there, that both are folders, and that they may be read and BUCKET written.")

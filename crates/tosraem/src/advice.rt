@@ -52,7 +52,7 @@ fn advice(status: Status) -> &'static str
             "A run begins with an empty bucket, and this folder holds something: name a new one. (BUCKET comes first, SHELF second.)\n"
         }
         Status::JournalFull => {
-            "One run takes about a million operations: split the script into several runs.\n"
+            "The journal of one run has room for 1,048,576 operations and for a gibibyte of what they move: only a script that does less runs to its end.\n"
         }
         Status::SiteFault => {
             "BUCKET or SHELF could not be opened or read: see that SHELF is there, that both are folders, and that they may be read and BUCKET written.\n"
