@@ -111,13 +111,13 @@ impl<B: Bucket> Hand for LineHand<B> {
 
     ghost wanted = { λ hand. hand.wanted };
 
-    ghost keeps = { λ old new. KeepsRun B.faults B.quiet B.asked old.opened.value old.wanted
+    ghost keeps = { λ old new. KeepsRun B.told old.opened.value old.wanted
         old.world new.opened.value new.wanted new.world };
 
-    ghost keeps_none = { λ hand. keeps_run-none B.faults B.quiet B.asked hand.opened.value
+    ghost keeps_none = { λ hand. keeps_run-none B.told hand.opened.value
         hand.wanted hand.world };
 
-    ghost keeps_more = { λ first next last one two. keeps_run-more B.faults B.quiet B.asked
+    ghost keeps_more = { λ first next last one two. keeps_run-more B.told
         first.opened.value next.opened.value last.opened.value first.wanted next.wanted
         last.wanted first.world next.world last.world one two };
 
@@ -135,7 +135,7 @@ impl<B: Bucket> Hand for LineHand<B> {
         ensures wanted { IsTrue self.new.wanted
             → IsTrue self.old.wanted ⊎ (result ≡ Acted.NoMemory) }
         ensures wanting { self.new.wanted ≡ (self.old.wanted || is_wanting result) }
-        ensures keeps { KeepsRun B.faults B.quiet B.asked self.old.opened.value self.old.wanted
+        ensures keeps { KeepsRun B.told self.old.opened.value self.old.wanted
             self.old.world self.new.opened.value self.new.wanted self.new.world }
     {
         let acted = self.world.act(self.seat, op);

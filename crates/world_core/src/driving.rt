@@ -79,11 +79,11 @@ pub fn drive_over<M: Machine, B: Bucket>(
     ensures run { Drives
         (λ made end. M.may machine.old made end machine.new) seat stop result.0 world.journal
         result.1.journal }
-    ensures keeps { WorldGoesOn B.faults B.quiet world result.1 }
+    ensures keeps { WorldGoesOn B.told world result.1 }
 
     // If all that the bucket was asked was journaled, it still is, unless memory was wanted.
     ensures all { result.0 ≢ Driven.NoMemory → (before : List Call)
-        → IsAllAsked B.asked before world → IsAllAsked B.asked before result.1 }
+        → IsAllAsked B.told before world → IsAllAsked B.told before result.1 }
     ensures full { result.0 ≡ Driven.Full → IsFull result.1.journal }
 {
     let mut hand = WorldHand::new(world, seat);

@@ -88,9 +88,9 @@ impl Journal {
         ensures seq { IfOk result (λ seen. seen.seq ≡ length self.old + 1) }
         ensures moment { IfOk result (λ seen. seen.moment ≡ moment) }
         ensures err { OnErr result (self.new ≡ self.old) }
-        ensures performed { IsPerformed B.contents B.faults B.quiet bucket.old op
+        ensures performed { IsPerformed B.told bucket.old op
             (reply_seen result) bucket.new }
-        ensures asks { AsksIn B.asked bucket.old bucket.new op (reply_seen result) }
+        ensures asks { AsksIn B.told bucket.old bucket.new op (reply_seen result) }
     {
         self.entries.reserve(1)?;
         let seq = self.entries.len() as u64 + 1;

@@ -53,17 +53,17 @@ impl<B: Bucket> Hand for WorldHand<B> {
 
     ghost wanted = { λ hand. hand.wanted };
 
-    ghost keeps = { λ old new. WorldGoesOn B.faults B.quiet old.world new.world
-        × KeepsAsked B.asked old.wanted old.world new.wanted new.world };
+    ghost keeps = { λ old new. WorldGoesOn B.told old.world new.world
+        × KeepsAsked B.told old.wanted old.world new.wanted new.world };
 
     ghost keeps_none = { λ hand. (
-      goes_on-none B.faults B.quiet hand.world,
-      asked-none B.asked hand.wanted hand.world,
+      goes_on-none B.told hand.world,
+      asked-none B.told hand.wanted hand.world,
     ) };
 
     ghost keeps_more = { λ first next last one two. (
-      goes_on-more B.faults B.quiet first.world next.world last.world one.0 two.0,
-      asked-more B.asked first.wanted next.wanted last.wanted first.world next.world last.world
+      goes_on-more B.told first.world next.world last.world one.0 two.0,
+      asked-more B.told first.wanted next.wanted last.wanted first.world next.world last.world
           one.1 two.1,
     ) };
 

@@ -48,7 +48,7 @@ impl<B: Bucket> Shared<B> {
         requires { world.journal ≡ [] }
         ensures pass { IfOk result (λ r. (table_of r.1 ≡ r.0.table.shared.table_id)
             × (r.1.seat ≡ 0) × (r.1.splits ≡ 0)
-            × (view_of r.1 ≡ root (opening_of B.faults B.asked world))) }
+            × (view_of r.1 ≡ root (opening_of B.told world))) }
         ensures opened { IfOk result (λ r. r.0.table.shared.key.value ≡ world) }
         ensures err { IfErr result (λ e. e.1 ≡ world) }
     {
@@ -211,13 +211,13 @@ impl<B: Bucket> Shared<B> {
         requires all { AllJoined (view_of root) }
         ensures root { result.root.value ≡ root }
         ensures closes { Closes (view_of root) result.world.tick result.world.journal }
-        ensures comes { ComesFrom B.faults (opening_of B.faults B.asked self.table.shared.key.value)
+        ensures comes { ComesFrom B.told (opening_of B.told self.table.shared.key.value)
             result.world }
 
         // If all that the bucket was asked was journaled as the world was opened, it still is, unless memory was wanted.
         ensures all { (view_of root).wanted ≡ false → (before : List Call)
-            → IsAllAsked B.asked before self.table.shared.key.value
-            → IsAllAsked B.asked before result.world }
+            → IsAllAsked B.told before self.table.shared.key.value
+            → IsAllAsked B.told before result.world }
     {
         let known = Snapshot::of(&root);
         let Shared { table } = self;
