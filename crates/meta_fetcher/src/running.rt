@@ -2,7 +2,7 @@
 
 ghost use Rattle.std.specs.Prelude.{◌≡◌, ◌≤◌, ◌||◌, ◌⊎◌, None, IfSome, IsTrue};
 ghost use Rattle.world_core.specs.Keeping.{IsFull};
-ghost use Rattle.world_core.specs.Machines.{Drives, is_driven_full};
+ghost use Rattle.world_core.specs.Machines.{Drives, HandGoesOn, is_driven_full};
 ghost use Rattle.meta_fetcher.specs.Syncs.{SyncRun};
 
 use crate::{Sync, SyncEnd, SyncRules};
@@ -20,6 +20,7 @@ pub fn run_sync<H: Hand>(alloc: Global, rules: SyncRules, hand: &mut H) -> Drive
         → IsTrue (H.wanted hand.old) ⊎ (result ≡ Driven.NoMemory) }
     ensures refused { H.refused hand.new ≡ (H.refused hand.old || is_driven_full result) }
     ensures full { result ≡ Driven.Full → IfSome (H.front hand.new) IsFull }
+    ensures known { HandGoesOn H.entries H.known hand.old hand.new }
 {
     run_begun(Sync::start(alloc, rules), None, hand)
 }

@@ -3,7 +3,7 @@
 ghost use Rattle.std.specs.Prelude.{◌≡◌, ◌||◌, ◌⊎◌, ℕ, IfSome, IsTrue};
 ghost use Rattle.block_keys.specs.Blocks.{IsBlock};
 ghost use Rattle.world_core.specs.Keeping.{IsFull};
-ghost use Rattle.world_core.specs.Machines.{Drives, is_driven_full};
+ghost use Rattle.world_core.specs.Machines.{Drives, HandGoesOn, is_driven_full};
 ghost use Rattle.world_core.specs.Plans.{Runs};
 ghost use Rattle.shipper.specs.Uploads.{upload};
 
@@ -26,6 +26,7 @@ pub fn run_upload<H: Hand>(
         → IsTrue (H.wanted hand.old) ⊎ (result ≡ Driven.NoMemory) }
     ensures refused { H.refused hand.new ≡ (H.refused hand.old || is_driven_full result) }
     ensures full { result ≡ Driven.Full → IfSome (H.front hand.new) IsFull }
+    ensures known { HandGoesOn H.entries H.known hand.old hand.new }
 {
     run_begun(Upload::start(objects), stop, hand)
 }

@@ -3,7 +3,7 @@
 ghost use Rattle.std.specs.Prelude.{◌≡◌, ◌||◌, ◌⊎◌, None, IfSome, IsTrue};
 ghost use Rattle.store_ranges.specs.Caches.{held};
 ghost use Rattle.world_core.specs.Keeping.{IsFull};
-ghost use Rattle.world_core.specs.Machines.{Drives, is_driven_full};
+ghost use Rattle.world_core.specs.Machines.{Drives, HandGoesOn, is_driven_full};
 ghost use Rattle.store_calls.specs.SeriesCalls.{asking};
 ghost use Rattle.store_calls.specs.CallRuns.{CallRun};
 
@@ -18,6 +18,7 @@ use world_core::{Driven, Hand, drive};
 
 /// A gateway's call over a view, for the series that the selector matches, with their samples from `low` to `high`, by the
 /// ranges that it kept. It hands on what it keeps then, unless it is broken off.
+#[tactic(auto, using(world_core::proofs::Numbers::none_added))]
 pub fn run_call<H: Hand>(
     alloc: Global,
     view: &View,
@@ -37,6 +38,7 @@ pub fn run_call<H: Hand>(
         → IsTrue (H.wanted hand.old) ⊎ (result ≡ Driven.NoMemory) }
     ensures refused { H.refused hand.new ≡ (H.refused hand.old || is_driven_full result) }
     ensures full { result ≡ Driven.Full → IfSome (H.front hand.new) IsFull }
+    ensures known { HandGoesOn H.entries H.known hand.old hand.new }
 {
     match SeriesCall::start(alloc, view, selector, replicas, low, high, cache) {
         Ok(mut machine) => match drive(&mut machine, hand, None) {

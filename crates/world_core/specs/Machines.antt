@@ -59,6 +59,15 @@ abbrev pub IfNotDone : Acted → Type 0 → Type 0
 IfNotDone (answer.Done seen) P = Unit {0}
 IfNotDone other P = P
 
+-- What a hand has added from `old` to `new`. Each entry has a greater number than the last that the hand had seen before, and none
+-- has a greater one than the last that it has seen now.
+pub record HandGoesOn {H : Type 0} (entries : H → List Entry) (known : H → ℕ) (old new : H) : Type 0 where
+  pub made : List Entry
+  pub added : entries new ≡ entries old ++ made
+  pub above : All (λ e. known old < e.seq) made
+  pub within : All (λ e. e.seq ≤ known new) made
+  pub later : known old ≤ known new
+
 -- the end to which a machine was driven: none where it was stopped before
 abbrev pub end_of : {E : Type 0} → Driven E → Option E
 end_of (outcome.Ended end) = Some end

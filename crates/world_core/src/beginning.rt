@@ -3,13 +3,14 @@
 ghost use Rattle.std.specs.Prelude.{◌≡◌, ◌||◌, ◌⊎◌, IfOk, IfSome, IsTrue};
 ghost use Rattle.world_core.specs.Begun.{DrivesBegun};
 ghost use Rattle.world_core.specs.Keeping.{IsFull};
-ghost use Rattle.world_core.specs.Machines.{is_driven_full};
+ghost use Rattle.world_core.specs.Machines.{HandGoesOn, is_driven_full};
 
 use crate::{Driven, Hand, Machine, drive};
 use base::NoMemory;
 
 /// Drives a machine that was begun, and stops it after so many operations if it is told to. Where memory was wanting as it was
 /// begun, nothing is done.
+#[tactic(auto, using(crate::proofs::Numbers::none_added))]
 pub fn run_begun<M: Machine + Drop, H: Hand>(
     begun: Result<M, NoMemory>,
     stop: Option<u32>,
@@ -24,6 +25,7 @@ pub fn run_begun<M: Machine + Drop, H: Hand>(
         → IsTrue (H.wanted hand.old) ⊎ (result ≡ Driven.NoMemory) }
     ensures refused { H.refused hand.new ≡ (H.refused hand.old || is_driven_full result) }
     ensures full { result ≡ Driven.Full → IfSome (H.front hand.new) IsFull }
+    ensures known { HandGoesOn H.entries H.known hand.old hand.new }
 {
     match begun {
         Ok(mut machine) => {

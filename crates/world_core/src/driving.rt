@@ -2,7 +2,7 @@ ghost use Rattle.std.specs.Prelude.{◌≡◌, ◌≢◌, ◌⊎◌, ◌||◌, L
 ghost use Rattle.bucket_core.specs.Asking.{Call};
 ghost use Rattle.world_core.specs.Asking.{IsAllAsked};
 ghost use Rattle.world_core.specs.Keeping.{IsFull};
-ghost use Rattle.world_core.specs.Machines.{Drives, is_driven_full};
+ghost use Rattle.world_core.specs.Machines.{Drives, HandGoesOn, is_driven_full};
 ghost use Rattle.world_core.specs.Worlds.{WorldGoesOn};
 
 use crate::{Act, Acted, Driven, Hand, Machine, World, WorldHand};
@@ -12,6 +12,7 @@ use bucket_core::Bucket;
 /// Runs a machine to its end, or until as many operations are answered as `stop` says.
 ///
 /// A stop after the last operation of a run wins over the run's end. A stop at 0 stops nothing.
+#[tactic(auto, using(crate::proofs::Numbers::none_added, crate::proofs::Numbers::one_more))]
 pub fn drive<M: Machine, H: Hand>(
     machine: &mut M,
     hand: &mut H,
@@ -26,6 +27,7 @@ pub fn drive<M: Machine, H: Hand>(
         → IsTrue (H.wanted hand.old) ⊎ (result ≡ Driven.NoMemory) }
     ensures refused { H.refused hand.new ≡ (H.refused hand.old || is_driven_full result) }
     ensures full { result ≡ Driven.Full → IfSome (H.front hand.new) IsFull }
+    ensures known { HandGoesOn H.entries H.known hand.old hand.new }
 {
     let mut op = match machine.first() {
         Ok(Act::Do(op)) => op,

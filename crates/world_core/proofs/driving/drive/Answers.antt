@@ -1,5 +1,7 @@
 use Rattle.std.proofs.Common.{rules, refl, ◌∙◌, ap, [], ◌∷◌, ◌++◌, arith}
 use Rattle.world_core.specs.Operations.{entry_of}
+use Rattle.world_core.specs.declared.acted.Acted.TheVariants.{Done}
+use Rattle.world_core.proofs.Numbers.{one_more}
 use Rattle.world_core.proofs.Turns.{ends, stops, goes_on, still_unwanted}
 use Rattle.world_core.proofs.driving.drive.Goals as goal
 
@@ -36,4 +38,7 @@ turns-preserved g c = record {
   refused = search rules;
   wanted = λ now. still_unwanted _ _ _ _ c.turns.invariant.wanted c.in-Done.ensures.wanted (λ e. cc) now;
   keeps = g.met.H.Hand.keeps_more _ _ _ c.turns.invariant.keeps c.in-Done.ensures.keeps;
+  known =
+      one_more g.H.Hand.entries g.H.Hand.known _ _ _ (g.H.Hand.seat c.turns.hand) c.turns.op (Done c.in-Done.seen) c.turns.invariant.known c.in-Done.ensures.entries c.in-Done.ensures.above
+      c.in-Done.ensures.within c.in-Done.ensures.known;
 }

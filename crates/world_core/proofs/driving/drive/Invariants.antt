@@ -1,4 +1,5 @@
 use Rattle.std.proofs.Common.{◌≡◌, IsTrue}
+use Rattle.world_core.specs.Machines.{HandGoesOn}
 use Rattle.world_core.proofs.Turns.{Waiting}
 use Rattle.world_core.proofs.driving.drive.Given as goal
 
@@ -12,6 +13,7 @@ invariant-turns g l =
       refused : h.refused l.hand ≡ h.refused l.fn.hand;
       wanted : IsTrue (h.wanted l.hand) → IsTrue (h.wanted l.fn.hand);
       keeps : h.keeps l.fn.hand l.hand;
+      known : HandGoesOn h.entries h.known l.fn.hand l.hand;
     }
 
 abbrev pub decreases-turns : goal.decreases-turns
