@@ -5,8 +5,8 @@ NF {
     crate[count] = $2
     sub(/::.*/, "", crate[count])
     if (!written && crate[count] ~ /^(shipper|block_writing|xor_chunks|index_writing)$/) written = count
-    if (!looked && crate[count] ~ /^(meta_fetcher|series_calls|block_ranges|index_slices)$/) looked = count
-    if (looked && crate[count] ~ /^(compactor|compaction_inputs|block_merging)$/) {
+    if (!looked && crate[count] ~ /^(meta_fetcher|store_calls|index_parts)$/) looked = count
+    if (looked && crate[count] ~ /^(compactor|block_merging)$/) {
         if (!merged) merged = count
         last = count
     }

@@ -17,7 +17,7 @@ trap 'rm -rf "$made"' EXIT
 own=$made/crates/block_c
 mkdir -p "$own/src"
 cp "$top/bench/block_c/lib.rt.txt" "$own/src/lib.rt"
-below="list_core reading_core wire_bytes ulid_core label_sets block_keys block_meta block_files wire_bits xor_chunks chunk_files index_parts section_writers index_file index_writing block_writing"
+below="base wire_bytes ulid_core label_sets block_keys block_meta xor_chunks chunk_files index_parts index_writing block_writing"
 for name in $below; do cp -a "$top/crates/$name" "$made/crates/$name"; done
 for name in $below; do grep "^$name:" "$top/crates.txt"; done >"$made/crates.txt"
 echo "block_c staticlib: $below" >>"$made/crates.txt"

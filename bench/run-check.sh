@@ -17,7 +17,7 @@ trap 'rm -rf "$made"' EXIT
 own=$made/crates/check_c
 mkdir -p "$own/src"
 cp "$top/bench/check_c/lib.rt.txt" "$own/src/lib.rt"
-below="list_core reading_core wire_bytes ulid_core label_sets block_keys block_meta block_files wire_bits xor_chunks chunk_files index_parts index_slices index_file index_v2 block_content"
+below="base wire_bytes ulid_core label_sets block_keys block_meta xor_chunks chunk_files index_parts index_v2 block_content"
 for name in $below; do cp -a "$top/crates/$name" "$made/crates/$name"; done
 for name in $below; do grep "^$name:" "$top/crates.txt"; done >"$made/crates.txt"
 echo "check_c staticlib: $below" >>"$made/crates.txt"

@@ -15,10 +15,10 @@ trap 'rm -rf "$made"' EXIT
 own=$made/crates/index_c
 mkdir -p "$own/src"
 cp "$top/bench/index_c/lib.rt.txt" "$own/src/lib.rt"
-below="list_core reading_core wire_bytes label_sets index_parts section_writers index_slices index_file index_writing index_v2"
+below="base wire_bytes label_sets index_parts index_writing index_v2"
 for name in $below; do cp -a "$top/crates/$name" "$made/crates/$name"; done
 for name in $below; do grep "^$name:" "$top/crates.txt"; done >"$made/crates.txt"
-echo "index_c staticlib: list_core wire_bytes label_sets index_parts section_writers index_slices index_file index_writing index_v2" >>"$made/crates.txt"
+echo "index_c staticlib: base wire_bytes label_sets index_parts index_writing index_v2" >>"$made/crates.txt"
 (cd "$own" && rt lib --cpu "$cpu" >"$made/lib.log" 2>&1) || { tail -20 "$made/lib.log"; exit 1; }
 
 sed '/^fn main() {$/,$d' "$limit" >"$made/index.rs"

@@ -18,7 +18,7 @@ trap 'rm -rf "$made"' EXIT
 own=$made/crates/merge_c
 mkdir -p "$own/src"
 cp "$top/bench/merge_c/lib.rt.txt" "$own/src/lib.rt"
-below="list_core reading_core wire_bytes ulid_core label_sets block_keys block_meta block_files wire_bits xor_chunks chunk_files index_parts section_writers index_slices index_file index_writing index_v2 block_writing block_content block_laws vertical_merge block_merging"
+below="base wire_bytes ulid_core label_sets block_keys block_meta xor_chunks chunk_files index_parts index_writing index_v2 block_writing block_content block_merging vertical_merge"
 for name in $below; do cp -a "$top/crates/$name" "$made/crates/$name"; done
 for name in $below; do grep "^$name:" "$top/crates.txt"; done >"$made/crates.txt"
 echo "merge_c staticlib: $below" >>"$made/crates.txt"

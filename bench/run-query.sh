@@ -20,7 +20,7 @@ trap 'rm -rf "$made"' EXIT
 own=$made/crates/query_c
 mkdir -p "$own/src"
 cp "$top/bench/query_c/lib.rt.txt" "$own/src/lib.rt"
-below="list_core reading_core wire_bytes ulid_core label_sets moment_core block_keys block_meta wire_bits xor_chunks chunk_files index_parts section_writers index_slices index_file index_writing index_v2 index_cache block_files block_writing block_content sync_filters matchers vertical_merge series_selection bucket_core world_core shipper meta_fetcher read_ranges chunk_ranges block_ranges series_calls"
+below="base wire_bytes ulid_core label_sets moment_core block_keys block_meta xor_chunks chunk_files index_parts index_writing index_v2 store_ranges block_writing block_content sync_filters matchers vertical_merge series_selection bucket_core world_core shipper meta_fetcher store_chunks store_calls"
 for name in $below; do cp -a "$top/crates/$name" "$made/crates/$name"; done
 for name in $below; do grep "^$name:" "$top/crates.txt"; done >"$made/crates.txt"
 echo "query_c staticlib: $below" >>"$made/crates.txt"

@@ -11,7 +11,7 @@ trap 'rm -rf "$made"' EXIT
 # A repository of its own for the function that C calls, over this one's crates and what their checks kept.
 mkdir -p "$made/crates/script_core_c/src"
 cp "$top/bench/script_core_c/lib.rt.txt" "$made/crates/script_core_c/src/lib.rt"
-below="list_core reading_core wire_bytes ulid_core label_sets moment_core matchers script_workers script_fields script_core"
+below="base wire_bytes ulid_core label_sets moment_core matchers script_workers script_fields script_core"
 for name in $below; do cp -a "$top/crates/$name" "$made/crates/$name"; done
 for name in $below; do grep "^$name:" "$top/crates.txt"; done >"$made/crates.txt"
 echo "script_core_c staticlib: script_core" >>"$made/crates.txt"

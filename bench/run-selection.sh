@@ -18,10 +18,10 @@ trap 'rm -rf "$made"' EXIT
 own=$made/crates/selection_c
 mkdir -p "$own/src" "$own/c"
 cp "$top/bench/selection_c/lib.rt.txt" "$own/src/lib.rt"
-below="list_core reading_core wire_bytes label_sets index_parts index_slices index_file index_v2 matchers series_selection"
+below="base wire_bytes label_sets index_parts index_v2 matchers series_selection"
 for name in $below; do cp -a "$top/crates/$name" "$made/crates/$name"; done
 for name in $below; do grep "^$name:" "$top/crates.txt"; done >"$made/crates.txt"
-echo "selection_c staticlib: list_core wire_bytes label_sets index_parts index_slices index_file index_v2 matchers series_selection" >>"$made/crates.txt"
+echo "selection_c staticlib: base wire_bytes label_sets index_parts index_v2 matchers series_selection" >>"$made/crates.txt"
 (cd "$own" && RT_ALLOW_C=selection_c rt lib --cpu "$cpu" >"$made/lib.log" 2>&1) || { tail -20 "$made/lib.log"; exit 1; }
 
 sed '/^fn main() {$/,$d' "$limit" >"$made/selection.rs"

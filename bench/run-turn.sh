@@ -15,10 +15,10 @@ cp "$top/bench/turn_speed/main.rt.txt" "$own/src/main.rt"
 cp "$top/bench/turn_speed/many.antt.txt" "$own/proofs/many/Invariants.antt"
 touch "$own/proofs/Lib.antt"
 cp "$top/HANDLES" "$made/HANDLES"
-below="list_core reading_core wire_bytes ulid_core label_sets moment_core block_keys bucket_core world_core world_turn"
+below="base wire_bytes ulid_core label_sets moment_core block_keys bucket_core world_core world_turn"
 for name in $below; do cp -a "$top/crates/$name" "$made/crates/$name"; done
 for name in $below; do grep "^$name:" "$top/crates.txt"; done >"$made/crates.txt"
-echo "turn_speed: list_core wire_bytes ulid_core label_sets moment_core block_keys bucket_core world_core world_turn" >>"$made/crates.txt"
+echo "turn_speed: base wire_bytes ulid_core label_sets moment_core block_keys bucket_core world_core world_turn" >>"$made/crates.txt"
 (cd "$own" && rt run --cpu "$cpu" >"$made/lines" 2>"$made/run.log") || { tail -20 "$made/run.log"; exit 1; }
 
 awk '$1 ~ /^(one|two)$/ && NF == 3 {

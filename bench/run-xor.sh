@@ -13,10 +13,10 @@ trap 'rm -rf "$made"' EXIT
 # A repository of its own for the functions that C calls, over this one's crates and what their checks kept.
 mkdir -p "$made/crates/xor_chunks_c/src"
 cp "$top/bench/xor_chunks_c/lib.rt.txt" "$made/crates/xor_chunks_c/src/lib.rt"
-below="list_core reading_core wire_bytes label_sets wire_bits xor_chunks"
+below="base wire_bytes label_sets xor_chunks"
 for name in $below; do cp -a "$top/crates/$name" "$made/crates/$name"; done
 for name in $below; do grep "^$name:" "$top/crates.txt"; done >"$made/crates.txt"
-echo "xor_chunks_c staticlib: list_core wire_bytes label_sets xor_chunks" >>"$made/crates.txt"
+echo "xor_chunks_c staticlib: base wire_bytes label_sets xor_chunks" >>"$made/crates.txt"
 (cd "$made/crates/xor_chunks_c" && rt lib --cpu "$cpu" >"$made/lib.log" 2>&1) || { tail -20 "$made/lib.log"; exit 1; }
 
 sed '/^fn main() {$/,$d' "$limit" >"$made/xor.rs"

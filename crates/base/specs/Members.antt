@@ -2,7 +2,7 @@
 --
 -- A loop of the code keeps `members_at read i start ≡ Ok (what was read so far, what is left)`, as in
 --
---     #[tactic(auto, using(reading_core::proofs::Counted::loop_start))]
+--     #[tactic(auto, using(base::proofs::Counted::loop_start))]
 --     fn names_of(alloc: Global, count: u32, bytes: &[u8]) -> Result<(Vec<Name>, &[u8]), Refusal>
 --         ensures { Gives Refusal.NoMemory (λ x. (views x.0.items, x.1.now)) result (names_at count bytes.now) }
 --     {

@@ -3,7 +3,7 @@
 //! specifications of ULIDs, RFC 3339 and RFC 3720 and from a Prometheus server (2.42), and else was worked out by hand.
 #![tactic(auto)]
 
-mod base;
+mod basics;
 mod indexes;
 mod labels;
 mod metas;
@@ -34,7 +34,7 @@ fn do_row(rt: &HostRuntime, index: &mut Vec<u8>, row: &str) {
             put(rt, " -> ");
             let (word, text) = cut(call);
             match table {
-                "base" => base::print_call(rt, word, text),
+                "base" => basics::print_call(rt, word, text),
                 "labels" => labels::print_call(rt, word, text),
                 "metas" => metas::print_call(rt, word, text),
                 "scripts" => scripts::print_call(rt, call),

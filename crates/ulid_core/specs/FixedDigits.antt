@@ -1,2 +1,2 @@
--- Numbers in a fixed count of digits stand in reading_core.
+-- Numbers in a fixed count of digits stand in base.
 unfoldable pub use Rattle.base.specs.FixedDigits.{fixed_digits}

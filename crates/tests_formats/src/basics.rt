@@ -5,4 +5,4 @@ mod bytes;
 mod rows;
 mod written;
 
-pub(crate) use crate::base::rows::print_call;
+pub(crate) use crate::basics::rows::print_call;

@@ -1,5 +1,5 @@
-use crate::base::bytes::print_bytes;
-use crate::base::written::print_written;
+use crate::basics::bytes::print_bytes;
+use crate::basics::written::print_written;
 use crate::says::{copied, cut, put, say, show};
 use base::{read_signed, read_unsigned};
 use block_keys::Key;
