@@ -94,9 +94,8 @@ impl<B: Bucket> LineHand<B> {
 impl<B: Bucket> Hand for LineHand<B> {
     ghost use Rattle.std.specs.Prelude.{◌≡◌, ◌⊎◌, ◌++◌, ◌||◌, ◌<◌, ◌≤◌, IsTrue, Some, length};
     ghost use Rattle.world_core.specs.Keeping.{IsFull};
-    ghost use Rattle.world_core.specs.Machines.{gained, IfDone, is_full};
+    ghost use Rattle.world_core.specs.Machines.{gained, IfDone, is_full, is_wanting};
     ghost use Rattle.world_core.specs.Operations.{IsLawful, IsAnswer};
-    ghost use Rattle.world_turn.specs.Turns.{is_wanting};
     ghost use Rattle.run_notes.specs.LineHands.{KeepsRun, keeps_run-none, keeps_run-more};
 
     ghost entries = { λ hand. hand.world.journal };

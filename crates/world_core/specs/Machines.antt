@@ -45,6 +45,11 @@ abbrev pub is_full : Acted → Bool
 is_full answer.Full = true
 is_full other = false
 
+-- memory was wanted for the operation
+abbrev pub is_wanting : Acted → Bool
+is_wanting answer.NoMemory = true
+is_wanting other = false
+
 -- the operation was done, and the call failed
 abbrev pub is_failed : Acted → Bool
 is_failed (answer.Done seen) = has_failed seen.reply
@@ -59,15 +64,6 @@ abbrev pub IfNotDone : Acted → Type 0 → Type 0
 IfNotDone (answer.Done seen) P = Unit {0}
 IfNotDone other P = P
 
--- What a hand has added from `old` to `new`. Each entry has a greater number than the last that the hand had seen before, and none
--- has a greater one than the last that it has seen now.
-pub record HandGoesOn {H : Type 0} (entries : H → List Entry) (known : H → ℕ) (old new : H) : Type 0 where
-  pub made : List Entry
-  pub added : entries new ≡ entries old ++ made
-  pub above : All (λ e. known old < e.seq) made
-  pub within : All (λ e. e.seq ≤ known new) made
-  pub later : known old ≤ known new
-
 -- the end to which a machine was driven: none where it was stopped before
 abbrev pub end_of : {E : Type 0} → Driven E → Option E
 end_of (outcome.Ended end) = Some end
@@ -78,6 +74,10 @@ end_of outcome.NoMemory = None
 abbrev pub is_driven_full : {E : Type 0} → Driven E → Bool
 is_driven_full outcome.Full = true
 is_driven_full other = false
+
+abbrev pub is_driven_wanting : {E : Type 0} → Driven E → Bool
+is_driven_wanting outcome.NoMemory = true
+is_driven_wanting other = false
 
 -- A run of a seat waits for an operation: with an entry of it, however it is answered, the run goes on.
 pub record Awaits {E : Type 0} (is_run : List Entry → Option E → Type 0) (seat : ℕ) (made : List Entry) : Type 0 where
