@@ -1,3 +1,6 @@
+//! The object store that all activities work on. What a contract can say of it is what the bucket itself tells: one in
+//! memory tells what stands, one in a folder nothing of what it holds.
+
 ghost use Rattle.std.specs.Prelude.{◌≡◌, ◌≤◌, [], ◌∷◌, IfSome, option_map};
 ghost use Rattle.bucket_core.specs.Asking.{puts, gets, gets_range, deletes, lists, Asks, AsksOnce};
 ghost use Rattle.bucket_core.specs.Causes.{KeepsFaults, put_failed, get_failed, delete_failed, page_failed};

@@ -1,3 +1,6 @@
+//! A sink for tests that keeps what was written and can be made to fail at one call: so it is tried that a report which
+//! could not be written is never told as written.
+
 ghost use Rattle.std.specs.Prelude.{◌≡◌, ◌≤◌, ◌++◌, [], IfOk};
 ghost use Rattle.bucket_core.specs.Calls.{next_call};
 

@@ -1,3 +1,6 @@
+//! Where the words of a call become a bucket and a shelf. It counts what it hands out, so that a contract can say that
+//! a call opened each at most once, and none that no word names.
+
 ghost use Rattle.std.specs.Prelude.{◌≡◌, ◌+◌, is_ok, IfOk, if◌then◌else◌};
 ghost use Rattle.bucket_core.specs.Causes.{CountsFaults, opening_failed};
 ghost use Rattle.bucket_core.specs.Openings.{IsBucketAsTold, IsShelfAsTold};

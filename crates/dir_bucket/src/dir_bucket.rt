@@ -1,3 +1,6 @@
+//! A bucket that outlives its process, in a folder of the system. Nothing can be proved of what files hold, so its
+//! contract tells of failures alone, each of which is counted.
+
 ghost use Rattle.std.specs.Prelude.{◌≡◌, ℕ, ◌≤◌, ◌^◌, Err, IfOk, IsTrue, None, false, vec_len};
 ghost use Rattle.std.specs.String.{string_bytes};
 ghost use Rattle.bucket_core.specs.Causes.{CountsFaults, Rose, get_failed};

@@ -1,3 +1,6 @@
+//! The shelf of a run: the blocks in a folder as Prometheus leaves them there, which are only read. It tells which
+//! files it was asked for, so that a contract can say that a check reads each file of its block once.
+
 ghost use Rattle.std.specs.Prelude.{◌≡◌, ◌≤◌, [], Some, IfOk, false};
 ghost use Rattle.std.specs.String.{string_bytes};
 ghost use Rattle.bucket_core.specs.Causes.{CountsFaults, file_failed};

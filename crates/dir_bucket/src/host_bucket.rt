@@ -1,3 +1,6 @@
+//! One type for both kinds of bucket that a word can name, as a site hands out one type. The notes of its calls take no
+//! memory: they are there for contracts.
+
 ghost use Rattle.std.specs.Prelude.{◌≡◌};
 
 use crate::DirBucket;

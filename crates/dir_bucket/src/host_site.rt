@@ -1,3 +1,5 @@
+//! The outside of the program: `memory` is a bucket that begins empty, and each other word names a folder.
+
 ghost use Rattle.std.specs.Prelude.{◌≡◌, [], None, Some, IfOk, IfSome};
 ghost use Rattle.dir_bucket.specs.Folders.{names_noted, shelf_faults, shelf_folder};
 ghost use Rattle.dir_bucket.specs.HostBucket.{calls_noted, contents_told, faults_counted as bucket_faults, folder_of, IsQuiet};

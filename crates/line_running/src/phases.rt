@@ -1,3 +1,6 @@
+//! The phases of a script, whose tasks one hand does in the order of their lines. What a phase reports joins the rest
+//! only once it is finished, so a run that breaks off reports whole phases alone.
+
 ghost use Rattle.std.specs.Prelude.{◌≡◌, ◌≢◌, ◌++◌, ◌+◌, ◌<◌, ◌&&◌, [], ◌∷◌, true, false, length, take, List, Ok, Err, Some, IsTrue, IfOk, OnErr, OnOk, MatchResult, slice_get};
 ghost use Rattle.std.specs.List.{All};
 ghost use Rattle.world_core.specs.Keeping.{IsFull};

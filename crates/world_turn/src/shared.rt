@@ -1,13 +1,16 @@
+//! A world that threads share by turns: whoever has the turn takes the world, does one operation on it and lays it
+//! back. A worker has a pass, of which proofs know what the journal had at least when it was used last.
+
 ghost use Rattle.std.specs.Prelude.{◌≡◌, false, List, ℕ, ◌+◌, ◌<◌, ◌^◌, ◌-◌, [], ◌∷◌, Some, None, IfOk, IfErr, MatchResult};
 ghost use Rattle.bucket_core.specs.Asking.{Call};
 ghost use Rattle.world_core.specs.Asking.{IsAllAsked};
-ghost use Rattle.world_core.specs.Machines.{is_full};
+ghost use Rattle.world_core.specs.Machines.{is_full, is_wanting};
 ghost use Rattle.world_core.specs.Operations.{IsLawful};
 ghost use Rattle.world_turn.specs.Closing.{AllJoined, Closes};
 ghost use Rattle.world_turn.specs.Opening.{ComesFrom, opening_of};
 ghost use Rattle.world_turn.specs.Passes.{table_of, view_of};
 ghost use Rattle.world_turn.specs.Rule.{root};
-ghost use Rattle.world_turn.specs.Turns.{Acts, IsLater, IsNew, IsSplit, IsJoined, Looks, is_wanting};
+ghost use Rattle.world_turn.specs.Turns.{Acts, IsLater, IsNew, IsSplit, IsJoined, Looks};
 
 use crate::plays::{Compare, Look, Seating, Turns};
 use crate::view::View;
