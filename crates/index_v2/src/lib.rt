@@ -4,7 +4,6 @@
 mod budget;
 mod difference;
 mod index_reader;
-mod lent_label;
 mod lent_order;
 mod lent_parts;
 mod lent_series;
@@ -21,8 +20,7 @@ mod whole;
 pub use budget::{READ_SHARE, TEXT_SHARE, spend};
 pub use index_parts::{IndexSeries, IndexSeriesList};
 pub use index_reader::IndexReader;
-pub use lent_label::LentLabel;
 pub use lent_order::compare_lent;
 pub use lent_parts::IndexParts;
-pub use lent_series::{LentSeries, set_of};
+pub use lent_series::{LentLabel, LentSeries, set_of};
 pub use refusal::IndexRefusal;
