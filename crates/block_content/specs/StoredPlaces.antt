@@ -7,7 +7,7 @@ use Rattle.base.specs.Reading.{◌>>=◌, refused_as}
 use Rattle.label_sets.specs.declared.sample.Sample.{Sample}
 use Rattle.xor_chunks.specs.Data.{data_at}
 use Rattle.xor_chunks.specs.declared.refusal.XorRefusal.TheVariants as xor
-use Rattle.xor_chunks.specs.declared.sample_span.SampleSpan.{SampleSpan}
+use Rattle.xor_chunks.specs.declared.spanning.SampleSpan.{SampleSpan}
 use Rattle.xor_chunks.specs.Spans.{span_of}
 use Rattle.xor_chunks.specs.Widths.{stored_filling}
 use Rattle.index_parts.specs.declared.chunk_place.ChunkPlace.{ChunkPlace}

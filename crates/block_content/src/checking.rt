@@ -1,11 +1,10 @@
 //! Whether a block may be shipped.
-ghost use Rattle.std.specs.Prelude.{◌≡◌, ◌⊎◌, Ok, Err, MatchResult};
+ghost use Rattle.std.specs.Prelude.{◌≡◌, ◌⊎◌, Err, MatchResult};
 ghost use Rattle.std.specs.List.{AllByRecursion};
 ghost use Rattle.base.specs.Grammar.{IsBytes};
 ghost use Rattle.base.specs.Reading.{Answers};
-ghost use Rattle.block_content.specs.ContentReading.{index_at};
 ghost use Rattle.block_content.specs.Verdict.{IsVerdict};
-ghost use Rattle.block_content.specs.CheckReading.{is_alone, own_at, some_at, check_at, indexed_at, HaveCounts};
+ghost use Rattle.block_content.specs.CheckReading.{is_alone, own_at, some_at, check_at, HaveCounts};
 
 use crate::chunk_order::first_repeated;
 use crate::chunk_reading::look_at;
@@ -13,7 +12,7 @@ use crate::counting::{count_all, test_found};
 use crate::index_reading::read_index;
 use crate::{CheckRefusal, Checked};
 use block_meta::{BlockFiles, Meta};
-use index_v2::{IndexSeries, IndexSeriesList};
+use index_v2::LentSeries;
 use std::alloc::Global;
 use ulid_core::Ulid;
 use wire_bytes::Blob;
@@ -53,7 +52,7 @@ fn count_some(
     alloc: Global,
     meta: &Meta,
     segments: &[Blob],
-    indexed: &[IndexSeries],
+    indexed: &[LentSeries<'_>],
 ) -> Result<(u64, u64), CheckRefusal>
     ensures exact { MatchResult result
         (HaveCounts (some_at meta.now segments.now indexed.now))
@@ -89,26 +88,6 @@ fn count_block(
     count_some(alloc, meta, segments, indexed.members())
 }
 
-/// The same of a block whose index was read.
-#[tactic(auto, unfolding(crate::specs::CheckReading::indexed_at))]
-fn count_indexed(
-    alloc: Global,
-    ulid: Ulid,
-    meta: &Meta,
-    segments: &[Blob],
-    indexed: &[IndexSeries],
-) -> Result<(u64, u64), CheckRefusal>
-    ensures exact { MatchResult result
-        (HaveCounts (indexed_at ulid meta.now segments.now indexed.now))
-        (λ e. (e ≡ CheckRefusal.NoMemory)
-        ⊎ (indexed_at ulid meta.now segments.now indexed.now ≡ Err e)) }
-    ensures bytes { AllByRecursion IsBytes segments.now }
-{
-    look_at(segments);
-    test_meta(ulid, meta)?;
-    count_some(alloc, meta, segments, indexed)
-}
-
 /// Tests whether a block may be shipped under a ULID. The files of a refused block are dropped.
 pub fn check(alloc: Global, ulid: Ulid, files: BlockFiles) -> Result<Checked, CheckRefusal>
     ensures { IsVerdict ulid files result }
@@ -119,27 +98,6 @@ pub fn check(alloc: Global, ulid: Ulid, files: BlockFiles) -> Result<Checked, Ch
         &files.meta,
         files.index.bytes(),
         files.segments.members(),
-    )?;
-    Ok(Checked::new(ulid, files, series, samples))
-}
-
-/// Tests whether a block may be shipped under a ULID, as `check` does, where the series of its index were read before.
-pub fn check_indexed(
-    alloc: Global,
-    ulid: Ulid,
-    files: BlockFiles,
-    indexed: &IndexSeriesList,
-) -> Result<Checked, CheckRefusal>
-    requires bytes { IsBytes files.index }
-    requires read { index_at files.index ≡ Ok indexed.now }
-    ensures { IsVerdict ulid files result }
-{
-    let (series, samples) = count_indexed(
-        alloc,
-        ulid,
-        &files.meta,
-        files.segments.members(),
-        indexed.members(),
     )?;
     Ok(Checked::new(ulid, files, series, samples))
 }

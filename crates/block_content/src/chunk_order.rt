@@ -6,7 +6,7 @@ ghost use Rattle.block_content.specs.StoredPlaces.{comes_behind, places_of, asce
 
 use crate::places::place_number;
 use index_parts::ChunkPlace;
-use index_v2::{IndexSeries, LentSeries};
+use index_v2::LentSeries;
 
 fn begins_after(before: Option<ChunkPlace>, chunk: &ChunkPlace) -> bool
     ensures { result ≡ begins_after before chunk.now }
@@ -32,23 +32,7 @@ fn follow(chunks: &[ChunkPlace]) -> bool
 }
 
 /// The first series whose chunks do not follow one another in time.
-pub(crate) fn first_repeated(indexed: &[IndexSeries]) -> Option<u32>
-    ensures { MatchOption result (first_at repeated_in indexed.now ≡ None)
-        (λ found. (place : ℕ) × (first_at repeated_in indexed.now ≡ Some (place, tt))
-        × (found ≡ fitted place)) }
-{
-    let mut series = 0u32;
-    for one in indexed {
-        if !follow(one.chunks.members()) {
-            return Some(series);
-        }
-        series = series.saturating_add(1);
-    }
-    None
-}
-
-/// The same of lent series.
-pub(crate) fn lent_repeated(indexed: &[LentSeries<'_>]) -> Option<u32>
+pub(crate) fn first_repeated(indexed: &[LentSeries<'_>]) -> Option<u32>
     ensures { MatchOption result (first_at repeated_in indexed.now ≡ None)
         (λ found. (place : ℕ) × (first_at repeated_in indexed.now ≡ Some (place, tt))
         × (found ≡ fitted place)) }
@@ -74,24 +58,7 @@ fn comes_behind(before: Option<u64>, number: u64) -> bool
 }
 
 /// Whether each chunk of these series stands behind the one before it, so that no two stand at one place.
-pub(crate) fn places_ascend(indexed: &[IndexSeries]) -> bool
-    ensures { result ≡ ascend None (places_of indexed.now) }
-{
-    let mut before = None;
-    for one in indexed {
-        for place in one.chunks.members() {
-            let number = place_number(*place);
-            if !comes_behind(before, number) {
-                return false;
-            }
-            before = Some(number);
-        }
-    }
-    true
-}
-
-/// The same of lent series.
-pub(crate) fn lent_places_ascend(indexed: &[LentSeries<'_>]) -> bool
+pub(crate) fn places_ascend(indexed: &[LentSeries<'_>]) -> bool
     ensures { result ≡ ascend None (places_of indexed.now) }
 {
     let mut before = None;

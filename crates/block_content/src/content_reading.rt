@@ -10,7 +10,7 @@ ghost use Rattle.index_parts.specs.declared.index_series.IndexSeries.{IndexSerie
 ghost use Rattle.index_parts.specs.IndexFile.{IsIndex};
 ghost use Rattle.block_content.specs.Content.{IsContent};
 ghost use Rattle.block_content.specs.ContentRefusals.{RefusesContent};
-ghost use Rattle.block_content.specs.ContentReading.{index_at, list_of, chunk_bytes, contents_at, content_at, AreFew, ListsFew, WalksChunks, WalksSeries};
+ghost use Rattle.block_content.specs.ContentReading.{index_at, series_of, list_of, chunk_bytes, series_bytes, contents_at, content_at, AreFew, ListsFew, WalksChunks, WalksSeries};
 
 use crate::CheckRefusal;
 use crate::chunk_order::first_repeated;
@@ -20,7 +20,7 @@ use crate::index_reading::read_index;
 use base::List;
 use block_meta::{BlockFiles, Meta};
 use index_parts::ChunkPlace;
-use index_v2::IndexSeries;
+use index_v2::{LentSeries, set_of};
 use label_sets::{Sample, Series, SeriesList};
 use std::alloc::Global;
 use wire_bytes::Blob;
@@ -49,25 +49,40 @@ fn series_samples(
     Ok(samples)
 }
 
+/// A series of an index with its samples.
+fn series_of(
+    alloc: Global,
+    segments: &[Blob],
+    number: u32,
+    one: &LentSeries<'_>,
+) -> Result<Series, CheckRefusal>
+    ensures read { WalksChunks segments.now number one.now.chunks
+        (λ series parts. series ≡ series_of one.now parts) result }
+    ensures few { IfOk result
+        (λ series. length series.samples ≤ 8 * series_bytes segments.now one.now) }
+{
+    let samples = series_samples(alloc, segments, number, one.chunks())?;
+    Ok(Series {
+        labels: set_of(alloc, one.labels())?,
+        samples: List::from_vec(samples),
+    })
+}
+
 /// The series of an index, each with its samples.
 fn all_series(
     alloc: Global,
     segments: &[Blob],
-    indexed: Vec<IndexSeries>,
-) -> Result<Vec<Series>, CheckRefusal>
-    ensures read { WalksSeries segments.now indexed.items
-        (λ made parts. made.items ≡ list_of indexed.items parts) result }
-    ensures few { IfOk result (λ made. AreFew segments.now indexed.items made.items) }
+    indexed: &[LentSeries<'_>],
+) -> Result<SeriesList, CheckRefusal>
+    ensures read { WalksSeries segments.now indexed.now
+        (λ made parts. made ≡ list_of indexed.now parts) result }
+    ensures few { IfOk result (λ made. AreFew segments.now indexed.now made) }
 {
-    let mut made = Vec::new(alloc);
-    let mut series = 0u32;
+    let mut made = SeriesList::new(alloc);
+    let mut number = 0u32;
     for one in indexed {
-        let samples = series_samples(alloc, segments, series, one.chunks.members())?;
-        made.push(Series {
-            labels: one.labels,
-            samples: List::from_vec(samples),
-        })?;
-        series = series.saturating_add(1);
+        made.push(series_of(alloc, segments, number, one)?)?;
+        number = number.saturating_add(1);
     }
     Ok(made)
 }
@@ -117,6 +132,5 @@ fn read_content(
     let indexed = read_index(alloc, index)?;
     let counts = count_all(alloc, meta, segments, indexed.members())?;
     test_found(counts.outside, first_repeated(indexed.members()))?;
-    let list = all_series(alloc, segments, indexed.into_vec())?;
-    Ok(List::from_vec(list))
+    all_series(alloc, segments, indexed.members())
 }

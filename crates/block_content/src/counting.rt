@@ -1,5 +1,5 @@
 //! Counting what a block holds, chunk by chunk and series by series. No samples are kept, and the data at a place is read once.
-ghost use Rattle.std.specs.Prelude.{◌≡◌, ◌^◌, ◌-◌, ◌×◌, min, length, option_map, OnOk};
+ghost use Rattle.std.specs.Prelude.{◌≡◌, ◌^◌, ◌-◌, min, length, option_map, OnOk};
 ghost use Rattle.base.specs.Firsts.{or_else, first_at};
 ghost use Rattle.base.specs.Lists.{joined};
 ghost use Rattle.label_sets.specs.Counts.{sample_count};
@@ -7,13 +7,13 @@ ghost use Rattle.block_content.specs.CheckReading.{found_at, IsFirstFound};
 ghost use Rattle.block_content.specs.ContentReading.{list_of, first_time, first_outside, MadeOfChunk, WalksChunks, WalksSeries};
 ghost use Rattle.block_content.specs.StoredPlaces.{AreFound};
 
-use crate::chunk_order::{lent_places_ascend, places_ascend};
+use crate::chunk_order::places_ascend;
 use crate::chunk_reading::{refused_chunk, test_span};
 use crate::places::{Places, find};
 use crate::{CheckRefusal, ChunkCause};
 use block_meta::Meta;
 use index_parts::ChunkPlace;
-use index_v2::{IndexSeries, LentSeries};
+use index_v2::LentSeries;
 use std::alloc::Global;
 use wire_bytes::Blob;
 
@@ -111,31 +111,6 @@ pub(crate) fn count_all(
     alloc: Global,
     meta: &Meta,
     segments: &[Blob],
-    indexed: &[IndexSeries],
-) -> Result<Counts, CheckRefusal>
-    ensures read { WalksSeries segments.now indexed.now
-        (λ counts parts. (counts.samples ≡ sample_count (list_of indexed.now parts))
-        × IsFirstFound (first_at (first_outside meta.now) (list_of indexed.now parts))
-        counts.outside) result }
-{
-    let mut places = Places::new(alloc, !places_ascend(indexed));
-    let mut samples = 0u64;
-    let mut outside = None;
-    let mut series = 0u32;
-    for one in indexed {
-        let counted = count_series(alloc, meta, segments, series, one.chunks.members(), &mut places)?;
-        samples = samples.saturating_add(counted.samples);
-        outside = found_or_this(outside, series, counted.outside);
-        series = series.saturating_add(1);
-    }
-    Ok(Counts { samples, outside })
-}
-
-/// The same where the index lends the texts of the series' labels.
-pub(crate) fn count_lent(
-    alloc: Global,
-    meta: &Meta,
-    segments: &[Blob],
     indexed: &[LentSeries<'_>],
 ) -> Result<Counts, CheckRefusal>
     ensures read { WalksSeries segments.now indexed.now
@@ -143,7 +118,7 @@ pub(crate) fn count_lent(
         × IsFirstFound (first_at (first_outside meta.now) (list_of indexed.now parts))
         counts.outside) result }
 {
-    let mut places = Places::new(alloc, !lent_places_ascend(indexed));
+    let mut places = Places::new(alloc, !places_ascend(indexed));
     let mut samples = 0u64;
     let mut outside = None;
     let mut series = 0u32;

@@ -6,17 +6,17 @@ ghost use Rattle.block_content.specs.ContentReading.{index_at, refused_index, Li
 
 use crate::CheckRefusal;
 use base::List;
-use index_v2::{IndexReader, IndexRefusal, IndexSeriesList, LentSeries};
+use index_v2::{IndexReader, IndexRefusal, LentSeries};
 use std::alloc::Global;
 
-/// All series of an index.
+/// All series of an index, which lends the texts of their labels.
 #[tactic(auto, unfolding(crate::specs::ContentReading::index_at))]
-fn whole_index(alloc: Global, index: &[u8]) -> Result<IndexSeriesList, IndexRefusal>
+fn lent_index(alloc: Global, index: &[u8]) -> Result<List<LentSeries<'_>>, IndexRefusal>
     ensures exact { Gives IndexRefusal.NoMemory (λ list. list) result (index_at index.now) }
     ensures few { IfOk result (ListsFew index.now) }
 {
     let reader = IndexReader::open(alloc, index)?;
-    reader.whole(alloc)
+    reader.whole_lent(alloc)
 }
 
 /// An index' refusal, as the block's.
@@ -29,31 +29,8 @@ fn refused_index(refusal: IndexRefusal) -> CheckRefusal
     }
 }
 
-/// The series of an index, with a refusal as the block's.
-pub fn read_index(alloc: Global, index: &[u8]) -> Result<IndexSeriesList, CheckRefusal>
-    ensures exact { Gives CheckRefusal.NoMemory
-        (λ list. list) result (refused_as refused_index (index_at index.now)) }
-    ensures few { IfOk result (ListsFew index.now) }
-    ensures bytes { IsBytes index.now }
-{
-    match whole_index(alloc, index) {
-        Ok(list) => Ok(list),
-        Err(refusal) => Err(refused_index(refusal)),
-    }
-}
-
-/// All series of an index, which lends the texts of their labels.
-#[tactic(auto, unfolding(crate::specs::ContentReading::index_at))]
-fn lent_index(alloc: Global, index: &[u8]) -> Result<List<LentSeries<'_>>, IndexRefusal>
-    ensures exact { Gives IndexRefusal.NoMemory (λ list. list) result (index_at index.now) }
-    ensures few { IfOk result (ListsFew index.now) }
-{
-    let reader = IndexReader::open(alloc, index)?;
-    reader.whole_lent(alloc)
-}
-
-/// The same of series whose texts the index lends.
-pub(crate) fn read_lent(alloc: Global, index: &[u8]) -> Result<List<LentSeries<'_>>, CheckRefusal>
+/// The series of an index, which lends the texts of their labels, with a refusal as the block's.
+pub fn read_index(alloc: Global, index: &[u8]) -> Result<List<LentSeries<'_>>, CheckRefusal>
     ensures exact { Gives CheckRefusal.NoMemory
         (λ list. list) result (refused_as refused_index (index_at index.now)) }
     ensures few { IfOk result (ListsFew index.now) }

@@ -17,7 +17,7 @@ mod testing;
 
 pub use check_refusal::CheckRefusal;
 pub use checked::Checked;
-pub use checking::{check, check_indexed};
+pub use checking::check;
 pub use chunk_cause::ChunkCause;
 pub use chunk_reading::have_times_of;
 pub use content_reading::content;

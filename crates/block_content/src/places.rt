@@ -1,5 +1,5 @@
 //! What is found at the places where a block's chunks stand. Many chunks may stand at one place: its data is read once.
-ghost use Rattle.std.specs.Prelude.{◌≡◌, ◌+◌, ◌*◌, ◌^◌, ◌×◌, ℕ, List, FitsSigned, IfOk, IfErr, IfSome, OnOk};
+ghost use Rattle.std.specs.Prelude.{◌≡◌, ◌+◌, ◌*◌, ◌^◌, ℕ, List, FitsSigned, IfOk, IfErr, IfSome, OnOk};
 ghost use Rattle.std.specs.BTreeMap.{get};
 ghost use Rattle.std.specs.Int.{w64};
 ghost use Rattle.std.specs.Ordering.{nat_cmp};
@@ -104,10 +104,13 @@ fn time_outside(
         → IsText stored_filling content.now samples → time ≡ first_time meta.now samples) }
     ensures refused { IfErr result (λ cause. cause ≡ ChunkCause.Data XorRefusal.NoMemory) }
 {
-    match span {
-        Some(span) if !lies_within(meta, &span) => time_in(alloc, meta, content),
-        _ => Ok(None),
+    let Some(span) = span else {
+        return Ok(None);
+    };
+    if lies_within(meta, &span) {
+        return Ok(None);
     }
+    time_in(alloc, meta, content)
 }
 
 /// Reads the data at a place.

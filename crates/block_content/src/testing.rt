@@ -11,10 +11,10 @@ ghost use Rattle.block_content.specs.CheckReading.{IsTested};
 ghost use Rattle.block_content.specs.ContentReading.{ListsFew};
 
 use crate::CheckRefusal;
-use crate::chunk_order::lent_repeated;
+use crate::chunk_order::first_repeated;
 use crate::chunk_reading::look_at;
-use crate::counting::{count_lent, test_found};
-use crate::index_reading::read_lent;
+use crate::counting::{count_all, test_found};
+use crate::index_reading::read_index;
 use base::List;
 use block_meta::{BlockFiles, Meta};
 use index_v2::LentSeries;
@@ -32,9 +32,9 @@ fn test_files<'a>(
     ensures bytes { IsBytes index.now × AllByRecursion IsBytes segments.now }
 {
     look_at(segments);
-    let indexed = read_lent(alloc, index)?;
-    let counts = count_lent(alloc, meta, segments, indexed.members())?;
-    test_found(counts.outside, lent_repeated(indexed.members()))?;
+    let indexed = read_index(alloc, index)?;
+    let counts = count_all(alloc, meta, segments, indexed.members())?;
+    test_found(counts.outside, first_repeated(indexed.members()))?;
     Ok(indexed)
 }
 

@@ -44,9 +44,8 @@ module _ {X : Type 0} (view : X → BlockFiles) (told : Contents) (ulid : ℕ) w
   says_refuses (Err e) refusal (inl off) is = inr (broken e off)
   says_refuses (Err e) refusal (inr refused) is = inl (ap (λ (x : LoadRefusal). Err x) (err_is {A = BlockParts} e (Refused refusal) (sym refused ∙ load_refuses told ulid refusal is)))
 
--- what was read, but for the series of the index
-abbrev pub files_read : BlockFiles × List IndexSeries → BlockFiles
-files_read x = x.0
+abbrev pub files_read : BlockFiles → BlockFiles
+files_read files = files
 
 pub refused_on : {Y : Type 0} (told : Contents) (ulid : ℕ) (r : Result Y LoadRefusal) (e : LoadRefusal) (refusal : CheckRefusal) → IsErrAnd r (λ d. d ≡ e)
     → Loads (λ x. parts_of (files_read x)) (Err e) (load_at told ulid) → r ≡ Err (Refused refusal) → RefusesLoad told ulid refusal

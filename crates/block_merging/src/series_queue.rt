@@ -16,7 +16,7 @@ use crate::listing::SeriesPlace;
 use base::NoMemory;
 use block_meta::BlockFiles;
 use index_parts::ChunkPlace;
-use index_v2::{IndexReader, LentLabel, LentSeries};
+use index_v2::{IndexReader, IndexRefusal, LentLabel, LentSeries};
 use label_sets::{LabelSet, TextList};
 use std::alloc::Global;
 use std::mem::replace;
@@ -40,13 +40,16 @@ fn series_at<'a>(
     number: u32,
     room: LentSeries<'a>,
 ) -> Result<LentSeries<'a>, NoMemory>
+    requires { (series : IndexSeries)
+        × IsSeriesOf reader.now.bytes reader.now.symbols number series }
     ensures { (series : IndexSeries)
         → IsSeriesOf reader.now.bytes reader.now.symbols number series
         → IfOk result (λ read. read ≡ series) }
 {
     match reader.lent_series(number, room) {
         Ok(series) => Ok(series),
-        Err(_) => Err(NoMemory),
+        Err(IndexRefusal::NoMemory) => Err(NoMemory),
+        Err(_) => unreachable!(),
     }
 }
 

@@ -1,6 +1,6 @@
 use Rattle.std.proofs.Common.{refl, arith}
 use Rattle.block_content.proofs.Findings.{follow_step, follow_stop, follow_end}
-use Rattle.block_content.proofs.content_reading.follow.Goals as goal
+use Rattle.block_content.proofs.chunk_order.follow.Goals as goal
 
 pub loop-chunk-preserved : goal.loop-chunk-preserved
 loop-chunk-preserved c = follow_step _ _ c.loop-chunk.chunk-index _ _ _ c.loop-chunk.invariant c.loop-chunk-test.true refl c.begins_after.ensures c.if-not-begins_after.false

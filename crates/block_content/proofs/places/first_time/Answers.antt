@@ -2,7 +2,7 @@ use Rattle.std.proofs.Common.{refl, ap, ◌∙◌, Some, ℤ, arith}
 use Rattle.std.specs.Int.{w64}
 use Rattle.std.proofs.lemmas.Int.{to_z-of_z}
 use Rattle.block_content.proofs.Findings.{time_start, time_step, time_stop, time_end}
-use Rattle.block_content.proofs.content_reading.first_time.Goals as goal
+use Rattle.block_content.proofs.places.first_time.Goals as goal
 
 pub loop-sample-init : goal.loop-sample-init
 loop-sample-init c = time_start c.args.meta.now c.args.samples.now

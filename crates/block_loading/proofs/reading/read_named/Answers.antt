@@ -5,16 +5,19 @@ use Rattle.block_content.specs.ContentReading.{index_at, refused_index}
 use Rattle.block_loading.specs.Loading.{StopsAt}
 use Rattle.block_loading.specs.LoadReading.{file_at, index_in}
 use Rattle.block_loading.proofs.Stopped.{said_on, file_last, index_second}
-use Rattle.block_loading.proofs.LoadSteps.{stops, stops_first, no_index, index_read, index_stopped}
+use Rattle.block_loading.proofs.LoadSteps.{stops_index, stops_first, no_index, index_read, index_stopped}
 use Rattle.block_loading.proofs.Asked.{file_asked, file_stopped}
-use Rattle.block_loading.proofs.reading.read_series.Goals as goal
+use Rattle.block_loading.proofs.reading.read_named.Goals as goal
 
 pub returns-in_err-index-clause-read : goal.returns-in_err-index-clause-read
-returns-in_err-index-clause-read g c = λ told h. stops (λ x. (x.0, x.1)) (index_in told c.args.ulid) c.from_residual.result c.in_err-index.field-0.0 c.from_residual.ensures.1
+returns-in_err-index-clause-read g c = λ told h. stops_index (index_in told c.args.ulid) c.from_residual.result c.in_err-index.field-0.0 c.from_residual.ensures.1
     (stops_first (file_at told (Index c.args.ulid)) (index_in told c.args.ulid) c.in_err-index.field-0.0 (no_index told c.args.ulid c.in_err-index.field-0.0) (c.in_err-index.ensures.read told h))
 
-pub returns-in-Ok-clause-read : goal.returns-in-Ok-clause-read
-returns-in-Ok-clause-read g c = λ told h. index_read told c.args.ulid c.in_ok-index.index c.bytes.result.now (c.in_ok-index.ensures.read told h) c.bytes.ensures c.in-Ok.indexed (refused_as_ok refused_index (index_at c.bytes.result.now) c.in-Ok.indexed c.in-Ok.ensures.exact)
+pub returns-clause-read : goal.returns-clause-read
+returns-clause-read g c = λ told h indexed read. index_read told c.args.ulid c.in_ok-index.index c.in_ok-index.index (c.in_ok-index.ensures.read told h) refl indexed read
+
+pub returns-clause-named : goal.returns-clause-named
+returns-clause-named g c = ?
 
 pub returns-in-Err-clause-read : goal.returns-in-Err-clause-read
 returns-in-Err-clause-read g c = λ told h. index_stopped told c.args.ulid c.in_ok-index.index c.bytes.result.now (c.in_ok-index.ensures.read told h) c.bytes.ensures c.in-Err.refusal c.refused_block.result c.in-Err.ensures.exact c.refused_block.ensures
@@ -22,8 +25,8 @@ returns-in-Err-clause-read g c = λ told h. index_stopped told c.args.ulid c.in_
 pub returns-in_err-index-clause-asks : goal.returns-in_err-index-clause-asks
 returns-in_err-index-clause-asks g c = file_stopped g.F.Shelf.asked _ _ _ c.in_err-index.field-0.0 c.from_residual.result c.from_residual.ensures.1 c.in_err-index.ensures.asks
 
-pub returns-in-Ok-clause-asks : goal.returns-in-Ok-clause-asks
-returns-in-Ok-clause-asks g c = inl (file_asked g.F.Shelf.asked _ _ _ c.in_ok-index.index c.in_ok-index.ensures.asks)
+pub returns-clause-asks : goal.returns-clause-asks
+returns-clause-asks g c = inl (file_asked g.F.Shelf.asked _ _ _ c.in_ok-index.index c.in_ok-index.ensures.asks)
 
 pub returns-in-Err-clause-asks : goal.returns-in-Err-clause-asks
 returns-in-Err-clause-asks g c = inl (file_asked g.F.Shelf.asked _ _ _ c.in_ok-index.index c.in_ok-index.ensures.asks)
