@@ -1,12 +1,13 @@
 -- Walks over chunks and over series: what was read of the front, and the first refusal.
-use Rattle.std.proofs.Common.{◌≡◌, ℕ, ◌+◌, ◌-◌, ◌*◌, ◌^◌, ◌<◌, ◌≤◌, min, List, [], ◌∷◌, ◌++◌, length, take, drop, map, get_or, sum_by, Result, Ok, Err, refl, sym, ap, subst, ◌∙◌, arith, ◌⊎◌, inl, inr}
+use Rattle.std.proofs.Common.{◌≡◌, ℕ, ◌+◌, ◌-◌, ◌*◌, ◌^◌, ◌<◌, ◌≤◌, min, List, [], ◌∷◌, ◌++◌, length, take, drop, get_or, sum_by, Result, Ok, Err, refl, sym, ap, ap₂, subst, ◌∙◌, arith, ◌⊎◌, inl, inr}
 use Rattle.std.specs.Prelude.{IsErrAnd}
-use Rattle.std.specs.List.{AllByRecursion, AllZip}
+use Rattle.std.specs.List.{AllByRecursion}
 use Rattle.std.proofs.lemmas.List.{take_all, take_more, drop_more, length-append, length-take-le, take-append-drop}
 use Rattle.base.proofs.Lists.{sum_by-push, joined-push}
 use Rattle.base.proofs.Pairs.{AllZip-push}
 use Rattle.base.specs.Lists.{joined}
 use Rattle.base.specs.Grammar.{IsBytes}
+use Rattle.label_sets.specs.declared.label.Label.{Label}
 use Rattle.label_sets.specs.declared.sample.Sample.{Sample}
 use Rattle.label_sets.specs.declared.series.Series.{Series}
 use Rattle.index_parts.specs.declared.chunk_place.ChunkPlace.{ChunkPlace}
@@ -143,6 +144,16 @@ moved_stop segments series seen chunks e same stopped = subst (λ (xs : List Chu
 
 pub moved_read : (segments : List (List ℕ)) (seen chunks : List ChunkPlace) (Is : List (List Sample) → Type 0) → seen ≡ chunks → ((parts : List (List Sample)) × (each_at (chunk_at segments) seen ≡ Ok parts) × Is parts) → (parts : List (List Sample)) × (each_at (chunk_at segments) chunks ≡ Ok parts) × Is parts
 moved_read segments seen chunks Is same read = subst (λ (xs : List ChunkPlace). (parts : List (List Sample)) × (each_at (chunk_at segments) xs ≡ Ok parts) × Is parts) same read
+
+abbrev pub series_with : List Label → List Sample → Series
+series_with labels samples = record { labels = labels; samples = samples }
+
+-- a series of an index with the samples that were read
+pub one_made : (segments : List (List ℕ)) (one : IndexSeries) (seen : List ChunkPlace) (labels lent : List Label) (samples items : List Sample) → seen ≡ one.chunks → labels ≡ lent → lent ≡ one.labels → samples ≡ items
+    → ((parts : List (List Sample)) × (each_at (chunk_at segments) seen ≡ Ok parts) × (items ≡ joined parts)) → (parts : List (List Sample)) × (each_at (chunk_at segments) one.chunks ≡ Ok parts) × (series_with labels samples ≡ series_of one parts)
+one_made segments one seen labels lent samples items same told lends are read =
+    let p = moved_read segments seen one.chunks (λ parts. items ≡ joined parts) same read in
+    (p.0, p.1, ap₂ series_with (told ∙ lends) (are ∙ p.2))
 
 pub walk_stops : {X : Type 0} (segments : List (List ℕ)) (indexed : List IndexSeries) (Is : X → List (List (List Sample)) → Type 0) (result : Result X CheckRefusal) (e : CheckRefusal) → IsErrAnd result (λ d. d ≡ e) → SeriesStopped segments indexed e → WalksSeries segments indexed Is result
 walk_stops segments indexed Is (Ok x) e is why = absurd is

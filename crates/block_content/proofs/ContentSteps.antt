@@ -2,7 +2,6 @@
 use Rattle.std.proofs.Common.{◌≡◌, ℕ, List, None, Some, Ok, Err, ℤ, refl, sym, ap, ◌∙◌, ◌⊎◌, inl, inr}
 use Rattle.base.specs.Reading.{refused_as}
 use Rattle.label_sets.specs.declared.sample.Sample.{Sample}
-use Rattle.label_sets.specs.declared.series.Series.{Series}
 use Rattle.index_parts.specs.declared.index_series.IndexSeries.{IndexSeries}
 use Rattle.block_meta.specs.declared.meta.Meta.{Meta}
 use Rattle.base.specs.Firsts.{each_at, first_at}

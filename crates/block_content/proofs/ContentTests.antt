@@ -16,7 +16,7 @@ use Rattle.block_meta.specs.declared.block_files.BlockFiles.{BlockFiles}
 use Rattle.block_content.specs.Content.{IsContent}
 use Rattle.block_content.specs.ContentRefusals.{RefusesContent}
 use Rattle.base.specs.Firsts.{each_at, first_at}
-use Rattle.block_content.specs.ContentReading.{WalksSeries, ListsFew, chunks_at, list_of, first_outside, repeated_in, fitted, refused_index, index_at, contents_at}
+use Rattle.block_content.specs.ContentReading.{WalksSeries, AreFew, ListsFew, chunks_at, list_of, first_outside, repeated_in, fitted, refused_index, index_at, contents_at}
 use Rattle.block_content.specs.CheckReading.{found_at, IsFirstFound, IsTested}
 use Rattle.block_content.specs.declared.check_refusal.CheckRefusal.{CheckRefusal}
 use Rattle.block_content.specs.declared.check_refusal.CheckRefusal.TheVariants.{NoMemory}
@@ -59,18 +59,24 @@ module _ (meta : Meta) (index : List ℕ) (segments : List (List ℕ)) (indexed 
     pub found_stops : (e : CheckRefusal) → found_at outside repeated ≡ Err e → (e ≡ NoMemory) ⊎ (contents_at meta index segments ≡ Err e)
     found_stops e h = inr (behind_index meta index segments indexed read ∙ refused_by meta segments indexed counted.0 parts_read outside repeated times_told order_told e h)
 
+    all_held : found_at outside repeated ≡ Ok tt → contents_at meta index segments ≡ Ok (list_of indexed counted.0)
+    all_held h = behind_index meta index segments indexed read ∙ passed_by meta segments indexed counted.0 parts_read outside repeated times_told order_told h
+
     pub all_tested : found_at outside repeated ≡ Ok tt → IsTested meta index segments (Ok indexed)
-    all_tested h = (
-      refused_as_ok refused_index (index_at index) indexed read,
-      (list_of indexed counted.0, behind_index meta index segments indexed read ∙ passed_by meta segments indexed counted.0 parts_read outside repeated times_told order_told h),
-    )
+    all_tested h = (refused_as_ok refused_index (index_at index) indexed read, (list_of indexed counted.0, all_held h))
 
     -- what is built of the same series is the content
     pub built_is : (items : List IndexSeries) → items ≡ indexed → found_at outside repeated ≡ Ok tt → (r : Result (List Series) CheckRefusal) → WalksSeries segments items (λ made parts. made ≡ list_of items parts) r → Gives NoMemory (λ list. list) r (contents_at meta index segments)
     built_is items moved h (Ok list) (parts, built, is) =
         let same : parts ≡ counted.0 = one_answer parts counted.0 (each_at (chunks_at segments) indexed) (ap (each_at (chunks_at segments)) (sym moved) ∙ built) parts_read in
-        (all_tested h).1.1 ∙ ap (λ (xs : List Series). Ok xs) (sym (is ∙ ap (λ (xs : List IndexSeries). list_of xs parts) moved ∙ ap (list_of indexed) same))
+        all_held h ∙ ap (λ (xs : List Series). Ok xs) (sym (is ∙ ap (λ (xs : List IndexSeries). list_of xs parts) moved ∙ ap (list_of indexed) same))
     built_is items moved h (Err e) why = list_refused meta index segments indexed items read moved e why
+
+-- what is built is few
+pub built_few : (index : List ℕ) (segments : List (List ℕ)) (indexed seen : List IndexSeries) (r : Result (List Series) CheckRefusal) → refused_as refused_index (index_at index) ≡ Ok indexed → ListsFew index indexed → seen ≡ indexed → IfOk r (AreFew segments seen)
+    → IfOk r (λ list. (indexed : List IndexSeries) × (index_at index ≡ Ok indexed) × ListsFew index indexed × AreFew segments indexed list)
+built_few index segments indexed seen (Ok list) read listed lends few = (indexed, refused_as_ok refused_index (index_at index) indexed read, listed, subst (λ (xs : List IndexSeries). AreFew segments xs list) lends few)
+built_few index segments indexed seen (Err e) read listed lends few = tt
 
 -- ---- what the call says
 

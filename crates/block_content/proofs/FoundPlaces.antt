@@ -1,5 +1,5 @@
 -- What is kept of places is found there, and what is read at a place is found.
-use Rattle.std.proofs.Common.{◌≡◌, ℕ, ◌+◌, ◌*◌, ◌^◌, ◌<◌, List, true, cond, Option, None, Some, Result, Ok, Err, refl, sym, ap, subst, ◌∙◌, arith, ◌⊎◌, inl, inr}
+use Rattle.std.proofs.Common.{◌≡◌, ℕ, ◌^◌, ◌<◌, List, true, cond, Option, None, Some, Result, Ok, Err, refl, sym, ap, subst, ◌∙◌, arith, ◌⊎◌, inl, inr}
 use Rattle.std.specs.Prelude.{IfErr, IsErrAnd}
 use Rattle.std.specs.BTreeMap.{get}
 use Rattle.std.specs.Ordering.{is_eq, nat_cmp}
@@ -40,9 +40,9 @@ unfolding stored_at
 same_stored segments p q segment offset = rw (segment, offset) refl
 
 same_found : (meta : Meta) (segments : List (List ℕ)) (p q : ChunkPlace) (found : Found) → p.offset < 2 ^ 32 → q.offset < 2 ^ 32 → place_number p ≡ place_number q → IsFoundAt meta segments p found → IsFoundAt meta segments q found
-same_found meta segments p q found small small' same (samples, stored, told) =
+same_found meta segments p q found small small' same (samples, stored, span, time) =
     let segment = same_segment p q small small' same in
-    (samples, sym (same_stored segments p q segment (same_offset p q segment same)) ∙ stored, told)
+    (samples, sym (same_stored segments p q segment (same_offset p q segment same)) ∙ stored, span, time)
 
 -- ---- what is kept
 

@@ -54,7 +54,7 @@ fn count_some(
     segments: &[Blob],
     indexed: &[LentSeries<'_>],
 ) -> Result<(u64, u64), CheckRefusal>
-    ensures exact { MatchResult result
+    ensures { MatchResult result
         (HaveCounts (some_at meta.now segments.now indexed.now))
         (λ e. (e ≡ CheckRefusal.NoMemory)
         ⊎ (some_at meta.now segments.now indexed.now ≡ Err e)) }

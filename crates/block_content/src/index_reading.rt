@@ -1,5 +1,5 @@
 //! The series of a block's index.
-ghost use Rattle.std.specs.Prelude.{IfOk};
+ghost use Rattle.std.specs.Prelude.{◌≡◌, IfOk};
 ghost use Rattle.base.specs.Grammar.{IsBytes};
 ghost use Rattle.base.specs.Reading.{Gives, refused_as};
 ghost use Rattle.block_content.specs.ContentReading.{index_at, refused_index, ListsFew};

@@ -1,8 +1,7 @@
 -- What the calls say: of loading, and of loading with a check behind it.
-use Rattle.std.proofs.Common.{◌≡◌, ℕ, List, Result, Ok, Err, refl, sym, ap, subst, ◌∙◌, ◌⊎◌, inl, inr}
+use Rattle.std.proofs.Common.{◌≡◌, ℕ, Result, Ok, Err, refl, sym, ap, subst, ◌∙◌, ◌⊎◌, inl, inr}
 use Rattle.std.specs.Prelude.{IsOkAnd, IsErrAnd}
 use Rattle.base.proofs.Binds.{ok_is, err_is}
-use Rattle.index_parts.specs.declared.index_series.IndexSeries.{IndexSeries}
 use Rattle.block_meta.specs.declared.block_files.BlockFiles.{BlockFiles}
 use Rattle.block_content.specs.Checking.{RefusesBlock}
 use Rattle.block_content.specs.declared.checked.Checked.{Checked}

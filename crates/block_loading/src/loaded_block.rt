@@ -68,7 +68,8 @@ impl LoadedBlock {
     pub fn check(self, alloc: Global) -> Result<Checked, LoadRefusal>
         ensures { EndsCheck (loaded_ulid self) (loaded_files self) result }
     {
-        match check(alloc, self.ulid, self.files) {
+        let LoadedBlock { ulid, files } = self;
+        match check(alloc, ulid, files) {
             Ok(checked) => Ok(checked),
             Err(refusal) => Err(refused_block(refusal)),
         }

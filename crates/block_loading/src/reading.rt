@@ -1,9 +1,12 @@
 //! The files of a block, each as it is read from a shelf.
-ghost use Rattle.std.specs.Prelude.{◌≡◌, ◌+◌, ◌≤◌, ℕ, Option, Some, Ok, Err, List, All, IfOk, IfErr, length, map, max};
+ghost use Rattle.std.specs.Prelude.{◌≡◌, ◌⊎◌, ◌+◌, ◌≤◌, ℕ, Option, Some, Ok, Err, List, All, IfOk, IfErr, length, map, max};
 ghost use Rattle.std.specs.List.{flat_map};
 ghost use Rattle.block_keys.specs.Keys.{IsLawfulKey, segment_limit};
 ghost use Rattle.block_keys.specs.declared.key.Key.{Key};
 ghost use Rattle.block_meta.specs.MetaFields.{fields_of};
+ghost use Rattle.base.specs.Reading.{refused_as};
+ghost use Rattle.block_content.specs.ContentReading.{index_at, refused_index};
+ghost use Rattle.block_content.specs.declared.check_refusal.CheckRefusal.{CheckRefusal};
 ghost use Rattle.bucket_core.specs.Causes.{file_failed};
 ghost use Rattle.bucket_core.specs.Contents.{Contents};
 ghost use Rattle.bucket_core.specs.Files.{file_limit, IsWithinLimit, ShowsFile};
@@ -95,6 +98,20 @@ pub(crate) fn read_meta<F: Shelf>(
     }
 }
 
+/// The greatest number of a file that the series of an index name.
+fn last_named(alloc: Global, index: &[u8]) -> Result<u32, LoadRefusal>
+    ensures named { IfOk result (NamesLast index.now) }
+    ensures most { IfOk result (λ last. last ≤ segment_limit) }
+    ensures stopped { IfErr result (λ said. (refusal : CheckRefusal) × (said ≡ refused_block refusal)
+        × ((refusal ≡ CheckRefusal.NoMemory)
+        ⊎ (refused_as refused_index (index_at index.now) ≡ Err refusal))) }
+{
+    match read_index(alloc, index) {
+        Ok(indexed) => Ok(last_segment(indexed.members())),
+        Err(refusal) => Err(refused_block(refusal)),
+    }
+}
+
 /// Reads the index of a block, with the greatest number of a file that its series name.
 pub(crate) fn read_named<F: Shelf>(
     alloc: Global,
@@ -111,10 +128,7 @@ pub(crate) fn read_named<F: Shelf>(
     ensures kept { KeepsShelf F.files F.faults shelf.old shelf.new (was_fault result) }
 {
     let index = read_file(alloc, shelf, &Key::Index(ulid))?;
-    let last = match read_index(alloc, index.bytes()) {
-        Ok(indexed) => last_segment(indexed.members()),
-        Err(refusal) => return Err(refused_block(refusal)),
-    };
+    let last = last_named(alloc, index.bytes())?;
     Ok((index, last))
 }
 

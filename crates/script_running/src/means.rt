@@ -7,7 +7,7 @@ use crate::ShelfBlock;
 use crate::declared::{block_among, find_block};
 use base::NoMemory;
 use label_sets::{Text, TextList, sample_count};
-use matchers::{Selector, SelectorList};
+use matchers::{Selector, SelectorList, SelectorRefusal};
 use moment_core::{PartitionList, Rules};
 use script_core::{Block, Body, Script, Work};
 use std::alloc::Global;
@@ -142,19 +142,23 @@ fn samples_in(body: &Body) -> u64 {
     }
 }
 
-/// Reads the text at a place, of a selector that was read once. Where a pattern is too large now, it is given up as for want of memory.
+/// Reads the text at a place, of a selector that was read once. That the sizes of its patterns are taken again is promised by
+/// nobody: where one is not, it is given up as for want of memory.
 fn read_at(
     alloc: Global,
     texts: &[Text],
     replicas: &TextList,
     place: usize,
 ) -> Result<Selector, NoMemory>
-    requires { place < length texts.now }
+    requires place { place < length texts.now }
+    requires read { (text : List ℕ) × (selector : List Matcher)
+        × (slice_get texts.now place ≡ Some text) × IsReadable text replicas.now selector }
     ensures { (text : List ℕ) (selector : List Matcher) → slice_get texts.now place ≡ Some text
         → IsReadable text replicas.now selector → IfOk result (λ read. read ≡ selector) }
 {
     match Selector::read(alloc, texts[place].as_str(), replicas) {
         Ok(selector) => Ok(selector),
-        Err(_) => Err(NoMemory),
+        Err(SelectorRefusal::NoMemory | SelectorRefusal::PatternSize(_)) => Err(NoMemory),
+        Err(_) => unreachable!(),
     }
 }

@@ -1,7 +1,7 @@
 use Rattle.std.proofs.Common.{sym}
 use Rattle.index_v2.proofs.WholeLoops.{gives_stop}
 use Rattle.block_content.proofs.ContentSteps.{index_stops}
-use Rattle.block_content.proofs.ContentTests.{walk_refused, found_stops, built_is}
+use Rattle.block_content.proofs.ContentTests.{walk_refused, found_stops, built_is, built_few}
 use Rattle.block_content.proofs.content_reading.read_content.Goals as goal
 
 pub returns-in_err-indexed-clause-exact : goal.returns-in_err-indexed-clause-exact
@@ -20,3 +20,6 @@ pub returns-clause-exact : goal.returns-clause-exact
 returns-clause-exact c =
     built_is c.args.meta.now c.args.index.now c.args.segments.now c.in_ok-indexed.indexed c.members.result.now c.in_ok-indexed.ensures.exact c.members.ensures c.in_ok-counts.counts.samples c.in_ok-counts.counts.outside c.first_repeated.result
     c.in_ok-counts.ensures.read c.members-2.result.now c.members-2.ensures c.first_repeated.ensures c.members-3.result.now c.members-3.ensures (sym c.in_ok-test_found.ensures) c.all_series.result c.all_series.ensures.read
+
+pub returns-clause-few : goal.returns-clause-few
+returns-clause-few c = built_few c.args.index.now c.args.segments.now c.in_ok-indexed.indexed c.members-3.result.now c.all_series.result c.in_ok-indexed.ensures.exact c.in_ok-indexed.ensures.few c.members-3.ensures c.all_series.ensures.few

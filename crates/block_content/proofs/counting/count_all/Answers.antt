@@ -10,9 +10,11 @@ loop-one-init c = record {
 }
 
 pub returns-in_err-counted : goal.returns-in_err-counted
-returns-in_err-counted c = walk_stops c.args.segments.now c.args.indexed.now _ c.from_residual.result c.in_err-counted.field-0.0 c.from_residual.ensures.1
-    (all_stop c.args.meta.now c.args.segments.now c.args.indexed.now c.loop-one.one-index c.loop-one.samples c.loop-one.series c.one-item.result _ c.loop-one.outside c.in_err-counted.field-0.0 c.loop-one.invariant.counted c.loop-one-test.true c.one-item.is
-    (moved_stop c.args.segments.now c.loop-one.series c.chunks.result.now c.one-item.result.chunks c.in_err-counted.field-0.0 c.chunks.ensures c.in_err-counted.ensures.read))
+returns-in_err-counted c = record {
+  read = walk_stops c.args.segments.now c.args.indexed.now _ c.from_residual.result c.in_err-counted.field-0.0 c.from_residual.ensures.1
+      (all_stop c.args.meta.now c.args.segments.now c.args.indexed.now c.loop-one.one-index c.loop-one.samples c.loop-one.series c.one-item.result _ c.loop-one.outside c.in_err-counted.field-0.0 c.loop-one.invariant.counted c.loop-one-test.true c.one-item.is
+      (moved_stop c.args.segments.now c.loop-one.series c.chunks.result.now c.one-item.result.chunks c.in_err-counted.field-0.0 c.chunks.ensures c.in_err-counted.ensures.read));
+}
 
 pub loop-one-preserved : goal.loop-one-preserved
 loop-one-preserved c = record {
@@ -23,4 +25,4 @@ loop-one-preserved c = record {
 }
 
 pub returns : goal.returns
-returns c = all_end c.args.meta.now c.args.segments.now c.args.indexed.now c.loop-one.one-index c.loop-one.samples c.loop-one.series c.loop-one.outside c.loop-one.invariant.counted (omega arith)
+returns c = record { read = all_end c.args.meta.now c.args.segments.now c.args.indexed.now c.loop-one.one-index c.loop-one.samples c.loop-one.series c.loop-one.outside c.loop-one.invariant.counted (omega arith) }

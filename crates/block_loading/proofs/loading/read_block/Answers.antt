@@ -1,6 +1,6 @@
 use Rattle.std.proofs.Common.{◌∙◌, ℕ, ◌+◌, ap, sym, refl, inr}
 use Rattle.block_meta.specs.MetaFields.{fields_of}
-use Rattle.block_loading.specs.Loading.{last_segment, StopsAt}
+use Rattle.block_loading.specs.Loading.{StopsAt}
 use Rattle.block_loading.specs.LoadReading.{meta_at, index_in, segments_at, load_at, parts_of}
 use Rattle.block_loading.proofs.Calls.{answered, passed_on}
 use Rattle.block_loading.proofs.LoadSteps.{stops, stops_first, without_meta, without_index, without_segment, all_loaded}
