@@ -10,11 +10,11 @@ ghost use Rattle.block_merging.specs.Queues.{IsOpenedIndex, HasQueue, HasQueues}
 
 use crate::MergeRefusal;
 use crate::listing::ordered_places;
-use crate::series_queue::{SeriesQueue, next_of};
+use crate::series_queue::{SeriesQueue, next_of, only_memory};
 use base::NoMemory;
 use block_content::{CheckRefusal, test_content};
 use block_meta::BlockFiles;
-use index_v2::{IndexReader, IndexRefusal};
+use index_v2::IndexReader;
 use label_sets::{LabelSet, TextList};
 use std::alloc::Global;
 use wire_bytes::NumberList;
@@ -27,8 +27,7 @@ fn open_again(alloc: Global, index: &[u8]) -> Result<IndexReader<'_>, NoMemory>
 {
     match IndexReader::open(alloc, index) {
         Ok(reader) => Ok(reader),
-        Err(IndexRefusal::NoMemory) => Err(NoMemory),
-        Err(_) => unreachable!(),
+        Err(refusal) => Err(only_memory(refusal)),
     }
 }
 
@@ -43,8 +42,7 @@ fn all_numbers(alloc: Global, reader: &IndexReader<'_>) -> Result<NumberList, No
 {
     match reader.postings(alloc, "", "") {
         Ok(numbers) => Ok(numbers),
-        Err(IndexRefusal::NoMemory) => Err(NoMemory),
-        Err(_) => unreachable!(),
+        Err(refusal) => Err(only_memory(refusal)),
     }
 }
 

@@ -165,6 +165,16 @@ fn run_samples(alloc: Global, run: &[PlacedChunk<'_>]) -> Result<Vec<Sample>, No
     Ok(samples)
 }
 
+/// What is wanting where a chunk was read before.
+fn only_memory(refusal: XorRefusal) -> NoMemory
+    requires { refusal ≡ XorRefusal.NoMemory }
+{
+    match refusal {
+        XorRefusal::NoMemory => NoMemory,
+        _ => unreachable!(),
+    }
+}
+
 /// Reads the samples of a chunk behind others. The chunk was read before, so only memory can be wanting.
 fn append_samples(samples: Vec<Sample>, bytes: &[u8]) -> Result<Vec<Sample>, NoMemory>
     requires { (read : List Sample) × IsText stored_filling bytes.now read }
@@ -173,8 +183,7 @@ fn append_samples(samples: Vec<Sample>, bytes: &[u8]) -> Result<Vec<Sample>, NoM
 {
     match append_stored(samples, bytes) {
         Ok(all) => Ok(all),
-        Err(XorRefusal::NoMemory) => Err(NoMemory),
-        Err(_) => unreachable!(),
+        Err(refusal) => Err(only_memory(refusal)),
     }
 }
 

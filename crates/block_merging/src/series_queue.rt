@@ -34,6 +34,16 @@ pub(crate) struct SeriesQueue<'a> {
     pub(crate) labels: Vec<LentLabel<'a>>,
 }
 
+/// What is wanting where an index was read before.
+pub(crate) fn only_memory(refusal: IndexRefusal) -> NoMemory
+    requires { refusal ≡ IndexRefusal.NoMemory }
+{
+    match refusal {
+        IndexRefusal::NoMemory => NoMemory,
+        _ => unreachable!(),
+    }
+}
+
 /// The series of a number, in the room of another. It was read before, so only memory can be wanting.
 fn series_at<'a>(
     reader: &IndexReader<'a>,
@@ -48,8 +58,7 @@ fn series_at<'a>(
 {
     match reader.lent_series(number, room) {
         Ok(series) => Ok(series),
-        Err(IndexRefusal::NoMemory) => Err(NoMemory),
-        Err(_) => unreachable!(),
+        Err(refusal) => Err(only_memory(refusal)),
     }
 }
 

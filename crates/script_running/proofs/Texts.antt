@@ -8,7 +8,9 @@ use Rattle.std.proofs.lemmas.Slice.Zip.{AllZip-long}
 use Rattle.base.proofs.Lists.{take_place, slice_get-below}
 use Rattle.base.proofs.Membership.{contains_place}
 use Rattle.base.proofs.Pairs.{AllZip-push}
-use Rattle.matchers.specs.SelectorRefusals.{IsReadable}
+use Rattle.matchers.specs.SelectorRefusals.{IsGivenUp, IsReadable}
+use Rattle.matchers.specs.declared.selector_refusal.SelectorRefusal.{SelectorRefusal}
+use Rattle.matchers.specs.declared.selector_refusal.SelectorRefusal.TheVariants.{BadSelector, BadPattern, PatternSize, ReplicaNamed, NoMemory}
 use Rattle.matchers.specs.SelectorText.{IsSelectorText}
 use Rattle.matchers.specs.declared.matcher.Matcher.{Matcher}
 use Rattle.script_core.specs.Lawful.{IsLawfulScript, IsLawfulSelector}
@@ -68,3 +70,11 @@ module _ (script : Script) (texts replicas : List (List ℕ)) (number : ℕ) (la
   -- what is read from it is the selector
   pub read_again : {E : Type 0} (r : Result (List Matcher) E) → ((text : List ℕ) (selector : List Matcher) → slice_get texts number ≡ Some text → IsReadable text replicas selector → IfOk r (λ read. read ≡ selector)) → IfOk r (λ read. slice_get script.selectors number ≡ Some read)
   read_again r reads = let (selector, is, (text, stands, may)) = stands_there in read_so script.selectors number selector r is (reads text selector stands may)
+
+-- what is given up is memory, or a pattern's size
+pub only_given_up : (text : List ℕ) (refusal : SelectorRefusal) → IsGivenUp text refusal → (refusal ≡ NoMemory → ⊥) → ((place : ℕ) → refusal ≡ PatternSize place → ⊥) → ⊥
+only_given_up text (BadSelector place) given memory size = given
+only_given_up text (BadPattern place) given memory size = given
+only_given_up text (PatternSize place) given memory size = size place refl
+only_given_up text (ReplicaNamed name) given memory size = given
+only_given_up text NoMemory given memory size = memory refl

@@ -1,5 +1,5 @@
 ghost use Rattle.std.specs.Prelude.{◌≡◌, ◌<◌, ℕ, List, Some, IfOk, length, slice_get};
-ghost use Rattle.matchers.specs.SelectorRefusals.{IsReadable};
+ghost use Rattle.matchers.specs.SelectorRefusals.{IsGivenUp, IsReadable};
 ghost use Rattle.matchers.specs.declared.matcher.Matcher.{Matcher};
 ghost use Rattle.script_running.specs.Lending.{AreTextsOf};
 
@@ -142,8 +142,17 @@ fn samples_in(body: &Body) -> u64 {
     }
 }
 
-/// Reads the text at a place, of a selector that was read once. That the sizes of its patterns are taken again is promised by
-/// nobody: where one is not, it is given up as for want of memory.
+/// What is wanting where a text was read before: memory, or that the size of a pattern is taken again, which nobody promises.
+fn given_up(refusal: SelectorRefusal) -> NoMemory
+    requires { (text : List ℕ) × IsGivenUp text refusal }
+{
+    match refusal {
+        SelectorRefusal::NoMemory | SelectorRefusal::PatternSize(_) => NoMemory,
+        _ => unreachable!(),
+    }
+}
+
+/// Reads the text at a place, of a selector that was read once.
 fn read_at(
     alloc: Global,
     texts: &[Text],
@@ -158,7 +167,6 @@ fn read_at(
 {
     match Selector::read(alloc, texts[place].as_str(), replicas) {
         Ok(selector) => Ok(selector),
-        Err(SelectorRefusal::NoMemory | SelectorRefusal::PatternSize(_)) => Err(NoMemory),
-        Err(_) => unreachable!(),
+        Err(refusal) => Err(given_up(refusal)),
     }
 }
