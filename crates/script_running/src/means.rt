@@ -146,7 +146,7 @@ fn samples_in(body: &Body) -> u64 {
 fn given_up(refusal: SelectorRefusal) -> NoMemory
     requires { (text : List ℕ) × IsGivenUp text refusal }
 {
-    match refusal {
+    match &refusal {
         SelectorRefusal::NoMemory | SelectorRefusal::PatternSize(_) => NoMemory,
         _ => unreachable!(),
     }
