@@ -1,3 +1,6 @@
+//! The blocks of a group as they are read for their merge: whole, since all of their samples go into it. The index says
+//! how many segments follow. What is absent, or no index, ends the compaction at that entry.
+
 ghost use Rattle.std.specs.Prelude.{◌≡◌, ◌+◌, ◌*◌, ◌≤◌, ◌<◌, ℕ, List, [], ◌∷◌, ◌++◌, length, Option, Some, IfOk, IsSomeAnd};
 ghost use Rattle.ulid_core.specs.Limits.{ulid_time_limit};
 ghost use Rattle.block_keys.specs.Keys.{segment_limit};
@@ -11,7 +14,7 @@ ghost use Rattle.world_core.specs.Leads.{after_entry, LeadsBy};
 ghost use Rattle.compactor.specs.ReadRoom.{last_segment, most_segments, others_of};
 ghost use Rattle.compactor.specs.declared.reads_end.ReadsEnd.{ReadsEnd};
 
-use crate::input::{Input, Input, InputList, Read, ReadList};
+use crate::input::{Input, InputList, Read, ReadList};
 use crate::named::named_segments;
 use crate::reads_end::{Gathered, ReadsEnd};
 use base::NoMemory;

@@ -25,13 +25,13 @@ returns-in_err-last-clause-read g c =
     (index_stopped told c.args.ulid c.in_ok-index.index c.bytes.result.now (c.in_ok-index.ensures.read told h) c.bytes.ensures why.0 c.in_err-last.field-0.0 why.2 why.1)
 
 pub returns-in_err-index-clause-asks : goal.returns-in_err-index-clause-asks
-returns-in_err-index-clause-asks g c = file_stopped g.F.Shelf.asked _ _ _ c.in_err-index.field-0.0 c.from_residual.result c.from_residual.ensures.1 c.in_err-index.ensures.asks
+returns-in_err-index-clause-asks g c = file_stopped g.F.Shelf.told _ _ _ c.in_err-index.field-0.0 c.from_residual.result c.from_residual.ensures.1 c.in_err-index.ensures.asks
 
 pub returns-clause-asks : goal.returns-clause-asks
-returns-clause-asks g c = inl (file_asked g.F.Shelf.asked _ _ _ c.in_ok-index.index c.in_ok-index.ensures.asks)
+returns-clause-asks g c = inl (file_asked g.F.Shelf.told _ _ _ c.in_ok-index.index c.in_ok-index.ensures.asks)
 
 pub returns-in_err-last-clause-asks : goal.returns-in_err-last-clause-asks
-returns-in_err-last-clause-asks g c = inl (file_asked g.F.Shelf.asked _ _ _ c.in_ok-index.index c.in_ok-index.ensures.asks)
+returns-in_err-last-clause-asks g c = inl (file_asked g.F.Shelf.told _ _ _ c.in_ok-index.index c.in_ok-index.ensures.asks)
 
 pub returns-in_err-index-clause-stopped : goal.returns-in_err-index-clause-stopped
 returns-in_err-index-clause-stopped g c = said_on (StopsAt c.args.ulid 2) c.from_residual.result c.in_err-index.field-0.0 c.from_residual.ensures.1 (file_last c.args.ulid 1 2 (Index c.args.ulid) refl refl c.in_err-index.field-0.0 c.in_err-index.ensures.stopped)
@@ -45,4 +45,4 @@ returns-in_err-last-clause-stopped g c =
 pub returns-in_err-last-clause-kept : goal.returns-in_err-last-clause-kept
 returns-in_err-last-clause-kept g c =
     let why = c.in_err-last.ensures.stopped in
-    kept_as g.F.Shelf.files g.F.Shelf.faults _ _ false (was_fault c.from_residual-in_err-last.result) (sym (calm_on c.from_residual-in_err-last.result c.in_err-last.field-0.0 why.0 c.from_residual-in_err-last.ensures.1 why.1)) c.in_ok-index.ensures.kept
+    kept_as g.F.Shelf.told _ _ false (was_fault c.from_residual-in_err-last.result) (sym (calm_on c.from_residual-in_err-last.result c.in_err-last.field-0.0 why.0 c.from_residual-in_err-last.ensures.1 why.1)) c.in_ok-index.ensures.kept
