@@ -1,5 +1,5 @@
 -- What the end of a check says of a block that was loaded.
-use Rattle.std.proofs.Common.{◌≡◌, ℕ, Option, Result, Ok, Err, false, List, length, refl, sym, ap, subst, ◌∙◌, ◌⊎◌, inl, inr}
+use Rattle.std.proofs.Common.{◌≡◌, ℕ, Result, Ok, Err, false, List, length, refl, sym, ap, subst, ◌∙◌, ◌⊎◌, inl, inr}
 use Rattle.std.specs.Prelude.{IfOk, IfErr}
 use Rattle.std.specs.Result.{IsOkAnd}
 use Rattle.std.proofs.lemmas.Result.{IfOk-weaker}

@@ -1,6 +1,6 @@
 -- What was opened, from the site's answer to all that the words of a run name.
-use Rattle.std.proofs.Common.{◌≡◌, ◌≢◌, ◌⊎◌, ℕ, ◌+◌, ◌≤◌, false, List, [], inl, inr, refl, sym, ◌∙◌, ap, ap₂, subst, arith}
-use Rattle.std.specs.Prelude.{Option, Some, None, IfSome, IsSome, IsSomeAnd, Result, Err, is_some, if◌then◌else◌}
+use Rattle.std.proofs.Common.{◌≡◌, ◌≢◌, ℕ, ◌+◌, List, [], refl, sym, ◌∙◌, ap, ap₂, subst}
+use Rattle.std.specs.Prelude.{Option, Some, None, IfSome, IsSome, Err, is_some, if◌then◌else◌}
 use Rattle.bucket_core.specs.Causes.{CountsFaults, Rose, opening_failed}
 use Rattle.bucket_core.specs.Contents.{Contents}
 use Rattle.bucket_core.specs.Openings.{IsShelfAsTold}
@@ -10,7 +10,7 @@ use Rattle.bucket_core.specs.declared.site_refusal.SiteRefusal.TheVariants as si
 use Rattle.world_core.specs.declared.entry.Entry.{Entry}
 use Rattle.script_core.specs.declared.script.Script.{Script}
 use Rattle.report_lines.specs.lifecycle_core.specs.Setting.{setting_of}
-use Rattle.call_verdicts.specs.Kept.{AsksNoShelf, IsHandedOut, IsShelfBack, IsShelfOf, IsUntouched, told_of}
+use Rattle.call_verdicts.specs.Kept.{IsHandedOut, IsShelfBack, IsShelfOf, IsUntouched, told_of}
 use Rattle.call_verdicts.specs.Openings.{IsShelfOpen, IsUnopened}
 use Rattle.call_verdicts.specs.Undone.{IsUndone}
 use Rattle.call_verdicts.specs.Verdicts.{IfShort}

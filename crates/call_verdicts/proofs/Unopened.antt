@@ -1,5 +1,5 @@
 -- A call whose run is made ready, or that ends before: each way out of the opening as one record.
-use Rattle.std.proofs.Common.{◌≡◌, ◌≢◌, ℕ, ◌+◌, ◌<◌, ◌≤◌, List, [], ◌∷◌, inl, inr, refl, sym, ◌∙◌, ap, subst, arith}
+use Rattle.std.proofs.Common.{◌≡◌, ◌≢◌, ℕ, ◌+◌, ◌<◌, List, [], ◌∷◌, inl, inr, refl, sym, ◌∙◌, ap, subst, arith}
 use Rattle.std.specs.Prelude.{Option, Some, None, IfSome, IsSome, IsSomeAnd, Err, is_some}
 use Rattle.bucket_core.specs.Asking.{AsksOnce}
 use Rattle.bucket_core.specs.Causes.{CountsFaults, Rose, opening_failed}
@@ -20,7 +20,7 @@ use Rattle.report_lines.specs.lifecycle_core.specs.Setting.{setting_of}
 use Rattle.call_verdicts.specs.Asked.{WasAsked, WasReadFor, names_asked, shelf_ulids}
 use Rattle.call_verdicts.specs.Kept.{AsksNoBucket, HoldsNothing, IsOpened, IsUnfailed}
 use Rattle.call_verdicts.specs.Openings.{HasEnded, HasNotOpened, IsNewWorld, IsOpen, IsShelfOpen, IsUnopened, IsUnused, around_ended}
-use Rattle.call_verdicts.specs.Outside.{Outside, SiteCall, outside, site_call}
+use Rattle.call_verdicts.specs.Outside.{Outside, outside, site_call}
 use Rattle.call_verdicts.specs.Undone.{IsUndone}
 use Rattle.call_verdicts.specs.Verdicts.{IfShort, IsEarly, IsScriptRead, IsUnread, SiteFailed, held_in}
 use Rattle.call_verdicts.specs.declared.conclusion.Conclusion.{Conclusion}

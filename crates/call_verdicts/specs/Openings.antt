@@ -1,5 +1,5 @@
 -- What stands before a run, and how a call ends that does not come so far.
-use Rattle.std.specs.Prelude.{◌≡◌, ◌≢◌, ◌+◌, ℕ, List, [], Option, Some, None, IfSome, IsSome, is_some}
+use Rattle.std.specs.Prelude.{◌≡◌, ◌≢◌, ◌+◌, ℕ, List, [], Option, Some, None, IfSome, is_some}
 use Rattle.bucket_core.specs.Contents.{Contents}
 use Rattle.bucket_core.specs.Told.{BucketTold, ShelfTold, SiteTold, next_bucket}
 use Rattle.world_core.specs.Worlds.{WorldView}

@@ -1,6 +1,7 @@
 -- What a call leaves that read a script and ran it, whatever the way.
-use Rattle.std.proofs.Common.{◌≡◌, ◌≢◌, ◌⊎◌, inr, ◌+◌, ◌<◌, List, [], Option, None, Some, refl, sym, ◌∙◌, ap, subst}
+use Rattle.std.proofs.Common.{◌≡◌, ◌≢◌, ◌⊎◌, inr, ℕ, ◌+◌, ◌<◌, List, [], Option, None, Some, refl, sym, ◌∙◌, ap, subst}
 use Rattle.std.specs.Prelude.{IfSome, IsSomeAnd, is_some, option_map}
+use Rattle.bucket_core.specs.Asking.{Call}
 use Rattle.bucket_core.specs.Told.{next_bucket}
 use Rattle.world_core.specs.Asking.{IsAllAsked}
 use Rattle.world_core.specs.Worlds.{WorldView, failed_count}

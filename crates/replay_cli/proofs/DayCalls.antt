@@ -1,10 +1,10 @@
 -- Calls whose words name a generated day, and those whose words name none.
-use Rattle.std.proofs.Common.{◌≡◌, ℕ, List, refl, sym, subst}
+use Rattle.std.proofs.Common.{◌≡◌, ℕ, List, sym, subst}
 use Rattle.std.specs.Prelude.{Option, Some, None, IfSome, IsSome}
 use Rattle.bucket_core.specs.Told.{BucketTold}
 use Rattle.world_core.specs.declared.entry.Entry.{Entry}
 use Rattle.call_verdicts.specs.Asked.{IsBucketAsked}
-use Rattle.call_verdicts.specs.Kept.{IsShelfOf, IsUnfailed}
+use Rattle.call_verdicts.specs.Kept.{IsUnfailed}
 use Rattle.call_verdicts.specs.Verdicts.{Around, IsCaused}
 use Rattle.call_verdicts.specs.declared.verdict.Verdict.{Verdict}
 use Rattle.replay_cli.specs.Days.{IsDayDone, IsToolCaused}

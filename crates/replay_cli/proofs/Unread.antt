@@ -1,5 +1,5 @@
 -- Runs of which the reading of the shelf was broken off.
-use Rattle.std.proofs.Common.{◌≡◌, inl, inr, ℕ, ◌<◌, false, List, [], Option, None, Some, sym, ap, subst, arith}
+use Rattle.std.proofs.Common.{◌≡◌, inl, inr, ◌<◌, false, List, [], Option, None, Some, sym, ap, subst, arith}
 use Rattle.std.specs.Prelude.{IfSome, IsSomeAnd}
 use Rattle.bucket_core.specs.Contents.{nothing}
 use Rattle.world_core.specs.declared.entry.Entry.{Entry}

@@ -1,5 +1,6 @@
 -- The ways in which the tasks of a script are done, and a run over a world, done in one of them.
-use Rattle.std.specs.Prelude.{◌≡◌, ◌≢◌, ℕ, Bool, List, [], Option, Some}
+use Rattle.std.specs.Prelude.{◌≡◌, ◌≢◌, Bool, List, [], Option, Some}
+use Rattle.bucket_core.specs.Asking.{Call}
 use Rattle.bucket_core.specs.Contents.{nothing}
 use Rattle.bucket_core.specs.Told.{BucketTold}
 use Rattle.world_core.specs.Asking.{IsAllAsked}

@@ -1,4 +1,4 @@
-use Rattle.std.proofs.Common.{ap, refl, ◌∙◌}
+use Rattle.std.proofs.Common.{ap, ◌∙◌}
 use Rattle.base.proofs.Binds.{refused_as_ok}
 use Rattle.block_content.specs.ContentReading.{index_at, refused_index}
 use Rattle.block_loading.specs.Loading.{last_segment}

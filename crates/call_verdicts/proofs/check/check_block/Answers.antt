@@ -7,7 +7,6 @@ use Rattle.call_verdicts.specs.Words.{named_by}
 use Rattle.call_verdicts.specs.declared.verdict.Verdict.{Verdict}
 use Rattle.call_verdicts.proofs.Checks.{unopened_caused}
 use Rattle.call_verdicts.proofs.CheckedShelf.{checked_opened, named_kept, shelf_kept}
-use Rattle.call_verdicts.proofs.Openings.{no_shelf}
 use Rattle.call_verdicts.proofs.Verdicts.{before_opening, behind_opening}
 use Rattle.call_verdicts.proofs.Unfailed.{not_short, short_map, short_refused}
 use Rattle.call_verdicts.proofs.ShelfAsked.{all_opened}

@@ -1,5 +1,5 @@
 use Rattle.std.proofs.Common.{◌≡◌, ◌≢◌, refl, ap}
-use Rattle.std.specs.Prelude.{None, IfSome, is_some}
+use Rattle.std.specs.Prelude.{IfSome, is_some}
 use Rattle.replay_cli.specs.InPhases.{IsInPhases}
 use Rattle.bucket_core.specs.Told.{next_bucket}
 use Rattle.call_verdicts.specs.Outside.{site_call, outside}
