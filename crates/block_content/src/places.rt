@@ -90,8 +90,8 @@ fn time_in(alloc: Global, meta: &Meta, content: &[u8]) -> Result<Option<i64>, Ch
     Ok(first_time(meta, samples.members()))
 }
 
-/// The same where the span of the samples is known. They are kept, for as long as this takes, only where it does not lie within
-/// the block's times.
+/// The time of the first sample outside the block's times, of samples of which this is the span. They are kept, for as long as
+/// this takes, only where it does not lie within the block's times.
 fn time_outside(
     alloc: Global,
     meta: &Meta,

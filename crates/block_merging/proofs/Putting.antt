@@ -1,7 +1,6 @@
 -- A chunk that is carried, and samples that are read of chunks.
 use Rattle.std.proofs.Common.{◌≡◌, ℕ, ◌+◌, ◌<◌, List, [], ◌∷◌, ◌++◌, length, map, take, get_or, Result, Ok, Err, refl, sym, ap, subst, ◌∙◌, ◌⊎◌, inl, inr, arith, append-nil}
 use Rattle.std.specs.Prelude.{OnOk}
-use Rattle.std.specs.Result.{IsOkAnd}
 use Rattle.base.proofs.Binds.{err_is}
 use Rattle.std.specs.List.{AllByRecursion, AllZip}
 use Rattle.base.specs.Ordered.{in_order}
@@ -41,9 +40,9 @@ alone_put (Ok x) old new labels chunk stored ok =
 -- ---- samples that are read
 
 -- what is wanting where all else was there
-pub wanting : {X E : Type 0} (P : X → Type 0) (refusal none : E) → IsOkAnd {T = X} {E = E} (Err refusal) P ⊎ (◌≡◌ {A = Result X E} (Err refusal) (Err none)) → refusal ≡ none
-wanting P refusal none (inl found) = absurd found
-wanting {X} P refusal none (inr same) = err_is {A = X} refusal none same
+pub wanting : {X E : Type 0} (refusal none : E) → ⊥ ⊎ (◌≡◌ {A = Result X E} (Err refusal) (Err none)) → refusal ≡ none
+wanting refusal none (inl found) = absurd found
+wanting {X} refusal none (inr same) = err_is {A = X} refusal none same
 
 pub all_readable : (plan : PlanFields) (chunks : List PutChunk) → AllByRecursion (IsStored plan) chunks → AllByRecursion IsReadable chunks
 all_readable plan [] all = tt
