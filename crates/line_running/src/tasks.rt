@@ -21,9 +21,7 @@ use crate::seats::Seats;
 use base::NoMemory;
 use bucket_core::Bucket;
 use querier::InTurn;
-use report_lines::script_running::{
-    Broken, Came, Means, Outcome, Part, Sight, outcome_of, run_task,
-};
+use report_lines::script_running::{Broken, Means, Outcome, Part, Sight, outcome_of, run_task};
 use run_notes::LineHand;
 use script_core::{Hand, Task, Work};
 use std::alloc::Global;
@@ -115,7 +113,7 @@ fn do_part<B: Bucket, R: Drop>(
     seats: &Seats,
     progress: &mut Progress<R>,
     hand: LineHand<B>,
-) -> (Came, LineHand<B>)
+) -> (Result<Part, Broken>, LineHand<B>)
     requires work { Allows means.now.script task.now.work }
     requires ready { length progress.old.gateways.items ≡ length means.now.script.gateways }
     requires unrefused { hand.refused ≡ false }
@@ -174,7 +172,7 @@ fn do_over<B: Bucket>(
     sight: &mut Sight,
     hand: LineHand<B>,
     seat: u32,
-) -> (Came, LineHand<B>)
+) -> (Result<Part, Broken>, LineHand<B>)
     requires work { Allows means.now.script work.now }
     requires unrefused { hand.refused ≡ false }
     requires unwanted { hand.wanted ≡ false }

@@ -1,6 +1,6 @@
 -- What a drive of a gateway's call leaves.
 use Rattle.std.proofs.Common.{◌≡◌, ℕ, ℤ, List, refl, ap, subst}
-use Rattle.std.specs.Prelude.{Option, Some, None, option_map, Ok, Err, IfSome}
+use Rattle.std.specs.Prelude.{Option, Some, None, option_map, Result, Ok, Err, IfSome}
 use Rattle.store_calls.specs.CallRuns.{CallRun, end_by}
 use Rattle.store_calls.specs.declared.running.CallLeft.{CallLeft}
 use Rattle.store_ranges.specs.Reads.{Cache, Query as Question}
@@ -15,16 +15,16 @@ use Rattle.store_calls.specs.SeriesCalls.{CallEnd, SeriesRun, asking}
 use Rattle.script_workers.specs.declared.work.Work.TheVariants as works
 use Rattle.lifecycle_core.specs.Holdings.{Use}
 use Rattle.lifecycle_core.specs.Tasks.{answered}
-use Rattle.script_running.specs.Drives.{Came}
-use Rattle.script_running.specs.Outcomes.{call_part}
+use Rattle.script_running.specs.Outcomes.{Part, call_part}
 use Rattle.script_running.specs.Sights.{cache_of}
 use Rattle.script_running.specs.Tasks.{Adds, CameBy}
+use Rattle.script_running.specs.declared.came.Broken.{Broken}
 use Rattle.script_running.specs.declared.came.Broken.TheVariants as broken
-use Rattle.script_running.specs.declared.part.Part.TheVariants as part
-use Rattle.script_running.specs.declared.part.QueryPart.{QueryPart}
+use Rattle.script_running.specs.declared.came.Came.TheVariants as part
+use Rattle.script_running.specs.declared.outcome.QueryPart.{QueryPart}
 
 -- A call over a view, by what was kept, came out so, and left what is kept then.
-abbrev pub Called : View → Question → Cache → ℕ → List Entry → List Entry → Use → ℤ → ℤ → ℕ → Option IndexCache → Came → Type 0
+abbrev pub Called : View → Question → Cache → ℕ → List Entry → List Entry → Use → ℤ → ℤ → ℕ → Option IndexCache → Result Part Broken → Type 0
 Called view asked cache seat old new used low high number left came =
     (end : Option CallEnd) × Adds (SeriesRun view asked cache) seat old new end came
     × CameBy (works.Query low high number) (option_map (λ (call : CallEnd). answered used call.end) end) came

@@ -28,8 +28,7 @@ use Rattle.script_running.specs.declared.came.Broken.{Broken}
 use Rattle.script_running.specs.declared.came.Broken.TheVariants as broken
 use Rattle.script_running.specs.declared.gathering.Column.{Column}
 use Rattle.script_running.specs.declared.gathering.Slots.{Slots}
-use Rattle.script_running.specs.declared.outcome.Outcome.{Outcome}
-use Rattle.script_running.specs.declared.part.Part.{Part}
+use Rattle.script_running.specs.Outcomes.{Outcome, Part}
 use Rattle.script_running.specs.declared.sight.Sight.{Sight}
 use Rattle.script_running.specs.declared.worker.WorkerEnd.{WorkerEnd}
 use Rattle.script_running.proofs.Gathered.{gathered}

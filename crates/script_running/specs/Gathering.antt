@@ -13,14 +13,12 @@ use Rattle.lifecycle_core.specs.Setting.{Setting}
 use Rattle.lifecycle_core.specs.Tasks.{End}
 use Rattle.script_running.specs.Beside.{AreSeen}
 use Rattle.script_running.specs.Going.{Met}
-use Rattle.script_running.specs.Outcomes.{AreAllParts, IsOutcomeOf, TasksCame}
+use Rattle.script_running.specs.Outcomes.{AreAllParts, IsOutcomeOf, Outcome, Part, TasksCame}
 use Rattle.script_running.specs.Sights.{Sees, no_sight}
 use Rattle.script_running.specs.declared.came.Broken.{Broken}
 use Rattle.script_running.specs.declared.came.Broken.TheVariants as broken
-use Rattle.script_running.specs.declared.outcome.Outcome.{Outcome}
 use Rattle.script_running.specs.declared.gathering.Column.{Column}
 use Rattle.script_running.specs.declared.gathering.Slots.{Slots}
-use Rattle.script_running.specs.declared.part.Part.{Part}
 use Rattle.script_running.specs.declared.sight.Sight.{Sight}
 use Rattle.script_running.specs.declared.worker.WorkerEnd.{WorkerEnd}
 

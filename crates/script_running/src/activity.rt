@@ -11,19 +11,17 @@ ghost use Rattle.lifecycle_core.specs.Tasks.{End, ShipTask, all_times, answered,
 ghost use Rattle.lifecycle_core.specs.Holdings.{Use};
 ghost use Rattle.lifecycle_core.specs.Setting.{Setting};
 ghost use Rattle.script_running.specs.Lending.{setting_in};
-ghost use Rattle.script_running.specs.Outcomes.{call_part, sync_outcome, upload_outcome};
-ghost use Rattle.script_running.specs.Drives.{sync_came, unshipped_came};
+ghost use Rattle.script_running.specs.Outcomes.{call_part, sync_outcome};
+ghost use Rattle.script_running.specs.Drives.{sync_came, unshipped_came, upload_came};
 ghost use Rattle.script_running.specs.Shelves.{Knows};
-ghost use Rattle.script_running.specs.declared.outcome.UploadOutcome.TheVariants as upload;
-ghost use Rattle.script_running.specs.declared.part.Part.TheVariants as part;
 ghost use Rattle.script_running.specs.Sights.{cache_of};
 ghost use Rattle.script_running.specs.Tasks.{Adds, CameBy, is_full_came, view_by};
 
 use crate::plan::objects_of;
 use crate::shelf::ShelfBlock;
-use crate::stopping::{Stoppable, stopped_came};
+use crate::stopping::stop_of;
 use crate::unshipped::Unshipped;
-use crate::{Broken, Came, Means, NoAnswer, Part, QueryPart, SyncOutcome, UploadOutcome};
+use crate::{Broken, Came, Means, NoAnswer, Part, QueryPart, SyncOutcome};
 use matchers::Selector;
 use meta_fetcher::{SyncEnd, SyncRules, View, run_sync};
 use moment_core::{Partition, PartitionList, Rules};
@@ -42,7 +40,7 @@ pub(crate) fn upload<H: Hand>(
     shelf: &[ShelfBlock],
     stop: Option<u32>,
     hand: &mut H,
-) -> Came
+) -> Result<Part, Broken>
     requires lawful { IsLawfulBlock block.now }
     requires known { (setting : Setting) × Knows setting shelf.now block.now }
     ensures ran { (setting : Setting) (ulid : ℕ) → Knows setting shelf.now block.now
@@ -58,37 +56,26 @@ pub(crate) fn upload<H: Hand>(
         → IsTrue (H.wanted hand.old) ⊎ (result ≡ Err Broken.NoMemory) }
 {
     match objects_of(alloc, block, shelf) {
-        Ok(objects) => stopped_came(run_upload(objects, stop, hand)),
+        Ok(objects) => upload_came(run_upload(objects, stop, hand)),
         Err(why) => unshipped_came(why),
     }
 }
 
+/// What an upload came to that was driven.
+fn upload_came(driven: Driven<UploadEnd>) -> Result<Part, Broken>
+    ensures { result ≡ upload_came driven }
+{
+    Ok(Came::Upload(stop_of(driven)?))
+}
+
 /// What an upload came to whose block has no objects.
-fn unshipped_came(why: Unshipped) -> Came
+fn unshipped_came(why: Unshipped) -> Result<Part, Broken>
     ensures came { result ≡ unshipped_came why }
     ensures other { is_full_came result ≡ false }
 {
     match why {
-        Unshipped::Refused(number) => Ok(Part::Upload(UploadOutcome::Refused(number))),
+        Unshipped::Refused(number) => Ok(Came::Unshipped(number)),
         Unshipped::NoMemory => Err(Broken::NoMemory),
-    }
-}
-
-impl Stoppable for UploadEnd {
-    ghost ended = { λ end. part.Upload (upload_outcome end) };
-
-    ghost stopped = { λ count. part.Upload (upload.Stopped count) };
-
-    fn by_end(self) -> Part {
-        Part::Upload(match self {
-            UploadEnd::Done(count) => UploadOutcome::Done(count),
-            UploadEnd::Already => UploadOutcome::Already,
-            UploadEnd::Fault(entry) => UploadOutcome::Fault(entry),
-        })
-    }
-
-    fn by_stop(count: u32) -> Part {
-        Part::Upload(UploadOutcome::Stopped(count))
     }
 }
 
@@ -99,7 +86,7 @@ pub(crate) fn sync<H: Hand>(
     place: u32,
     view: &mut Option<View>,
     hand: &mut H,
-) -> Came
+) -> Result<Part, Broken>
     ensures ran { (end : Option SyncEnd)
         × Adds (SyncRun (sync_rules (setting_in means.now) place)) (H.seat hand.old)
         (H.entries hand.old) (H.entries hand.new) end result
@@ -140,12 +127,12 @@ fn partition_of(partitions: &PartitionList, place: u32) -> Partition
 }
 
 /// What a drive of a sync came to. A view that it gave is the gateway's from now on.
-fn take_view(driven: Driven<SyncEnd>, view: &mut Option<View>) -> Came
+fn take_view(driven: Driven<SyncEnd>, view: &mut Option<View>) -> Result<Part, Broken>
     ensures came { result ≡ sync_came driven }
     ensures view { view.new ≡ view_by view.old (end_of driven) }
 {
     match driven {
-        Driven::Ended(end) => Ok(Part::Sync(sync_outcome(end, view))),
+        Driven::Ended(end) => Ok(Came::Sync(sync_outcome(end, view))),
         Driven::Full => Err(Broken::Full),
         Driven::Stopped(_) | Driven::NoMemory => Err(Broken::NoMemory),
     }
@@ -178,7 +165,7 @@ pub(crate) fn call<H: Hand>(
     high: i64,
     cache: IndexCache,
     hand: &mut H,
-) -> (Came, Option<IndexCache>)
+) -> (Result<Part, Broken>, Option<IndexCache>)
     ensures ran { (used : Use) (line_low line_high : ℤ) (number : ℕ) → (end : Option CallEnd)
         × Adds (SeriesRun view.now (asking selector.now rules.now.replicas low high) (held cache))
         (H.seat hand.old) (H.entries hand.old) (H.entries hand.new) end result.0
@@ -204,7 +191,7 @@ pub(crate) fn call<H: Hand>(
     ) {
         Driven::Ended(left) => {
             let CallLeft { end, cache } = left;
-            (Ok(Part::Query(call_part(end))), Some(cache))
+            (Ok(Came::Query(call_part(end))), Some(cache))
         }
         Driven::Full => (Err(Broken::Full), None),
         Driven::Stopped(_) | Driven::NoMemory => (Err(Broken::NoMemory), None),

@@ -19,7 +19,7 @@ ghost use Rattle.script_running.specs.Gathering.{HaveOwnGateways, AreAllEmpty, A
 ghost use Rattle.script_running.specs.Going.{Met};
 ghost use Rattle.script_running.specs.Workers.{IsAtWork};
 ghost use Rattle.script_running.specs.Tasks.{is_full_came};
-ghost use Rattle.script_running.specs.declared.outcome.Outcome.{Outcome};
+ghost use Rattle.script_running.specs.Outcomes.{Outcome};
 
 use crate::{Broken, Means, OutcomeList, Part, Report, Sight, WorkerEnd, WorkerJob, outcome_of};
 use base::{NoMemory, TryCopy};

@@ -9,7 +9,6 @@ mod declared;
 mod gathering;
 mod means;
 mod outcome;
-mod part;
 mod plan;
 mod query_parts;
 mod report;
@@ -22,16 +21,18 @@ mod upkeep;
 mod worker;
 
 pub use beside::{RunEnd, run_beside};
-pub use came::{Broken, Came};
+pub use came::{Broken, Came, Outcome, Part, Stop};
+pub use cleaner;
+pub use cleaner::CleanEnd;
+pub use compactor;
+pub use compactor::CompactEnd;
 pub use means::{Means, selector_texts};
-pub use outcome::{
-    CleanOutcome, CompactOutcome, NoAnswer, Outcome, OutcomeList, QueryOutcome, SyncOutcome,
-    UploadOutcome,
-};
-pub use part::{Part, QueryPart};
+pub use outcome::{NoAnswer, OutcomeList, QueryOutcome, QueryPart, SyncOutcome};
 pub use query_parts::outcome_of;
 pub use report::Report;
 pub use shelf::{ShelfBlock, ShelfBlockList, ShelfFound, cause_number};
+pub use shipper;
+pub use shipper::UploadEnd;
 pub use sight::Sight;
 pub use task::run_task;
 pub use worker::{WorkerEnd, WorkerJob};

@@ -35,7 +35,7 @@ pub fn run_task<H: Hand>(
     work: &Work,
     sight: &mut Sight,
     hand: &mut H,
-) -> Came
+) -> Result<Part, Broken>
     requires { Allows means.now.script work.now }
 
     // Whatever seat the worker has, and wherever the task stands in its phase: what is done is a run of the task, from what
@@ -82,7 +82,7 @@ fn part_of_query<H: Hand>(
     low: i64,
     high: i64,
     hand: &mut H,
-) -> Came
+) -> Result<Part, Broken>
     requires { number < length means.now.script.selectors }
     ensures done { (who : Who) (place : ℕ) (held : Holding) → who.gateway ≡ gateway
         → Sees held sight.old
@@ -109,7 +109,7 @@ fn part_of_query<H: Hand>(
             ask.high,
             hand,
         ),
-        None => Ok(Part::Query(QueryPart::NotAsked)),
+        None => Ok(Came::Query(QueryPart::NotAsked)),
     }
 }
 
@@ -150,7 +150,7 @@ fn ask_view<H: Hand>(
     low: i64,
     high: i64,
     hand: &mut H,
-) -> Came
+) -> Result<Part, Broken>
     requires { number < length means.now.script.selectors }
     ensures asked { (held : Holding) (selector : List Matcher)
         → Sees held (record { view = view.now; cache = cache.old })
@@ -178,6 +178,6 @@ fn ask_view<H: Hand>(
             *cache = left;
             came
         }
-        None => Ok(Part::Query(QueryPart::NoAnswer(NoAnswer::NoView))),
+        None => Ok(Came::Query(QueryPart::NoAnswer(NoAnswer::NoView))),
     }
 }

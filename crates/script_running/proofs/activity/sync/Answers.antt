@@ -7,7 +7,7 @@ use Rattle.script_workers.specs.declared.work.Work.TheVariants as works
 use Rattle.script_running.specs.Lending.{setting_in}
 use Rattle.lifecycle_core.specs.Tasks.{sync_rules, synced}
 use Rattle.script_running.specs.Outcomes.{sync_outcome}
-use Rattle.script_running.specs.declared.part.Part.TheVariants as part
+use Rattle.script_running.specs.declared.came.Came.TheVariants as part
 use Rattle.script_running.specs.Drives.{sync_came}
 use Rattle.script_running.proofs.Syncs.{driven_told, wanted_by}
 use Rattle.script_running.proofs.activity.sync.Goals as goal

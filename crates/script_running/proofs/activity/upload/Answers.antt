@@ -8,11 +8,11 @@ use Rattle.base.proofs.Bools.{or_false}
 
 pub returns-in-Ok-clause-ran : goal.returns-in-Ok-clause-ran
 returns-in-Ok-clause-ran g c = λ setting ulid known.
-    upload_told setting c.args.block.now c.in-Ok.objects c.args.stop (g.H.Hand.seat c.args.hand.now) c.run_upload.result (g.H.Hand.entries c.args.hand.now) (g.H.Hand.entries c.run_upload.new.hand) c.stopped_came.result ulid
-    c.stopped_came.ensures (c.in-Ok.ensures.shipped setting known) (c.run_upload.ensures.run c.args.block.now.ulid c.in-Ok.ensures.block)
+    upload_told setting c.args.block.now c.in-Ok.objects c.args.stop (g.H.Hand.seat c.args.hand.now) c.run_upload.result (g.H.Hand.entries c.args.hand.now) (g.H.Hand.entries c.run_upload.new.hand) c.upload_came.result ulid
+    c.upload_came.ensures (c.in-Ok.ensures.shipped setting known) (c.run_upload.ensures.run c.args.block.now.ulid c.in-Ok.ensures.block)
 
 pub returns-in-Ok-clause-wanted : goal.returns-in-Ok-clause-wanted
-returns-in-Ok-clause-wanted g c = wanted_by upload_came c.run_upload.result c.stopped_came.result refl c.stopped_came.ensures c.run_upload.ensures.wanted
+returns-in-Ok-clause-wanted g c = wanted_by upload_came c.run_upload.result c.upload_came.result refl c.upload_came.ensures c.run_upload.ensures.wanted
 
 pub returns-in-Err-clause-ran : goal.returns-in-Err-clause-ran
 returns-in-Err-clause-ran g c = λ setting ulid known.

@@ -1,7 +1,7 @@
 use Rattle.std.proofs.Common.{◌≡◌, ◌++◌, List, take}
 use Rattle.script_workers.specs.declared.task.Task.{Task}
 use Rattle.script_running.specs.Gathering.{AreTold}
-use Rattle.script_running.specs.declared.outcome.Outcome.{Outcome}
+use Rattle.script_running.specs.Outcomes.{Outcome}
 use Rattle.script_running.proofs.Telling.{AreLeftFrom}
 use Rattle.script_running.proofs.gathering.tell.Given as goal
 
