@@ -62,7 +62,7 @@ pub(crate) fn do_task<B: Bucket, R: Drop>(
     let mut hand = hand;
     for number in 0..count {
         let who = hand_at(&task.work, place, number);
-        let (came, next) = do_part(alloc, means, task, place, who, seats, progress, hand);
+        let (came, next) = do_part(means, task, place, who, seats, progress, hand);
         hand = next;
         match came {
             Ok(part) => parts.push_reserved(part),
@@ -105,7 +105,6 @@ fn hand_at(work: &Work, place: usize, number: usize) -> Hand
 
 /// Does one worker's part of a task.
 fn do_part<B: Bucket, R: Drop>(
-    alloc: Global,
     means: &Means<'_>,
     task: &Task,
     place: usize,
@@ -137,14 +136,14 @@ fn do_part<B: Bucket, R: Drop>(
     match who {
         Hand::Alone(_) => {
             let mut unseen = Sight::new();
-            let done = do_over(alloc, means, None, &task.work, &mut unseen, hand, seat);
+            let done = do_over(means, None, &task.work, &mut unseen, hand, seat);
             drop(unseen);
             done
         }
         Hand::Gateway(number) => {
             let gateway = &mut progress.gateways[number as usize];
             let own = Some(number);
-            do_over(alloc, means, own, &task.work, gateway, hand, seat)
+            do_over(means, own, &task.work, gateway, hand, seat)
         }
     }
 }
@@ -165,7 +164,6 @@ fn gathered_outcome(alloc: Global, parts: Vec<Part>) -> Result<Outcome, Broken>
 /// Does a task from a worker's seat.
 #[tactic(auto, using(crate::proofs::Keeping::kept_at))]
 fn do_over<B: Bucket>(
-    alloc: Global,
     means: &Means<'_>,
     gateway: Option<u32>,
     work: &Work,
@@ -187,6 +185,6 @@ fn do_over<B: Bucket>(
         hand.world.journal result.1.world.journal sight.new result.0 }
 {
     let mut hand = hand.at_seat(seat);
-    let came = run_task(alloc, means, gateway, work, sight, &mut hand);
+    let came = run_task(means, gateway, work, sight, &mut hand);
     (came, hand)
 }

@@ -295,18 +295,6 @@ pub asked_where : (setting : Setting) (gateway : Option ℕ) (low low' high high
 asked_where setting gateway low low' high high' asked own l h is so =
     subst (λ (x : ℤ). ask_to setting gateway x high' ≡ own) l (subst (λ (y : ℤ). ask_to setting gateway low y ≡ own) h (sym is ∙ so))
 
--- numbers that were passed on are the same
-pub asked_told : (view : View) (matchers : List Matcher) (replicas : List (List ℕ)) (cache : Cache) (low low' high high' : ℤ) (seat : ℕ) (old new : List Entry) (used : Use) (line_low line_high : ℤ) (number : ℕ) (left : Option IndexCache) (came : Result Part Broken) → low ≡ low' → high ≡ high'
-    → Called view (asking matchers replicas low high) cache seat old new used line_low line_high number left came → Called view (asking matchers replicas low' high') cache seat old new used line_low line_high number left came
-asked_told view matchers replicas cache low low' high high' seat old new used line_low line_high number left came l h ran =
-    subst (λ (x : ℤ). Called view (asking matchers replicas x high') cache seat old new used line_low line_high number left came) l
-    (subst (λ (y : ℤ). Called view (asking matchers replicas low y) cache seat old new used line_low line_high number left came) h ran)
-
-pub asked_so : (held : Holding) (matchers : List Matcher) (replicas : List (List ℕ)) (low low' high high' : ℤ) (seat : ℕ) (old new : List Entry) (sight : Sight) (came : Result Part Broken) → low ≡ low' → high ≡ high'
-    → HasAsked held (asking matchers replicas low high) seat old new sight came → HasAsked held (asking matchers replicas low' high') seat old new sight came
-asked_so held matchers replicas low low' high high' seat old new sight came l h asked =
-    subst (λ (x : ℤ). HasAsked held (asking matchers replicas x high') seat old new sight came) l (subst (λ (y : ℤ). HasAsked held (asking matchers replicas low y) seat old new sight came) h asked)
-
 -- a selector and rules that are the same
 pub asked_again : (held : Holding) (matchers own : List Matcher) (rules its : Rules) (low high : ℤ) (seat : ℕ) (old new : List Entry) (sight : Sight) (came : Result Part Broken) → matchers ≡ own → rules ≡ its
     → HasAsked held (asking matchers rules.replicas low high) seat old new sight came → HasAsked held (asking own its.replicas low high) seat old new sight came
@@ -322,12 +310,6 @@ upto_range low high one other = omega (arith, ints, one, other)
 
 pub from_range : (low high : ℤ) → neg_ℤ (pos (2 ^ 62)) ≤ℤ low → low ≤ℤ high → neg_ℤ (pos (2 ^ 62)) ≤ℤ high
 from_range low high one other = omega (arith, ints, one, other)
-
-pub query_done : (setting : Setting) (who : Who) (place : ℕ) (held : Holding) (work : Work) (seat : ℕ) (old new : List Entry) (sight : Sight) (came : Result Part Broken) (low low' high high' : ℤ) (number : ℕ) → low ≡ low' → high ≡ high'
-    → work ≡ works.Query low' high' number → HasDone setting who place (works.Query low high number) held seat old new sight came → HasDone setting who place work held seat old new sight came
-query_done setting who place held work seat old new sight came low low' high high' number l h w done =
-    let is : works.Query low high number ≡ work = ap (λ x. works.Query x high number) l ∙ ap (λ y. works.Query low' y number) h ∙ sym w in
-    subst (λ (x : Work). HasDone setting who place x held seat old new sight came) is done
 
 -- ---- the times that a gateway is asked fit their numbers
 

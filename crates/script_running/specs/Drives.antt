@@ -1,12 +1,14 @@
 -- What a worker's part of a task comes to, and what drives of its machine come to.
-use Rattle.std.specs.Prelude.{Result, Ok, Err}
+use Rattle.std.specs.Prelude.{Option, Some, Result, Ok, Err}
 use Rattle.world_core.specs.declared.driving.Driven.{Driven}
 use Rattle.world_core.specs.declared.driving.Driven.TheVariants as driven
 use Rattle.shipper.specs.declared.upload.UploadEnd.{UploadEnd}
 use Rattle.meta_fetcher.specs.declared.sync.SyncEnd.{SyncEnd}
 use Rattle.compactor.specs.declared.compact_end.CompactEnd.{CompactEnd}
 use Rattle.cleaner.specs.declared.clean.CleanEnd.{CleanEnd}
-use Rattle.script_running.specs.Outcomes.{Part, sync_outcome}
+use Rattle.store_ranges.specs.declared.cache.IndexCache.{IndexCache}
+use Rattle.store_calls.specs.declared.running.CallLeft.{CallLeft}
+use Rattle.script_running.specs.Outcomes.{Part, call_part, sync_outcome}
 use Rattle.script_running.specs.declared.came.Broken.{Broken}
 use Rattle.script_running.specs.declared.came.Broken.TheVariants as broken
 use Rattle.script_running.specs.declared.came.Came.TheVariants as part
@@ -50,3 +52,14 @@ compact_came driven = came_by (λ end. part.Compact end) (stop_of driven)
 
 abbrev pub clean_came : Driven CleanEnd → Result Part Broken
 clean_came driven = came_by (λ end. part.Clean end) (stop_of driven)
+
+-- a gateway's part of a query
+abbrev pub call_came : Driven CallLeft → Result Part Broken
+call_came driven = came_by (λ left. part.Query (call_part left.end)) (driven_end driven)
+
+-- the ranges that are kept after its call
+abbrev pub cache_by : Option IndexCache → Driven CallLeft → Option IndexCache
+cache_by before (driven.Ended left) = Some left.cache
+cache_by before (driven.Stopped count) = before
+cache_by before driven.Full = before
+cache_by before driven.NoMemory = before

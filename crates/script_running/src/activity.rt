@@ -3,34 +3,26 @@ ghost use Rattle.world_core.specs.Machines.{end_of};
 ghost use Rattle.world_core.specs.Keeping.{IsFull};
 ghost use Rattle.meta_fetcher.specs.declared.sync.SyncEnd.{SyncEnd};
 ghost use Rattle.meta_fetcher.specs.Syncs.{SyncRun};
-ghost use Rattle.store_ranges.specs.Caches.{held};
-ghost use Rattle.store_calls.specs.SeriesCalls.{CallEnd, SeriesRun, asking};
 ghost use Rattle.script_core.specs.Lawful.{IsLawfulBlock};
 ghost use Rattle.script_workers.specs.declared.work.Work.TheVariants as works;
-ghost use Rattle.lifecycle_core.specs.Tasks.{End, ShipTask, all_times, answered, sync_rules, synced};
-ghost use Rattle.lifecycle_core.specs.Holdings.{Use};
+ghost use Rattle.lifecycle_core.specs.Tasks.{End, ShipTask, all_times, sync_rules, synced};
 ghost use Rattle.lifecycle_core.specs.Setting.{Setting};
 ghost use Rattle.script_running.specs.Lending.{setting_in};
-ghost use Rattle.script_running.specs.Outcomes.{call_part, sync_outcome};
+ghost use Rattle.script_running.specs.Outcomes.{sync_outcome};
 ghost use Rattle.script_running.specs.Drives.{sync_came, unshipped_came, upload_came};
 ghost use Rattle.script_running.specs.Shelves.{Knows};
-ghost use Rattle.script_running.specs.Sights.{cache_of};
 ghost use Rattle.script_running.specs.Tasks.{Adds, CameBy, is_full_came, view_by};
 
 use crate::plan::objects_of;
 use crate::shelf::ShelfBlock;
 use crate::stopping::stop_of;
 use crate::unshipped::Unshipped;
-use crate::{Broken, Came, Means, NoAnswer, Part, QueryPart, SyncOutcome};
-use matchers::Selector;
+use crate::{Broken, Came, Means, Part, SyncOutcome};
 use meta_fetcher::{SyncEnd, SyncRules, View, run_sync};
-use moment_core::{Partition, PartitionList, Rules};
-use querier::Answer;
+use moment_core::{Partition, PartitionList};
 use script_core::Block;
 use shipper::{UploadEnd, run_upload};
 use std::alloc::Global;
-use store_calls::{CallLeft, SeriesEnd, run_call};
-use store_ranges::IndexCache;
 use world_core::{Driven, Hand};
 
 /// Ships a declared block, and stops after so many operations where the script says so.
@@ -151,60 +143,5 @@ fn sync_outcome(end: SyncEnd, view: &mut Option<View>) -> SyncOutcome
         SyncEnd::Fault(entry) => SyncOutcome::Fault(entry),
         SyncEnd::Damaged(entry) => SyncOutcome::Damaged(entry),
         SyncEnd::TooMany => SyncOutcome::TooMany,
-    }
-}
-
-/// A gateway's call over a view, for the series that the selector matches, with their samples from `low` to `high`, by the
-/// ranges that it kept. It leaves what it keeps then, unless it was broken off.
-pub(crate) fn call<H: Hand>(
-    alloc: Global,
-    rules: &Rules,
-    view: &View,
-    selector: &Selector,
-    low: i64,
-    high: i64,
-    cache: IndexCache,
-    hand: &mut H,
-) -> (Result<Part, Broken>, Option<IndexCache>)
-    ensures ran { (used : Use) (line_low line_high : ℤ) (number : ℕ) → (end : Option CallEnd)
-        × Adds (SeriesRun view.now (asking selector.now rules.now.replicas low high) (held cache))
-        (H.seat hand.old) (H.entries hand.old) (H.entries hand.new) end result.0
-        × CameBy (works.Query line_low line_high number)
-        (option_map (λ call. answered used call.end) end) result.0
-        × IfSome end (λ call. call.cache ≡ cache_of result.1) }
-    ensures seat { H.seat hand.new ≡ H.seat hand.old }
-    ensures keeps { H.keeps hand.old hand.new }
-    ensures refused { H.refused hand.new ≡ (H.refused hand.old || is_full_came result.0) }
-    ensures full { result.0 ≡ Err Broken.Full → IfSome (H.front hand.new) IsFull }
-    ensures wanted { IsTrue (H.wanted hand.new)
-        → IsTrue (H.wanted hand.old) ⊎ (result.0 ≡ Err Broken.NoMemory) }
-{
-    match run_call(
-        alloc,
-        view,
-        selector,
-        &rules.replicas,
-        low,
-        high,
-        cache,
-        hand,
-    ) {
-        Driven::Ended(left) => {
-            let CallLeft { end, cache } = left;
-            (Ok(Came::Query(call_part(end))), Some(cache))
-        }
-        Driven::Full => (Err(Broken::Full), None),
-        Driven::Stopped(_) | Driven::NoMemory => (Err(Broken::NoMemory), None),
-    }
-}
-
-fn call_part(end: SeriesEnd) -> QueryPart
-    ensures { result ≡ call_part end }
-{
-    match end {
-        SeriesEnd::Answer { series, sources } => QueryPart::Answer(Answer { series, sources }),
-        SeriesEnd::Missing(entry) => QueryPart::NoAnswer(NoAnswer::Missing(entry)),
-        SeriesEnd::Damaged(entry) => QueryPart::NoAnswer(NoAnswer::Damaged(entry)),
-        SeriesEnd::Fault(entry) => QueryPart::NoAnswer(NoAnswer::Fault(entry)),
     }
 }

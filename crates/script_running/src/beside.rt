@@ -102,7 +102,7 @@ pub fn run_beside<B: Bucket + Send, G: Gate + Sync, P: Report, R: Threads + Wait
     let Ok(texts) = selector_texts(alloc, &script.selectors) else {
         return Err(world);
     };
-    let means = Means::lend(script, shelf, texts.members());
+    let means = Means::lend(alloc, script, shelf, texts.members());
     match Shared::open(alloc, world) {
         Ok((shared, root)) => {
             let (came, root) = run_phases(
@@ -240,7 +240,7 @@ fn phase_beside<B: Bucket + Send, G: Gate + Sync, P: Report, R: Threads + Wait +
     };
     let workers = staff.members();
     let sights = &mut standing.sights;
-    let Ok(jobs) = jobs_of(alloc, means, place, phase, workers, sights) else {
+    let Ok(jobs) = jobs_of(means, place, phase, workers, sights) else {
         return (Err(Broken::NoMemory), root);
     };
     let (begun, root) = begin_phase(rt, shared, root, phase);

@@ -29,8 +29,7 @@ use std::alloc::Global;
 use std::mem;
 
 /// A job for each worker of the phase, which takes what its gateway sees.
-pub(crate) fn jobs_of<'a>(
-    alloc: Global,
+pub fn jobs_of<'a>(
     means: &'a Means<'a>,
     place: usize,
     phase: &'a Phase,
@@ -49,11 +48,11 @@ pub(crate) fn jobs_of<'a>(
     ensures left { (held : Holdings) → AreSeen held sights.old.items
         → OnOk result (AreSeenBeside held workers.now sights.new.items) }
 {
-    let mut jobs = Vec::with_capacity(alloc, workers.len())?;
+    let mut jobs = Vec::with_capacity(means.alloc(), workers.len())?;
     for worker in workers {
         let own = worker.copy()?;
         let sight = take_sight(worker.gateway, sights);
-        jobs.push_reserved(WorkerJob::new(alloc, means, place, phase, own, sight));
+        jobs.push_reserved(WorkerJob::new(means, place, phase, own, sight));
     }
     Ok(jobs)
 }

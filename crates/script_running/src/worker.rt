@@ -21,7 +21,6 @@ use world_core::Hand;
 /// A worker of a phase and what its gateway sees.
 #[derive(Drop)]
 pub struct WorkerJob<'a> {
-    alloc: Global,
     means: &'a Means<'a>,
     tasks: &'a [Task],
     phase: usize,
@@ -58,7 +57,6 @@ pub struct WorkerEnd {
 impl<'a> WorkerJob<'a> {
     /// The job of a worker of the phase at a place.
     pub fn new(
-        alloc: Global,
         means: &'a Means<'a>,
         place: usize,
         phase: &'a Phase,
@@ -70,7 +68,6 @@ impl<'a> WorkerJob<'a> {
             × (result.sight ≡ sight) }
     {
         WorkerJob {
-            alloc,
             means,
             tasks: phase.tasks.members(),
             phase: place,
@@ -107,7 +104,6 @@ impl<'a> Job for WorkerJob<'a> {
 
     fn run<H: Hand>(self, hand: &mut H) -> WorkerEnd {
         let WorkerJob {
-            alloc,
             means,
             tasks,
             phase: _,
@@ -115,7 +111,7 @@ impl<'a> Job for WorkerJob<'a> {
             sight,
         } = self;
         let places = worker.tasks.members();
-        do_tasks(alloc, means, worker.gateway, tasks, places, sight, hand)
+        do_tasks(means, worker.gateway, tasks, places, sight, hand)
     }
 }
 
@@ -134,7 +130,6 @@ fn wanting(alloc: Global, sight: Sight) -> WorkerEnd
 /// Does a worker's parts of the tasks at these places one after another, until one of them is broken off. It takes its memory
 /// for what they come to first.
 fn do_tasks<H: Hand>(
-    alloc: Global,
     means: &Means<'_>,
     gateway: Option<u32>,
     tasks: &[Task],
@@ -158,12 +153,12 @@ fn do_tasks<H: Hand>(
         → IsTrue (H.wanted hand.old) ⊎ (result.came ≡ Err Broken.NoMemory) }
 {
     let mut sight = sight;
-    let Ok(mut parts) = Vec::with_capacity(alloc, places.len()) else {
-        return wanting(alloc, sight);
+    let Ok(mut parts) = Vec::with_capacity(means.alloc(), places.len()) else {
+        return wanting(means.alloc(), sight);
     };
     for number in 0..places.len() {
         let task = &tasks[places[number] as usize];
-        match run_task(alloc, means, gateway, &task.work, &mut sight, hand) {
+        match run_task(means, gateway, &task.work, &mut sight, hand) {
             Ok(part) => parts.push_reserved(part),
             Err(broken) => {
                 return WorkerEnd {
