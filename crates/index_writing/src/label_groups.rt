@@ -93,7 +93,7 @@ trait Group: Drop {
     /// The group of the members of two.
     ghost join: { Self → Self → Self };
 
-    /// Begins a group.
+    /// The group of one member, which its neighbours may join.
     fn of(alloc: Global, member: &Self::Member) -> Result<Self, NoMemory>
         ensures { IfOk result (λ group. group ≡ of member.now) };
 
