@@ -162,7 +162,6 @@ fn gathered_outcome(alloc: Global, parts: Vec<Part>) -> Result<Outcome, Broken>
 }
 
 /// Does a task from a worker's seat.
-#[tactic(auto, using(crate::proofs::Keeping::kept_at))]
 fn do_over<B: Bucket>(
     means: &Means<'_>,
     gateway: Option<u32>,

@@ -1,6 +1,6 @@
 -- What a drive of a sync leaves.
-use Rattle.std.proofs.Common.{◌≡◌, ◌⊎◌, inl, inr, ℕ, List, refl, sym, ◌∙◌, ap, subst}
-use Rattle.std.specs.Prelude.{Option, None, option_map, Result, Err}
+use Rattle.std.proofs.Common.{◌≡◌, ℕ, List, refl, sym, subst}
+use Rattle.std.specs.Prelude.{Option, None, option_map, Result}
 use Rattle.world_core.specs.Machines.{Awaits, Drives, end_of}
 use Rattle.world_core.specs.declared.driving.Driven.{Driven}
 use Rattle.world_core.specs.declared.driving.Driven.TheVariants.{Ended, Stopped, Full, NoMemory}
@@ -12,7 +12,6 @@ use Rattle.script_running.specs.Drives.{came_by, driven_end}
 use Rattle.script_running.specs.Outcomes.{IsPart, Part}
 use Rattle.script_running.specs.Tasks.{Adds, CameBy, WhenFull}
 use Rattle.script_running.specs.declared.came.Broken.{Broken}
-use Rattle.script_running.specs.declared.came.Broken.TheVariants as broken
 
 -- a drive without a stop is never stopped
 never : {E : Type 0} (is_run : List Entry → Option E → Type 0) (seat : ℕ) (driven : Driven E) (old new : List Entry) → Drives is_run seat None driven old new → (n : ℕ) → driven ≡ Stopped n → ⊥
@@ -40,7 +39,3 @@ driven_told is_run seat driven old new work as_end out came c is d =
       record { made = d.made; entries = d.entries; seats = d.seats; run = d.run; due = due is_run seat d.made out driven d.waits },
       comes_by work as_end out driven is (never is_run seat driven old new d),
     )
-
--- memory that a drive wanted is told
-pub wanted_by : {E P Q : Type 0} (comes : Driven E → Result Part Broken) (driven : Driven E) (came : Result Part Broken) → comes NoMemory ≡ Err broken.NoMemory → came ≡ comes driven → (P → Q ⊎ (driven ≡ NoMemory)) → P → Q ⊎ (came ≡ Err broken.NoMemory)
-wanted_by comes driven came short is wanted p = elim (wanted p) [ inl q ↦ inl q | inr none ↦ inr (is ∙ ap comes none ∙ short) ]

@@ -68,25 +68,6 @@ parts_on [] more (e ∷ ends) parts are = absurd are
 parts_on (a ∷ own) more (e ∷ ends) [] are = absurd are
 parts_on (a ∷ own) more (e ∷ ends) (o ∷ parts) are = (are.0, parts_on own more ends parts are.1)
 
--- ---- what was refused
-
--- a task that came to its end was refused nothing
-pub refused_none : (first mid new : Bool) (came : Result Part Broken) (o : Part) → new ≡ (mid || is_full_came came) → came ≡ Ok o → mid ≡ first → new ≡ first
-refused_none first mid new came o is so same = is ∙ ap (λ (r : Result Part Broken). mid || is_full_came r) so ∙ or_false mid ∙ same
-
--- the task that broke off tells of the worker
-pub refused_broken : (first mid new : Bool) (came : Result Part Broken) (why : Broken) → new ≡ (mid || is_full_came came) → came ≡ Err why → mid ≡ first → new ≡ (first || is_full_came {X = Unit {0}} (Err why))
-refused_broken first mid new came broken.Full is so same = is ∙ ap (λ (r : Result Part Broken). mid || is_full_came r) so ∙ ap (λ (b : Bool). b || true) same
-refused_broken first mid new came broken.NoMemory is so same = is ∙ ap (λ (r : Result Part Broken). mid || is_full_came r) so ∙ ap (λ (b : Bool). b || false) same
-
--- a worker that was not refused
-pub unrefused : (first new : Bool) (came : Result (Unit {0}) Broken) → is_full_came came ≡ false → new ≡ first → new ≡ (first || is_full_came came)
-unrefused first new came none same = same ∙ sym (or_false first) ∙ ap (λ (b : Bool). first || b) (sym none)
-
--- a task that was broken off for want of memory breaks its worker off for that
-pub short_by : (came : Result Part Broken) (why : Broken) → came ≡ Err why → came ≡ Err broken.NoMemory → ◌≡◌ {A = Result (Unit {0}) Broken} (Err why) (Err broken.NoMemory)
-short_by came why is none = let same : why ≡ broken.NoMemory = cc (is, none) in ap (λ (b : Broken). Err b) same
-
 pub full_end : (came : Result (Unit {0}) Broken) → is_full_came came ≡ true → came ≡ Err broken.Full
 full_end (Ok tt) is = absurd (cc (is))
 full_end (Err broken.Full) is = refl

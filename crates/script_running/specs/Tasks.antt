@@ -41,6 +41,12 @@ is_full_came (Ok x) = false
 is_full_came (Err broken.Full) = true
 is_full_came (Err broken.NoMemory) = false
 
+-- whether memory was wanting
+abbrev pub is_short_came : {X : Type 0} → Result X Broken → Bool
+is_short_came (Ok x) = false
+is_short_came (Err broken.Full) = false
+is_short_came (Err broken.NoMemory) = true
+
 -- entries that one seat added, which with this end are such a run
 pub record Adds {E : Type 0} (is_run : List Entry → E → Type 0) (seat : ℕ) (old new : List Entry) (end : E) (came : Result Part Broken) : Type 0 where
   pub made : List Entry

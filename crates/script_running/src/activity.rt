@@ -1,9 +1,9 @@
 //! Uploads, syncs and calls as a script's workers do them: what each takes of the script, and how its end is told as
 //! the part of the worker who did it.
 
-ghost use Rattle.std.specs.Prelude.{◌≡◌, ◌≤◌, ◌||◌, ◌⊎◌, ℕ, ℤ, false, Option, Some, Err, option_map, IfSome, IsTrue, slice_get, unwrap_or};
+ghost use Rattle.std.specs.Prelude.{◌≡◌, ◌≤◌, ℕ, false, Option, Some, option_map, slice_get, unwrap_or};
 ghost use Rattle.world_core.specs.Machines.{end_of};
-ghost use Rattle.world_core.specs.Keeping.{IsFull};
+ghost use Rattle.world_core.specs.Turning.{Turned};
 ghost use Rattle.meta_fetcher.specs.declared.sync.SyncEnd.{SyncEnd};
 ghost use Rattle.meta_fetcher.specs.Syncs.{SyncRun};
 ghost use Rattle.script_core.specs.Lawful.{IsLawfulBlock};
@@ -14,7 +14,7 @@ ghost use Rattle.script_running.specs.Lending.{setting_in};
 ghost use Rattle.script_running.specs.Outcomes.{sync_outcome};
 ghost use Rattle.script_running.specs.Drives.{sync_came, unshipped_came, upload_came};
 ghost use Rattle.script_running.specs.Shelves.{Knows};
-ghost use Rattle.script_running.specs.Tasks.{Adds, CameBy, is_full_came, view_by};
+ghost use Rattle.script_running.specs.Tasks.{Adds, CameBy, is_full_came, is_short_came, view_by};
 
 use crate::plan::objects_of;
 use crate::shelf::ShelfBlock;
@@ -43,12 +43,8 @@ pub(crate) fn upload<H: Hand>(
         × Adds (ShipTask setting block.now stop) (H.seat hand.old) (H.entries hand.old)
         (H.entries hand.new) end result
         × CameBy (works.Upload ulid stop) end result }
-    ensures seat { H.seat hand.new ≡ H.seat hand.old }
-    ensures keeps { H.keeps hand.old hand.new }
-    ensures refused { H.refused hand.new ≡ (H.refused hand.old || is_full_came result) }
-    ensures full { result ≡ Err Broken.Full → IfSome (H.front hand.new) IsFull }
-    ensures wanted { IsTrue (H.wanted hand.new)
-        → IsTrue (H.wanted hand.old) ⊎ (result ≡ Err Broken.NoMemory) }
+    ensures hand { Turned H.entries H.known H.seat H.front H.refused H.wanted H.keeps
+        hand.old hand.new (is_full_came result) (is_short_came result) }
 {
     match objects_of(alloc, block, shelf) {
         Ok(objects) => upload_came(run_upload(objects, stop, hand)),
@@ -87,12 +83,8 @@ pub(crate) fn sync<H: Hand>(
         (H.entries hand.old) (H.entries hand.new) end result
         × CameBy (works.Sync place) (option_map synced end) result
         × (view.new ≡ view_by view.old end) }
-    ensures seat { H.seat hand.new ≡ H.seat hand.old }
-    ensures keeps { H.keeps hand.old hand.new }
-    ensures refused { H.refused hand.new ≡ (H.refused hand.old || is_full_came result) }
-    ensures full { result ≡ Err Broken.Full → IfSome (H.front hand.new) IsFull }
-    ensures wanted { IsTrue (H.wanted hand.new)
-        → IsTrue (H.wanted hand.old) ⊎ (result ≡ Err Broken.NoMemory) }
+    ensures hand { Turned H.entries H.known H.seat H.front H.refused H.wanted H.keeps
+        hand.old hand.new (is_full_came result) (is_short_came result) }
 {
     take_view(run_sync(alloc, sync_rules(means, place), hand), view)
 }

@@ -1,8 +1,8 @@
 //! One task of a script, done by its worker.
 
-ghost use Rattle.std.specs.Prelude.{◌≡◌, ◌==◌, ◌<◌, ◌||◌, ◌⊎◌, ℕ, List, Err, FitsSigned, Some, IfOk, IfSome, IsTrue, find, length, option_map, slice_get};
+ghost use Rattle.std.specs.Prelude.{◌≡◌, ◌==◌, ◌<◌, ℕ, List, FitsSigned, Some, IfOk, IfSome, find, length, option_map, slice_get};
 ghost use Rattle.std.specs.Int.{w64};
-ghost use Rattle.world_core.specs.Keeping.{IsFull};
+ghost use Rattle.world_core.specs.Turning.{Turned};
 ghost use Rattle.store_calls.specs.SeriesCalls.{asking};
 ghost use Rattle.matchers.specs.declared.matcher.Matcher.{Matcher};
 ghost use Rattle.lifecycle_core.specs.Conducts.{Who};
@@ -12,7 +12,7 @@ ghost use Rattle.script_running.specs.Lending.{setting_in};
 ghost use Rattle.script_running.specs.Drives.{cache_by, call_came};
 ghost use Rattle.script_running.specs.Outcomes.{call_part};
 ghost use Rattle.script_running.specs.Sights.{Sees};
-ghost use Rattle.script_running.specs.Tasks.{Allows, HasAsked, HasDone, is_full_came};
+ghost use Rattle.script_running.specs.Tasks.{Allows, HasAsked, HasDone, is_full_came, is_short_came};
 
 use crate::activity::{sync, upload};
 use crate::sight::own_cache;
@@ -44,16 +44,10 @@ pub fn run_task<H: Hand>(
         → HasDone (setting_in means.now) who place work.now held (H.seat hand.old)
         (H.entries hand.old) (H.entries hand.new) sight.new result }
 
-    ensures seat { H.seat hand.new ≡ H.seat hand.old }
-    ensures keeps { H.keeps hand.old hand.new }
-
-    // The task is broken off as full exactly where an operation was answered so, and then the journal is full.
-    ensures refused { H.refused hand.new ≡ (H.refused hand.old || is_full_came result) }
-    ensures full { result ≡ Err Broken.Full → IfSome (H.front hand.new) IsFull }
-
-    // Memory was wanted in an operation only where the task is broken off for that.
-    ensures wanted { IsTrue (H.wanted hand.new)
-        → IsTrue (H.wanted hand.old) ⊎ (result ≡ Err Broken.NoMemory) }
+    // The task is broken off as full exactly where an operation was answered so, and then the journal is full. Memory was
+    // wanted in an operation only where the task is broken off for that.
+    ensures hand { Turned H.entries H.known H.seat H.front H.refused H.wanted H.keeps
+        hand.old hand.new (is_full_came result) (is_short_came result) }
 {
     let alloc = means.alloc();
     match work {
@@ -118,12 +112,8 @@ fn ask_view<H: Hand>(
         → HasAsked held
         (asking selector means.now.script.rules.replicas ask.now.low ask.now.high)
         (H.seat hand.old) (H.entries hand.old) (H.entries hand.new) sight.new result }
-    ensures seat { H.seat hand.new ≡ H.seat hand.old }
-    ensures keeps { H.keeps hand.old hand.new }
-    ensures refused { H.refused hand.new ≡ (H.refused hand.old || is_full_came result) }
-    ensures full { result ≡ Err Broken.Full → IfSome (H.front hand.new) IsFull }
-    ensures wanted { IsTrue (H.wanted hand.new)
-        → IsTrue (H.wanted hand.old) ⊎ (result ≡ Err Broken.NoMemory) }
+    ensures hand { Turned H.entries H.known H.seat H.front H.refused H.wanted H.keeps
+        hand.old hand.new (is_full_came result) (is_short_came result) }
 {
     let Some(view) = &sight.view else {
         return Ok(Came::Query(QueryPart::NoAnswer(NoAnswer::NoView)));

@@ -1,13 +1,13 @@
 //! The keeping of the bucket: compactions and cleanings.
 
-ghost use Rattle.std.specs.Prelude.{◌≡◌, ◌≤◌, ◌||◌, ◌⊎◌, Option, Err, IfSome, IsTrue};
-ghost use Rattle.world_core.specs.Keeping.{IsFull};
+ghost use Rattle.std.specs.Prelude.{◌≡◌, ◌≤◌, Option};
+ghost use Rattle.world_core.specs.Turning.{Turned};
 ghost use Rattle.compactor.specs.Compactions.{compaction};
 ghost use Rattle.cleaner.specs.Cleanings.{cleaning};
 ghost use Rattle.script_workers.specs.declared.work.Work.TheVariants as works;
 ghost use Rattle.lifecycle_core.specs.Tasks.{End, StoppedRun, cleaned, compacted};
 ghost use Rattle.script_running.specs.Drives.{clean_came, compact_came};
-ghost use Rattle.script_running.specs.Tasks.{Adds, CameBy, is_full_came};
+ghost use Rattle.script_running.specs.Tasks.{Adds, CameBy, is_full_came, is_short_came};
 
 use crate::stopping::stop_of;
 use crate::{Broken, Came, Part};
@@ -29,12 +29,8 @@ pub(crate) fn compact<H: Hand>(
         × Adds (StoppedRun (compaction rules.now) compacted stop) (H.seat hand.old)
         (H.entries hand.old) (H.entries hand.new) end result
         × CameBy (works.Compact stop) end result }
-    ensures seat { H.seat hand.new ≡ H.seat hand.old }
-    ensures keeps { H.keeps hand.old hand.new }
-    ensures refused { H.refused hand.new ≡ (H.refused hand.old || is_full_came result) }
-    ensures full { result ≡ Err Broken.Full → IfSome (H.front hand.new) IsFull }
-    ensures wanted { IsTrue (H.wanted hand.new)
-        → IsTrue (H.wanted hand.old) ⊎ (result ≡ Err Broken.NoMemory) }
+    ensures hand { Turned H.entries H.known H.seat H.front H.refused H.wanted H.keeps
+        hand.old hand.new (is_full_came result) (is_short_came result) }
 {
     compact_came(run_compaction(alloc, rules, stop, hand))
 }
@@ -58,12 +54,8 @@ pub(crate) fn clean<H: Hand>(
         × Adds (StoppedRun (cleaning rules.now) cleaned stop) (H.seat hand.old)
         (H.entries hand.old) (H.entries hand.new) end result
         × CameBy (works.Clean stop) end result }
-    ensures seat { H.seat hand.new ≡ H.seat hand.old }
-    ensures keeps { H.keeps hand.old hand.new }
-    ensures refused { H.refused hand.new ≡ (H.refused hand.old || is_full_came result) }
-    ensures full { result ≡ Err Broken.Full → IfSome (H.front hand.new) IsFull }
-    ensures wanted { IsTrue (H.wanted hand.new)
-        → IsTrue (H.wanted hand.old) ⊎ (result ≡ Err Broken.NoMemory) }
+    ensures hand { Turned H.entries H.known H.seat H.front H.refused H.wanted H.keeps
+        hand.old hand.new (is_full_came result) (is_short_came result) }
 {
     clean_came(run_cleaning(alloc, rules, stop, hand))
 }

@@ -1,14 +1,14 @@
 //! A worker of a phase: it does its tasks one after another.
 
-ghost use Rattle.std.specs.Prelude.{◌≡◌, ◌<◌, ◌||◌, ◌⊎◌, [], Ok, Err, Some, IfSome, IsTrue, length, slice_get};
+ghost use Rattle.std.specs.Prelude.{◌≡◌, ◌<◌, [], Err, length};
 ghost use Rattle.std.specs.List.{All};
-ghost use Rattle.world_core.specs.Keeping.{IsFull};
+ghost use Rattle.world_core.specs.Turning.{Turned};
 ghost use Rattle.script_core.specs.Lawful.{IsLawfulScript};
 ghost use Rattle.lifecycle_core.specs.Conducts.{Who};
 ghost use Rattle.lifecycle_core.specs.Holdings.{Holding};
 ghost use Rattle.script_running.specs.Lending.{setting_in};
 ghost use Rattle.script_running.specs.Sights.{Sees};
-ghost use Rattle.script_running.specs.Tasks.{Allows, is_full_came};
+ghost use Rattle.script_running.specs.Tasks.{Allows, is_full_came, is_short_came};
 ghost use Rattle.script_running.specs.Workers.{IsAtWork, HasWorked};
 
 use crate::{Broken, Means, Part, Sight, run_task};
@@ -78,8 +78,8 @@ impl<'a> WorkerJob<'a> {
 }
 
 impl<'a> Job for WorkerJob<'a> {
-    ghost use Rattle.script_running.specs.Workers.{MayWork, is_short_end};
-    ghost use Rattle.script_running.specs.Tasks.{is_full_came};
+    ghost use Rattle.script_running.specs.Workers.{MayWork};
+    ghost use Rattle.script_running.specs.Tasks.{is_full_came, is_short_came};
 
     type End = WorkerEnd;
 
@@ -87,7 +87,7 @@ impl<'a> Job for WorkerJob<'a> {
 
     ghost met_full = { λ end. is_full_came end.came };
 
-    ghost wanted = { λ end. is_short_end end.came };
+    ghost wanted = { λ end. is_short_came end.came };
 
     /// Uploads of inline blocks are as heavy as their samples. All else is heavy.
     fn weight(&self) -> u64 {
@@ -143,14 +143,8 @@ fn do_tasks<H: Hand>(
     ensures worked { (who : Who) (held : Holding) → who.gateway ≡ gateway → Sees held sight
         → HasWorked (setting_in means.now) tasks.now who places.now held
         (H.seat hand.old) (H.entries hand.old) (H.entries hand.new) result }
-    ensures seat { H.seat hand.new ≡ H.seat hand.old }
-    ensures keeps { H.keeps hand.old hand.new }
-
-    // The worker is broken off as full exactly where an operation was answered so, and then the journal is full.
-    ensures refused { H.refused hand.new ≡ (H.refused hand.old || is_full_came result.came) }
-    ensures full { result.came ≡ Err Broken.Full → IfSome (H.front hand.new) IsFull }
-    ensures wanted { IsTrue (H.wanted hand.new)
-        → IsTrue (H.wanted hand.old) ⊎ (result.came ≡ Err Broken.NoMemory) }
+    ensures hand { Turned H.entries H.known H.seat H.front H.refused H.wanted H.keeps
+        hand.old hand.new (is_full_came result.came) (is_short_came result.came) }
 {
     let mut sight = sight;
     let Ok(mut parts) = Vec::with_capacity(means.alloc(), places.len()) else {

@@ -1,13 +1,19 @@
 use Rattle.std.proofs.Common.{refl, ◌∙◌, ap}
-use Rattle.std.specs.Prelude.{slice_get}
+use Rattle.std.specs.Prelude.{Err, Ok, Result, slice_get}
 use Rattle.std.specs.Int.{w64}
 use Rattle.std.proofs.lemmas.Int.{to_z-of_z}
 use Rattle.store_ranges.specs.Caches.{held}
 use Rattle.store_calls.specs.SeriesCalls.{asking}
-use Rattle.script_running.specs.Drives.{call_came}
+use Rattle.store_calls.specs.declared.running.CallLeft.{CallLeft}
+use Rattle.script_running.specs.Outcomes.{Part, call_part}
 use Rattle.script_running.specs.Sights.{cache_of}
+use Rattle.script_running.specs.declared.came.Broken.{Broken}
+use Rattle.script_running.specs.declared.came.Broken.TheVariants as broken
+use Rattle.script_running.specs.declared.came.Came.TheVariants as part
+use Rattle.script_running.specs.declared.outcome.NoAnswer.TheVariants as none
+use Rattle.script_running.specs.declared.outcome.QueryPart.TheVariants as given
 use Rattle.script_running.proofs.Calls.{call_told, drives_same}
-use Rattle.script_running.proofs.Syncs.{wanted_by}
+use Rattle.script_running.proofs.Leaving.{end_left, idle_left}
 use Rattle.script_running.proofs.TaskSteps.{asked_again, blind_asked, call_asked, short_asked}
 use Rattle.script_running.proofs.task.ask_view.Goals as goal
 use Rattle.base.proofs.Options.{one_value}
@@ -29,8 +35,8 @@ returns-in-Ok-own_cache-clause-asked g c = λ holding selector sees at.
     (λ used line_low line_high number. call_told c.in-Some.view (asking own rules.replicas low high) (held c.in-Ok-own_cache.own) seat old new used line_low line_high number _ _ c.run_call.result c.take_cache.result c.take_cache.ensures.came c.take_cache.ensures.cache drives)
     sees)
 
-pub returns-in-Ok-own_cache-clause-wanted : goal.returns-in-Ok-own_cache-clause-wanted
-returns-in-Ok-own_cache-clause-wanted g c = wanted_by call_came c.run_call.result c.take_cache.result refl c.take_cache.ensures.came c.run_call.ensures.wanted
+pub returns-in-Ok-own_cache-clause-hand : goal.returns-in-Ok-own_cache-clause-hand
+returns-in-Ok-own_cache-clause-hand g c = end_left g.H.Hand.entries g.H.Hand.known g.H.Hand.seat g.H.Hand.front g.H.Hand.refused g.H.Hand.wanted g.H.Hand.keeps (λ (left : CallLeft). part.Query (call_part left.end)) _ _ c.run_call.result c.take_cache.result c.take_cache.ensures.came c.run_call.ensures.hand
 
 pub returns-in_default-clause-asked : goal.returns-in_default-clause-asked
 returns-in_default-clause-asked g c = λ holding selector sees at.
@@ -44,3 +50,12 @@ pub returns-in_default-view-clause-asked : goal.returns-in_default-view-clause-a
 returns-in_default-view-clause-asked g c = λ holding selector sees at.
     blind_asked holding (asking selector c.args.means.now.script.rules.replicas c.args.ask.now.low c.args.ask.now.high) (g.H.Hand.seat c.args.hand.now) (g.H.Hand.entries c.args.hand.now)
     c.args.sight.now c.in-None.is sees
+
+pub returns-in_default-clause-hand : goal.returns-in_default-clause-hand
+returns-in_default-clause-hand g c = idle_left g.H.Hand.entries g.H.Hand.known g.H.Hand.seat g.H.Hand.front g.H.Hand.refused g.H.Hand.wanted g.H.Hand.keeps g.met.H.Hand.keeps_none _ (Err broken.NoMemory) refl
+
+pub returns-in_default-own_cache-clause-hand : goal.returns-in_default-own_cache-clause-hand
+returns-in_default-own_cache-clause-hand g c = idle_left g.H.Hand.entries g.H.Hand.known g.H.Hand.seat g.H.Hand.front g.H.Hand.refused g.H.Hand.wanted g.H.Hand.keeps g.met.H.Hand.keeps_none _ (Err broken.NoMemory) refl
+
+pub returns-in_default-view-clause-hand : goal.returns-in_default-view-clause-hand
+returns-in_default-view-clause-hand g c = idle_left g.H.Hand.entries g.H.Hand.known g.H.Hand.seat g.H.Hand.front g.H.Hand.refused g.H.Hand.wanted g.H.Hand.keeps g.met.H.Hand.keeps_none _ (Ok (part.Query (given.NoAnswer none.NoView))) refl
