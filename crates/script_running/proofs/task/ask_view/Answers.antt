@@ -1,19 +1,16 @@
 use Rattle.std.proofs.Common.{refl, ◌∙◌, ap}
-use Rattle.std.specs.Prelude.{Err, Ok, Result, slice_get}
+use Rattle.std.specs.Prelude.{slice_get}
 use Rattle.std.specs.Int.{w64}
 use Rattle.std.proofs.lemmas.Int.{to_z-of_z}
 use Rattle.store_ranges.specs.Caches.{held}
 use Rattle.store_calls.specs.SeriesCalls.{asking}
 use Rattle.store_calls.specs.declared.running.CallLeft.{CallLeft}
-use Rattle.script_running.specs.Outcomes.{Part, call_part}
+use Rattle.script_running.specs.Outcomes.{call_part}
 use Rattle.script_running.specs.Sights.{cache_of}
-use Rattle.script_running.specs.declared.came.Broken.{Broken}
-use Rattle.script_running.specs.declared.came.Broken.TheVariants as broken
 use Rattle.script_running.specs.declared.came.Came.TheVariants as part
-use Rattle.script_running.specs.declared.outcome.NoAnswer.TheVariants as none
-use Rattle.script_running.specs.declared.outcome.QueryPart.TheVariants as given
 use Rattle.script_running.proofs.Calls.{call_told, drives_same}
-use Rattle.script_running.proofs.Leaving.{end_left, idle_left}
+use Rattle.world_core.proofs.Turning.{none_turned}
+use Rattle.script_running.proofs.Leaving.{end_left}
 use Rattle.script_running.proofs.TaskSteps.{asked_again, blind_asked, call_asked, short_asked}
 use Rattle.script_running.proofs.task.ask_view.Goals as goal
 use Rattle.base.proofs.Options.{one_value}
@@ -52,10 +49,10 @@ returns-in_default-view-clause-asked g c = λ holding selector sees at.
     c.args.sight.now c.in-None.is sees
 
 pub returns-in_default-clause-hand : goal.returns-in_default-clause-hand
-returns-in_default-clause-hand g c = idle_left g.H.Hand.entries g.H.Hand.known g.H.Hand.seat g.H.Hand.front g.H.Hand.refused g.H.Hand.wanted g.H.Hand.keeps g.met.H.Hand.keeps_none _ (Err broken.NoMemory) refl
+returns-in_default-clause-hand g c = none_turned g.H.Hand.entries g.H.Hand.known g.H.Hand.seat g.H.Hand.front g.H.Hand.refused g.H.Hand.wanted g.H.Hand.keeps g.met.H.Hand.keeps_none _ true
 
 pub returns-in_default-own_cache-clause-hand : goal.returns-in_default-own_cache-clause-hand
-returns-in_default-own_cache-clause-hand g c = idle_left g.H.Hand.entries g.H.Hand.known g.H.Hand.seat g.H.Hand.front g.H.Hand.refused g.H.Hand.wanted g.H.Hand.keeps g.met.H.Hand.keeps_none _ (Err broken.NoMemory) refl
+returns-in_default-own_cache-clause-hand g c = none_turned g.H.Hand.entries g.H.Hand.known g.H.Hand.seat g.H.Hand.front g.H.Hand.refused g.H.Hand.wanted g.H.Hand.keeps g.met.H.Hand.keeps_none _ true
 
 pub returns-in_default-view-clause-hand : goal.returns-in_default-view-clause-hand
-returns-in_default-view-clause-hand g c = idle_left g.H.Hand.entries g.H.Hand.known g.H.Hand.seat g.H.Hand.front g.H.Hand.refused g.H.Hand.wanted g.H.Hand.keeps g.met.H.Hand.keeps_none _ (Ok (part.Query (given.NoAnswer none.NoView))) refl
+returns-in_default-view-clause-hand g c = none_turned g.H.Hand.entries g.H.Hand.known g.H.Hand.seat g.H.Hand.front g.H.Hand.refused g.H.Hand.wanted g.H.Hand.keeps g.met.H.Hand.keeps_none _ false

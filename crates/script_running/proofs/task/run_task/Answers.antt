@@ -12,7 +12,7 @@ use Rattle.script_running.specs.declared.came.Broken.TheVariants as broken
 use Rattle.script_running.specs.declared.came.Came.TheVariants as part
 use Rattle.script_running.specs.declared.outcome.QueryPart.TheVariants as given
 use Rattle.script_running.specs.declared.shelf.ShelfBlock.{ShelfBlock}
-use Rattle.script_running.proofs.Leaving.{idle_left}
+use Rattle.world_core.proofs.Turning.{none_turned}
 use Rattle.script_running.proofs.TaskSteps.{asked_done, asked_where, clean_done, compact_done, fits_range, from_range, short_done, sync_done, unasked_done, upload_done, upto_range}
 use Rattle.script_running.proofs.task.run_task.Goals as goal
 use Rattle.base.proofs.Lists.{slice_get-below}
@@ -92,7 +92,7 @@ returns-in_default-clause-done g c = λ who place held by sees.
     (short_done setting who place held (g.H.Hand.seat c.args.hand.now) (g.H.Hand.entries c.args.hand.now) c.args.sight.now c.in-Query.low c.in-Query.high c.in-Query.selector s.0 s.1)
 
 pub returns-in-None-clause-hand : goal.returns-in-None-clause-hand
-returns-in-None-clause-hand g c = idle_left g.H.Hand.entries g.H.Hand.known g.H.Hand.seat g.H.Hand.front g.H.Hand.refused g.H.Hand.wanted g.H.Hand.keeps g.met.H.Hand.keeps_none _ (Ok (part.Query given.NotAsked)) refl
+returns-in-None-clause-hand g c = none_turned g.H.Hand.entries g.H.Hand.known g.H.Hand.seat g.H.Hand.front g.H.Hand.refused g.H.Hand.wanted g.H.Hand.keeps g.met.H.Hand.keeps_none _ false
 
 pub returns-in_default-clause-hand : goal.returns-in_default-clause-hand
-returns-in_default-clause-hand g c = idle_left g.H.Hand.entries g.H.Hand.known g.H.Hand.seat g.H.Hand.front g.H.Hand.refused g.H.Hand.wanted g.H.Hand.keeps g.met.H.Hand.keeps_none _ (Err broken.NoMemory) refl
+returns-in_default-clause-hand g c = none_turned g.H.Hand.entries g.H.Hand.known g.H.Hand.seat g.H.Hand.front g.H.Hand.refused g.H.Hand.wanted g.H.Hand.keeps g.met.H.Hand.keeps_none _ true
