@@ -2,7 +2,7 @@
 //! have the texts of the selectors, and read those of their own queries again.
 
 ghost use Rattle.std.specs.Prelude.{◌≡◌, ◌<◌, ℕ, List, Some, IfOk, length, slice_get};
-ghost use Rattle.matchers.specs.SelectorRefusals.{IsReadable};
+ghost use Rattle.matchers.specs.SelectorRefusals.{IsGivenUp, IsReadable};
 ghost use Rattle.matchers.specs.declared.matcher.Matcher.{Matcher};
 ghost use Rattle.script_running.specs.Lending.{AreTextsOf};
 
@@ -10,7 +10,7 @@ use crate::ShelfBlock;
 use crate::declared::{block_among, find_block};
 use base::NoMemory;
 use label_sets::{Text, TextList, sample_count};
-use matchers::{Selector, SelectorList};
+use matchers::{Selector, SelectorList, SelectorRefusal};
 use moment_core::{PartitionList, Rules};
 use script_core::{Block, Body, Script, Work};
 use std::alloc::Global;
@@ -157,19 +157,31 @@ fn samples_in(body: &Body) -> u64 {
     }
 }
 
-/// Reads the text at a place, of a selector that was read once. Where a pattern is too large now, it is given up as for want of memory.
+/// What is wanting where a text was read before: memory, or that the size of a pattern is taken again, which nobody promises.
+fn given_up(refusal: SelectorRefusal) -> NoMemory
+    requires { (text : List ℕ) × IsGivenUp text refusal }
+{
+    match &refusal {
+        SelectorRefusal::NoMemory | SelectorRefusal::PatternSize(_) => NoMemory,
+        _ => unreachable!(),
+    }
+}
+
+/// Reads the text at a place, of a selector that was read once.
 fn read_at(
     alloc: Global,
     texts: &[Text],
     replicas: &TextList,
     place: usize,
 ) -> Result<Selector, NoMemory>
-    requires { place < length texts.now }
+    requires place { place < length texts.now }
+    requires read { (text : List ℕ) × (selector : List Matcher)
+        × (slice_get texts.now place ≡ Some text) × IsReadable text replicas.now selector }
     ensures { (text : List ℕ) (selector : List Matcher) → slice_get texts.now place ≡ Some text
         → IsReadable text replicas.now selector → IfOk result (λ read. read ≡ selector) }
 {
     match Selector::read(alloc, texts[place].as_str(), replicas) {
         Ok(selector) => Ok(selector),
-        Err(_) => Err(NoMemory),
+        Err(refusal) => Err(given_up(refusal)),
     }
 }
