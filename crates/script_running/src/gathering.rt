@@ -32,6 +32,7 @@ use std::alloc::Global;
 use std::mem;
 
 /// A phase of a script: its tasks, and the workers who do them.
+#[derive(Clone, Copy)]
 pub struct Staffed<'a> {
     pub script: &'a Script,
     pub tasks: &'a [Task],
