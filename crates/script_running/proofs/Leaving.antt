@@ -20,7 +20,7 @@ came_short (Err broken.Full) is = absurd (cc (is))
 came_short (Err broken.NoMemory) is = refl
 
 module _ {H : Type 0} (entries : H → List Entry) (known seat : H → ℕ) (front : H → Option (List Entry)) (refused wanted : H → Bool) (keeps : H → H → Type 0) where
-  abbrev Left : H → H → Bool → Bool → Type 0
+  abbrev pub Left : H → H → Bool → Bool → Type 0
   Left old new full short = Turned entries known seat front refused wanted keeps old new full short
 
   -- as what was come to says
