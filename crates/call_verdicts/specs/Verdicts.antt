@@ -30,18 +30,16 @@ use Rattle.report_lines.specs.lifecycle_core.specs.Tasks.{End}
 use Rattle.report_lines.specs.CheckLines.{check_line}
 use Rattle.call_verdicts.specs.Checks.{check_status, files_of, IsCheckOf}
 use Rattle.call_verdicts.specs.Kept.{AsksNoBucket, AsksNoShelf, HoldsNothing, IsOpened, IsUnfailed, told_of}
-use Rattle.report_lines.specs.script_running.specs.Outcomes.{PhasesCame}
+use Rattle.report_lines.specs.script_running.specs.Outcomes.{Outcome, PhasesCame, is_as_asked}
 use Rattle.call_verdicts.specs.Outside.{Names, Outside}
 use Rattle.call_verdicts.specs.Output.{IsWrittenInPart}
 use Rattle.report_lines.specs.breach_finding.specs.declared.found.Breach.{Breach}
 use Rattle.report_lines.specs.BreachLines.{HasBreach, breach_text}
 use Rattle.report_lines.specs.Telling.{report_of, tasks_of}
-use Rattle.report_lines.specs.script_running.specs.Outcomes.{is_as_asked}
 use Rattle.call_verdicts.specs.ShelfReads.{IsOfShelf}
 use Rattle.call_verdicts.specs.Shippable.{RefusesNone, StaysWithin}
 use Rattle.call_verdicts.specs.Statuses.{number_of}
 use Rattle.report_lines.specs.declared.check_outcome.CheckOutcome.{CheckOutcome}
-use Rattle.report_lines.specs.script_running.specs.declared.outcome.Outcome.{Outcome}
 use Rattle.call_verdicts.specs.declared.status.Status.{Status}
 use Rattle.call_verdicts.specs.declared.status.Status.TheVariants as status
 use Rattle.call_verdicts.specs.declared.verdict.Verdict.{Verdict}

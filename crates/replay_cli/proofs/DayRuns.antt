@@ -12,12 +12,11 @@ use Rattle.world_core.specs.declared.entry.Entry.{Entry}
 use Rattle.world_core.proofs.Growing.{Each-none}
 use Rattle.script_core.specs.Lawful.{IsLawfulScript}
 use Rattle.script_core.specs.declared.script.Script.{Script}
-use Rattle.call_verdicts.specs.script_running.specs.Outcomes.{is_as_asked}
+use Rattle.call_verdicts.specs.script_running.specs.Outcomes.{Outcome, is_as_asked}
 use Rattle.call_verdicts.specs.script_running.specs.Shelves.{setting_by}
 use Rattle.call_verdicts.specs.script_running.specs.Tasks.{is_full_came}
 use Rattle.call_verdicts.specs.script_running.specs.declared.came.Broken.{Broken}
 use Rattle.call_verdicts.specs.script_running.specs.declared.came.Broken.TheVariants as broken
-use Rattle.call_verdicts.specs.script_running.specs.declared.outcome.Outcome.{Outcome}
 use Rattle.call_verdicts.specs.script_running.specs.declared.sight.Sight.{Sight}
 use Rattle.call_verdicts.specs.report_lines.specs.BreachLines.{breach_text}
 use Rattle.call_verdicts.specs.report_lines.specs.Telling.{report_of, tasks_of}

@@ -19,7 +19,7 @@ use Rattle.call_verdicts.specs.report_lines.specs.Summed.{IsDayText}
 use Rattle.call_verdicts.specs.report_lines.specs.Tallies.{AreTallied}
 use Rattle.call_verdicts.specs.report_lines.specs.declared.tally.Tally.{Tally}
 use Rattle.script_workers.specs.declared.task.Task.{Task}
-use Rattle.call_verdicts.specs.script_running.specs.declared.outcome.Outcome.{Outcome}
+use Rattle.call_verdicts.specs.script_running.specs.Outcomes.{Outcome}
 use Rattle.run_notes.specs.declared.run_note.RunNote.{RunNote}
 use Rattle.call_verdicts.specs.Noted.{IsNoted, met}
 use Rattle.call_verdicts.specs.Verdicts.{Around, IfShort, IsCaused, IsFullRun, IsWholeRun}

@@ -18,10 +18,11 @@ use std::marker::Model;
 use std::snapshot::Snapshot;
 use ulid_core::Ulid;
 
-/// What the workers of a script are lent of it, and what was read of the shelf for its blocks. All this crosses threads. A selector
+/// What the workers of a script are lent: parts of it, and what was read of the shelf for its blocks. All this crosses threads. A selector
 /// that was read does not, since it has patterns, so its text is lent.
 #[derive(Drop)]
 pub struct Means<'a> {
+    alloc: Global,
     rules: &'a Rules,
     partitions: &'a PartitionList,
     blocks: &'a [Block],
@@ -69,7 +70,12 @@ impl<'a> Means<'a> {
     ghost use Rattle.script_running.specs.Shelves.{AreAllAtHand, Knows};
 
     /// What is lent of a script whose selectors have these texts.
-    pub fn lend(script: &'a Script, shelf: &'a [ShelfBlock], texts: &'a [Text]) -> Means<'a>
+    pub fn lend(
+        alloc: Global,
+        script: &'a Script,
+        shelf: &'a [ShelfBlock],
+        texts: &'a [Text],
+    ) -> Means<'a>
         requires lawful { IsLawfulScript script.now }
         requires at_hand { AreAllAtHand script.now shelf.now }
         requires texts { AreTextsOf script.now.selectors texts.now }
@@ -77,6 +83,7 @@ impl<'a> Means<'a> {
         ensures shelf { result.shelf ≡ shelf.now }
     {
         Means {
+            alloc,
             rules: &script.rules,
             partitions: &script.partitions,
             blocks: script.blocks.members(),
@@ -84,6 +91,11 @@ impl<'a> Means<'a> {
             texts,
             script: Snapshot::of(script),
         }
+    }
+
+    /// Of which the workers take their memory.
+    pub(crate) fn alloc(&self) -> Global {
+        self.alloc
     }
 
     pub(crate) fn rules(&self) -> &Rules
@@ -128,12 +140,12 @@ impl<'a> Means<'a> {
     }
 
     /// The selector at a place, which is read from its text.
-    pub(crate) fn selector(&self, alloc: Global, place: usize) -> Result<Selector, NoMemory>
+    pub(crate) fn selector(&self, place: usize) -> Result<Selector, NoMemory>
         requires { place < length self.now.script.selectors }
         ensures { IfOk result
             (λ selector. slice_get self.now.script.selectors place ≡ Some selector) }
     {
-        read_at(alloc, self.texts, &self.rules.replicas, place)
+        read_at(self.alloc, self.texts, &self.rules.replicas, place)
     }
 }
 

@@ -1,7 +1,7 @@
 use Rattle.std.proofs.Common.{◌≡◌, length}
 use Rattle.std.specs.List.{All}
 use Rattle.script_running.specs.Sights.{no_sight}
-use Rattle.script_running.proofs.beside.Standing.new.Given as goal
+use Rattle.script_running.proofs.standing.Standing.new.Given as goal
 
 abbrev pub invariant-loop : goal.invariant-loop
 invariant-loop l = record {
