@@ -1,4 +1,5 @@
 use crate::ChunkList;
+use base::{NoMemory, TryCopy};
 use wire_bytes::NumberList;
 
 /// A series as it stands in an index: the symbol numbers of its labels' names and, in the same order, of their values, and
@@ -8,4 +9,14 @@ pub struct RawSeries {
     pub names: NumberList,
     pub values: NumberList,
     pub chunks: ChunkList,
+}
+
+impl TryCopy for RawSeries {
+    fn copy(&self) -> Result<Self, NoMemory> {
+        Ok(RawSeries {
+            names: self.names.copy()?,
+            values: self.values.copy()?,
+            chunks: self.chunks.copy()?,
+        })
+    }
 }

@@ -167,17 +167,17 @@ whole_same held opened is lie unread =
     (λ d absent. section_absent held (n ∷ ns) d e absent ∙ sym (section_absent _ _ d (sym first ∙ e) (ap (λ toc. present_at toc (n ∷ ns)) (sym is.toc_is) ∙ absent))))
     (λ d e. listed_refused held d e ∙ sym (listed_refused _ d (sym first ∙ e)))
 
-all_absent : (symbols : List (List ℕ)) (number : ℕ) (numbers : List ℕ) → all_at [] symbols None (number ∷ numbers) ≡ Err (BadSeries number (part.Short (16 * number)))
+all_absent : (symbols : List (List ℕ)) (number : ℕ) (numbers : List ℕ) → all_at [] symbols None None (number ∷ numbers) ≡ Err (BadSeries number (part.Short (16 * number)))
 unfolding all_at behind_at
 all_absent _ _ _ = rw (number_absent) refl
 
-first_absent : (held : Held) (number : ℕ) (numbers : List ℕ) → postings_of held [] [] ≡ Ok (number ∷ numbers) → present_at held.toc (number ∷ numbers) ≡ Ok tt → all_at held.bytes held.symbols None (number ∷ numbers) ≡ Err (BadSeries number (part.Short (16 * number))) → whole_at held ≡ Err (BadSeries number (part.Short (16 * number)))
+first_absent : (held : Held) (number : ℕ) (numbers : List ℕ) → postings_of held [] [] ≡ Ok (number ∷ numbers) → present_at held.toc (number ∷ numbers) ≡ Ok tt → all_at held.bytes held.symbols None None (number ∷ numbers) ≡ Err (BadSeries number (part.Short (16 * number))) → whole_at held ≡ Err (BadSeries number (part.Short (16 * number)))
 unfolding whole_at
 first_absent _ _ _ listed present e = rw (listed, present, e) refl
 
 -- where one is to be read, and none is there
 pub whole_absent : (held : Held) (number : ℕ) (numbers : List ℕ) → held.bytes ≡ [] → postings_of held [] [] ≡ Ok (number ∷ numbers) → present_at held.toc (number ∷ numbers) ≡ Ok tt → whole_at held ≡ Err (BadSeries number (part.Short (16 * number)))
-whole_absent held number numbers none listed present = first_absent _ _ _ listed present (ap (λ bytes. all_at bytes held.symbols None (number ∷ numbers)) none ∙ all_absent _ _ _)
+whole_absent held number numbers none listed present = first_absent _ _ _ listed present (ap (λ bytes. all_at bytes held.symbols None None (number ∷ numbers)) none ∙ all_absent _ _ _)
 
 -- what is read for a row is what the index has for it
 pub found_of_row : (r : Result (List ℕ) IndexRefusal) (index : List ℕ) (rows : List PostingsRow) (name value : List ℕ) (row : PostingsRow) → row_of rows name value ≡ Some row → IfOk r (λ numbers. IsPostings index row.offset numbers) → IfOk r (λ numbers. list_of (file index) (row_of rows name value) ≡ Ok numbers)

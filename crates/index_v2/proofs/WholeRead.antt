@@ -1,6 +1,6 @@
 -- A whole index is read exactly where the bytes are an index of the list, and where the lists differ the first place is told.
 use Rattle.std.proofs.Common.{◌≡◌, ◌≢◌, ℕ, ◌*◌, Bool, true, false, List, [], ◌∷◌, map, zip, Option, Some, None, Result, Ok, Err, refl, sym, ap, subst, ◌∙◌, ◌⊎◌, inl, inr}
-use Rattle.std.specs.Prelude.{nat_lt}
+use Rattle.std.specs.Prelude.{nat_lt, ◌&&◌}
 use Rattle.std.proofs.lemmas.Bool.{cases_lt}
 use Rattle.std.proofs.lemmas.Cmp.{tied_itself}
 use Rattle.base.proofs.Lists.{zip_parts}
@@ -27,7 +27,7 @@ use Rattle.index_parts.specs.RowOrder.{StandsAt}
 use Rattle.index_parts.specs.Parts.{Part, file}
 use Rattle.index_v2.specs.Held.{whole_file}
 use Rattle.index_v2.specs.PostingsLists.{row_of, list_of, postings_of}
-use Rattle.index_v2.specs.WholeReading.{present_at, may_stand_behind, behind_at, all_at, lists_at, difference, unless_differ, whole_at}
+use Rattle.index_v2.specs.WholeReading.{present_at, stands_behind, may_stand_behind, behind_at, all_at, lists_at, difference, unless_differ, whole_at}
 use Rattle.index_v2.specs.Differing.{DiffersAt, DifferFirstAt}
 use Rattle.index_parts.proofs.RowPlaces.{rows_total, equal_texts}
 use Rattle.index_parts.proofs.RowsBegin.{same_compare}
@@ -101,19 +101,19 @@ present_never toc (number ∷ numbers) =
     (then_never _ _ (unless_never (nat_lt 0 toc.series) _ (in_section 2 (part.Short 0)))
     (then_never _ _ (unless_never (nat_lt 0 toc.postings) _ (in_section 5 (part.Short 0))) (ok_never _)))
 
-behind_never : (index : List ℕ) (symbols : List (List ℕ)) (before : Option IndexSeries) (number : ℕ) → NeverDiffers (behind_at index symbols before number)
+behind_never : (index : List ℕ) (symbols : List (List ℕ)) (last : Option ℕ) (before : Option IndexSeries) (number : ℕ) → NeverDiffers (behind_at index symbols last before number)
 unfolding behind_at
-behind_never _ _ before number =
+behind_never index _ last before number =
     bind_never _ _
     (refused_never _ _ (of_series _))
-    (λ series. then_never (unless (may_stand_behind before series) (BadSeries number (part.Unordered (16 * number)))) (Ok series) (unless_never _ _ (of_series number (part.Unordered (16 * number)))) (ok_never _))
+    (λ series. then_never (unless (stands_behind index last number && may_stand_behind before series) (BadSeries number (part.Unordered (16 * number)))) (Ok series) (unless_never _ _ (of_series number (part.Unordered (16 * number)))) (ok_never _))
 
-all_never : (index : List ℕ) (symbols : List (List ℕ)) (before : Option IndexSeries) (numbers : List ℕ) → NeverDiffers (all_at index symbols before numbers)
+all_never : (index : List ℕ) (symbols : List (List ℕ)) (last : Option ℕ) (before : Option IndexSeries) (numbers : List ℕ) → NeverDiffers (all_at index symbols last before numbers)
 unfolding all_at
-all_never index symbols before [] = ok_never {A = List IndexSeries} _
-all_never index symbols before (number ∷ numbers) =
-    bind_never _ _ (behind_never _ _ _ _)
-    (λ series. bind_never (all_at index symbols (Some series) numbers) (λ others. Ok (series ∷ others)) (all_never index symbols (Some series) numbers) (λ others. ok_never (series ∷ others)))
+all_never index symbols last before [] = ok_never {A = List IndexSeries} _
+all_never index symbols last before (number ∷ numbers) =
+    bind_never _ _ (behind_never _ _ _ _ _)
+    (λ series. bind_never (all_at index symbols (Some number) (Some series) numbers) (λ others. Ok (series ∷ others)) (all_never index symbols (Some number) (Some series) numbers) (λ others. ok_never (series ∷ others)))
 
 lists_never : (part : Part) (rows : List PostingsRow) → NeverDiffers (lists_at part rows)
 unfolding lists_at
@@ -129,9 +129,9 @@ whole_parts : (opened : Opened) (end : Result (List IndexSeries) IndexRefusal) �
     → (numbers : List ℕ) × (list : List IndexSeries) × (lists : List (List ℕ)) × HasRead opened numbers list lists × ((unless_differ (difference opened.rows lists (zip numbers list)) >> Ok list) ≡ end)
 unfolding whole_at
 whole_parts opened end is e =
-    let numbers = bind_end (postings_of (whole_file opened) [] []) (λ numbers. present_at opened.toc numbers >> (all_at opened.bytes opened.symbols None numbers >>= λ series. lists_at (file opened.bytes) opened.rows >>= λ lists. unless_differ (difference opened.rows lists (zip numbers series)) >> Ok series)) _ (list_never (file opened.bytes) (row_of opened.rows [] [])) is e in
+    let numbers = bind_end (postings_of (whole_file opened) [] []) (λ numbers. present_at opened.toc numbers >> (all_at opened.bytes opened.symbols None None numbers >>= λ series. lists_at (file opened.bytes) opened.rows >>= λ lists. unless_differ (difference opened.rows lists (zip numbers series)) >> Ok series)) _ (list_never (file opened.bytes) (row_of opened.rows [] [])) is e in
     let present = then_end _ _ _ (present_never _ _) is numbers.2 in
-    let series = bind_end _ _ _ (all_never _ _ _ _) is present.2 in
+    let series = bind_end _ _ _ (all_never _ _ _ _ _) is present.2 in
     let lists = bind_end _ _ _ (lists_never _ _) is series.2 in
     (numbers.0, series.0, lists.0, record { listed = numbers.1; present = present.1; series = series.1; read = lists.1 }, lists.2)
 

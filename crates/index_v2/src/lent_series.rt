@@ -99,8 +99,7 @@ impl<'a> LentSeries<'a> {
         self.chunks.members()
     }
 
-    /// A copy that lends nothing. It takes as much memory as the texts are long, and has no budget of the index's length, unlike
-    /// what the reader itself copies.
+    /// A copy that lends nothing. It takes as much memory as the texts are long.
     pub fn to_series(&self, alloc: Global) -> Result<IndexSeries, NoMemory>
         ensures { IfOk result (λ series. series ≡ self.now) }
     {

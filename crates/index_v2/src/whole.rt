@@ -1,16 +1,13 @@
-ghost use Rattle.std.specs.Prelude.{◌≡◌, ◌+◌, ◌*◌, ◌-◌, ◌^◌, ◌<◌, ◌≤◌, ℕ, All, length, sum_by, slice_get, None, IfOk};
+ghost use Rattle.std.specs.Prelude.{◌≡◌, ◌+◌, ◌-◌, ◌^◌, ◌<◌, ℕ, All, length, slice_get, None, IfOk, IfSome};
 ghost use Rattle.base.specs.Reading.{Gives, Answers};
 ghost use Rattle.std.specs.List.Sorted.{IsStrictlyIncreasing};
 ghost use Rattle.index_parts.specs.Parts.{part_of};
-ghost use Rattle.index_v2.specs.Budget.{members_of, series_bytes, list_bytes, text_bytes, read_share, text_share};
 ghost use Rattle.index_v2.specs.WholeReading.{present_at, may_stand_behind, behind_at, all_at, lists_at, whole_at};
 
-use crate::budget::{
-    budget_of, list_bytes, members_of, series_bytes, spend, text_budget_of, text_bytes,
-};
 use crate::difference::difference;
 use crate::opening::refused_of;
 use crate::postings::{POSTINGS, list_at, list_of};
+use crate::sizes::stands_behind;
 use crate::symbols::{SYMBOLS, Symbols};
 use crate::{IndexRefusal, IndexSeriesList, LentSeries};
 use base::{List, NoMemory};
@@ -42,7 +39,7 @@ fn absent_section(section: u8) -> IndexRefusal
     IndexRefusal::BadSection(section, PartRefusal::Short(0))
 }
 
-/// Whether a series may stand behind the last of those before it.
+/// Whether a series' labels may stand behind those of the last one before it.
 fn may_stand_behind(before: &[LentSeries<'_>], series: &LentSeries<'_>) -> bool
     ensures { result ≡ may_stand_behind (slice_get before.now (length before.now - 1)) series.now }
 {
@@ -52,22 +49,26 @@ fn may_stand_behind(before: &[LentSeries<'_>], series: &LentSeries<'_>) -> bool
     }
 }
 
-/// Reads the series of a number that stands behind others.
+/// Reads the series of a number behind others, the last of which has another number.
 #[tactic(auto, unfolding(crate::specs::WholeReading::behind_at))]
 fn series_behind<'a>(
     alloc: Global,
     index: &[u8],
     symbols: &Symbols<'a>,
     before: &[LentSeries<'a>],
+    last: Option<u64>,
     number: u64,
 ) -> Result<LentSeries<'a>, IndexRefusal>
-    requires { number < 2 ^ 32 }
+    requires small { number < 2 ^ 32 }
+    requires also { IfSome last (λ n. n < 2 ^ 32) }
     ensures { Gives IndexRefusal.NoMemory
         (λ series. series) result
-        (behind_at index.now symbols.now (slice_get before.now (length before.now - 1)) number) }
+        (behind_at index.now symbols.now last (slice_get before.now (length before.now - 1)) number) }
 {
     match LentSeries::read(index, symbols, SERIES_UNIT * number, LentSeries::new(alloc)) {
-        Ok(series) if may_stand_behind(before, &series) => Ok(series),
+        Ok(series) if stands_behind(index, last, number) && may_stand_behind(before, &series) => {
+            Ok(series)
+        }
         Ok(_) => Err(IndexRefusal::BadSeries(
             number as u32,
             PartRefusal::Unordered(SERIES_UNIT * number),
@@ -76,8 +77,7 @@ fn series_behind<'a>(
     }
 }
 
-/// Reads the series of these numbers, which ascend by their labels. Their bytes, labels and chunks are within the
-/// budget, and their texts within theirs.
+/// Reads the series of these numbers, which stand one behind the other and ascend by their labels.
 pub(crate) fn all_series<'a>(
     alloc: Global,
     index: &[u8],
@@ -86,29 +86,20 @@ pub(crate) fn all_series<'a>(
 ) -> Result<Vec<LentSeries<'a>>, IndexRefusal>
     requires { All (λ n. n < 2 ^ 32) numbers.now }
     ensures as_many { IfOk result (λ series. length series.items ≡ length numbers.now) }
-    ensures bounded { IfOk result
-        (λ series. sum_by members_of series.items + sum_by
-        (series_bytes index.now) numbers.now ≤ read_share * length index.now) }
-    ensures texts { IfOk result
-        (λ series. sum_by text_bytes series.items ≤ text_share * length index.now) }
-    ensures exact { Gives IndexRefusal.NoMemory
-        (λ series. series.items) result (all_at index.now symbols.now None numbers.now) }
+    ensures exact { Gives IndexRefusal.NoMemory (λ series. series.items) result
+        (all_at index.now symbols.now None None numbers.now) }
 {
     let mut made = Vec::new(alloc);
-    let mut left = budget_of(index);
-    let mut texts = text_budget_of(index.len());
+    let mut last = None;
     for number in numbers {
-        let series = series_behind(alloc, index, symbols, made.as_slice(), *number)?;
-        let size = text_bytes(&series)?;
-        texts = spend(texts, size)?;
-        let between = spend(left, series_bytes(index, *number))?;
-        left = spend(between, members_of(&series))?;
+        let series = series_behind(alloc, index, symbols, made.as_slice(), last, *number)?;
         made.push(series)?;
+        last = Some(*number);
     }
     Ok(made)
 }
 
-/// Reads the postings lists of all rows. Their bytes and numbers are within the budget.
+/// Reads the postings lists of all rows.
 pub(crate) fn all_lists(
     alloc: Global,
     part: IndexPart<'_>,
@@ -117,21 +108,15 @@ pub(crate) fn all_lists(
     requires { part.begin + length part.bytes.now < 2 ^ 64 }
     ensures rise { IfOk result (λ lists. All IsStrictlyIncreasing lists.items) }
     ensures one_each { IfOk result (λ lists. length lists.items ≡ length rows.now) }
-    ensures bounded { IfOk result
-        (λ lists. sum_by length lists.items + sum_by
-        (list_bytes (part_of part.entry)) rows.now ≤ read_share * length part.entry.bytes.now) }
     ensures exact { Gives IndexRefusal.NoMemory
         (λ lists. lists.items) result (lists_at (part_of part.entry) rows.now) }
 {
     let mut lists = Vec::new(alloc);
-    let mut left = budget_of(part.bytes);
     for place in 0..rows.len() {
         let Some(row) = rows.get(place) else {
             return Ok(lists);
         };
         let list = list_at(alloc, part, row.2)?;
-        let between = spend(left, list_bytes(part, row.2))?;
-        left = spend(between, list.len())?;
         lists.push(list)?;
     }
     Ok(lists)
@@ -148,9 +133,7 @@ pub(crate) fn whole_lent<'a>(
     part: IndexPart<'_>,
 ) -> Result<List<LentSeries<'a>>, IndexRefusal>
     requires { part.begin + length part.bytes.now < 2 ^ 64 }
-    ensures bounded { IfOk result (λ list. sum_by members_of list ≤ read_share * length index.now) }
-    ensures texts { IfOk result (λ list. sum_by text_bytes list ≤ text_share * length index.now) }
-    ensures exact { (symbols_size rows_size : ℕ) → Gives IndexRefusal.NoMemory
+    ensures { (symbols_size rows_size : ℕ) → Gives IndexRefusal.NoMemory
         (λ list. list) result
         (whole_at (record {
           bytes = index.now;
@@ -194,9 +177,7 @@ pub(crate) fn whole(
     part: IndexPart<'_>,
 ) -> Result<IndexSeriesList, IndexRefusal>
     requires { part.begin + length part.bytes.now < 2 ^ 64 }
-    ensures bounded { IfOk result (λ list. sum_by members_of list ≤ read_share * length index.now) }
-    ensures texts { IfOk result (λ list. sum_by text_bytes list ≤ text_share * length index.now) }
-    ensures exact { (symbols_size rows_size : ℕ) → Gives IndexRefusal.NoMemory
+    ensures { (symbols_size rows_size : ℕ) → Gives IndexRefusal.NoMemory
         (λ list. list) result
         (whole_at (record {
           bytes = index.now;
