@@ -6,8 +6,8 @@ use Rattle.std.specs.Str.Parse.{digits_value, ParsesUnsigned}
 use Rattle.std.specs.declared.num.ParseIntError.{ParseIntError}
 use Rattle.std.proofs.lemmas.Bool.{cases_lt, lt-ltb, le-ltb, cases_Bool}
 use Rattle.std.proofs.lemmas.Str.Parse.{parse_digits}
-use Rattle.base.specs.declared.refusal.NumberRefusal.{NumberRefusal}
-use Rattle.base.specs.declared.refusal.NumberRefusal.TheVariants.{NotANumber, TooLarge}
+use Rattle.base.specs.declared.number.NumberRefusal.{NumberRefusal}
+use Rattle.base.specs.declared.number.NumberRefusal.TheVariants.{NotANumber, TooLarge}
 use Rattle.base.specs.Decimal.{decimal_text, is_decimal, unsigned_of}
 use Rattle.base.proofs.Decimals.{digits_are_numerals, decimal_digits, decimal_found, decimal_again}
 

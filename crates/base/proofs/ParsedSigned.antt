@@ -7,8 +7,8 @@ use Rattle.std.specs.Int.RustNames.{FitsSigned}
 use Rattle.std.specs.Str.Parse.{signed_digits_value, ParsesSigned}
 use Rattle.std.specs.declared.num.ParseIntError.{ParseIntError}
 use Rattle.std.proofs.lemmas.Bool.{false_from_ne_true, cases_Bool}
-use Rattle.base.specs.declared.refusal.NumberRefusal.{NumberRefusal}
-use Rattle.base.specs.declared.refusal.NumberRefusal.TheVariants.{NotANumber, TooLarge}
+use Rattle.base.specs.declared.number.NumberRefusal.{NumberRefusal}
+use Rattle.base.specs.declared.number.NumberRefusal.TheVariants.{NotANumber, TooLarge}
 use Rattle.base.specs.Decimal.{signed_text, is_signed_decimal, signed_of}
 use Rattle.base.proofs.SignedRanges.{fits_from_test, test_from_fits}
 use Rattle.base.proofs.SignedDecimals.{signed_text_of_value, signed_texts, signed_numeral}

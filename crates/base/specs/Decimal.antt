@@ -5,8 +5,8 @@ use Rattle.std.specs.List.{list_all}
 use Rattle.std.specs.Char.{is_ascii_digit}
 use Rattle.std.specs.Int.Digits.{digits_of}
 use Rattle.std.specs.Str.Parse.{digits_value, signed_digits_value}
-use Rattle.base.specs.declared.refusal.NumberRefusal.{NumberRefusal}
-use Rattle.base.specs.declared.refusal.NumberRefusal.TheVariants.{NotANumber, TooLarge}
+use Rattle.base.specs.declared.number.NumberRefusal.{NumberRefusal}
+use Rattle.base.specs.declared.number.NumberRefusal.TheVariants.{NotANumber, TooLarge}
 
 -- the digit 0, which the others follow
 abbrev pub digit_zero : ℕ

@@ -7,11 +7,9 @@ mod digits;
 mod list;
 mod memory;
 mod number;
-mod refusal;
 
 pub use copy::TryCopy;
 pub use digits::{all_digits, short_number};
 pub use list::{List, members_behind};
 pub use memory::{NoMemory, cut_on_err};
-pub use number::{put_signed, put_unsigned, read_signed, read_unsigned};
-pub use refusal::NumberRefusal;
+pub use number::{NumberRefusal, put_signed, put_unsigned, read_signed, read_unsigned};

@@ -4,9 +4,18 @@ ghost use Rattle.std.specs.Int.RustNames.{FitsSigned};
 ghost use Rattle.std.specs.Str.Parse.{digits_value};
 ghost use Rattle.base.specs.Decimal.{is_decimal, is_signed_decimal, unsigned_of, signed_of, decimal_text, signed_text};
 
+use crate::NoMemory;
 use crate::digits::{FEW_DIGITS, all_digits, value_of};
-use crate::{NoMemory, NumberRefusal};
 use itoa::Buffer;
+
+/// Why a text is no number.
+#[derive(Clone, Copy, Debug, PartialEq, Eq)]
+pub enum NumberRefusal {
+    /// The text is not decimal digits without a needless zero in front.
+    NotANumber,
+    /// The number does not fit its type.
+    TooLarge,
+}
 
 /// Reads decimal digits without a needless zero in front.
 pub fn read_unsigned(text: &str) -> Result<u64, NumberRefusal>

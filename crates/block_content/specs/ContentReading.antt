@@ -9,7 +9,7 @@ use Rattle.label_sets.specs.declared.series.Series.{Series}
 use Rattle.label_sets.specs.Times.{is_within}
 use Rattle.xor_chunks.specs.Data.{data_at}
 use Rattle.xor_chunks.specs.declared.refusal.XorRefusal.TheVariants as xor
-use Rattle.xor_chunks.specs.declared.sample_span.SampleSpan.{SampleSpan}
+use Rattle.xor_chunks.specs.declared.spanning.SampleSpan.{SampleSpan}
 use Rattle.xor_chunks.specs.Widths.{stored_filling}
 use Rattle.chunk_files.specs.declared.refusal.ChunkRefusal.{ChunkRefusal}
 use Rattle.chunk_files.specs.declared.refusal.ChunkRefusal.TheVariants.{Short}

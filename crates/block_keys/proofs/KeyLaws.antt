@@ -20,7 +20,7 @@ use Rattle.std.proofs.lemmas.List.{length-map}
 use Rattle.std.proofs.lemmas.Slice.Eq.{bytes_eq-Decides}
 use Rattle.std.proofs.Math.Seq.{take-append_seam, drop-append_seam}
 use Rattle.ulid_core.specs.UlidText.{IsUlidText, text_of, ulid_of, character}
-use Rattle.ulid_core.specs.declared.refusal.UlidRefusal.{UlidRefusal}
+use Rattle.ulid_core.specs.declared.ulid.UlidRefusal.{UlidRefusal}
 use Rattle.base.proofs.Positional.{then_assoc, then_equal}
 use Rattle.ulid_core.proofs.Tables.{character-range}
 use Rattle.ulid_core.proofs.UlidLaws.{ulid_of-found, ulid_of-only, IsUlidText-unique, length-text_of}

@@ -8,7 +8,7 @@ use Rattle.std.specs.Str.Parse.{AllDigits, digits_value}
 use Rattle.base.specs.Decimal.{digit_zero}
 use Rattle.base.specs.FixedDigits.{fixed_digits}
 use Rattle.ulid_core.specs.UlidText.{IsUlidText, text_of, ulid_of}
-use Rattle.ulid_core.specs.declared.refusal.UlidRefusal.{UlidRefusal}
+use Rattle.ulid_core.specs.declared.ulid.UlidRefusal.{UlidRefusal}
 use Rattle.block_keys.specs.Keys.{key_ulid}
 use Rattle.block_keys.specs.declared.key.Key.{Key}
 use Rattle.block_keys.specs.declared.key.Key.TheVariants.{Meta, Index, Segment, Mark}

@@ -6,13 +6,16 @@ ghost use Rattle.ulid_core.specs.UlidText.{IsUlidText, text_of};
 ghost use Rattle.block_keys.specs.Keys.{IsLawfulKey, key_ulid, key_kind, key_number, key_cmp};
 ghost use Rattle.block_keys.specs.KeyText.{IsKeyText, key_of, key_text, name_of};
 
-use crate::NotAKey;
 use crate::names::{put_segment_name, read_key};
 use base::{NoMemory, TryCopy};
 use label_sets::Text;
 use std::alloc::Global;
 use std::cmp::Ordering;
 use ulid_core::Ulid;
+
+/// The text is no key.
+#[derive(Clone, Copy, Debug, PartialEq, Eq)]
+pub struct NotAKey;
 
 /// The greatest number of a segment, as its name has six digits.
 pub const SEGMENT_LIMIT: u32 = 999_999;

@@ -4,9 +4,7 @@
 mod key;
 mod names;
 mod object;
-mod refusal;
 
-pub use key::{Key, SEGMENT_LIMIT};
+pub use key::{Key, NotAKey, SEGMENT_LIMIT};
 pub use names::{six_digits, text_in_block};
 pub use object::{Object, ObjectList};
-pub use refusal::NotAKey;

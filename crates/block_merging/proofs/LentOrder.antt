@@ -8,7 +8,7 @@ use Rattle.label_sets.specs.declared.label.Label.{Label}
 use Rattle.label_sets.specs.Labels.{value_of}
 use Rattle.label_sets.specs.Finals.{is_among, reduced_of}
 use Rattle.label_sets.proofs.FinalLabels.{reduced-nil, reduced-append, reduced_external, reduced_own}
-use Rattle.index_v2.specs.declared.lent_label.LentLabel.{LentLabel}
+use Rattle.index_v2.specs.declared.lent_series.LentLabel.{LentLabel}
 use Rattle.index_v2.specs.LentLabels.{as_label}
 use Rattle.index_v2.proofs.LentOrder.{at_mapped}
 

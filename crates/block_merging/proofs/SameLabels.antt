@@ -10,7 +10,7 @@ use Rattle.base.proofs.Lists.{take_none}
 use Rattle.base.proofs.Bools.{Equal-from_is_eq}
 use Rattle.label_sets.specs.Labels.{compare_texts, compare_labels, compare_sets}
 use Rattle.label_sets.proofs.LabelValues.{same_set}
-use Rattle.index_v2.specs.declared.lent_label.LentLabel.{LentLabel}
+use Rattle.index_v2.specs.declared.lent_series.LentLabel.{LentLabel}
 use Rattle.index_v2.specs.LentLabels.{as_label}
 
 abbrev are_tied : List LentLabel → List LentLabel → Bool

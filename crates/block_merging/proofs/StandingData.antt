@@ -11,7 +11,7 @@ use Rattle.wire_bytes.specs.Crc.{crc}
 use Rattle.wire_bytes.specs.FieldTexts.{IsFixed}
 use Rattle.wire_bytes.specs.Position.{Position, left, further, start}
 use Rattle.wire_bytes.specs.Fields.{uvarint_at}
-use Rattle.wire_bytes.specs.declared.refusal.WireRefusal.{WireRefusal}
+use Rattle.wire_bytes.specs.declared.varint.WireRefusal.{WireRefusal}
 use Rattle.wire_bytes.proofs.FieldLaws.{uvarint_again, left_after}
 use Rattle.chunk_files.specs.Chunk.{IsFront, IsPlace}
 use Rattle.chunk_files.specs.Layout.{xor}

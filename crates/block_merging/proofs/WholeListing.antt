@@ -18,7 +18,7 @@ use Rattle.label_sets.proofs.FinalLabels.{reduced-nil}
 use Rattle.vertical_merge.proofs.Orders.{sets_total}
 use Rattle.index_parts.specs.declared.index_series.IndexSeries.{IndexSeries}
 use Rattle.index_parts.specs.IndexFile.{compare_series, IsIndex}
-use Rattle.index_v2.specs.declared.lent_label.LentLabel.{LentLabel}
+use Rattle.index_v2.specs.declared.lent_series.LentLabel.{LentLabel}
 use Rattle.index_v2.specs.LentLabels.{as_label}
 use Rattle.block_merging.specs.declared.listing.SeriesPlace.{SeriesPlace}
 use Rattle.block_merging.specs.Queues.{place_pair, is_reduced_before, LosesNothing}

@@ -20,7 +20,7 @@ mod thanos;
 mod times;
 mod ulid_sets;
 
-pub use crate::{BlobList, BlockFiles};
+pub use block_files::{BlobList, BlockFiles};
 pub use block_plan::{BlockPlan, own_sources};
 pub use build_refusal::BuildRefusal;
 pub use deletion_mark::DeletionMark;

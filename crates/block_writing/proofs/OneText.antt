@@ -10,7 +10,7 @@ use Rattle.index_parts.specs.declared.index_series.IndexSeries.{IndexSeries}
 use Rattle.index_writing.specs.Written.{written}
 use Rattle.chunk_files.specs.Layout.{greatest}
 use Rattle.chunk_files.specs.Chunk.{header, frame_text}
-use Rattle.block_writing.specs.declared.segment_place.SegmentPlace.{SegmentPlace}
+use Rattle.block_writing.specs.declared.segments.SegmentPlace.{SegmentPlace}
 use Rattle.block_writing.specs.Put.{PutSeries, contents_of}
 use Rattle.block_writing.specs.Segments.{segment_text, Begins, AreRuns, places_from}
 use Rattle.block_writing.specs.Writing.{part_of}

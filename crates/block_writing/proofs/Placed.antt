@@ -11,7 +11,7 @@ use Rattle.chunk_files.specs.Layout.{magic, version, header_size, greatest, xor}
 use Rattle.chunk_files.specs.Chunk.{IsChunk, IsPlace, IsFilled, header, frame_text}
 use Rattle.chunk_files.proofs.SegmentLaws.{placed, still}
 use Rattle.chunk_files.proofs.ChunkLaws.{place_again}
-use Rattle.block_writing.specs.declared.segment_place.SegmentPlace.{SegmentPlace}
+use Rattle.block_writing.specs.declared.segments.SegmentPlace.{SegmentPlace}
 use Rattle.block_writing.specs.Segments.{segment_text, offsets_behind, place_in, places_from, AreSegments}
 use Rattle.block_writing.specs.Standing.{content_at}
 use Rattle.base.proofs.Pairs.{AllZip-append}

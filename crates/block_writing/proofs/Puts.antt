@@ -14,7 +14,7 @@ use Rattle.index_parts.specs.SeriesEntry.{StartsAfter}
 use Rattle.index_parts.specs.declared.index_series.IndexSeries.{IndexSeries}
 use Rattle.index_writing.specs.Written.{IsBehind}
 use Rattle.block_writing.specs.declared.counts.Counts.{Counts}
-use Rattle.block_writing.specs.declared.segment_place.SegmentPlace.{SegmentPlace}
+use Rattle.block_writing.specs.declared.segments.SegmentPlace.{SegmentPlace}
 use Rattle.block_writing.specs.Segments.{AreSegments}
 use Rattle.block_writing.specs.Standing.{content_at}
 use Rattle.block_writing.specs.Put.{PutChunk, PutSeries, Put, IsStored, IsAfterChunks, IsAfterSeries, IsPut, fitted, with_chunk, with_series}

@@ -12,7 +12,7 @@ use Rattle.chunk_files.specs.Layout.{header_size, greatest}
 use Rattle.chunk_files.specs.Chunk.{header, frame_text}
 use Rattle.chunk_files.specs.declared.segment_refusal.SegmentRefusal.{SegmentRefusal}
 use Rattle.chunk_files.specs.declared.segment_refusal.SegmentRefusal.TheVariants.{Full}
-use Rattle.block_writing.specs.declared.segment_place.SegmentPlace.{SegmentPlace}
+use Rattle.block_writing.specs.declared.segments.SegmentPlace.{SegmentPlace}
 use Rattle.block_writing.specs.Segments.{segment_text, Begins, AreRuns, offsets_behind, place_in, places_from, AreSegments}
 
 -- ---- one chunk more in a run

@@ -5,7 +5,7 @@ use Rattle.index_parts.specs.declared.chunk_place.ChunkPlace.{ChunkPlace}
 use Rattle.index_parts.specs.declared.index_series.IndexSeries.{IndexSeries}
 use Rattle.index_writing.specs.WriteSteps.{greatest}
 use Rattle.index_writing.specs.Written.{written}
-use Rattle.block_writing.specs.declared.segment_place.SegmentPlace.{SegmentPlace}
+use Rattle.block_writing.specs.declared.segments.SegmentPlace.{SegmentPlace}
 use Rattle.block_writing.specs.Put.{PutChunk, PutSeries, contents_of}
 use Rattle.block_writing.specs.Segments.{AreSegments}
 use Rattle.block_writing.specs.Writing.{part_of}

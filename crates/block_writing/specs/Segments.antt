@@ -4,7 +4,7 @@ use Rattle.std.specs.List.{flat_map, AllByRecursion}
 use Rattle.index_parts.specs.Turns.{InOrder}
 use Rattle.chunk_files.specs.Layout.{header_size, greatest}
 use Rattle.chunk_files.specs.Chunk.{header, frame_text}
-use Rattle.block_writing.specs.declared.segment_place.SegmentPlace.{SegmentPlace}
+use Rattle.block_writing.specs.declared.segments.SegmentPlace.{SegmentPlace}
 
 -- a segment of chunk data: the header, and behind it each chunk
 abbrev pub segment_text : List (List ℕ) → List ℕ

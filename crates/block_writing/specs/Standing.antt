@@ -2,7 +2,7 @@
 use Rattle.std.specs.Prelude.{ℕ, List, [], slice_get, unwrap_or, Result, Ok, Err}
 use Rattle.chunk_files.specs.ChunkReading.{segment_at}
 use Rattle.chunk_files.specs.declared.refusal.ChunkRefusal.{ChunkRefusal}
-use Rattle.block_writing.specs.declared.segment_place.SegmentPlace.{SegmentPlace}
+use Rattle.block_writing.specs.declared.segments.SegmentPlace.{SegmentPlace}
 
 -- what was read, and nothing where it was refused
 abbrev pub read_or_nothing : Result (List ℕ) ChunkRefusal → List ℕ

@@ -6,7 +6,6 @@ mod buildable;
 mod builder;
 mod counts;
 mod finishing;
-mod segment_place;
 mod segments;
 mod written_meta;
 
@@ -14,4 +13,4 @@ pub use block_meta::{BlobList, BlockFiles, BuildRefusal};
 pub use block_writer::BlockWriter;
 pub use buildable::may_build;
 pub use builder::{build, put_parts};
-pub use segment_place::SegmentPlace;
+pub use segments::SegmentPlace;

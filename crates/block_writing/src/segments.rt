@@ -1,16 +1,23 @@
 //! Segments with chunks, of which the last one may still grow.
+
 ghost use Rattle.std.specs.Prelude.{◌≡◌, ◌↔◌, ◌+◌, ◌-◌, ◌<◌, ◌≤◌, [], ◌∷◌, ◌++◌, ℕ, List, map, length, vec_len, IfOk, IfSome, OnOk, OnErr, Err};
 ghost use Rattle.block_keys.specs.Keys.{segment_limit};
 ghost use Rattle.wire_bytes.specs.Crc.{crc};
 ghost use Rattle.chunk_files.specs.Chunk.{header, frame_text};
 ghost use Rattle.chunk_files.specs.Layout.{greatest, header_size, xor};
-ghost use Rattle.block_writing.specs.declared.segment_place.SegmentPlace.{SegmentPlace as Place};
+ghost use Rattle.block_writing.specs.declared.segments.SegmentPlace.{SegmentPlace as Place};
 ghost use Rattle.block_writing.specs.Segments.{AreRuns, AreSegments, segment_text, places_from};
 
-use crate::SegmentPlace;
 use base::NoMemory;
 use block_keys::SEGMENT_LIMIT;
 use chunk_files::{SegmentRefusal, SegmentWriter};
+
+/// Where a chunk stands: the number of its segment, counted from 0, and its first byte in it.
+#[derive(Clone, Copy, Debug, PartialEq, Eq)]
+pub struct SegmentPlace {
+    pub segment: u32,
+    pub offset: u32,
+}
 
 /// How many segments a block may have. So many hold more than 2^44 bytes, for which there is no memory.
 const MOST: usize = SEGMENT_LIMIT as usize;

@@ -18,8 +18,8 @@ use Rattle.world_core.specs.declared.reply.Reply.TheVariants as reply
 use Rattle.meta_fetcher.specs.Sightings.{Sighting}
 use Rattle.meta_fetcher.specs.Syncs.{Course, IsEnd, SyncRun, Synced, damaged, fault, if_mark, if_meta, listing, reading, reads_meta, sighted, too_many, walk_ends, with_entry}
 use Rattle.meta_fetcher.specs.declared.rules.SyncRules.{SyncRules}
-use Rattle.meta_fetcher.specs.declared.sync_end.SyncEnd.{SyncEnd}
-use Rattle.meta_fetcher.specs.declared.sync_end.SyncEnd.TheVariants as fetched
+use Rattle.meta_fetcher.specs.declared.sync.SyncEnd.{SyncEnd}
+use Rattle.meta_fetcher.specs.declared.sync.SyncEnd.TheVariants as fetched
 use Rattle.breach_finding.specs.Watching.{as_passed, came_of, passed_on}
 use Rattle.breach_finding.proofs.FoundViews.{view_there}
 

@@ -7,7 +7,7 @@ use Rattle.world_core.specs.declared.op.Op.TheVariants as op
 use Rattle.world_core.proofs.PlanLaws.{comes_front}
 use Rattle.meta_fetcher.specs.Syncs.{IsEnd, SyncRun, sync}
 use Rattle.meta_fetcher.specs.declared.rules.SyncRules.{SyncRules}
-use Rattle.meta_fetcher.specs.declared.sync_end.SyncEnd.{SyncEnd}
+use Rattle.meta_fetcher.specs.declared.sync.SyncEnd.{SyncEnd}
 use Rattle.meta_fetcher.proofs.SyncLaws.{only_asks}
 use Rattle.breach_finding.specs.Seats.{CanGoOn, IsIdle, IsOfSync, IsToldOf, IsUnderWay, IsWatched}
 use Rattle.breach_finding.specs.Watching.{Begins, CameTo, IsAt, IsSyncOp, IsTurn, Went, WentOn, came_of}

@@ -18,7 +18,7 @@ use Rattle.meta_fetcher.specs.contracts.sync.SyncMachine.TheImpl.{ghosts as sync
 use Rattle.meta_fetcher.specs.Syncs.{SyncRun}
 use Rattle.meta_fetcher.specs.declared.rules.SyncRules.{SyncRules}
 use Rattle.meta_fetcher.specs.declared.sync.Sync.{Sync}
-use Rattle.meta_fetcher.specs.declared.sync_end.SyncEnd.{SyncEnd}
+use Rattle.meta_fetcher.specs.declared.sync.SyncEnd.{SyncEnd}
 use Rattle.lifecycle_core.proofs.phases.TasksMade.{no_listing}
 use Rattle.breach_finding.specs.Watching.{IsAt, Went, as_passed, came_of, passed_on}
 use Rattle.breach_finding.proofs.PassedOn.{broken_off, ended}

@@ -5,7 +5,7 @@ use Rattle.world_core.specs.declared.entry.Entry.{Entry}
 use Rattle.world_core.proofs.PlanLaws.{once, same_op}
 use Rattle.meta_fetcher.specs.Syncs.{Course, SyncRun, Synced, sync}
 use Rattle.meta_fetcher.specs.declared.rules.SyncRules.{SyncRules}
-use Rattle.meta_fetcher.specs.declared.sync_end.SyncEnd.{SyncEnd}
+use Rattle.meta_fetcher.specs.declared.sync.SyncEnd.{SyncEnd}
 
 module _ (rules : SyncRules) where
   run_of : (entries : List Entry) (end : Option SyncEnd) → SyncRun rules entries end → (told : Option (Synced × Option Course)) × Runs (sync rules) entries told

@@ -11,7 +11,7 @@ use Rattle.world_core.proofs.PlanParts.{noted_end}
 use Rattle.meta_fetcher.specs.Syncs.{Course, IsEnd, SyncRun, Synced, listing, with_entry}
 use Rattle.meta_fetcher.specs.Syncs as told_so
 use Rattle.meta_fetcher.specs.declared.rules.SyncRules.{SyncRules}
-use Rattle.meta_fetcher.specs.declared.sync_end.SyncEnd.TheVariants as ended
+use Rattle.meta_fetcher.specs.declared.sync.SyncEnd.TheVariants as ended
 use Rattle.meta_fetcher.specs.declared.view.View.{View}
 use Rattle.meta_fetcher.proofs.SyncLaws.{course_of_all}
 use Rattle.script_core.specs.Lawful.{IsLawfulScript}

@@ -13,8 +13,8 @@ use Rattle.meta_fetcher.specs.contracts.sync.SyncMachine.TheImpl.{ghosts as sync
 use Rattle.meta_fetcher.specs.Syncs.{SyncRun}
 use Rattle.meta_fetcher.specs.declared.rules.SyncRules.{SyncRules}
 use Rattle.meta_fetcher.specs.declared.sync.Sync.{Sync}
-use Rattle.meta_fetcher.specs.declared.sync_end.SyncEnd.{SyncEnd}
-use Rattle.meta_fetcher.specs.declared.sync_end.SyncEnd.TheVariants as ended
+use Rattle.meta_fetcher.specs.declared.sync.SyncEnd.{SyncEnd}
+use Rattle.meta_fetcher.specs.declared.sync.SyncEnd.TheVariants as ended
 use Rattle.breach_finding.specs.declared.watching.Came.{Came}
 use Rattle.breach_finding.specs.declared.watching.Came.TheVariants as came
 use Rattle.breach_finding.specs.declared.watching.Turn.{Turn}

@@ -11,7 +11,7 @@ use Rattle.std.specs.declared.cmp.Ordering.TheVariants.{Less}
 use Rattle.base.proofs.Bools.{bytes_eq-itself, same_texts}
 use Rattle.base.proofs.Order.{sorted_drop}
 use Rattle.bucket_core.specs.Contents.{is_key}
-use Rattle.bucket_core.specs.declared.stored.Stored.{Stored}
+use Rattle.bucket_core.specs.declared.objects.Stored.{Stored}
 use Rattle.bucket_core.specs.Stored.{by_key, have_keys, object_in, updated, IsPlace, IsUpdated, StandsAt}
 use Rattle.bucket_core.proofs.Edits.{replaced_behind, inserted_behind, removed_behind, found_behind, nothing_here, after_all, comes_after}
 

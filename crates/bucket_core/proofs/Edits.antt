@@ -16,7 +16,7 @@ use Rattle.base.proofs.Lists.{AllByRecursion-weaker}
 use Rattle.base.proofs.Membership.{each_member, member_cases}
 use Rattle.base.proofs.Order.{sorted_append, sorted_cons, sorted_left}
 use Rattle.bucket_core.specs.Contents.{is_key}
-use Rattle.bucket_core.specs.declared.stored.Stored.{Stored}
+use Rattle.bucket_core.specs.declared.objects.Stored.{Stored}
 use Rattle.bucket_core.specs.Stored.{key_cmp, is_before, by_key, have_keys, object_in, updated, IsUpdated}
 use Rattle.bucket_core.proofs.Places.{key_total, keys_equal}
 

@@ -18,7 +18,7 @@ use Rattle.base.proofs.Order.{sorted_drop}
 use Rattle.label_sets.specs.Labels.{ComesBefore, is_lesser_text}
 use Rattle.bucket_core.specs.Contents.{Contents}
 use Rattle.bucket_core.specs.Pages.{Lists, IsName, IsPage}
-use Rattle.bucket_core.specs.declared.stored.Stored.{Stored}
+use Rattle.bucket_core.specs.declared.objects.Stored.{Stored}
 use Rattle.bucket_core.specs.Stored.{first_part, key_cmp, is_before, by_key, object_in, name_of, names_of, text_after, picked, IsPlace, IsStart}
 use Rattle.bucket_core.proofs.Order.{root_skipped, folder_cmp, folder_key, folder_name, names_rise, key_between, not_below}
 use Rattle.bucket_core.proofs.Picks.{picked_ascends, picked_few, picked_within, picked_whole}

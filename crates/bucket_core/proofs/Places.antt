@@ -13,7 +13,7 @@ use Rattle.std.proofs.lemmas.Map.Keys.{Less-from_sorted}
 use Rattle.std.proofs.lemmas.Map.Text.{is_eq-slice_cmp}
 use Rattle.std.proofs.lemmas.Slice.Eq.{bytes_eq-Decides}
 use Rattle.base.proofs.Bools.{Less-from_is_lt}
-use Rattle.bucket_core.specs.declared.stored.Stored.{Stored}
+use Rattle.bucket_core.specs.declared.objects.Stored.{Stored}
 use Rattle.bucket_core.specs.Stored.{first_part, key_cmp, is_before, by_key, IsPlace}
 
 -- the order of keys is total

@@ -6,7 +6,7 @@ use Rattle.std.proofs.lemmas.Bool.{cases_Bool, and_parts}
 use Rattle.std.proofs.lemmas.Slice.Eq.{bytes_eq-Decides}
 use Rattle.bucket_core.specs.Contents.{Contents, is_key, IsKey}
 use Rattle.bucket_core.specs.Stored.{object_in, have_keys}
-use Rattle.bucket_core.specs.declared.stored.Stored.{Stored}
+use Rattle.bucket_core.specs.declared.objects.Stored.{Stored}
 
 some_is_key : (os : List Stored) → have_keys os ≡ true → (key : List ℕ) → IsSome (object_in os key) → IsKey key
 some_is_key [] keys key some = cc

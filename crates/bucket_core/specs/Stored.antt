@@ -10,7 +10,7 @@ use Rattle.wire_bytes.specs.Files.{slash}
 use Rattle.label_sets.specs.Labels.{compare_texts, is_lesser_text}
 use Rattle.bucket_core.specs.Contents.{Contents, is_key}
 use Rattle.bucket_core.specs.Pages.{IsPage}
-use Rattle.bucket_core.specs.declared.stored.Stored.{Stored}
+use Rattle.bucket_core.specs.declared.objects.Stored.{Stored}
 
 -- a key's part before its first slash
 abbrev pub first_part : List ℕ → List ℕ

@@ -21,7 +21,6 @@ mod sink;
 mod site;
 mod site_refusal;
 mod source;
-mod stored;
 
 pub use crate::notes::{CallNotes, NameNotes};
 pub use answer::{

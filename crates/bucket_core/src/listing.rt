@@ -5,8 +5,7 @@ ghost use Rattle.std.specs.List.Sorted.{IsStrictlySortedBy};
 ghost use Rattle.bucket_core.specs.Pages.{IsPage};
 ghost use Rattle.bucket_core.specs.Stored.{text_after, name_of, names_of, picked, by_key, object_in, IsStart};
 
-use crate::objects::{first_part, place_of};
-use crate::stored::Stored;
+use crate::objects::{Stored, first_part, place_of};
 use base::{List, NoMemory};
 use label_sets::{Text, TextList};
 use std::alloc::Global;

@@ -8,8 +8,7 @@ ghost use Rattle.bucket_core.specs.Stored.{by_key, have_keys, object_in};
 
 use crate::calls::failure_at;
 use crate::listing::page_of;
-use crate::objects::{find, put_in, remove_from};
-use crate::stored::Stored;
+use crate::objects::{Stored, find, put_in, remove_from};
 use crate::{Bucket, DeleteAnswer, FailList, GetAnswer, PageAnswer, PutAnswer};
 use base::{NoMemory, TryCopy};
 use std::alloc::Global;

@@ -4,12 +4,18 @@ ghost use Rattle.std.specs.List.Sorted.{IsStrictlySortedBy};
 ghost use Rattle.bucket_core.specs.Contents.{IsKey};
 ghost use Rattle.bucket_core.specs.Stored.{first_part as first_part_of, key_cmp, is_before, by_key, have_keys, object_in, IsPlace, IsUpdated, StandsAt};
 
-use crate::stored::Stored;
 use base::{NoMemory, TryCopy};
 use label_sets::Text;
 use std::alloc::Global;
 use std::cmp::Ordering;
 use wire_bytes::Blob;
+
+/// An object under its key.
+#[derive(Drop)]
+pub(crate) struct Stored {
+    pub(crate) key: Text,
+    pub(crate) bytes: Blob,
+}
 
 /// A key's part before its first slash.
 pub(crate) fn first_part(key: &str) -> &str

@@ -8,8 +8,8 @@ use Rattle.world_core.proofs.Asking.{asks_none}
 use Rattle.world_core.specs.Asking.{calls_of, opening, IsAllAsked}
 use Rattle.world_core.specs.Worlds.{WorldView}
 use Rattle.world_core.specs.declared.entry.Entry.{Entry}
-use Rattle.world_core.specs.declared.open_refusal.OpenRefusal.{OpenRefusal}
-use Rattle.world_core.specs.declared.open_refusal.OpenRefusal.TheVariants as unopened
+use Rattle.world_core.specs.declared.world.OpenRefusal.{OpenRefusal}
+use Rattle.world_core.specs.declared.world.OpenRefusal.TheVariants as unopened
 use Rattle.call_verdicts.specs.Asked.{IsAskedBy, IsBucketAsked, WasAsked, WasOnlyOpened}
 use Rattle.call_verdicts.specs.declared.verdict.Verdict.{Verdict}
 use Rattle.call_verdicts.specs.declared.verdict.Verdict.TheVariants.{WordsRefused, SourceFault, ScriptRefused, SiteFault, NotEmpty, Full, Report, Checked, NoMemory}

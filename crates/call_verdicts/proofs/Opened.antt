@@ -7,8 +7,8 @@ use Rattle.bucket_core.specs.Pages.{IsPage}
 use Rattle.bucket_core.specs.declared.site_refusal.SiteRefusal.{SiteRefusal}
 use Rattle.bucket_core.specs.declared.site_refusal.SiteRefusal.TheVariants as site
 use Rattle.world_core.specs.declared.entry.Entry.{Entry}
-use Rattle.world_core.specs.declared.open_refusal.OpenRefusal.{OpenRefusal}
-use Rattle.world_core.specs.declared.open_refusal.OpenRefusal.TheVariants as unopened
+use Rattle.world_core.specs.declared.world.OpenRefusal.{OpenRefusal}
+use Rattle.world_core.specs.declared.world.OpenRefusal.TheVariants as unopened
 use Rattle.report_lines.specs.lifecycle_core.specs.Setting.{Setting}
 use Rattle.report_lines.specs.lifecycle_core.proofs.Assembling.{none_guaranteed}
 use Rattle.call_verdicts.specs.Verdicts.{IsRun}

@@ -5,8 +5,8 @@ use Rattle.bucket_core.specs.declared.site_refusal.SiteRefusal.{SiteRefusal}
 use Rattle.bucket_core.specs.declared.site_refusal.SiteRefusal.TheVariants as site
 use Rattle.world_core.specs.Worlds.{WorldGoesOn, WorldView, failed_count}
 use Rattle.world_core.specs.declared.entry.Entry.{Entry}
-use Rattle.world_core.specs.declared.open_refusal.OpenRefusal.{OpenRefusal}
-use Rattle.world_core.specs.declared.open_refusal.OpenRefusal.TheVariants as unopened
+use Rattle.world_core.specs.declared.world.OpenRefusal.{OpenRefusal}
+use Rattle.world_core.specs.declared.world.OpenRefusal.TheVariants as unopened
 use Rattle.block_content.specs.declared.checked.Checked.{Checked as CheckedBlock}
 use Rattle.block_loading.specs.LoadReading.{was_fault}
 use Rattle.block_loading.specs.declared.load_refusal.LoadRefusal.{LoadRefusal}

@@ -1,7 +1,7 @@
 -- Scripts all of whose blocks are shipped, and runs that meet no limit.
 use Rattle.std.specs.Prelude.{◌≡◌, ℕ, List, Some}
 use Rattle.compactor.specs.declared.compact_end.CompactEnd.TheVariants as compacting
-use Rattle.cleaner.specs.declared.clean_end.CleanEnd.TheVariants as cleaning
+use Rattle.cleaner.specs.declared.clean.CleanEnd.TheVariants as cleaning
 use Rattle.script_core.specs.declared.block.Block.{Block}
 use Rattle.report_lines.specs.lifecycle_core.specs.Held.{declared}
 use Rattle.report_lines.specs.lifecycle_core.specs.Setting.{Setting}

@@ -5,7 +5,7 @@ use Rattle.base.specs.Reading.{◌>>=◌, ◌>>◌, unless, refused_as}
 use Rattle.wire_bytes.specs.Position.{start}
 use Rattle.wire_bytes.specs.Fields.{number_at, uvarint_at, bytes_at}
 use Rattle.wire_bytes.specs.Crc.{crc}
-use Rattle.wire_bytes.specs.declared.refusal.WireRefusal.{WireRefusal}
+use Rattle.wire_bytes.specs.declared.varint.WireRefusal.{WireRefusal}
 use Rattle.chunk_files.specs.Layout.{magic, version, header_size, xor, histogram, float_histogram}
 use Rattle.chunk_files.specs.declared.refusal.ChunkRefusal.{ChunkRefusal}
 use Rattle.chunk_files.specs.declared.refusal.ChunkRefusal.TheVariants.{BadMagic, BadVersion, Short, BadSum, Histogram, UnknownEncoding}

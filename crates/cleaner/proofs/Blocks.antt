@@ -16,13 +16,13 @@ use Rattle.block_meta.specs.OfBlocks.{block_mark}
 use Rattle.cleaner.specs.Pages.{page_of}
 use Rattle.cleaner.specs.Cleanings.{Counts, if_mark, reads_meta, deletion, looking, none_deleted, one_block_more, listing}
 use Rattle.cleaner.specs.CleanStates.{AreListed, Onward, Leads, counts_of, blocks_left, blocks_after_partial, may_at, goes_after, goes_by_blocks, goes_to}
-use Rattle.cleaner.specs.declared.page.Page.{Page}
-use Rattle.cleaner.specs.declared.page.Page.TheVariants as page_is
-use Rattle.cleaner.specs.declared.stage.Stage.TheVariants.{Listing, Marking, Reading}
+use Rattle.cleaner.specs.declared.walk.Page.{Page}
+use Rattle.cleaner.specs.declared.walk.Page.TheVariants as page_is
+use Rattle.cleaner.specs.declared.clean.Stage.TheVariants.{Listing, Marking, Reading}
 use Rattle.cleaner.specs.declared.walk.Walk.{Walk}
 use Rattle.cleaner.specs.declared.clean.Clean.{Clean}
-use Rattle.cleaner.specs.declared.clean_end.CleanEnd.{CleanEnd}
-use Rattle.cleaner.specs.declared.clean_end.CleanEnd.TheVariants.{Done, Fault, Damaged, TooMany}
+use Rattle.cleaner.specs.declared.clean.CleanEnd.{CleanEnd}
+use Rattle.cleaner.specs.declared.clean.CleanEnd.TheVariants.{Done, Fault, Damaged, TooMany}
 use Rattle.world_core.proofs.PageNames.{length-ulids_in, all_wait}
 use Rattle.world_core.proofs.LeadSteps.{ended}
 use Rattle.cleaner.proofs.Steps.{leads_as}

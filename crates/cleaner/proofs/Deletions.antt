@@ -18,13 +18,13 @@ use Rattle.cleaner.specs.Pages.{page_of}
 use Rattle.cleaner.specs.Cleanings.{deleting, deletion, walking}
 use Rattle.world_core.specs.Leads.{after_entry}
 use Rattle.cleaner.specs.CleanStates.{AreListed, CanCount, Onward, Leads, blocks_left, goes_after, goes_by_objects, goes_to, first_delete, asked_at, asked_clean}
-use Rattle.cleaner.specs.declared.page.Page.{Page}
-use Rattle.cleaner.specs.declared.page.Page.TheVariants as page_is
-use Rattle.cleaner.specs.declared.stage.Stage.TheVariants.{Walking, Deleting}
+use Rattle.cleaner.specs.declared.walk.Page.{Page}
+use Rattle.cleaner.specs.declared.walk.Page.TheVariants as page_is
+use Rattle.cleaner.specs.declared.clean.Stage.TheVariants.{Walking, Deleting}
 use Rattle.cleaner.specs.declared.walk.Walk.{Walk}
 use Rattle.cleaner.specs.declared.clean.Clean.{Clean}
-use Rattle.cleaner.specs.declared.clean_end.CleanEnd.{CleanEnd}
-use Rattle.cleaner.specs.declared.clean_end.CleanEnd.TheVariants.{Fault, Damaged, TooMany}
+use Rattle.cleaner.specs.declared.clean.CleanEnd.{CleanEnd}
+use Rattle.cleaner.specs.declared.clean.CleanEnd.TheVariants.{Fault, Damaged, TooMany}
 use Rattle.world_core.proofs.PageNames.{length-found}
 use Rattle.world_core.proofs.LeadSteps.{ended}
 use Rattle.cleaner.proofs.Steps.{leads_as}

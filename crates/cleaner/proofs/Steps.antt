@@ -15,10 +15,10 @@ use Rattle.world_core.proofs.LeadSteps.{leads_kept, on_entry, opens as begins, s
 use Rattle.world_core.proofs.PlanLaws.{breaks_off}
 use Rattle.cleaner.specs.Cleanings.{deleting}
 use Rattle.cleaner.specs.CleanStates.{first_delete, blocks_left, asked_at, asked_clean, left_at, HasListed, Onward, may_at, may_clean, goes_after, Leads}
-use Rattle.cleaner.specs.declared.stage.Stage.{Stage}
-use Rattle.cleaner.specs.declared.stage.Stage.TheVariants.{Fresh, Listing, Marking, Reading, Walking, Deleting}
+use Rattle.cleaner.specs.declared.clean.Stage.{Stage}
+use Rattle.cleaner.specs.declared.clean.Stage.TheVariants.{Fresh, Listing, Marking, Reading, Walking, Deleting}
 use Rattle.cleaner.specs.declared.clean.Clean.{Clean}
-use Rattle.cleaner.specs.declared.clean_end.CleanEnd.{CleanEnd}
+use Rattle.cleaner.specs.declared.clean.CleanEnd.{CleanEnd}
 
 -- ---- runs of what is left
 

@@ -12,11 +12,11 @@ use Rattle.world_core.specs.declared.entry.Entry.{Entry}
 use Rattle.cleaner.specs.Pages.{page_by, page_of}
 use Rattle.cleaner.specs.Cleanings.{walk_ends}
 use Rattle.cleaner.specs.CleanStates.{AreListed}
-use Rattle.cleaner.specs.declared.page.Page.{Page}
-use Rattle.cleaner.specs.declared.page.Page.TheVariants as page_is
+use Rattle.cleaner.specs.declared.walk.Page.{Page}
+use Rattle.cleaner.specs.declared.walk.Page.TheVariants as page_is
 use Rattle.cleaner.specs.declared.walk.Walk.{Walk}
-use Rattle.cleaner.specs.declared.clean_end.CleanEnd.{CleanEnd}
-use Rattle.cleaner.specs.declared.clean_end.CleanEnd.TheVariants.{Damaged, Fault, TooMany}
+use Rattle.cleaner.specs.declared.clean.CleanEnd.{CleanEnd}
+use Rattle.cleaner.specs.declared.clean.CleanEnd.TheVariants.{Damaged, Fault, TooMany}
 use Rattle.world_core.proofs.PageNames.{last_listed-append}
 use Rattle.world_core.proofs.LeadSteps.{ended}
 

@@ -15,9 +15,9 @@ use Rattle.world_core.specs.declared.entry.Entry.{Entry}
 use Rattle.world_core.specs.declared.act.Act.{Act}
 use Rattle.cleaner.specs.Objects.{data_keys, objects_of}
 use Rattle.cleaner.specs.Cleanings.{Counts, one_partial_more, walk_ends, deleting, walking, deletion, reads_meta, looking, none_deleted, listing}
-use Rattle.cleaner.specs.declared.clean_end.CleanEnd.{CleanEnd}
-use Rattle.cleaner.specs.declared.stage.Stage.{Stage}
-use Rattle.cleaner.specs.declared.stage.Stage.TheVariants.{Fresh, Listing, Marking, Reading, Walking, Deleting}
+use Rattle.cleaner.specs.declared.clean.CleanEnd.{CleanEnd}
+use Rattle.cleaner.specs.declared.clean.Stage.{Stage}
+use Rattle.cleaner.specs.declared.clean.Stage.TheVariants.{Fresh, Listing, Marking, Reading, Walking, Deleting}
 use Rattle.cleaner.specs.declared.walk.Walk.{Walk}
 use Rattle.cleaner.specs.declared.clean.Clean.{Clean}
 

@@ -15,8 +15,8 @@ use Rattle.cleaner.specs.Marks.{is_old_mark, is_old_block}
 use Rattle.block_meta.specs.OfBlocks.{block_mark}
 use Rattle.cleaner.specs.Objects.{objects_of}
 use Rattle.cleaner.specs.declared.clean_rules.CleanRules.{CleanRules}
-use Rattle.cleaner.specs.declared.clean_end.CleanEnd.{CleanEnd}
-use Rattle.cleaner.specs.declared.clean_end.CleanEnd.TheVariants.{Done, Fault, Damaged, TooMany}
+use Rattle.cleaner.specs.declared.clean.CleanEnd.{CleanEnd}
+use Rattle.cleaner.specs.declared.clean.CleanEnd.TheVariants.{Done, Fault, Damaged, TooMany}
 
 -- how many blocks and partials were deleted
 pub record Counts : Type 0 where

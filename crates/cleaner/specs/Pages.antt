@@ -3,8 +3,8 @@ use Rattle.std.specs.Prelude.{ℕ, ◌+◌, Bool, true, false, nat_lt, nat_le, L
 use Rattle.base.specs.Order.{are_in_order_after, comes_after}
 use Rattle.label_sets.specs.Labels.{compare_texts}
 use Rattle.world_core.specs.Limits.{most_listed}
-use Rattle.cleaner.specs.declared.page.Page.{Page}
-use Rattle.cleaner.specs.declared.page.Page.TheVariants.{Unordered, Last, TooMany, Full}
+use Rattle.cleaner.specs.declared.walk.Page.{Page}
+use Rattle.cleaner.specs.declared.walk.Page.TheVariants.{Unordered, Last, TooMany, Full}
 
 -- by three tests: whether its names ascend, whether it is a short one, and whether so many names were listed as may be
 abbrev pub page_by : Bool → Bool → Bool → Page

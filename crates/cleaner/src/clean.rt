@@ -6,15 +6,12 @@ ghost use Rattle.world_core.specs.declared.entry.Entry.{Entry};
 ghost use Rattle.block_keys.specs.declared.key.Key.TheVariants as key;
 ghost use Rattle.cleaner.specs.Objects.{have_lawful_keys};
 ghost use Rattle.cleaner.specs.Cleanings.{CleanRun, deleting, deletion};
-ghost use Rattle.cleaner.specs.declared.clean_end.CleanEnd.{CleanEnd};
+ghost use Rattle.cleaner.specs.declared.clean.CleanEnd.{CleanEnd};
 
-use crate::CleanEnd;
 use crate::ages::{is_old_block, is_old_mark};
 use crate::clean_rules::{CleanRules, rules_of};
 use crate::objects::{add_data_keys, first_of};
-use crate::page::Page;
-use crate::stage::Stage;
-use crate::walk::Walk;
+use crate::walk::{Page, Walk};
 use base::NoMemory;
 use block_keys::Key;
 use block_meta::mark_of;
@@ -24,6 +21,36 @@ use std::alloc::Global;
 use std::collections::VecDeque;
 use ulid_core::Ulid;
 use world_core::{Act, Machine, Op, Reply, Seen, add_ulids};
+
+/// How a cleaning ended.
+#[derive(Clone, Copy, Debug, PartialEq, Eq)]
+pub enum CleanEnd {
+    /// All blocks that were listed were looked at, and so many blocks and partials of them were deleted.
+    Done { blocks: u64, partials: u64 },
+    /// The entry of this number was answered that the call failed.
+    Fault(u64),
+    /// The names of the page, or the bytes of the mark, at the entry of this number are not as they may be.
+    Damaged(u64),
+    /// The bucket, or one block, has a million names and more.
+    TooMany,
+}
+
+/// How far a cleaning has come.
+#[derive(Clone, Copy)]
+pub(crate) enum Stage {
+    /// It was not begun.
+    Fresh,
+    /// It waits for a page of the names of blocks.
+    Listing,
+    /// It waits for the mark of the block.
+    Marking(Ulid),
+    /// It waits for the meta of the block, which has no mark.
+    Reading(Ulid),
+    /// It waits for a page of the names of the block, which is to be deleted.
+    Walking(Ulid),
+    /// It waits for the delete of the block's first object.
+    Deleting,
+}
 
 /// A cleaning: the pages of the bucket's names up to the first short one, then of each block its mark, and where there is none its
 /// meta. Of a block that is to be deleted the pages of its names, and then the deletes of its objects.
@@ -316,7 +343,7 @@ impl Machine for Clean {
     type End = CleanEnd;
 
     ghost use Rattle.cleaner.specs.CleanStates.{may_clean, asked_clean, count_of};
-    ghost use Rattle.cleaner.specs.declared.stage.Stage.TheVariants.{Fresh};
+    ghost use Rattle.cleaner.specs.declared.clean.Stage.TheVariants.{Fresh};
 
     ghost may = { may_clean };
 

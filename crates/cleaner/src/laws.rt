@@ -3,7 +3,7 @@ ghost use Rattle.std.specs.Prelude.{◌≡◌, List, ◌∷◌, ◌++◌, Option
 ghost use Rattle.moment_core.specs.declared.rules.Rules.{Rules};
 ghost use Rattle.world_core.specs.declared.entry.Entry.{Entry};
 ghost use Rattle.cleaner.specs.Cleanings.{CleanRun};
-ghost use Rattle.cleaner.specs.declared.clean_end.CleanEnd.{CleanEnd};
+ghost use Rattle.cleaner.specs.declared.clean.CleanEnd.{CleanEnd};
 
 /// A law: the entries of a cleaning tell its end. And as long as they tell the same of two cleanings by the same rules, both ask
 /// for the same operation next.

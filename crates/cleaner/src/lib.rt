@@ -3,16 +3,12 @@
 
 mod ages;
 mod clean;
-mod clean_end;
 mod clean_rules;
 mod laws;
 mod objects;
-mod page;
 mod running;
-mod stage;
 mod walk;
 
-pub use clean::Clean;
-pub use clean_end::CleanEnd;
+pub use clean::{Clean, CleanEnd};
 pub use laws::cleanings_have_one_end;
 pub use running::run_cleaning;

@@ -3,11 +3,23 @@ ghost use Rattle.world_core.specs.Limits.{most_listed};
 ghost use Rattle.world_core.specs.Walks.{last_listed};
 ghost use Rattle.cleaner.specs.Pages.{page_of};
 
-use crate::page::Page;
 use base::{NoMemory, TryCopy};
 use label_sets::Text;
 use std::alloc::Global;
 use world_core::{MOST_LISTED, ascends, is_short, last_name};
+
+/// What a page of names is to a walk.
+#[derive(Clone, Copy)]
+pub(crate) enum Page {
+    /// A name is not greater than the one before it.
+    Unordered,
+    /// It is shorter than was asked for.
+    Last,
+    /// It is not, and as many names were listed as may be.
+    TooMany,
+    /// Another page follows.
+    Full,
+}
 
 /// How far a walk of pages has come.
 #[derive(Drop)]

@@ -21,8 +21,8 @@ use Rattle.compactor.specs.declared.compact.Compact.{Compact}
 use Rattle.compactor.specs.declared.compact_end.CompactEnd.{CompactEnd}
 use Rattle.compactor.specs.declared.compact_end.CompactEnd.TheVariants.{Fault}
 use Rattle.compactor.specs.declared.marks.Marks.{Marks}
-use Rattle.compactor.specs.declared.marks_end.MarksEnd.{MarksEnd}
-use Rattle.compactor.specs.declared.marks_end.MarksEnd.TheVariants as marked
+use Rattle.compactor.specs.declared.marks.MarksEnd.{MarksEnd}
+use Rattle.compactor.specs.declared.marks.MarksEnd.TheVariants as marked
 use Rattle.compactor.specs.declared.reads.Reads.{Reads}
 use Rattle.compactor.specs.declared.reads_end.ReadsEnd.{ReadsEnd}
 use Rattle.compactor.specs.declared.reason.Reason.{Reason}

@@ -12,7 +12,7 @@ use Rattle.meta_fetcher.specs.contracts.sync.SyncMachine.TheImpl.{ghosts as sync
 use Rattle.meta_fetcher.specs.Syncs.{SyncRun}
 use Rattle.meta_fetcher.specs.declared.rules.SyncRules.{SyncRules}
 use Rattle.meta_fetcher.specs.declared.sync.Sync.{Sync}
-use Rattle.meta_fetcher.specs.declared.sync_end.SyncEnd.{SyncEnd}
+use Rattle.meta_fetcher.specs.declared.sync.SyncEnd.{SyncEnd}
 use Rattle.compactor.specs.Compactions.{sync_rules, after_sync, CompactRun}
 use Rattle.world_core.specs.Parts.{PartThen}
 use Rattle.compactor.proofs.ReadSteps.{ends_fit}

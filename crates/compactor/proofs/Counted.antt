@@ -13,11 +13,11 @@ use Rattle.world_core.proofs.PlanLaws.{EndsAre, end_is}
 use Rattle.world_core.proofs.PlanParts.{Parts, broken, both, parts}
 use Rattle.world_core.proofs.PlanWords.{gets_are, puts_are}
 use Rattle.shipper.specs.Uploads.{upload}
-use Rattle.shipper.specs.declared.upload_end.UploadEnd.{UploadEnd}
-use Rattle.shipper.specs.declared.upload_end.UploadEnd.TheVariants as uploaded
+use Rattle.shipper.specs.declared.upload.UploadEnd.{UploadEnd}
+use Rattle.shipper.specs.declared.upload.UploadEnd.TheVariants as uploaded
 use Rattle.meta_fetcher.specs.Syncs.{Synced, Course, IsEnd, sync}
-use Rattle.meta_fetcher.specs.declared.sync_end.SyncEnd.{SyncEnd}
-use Rattle.meta_fetcher.specs.declared.sync_end.SyncEnd.TheVariants as ended
+use Rattle.meta_fetcher.specs.declared.sync.SyncEnd.{SyncEnd}
+use Rattle.meta_fetcher.specs.declared.sync.SyncEnd.TheVariants as ended
 use Rattle.meta_fetcher.specs.declared.view.View.{View}
 use Rattle.group_planner.specs.Groups.{AreGroups}
 use Rattle.group_planner.specs.Members.{ulids_of}

@@ -3,8 +3,8 @@ use Rattle.std.proofs.Common.{ℕ, ◌+◌, ◌^◌, ◌<◌, length, arith}
 use Rattle.compactor.specs.MarkCounts.{held}
 use Rattle.compactor.specs.MarkStates.{count_at}
 use Rattle.compactor.specs.contracts.marks.MarksMachine.TheImpl.{ghosts}
-use Rattle.compactor.specs.declared.mark_stage.MarkStage.{MarkStage}
-use Rattle.compactor.specs.declared.mark_stage.MarkStage.TheVariants.{Fresh, Looking, Putting}
+use Rattle.compactor.specs.declared.marks.MarkStage.{MarkStage}
+use Rattle.compactor.specs.declared.marks.MarkStage.TheVariants.{Fresh, Looking, Putting}
 use Rattle.compactor.specs.declared.marks.Marks.{Marks}
 
 marks_at : (stage : MarkStage) (put waiting : ℕ) → put + held stage + waiting < 2 ^ 64 → count_at stage waiting < 2 ^ 100

@@ -14,11 +14,11 @@ use Rattle.compactor.specs.Marking.{details_of, marking, marks_of}
 use Rattle.compactor.specs.MarkStates.{left_at, left_of, asked_at, asked_mark}
 use Rattle.compactor.specs.contracts.marks.MarksMachine.TheImpl.{ghosts}
 use Rattle.compactor.specs.declared.reason.Reason.{Reason}
-use Rattle.compactor.specs.declared.mark_stage.MarkStage.{MarkStage}
-use Rattle.compactor.specs.declared.mark_stage.MarkStage.TheVariants.{Fresh, Looking, Putting}
+use Rattle.compactor.specs.declared.marks.MarkStage.{MarkStage}
+use Rattle.compactor.specs.declared.marks.MarkStage.TheVariants.{Fresh, Looking, Putting}
 use Rattle.compactor.specs.declared.marks.Marks.{Marks}
-use Rattle.compactor.specs.declared.marks_end.MarksEnd.{MarksEnd}
-use Rattle.compactor.specs.declared.marks_end.MarksEnd.TheVariants as marked
+use Rattle.compactor.specs.declared.marks.MarksEnd.{MarksEnd}
+use Rattle.compactor.specs.declared.marks.MarksEnd.TheVariants as marked
 use Rattle.world_core.proofs.LeadSteps.{opens_by, steps_by}
 use Rattle.world_core.proofs.PlanLaws.{answered, breaks_off}
 use Rattle.world_core.proofs.PlanWords.{gets_then, puts_then, gets_keeps, puts_keeps}

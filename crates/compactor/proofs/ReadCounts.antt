@@ -3,8 +3,8 @@ use Rattle.std.proofs.Common.{ℕ, ◌^◌, ◌<◌, ◌≤◌, length, arith}
 use Rattle.compactor.specs.ReadRoom.{last_segment}
 use Rattle.compactor.specs.ReadStates.{count_at}
 use Rattle.compactor.specs.contracts.reads.ReadsMachine.TheImpl.{ghosts}
-use Rattle.compactor.specs.declared.read_stage.ReadStage.{ReadStage}
-use Rattle.compactor.specs.declared.read_stage.ReadStage.TheVariants.{Fresh, Indexing, Segmenting, Over}
+use Rattle.compactor.specs.declared.reads.ReadStage.{ReadStage}
+use Rattle.compactor.specs.declared.reads.ReadStage.TheVariants.{Fresh, Indexing, Segmenting, Over}
 use Rattle.compactor.specs.declared.reads.Reads.{Reads}
 
 reads_at : (stage : ReadStage) (waiting : ℕ) → last_segment stage ≤ 999_999 → waiting < 2 ^ 64 → count_at stage waiting < 2 ^ 100

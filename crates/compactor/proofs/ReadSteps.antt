@@ -20,8 +20,8 @@ use Rattle.compactor.specs.ReadStates.{input_of, segments_of, segment_of, left_a
 use Rattle.compactor.specs.contracts.reads.ReadsMachine.TheImpl.{ghosts}
 use Rattle.compactor.specs.declared.input.Input.{Input}
 use Rattle.compactor.specs.declared.input.Read.{Read}
-use Rattle.compactor.specs.declared.read_stage.ReadStage.{ReadStage}
-use Rattle.compactor.specs.declared.read_stage.ReadStage.TheVariants.{Fresh, Indexing, Segmenting, Over}
+use Rattle.compactor.specs.declared.reads.ReadStage.{ReadStage}
+use Rattle.compactor.specs.declared.reads.ReadStage.TheVariants.{Fresh, Indexing, Segmenting, Over}
 use Rattle.compactor.specs.declared.reads.Reads.{Reads}
 use Rattle.compactor.specs.declared.reads_end.ReadsEnd.{ReadsEnd}
 use Rattle.compactor.specs.declared.reads_end.ReadsEnd.TheVariants as read

@@ -15,7 +15,7 @@ use Rattle.world_core.proofs.PlanParts.{notes, joined}
 use Rattle.shipper.specs.Uploads.{upload}
 use Rattle.shipper.specs.contracts.upload.UploadMachine.TheImpl.{ghosts as uploads}
 use Rattle.shipper.specs.declared.upload.Upload.{Upload}
-use Rattle.shipper.specs.declared.upload_end.UploadEnd.{UploadEnd}
+use Rattle.shipper.specs.declared.upload.UploadEnd.{UploadEnd}
 use Rattle.compactor.specs.Compactions.{last_number, after_upload}
 use Rattle.compactor.specs.NewBlocks.{block_objects}
 use Rattle.world_core.specs.Parts.{PartThen}

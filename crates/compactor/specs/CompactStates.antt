@@ -9,15 +9,15 @@ use Rattle.world_core.specs.declared.op.Op.{Op}
 use Rattle.world_core.specs.declared.entry.Entry.{Entry}
 use Rattle.world_core.specs.declared.act.Act.{Act}
 use Rattle.shipper.specs.contracts.upload.UploadMachine.TheImpl.{ghosts as uploads}
-use Rattle.shipper.specs.declared.upload_end.UploadEnd.{UploadEnd}
+use Rattle.shipper.specs.declared.upload.UploadEnd.{UploadEnd}
 use Rattle.meta_fetcher.specs.contracts.sync.SyncMachine.TheImpl.{ghosts as syncs}
 use Rattle.group_planner.specs.declared.group.Group.{Group}
 use Rattle.compactor.specs.Marking.{marking}
 use Rattle.compactor.specs.contracts.marks.MarksMachine.TheImpl.{ghosts as marks}
 use Rattle.compactor.specs.declared.reason.Reason.{Reason}
 use Rattle.compactor.specs.declared.reason.Reason.TheVariants.{Covered, Compacted, Expired}
-use Rattle.compactor.specs.declared.marks_end.MarksEnd.{MarksEnd}
-use Rattle.compactor.specs.declared.marks_end.MarksEnd.TheVariants as marked
+use Rattle.compactor.specs.declared.marks.MarksEnd.{MarksEnd}
+use Rattle.compactor.specs.declared.marks.MarksEnd.TheVariants as marked
 use Rattle.compactor.specs.contracts.reads.ReadsMachine.TheImpl.{ghosts as reads}
 use Rattle.compactor.specs.declared.reads_end.ReadsEnd.{ReadsEnd}
 use Rattle.compactor.specs.declared.reads_end.ReadsEnd.TheVariants as read

@@ -5,7 +5,7 @@ use Rattle.block_meta.specs.declared.meta.Meta.{Meta}
 use Rattle.moment_core.specs.declared.rules.Rules.{Rules}
 use Rattle.world_core.specs.declared.entry.Entry.{Entry}
 use Rattle.meta_fetcher.specs.Syncs.{SyncRun}
-use Rattle.meta_fetcher.specs.declared.sync_end.SyncEnd.TheVariants as ended
+use Rattle.meta_fetcher.specs.declared.sync.SyncEnd.TheVariants as ended
 use Rattle.meta_fetcher.specs.declared.view.View.{View}
 use Rattle.group_planner.specs.Groups.{AreGroups}
 use Rattle.group_planner.specs.Plans.{IsPlan}

@@ -1,7 +1,7 @@
 -- Which blocks a marking still counts.
 use Rattle.std.specs.Prelude.{ℕ}
-use Rattle.compactor.specs.declared.mark_stage.MarkStage.{MarkStage}
-use Rattle.compactor.specs.declared.mark_stage.MarkStage.TheVariants.{Fresh, Looking, Putting}
+use Rattle.compactor.specs.declared.marks.MarkStage.{MarkStage}
+use Rattle.compactor.specs.declared.marks.MarkStage.TheVariants.{Fresh, Looking, Putting}
 
 -- the block at hand, if there is one
 abbrev pub held : MarkStage → ℕ

@@ -7,11 +7,11 @@ use Rattle.world_core.specs.declared.op.Op.TheVariants as op
 use Rattle.compactor.specs.NewMarks.{new_mark_text}
 use Rattle.compactor.specs.Marking.{details_of, marks_of}
 use Rattle.compactor.specs.declared.reason.Reason.{Reason}
-use Rattle.compactor.specs.declared.mark_stage.MarkStage.{MarkStage}
-use Rattle.compactor.specs.declared.mark_stage.MarkStage.TheVariants.{Fresh, Looking, Putting}
+use Rattle.compactor.specs.declared.marks.MarkStage.{MarkStage}
+use Rattle.compactor.specs.declared.marks.MarkStage.TheVariants.{Fresh, Looking, Putting}
 use Rattle.compactor.specs.declared.marks.Marks.{Marks}
-use Rattle.compactor.specs.declared.marks_end.MarksEnd.{MarksEnd}
-use Rattle.compactor.specs.declared.marks_end.MarksEnd.TheVariants.{Fault}
+use Rattle.compactor.specs.declared.marks.MarksEnd.{MarksEnd}
+use Rattle.compactor.specs.declared.marks.MarksEnd.TheVariants.{Fault}
 
 abbrev pub left_at : MarkStage → Reason → ℕ → List ℕ → Plan MarksEnd
 left_at Fresh reason put waiting = marks_of reason put waiting

@@ -3,8 +3,8 @@ use Rattle.std.specs.Prelude.{ℕ, ◌+◌, List, [], ◌∷◌, codes}
 use Rattle.block_keys.specs.declared.key.Key.TheVariants as key
 use Rattle.world_core.specs.Plans.{Plan, ends, gets, puts}
 use Rattle.compactor.specs.NewMarks.{new_mark_text}
-use Rattle.compactor.specs.declared.marks_end.MarksEnd.{MarksEnd}
-use Rattle.compactor.specs.declared.marks_end.MarksEnd.TheVariants.{Done, Fault}
+use Rattle.compactor.specs.declared.marks.MarksEnd.{MarksEnd}
+use Rattle.compactor.specs.declared.marks.MarksEnd.TheVariants.{Done, Fault}
 use Rattle.compactor.specs.declared.reason.Reason.{Reason}
 use Rattle.compactor.specs.declared.reason.Reason.TheVariants.{Covered, Compacted, Expired}
 

@@ -1,8 +1,8 @@
 -- How many segments the blocks have that are read, and how many blocks there are beside the one at hand.
 use Rattle.std.specs.Prelude.{ℕ, ◌+◌, max, List, [], ◌∷◌, length}
 use Rattle.compactor.specs.declared.input.Input.{Input}
-use Rattle.compactor.specs.declared.read_stage.ReadStage.{ReadStage}
-use Rattle.compactor.specs.declared.read_stage.ReadStage.TheVariants.{Fresh, Indexing, Segmenting, Over}
+use Rattle.compactor.specs.declared.reads.ReadStage.{ReadStage}
+use Rattle.compactor.specs.declared.reads.ReadStage.TheVariants.{Fresh, Indexing, Segmenting, Over}
 
 -- the number of its last segment, while one is waited for
 abbrev pub last_segment : ReadStage → ℕ

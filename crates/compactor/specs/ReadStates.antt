@@ -13,8 +13,8 @@ use Rattle.world_core.specs.declared.act.Act.TheVariants as act
 use Rattle.compactor.specs.Reading.{read_at, reads, reads_segments, read_ends, blocks_after, block_of, FitsEnd}
 use Rattle.compactor.specs.declared.input.Input.{Input}
 use Rattle.compactor.specs.declared.input.Read.{Read}
-use Rattle.compactor.specs.declared.read_stage.ReadStage.{ReadStage}
-use Rattle.compactor.specs.declared.read_stage.ReadStage.TheVariants.{Fresh, Indexing, Segmenting, Over}
+use Rattle.compactor.specs.declared.reads.ReadStage.{ReadStage}
+use Rattle.compactor.specs.declared.reads.ReadStage.TheVariants.{Fresh, Indexing, Segmenting, Over}
 use Rattle.compactor.specs.declared.reads.Reads.{Reads}
 use Rattle.compactor.specs.declared.reads_end.ReadsEnd.{ReadsEnd}
 

@@ -4,7 +4,7 @@ use Rattle.moment_core.specs.declared.rules.Rules.{Rules}
 use Rattle.world_core.specs.Plans.{Runs}
 use Rattle.world_core.specs.declared.entry.Entry.{Entry}
 use Rattle.meta_fetcher.specs.Syncs.{SyncRun}
-use Rattle.meta_fetcher.specs.declared.sync_end.SyncEnd.{SyncEnd}
+use Rattle.meta_fetcher.specs.declared.sync.SyncEnd.{SyncEnd}
 use Rattle.compactor.specs.Compactions.{sync_rules, after_sync}
 use Rattle.compactor.specs.declared.compact_end.CompactEnd.{CompactEnd}
 

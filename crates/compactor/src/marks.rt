@@ -7,10 +7,8 @@ ghost use Rattle.world_core.specs.declared.op.Op.{Op};
 ghost use Rattle.world_core.specs.declared.entry.Entry.{Entry};
 ghost use Rattle.world_core.specs.Leads.{after_entry, LeadsBy};
 ghost use Rattle.compactor.specs.MarkCounts.{held};
-ghost use Rattle.compactor.specs.declared.marks_end.MarksEnd.{MarksEnd};
+ghost use Rattle.compactor.specs.declared.marks.MarksEnd.{MarksEnd};
 
-use crate::mark_stage::MarkStage;
-use crate::marks_end::MarksEnd;
 use crate::new_mark::new_mark;
 use crate::reason::Reason;
 use base::NoMemory;
@@ -20,6 +18,26 @@ use std::alloc::Global;
 use std::collections::VecDeque;
 use ulid_core::Ulid;
 use world_core::{Act, Machine, Op, Reply, Seen};
+
+/// How a marking of blocks ended.
+#[derive(Clone, Copy)]
+pub enum MarksEnd {
+    /// So many marks were put.
+    Done(u64),
+    /// The entry of this number was answered that the call failed.
+    Fault(u64),
+}
+
+/// How far a marking has come.
+#[derive(Clone, Copy)]
+pub(crate) enum MarkStage {
+    /// It was not begun.
+    Fresh,
+    /// It waits for the mark of the block.
+    Looking(Ulid),
+    /// It waits for the put of the mark of the block, which had none at that moment.
+    Putting(Ulid, Moment),
+}
 
 /// The marking of blocks: of each a look at its mark, and where it has none the put of one.
 #[derive(Drop)]
@@ -131,7 +149,7 @@ impl Machine for Marks {
 
     ghost use Rattle.world_core.specs.Leads.{does};
     ghost use Rattle.compactor.specs.MarkStates.{left_of, asked_mark, count_of};
-    ghost use Rattle.compactor.specs.declared.mark_stage.MarkStage.TheVariants.{Fresh};
+    ghost use Rattle.compactor.specs.declared.marks.MarkStage.TheVariants.{Fresh};
 
     ghost may = { does left_of };
 

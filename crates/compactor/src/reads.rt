@@ -11,9 +11,8 @@ ghost use Rattle.world_core.specs.Leads.{after_entry, LeadsBy};
 ghost use Rattle.compactor.specs.ReadRoom.{last_segment, most_segments, others_of};
 ghost use Rattle.compactor.specs.declared.reads_end.ReadsEnd.{ReadsEnd};
 
-use crate::input::{Input, InputList, Read, ReadList};
+use crate::input::{Input, Input, InputList, Read, ReadList};
 use crate::named::named_segments;
-use crate::read_stage::ReadStage;
 use crate::reads_end::{Gathered, ReadsEnd};
 use base::NoMemory;
 use block_keys::Key;
@@ -23,6 +22,19 @@ use std::alloc::Global;
 use std::collections::VecDeque;
 use std::mem;
 use world_core::{Act, Machine, Op, Reply, Seen};
+
+/// How far the reads of blocks have come.
+#[derive(Drop)]
+pub(crate) enum ReadStage {
+    /// They were not begun; this block is the first.
+    Fresh(Meta),
+    /// They wait for the index of the block.
+    Indexing(Meta),
+    /// They wait for the next segment of the block, and so many follow on that.
+    Segmenting(Input, u32),
+    /// They have come to their end.
+    Over,
+}
 
 /// The reads of blocks, one after another: of each its index, and then the segments that the index names.
 #[derive(Drop)]
@@ -200,7 +212,7 @@ impl Machine for Reads {
 
     ghost use Rattle.block_meta.specs.declared.meta.Meta.{Meta};
     ghost use Rattle.compactor.specs.ReadStates.{may_read, asked_read, count_of};
-    ghost use Rattle.compactor.specs.declared.read_stage.ReadStage.TheVariants.{Fresh};
+    ghost use Rattle.compactor.specs.declared.reads.ReadStage.TheVariants.{Fresh};
 
     ghost may = { may_read };
 

@@ -7,7 +7,7 @@ use Rattle.base.proofs.Binds.{bind_ok, refused_as_ok}
 use Rattle.wire_bytes.specs.Position.{Position, left, further}
 use Rattle.wire_bytes.specs.Fields.{bytes_at, number_at, uvarint_at, varint_at}
 use Rattle.wire_bytes.specs.FieldTexts.{IsFixed, IsUvarint, IsVarint}
-use Rattle.wire_bytes.specs.declared.refusal.WireRefusal.{WireRefusal}
+use Rattle.wire_bytes.specs.declared.varint.WireRefusal.{WireRefusal}
 use Rattle.wire_bytes.proofs.FieldLaws.{left-further, left_after, uvarint_found, uvarint_again, varint_found, varint_again}
 use Rattle.wire_bytes.proofs.FixedLaws.{IsWide, number_found, number_again}
 use Rattle.index_parts.specs.declared.refusal.PartRefusal.{PartRefusal}

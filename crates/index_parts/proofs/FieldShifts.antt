@@ -6,8 +6,8 @@ use Rattle.std.proofs.lemmas.Bool.{ltb-false}
 use Rattle.std.proofs.lemmas.List.{length-drop}
 use Rattle.base.specs.Reading.{◌>>=◌, refused_as}
 use Rattle.base.proofs.Binds.{bind_ok, ok_is, cond_is, cond_ok_second}
-use Rattle.wire_bytes.specs.declared.refusal.WireRefusal.{WireRefusal}
-use Rattle.wire_bytes.specs.declared.refusal.WireRefusal.TheVariants as wire
+use Rattle.wire_bytes.specs.declared.varint.WireRefusal.{WireRefusal}
+use Rattle.wire_bytes.specs.declared.varint.WireRefusal.TheVariants as wire
 use Rattle.wire_bytes.specs.Position.{Position, left, further}
 use Rattle.wire_bytes.specs.Fields.{bytes_at, number_at, groups_of, uvarint_at, unzigzag, varint_at}
 use Rattle.index_parts.specs.Placed.{refused_at, field, text_at}

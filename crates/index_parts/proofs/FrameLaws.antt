@@ -8,7 +8,7 @@ use Rattle.base.specs.Grammar.{IsBytes}
 use Rattle.base.proofs.Fronts.{IsBytes-after, IsBytes-drop}
 use Rattle.base.proofs.Binds.{bind_ok, unless_ok, refused_as_ok, ok_is}
 use Rattle.wire_bytes.specs.Position.{Position, left, further}
-use Rattle.wire_bytes.specs.declared.refusal.WireRefusal.{WireRefusal}
+use Rattle.wire_bytes.specs.declared.varint.WireRefusal.{WireRefusal}
 use Rattle.wire_bytes.specs.FieldTexts.{IsFixed}
 use Rattle.wire_bytes.specs.Crc.{crc}
 use Rattle.wire_bytes.proofs.FieldLaws.{left-further}

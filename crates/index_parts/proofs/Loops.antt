@@ -6,7 +6,7 @@ use Rattle.base.specs.Reading.{◌>>=◌, Gives}
 use Rattle.base.specs.Members.{members_at}
 use Rattle.wire_bytes.specs.Position.{Position}
 use Rattle.index_parts.specs.declared.refusal.PartRefusal.{PartRefusal}
-use Rattle.index_parts.specs.declared.raw_label.RawLabel.{RawLabel}
+use Rattle.index_parts.specs.declared.raw_series.RawLabel.{RawLabel}
 use Rattle.index_parts.specs.SeriesReading.{label_at, names_of, values_of}
 use Rattle.base.proofs.Counted.{loop_start, members_more, members_stop}
 

@@ -7,8 +7,8 @@ use Rattle.base.specs.Reading.{Answers}
 use Rattle.base.proofs.Binds.{bind_ok, cond_ok, refused_as_ok, ok_is}
 use Rattle.wire_bytes.specs.Position.{Position, left, further}
 use Rattle.wire_bytes.specs.Fields.{bytes_at, number_at, uvarint_at, groups_of}
-use Rattle.wire_bytes.specs.declared.refusal.WireRefusal.{WireRefusal}
-use Rattle.wire_bytes.specs.declared.refusal.WireRefusal.TheVariants as wire
+use Rattle.wire_bytes.specs.declared.varint.WireRefusal.{WireRefusal}
+use Rattle.wire_bytes.specs.declared.varint.WireRefusal.TheVariants as wire
 use Rattle.index_parts.specs.declared.refusal.PartRefusal.{PartRefusal}
 use Rattle.index_parts.specs.declared.refusal.PartRefusal.TheVariants.{Short}
 use Rattle.index_parts.specs.Placed.{at_place, field}

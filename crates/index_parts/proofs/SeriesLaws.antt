@@ -10,8 +10,8 @@ use Rattle.wire_bytes.specs.Fields.{uvarint_at}
 use Rattle.wire_bytes.specs.FieldTexts.{IsUvarint}
 use Rattle.index_parts.specs.declared.refusal.PartRefusal.{PartRefusal}
 use Rattle.index_parts.specs.declared.chunk_place.ChunkPlace.{ChunkPlace}
-use Rattle.index_parts.specs.declared.raw_label.SymbolNumber.{SymbolNumber}
-use Rattle.index_parts.specs.declared.raw_label.RawLabel.{RawLabel}
+use Rattle.index_parts.specs.declared.raw_series.SymbolNumber.{SymbolNumber}
+use Rattle.index_parts.specs.declared.raw_series.RawLabel.{RawLabel}
 use Rattle.index_parts.specs.declared.raw_series.RawSeries.{RawSeries}
 use Rattle.index_parts.specs.Placed.{field}
 use Rattle.index_parts.specs.SeriesEntry.{IsLabel, IsNextChunk, IsSeries}

@@ -9,8 +9,8 @@ use Rattle.wire_bytes.specs.Fields.{uvarint_at, varint_at}
 use Rattle.index_parts.specs.declared.refusal.PartRefusal.{PartRefusal}
 use Rattle.index_parts.specs.declared.refusal.PartRefusal.TheVariants.{Overlong}
 use Rattle.index_parts.specs.declared.chunk_place.ChunkPlace.{ChunkPlace}
-use Rattle.index_parts.specs.declared.raw_label.SymbolNumber.{SymbolNumber}
-use Rattle.index_parts.specs.declared.raw_label.RawLabel.{RawLabel}
+use Rattle.index_parts.specs.declared.raw_series.SymbolNumber.{SymbolNumber}
+use Rattle.index_parts.specs.declared.raw_series.RawLabel.{RawLabel}
 use Rattle.index_parts.specs.Placed.{field}
 use Rattle.index_parts.specs.SeriesEntry.{reference_of}
 use Rattle.index_parts.specs.SeriesReading.{fits_unsigned, labels_begin_at, symbol_number_at, label_at, later_at, moved_at, begin_at, reference_at, chunk_of, chunk_at, chunks_at}

@@ -15,7 +15,7 @@ use Rattle.wire_bytes.specs.Crc.{crc}
 use Rattle.wire_bytes.proofs.FixedLaws.{wide32, wide64}
 use Rattle.index_parts.specs.declared.refusal.PartRefusal.{PartRefusal}
 use Rattle.index_parts.specs.declared.refusal.PartRefusal.TheVariants.{Short}
-use Rattle.index_parts.specs.declared.toc.Toc.{Toc}
+use Rattle.index_parts.specs.declared.toc_reading.Toc.{Toc}
 use Rattle.index_parts.specs.Placed.{at_place, field}
 use Rattle.index_parts.specs.Framing.{summed_at}
 use Rattle.index_parts.specs.Contents.{references_of, IsToc}

@@ -5,7 +5,7 @@ use Rattle.std.specs.List.{flat_map}
 use Rattle.base.specs.Grammar.{AreTexts}
 use Rattle.wire_bytes.specs.FieldTexts.{IsFixed}
 use Rattle.wire_bytes.specs.Crc.{crc}
-use Rattle.index_parts.specs.declared.toc.Toc.{Toc}
+use Rattle.index_parts.specs.declared.toc_reading.Toc.{Toc}
 
 -- its references in the order in which they stand
 abbrev pub references_of : Toc → List ℕ

@@ -6,7 +6,7 @@ use Rattle.base.specs.Reading.{◌>>=◌, ◌>>◌, unless, refused_as}
 use Rattle.wire_bytes.specs.Position.{Position}
 use Rattle.wire_bytes.specs.Fields.{number_at, uvarint_at, bytes_at}
 use Rattle.wire_bytes.specs.Crc.{crc}
-use Rattle.wire_bytes.specs.declared.refusal.WireRefusal.{WireRefusal}
+use Rattle.wire_bytes.specs.declared.varint.WireRefusal.{WireRefusal}
 use Rattle.index_parts.specs.declared.refusal.PartRefusal.{PartRefusal}
 use Rattle.index_parts.specs.declared.refusal.PartRefusal.TheVariants.{Short, BadSum}
 use Rattle.index_parts.specs.Placed.{at_place, field}

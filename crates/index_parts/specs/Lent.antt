@@ -1,6 +1,6 @@
 -- Rows that lend their texts, as rows.
-use Rattle.index_parts.specs.declared.lent_row.LentRow.{LentRow}
-use Rattle.index_parts.specs.declared.row_fields.RowFields.{RowFields}
+use Rattle.index_parts.specs.declared.postings_table.LentRow.{LentRow}
+use Rattle.index_parts.specs.declared.postings_table.RowFields.{RowFields}
 use Rattle.index_parts.specs.declared.postings_row.PostingsRow.{PostingsRow}
 use Rattle.index_parts.specs.declared.refusal.PartRefusal.{PartRefusal}
 use Rattle.index_parts.specs.RowsReading.{row_told}

@@ -2,14 +2,14 @@
 use Rattle.std.specs.Prelude.{◌≡◌, ℕ, zero, suc, Bool, false, ◌+◌, ◌-◌, ◌≤◌, List, ◌++◌, length, replicate, Result, Err, nat_le, if◌then◌else◌}
 use Rattle.std.specs.Result.{IsOkAnd}
 use Rattle.std.specs.Int.{w32}
-use Rattle.wire_bytes.specs.declared.refusal.WireRefusal.{WireRefusal}
+use Rattle.wire_bytes.specs.declared.varint.WireRefusal.{WireRefusal}
 use Rattle.wire_bytes.specs.Position.{Position}
 use Rattle.wire_bytes.specs.Fields.{number_at, uvarint_at}
 use Rattle.index_parts.specs.declared.refusal.PartRefusal.{PartRefusal}
 use Rattle.index_parts.specs.declared.refusal.PartRefusal.TheVariants.{Short}
 use Rattle.index_parts.specs.Placed.{at_place}
 use Rattle.index_parts.specs.PostingsReading.{postings_at}
-use Rattle.index_parts.specs.declared.index_part.IndexPart.{IndexPart}
+use Rattle.index_parts.specs.declared.part_sections.IndexPart.{IndexPart}
 
 pub record Part : Type 0 where
   pub begin : ℕ

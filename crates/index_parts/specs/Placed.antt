@@ -3,8 +3,8 @@ use Rattle.std.specs.Prelude.{ℕ, List, Result}
 use Rattle.base.specs.Reading.{◌>>=◌, refused_as}
 use Rattle.wire_bytes.specs.Position.{Position}
 use Rattle.wire_bytes.specs.Fields.{bytes_at, uvarint_at}
-use Rattle.wire_bytes.specs.declared.refusal.WireRefusal.{WireRefusal}
-use Rattle.wire_bytes.specs.declared.refusal.WireRefusal.TheVariants as wire
+use Rattle.wire_bytes.specs.declared.varint.WireRefusal.{WireRefusal}
+use Rattle.wire_bytes.specs.declared.varint.WireRefusal.TheVariants as wire
 use Rattle.index_parts.specs.declared.refusal.PartRefusal.{PartRefusal}
 use Rattle.index_parts.specs.declared.refusal.PartRefusal.TheVariants.{Short, Overlong}
 

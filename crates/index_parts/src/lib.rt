@@ -5,36 +5,29 @@
 mod chunk_place;
 mod fields;
 mod header;
-mod index_part;
 mod index_series;
-mod lent_row;
 mod list_reading;
 mod part_sections;
 mod postings_reading;
 mod postings_row;
 mod postings_table;
-mod raw_label;
 mod raw_series;
 mod refusal;
-mod row_fields;
 mod row_search;
 mod sections;
 mod series_reading;
 mod shifting;
 mod symbol_table;
-mod toc;
 mod toc_reading;
 
 pub use chunk_place::{ChunkList, ChunkPlace};
 pub use header::{HEADER_SIZE, LEAST_SIZE, MAGIC, SERIES_UNIT, VERSION};
-pub use index_part::IndexPart;
 pub use index_series::{IndexSeries, IndexSeriesList};
-pub use part_sections::{postings_in, postings_table_in, symbols_in};
+pub use part_sections::{IndexPart, postings_in, postings_table_in, symbols_in};
 pub use postings_reading::read_postings;
 pub use postings_row::{PostingsRow, PostingsRowList, ROW_KIND};
 pub use postings_table::{PostingsTable, read_postings_table};
-pub use raw_label::{RawLabel, SymbolNumber};
-pub use raw_series::RawSeries;
+pub use raw_series::{RawLabel, RawSeries, SymbolNumber};
 pub use refusal::PartRefusal;
 pub use row_search::Rows;
 pub use series_reading::{
@@ -42,5 +35,4 @@ pub use series_reading::{
 };
 pub use shifting::shifted_refusal;
 pub use symbol_table::{SymbolTable, read_symbols};
-pub use toc::Toc;
-pub use toc_reading::{CONTENTS_SIZE, read_toc};
+pub use toc_reading::{CONTENTS_SIZE, Toc, read_toc};

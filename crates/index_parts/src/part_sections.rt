@@ -9,11 +9,18 @@ ghost use Rattle.index_parts.specs.RowsReading.{postings_table_at};
 ghost use Rattle.index_parts.specs.Parts.{part_of, known, IsPartOf, HoldsSection, list_in};
 
 use crate::{
-    IndexPart, PartRefusal, PostingsTable, SymbolTable, read_postings, read_postings_table,
-    read_symbols, shifted_refusal,
+    PartRefusal, PostingsTable, SymbolTable, read_postings, read_postings_table, read_symbols,
+    shifted_refusal,
 };
 use std::alloc::Global;
 use wire_bytes::NumberList;
+
+/// Bytes of an index, by the place at which they begin. A whole file begins at 0.
+#[derive(Clone, Copy)]
+pub struct IndexPart<'a> {
+    pub begin: u64,
+    pub bytes: &'a [u8],
+}
 
 /// Reads the symbol table at a place of the index.
 pub fn symbols_in<'a>(

@@ -12,14 +12,31 @@ ghost use Rattle.index_parts.specs.RowsReading.{may_come_after, postings_table_a
 
 use crate::PartRefusal;
 use crate::fields::{next_text, next_u8, next_uvarint, text_of};
-use crate::lent_row::LentRow;
 use crate::list_reading::{Member, list_of};
 use crate::postings_row::{PostingsRow, ROW_KIND};
-use crate::row_fields::RowFields;
 use std::alloc::Global;
 use std::cmp::Ordering;
 use std::marker::Model;
 use wire_bytes::Cursor;
+
+/// A row of a postings table, which lends the index's bytes.
+#[derive(Clone, Copy)]
+pub(crate) struct LentRow<'a> {
+    pub name: &'a str,
+    pub value: &'a str,
+    pub offset: u64,
+}
+
+/// The fields of a row as they stand: the bytes of its texts, where these end, and where the row begins.
+#[derive(Clone, Copy)]
+pub(crate) struct RowFields<'a> {
+    pub(crate) place: u64,
+    pub(crate) name: &'a [u8],
+    pub(crate) name_end: usize,
+    pub(crate) value: &'a [u8],
+    pub(crate) value_end: usize,
+    pub(crate) offset: u64,
+}
 
 /// How many bytes a row takes, as a guess at how many there are.
 const USUAL_SIZE: usize = 16;

@@ -2,6 +2,20 @@ use crate::ChunkList;
 use base::{NoMemory, TryCopy};
 use wire_bytes::NumberList;
 
+/// A symbol number, and the place where it stands.
+#[derive(Clone, Copy)]
+pub struct SymbolNumber {
+    pub number: u64,
+    pub place: u64,
+}
+
+/// A label as it stands in an index: the symbol numbers of its name and of its value.
+#[derive(Clone, Copy)]
+pub struct RawLabel {
+    pub name: SymbolNumber,
+    pub value: SymbolNumber,
+}
+
 /// A series as it stands in an index: the symbol numbers of its labels' names and, in the same order, of their values, and
 /// its chunks.
 #[derive(Drop)]

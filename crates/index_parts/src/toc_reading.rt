@@ -1,14 +1,25 @@
 ghost use Rattle.std.specs.Prelude.{◌≡◌, IfOk, Ok};
 ghost use Rattle.base.specs.Reading.{Answers};
 ghost use Rattle.base.specs.Grammar.{IsBytes};
-ghost use Rattle.index_parts.specs.declared.toc.Toc.{Toc};
+ghost use Rattle.index_parts.specs.declared.toc_reading.Toc.{Toc};
 ghost use Rattle.index_parts.specs.Contents.{IsToc};
 ghost use Rattle.index_parts.specs.ContentsReading.{references_at, toc_at};
 
+use crate::PartRefusal;
 use crate::fields::next_u64;
 use crate::sections::summed_content;
-use crate::{PartRefusal, Toc};
 use wire_bytes::Cursor;
+
+/// Where the sections of an index stand. A section with 0 is absent.
+#[derive(Clone, Copy, Debug, PartialEq, Eq)]
+pub struct Toc {
+    pub symbols: u64,
+    pub series: u64,
+    pub label_indices: u64,
+    pub label_offsets: u64,
+    pub postings: u64,
+    pub postings_table: u64,
+}
 
 /// How many bytes the references and their sum take.
 pub const CONTENTS_SIZE: usize = 52;

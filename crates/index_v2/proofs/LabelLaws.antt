@@ -13,7 +13,7 @@ use Rattle.label_sets.proofs.LabelValues.{StandsBefore-trans, above_nothing}
 use Rattle.index_parts.specs.declared.refusal.PartRefusal.{PartRefusal}
 use Rattle.index_parts.proofs.SeriesLaws.{series_found, series_again}
 use Rattle.index_parts.specs.declared.index_series.IndexSeries.{IndexSeries}
-use Rattle.index_parts.specs.declared.raw_label.RawLabel.{RawLabel}
+use Rattle.index_parts.specs.declared.raw_series.RawLabel.{RawLabel}
 use Rattle.index_parts.specs.SeriesReading.{label_at, names_of, values_of}
 use Rattle.index_v2.specs.SeriesLabels.{label_of, labels_of, texts_at, labelled_at, numbered_at}
 use Rattle.index_parts.specs.IndexFile.{StandFor, IsSeriesOf}

@@ -6,7 +6,7 @@ use Rattle.base.specs.Reading.{◌>>=◌}
 use Rattle.base.specs.Members.{members_at}
 use Rattle.wire_bytes.specs.Position.{Position}
 use Rattle.index_parts.specs.declared.refusal.PartRefusal.{PartRefusal}
-use Rattle.index_parts.specs.declared.raw_label.RawLabel.{RawLabel}
+use Rattle.index_parts.specs.declared.raw_series.RawLabel.{RawLabel}
 use Rattle.index_parts.specs.SeriesReading.{label_at}
 use Rattle.label_sets.specs.declared.label.Label.{Label}
 use Rattle.index_v2.specs.SeriesLabels.{label_of, labels_of, texts_at, faulty_at}

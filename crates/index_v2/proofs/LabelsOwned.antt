@@ -12,7 +12,7 @@ use Rattle.label_sets.specs.declared.label_refusal.LabelRefusal.TheVariants.{NoM
 use Rattle.label_sets.specs.Ordered.{placed}
 use Rattle.label_sets.specs.Labels.{compare_texts, ComesBefore, IsLabelSet, value_of, has_lesser_name, added}
 use Rattle.label_sets.proofs.LabelValues.{before_differs, value_miss, value_nil, stands_before_member}
-use Rattle.index_v2.specs.declared.lent_label.LentLabel.{LentLabel}
+use Rattle.index_v2.specs.declared.lent_series.LentLabel.{LentLabel}
 use Rattle.index_v2.specs.LentLabels.{as_label}
 
 -- each of the labels has a name before this one

@@ -13,7 +13,7 @@ use Rattle.label_sets.specs.Labels.{compare_labels, compare_sets, value_of}
 use Rattle.label_sets.proofs.LabelValues.{value_nil}
 use Rattle.index_parts.specs.declared.postings_row.PostingsRow.{PostingsRow}
 use Rattle.index_parts.specs.declared.index_series.IndexSeries.{IndexSeries}
-use Rattle.index_v2.specs.declared.lent_label.LentLabel.{LentLabel}
+use Rattle.index_v2.specs.declared.lent_series.LentLabel.{LentLabel}
 use Rattle.index_v2.specs.LentLabels.{as_label}
 use Rattle.index_v2.specs.WholeReading.{gap_from, earlier_place}
 use Rattle.index_v2.proofs.Differences.{GapsSoFar, gaps_step}

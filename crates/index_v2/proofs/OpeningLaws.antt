@@ -8,7 +8,7 @@ use Rattle.base.proofs.Bools.{by_bool}
 use Rattle.base.specs.Reading.{◌>>=◌, refused_as}
 use Rattle.base.specs.Grammar.{IsBytes}
 use Rattle.base.proofs.Binds.{bind_ok, unless_ok, refused_as_ok, ok_is}
-use Rattle.index_parts.specs.declared.toc.Toc.{Toc}
+use Rattle.index_parts.specs.declared.toc_reading.Toc.{Toc}
 use Rattle.index_parts.specs.declared.refusal.PartRefusal.{PartRefusal}
 use Rattle.index_parts.specs.declared.refusal.PartRefusal.TheVariants as part
 use Rattle.index_parts.specs.Contents.{IsToc}

@@ -7,7 +7,7 @@ use Rattle.std.proofs.lemmas.List.{length-replicate, length-map, drop_all}
 use Rattle.base.specs.Reading.{refused_as, Gives}
 use Rattle.base.specs.Grammar.{IsBytes}
 use Rattle.base.proofs.Binds.{err_is}
-use Rattle.wire_bytes.specs.declared.refusal.WireRefusal.TheVariants as wire
+use Rattle.wire_bytes.specs.declared.varint.WireRefusal.TheVariants as wire
 use Rattle.wire_bytes.specs.Fields.{groups_of, uvarint_at}
 use Rattle.wire_bytes.specs.Position.{Position}
 use Rattle.label_sets.specs.declared.label.Label.{Label}
@@ -15,8 +15,8 @@ use Rattle.label_sets.specs.Labels.{compare_texts}
 use Rattle.index_parts.specs.declared.refusal.PartRefusal.{PartRefusal}
 use Rattle.index_parts.specs.declared.refusal.PartRefusal.TheVariants as part
 use Rattle.index_parts.specs.declared.refusal.PartRefusal.TheVariants.{Unordered}
-use Rattle.index_parts.specs.declared.raw_label.SymbolNumber.{SymbolNumber}
-use Rattle.index_parts.specs.declared.raw_label.RawLabel.{RawLabel}
+use Rattle.index_parts.specs.declared.raw_series.SymbolNumber.{SymbolNumber}
+use Rattle.index_parts.specs.declared.raw_series.RawLabel.{RawLabel}
 use Rattle.index_parts.specs.Placed.{at_place}
 use Rattle.index_parts.specs.SeriesReading.{labels_begin_at, names_of, values_of}
 use Rattle.index_parts.proofs.SeriesLaws.{series_found}

@@ -6,7 +6,7 @@ use Rattle.std.specs.Option.{ok_or}
 use Rattle.std.specs.Result.{result_ok}
 use Rattle.base.specs.Reading.{◌>>=◌, ◌>>◌, unless}
 use Rattle.label_sets.specs.Labels.{compare_texts}
-use Rattle.index_parts.specs.declared.raw_label.RawLabel.{RawLabel}
+use Rattle.index_parts.specs.declared.raw_series.RawLabel.{RawLabel}
 use Rattle.index_parts.specs.SeriesReading.{names_of, values_of}
 use Rattle.index_v2.specs.SeriesLabels.{label_of, labels_of, unplaced, all_unplaced}
 

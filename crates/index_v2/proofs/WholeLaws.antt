@@ -21,7 +21,7 @@ use Rattle.label_sets.specs.declared.label.Label.{Label}
 use Rattle.label_sets.specs.Labels.{value_of, IsLabelSet, StandsBefore, ComesBefore, compare_texts}
 use Rattle.label_sets.proofs.LabelValues.{by_bool, value_hit, value_miss, before_differs}
 use Rattle.label_sets.proofs.SetLaws.{value_in}
-use Rattle.index_parts.specs.declared.toc.Toc.{Toc}
+use Rattle.index_parts.specs.declared.toc_reading.Toc.{Toc}
 use Rattle.index_parts.specs.declared.postings_row.PostingsRow.{PostingsRow}
 use Rattle.index_parts.specs.Turns.{AreInTurn}
 use Rattle.index_parts.specs.Rows.{compare_rows, IsNextRow, IsPostingsTable}

@@ -1,6 +1,6 @@
 -- What a reader holds of an index: of a whole file, or of parts of one.
 use Rattle.std.specs.Prelude.{◌≡◌, ◌⊎◌, ℕ, List, [], length, Option, IfSome}
-use Rattle.index_parts.specs.declared.toc.Toc.{Toc}
+use Rattle.index_parts.specs.declared.toc_reading.Toc.{Toc}
 use Rattle.index_parts.specs.declared.postings_row.PostingsRow.{PostingsRow}
 use Rattle.index_parts.specs.Opened.{Opened}
 use Rattle.index_parts.specs.IndexFile.{IsOpened}

@@ -1,5 +1,5 @@
 -- A label that lends its texts, as a label.
-use Rattle.index_v2.specs.declared.lent_label.LentLabel.{LentLabel}
+use Rattle.index_v2.specs.declared.lent_series.LentLabel.{LentLabel}
 use Rattle.label_sets.specs.declared.label.Label.{Label}
 
 abbrev pub as_label : LentLabel → Label

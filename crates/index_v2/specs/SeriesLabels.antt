@@ -9,7 +9,7 @@ use Rattle.label_sets.specs.declared.label.Label.{Label}
 use Rattle.label_sets.specs.Labels.{compare_texts}
 use Rattle.index_parts.specs.declared.refusal.PartRefusal.{PartRefusal}
 use Rattle.index_parts.specs.declared.refusal.PartRefusal.TheVariants.{Unordered}
-use Rattle.index_parts.specs.declared.raw_label.RawLabel.{RawLabel}
+use Rattle.index_parts.specs.declared.raw_series.RawLabel.{RawLabel}
 use Rattle.wire_bytes.specs.Position.{Position}
 use Rattle.index_parts.specs.SeriesReading.{labels_begin_at, label_at, chunks_at}
 use Rattle.index_parts.specs.declared.index_series.IndexSeries.{IndexSeries}

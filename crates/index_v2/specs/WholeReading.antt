@@ -10,7 +10,7 @@ use Rattle.base.specs.Reading.{◌>>=◌, ◌>>◌, unless, refused_as}
 use Rattle.label_sets.specs.declared.label.Label.{Label}
 use Rattle.label_sets.specs.Labels.{compare_sets, value_of}
 use Rattle.index_parts.specs.declared.refusal.PartRefusal.TheVariants as part
-use Rattle.index_parts.specs.declared.toc.Toc.{Toc}
+use Rattle.index_parts.specs.declared.toc_reading.Toc.{Toc}
 use Rattle.index_parts.specs.declared.postings_row.PostingsRow.{PostingsRow}
 use Rattle.index_parts.specs.Parts.{Part, list_in}
 use Rattle.index_parts.specs.declared.index_series.IndexSeries.{IndexSeries}

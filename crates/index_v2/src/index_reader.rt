@@ -4,7 +4,7 @@ ghost use Rattle.std.specs.Option.{option_copied};
 ghost use Rattle.base.specs.Reading.{Gives};
 ghost use Rattle.index_parts.specs.Postings.{IsPostings};
 ghost use Rattle.wire_bytes.specs.Fields.{uvarint_at};
-ghost use Rattle.wire_bytes.specs.declared.refusal.WireRefusal.TheVariants.{Overlong};
+ghost use Rattle.wire_bytes.specs.declared.varint.WireRefusal.TheVariants.{Overlong};
 ghost use Rattle.index_parts.specs.Placed.{at_place};
 ghost use Rattle.index_parts.specs.Rows.{compare_rows, IsPostingsTable};
 ghost use Rattle.index_parts.specs.Symbols.{IsSymbols};

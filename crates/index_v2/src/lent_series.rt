@@ -5,16 +5,23 @@ ghost use Rattle.label_sets.specs.Labels.{IsLabelSet, compare_sets, value_of};
 ghost use Rattle.index_v2.specs.LentLabels.{as_label};
 ghost use Rattle.index_v2.specs.SeriesLabels.{labelled_at};
 
+use crate::IndexSeries;
 use crate::lent_order::{compare_lent, value_in};
 use crate::series_labels::texts_of;
 use crate::symbols::Symbols;
-use crate::{IndexSeries, LentLabel};
 use base::{NoMemory, TryCopy};
 use index_parts::{ChunkList, ChunkPlace, PartRefusal, before_labels, chunks_behind};
 use label_sets::LabelSet;
 use std::alloc::Global;
 use std::cmp::Ordering;
 use std::marker::Model;
+
+/// A label whose texts the index lends.
+#[derive(Clone, Copy)]
+pub struct LentLabel<'a> {
+    pub name: &'a str,
+    pub value: &'a str,
+}
 
 /// A series whose labels' texts the index lends. Handed back to the reader it is room for another one: the memory of its
 /// lists is used again.

@@ -3,7 +3,6 @@
 
 mod difference;
 mod index_reader;
-mod lent_label;
 mod lent_order;
 mod lent_parts;
 mod lent_series;
@@ -20,8 +19,7 @@ mod whole;
 
 pub use index_parts::{IndexSeries, IndexSeriesList};
 pub use index_reader::IndexReader;
-pub use lent_label::LentLabel;
 pub use lent_order::compare_lent;
 pub use lent_parts::IndexParts;
-pub use lent_series::{LentSeries, set_of};
+pub use lent_series::{LentLabel, LentSeries, set_of};
 pub use refusal::IndexRefusal;

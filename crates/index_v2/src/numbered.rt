@@ -4,7 +4,7 @@ ghost use Rattle.base.specs.Reading.{Gives};
 ghost use Rattle.base.specs.Grammar.{IsBytes};
 ghost use Rattle.index_parts.specs.declared.index_series.IndexSeries.{IndexSeries};
 ghost use Rattle.wire_bytes.specs.Fields.{uvarint_at};
-ghost use Rattle.wire_bytes.specs.declared.refusal.WireRefusal.TheVariants.{Overlong};
+ghost use Rattle.wire_bytes.specs.declared.varint.WireRefusal.TheVariants.{Overlong};
 ghost use Rattle.index_parts.specs.Placed.{at_place};
 ghost use Rattle.index_parts.specs.declared.refusal.PartRefusal.TheVariants.{Short};
 ghost use Rattle.index_parts.specs.IndexFile.{IsSeriesOf, series_unit};

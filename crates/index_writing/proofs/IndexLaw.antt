@@ -18,7 +18,7 @@ use Rattle.index_parts.specs.LabelTable.{HasLabelIndices}
 use Rattle.index_writing.specs.SymbolsInUse.{symbols_of, raw_of}
 use Rattle.index_writing.specs.Aligned.{places_at}
 use Rattle.index_writing.specs.declared.write_refusal.IndexWriteRefusal.{IndexWriteRefusal}
-use Rattle.index_parts.specs.declared.toc.Toc.{Toc}
+use Rattle.index_parts.specs.declared.toc_reading.Toc.{Toc}
 use Rattle.index_writing.specs.WriteSteps.{greatest, Makes, EachStands}
 use Rattle.index_writing.specs.Written.{AreWritable, first_or, up_to_symbols, table_rows, offset_rows, parts_of, with_series, with_label_indices, with_lists, list_places, with_label_offsets, with_table, toc_of, written}
 use Rattle.base.proofs.Lists.{zip_firsts, zip_seconds}

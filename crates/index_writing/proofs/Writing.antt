@@ -22,7 +22,7 @@ use Rattle.index_parts.specs.Symbols.{IsNextSymbol}
 use Rattle.index_parts.specs.Postings.{IsNextPosting, IsPostings}
 use Rattle.wire_bytes.specs.Crc.{crc}
 use Rattle.label_sets.specs.Labels.{compare_texts}
-use Rattle.index_parts.specs.declared.toc.Toc.{Toc}
+use Rattle.index_parts.specs.declared.toc_reading.Toc.{Toc}
 use Rattle.index_parts.specs.declared.postings_row.PostingsRow.{PostingsRow}
 use Rattle.index_parts.specs.Contents.{references_of, IsToc, references_text}
 use Rattle.index_parts.specs.Rows.{MayComeAfter, IsNextRow, IsWritable, row_text}

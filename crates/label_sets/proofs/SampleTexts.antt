@@ -11,13 +11,13 @@ use Rattle.std.specs.Int.RustNames.{FitsSigned}
 use Rattle.std.specs.List.{list_all, before_first, after_first, position_or_len}
 use Rattle.std.specs.Char.{is_ascii_digit}
 use Rattle.base.specs.Decimal.{decimal_text, signed_text, signed_of}
-use Rattle.base.specs.declared.refusal.NumberRefusal.{NumberRefusal}
-use Rattle.base.specs.declared.refusal.NumberRefusal.TheVariants.{NotANumber, TooLarge}
+use Rattle.base.specs.declared.number.NumberRefusal.{NumberRefusal}
+use Rattle.base.specs.declared.number.NumberRefusal.TheVariants.{NotANumber, TooLarge}
 use Rattle.base.proofs.Decimals.{decimal_again, decimal_digits}
 use Rattle.base.proofs.ParsedSigned.{signed_again, signed_large, signed_found, signed_found_large, signed_found_none}
 use Rattle.label_sets.specs.declared.sample.Sample.{Sample}
-use Rattle.label_sets.specs.declared.sample_refusal.SampleRefusal.{SampleRefusal}
-use Rattle.label_sets.specs.declared.sample_refusal.SampleRefusal.TheVariants.{NotASample, OutOfRange}
+use Rattle.label_sets.specs.declared.sample.SampleRefusal.{SampleRefusal}
+use Rattle.label_sets.specs.declared.sample.SampleRefusal.TheVariants.{NotASample, OutOfRange}
 use Rattle.label_sets.specs.SampleText.{pattern_of, pattern_text, timed_text, sample_text, is_colon, sample_with, sample_of}
 use Rattle.label_sets.proofs.HexTexts.{pattern_found, pattern_again}
 

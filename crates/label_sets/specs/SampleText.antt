@@ -6,12 +6,12 @@ use Rattle.std.specs.List.{flat_map, list_all, before_first, after_first}
 use Rattle.std.specs.Str.Parse.{digits_value}
 use Rattle.base.specs.Decimal.{signed_text, signed_of}
 use Rattle.base.specs.FixedDigits.{fixed_digits}
-use Rattle.base.specs.declared.refusal.NumberRefusal.{NumberRefusal}
-use Rattle.base.specs.declared.refusal.NumberRefusal.TheVariants.{NotANumber, TooLarge}
+use Rattle.base.specs.declared.number.NumberRefusal.{NumberRefusal}
+use Rattle.base.specs.declared.number.NumberRefusal.TheVariants.{NotANumber, TooLarge}
 use Rattle.label_sets.specs.Characters.{space, colon, letter_a, letter_f}
 use Rattle.label_sets.specs.declared.sample.Sample.{Sample}
-use Rattle.label_sets.specs.declared.sample_refusal.SampleRefusal.{SampleRefusal}
-use Rattle.label_sets.specs.declared.sample_refusal.SampleRefusal.TheVariants.{NotASample, OutOfRange}
+use Rattle.label_sets.specs.declared.sample.SampleRefusal.{SampleRefusal}
+use Rattle.label_sets.specs.declared.sample.SampleRefusal.TheVariants.{NotASample, OutOfRange}
 use Rattle.label_sets.specs.declared.series.Series.{Series}
 use Rattle.label_sets.specs.Notation.{set_text}
 

@@ -9,9 +9,17 @@ ghost use Rattle.std.specs.Str.Parse.{digits_value};
 ghost use Rattle.label_sets.specs.SampleText.{timed_text, sample_text, is_hex_sign, pattern_length, pattern_of, sample_of};
 ghost use Rattle.label_sets.specs.Times.{is_within, times_of};
 
-use crate::SampleRefusal;
 use crate::sample_text::PATTERN;
 use base::{List, NoMemory, NumberRefusal, TryCopy, read_signed};
+
+/// Why a text is no sample.
+#[derive(Clone, Copy, Debug, PartialEq, Eq)]
+pub enum SampleRefusal {
+    /// The text is not a decimal time, a colon and a pattern of 16 lower-case hexadecimal digits.
+    NotASample,
+    /// The time is a decimal number that does not fit 64 bits.
+    OutOfRange,
+}
 
 /// How far from 0 the times of blocks and scripts may be, in milliseconds.
 pub const TIME_LIMIT: i64 = 1 << 62;

@@ -6,11 +6,11 @@ use Rattle.world_core.specs.Journals.{entry_at}
 use Rattle.world_core.specs.Operations.{has_failed}
 use Rattle.world_core.specs.declared.entry.Entry.{Entry}
 use Rattle.world_core.specs.declared.reply.Reply.TheVariants.{Absent}
-use Rattle.shipper.specs.declared.upload_end.UploadEnd.TheVariants as shipped
-use Rattle.meta_fetcher.specs.declared.sync_end.SyncEnd.TheVariants as fetched
-use Rattle.store_calls.specs.declared.series_end.SeriesEnd.TheVariants as called
+use Rattle.shipper.specs.declared.upload.UploadEnd.TheVariants as shipped
+use Rattle.meta_fetcher.specs.declared.sync.SyncEnd.TheVariants as fetched
+use Rattle.store_calls.specs.declared.series_call.SeriesEnd.TheVariants as called
 use Rattle.compactor.specs.declared.compact_end.CompactEnd.TheVariants as compacting
-use Rattle.cleaner.specs.declared.clean_end.CleanEnd.TheVariants as cleaning
+use Rattle.cleaner.specs.declared.clean.CleanEnd.TheVariants as cleaning
 use Rattle.lifecycle_core.specs.Setting.{Setting}
 use Rattle.lifecycle_core.specs.Breaches.{Rule, honesty, upload_time, mark_time, sync_time, view_time, read_time, RefusesUnder, Watch, read_key, watched}
 use Rattle.lifecycle_core.specs.Tasks.{End, uploaded, synced, compacted, cleaned, answered, not_asked, refused, without_view, stopped}

@@ -6,8 +6,8 @@ use Rattle.label_sets.specs.declared.series.Series.{Series}
 use Rattle.world_core.specs.Standing.{IsHonest}
 use Rattle.world_core.specs.Worlds.{failed_count}
 use Rattle.store_ranges.specs.Reads.{Query as Question}
-use Rattle.store_calls.specs.declared.series_end.SeriesEnd.{SeriesEnd}
-use Rattle.store_calls.specs.declared.series_end.SeriesEnd.TheVariants as ended
+use Rattle.store_calls.specs.declared.series_call.SeriesEnd.{SeriesEnd}
+use Rattle.store_calls.specs.declared.series_call.SeriesEnd.TheVariants as ended
 use Rattle.script_core.specs.Workers.{workers_of}
 use Rattle.script_workers.specs.declared.phase.Phase.{Phase}
 use Rattle.script_workers.specs.declared.task.Task.{Task}
@@ -23,7 +23,7 @@ use Rattle.label_sets.specs.Triples.{Triple}
 use Rattle.matchers.specs.Selected.{IsQueryAnswer, selected}
 use Rattle.meta_fetcher.specs.declared.rules.SyncRules.{SyncRules}
 use Rattle.querier.specs.declared.answer.Names.{Names}
-use Rattle.querier.specs.declared.ask.Ask.{Ask}
+use Rattle.querier.specs.declared.asking.Ask.{Ask}
 use Rattle.vertical_merge.specs.Merged.{IsDeduplication, IsMerge}
 use Rattle.script_workers.specs.declared.worker.Worker.{Worker}
 use Rattle.lifecycle_core.specs.SyncsAndCalls.{IsViewOf}

@@ -1,8 +1,8 @@
 -- Memory was wanted for an operation of a run only where the run is broken off for that.
 use Rattle.std.proofs.Common.{◌≡◌, ◌≢◌, ◌⊎◌, inl, inr, Bool, true, false, IsTrue, refl, ◌∙◌, ap, subst}
 use Rattle.std.specs.Prelude.{Result, Ok, Err}
-use Rattle.world_core.specs.declared.acted.Acted.{Acted}
-use Rattle.world_core.specs.declared.acted.Acted.TheVariants as answer
+use Rattle.world_core.specs.declared.act.Acted.{Acted}
+use Rattle.world_core.specs.declared.act.Acted.TheVariants as answer
 use Rattle.report_lines.specs.script_running.specs.Tasks.{is_full_came}
 use Rattle.report_lines.specs.script_running.specs.declared.came.Broken.{Broken}
 use Rattle.report_lines.specs.script_running.specs.declared.came.Broken.TheVariants as broken

@@ -10,8 +10,8 @@ use Rattle.label_sets.specs.Notation.{quoted}
 use Rattle.label_sets.proofs.Utf8Parts.{cut_front, cut_rest, unquoted}
 use Rattle.matchers.specs.declared.asked.Asked.{Asked}
 use Rattle.matchers.specs.declared.draft.Draft.{Draft}
-use Rattle.matchers.specs.declared.operator.Operator.{Operator}
-use Rattle.matchers.specs.declared.operator.Operator.TheVariants.{Equal, NotEqual, Matches, MatchesNot}
+use Rattle.matchers.specs.declared.asked.Operator.{Operator}
+use Rattle.matchers.specs.declared.asked.Operator.TheVariants.{Equal, NotEqual, Matches, MatchesNot}
 use Rattle.matchers.specs.declared.selector_refusal.SelectorRefusal.{SelectorRefusal}
 use Rattle.matchers.specs.declared.selector_refusal.SelectorRefusal.TheVariants.{NoMemory}
 use Rattle.matchers.specs.SelectorText.{comma_text, matcher_text, AreListed}

@@ -11,8 +11,8 @@ use Rattle.label_sets.specs.Notation.{is_name, is_name_start, is_name_byte, quot
 use Rattle.label_sets.proofs.ReadPairs.{escaped_sign, plain_byte, newline}
 use Rattle.matchers.specs.declared.asked.Asked.{Asked}
 use Rattle.matchers.specs.declared.draft.Draft.{Draft}
-use Rattle.matchers.specs.declared.operator.Operator.{Operator}
-use Rattle.matchers.specs.declared.operator.Operator.TheVariants.{Equal, NotEqual, Matches, MatchesNot}
+use Rattle.matchers.specs.declared.asked.Operator.{Operator}
+use Rattle.matchers.specs.declared.asked.Operator.TheVariants.{Equal, NotEqual, Matches, MatchesNot}
 use Rattle.matchers.specs.declared.selector_refusal.SelectorRefusal.{SelectorRefusal}
 use Rattle.matchers.specs.declared.stage.Stage.{Stage}
 use Rattle.matchers.specs.declared.stage.Stage.TheVariants.{Start, Metric, Comma, Name, Exclamation, Equals, Sign, Value, Backslash, Quote, End}

@@ -7,8 +7,8 @@ use Rattle.label_sets.specs.Notation.{is_name, quoted}
 use Rattle.matchers.specs.declared.asked.Asked.{Asked}
 use Rattle.matchers.specs.declared.draft.Draft.{Draft}
 use Rattle.matchers.specs.declared.matcher.Matcher.{Matcher}
-use Rattle.matchers.specs.declared.operator.Operator.{Operator}
-use Rattle.matchers.specs.declared.operator.Operator.TheVariants.{Equal, NotEqual, Matches, MatchesNot}
+use Rattle.matchers.specs.declared.asked.Operator.{Operator}
+use Rattle.matchers.specs.declared.asked.Operator.TheVariants.{Equal, NotEqual, Matches, MatchesNot}
 use Rattle.matchers.specs.declared.stage.Stage.{Stage}
 use Rattle.matchers.specs.declared.stage.Stage.TheVariants.{Start, Metric, Comma, Name, Exclamation, Equals, Sign, Value, Backslash, Quote, End}
 use Rattle.matchers.specs.Selectors.{is_metric_name}

@@ -16,8 +16,8 @@ use Rattle.matchers.specs.declared.condition.Condition.{Condition}
 use Rattle.matchers.specs.declared.condition.Condition.TheVariants as conditions
 use Rattle.matchers.specs.declared.draft.Draft.{Draft}
 use Rattle.matchers.specs.declared.matcher.Matcher.{Matcher}
-use Rattle.matchers.specs.declared.operator.Operator.{Operator}
-use Rattle.matchers.specs.declared.operator.Operator.TheVariants.{Equal, NotEqual, Matches, MatchesNot}
+use Rattle.matchers.specs.declared.asked.Operator.{Operator}
+use Rattle.matchers.specs.declared.asked.Operator.TheVariants.{Equal, NotEqual, Matches, MatchesNot}
 use Rattle.matchers.specs.declared.stage.Stage.{Stage}
 use Rattle.matchers.specs.declared.stage.Stage.TheVariants.{Metric, Comma, Name, Exclamation, Equals, Sign, Value, Backslash, Quote, End}
 use Rattle.matchers.specs.Selectors.{metric_matcher, is_metric_name, is_metric_start, is_metric_byte}

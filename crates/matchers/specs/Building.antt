@@ -1,7 +1,7 @@
 -- Why the patterns of what was read are not all built.
 use Rattle.std.specs.Prelude.{◌≡◌, ◌⊎◌, ℕ, List, ◌∷◌, ◌++◌, map, true, false, IsTrue}
 use Rattle.matchers.specs.declared.asked.Asked.{Asked}
-use Rattle.matchers.specs.declared.operator.Operator.{Operator}
+use Rattle.matchers.specs.declared.asked.Operator.{Operator}
 use Rattle.matchers.specs.declared.selector_refusal.SelectorRefusal.{SelectorRefusal}
 use Rattle.matchers.specs.declared.selector_refusal.SelectorRefusal.TheVariants.{BadPattern, PatternSize, NoMemory}
 use Rattle.matchers.specs.Patterns.{is_pattern}

@@ -11,8 +11,8 @@ use Rattle.matchers.specs.declared.condition.Condition.{Condition}
 use Rattle.matchers.specs.declared.condition.Condition.TheVariants as conditions
 use Rattle.matchers.specs.declared.draft.Draft.{Draft}
 use Rattle.matchers.specs.declared.matcher.Matcher.{Matcher}
-use Rattle.matchers.specs.declared.operator.Operator.{Operator}
-use Rattle.matchers.specs.declared.operator.Operator.TheVariants.{Equal, NotEqual, Matches, MatchesNot}
+use Rattle.matchers.specs.declared.asked.Operator.{Operator}
+use Rattle.matchers.specs.declared.asked.Operator.TheVariants.{Equal, NotEqual, Matches, MatchesNot}
 use Rattle.matchers.specs.declared.selector_refusal.SelectorRefusal.{SelectorRefusal}
 use Rattle.matchers.specs.declared.selector_refusal.SelectorRefusal.TheVariants.{BadSelector}
 use Rattle.matchers.specs.declared.stage.Stage.{Stage}

@@ -1,6 +1,14 @@
-use crate::operator::Operator;
 use base::List;
 use std::alloc::Global;
+
+/// The sign between a name and a value.
+#[derive(Clone, Copy)]
+pub(crate) enum Operator {
+    Equal,
+    NotEqual,
+    Matches,
+    MatchesNot,
+}
 
 /// A matcher as it is read: the bytes of its name and of its value, and the place where the value's quote opens.
 #[derive(Drop)]

@@ -6,9 +6,8 @@ ghost use Rattle.matchers.specs.SelectorText.{metric_part, is_lawful, are_lawful
 ghost use Rattle.matchers.specs.Stages.{condition_of, matcher_of, selector_of, AreTexts};
 ghost use Rattle.matchers.specs.Building.{IsUnbuilt, IsUnbuiltCondition, IsUnbuiltList};
 
-use crate::asked::Asked;
+use crate::asked::{Asked, Operator};
 use crate::draft::Draft;
-use crate::operator::Operator;
 use crate::{Condition, Matcher, Pattern, PatternRefusal, SelectorRefusal};
 use base::{List, NoMemory};
 use label_sets::Text;

@@ -6,9 +6,8 @@ ghost use Rattle.matchers.specs.declared.selector_refusal.SelectorRefusal.{Selec
 ghost use Rattle.matchers.specs.Stages.{nothing_read, goes_to, with_metric, with_name, with_operator, with_quote, with_value, with_asked, after_start, after_metric, after_comma, after_name, after_exclamation, after_equals, after_sign, in_value, after_backslash, after_quote, step, ended_draft, read_whole, AreTexts};
 
 use crate::SelectorRefusal;
-use crate::asked::Asked;
+use crate::asked::{Asked, Operator};
 use crate::names::{is_metric_byte, is_metric_start};
-use crate::operator::Operator;
 use crate::stage::Stage;
 use base::{List, NoMemory};
 use label_sets::{is_name_byte, is_name_start};

@@ -8,7 +8,6 @@ mod condition_searcher;
 mod draft;
 mod matcher;
 mod names;
-mod operator;
 mod pattern;
 mod pattern_refusal;
 mod pattern_searcher;

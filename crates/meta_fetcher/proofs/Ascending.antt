@@ -14,7 +14,7 @@ use Rattle.std.proofs.lemmas.Map.Keys.{IsStrictlyIncreasing-from_sorted, sorted_
 use Rattle.base.proofs.Bools.{Less-from_is_lt}
 use Rattle.base.specs.Order.{are_in_order_after, comes_after}
 use Rattle.ulid_core.specs.UlidText.{IsUlidText, ulid_of, text_of}
-use Rattle.ulid_core.specs.declared.refusal.UlidRefusal.{UlidRefusal}
+use Rattle.ulid_core.specs.declared.ulid.UlidRefusal.{UlidRefusal}
 use Rattle.ulid_core.proofs.UlidLaws.{IsUlidText-unique, slice_cmp-text_of, ulid_of-found}
 use Rattle.label_sets.specs.Labels.{compare_texts}
 use Rattle.world_core.specs.Plans.{Runs}

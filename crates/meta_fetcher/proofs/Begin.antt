@@ -4,7 +4,7 @@ use Rattle.world_core.specs.declared.entry.Entry.{Entry}
 use Rattle.meta_fetcher.specs.Syncs.{listing, SyncRun}
 use Rattle.meta_fetcher.specs.SyncStates.{Goes}
 use Rattle.meta_fetcher.specs.declared.rules.SyncRules.{SyncRules}
-use Rattle.meta_fetcher.specs.declared.sync_end.SyncEnd.{SyncEnd}
+use Rattle.meta_fetcher.specs.declared.sync.SyncEnd.{SyncEnd}
 use Rattle.meta_fetcher.proofs.Ascending.{sync_ascends}
 
 -- a run of the whole plan is a sync, since what it comes to ascends

@@ -19,10 +19,10 @@ use Rattle.block_meta.specs.OfBlocks.{block_meta, block_mark}
 use Rattle.meta_fetcher.specs.Syncs.{Synced, Course, fault, damaged, if_mark, if_meta, reads_meta, reading}
 use Rattle.meta_fetcher.specs.SyncStates.{Onward, Goes, Leads, sightings_of, blocks_left, goes_after}
 use Rattle.meta_fetcher.specs.declared.rules.SyncRules.{SyncRules}
-use Rattle.meta_fetcher.specs.declared.stage.Stage.TheVariants.{Marking, Reading}
+use Rattle.meta_fetcher.specs.declared.sync.Stage.TheVariants.{Marking, Reading}
 use Rattle.meta_fetcher.specs.declared.sync.Sync.{Sync}
-use Rattle.meta_fetcher.specs.declared.sync_end.SyncEnd.{SyncEnd}
-use Rattle.meta_fetcher.specs.declared.sync_end.SyncEnd.TheVariants.{Damaged, Fault}
+use Rattle.meta_fetcher.specs.declared.sync.SyncEnd.{SyncEnd}
+use Rattle.meta_fetcher.specs.declared.sync.SyncEnd.TheVariants.{Damaged, Fault}
 use Rattle.meta_fetcher.proofs.Steps.{ended, leads_as}
 
 module _ (rules : SyncRules) (course : Option Course) (found : List ℕ → Plan Synced) (absent : Plan Synced) (seq : ℕ) (given : Reply) where

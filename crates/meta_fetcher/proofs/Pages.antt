@@ -19,10 +19,10 @@ use Rattle.meta_fetcher.specs.Sightings.{sighting_of}
 use Rattle.meta_fetcher.specs.Syncs.{Synced, Course, walk_ends, reading, listing}
 use Rattle.meta_fetcher.specs.SyncStates.{AreListed, IsAfter, Goes, Onward, course_of, sightings_of, goes_by_names, goes_after, Leads}
 use Rattle.meta_fetcher.specs.declared.rules.SyncRules.{SyncRules}
-use Rattle.meta_fetcher.specs.declared.stage.Stage.TheVariants.{Opening, Listing}
+use Rattle.meta_fetcher.specs.declared.sync.Stage.TheVariants.{Opening, Listing}
 use Rattle.meta_fetcher.specs.declared.sync.Sync.{Sync}
-use Rattle.meta_fetcher.specs.declared.sync_end.SyncEnd.{SyncEnd}
-use Rattle.meta_fetcher.specs.declared.sync_end.SyncEnd.TheVariants.{TooMany, Damaged, Fault}
+use Rattle.meta_fetcher.specs.declared.sync.SyncEnd.{SyncEnd}
+use Rattle.meta_fetcher.specs.declared.sync.SyncEnd.TheVariants.{TooMany, Damaged, Fault}
 use Rattle.world_core.proofs.PageNames.{length-ulids_in, last_listed-more, all_wait}
 use Rattle.meta_fetcher.proofs.Steps.{ended, leads_as}
 

@@ -18,11 +18,11 @@ use Rattle.meta_fetcher.specs.Syncs.{Synced, sighted, Course, with_entry, readin
 use Rattle.meta_fetcher.specs.SyncStates.{asked_at, asked_sync, course_at, left_at, HasListed, Onward, Goes, may_at, may_sync, goes_after, Leads}
 use Rattle.meta_fetcher.specs.contracts.sync.SyncMachine.TheImpl.{ghosts}
 use Rattle.meta_fetcher.specs.declared.rules.SyncRules.{SyncRules}
-use Rattle.meta_fetcher.specs.declared.stage.Stage.{Stage}
-use Rattle.meta_fetcher.specs.declared.stage.Stage.TheVariants.{Fresh, Opening, Listing, Marking, Reading}
+use Rattle.meta_fetcher.specs.declared.sync.Stage.{Stage}
+use Rattle.meta_fetcher.specs.declared.sync.Stage.TheVariants.{Fresh, Opening, Listing, Marking, Reading}
 use Rattle.meta_fetcher.specs.declared.sync.Sync.{Sync}
-use Rattle.meta_fetcher.specs.declared.sync_end.SyncEnd.{SyncEnd}
-use Rattle.meta_fetcher.specs.declared.sync_end.SyncEnd.TheVariants as ends_in
+use Rattle.meta_fetcher.specs.declared.sync.SyncEnd.{SyncEnd}
+use Rattle.meta_fetcher.specs.declared.sync.SyncEnd.TheVariants as ends_in
 use Rattle.meta_fetcher.specs.declared.view.View.{View}
 
 -- ---- runs of what is left

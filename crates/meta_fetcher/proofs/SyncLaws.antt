@@ -22,7 +22,7 @@ use Rattle.meta_fetcher.specs.Sightings.{Sighting}
 use Rattle.block_meta.specs.OfBlocks.{block_meta, block_mark}
 use Rattle.meta_fetcher.specs.Syncs.{Synced, sighted, fault, damaged, too_many, Course, with_entry, if_mark, if_meta, reads_meta, reading, walk_ends, listing, sync, IsEnd, SyncRun}
 use Rattle.meta_fetcher.specs.declared.rules.SyncRules.{SyncRules}
-use Rattle.meta_fetcher.specs.declared.sync_end.SyncEnd.{SyncEnd}
+use Rattle.meta_fetcher.specs.declared.sync.SyncEnd.{SyncEnd}
 
 -- ---- ends
 

@@ -15,8 +15,8 @@ use Rattle.sync_filters.specs.declared.found.Found.{Found}
 use Rattle.meta_fetcher.specs.Sightings.{IsView, Sighting, covered_by, kept_by, sighting_of}
 use Rattle.meta_fetcher.specs.Syncs.{Course, IsEnd, SyncRun, Synced, damaged, fault, sighted, sync, too_many}
 use Rattle.meta_fetcher.specs.declared.rules.SyncRules.{SyncRules}
-use Rattle.meta_fetcher.specs.declared.sync_end.SyncEnd.{SyncEnd}
-use Rattle.meta_fetcher.specs.declared.sync_end.SyncEnd.TheVariants as fetched
+use Rattle.meta_fetcher.specs.declared.sync.SyncEnd.{SyncEnd}
+use Rattle.meta_fetcher.specs.declared.sync.SyncEnd.TheVariants as fetched
 use Rattle.meta_fetcher.specs.declared.view.View.{View}
 
 -- ---- marks

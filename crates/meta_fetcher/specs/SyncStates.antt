@@ -19,10 +19,10 @@ use Rattle.sync_filters.specs.declared.found.Found.{Found}
 use Rattle.meta_fetcher.specs.Sightings.{Sighting, sighting_of}
 use Rattle.meta_fetcher.specs.Syncs.{Synced, Course, with_entry, reads_meta, reading, walk_ends, listing, IsEnd, SightingsAscend}
 use Rattle.meta_fetcher.specs.declared.rules.SyncRules.{SyncRules}
-use Rattle.meta_fetcher.specs.declared.stage.Stage.{Stage}
-use Rattle.meta_fetcher.specs.declared.stage.Stage.TheVariants.{Fresh, Opening, Listing, Marking, Reading}
+use Rattle.meta_fetcher.specs.declared.sync.Stage.{Stage}
+use Rattle.meta_fetcher.specs.declared.sync.Stage.TheVariants.{Fresh, Opening, Listing, Marking, Reading}
 use Rattle.meta_fetcher.specs.declared.sync.Sync.{Sync}
-use Rattle.meta_fetcher.specs.declared.sync_end.SyncEnd.{SyncEnd}
+use Rattle.meta_fetcher.specs.declared.sync.SyncEnd.{SyncEnd}
 
 -- ---- what it waits for
 

@@ -14,8 +14,8 @@ use Rattle.meta_fetcher.specs.Sightings.{Sighting, IsView}
 use Rattle.block_meta.specs.OfBlocks.{block_meta, block_mark}
 use Rattle.meta_fetcher.specs.declared.rules.SyncRules.{SyncRules}
 use Rattle.meta_fetcher.specs.declared.view.View.{View}
-use Rattle.meta_fetcher.specs.declared.sync_end.SyncEnd.{SyncEnd}
-use Rattle.meta_fetcher.specs.declared.sync_end.SyncEnd.TheVariants as ended
+use Rattle.meta_fetcher.specs.declared.sync.SyncEnd.{SyncEnd}
+use Rattle.meta_fetcher.specs.declared.sync.SyncEnd.TheVariants as ended
 
 -- what a sync comes to
 pub data Synced : Type 0 where

@@ -5,7 +5,7 @@ ghost use Rattle.world_core.specs.declared.entry.Entry.{Entry};
 ghost use Rattle.meta_fetcher.specs.Syncs.{SyncRun};
 ghost use Rattle.meta_fetcher.specs.OneView.{whole_sync};
 ghost use Rattle.meta_fetcher.specs.declared.rules.SyncRules.{SyncRules};
-ghost use Rattle.meta_fetcher.specs.declared.sync_end.SyncEnd.{SyncEnd};
+ghost use Rattle.meta_fetcher.specs.declared.sync.SyncEnd.{SyncEnd};
 
 /// A law: a sync is a run of a plan that ends as the sync does.
 pub fn syncs_are_plans()

@@ -5,14 +5,11 @@ mod filters;
 mod laws;
 mod rules;
 mod running;
-mod stage;
 mod sync;
-mod sync_end;
 mod view;
 
 pub use laws::syncs_are_plans;
 pub use rules::SyncRules;
 pub use running::run_sync;
-pub use sync::Sync;
-pub use sync_end::SyncEnd;
+pub use sync::{Sync, SyncEnd};
 pub use view::View;

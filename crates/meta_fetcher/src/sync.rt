@@ -4,12 +4,11 @@ ghost use Rattle.world_core.specs.Machines.{GoesOn, Falls};
 ghost use Rattle.world_core.specs.Operations.{IsAnswer, entry_of};
 ghost use Rattle.world_core.specs.declared.op.Op.{Op};
 ghost use Rattle.world_core.specs.declared.entry.Entry.{Entry};
-ghost use Rattle.meta_fetcher.specs.declared.sync_end.SyncEnd.{SyncEnd};
+ghost use Rattle.meta_fetcher.specs.declared.sync.SyncEnd.{SyncEnd};
 ghost use Rattle.meta_fetcher.specs.Syncs.{SyncRun};
 
 use crate::filters::passed_blocks;
-use crate::stage::Stage;
-use crate::{SyncEnd, SyncRules, View};
+use crate::{SyncRules, View};
 use base::{NoMemory, TryCopy};
 use block_keys::Key;
 use block_meta::{DeletionMark, mark_of, meta_of};
@@ -23,6 +22,33 @@ use ulid_core::Ulid;
 use world_core::{
     Act, MOST_LISTED, Machine, Op, Reply, Seen, add_ulids, ascends, is_short, last_name,
 };
+
+/// How a sync ended.
+#[derive(Drop)]
+pub enum SyncEnd {
+    View(View),
+    /// The entry of this number was answered that the call failed.
+    Fault(u64),
+    /// The names of the page, or the bytes of the mark or the meta, at the entry of this number are not as they may be.
+    Damaged(u64),
+    /// The bucket has a million names and more.
+    TooMany,
+}
+
+/// How far a sync has come.
+#[derive(Clone, Copy, Debug, PartialEq, Eq)]
+pub(crate) enum Stage {
+    /// It was not begun.
+    Fresh,
+    /// It waits for the first page of names.
+    Opening,
+    /// It waits for the page after the last name.
+    Listing,
+    /// It waits for the mark of the block.
+    Marking(Ulid),
+    /// It waits for the meta of the block.
+    Reading(Ulid),
+}
 
 /// A sync: the pages of the bucket's names up to the first short one, and then of each block its mark and its meta.
 #[derive(Drop)]
@@ -243,7 +269,7 @@ impl Machine for Sync {
     type End = SyncEnd;
 
     ghost use Rattle.meta_fetcher.specs.SyncStates.{may_sync, asked_sync, count_of};
-    ghost use Rattle.meta_fetcher.specs.declared.stage.Stage.TheVariants.{Fresh};
+    ghost use Rattle.meta_fetcher.specs.declared.sync.Stage.TheVariants.{Fresh};
 
     ghost may = { may_sync };
 

@@ -6,8 +6,8 @@ use mathlib.Core.List.{IsPrefix}
 use Rattle.world_core.specs.Keeping.{IsFull, bytes_put, bytes_told, kept_bytes}
 use Rattle.world_core.specs.declared.entry.Entry.{Entry}
 use Rattle.world_core.specs.declared.op.Op.{Op}
-use Rattle.world_core.specs.declared.acted.Acted.{Acted}
-use Rattle.world_core.specs.declared.acted.Acted.TheVariants.{Done, Full, NoMemory}
+use Rattle.world_core.specs.declared.act.Acted.{Acted}
+use Rattle.world_core.specs.declared.act.Acted.TheVariants.{Done, Full, NoMemory}
 use Rattle.world_turn.specs.Turns.{Acts, front_after, is_wanting}
 use Rattle.world_turn.specs.declared.view.View.{View}
 

@@ -4,7 +4,7 @@ use Rattle.std.proofs.lemmas.List.{take_more, length-take-le}
 use Rattle.std.proofs.lemmas.List.Elements.{filter-append}
 use Rattle.std.specs.List.{filter, enumerate_from}
 use Rattle.moment_core.specs.declared.partition.Partition.{Partition}
-use Rattle.querier.specs.declared.ask.Ask.{Ask}
+use Rattle.querier.specs.declared.asking.Ask.{Ask}
 use Rattle.querier.specs.Asks.{ask_of, asks_from, has_times}
 
 -- each gateway of these, numbered from one on

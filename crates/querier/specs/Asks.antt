@@ -3,7 +3,7 @@ use Rattle.std.specs.Prelude.{ℕ, ℤ, int_le, Bool, List, map}
 use Rattle.std.specs.List.{filter, enumerate_from}
 use Rattle.moment_core.specs.Partitions.{common}
 use Rattle.moment_core.specs.declared.partition.Partition.{Partition}
-use Rattle.querier.specs.declared.ask.Ask.{Ask}
+use Rattle.querier.specs.declared.asking.Ask.{Ask}
 
 -- what the gateway of a partition is asked of these times: those that lie in its partition
 abbrev pub ask_of : Partition → ℕ → Partition → Ask

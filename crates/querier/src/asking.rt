@@ -1,10 +1,27 @@
 ghost use Rattle.std.specs.Prelude.{◌≡◌, ◌<◌, ◌≤◌, ◌^◌, [], ◌∷◌, ◌++◌, length, IfOk, OnOk};
 ghost use Rattle.querier.specs.Asks.{asks_from, asks_of};
 
-use crate::{Ask, AskList};
-use base::NoMemory;
+use base::{List, NoMemory, TryCopy};
 use moment_core::{Partition, PartitionList};
 use std::alloc::Global;
+
+/// What one gateway is asked for: the times in milliseconds from `low` to `high`, both included.
+#[derive(Clone, Copy, Debug, PartialEq, Eq)]
+pub struct Ask {
+    /// The gateway's place.
+    pub gateway: u32,
+    pub low: i64,
+    pub high: i64,
+}
+
+/// A list of what gateways are asked for.
+pub type AskList = List<Ask>;
+
+impl TryCopy for Ask {
+    fn copy(&self) -> Result<Self, NoMemory> {
+        Ok(*self)
+    }
+}
 
 /// What each gateway is asked in a query for the times from `low` to `high`, both included: those that lie in its partition.
 /// A gateway whose partition has none of them is not asked.

@@ -3,14 +3,12 @@
 
 mod alike;
 mod answer;
-mod ask;
 mod asking;
 mod compare_way;
 mod gather;
 mod repeats;
 
 pub use answer::{Answer, AnswerList, Names, NamesList};
-pub use ask::{Ask, AskList};
-pub use asking::fan_out;
+pub use asking::{Ask, AskList, fan_out};
 pub use compare_way::{CompareWay, InTurn};
 pub use gather::Gather;

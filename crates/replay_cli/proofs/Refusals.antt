@@ -5,7 +5,7 @@ use Rattle.world_core.specs.declared.entry.Entry.{Entry}
 use Rattle.compactor.specs.Compactions.{compaction}
 use Rattle.cleaner.specs.Cleanings.{cleaning}
 use Rattle.store_ranges.specs.Reads.{Query as Question}
-use Rattle.querier.specs.declared.ask.Ask.{Ask}
+use Rattle.querier.specs.declared.asking.Ask.{Ask}
 use Rattle.script_core.specs.declared.block.Block.{Block}
 use Rattle.script_workers.specs.declared.work.Work.{Work}
 use Rattle.script_workers.specs.declared.work.Work.TheVariants.{Upload, Sync, Compact, Clean, Query}

@@ -7,8 +7,8 @@ use Rattle.label_sets.specs.Triples.{Triple, triples_of}
 use Rattle.vertical_merge.specs.Merged.{IsMerge}
 use Rattle.world_core.specs.Standing.{IsHonest}
 use Rattle.world_core.specs.declared.entry.Entry.{Entry}
-use Rattle.store_calls.specs.declared.series_end.SeriesEnd.{SeriesEnd}
-use Rattle.store_calls.specs.declared.series_end.SeriesEnd.TheVariants as called
+use Rattle.store_calls.specs.declared.series_call.SeriesEnd.{SeriesEnd}
+use Rattle.store_calls.specs.declared.series_call.SeriesEnd.TheVariants as called
 use Rattle.querier.specs.Gathered.{answer as whole_answer, gathered_samples, gathered_sources}
 use Rattle.querier.specs.declared.answer.Names.{Names}
 use Rattle.script_workers.specs.Hands.{gateway_count, hands_of_task}

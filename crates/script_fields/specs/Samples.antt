@@ -4,8 +4,8 @@ use Rattle.std.specs.List.{list_all, slice_split, position_or_len, before_first}
 use Rattle.std.specs.Str.{byte}
 use Rattle.base.specs.Reading.{◌>>=◌, refused_as}
 use Rattle.base.specs.Decimal.{signed_of}
-use Rattle.base.specs.declared.refusal.NumberRefusal.{NumberRefusal}
-use Rattle.base.specs.declared.refusal.NumberRefusal.TheVariants.{NotANumber, TooLarge}
+use Rattle.base.specs.declared.number.NumberRefusal.{NumberRefusal}
+use Rattle.base.specs.declared.number.NumberRefusal.TheVariants.{NotANumber, TooLarge}
 use Rattle.label_sets.specs.declared.sample.Sample.{Sample}
 use Rattle.script_fields.specs.declared.cause.LineCause.{LineCause}
 use Rattle.script_fields.specs.declared.cause.LineCause.TheVariants.{BadSample}

@@ -2,12 +2,12 @@
 use Rattle.std.proofs.Common.{◌≡◌, ℕ, ℤ, List, refl, ap, subst}
 use Rattle.std.specs.Prelude.{Option, Some, None, option_map, Ok, Err, IfSome}
 use Rattle.store_calls.specs.CallRuns.{CallRun, end_by}
-use Rattle.store_calls.specs.declared.call_left.CallLeft.{CallLeft}
+use Rattle.store_calls.specs.declared.running.CallLeft.{CallLeft}
 use Rattle.store_ranges.specs.Reads.{Cache, Query as Question}
 use Rattle.store_ranges.specs.declared.cache.IndexCache.{IndexCache}
 use Rattle.world_core.specs.Machines.{Drives, end_of}
-use Rattle.world_core.specs.declared.driven.Driven.{Driven}
-use Rattle.world_core.specs.declared.driven.Driven.TheVariants.{Ended, Full}
+use Rattle.world_core.specs.declared.driving.Driven.{Driven}
+use Rattle.world_core.specs.declared.driving.Driven.TheVariants.{Ended, Full}
 use Rattle.world_core.specs.declared.entry.Entry.{Entry}
 use Rattle.meta_fetcher.specs.declared.view.View.{View}
 use Rattle.matchers.specs.declared.matcher.Matcher.{Matcher}

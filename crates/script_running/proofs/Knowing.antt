@@ -7,7 +7,7 @@ use mathlib.Core.List.{IsPrefix}
 use Rattle.base.proofs.Lists.{AllByRecursion-weaker, map-push, flat_map-push}
 use Rattle.world_core.specs.Journals.{entry_at}
 use Rattle.world_core.specs.Operations.{entry_of}
-use Rattle.world_core.specs.declared.acted.Acted.TheVariants.{Done}
+use Rattle.world_core.specs.declared.act.Acted.TheVariants.{Done}
 use Rattle.world_core.specs.declared.entry.Entry.{Entry}
 use Rattle.world_core.specs.declared.op.Op.{Op}
 use Rattle.world_core.specs.declared.seen.Seen.{Seen}

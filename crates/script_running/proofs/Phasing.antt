@@ -9,7 +9,7 @@ use Rattle.base.proofs.Lists.{drop_place, take_place}
 use Rattle.base.proofs.Membership.{all_members, contains_place, place_of_member}
 use Rattle.base.proofs.Pairs.{AllZip-as_long}
 use Rattle.world_core.specs.Operations.{entry_of}
-use Rattle.world_core.specs.declared.acted.Acted.TheVariants.{Done, Full, NoMemory}
+use Rattle.world_core.specs.declared.act.Acted.TheVariants.{Done, Full, NoMemory}
 use Rattle.world_core.specs.declared.entry.Entry.{Entry}
 use Rattle.world_core.specs.declared.op.Op.TheVariants.{Clock}
 use Rattle.world_core.specs.declared.seen.Seen.{Seen}

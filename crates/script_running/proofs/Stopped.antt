@@ -6,8 +6,8 @@ use Rattle.world_core.specs.Machines.{Awaits, Drives, end_of}
 use Rattle.world_core.specs.Operations.{entry_of}
 use Rattle.world_core.specs.Plans.{Plan, Runs}
 use Rattle.world_core.specs.Stops.{IsBefore, IsStopped}
-use Rattle.world_core.specs.declared.driven.Driven.{Driven}
-use Rattle.world_core.specs.declared.driven.Driven.TheVariants.{Ended, Stopped, Full, NoMemory}
+use Rattle.world_core.specs.declared.driving.Driven.{Driven}
+use Rattle.world_core.specs.declared.driving.Driven.TheVariants.{Ended, Stopped, Full, NoMemory}
 use Rattle.world_core.specs.declared.entry.Entry.{Entry}
 use Rattle.script_workers.specs.declared.work.Work.{Work}
 use Rattle.lifecycle_core.specs.Tasks.{End, IsStop, StoppedRun, stopped}

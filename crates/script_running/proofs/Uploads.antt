@@ -5,10 +5,10 @@ use Rattle.std.proofs.lemmas.List.{append-nil}
 use Rattle.std.proofs.lemmas.List.Elements.{All-nil}
 use Rattle.world_core.specs.Machines.{Drives}
 use Rattle.world_core.specs.Plans.{Runs}
-use Rattle.world_core.specs.declared.driven.Driven.{Driven}
+use Rattle.world_core.specs.declared.driving.Driven.{Driven}
 use Rattle.world_core.specs.declared.entry.Entry.{Entry}
 use Rattle.block_keys.specs.declared.object.Object.{Object}
-use Rattle.shipper.specs.declared.upload_end.UploadEnd.{UploadEnd}
+use Rattle.shipper.specs.declared.upload.UploadEnd.{UploadEnd}
 use Rattle.shipper.specs.Uploads.{upload}
 use Rattle.script_core.specs.declared.block.Block.{Block}
 use Rattle.script_workers.specs.declared.work.Work.TheVariants as works

@@ -1,11 +1,11 @@
 -- What a worker's part of a task comes to, and what drives of its machine come to.
 use Rattle.std.specs.Prelude.{ℕ, Result, Ok, Err}
-use Rattle.world_core.specs.declared.driven.Driven.{Driven}
-use Rattle.world_core.specs.declared.driven.Driven.TheVariants as driven
-use Rattle.shipper.specs.declared.upload_end.UploadEnd.{UploadEnd}
-use Rattle.meta_fetcher.specs.declared.sync_end.SyncEnd.{SyncEnd}
+use Rattle.world_core.specs.declared.driving.Driven.{Driven}
+use Rattle.world_core.specs.declared.driving.Driven.TheVariants as driven
+use Rattle.shipper.specs.declared.upload.UploadEnd.{UploadEnd}
+use Rattle.meta_fetcher.specs.declared.sync.SyncEnd.{SyncEnd}
 use Rattle.compactor.specs.declared.compact_end.CompactEnd.{CompactEnd}
-use Rattle.cleaner.specs.declared.clean_end.CleanEnd.{CleanEnd}
+use Rattle.cleaner.specs.declared.clean.CleanEnd.{CleanEnd}
 use Rattle.script_running.specs.Outcomes.{clean_outcome, compact_outcome, sync_outcome, upload_outcome}
 use Rattle.script_running.specs.declared.came.Broken.{Broken}
 use Rattle.script_running.specs.declared.came.Broken.TheVariants as broken

@@ -3,7 +3,7 @@ use Rattle.std.specs.Prelude.{◌≡◌, ◌≢◌, ◌⊎◌, ℕ, List, [], �
 use mathlib.Core.List.{IsPrefix}
 use Rattle.world_core.specs.Keeping.{IsFull}
 use Rattle.world_core.specs.declared.entry.Entry.{Entry}
-use Rattle.world_core.specs.declared.acted.Acted.TheVariants as answer
+use Rattle.world_core.specs.declared.act.Acted.TheVariants as answer
 use Rattle.world_core.specs.declared.op.Op.TheVariants.{Clock}
 use Rattle.world_core.specs.declared.seen.Seen.{Seen}
 use Rattle.world_turn.specs.Turns.{Acts}

@@ -1,7 +1,7 @@
 ghost use Rattle.std.specs.Prelude.{◌≡◌, ◌≤◌, ◌||◌, ◌⊎◌, ℕ, ℤ, false, Option, Some, Err, option_map, IfSome, IsTrue, slice_get, unwrap_or};
 ghost use Rattle.world_core.specs.Machines.{end_of};
 ghost use Rattle.world_core.specs.Keeping.{IsFull};
-ghost use Rattle.meta_fetcher.specs.declared.sync_end.SyncEnd.{SyncEnd};
+ghost use Rattle.meta_fetcher.specs.declared.sync.SyncEnd.{SyncEnd};
 ghost use Rattle.meta_fetcher.specs.Syncs.{SyncRun};
 ghost use Rattle.store_ranges.specs.Caches.{held};
 ghost use Rattle.store_calls.specs.SeriesCalls.{CallEnd, SeriesRun, asking};

@@ -26,11 +26,11 @@ use Rattle.world_core.specs.declared.act.Act.TheVariants.{Do, Done as Over}
 use Rattle.shipper.specs.UploadStates.{PutsNext, asked_upload, count_at, left_at, left_of}
 use Rattle.shipper.specs.Uploads.{putting}
 use Rattle.shipper.specs.contracts.upload.UploadMachine.TheImpl.{ghosts}
-use Rattle.shipper.specs.declared.stage.Stage.{Stage}
-use Rattle.shipper.specs.declared.stage.Stage.TheVariants.{Looking, Putting}
+use Rattle.shipper.specs.declared.upload.Stage.{Stage}
+use Rattle.shipper.specs.declared.upload.Stage.TheVariants.{Looking, Putting}
 use Rattle.shipper.specs.declared.upload.Upload.{Upload}
-use Rattle.shipper.specs.declared.upload_end.UploadEnd.{UploadEnd}
-use Rattle.shipper.specs.declared.upload_end.UploadEnd.TheVariants.{Done, Already, Fault}
+use Rattle.shipper.specs.declared.upload.UploadEnd.{UploadEnd}
+use Rattle.shipper.specs.declared.upload.UploadEnd.TheVariants.{Done, Already, Fault}
 use Rattle.base.proofs.Numbers.{above_zero}
 
 -- the object at a place, with what is left behind it

@@ -4,8 +4,8 @@ use Rattle.block_keys.specs.declared.object.Object.{Object}
 use Rattle.shipper.specs.Limits.{most_objects}
 use Rattle.shipper.specs.UploadStates.{count_at}
 use Rattle.shipper.specs.contracts.upload.UploadMachine.TheImpl.{ghosts}
-use Rattle.shipper.specs.declared.stage.Stage.{Stage}
-use Rattle.shipper.specs.declared.stage.Stage.TheVariants.{Looking, Putting}
+use Rattle.shipper.specs.declared.upload.Stage.{Stage}
+use Rattle.shipper.specs.declared.upload.Stage.TheVariants.{Looking, Putting}
 use Rattle.shipper.specs.declared.upload.Upload.{Upload}
 
 uploads_at : (stage : Stage) (objects : List Object) (place : ℕ) → length objects ≤ most_objects → count_at stage objects place < 2 ^ 100

@@ -3,8 +3,8 @@ use Rattle.std.specs.Prelude.{ℕ, ◌+◌, Bool, List}
 use Rattle.std.specs.List.{list_all}
 use Rattle.block_keys.specs.Keys.{is_lawful_key, segment_limit}
 use Rattle.block_keys.specs.declared.object.Object.{Object}
-use Rattle.shipper.specs.declared.stage.Stage.{Stage}
-use Rattle.shipper.specs.declared.stage.Stage.TheVariants.{Looking, Putting}
+use Rattle.shipper.specs.declared.upload.Stage.{Stage}
+use Rattle.shipper.specs.declared.upload.Stage.TheVariants.{Looking, Putting}
 
 -- how many objects a block has at most: its segments, the index and the meta
 abbrev pub most_objects : ℕ

@@ -5,10 +5,10 @@ use Rattle.world_core.specs.Plans.{Plan, asked}
 use Rattle.world_core.specs.declared.op.Op.{Op}
 use Rattle.world_core.specs.declared.act.Act.{Act}
 use Rattle.world_core.specs.declared.act.Act.TheVariants.{Do, Done}
-use Rattle.shipper.specs.declared.stage.Stage.{Stage}
-use Rattle.shipper.specs.declared.stage.Stage.TheVariants.{Looking, Putting}
+use Rattle.shipper.specs.declared.upload.Stage.{Stage}
+use Rattle.shipper.specs.declared.upload.Stage.TheVariants.{Looking, Putting}
 use Rattle.shipper.specs.declared.upload.Upload.{Upload}
-use Rattle.shipper.specs.declared.upload_end.UploadEnd.{UploadEnd}
+use Rattle.shipper.specs.declared.upload.UploadEnd.{UploadEnd}
 use Rattle.shipper.specs.Uploads.{upload, putting}
 
 -- what is left before the look, and before the put at a place

@@ -2,10 +2,7 @@
 #![tactic(auto)]
 
 mod running;
-mod stage;
 mod upload;
-mod upload_end;
 
 pub use running::run_upload;
-pub use upload::Upload;
-pub use upload_end::UploadEnd;
+pub use upload::{Upload, UploadEnd};

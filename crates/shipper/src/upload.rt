@@ -7,16 +7,34 @@ ghost use Rattle.world_core.specs.Plans.{Runs};
 ghost use Rattle.block_keys.specs.Blocks.{IsBlock};
 ghost use Rattle.shipper.specs.Limits.{most_objects, have_lawful_keys, begun};
 ghost use Rattle.shipper.specs.Uploads.{upload};
-ghost use Rattle.shipper.specs.declared.upload_end.UploadEnd.{UploadEnd};
+ghost use Rattle.shipper.specs.declared.upload.UploadEnd.{UploadEnd};
 
-use crate::UploadEnd;
-use crate::stage::Stage;
 use base::NoMemory;
 use block_keys::{Key, Object, ObjectList};
 use std::collections::VecDeque;
 use std::snapshot::Snapshot;
 use ulid_core::Ulid;
 use world_core::{Act, Machine, Op, Reply, Seen};
+
+/// How an upload ended.
+#[derive(Clone, Copy, Debug, PartialEq, Eq)]
+pub enum UploadEnd {
+    /// So many objects were put.
+    Done(u32),
+    /// The block's meta stands already.
+    Already,
+    /// The entry of this number failed.
+    Fault(u64),
+}
+
+/// How far an upload has come.
+#[derive(Clone, Copy, Debug, PartialEq, Eq)]
+pub(crate) enum Stage {
+    /// The look at the meta is next, or is waited for.
+    Looking,
+    /// It waits for the put of the next object.
+    Putting,
+}
 
 /// The upload of one block.
 #[derive(Drop)]
@@ -129,7 +147,7 @@ impl Machine for Upload {
 
     ghost use Rattle.world_core.specs.Leads.{does};
     ghost use Rattle.shipper.specs.UploadStates.{left_of, asked_upload, count_of};
-    ghost use Rattle.shipper.specs.declared.stage.Stage.TheVariants.{Looking};
+    ghost use Rattle.shipper.specs.declared.upload.Stage.TheVariants.{Looking};
 
     ghost may = { does left_of };
 

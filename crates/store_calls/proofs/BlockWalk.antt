@@ -26,7 +26,7 @@ use Rattle.index_parts.specs.SymbolsReading.{symbols_at}
 use Rattle.index_parts.specs.RowsReading.{postings_table_at}
 use Rattle.index_parts.specs.SeriesEntry.{reference_of}
 use Rattle.index_parts.specs.declared.postings_row.PostingsRow.{PostingsRow}
-use Rattle.index_parts.specs.declared.toc.Toc.{Toc}
+use Rattle.index_parts.specs.declared.toc_reading.Toc.{Toc}
 use Rattle.index_parts.specs.Parts.{known}
 use Rattle.index_parts.specs.declared.index_series.IndexSeries.{IndexSeries}
 use Rattle.index_parts.specs.IndexFile.{least_size}

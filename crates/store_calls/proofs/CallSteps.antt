@@ -21,8 +21,8 @@ use Rattle.store_calls.specs.WorkStates.{Where, Holds, Leads, most, may_at, aske
 use Rattle.store_calls.specs.BlockStates.{ActsAs, may_call, asked_call, count_call}
 use Rattle.store_ranges.specs.declared.asked.Asked.{Asked}
 use Rattle.store_calls.specs.declared.block_call.BlockCall.{BlockCall}
-use Rattle.store_calls.specs.declared.block_outcome.BlockOutcome.{BlockOutcome}
-use Rattle.store_calls.specs.declared.block_outcome.BlockOutcome.TheVariants as outcome
+use Rattle.store_calls.specs.declared.block_call.BlockOutcome.{BlockOutcome}
+use Rattle.store_calls.specs.declared.block_call.BlockOutcome.TheVariants as outcome
 use Rattle.store_calls.specs.declared.work.Work.{Work}
 use Rattle.store_calls.specs.declared.work.Work.TheVariants.{Fresh, Contents, Symbols, Table, Lists, Run, Whole, Group, Single, Over}
 use Rattle.store_calls.specs.declared.work.Step.{Step}

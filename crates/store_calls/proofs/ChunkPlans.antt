@@ -33,7 +33,7 @@ use Rattle.store_chunks.specs.ChunksRead.{reads_of, references_read, references_
 use Rattle.store_calls.specs.BlockRuns.{Leading, IsEnd}
 use Rattle.store_calls.specs.WorkStates.{Where, Leads, most, AreInOrder, IsGroupWork, IsSingleWork, ArePending, references_left, references_pending, shows_all, shows_groups, shows_out, later_groups, with_group, with_single, chunks_left}
 use Rattle.store_ranges.specs.declared.asked.Asked.{Asked}
-use Rattle.store_calls.specs.declared.block_outcome.BlockOutcome.TheVariants as outcome
+use Rattle.store_calls.specs.declared.block_call.BlockOutcome.TheVariants as outcome
 use Rattle.store_ranges.specs.declared.group_read.GroupRead.{GroupRead}
 use Rattle.store_chunks.specs.declared.glimpse.Pending.{Pending}
 use Rattle.store_chunks.specs.declared.chunk_row.ChunkRow.{ChunkRow}

@@ -8,11 +8,11 @@ use Rattle.meta_fetcher.specs.declared.view.View.{View}
 use Rattle.store_calls.specs.Endings.{Leaves, ended_with, with_cache}
 use Rattle.store_calls.specs.SeriesCalls.{CallEnd, SeriesRun, asking}
 use Rattle.store_calls.specs.declared.series_call.SeriesCall.{SeriesCall}
-use Rattle.store_calls.specs.declared.series_end.SeriesEnd.{SeriesEnd}
+use Rattle.store_calls.specs.declared.series_call.SeriesEnd.{SeriesEnd}
 use Rattle.world_core.specs.Machines.{Drives, end_of}
 use Rattle.world_core.specs.Operations.{entry_of}
-use Rattle.world_core.specs.declared.driven.Driven.{Driven}
-use Rattle.world_core.specs.declared.driven.Driven.TheVariants.{Ended, Full, NoMemory}
+use Rattle.world_core.specs.declared.driving.Driven.{Driven}
+use Rattle.world_core.specs.declared.driving.Driven.TheVariants.{Ended, Full, NoMemory}
 use Rattle.world_core.specs.declared.entry.Entry.{Entry}
 use Rattle.store_calls.specs.CallRuns.{CallRun}
 

@@ -60,7 +60,7 @@ use Rattle.store_ranges.specs.Reads.{Block, Cache, Query, missing, damaged, faul
 use Rattle.store_ranges.specs.Stretches.{Stretch, members}
 use Rattle.store_calls.specs.Exact.{AreShown, HoldsBlock, HoldsWhole, IsCacheOf, IsInBounds, StandsIn}
 use Rattle.store_calls.specs.SeriesCalls.{Called, took, broke, CallEnd, Gives, SeriesRun, after_block, reading, sources_of, to_read}
-use Rattle.store_calls.specs.declared.series_end.SeriesEnd.TheVariants as ended
+use Rattle.store_calls.specs.declared.series_call.SeriesEnd.TheVariants as ended
 use Rattle.store_calls.proofs.BlockFindings.{AreSeries, AreTaken, IsSoughtOf, IsSpoilt, IsWithin, LackLists, LacksChunks, SticksOut, no_chunk, no_index, no_key, no_list, no_series}
 use Rattle.store_calls.proofs.BlockWalk.{block_holds}
 use Rattle.store_calls.proofs.CacheChanges.{all_kept, all_promoted}

@@ -2,7 +2,7 @@
 use Rattle.std.proofs.Common.{◌≡◌, Vec, Global, ℕ, List, sym, ap, subst, inr, Option, Some, None, Result, Ok, Err}
 use Rattle.std.specs.Prelude.{IsErr, IfOk, option_map}
 use Rattle.base.specs.declared.memory.NoMemory.{NoMemory}
-use Rattle.index_parts.specs.declared.toc.Toc.{Toc}
+use Rattle.index_parts.specs.declared.toc_reading.Toc.{Toc}
 use Rattle.index_parts.specs.RowsReading.{postings_table_at}
 use Rattle.index_parts.specs.Parts.{file, known}
 use Rattle.index_parts.specs.declared.index_series.IndexSeries.{IndexSeries}

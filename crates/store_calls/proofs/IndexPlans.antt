@@ -5,7 +5,7 @@ use Rattle.std.specs.List.{list_all}
 use Rattle.std.proofs.lemmas.Bool.{le-leb, lt-leb}
 use Rattle.std.proofs.lemmas.Bool.Decides.{Decides-eqb}
 use Rattle.world_core.specs.Plans.{Plan, Keeps, ends, choose, finds}
-use Rattle.index_parts.specs.declared.toc.Toc.{Toc}
+use Rattle.index_parts.specs.declared.toc_reading.Toc.{Toc}
 use Rattle.index_parts.specs.ContentsReading.{toc_at}
 use Rattle.index_parts.specs.SymbolsReading.{symbols_at}
 use Rattle.index_parts.specs.RowsReading.{postings_table_at}

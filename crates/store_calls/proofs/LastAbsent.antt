@@ -15,7 +15,7 @@ use Rattle.meta_fetcher.specs.declared.view.View.{View}
 use Rattle.store_ranges.specs.Reads.{Block, Break, Cache, Query, damaged, fault, missing, reads}
 use Rattle.store_calls.specs.BlockReads.{BlockEnd, gives, breaks_off, block_call}
 use Rattle.store_calls.specs.SeriesCalls.{Called, took, broke, CallEnd, Gives, SeriesRun, after_block, reading, sources_of, to_read}
-use Rattle.store_calls.specs.declared.series_end.SeriesEnd.TheVariants as ended
+use Rattle.store_calls.specs.declared.series_call.SeriesEnd.TheVariants as ended
 use Rattle.store_calls.proofs.BlockWalk.{walk_holds}
 
 -- each of the entries finds something

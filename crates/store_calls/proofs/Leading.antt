@@ -18,7 +18,7 @@ use Rattle.store_ranges.specs.Asking.{query_asked, block_asked}
 use Rattle.store_calls.specs.BlockRuns.{Onward, Leading, IsEnd, outcome_of}
 use Rattle.store_calls.specs.WorkStates.{Where, Leads, may_at, asked_at, count_at, waits, after_index, range_left, sized_left, whole_left}
 use Rattle.store_ranges.specs.declared.asked.Asked.{Asked}
-use Rattle.store_calls.specs.declared.block_outcome.BlockOutcome.{BlockOutcome}
+use Rattle.store_calls.specs.declared.block_call.BlockOutcome.{BlockOutcome}
 use Rattle.store_calls.specs.declared.work.Work.{Work}
 use Rattle.store_calls.specs.declared.work.Step.{Step}
 use Rattle.store_calls.specs.declared.work.Step.TheVariants.{Wait, Done}

@@ -7,8 +7,8 @@ use Rattle.meta_fetcher.specs.declared.view.View.{View}
 use Rattle.store_ranges.specs.OneSet.{one_set}
 use Rattle.store_ranges.specs.Reads.{Query, Cache}
 use Rattle.store_calls.specs.SeriesCalls.{Called, took, broke, CallEnd, Gives, SeriesRun, series_call, sources_of}
-use Rattle.store_calls.specs.declared.series_end.SeriesEnd.{SeriesEnd}
-use Rattle.store_calls.specs.declared.series_end.SeriesEnd.TheVariants as ended
+use Rattle.store_calls.specs.declared.series_call.SeriesEnd.{SeriesEnd}
+use Rattle.store_calls.specs.declared.series_call.SeriesEnd.TheVariants as ended
 use Rattle.vertical_merge.proofs.OneMerge.{one_merge}
 
 abbrev call_end : SeriesEnd → Cache → CallEnd

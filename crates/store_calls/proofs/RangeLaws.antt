@@ -20,7 +20,7 @@ use Rattle.store_ranges.specs.Reads.{Block, Cache, Query, missing, damaged, faul
 use Rattle.store_chunks.specs.Taken.{samples_of, shown, taken}
 use Rattle.store_calls.specs.BlockReads.{BlockEnd, gives, breaks_off, block_call}
 use Rattle.store_calls.specs.SeriesCalls.{Called, took, broke, CallEnd, Gives, SeriesRun, after_block, reading, sources_of, to_read}
-use Rattle.store_calls.specs.declared.series_end.SeriesEnd.TheVariants as ended
+use Rattle.store_calls.specs.declared.series_call.SeriesEnd.TheVariants as ended
 use Rattle.store_calls.proofs.BlockWalk.{block_holds}
 
 abbrev IsIn : Query → Triple → Type 0

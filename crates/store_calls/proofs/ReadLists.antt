@@ -8,7 +8,7 @@ use Rattle.std.specs.Ordering.{nat_cmp}
 use Rattle.std.proofs.lemmas.Map.Keys.{sorted_from_strictly_increasing}
 use Rattle.base.proofs.Binds.{bind_ok}
 use Rattle.label_sets.specs.declared.sample.Sample.{Sample}
-use Rattle.index_parts.specs.declared.toc.Toc.{Toc}
+use Rattle.index_parts.specs.declared.toc_reading.Toc.{Toc}
 use Rattle.base.specs.Firsts.{each_at}
 use Rattle.base.proofs.FirstLaws.{each_found}
 use Rattle.store_ranges.specs.ChunkRanges.{AreGroups, Group, IsNear}

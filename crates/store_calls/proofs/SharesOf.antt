@@ -12,7 +12,7 @@ use Rattle.store_ranges.specs.Reads.{Query, Block, Cache, missing, damaged, faul
 use Rattle.store_calls.specs.BlockReads.{BlockEnd, gives, breaks_off, block_call}
 use Rattle.store_calls.specs.SeriesCalls.{Called, took, broke, CallEnd, Gives, SeriesRun, after_block, reading, series_call, sources_of, to_read}
 use Rattle.store_calls.specs.Shares.{AreShares, all_shares}
-use Rattle.store_calls.specs.declared.series_end.SeriesEnd.TheVariants as ended
+use Rattle.store_calls.specs.declared.series_call.SeriesEnd.TheVariants as ended
 
 abbrev Shared : Query → List Block → List Triple → Cache → List Entry → List Triple → Cache → Type 0
 Shared query blocks taken before entries all after =

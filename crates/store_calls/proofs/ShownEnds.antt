@@ -13,7 +13,7 @@ use Rattle.store_ranges.specs.Reads.{Block, Break, Cache, Query, missing, damage
 use Rattle.store_calls.specs.BlockReads.{BlockEnd, gives, breaks_off, block_call}
 use Rattle.store_calls.specs.LastEntries.{EndsWith}
 use Rattle.store_calls.specs.SeriesCalls.{Called, took, broke, CallEnd, Gives, SeriesRun, after_block, reading, sources_of, to_read}
-use Rattle.store_calls.specs.declared.series_end.SeriesEnd.TheVariants as ended
+use Rattle.store_calls.specs.declared.series_call.SeriesEnd.TheVariants as ended
 use Rattle.store_calls.proofs.BlockWalk.{block_holds}
 
 abbrev IsAbsent : Reply → Type 0

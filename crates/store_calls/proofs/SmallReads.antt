@@ -1,7 +1,7 @@
 -- The reads of a small block: an index of 205 bytes with one series, and one chunk. What the bytes are read as is given; which
 -- ranges are read follows.
 use Rattle.std.proofs.Common.{◌≡◌, ℕ, [], ◌∷◌, refl, arith}
-use Rattle.index_parts.specs.declared.toc.Toc.{Toc}
+use Rattle.index_parts.specs.declared.toc_reading.Toc.{Toc}
 use Rattle.store_ranges.specs.Stretches.{Stretch, AreStretches}
 use Rattle.store_ranges.specs.IndexRanges.{Piece, section_piece, end_of, run_piece}
 use Rattle.store_ranges.specs.ChunkRanges.{IsSetOf, group_piece}

@@ -24,13 +24,13 @@ use Rattle.store_calls.specs.contracts.block_call.BlockCallMachine.TheImpl.{ghos
 use Rattle.store_calls.specs.CallStates.{Leads, Onward, Waits, after_reads, asked_at, asked_call, beyond, left_at, left_of, may_call, query_of, reads_of, told_by}
 use Rattle.store_calls.specs.Endings.{ended_with, with_cache}
 use Rattle.store_calls.specs.declared.block_call.BlockCall.{BlockCall}
-use Rattle.store_calls.specs.declared.block_outcome.BlockOutcome.{BlockOutcome}
-use Rattle.store_calls.specs.declared.block_outcome.BlockOutcome.TheVariants as outcome
+use Rattle.store_calls.specs.declared.block_call.BlockOutcome.{BlockOutcome}
+use Rattle.store_calls.specs.declared.block_call.BlockOutcome.TheVariants as outcome
 use Rattle.store_calls.specs.declared.series_call.SeriesCall.{SeriesCall}
-use Rattle.store_calls.specs.declared.series_end.SeriesEnd.{SeriesEnd}
-use Rattle.store_calls.specs.declared.series_end.SeriesEnd.TheVariants as ended
-use Rattle.store_calls.specs.declared.stage.Stage.{Stage}
-use Rattle.store_calls.specs.declared.stage.Stage.TheVariants.{Fresh, Reading, Over}
+use Rattle.store_calls.specs.declared.series_call.SeriesEnd.{SeriesEnd}
+use Rattle.store_calls.specs.declared.series_call.SeriesEnd.TheVariants as ended
+use Rattle.store_calls.specs.declared.series_call.Stage.{Stage}
+use Rattle.store_calls.specs.declared.series_call.Stage.TheVariants.{Fresh, Reading, Over}
 use Rattle.world_core.proofs.PlanParts.{begun, followed}
 use Rattle.store_calls.proofs.FirstReads.{reads_first}
 use Rattle.store_calls.proofs.Meeting.{read_of, split_at_first}

@@ -8,8 +8,8 @@ use Rattle.store_ranges.specs.Caches.{held}
 use Rattle.store_ranges.specs.Reads.{Query, Block, Cache, Break, missing, damaged, fault}
 use Rattle.store_calls.specs.BlockReads.{BlockEnd, gives, breaks_off, block_call}
 use Rattle.store_calls.specs.declared.block_call.BlockCall.{BlockCall}
-use Rattle.store_calls.specs.declared.block_outcome.BlockOutcome.{BlockOutcome}
-use Rattle.store_calls.specs.declared.block_outcome.BlockOutcome.TheVariants as outcome
+use Rattle.store_calls.specs.declared.block_call.BlockOutcome.{BlockOutcome}
+use Rattle.store_calls.specs.declared.block_call.BlockOutcome.TheVariants as outcome
 
 abbrev pub outcome_of : Break → BlockOutcome
 outcome_of (missing number) = outcome.Missing number

@@ -8,7 +8,7 @@ use Rattle.world_core.specs.declared.act.Act.TheVariants as act
 use Rattle.store_calls.specs.BlockRuns.{cache_of}
 use Rattle.store_calls.specs.WorkStates.{may_at, asked_at, count_at}
 use Rattle.store_calls.specs.declared.block_call.BlockCall.{BlockCall}
-use Rattle.store_calls.specs.declared.block_outcome.BlockOutcome.{BlockOutcome}
+use Rattle.store_calls.specs.declared.block_call.BlockOutcome.{BlockOutcome}
 use Rattle.store_calls.specs.declared.work.Work.TheVariants.{Fresh}
 use Rattle.store_calls.specs.declared.work.Step.{Step}
 use Rattle.store_calls.specs.declared.work.Step.TheVariants.{Wait, Done}

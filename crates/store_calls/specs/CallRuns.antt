@@ -5,7 +5,7 @@ use Rattle.store_ranges.specs.Caches.{held}
 use Rattle.meta_fetcher.specs.declared.view.View.{View}
 use Rattle.store_calls.specs.SeriesCalls.{CallEnd, SeriesRun}
 use Rattle.world_core.specs.declared.entry.Entry.{Entry}
-use Rattle.store_calls.specs.declared.call_left.CallLeft.{CallLeft}
+use Rattle.store_calls.specs.declared.running.CallLeft.{CallLeft}
 
 -- the end of a call, by what it left
 abbrev pub end_by : CallLeft → CallEnd

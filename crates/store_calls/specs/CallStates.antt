@@ -19,13 +19,13 @@ use Rattle.store_calls.specs.BlockRuns.{cache_of, most_reads}
 use Rattle.store_calls.specs.contracts.block_call.BlockCallMachine.TheImpl.{ghosts as reads}
 use Rattle.store_calls.specs.Endings.{IsOver, ended_with, with_cache}
 use Rattle.store_calls.specs.declared.block_call.BlockCall.{BlockCall}
-use Rattle.store_calls.specs.declared.block_outcome.BlockOutcome.{BlockOutcome}
-use Rattle.store_calls.specs.declared.block_outcome.BlockOutcome.TheVariants as outcome
+use Rattle.store_calls.specs.declared.block_call.BlockOutcome.{BlockOutcome}
+use Rattle.store_calls.specs.declared.block_call.BlockOutcome.TheVariants as outcome
 use Rattle.store_calls.specs.declared.select.Wanted.{Wanted}
 use Rattle.store_calls.specs.declared.series_call.SeriesCall.{SeriesCall}
-use Rattle.store_calls.specs.declared.series_end.SeriesEnd.{SeriesEnd}
-use Rattle.store_calls.specs.declared.stage.Stage.{Stage}
-use Rattle.store_calls.specs.declared.stage.Stage.TheVariants.{Fresh, Reading, Over, Lost}
+use Rattle.store_calls.specs.declared.series_call.SeriesEnd.{SeriesEnd}
+use Rattle.store_calls.specs.declared.series_call.Stage.{Stage}
+use Rattle.store_calls.specs.declared.series_call.Stage.TheVariants.{Fresh, Reading, Over, Lost}
 
 -- what a call asks for, as its code keeps it
 abbrev pub query_of : Wanted → Query

@@ -4,9 +4,9 @@ use Rattle.store_ranges.specs.Caches.{held}
 use Rattle.store_ranges.specs.declared.cache.IndexCache.{IndexCache}
 use Rattle.store_calls.specs.SeriesCalls.{CallEnd}
 use Rattle.store_calls.specs.declared.series_call.SeriesCall.{SeriesCall}
-use Rattle.store_calls.specs.declared.series_end.SeriesEnd.{SeriesEnd}
-use Rattle.store_calls.specs.declared.stage.Stage.{Stage}
-use Rattle.store_calls.specs.declared.stage.Stage.TheVariants.{Over}
+use Rattle.store_calls.specs.declared.series_call.SeriesEnd.{SeriesEnd}
+use Rattle.store_calls.specs.declared.series_call.Stage.{Stage}
+use Rattle.store_calls.specs.declared.series_call.Stage.TheVariants.{Over}
 
 -- the call has come to its end, and leaves this cache
 abbrev pub Leaves : SeriesCall → IndexCache → Type 0

@@ -14,8 +14,8 @@ use Rattle.vertical_merge.specs.Merged.{IsMerge}
 use Rattle.store_ranges.specs.ChunkRanges.{IsSetOf}
 use Rattle.store_ranges.specs.Reads.{Query, Block, Cache, Break, missing, damaged, fault, block_of}
 use Rattle.store_calls.specs.BlockReads.{BlockEnd, gives, breaks_off, block_call}
-use Rattle.store_calls.specs.declared.series_end.SeriesEnd.{SeriesEnd}
-use Rattle.store_calls.specs.declared.series_end.SeriesEnd.TheVariants as ended
+use Rattle.store_calls.specs.declared.series_call.SeriesEnd.{SeriesEnd}
+use Rattle.store_calls.specs.declared.series_call.SeriesEnd.TheVariants as ended
 
 -- ---- what is asked for
 

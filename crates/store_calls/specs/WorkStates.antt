@@ -31,7 +31,7 @@ use Rattle.store_chunks.specs.Glimpsed.{pending_chunk}
 use Rattle.store_chunks.specs.ChunksRead.{reads_of, references_in}
 use Rattle.store_ranges.specs.declared.asked.Asked.{Asked}
 use Rattle.store_ranges.specs.declared.sections.Sections.{Sections}
-use Rattle.store_calls.specs.declared.block_outcome.BlockOutcome.{BlockOutcome}
+use Rattle.store_calls.specs.declared.block_call.BlockOutcome.{BlockOutcome}
 use Rattle.store_calls.specs.declared.work.ChunkWork.{ChunkWork}
 use Rattle.store_calls.specs.declared.work.SymbolsRead.{SymbolsRead}
 use Rattle.store_calls.specs.declared.work.TablesRead.{TablesRead}

@@ -1,4 +1,5 @@
 //! The call of a gateway for one block.
+
 ghost use Rattle.std.specs.Prelude.{◌≡◌, ◌≤◌, ℕ, List, IsSome, IsSomeAnd, Option, Some};
 ghost use Rattle.store_ranges.specs.Caches.{held};
 ghost use Rattle.world_core.specs.Operations.{IsAnswer, entry_of};
@@ -8,7 +9,6 @@ ghost use Rattle.store_ranges.specs.Reads.{block_of};
 ghost use Rattle.store_calls.specs.BlockRuns.{Leading};
 ghost use Rattle.store_calls.specs.WorkStates.{Leads, Where, Holds, asked_at, count_at, with_bytes, goes_after};
 
-use crate::BlockOutcome;
 use crate::chunk_steps::{take_group, take_single};
 use crate::index_steps::{
     begin, lists_range, symbols_range, table_range, take_contents, take_lists, take_run,
@@ -18,7 +18,7 @@ use crate::work::{Step, Work};
 use base::NoMemory;
 use block_keys::Key;
 use block_meta::Meta;
-use label_sets::TextList;
+use label_sets::{SeriesList, TextList};
 use matchers::Selector;
 use std::alloc::Global;
 use std::mem;
@@ -26,6 +26,20 @@ use store_ranges::{Asked, IndexCache, keep};
 use ulid_core::Ulid;
 use wire_bytes::Blob;
 use world_core::{Act, Machine, Reply, Seen};
+
+/// What the reads of a block came to.
+#[derive(Drop)]
+pub enum BlockOutcome {
+    /// The samples in the range of the series that the selector takes, under their final labels, in
+    /// the order of the index.
+    Taken(SeriesList),
+    /// The read at the entry of this number found no object.
+    Missing(u64),
+    /// What was read at the entry of this number is no index, or no chunk of the block.
+    Damaged(u64),
+    /// The entry of this number was answered that the call failed.
+    Fault(u64),
+}
 
 /// The reads of one block by ranges: of its index, and of the chunks of the series that a selector
 /// takes. It answers the samples in the range, and leaves the cache with the ranges that it read or
@@ -39,7 +53,7 @@ pub struct BlockCall<'a> {
 
 impl<'a> BlockCall<'a> {
     ghost use Rattle.std.specs.Prelude.{◌↔◌};
-    ghost use Rattle.store_calls.specs.declared.block_outcome.BlockOutcome.{BlockOutcome};
+    ghost use Rattle.store_calls.specs.declared.block_call.BlockOutcome.{BlockOutcome};
     ghost use Rattle.store_calls.specs.BlockRuns.{BlockRun, cache_of, most_reads};
     ghost use Rattle.store_calls.specs.BlockStates.{ActsAs};
 

@@ -18,7 +18,7 @@ ghost use Rattle.store_calls.specs.Shares.{AreShares, all_shares};
 ghost use Rattle.store_calls.specs.Asking.{IsReadOfOne};
 ghost use Rattle.store_calls.specs.KeptRanges.{IsOfReads};
 ghost use Rattle.store_calls.specs.LastEntries.{EndsWith};
-ghost use Rattle.store_calls.specs.declared.series_end.SeriesEnd.TheVariants as ended;
+ghost use Rattle.store_calls.specs.declared.series_call.SeriesEnd.TheVariants as ended;
 
 /// A law: an answer has each sample that some block of the view gave once, and no other, where the pattern of the first block
 /// stays; and the sources that it names ascend.

@@ -2,8 +2,6 @@
 #![tactic(auto)]
 
 mod block_call;
-mod block_outcome;
-mod call_left;
 mod chunk_steps;
 mod index_steps;
 mod laws;
@@ -11,17 +9,12 @@ mod run_steps;
 mod running;
 mod select;
 mod series_call;
-mod series_end;
-mod stage;
 mod work;
 
-pub use block_call::BlockCall;
-pub use block_outcome::BlockOutcome;
-pub use call_left::CallLeft;
+pub use block_call::{BlockCall, BlockOutcome};
 pub use laws::{
     answers_are_of_shares, answers_lie_in_the_range, caches_are_of_reads, calls_are_exact,
     calls_find_their_blocks, calls_have_one_end, calls_read_their_blocks, calls_show_their_ends,
 };
-pub use running::run_call;
-pub use series_call::SeriesCall;
-pub use series_end::SeriesEnd;
+pub use running::{CallLeft, run_call};
+pub use series_call::{SeriesCall, SeriesEnd};

@@ -7,7 +7,7 @@ ghost use Rattle.world_core.specs.Machines.{Drives, is_driven_full};
 ghost use Rattle.store_calls.specs.SeriesCalls.{asking};
 ghost use Rattle.store_calls.specs.CallRuns.{CallRun};
 
-use crate::{CallLeft, SeriesCall};
+use crate::{SeriesCall, SeriesEnd};
 use base::NoMemory;
 use label_sets::TextList;
 use matchers::Selector;
@@ -15,6 +15,13 @@ use meta_fetcher::View;
 use std::alloc::Global;
 use store_ranges::IndexCache;
 use world_core::{Driven, Hand, drive};
+
+/// How a gateway's call ended, and the ranges that it keeps then.
+#[derive(Drop)]
+pub struct CallLeft {
+    pub end: SeriesEnd,
+    pub cache: IndexCache,
+}
 
 /// A gateway's call over a view, for the series that the selector matches, with their samples from `low` to `high`, by the
 /// ranges that it kept. It hands on what it keeps then, unless it is broken off.

@@ -8,22 +8,52 @@ ghost use Rattle.store_ranges.specs.Caches.{held};
 ghost use Rattle.store_ranges.specs.Reads.{block_of};
 ghost use Rattle.store_calls.specs.SeriesCalls.{SeriesRun, asking};
 ghost use Rattle.store_calls.specs.BlockRuns.{most_reads};
-ghost use Rattle.store_calls.specs.declared.stage.Stage.TheVariants as stage;
-ghost use Rattle.store_calls.specs.declared.series_end.SeriesEnd.{SeriesEnd};
+ghost use Rattle.store_calls.specs.declared.series_call.Stage.TheVariants as stage;
+ghost use Rattle.store_calls.specs.declared.series_call.SeriesEnd.{SeriesEnd};
 
 use crate::select::{Wanted, all_sources, from_first_meeting, high_of, low_of};
-use crate::stage::Stage;
-use crate::{BlockCall, BlockOutcome, SeriesEnd};
+use crate::{BlockCall, BlockOutcome};
 use base::NoMemory;
-use label_sets::TextList;
+use label_sets::{SeriesList, TextList};
 use matchers::Selector;
 use meta_fetcher::View;
 use std::alloc::Global;
 use std::mem;
 use store_ranges::IndexCache;
 use sync_filters::Found;
+use ulid_core::UlidList;
 use vertical_merge::Merger;
 use world_core::{Act, Machine, Seen};
+
+/// How a series call ended.
+#[derive(Drop)]
+pub enum SeriesEnd {
+    Answer {
+        /// The series under their final labels, ascending, with the samples in the range.
+        series: SeriesList,
+        /// The sources of all kept blocks of the view, ascending, each once.
+        sources: UlidList,
+    },
+    /// The read at the entry of this number found no object.
+    Missing(u64),
+    /// What was read at the entry of this number is no index, or no chunk of its block.
+    Damaged(u64),
+    /// The entry of this number was answered that the call failed.
+    Fault(u64),
+}
+
+/// Where a series call stands.
+#[derive(Drop)]
+pub(crate) enum Stage<'a> {
+    /// It was not begun.
+    Fresh(IndexCache),
+    /// It reads a block.
+    Reading(BlockCall<'a>),
+    /// It has come to its end.
+    Over(IndexCache),
+    /// It wanted memory.
+    Lost,
+}
 
 /// The call of one gateway for a query: it reads ranges of each kept block that meets the range of
 /// times, and answers the merged samples.

@@ -24,7 +24,7 @@ use Rattle.store_chunks.specs.ChunkReads.{Read}
 use Rattle.store_chunks.specs.Taken.{samples_of, taken, shown}
 use Rattle.store_chunks.specs.ChunksRead.{row_reads, reads_of, references_read, references_in}
 use Rattle.store_chunks.specs.RowsFit.{references_taken, row_names, row_references, Begins, HaveRows, row_begun}
-use Rattle.store_chunks.specs.declared.row_chunk.RowChunk.{RowChunk}
+use Rattle.store_chunks.specs.declared.chunk_row.RowChunk.{RowChunk}
 use Rattle.store_chunks.specs.declared.chunk_row.ChunkRow.{ChunkRow}
 use Rattle.store_chunks.proofs.Rows.{row_joined, row_named}
 use Rattle.store_chunks.proofs.ShownSamples.{shown_is, more_shown}

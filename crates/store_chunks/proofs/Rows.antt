@@ -9,7 +9,7 @@ use Rattle.label_sets.specs.declared.sample.Sample.{Sample}
 use Rattle.store_chunks.specs.ChunkReads.{Read, read}
 use Rattle.store_chunks.specs.RowCounts.{counted}
 use Rattle.store_chunks.specs.ChunksRead.{reads_from, row_reads, reads_of, references_read}
-use Rattle.store_chunks.specs.declared.row_chunk.RowChunk.{RowChunk}
+use Rattle.store_chunks.specs.declared.chunk_row.RowChunk.{RowChunk}
 use Rattle.store_chunks.specs.declared.chunk_row.ChunkRow.{ChunkRow}
 
 -- ---- one chunk more

@@ -3,7 +3,7 @@ use Rattle.std.specs.Prelude.{ℕ, List, [], ◌∷◌, map, take, drop}
 use Rattle.std.specs.List.{flat_map}
 use Rattle.label_sets.specs.declared.sample.Sample.{Sample}
 use Rattle.store_chunks.specs.ChunkReads.{Read, read}
-use Rattle.store_chunks.specs.declared.row_chunk.RowChunk.{RowChunk}
+use Rattle.store_chunks.specs.declared.chunk_row.RowChunk.{RowChunk}
 use Rattle.store_chunks.specs.declared.chunk_row.ChunkRow.{ChunkRow}
 use Rattle.store_chunks.specs.declared.shown.ChunkRead.{ChunkRead}
 

@@ -1,6 +1,6 @@
 -- How many samples the chunks of a row have.
 use Rattle.std.specs.Prelude.{ℕ, ◌+◌, List, [], ◌∷◌}
-use Rattle.store_chunks.specs.declared.row_chunk.RowChunk.{RowChunk}
+use Rattle.store_chunks.specs.declared.chunk_row.RowChunk.{RowChunk}
 
 abbrev pub counted : List RowChunk → ℕ
 counted [] = 0

@@ -5,7 +5,7 @@ use Rattle.index_parts.specs.SeriesEntry.{reference_of}
 use Rattle.index_parts.specs.declared.index_series.IndexSeries.{IndexSeries}
 use Rattle.store_ranges.specs.Reads.{Query}
 use Rattle.store_chunks.specs.Taken.{taken}
-use Rattle.store_chunks.specs.declared.row_chunk.RowChunk.{RowChunk}
+use Rattle.store_chunks.specs.declared.chunk_row.RowChunk.{RowChunk}
 use Rattle.store_chunks.specs.declared.chunk_row.ChunkRow.{ChunkRow}
 
 -- the references of the chunks of a series that meet the range

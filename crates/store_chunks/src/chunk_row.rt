@@ -1,8 +1,14 @@
 ghost use Rattle.std.specs.Prelude.{◌≡◌, length};
 ghost use Rattle.store_chunks.specs.RowCounts.{counted};
 
-use crate::row_chunk::RowChunk;
 use label_sets::Sample;
+
+/// A chunk of a row: its reference, and how many samples it has.
+#[derive(Clone, Copy)]
+pub(crate) struct RowChunk {
+    pub(crate) reference: u64,
+    pub(crate) count: usize,
+}
 
 /// Chunks that were read one behind another, as a rule all those of one series, and their samples
 /// in one list.

@@ -5,10 +5,9 @@ ghost use Rattle.store_chunks.specs.ChunkReads.{read, chunk_samples_at};
 ghost use Rattle.store_chunks.specs.ChunksRead.{row_reads, reads_of};
 ghost use Rattle.store_chunks.specs.Glimpsed.{ReadsOn};
 
-use crate::chunk_row::ChunkRow;
+use crate::chunk_row::{ChunkRow, RowChunk};
 use crate::chunks::append_chunk;
 use crate::places::meets;
-use crate::row_chunk::RowChunk;
 use base::NoMemory;
 use index_parts::{ChunkPlace, IndexSeries, reference_of};
 use label_sets::SampleList;

@@ -6,7 +6,6 @@ mod chunk_rows;
 mod chunks;
 mod glimpse;
 mod places;
-mod row_chunk;
 mod row_shown;
 mod shown;
 

@@ -15,9 +15,8 @@ ghost use Rattle.store_chunks.specs.ChunksRead.{reads_from, row_reads, reads_of,
 ghost use Rattle.store_chunks.specs.RowsFit.{references_taken, row_names, Begins, HaveRows, row_begun};
 ghost use Rattle.store_chunks.specs.declared.chunk_row.ChunkRow.{ChunkRow};
 
-use crate::chunk_row::ChunkRow;
+use crate::chunk_row::{ChunkRow, RowChunk};
 use crate::places::meets;
-use crate::row_chunk::RowChunk;
 use crate::shown::{ChunkRead, shown_apart};
 use base::NoMemory;
 use index_parts::{ChunkPlace, IndexSeries, reference_of};

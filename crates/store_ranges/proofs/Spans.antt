@@ -5,7 +5,7 @@ use Rattle.std.specs.List.Sorted.{IsStrictlyIncreasing}
 use Rattle.std.proofs.lemmas.List.{drop_more, length-drop, get_or-drop}
 use Rattle.std.proofs.lemmas.List.Elements.{All-take}
 use Rattle.std.proofs.lemmas.Map.Keys.{sorted_from_strictly_increasing, non_decreasing_from_sorted}
-use Rattle.index_parts.specs.declared.toc.Toc.{Toc}
+use Rattle.index_parts.specs.declared.toc_reading.Toc.{Toc}
 use Rattle.store_ranges.specs.IndexRanges.{Run, run_of, run_end}
 use Rattle.store_ranges.specs.ChunkRanges.{Group, group_of}
 use Rattle.store_ranges.specs.Stretches.{members, last_behind, last_of, stretch_at, IsSpanOf}

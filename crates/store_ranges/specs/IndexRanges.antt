@@ -2,7 +2,7 @@
 use Rattle.std.specs.Prelude.{◌≡◌, ℕ, ◌-◌, ◌*◌, min, List, [], ◌∷◌, fold, find, unwrap_or, Option, Some, None, Bool, ◌&&◌, nat_lt}
 use Rattle.std.specs.List.{filter}
 use Rattle.std.specs.Option.{option_map_or}
-use Rattle.index_parts.specs.declared.toc.Toc.{Toc}
+use Rattle.index_parts.specs.declared.toc_reading.Toc.{Toc}
 use Rattle.index_parts.specs.Contents.{references_of, contents_size}
 use Rattle.index_parts.specs.IndexFile.{series_unit}
 use Rattle.store_ranges.specs.Stretches.{Stretch, members, last_of, AreStretches}

@@ -4,7 +4,7 @@ use Rattle.std.specs.List.{list_all}
 use Rattle.block_keys.specs.declared.key.Key.TheVariants.{Index}
 use Rattle.world_core.specs.Plans.{Plan, ends, finds, choose}
 use Rattle.world_core.specs.declared.op.Op.TheVariants.{Get, GetRange}
-use Rattle.index_parts.specs.declared.toc.Toc.{Toc}
+use Rattle.index_parts.specs.declared.toc_reading.Toc.{Toc}
 use Rattle.index_parts.specs.declared.postings_row.PostingsRow.{PostingsRow}
 use Rattle.index_parts.specs.ContentsReading.{toc_at}
 use Rattle.index_parts.specs.SymbolsReading.{symbols_at}

@@ -1,6 +1,6 @@
 -- The ranges that are to be read, as the code has them.
 use Rattle.std.specs.Prelude.{◌≡◌, ℕ, List, map}
-use Rattle.index_parts.specs.declared.toc.Toc.{Toc}
+use Rattle.index_parts.specs.declared.toc_reading.Toc.{Toc}
 use Rattle.store_ranges.specs.Stretches.{Stretch}
 use Rattle.store_ranges.specs.IndexRanges.{AreRuns, Run, run_of}
 use Rattle.store_ranges.specs.ChunkRanges.{AreGroups, Group, group_of}

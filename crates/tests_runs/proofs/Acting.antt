@@ -1,8 +1,8 @@
 -- What a hand has done so far.
 use Rattle.std.proofs.Common.{◌≡◌, ◌⊎◌, inl, inr, ◌||◌, IsTrue, Bool, false, ℕ, ◌++◌, List, [], sym, ap, subst, ◌∙◌, append-nil, append_assoc, refl}
 use Rattle.world_core.specs.declared.entry.Entry.{Entry}
-use Rattle.world_core.specs.declared.acted.Acted.{Acted}
-use Rattle.world_core.specs.declared.acted.Acted.TheVariants.{NoMemory}
+use Rattle.world_core.specs.declared.act.Acted.{Acted}
+use Rattle.world_core.specs.declared.act.Acted.TheVariants.{NoMemory}
 use Rattle.world_turn.specs.Turns.{is_wanting}
 use Rattle.phase_runner.proofs.Taking.{or_false, or_more, or_left, or_right}
 

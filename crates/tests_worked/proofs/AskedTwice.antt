@@ -7,7 +7,7 @@ use Rattle.base.proofs.Lists.{filter_none}
 use Rattle.base.proofs.Membership.{only_member}
 use Rattle.world_core.specs.declared.entry.Entry.{Entry}
 use Rattle.world_core.proofs.PlanLaws.{same_op}
-use Rattle.meta_fetcher.specs.declared.sync_end.SyncEnd.TheVariants as fetched
+use Rattle.meta_fetcher.specs.declared.sync.SyncEnd.TheVariants as fetched
 use Rattle.store_calls.specs.SeriesCalls.{CallEnd, SeriesRun, series_call}
 use Rattle.script_workers.specs.declared.phase.Phase.{Phase}
 use Rattle.script_workers.specs.declared.work.Work.TheVariants as works

@@ -22,10 +22,10 @@ use Rattle.meta_fetcher.specs.Sightings.{sighting_of}
 use Rattle.meta_fetcher.specs.Syncs.{SyncRun, listing, sighted, with_entry}
 use Rattle.meta_fetcher.specs.declared.rules.SyncRules.{SyncRules}
 use Rattle.meta_fetcher.proofs.Ascending.{kept_ascend}
-use Rattle.meta_fetcher.specs.declared.sync_end.SyncEnd.TheVariants as fetched
-use Rattle.shipper.specs.declared.upload_end.UploadEnd.TheVariants as shipped
+use Rattle.meta_fetcher.specs.declared.sync.SyncEnd.TheVariants as fetched
+use Rattle.shipper.specs.declared.upload.UploadEnd.TheVariants as shipped
 use Rattle.store_calls.specs.SeriesCalls.{asking}
-use Rattle.querier.specs.declared.ask.Ask.{Ask}
+use Rattle.querier.specs.declared.asking.Ask.{Ask}
 use Rattle.world_core.specs.Moments.{moment_after, last_moment}
 use Rattle.world_core.specs.Operations.{IsLawful, IsReplyTo}
 use Rattle.world_core.specs.Plans.{Runs, noting}

@@ -21,10 +21,10 @@ use Rattle.block_meta.specs.declared.meta.Meta.{Meta}
 use Rattle.moment_core.specs.Partitions.{all_times}
 use Rattle.moment_core.specs.StandardRules.{standard_rules}
 use Rattle.world_core.specs.declared.entry.Entry.{Entry}
-use Rattle.shipper.specs.declared.upload_end.UploadEnd.TheVariants as shipped
+use Rattle.shipper.specs.declared.upload.UploadEnd.TheVariants as shipped
 use Rattle.sync_filters.specs.declared.found.Found.{Found}
 use Rattle.meta_fetcher.specs.declared.view.View.{View}
-use Rattle.meta_fetcher.specs.declared.sync_end.SyncEnd.TheVariants as fetched
+use Rattle.meta_fetcher.specs.declared.sync.SyncEnd.TheVariants as fetched
 use Rattle.compactor.specs.NewBlocks.{new_ulid}
 use Rattle.compactor.specs.declared.compact_end.CompactEnd.TheVariants as compacting
 use Rattle.vertical_merge.specs.Compacted.{parent_of}

@@ -1,7 +1,7 @@
 -- The script of one block, whose run was broken off in its second phase: the clock was set, and the gateway's first page is due.
 use Rattle.std.specs.Prelude.{List, [], ◌∷◌, ◌++◌, None}
 use Rattle.world_core.specs.declared.entry.Entry.{Entry}
-use Rattle.shipper.specs.declared.upload_end.UploadEnd.TheVariants as shipped
+use Rattle.shipper.specs.declared.upload.UploadEnd.TheVariants as shipped
 use Rattle.script_workers.specs.declared.phase.Phase.{Phase}
 use Rattle.script_workers.specs.declared.work.Work.TheVariants.{Upload}
 use Rattle.lifecycle_core.specs.Tasks.{End, uploaded}

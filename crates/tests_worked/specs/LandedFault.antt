@@ -12,7 +12,7 @@ use Rattle.moment_core.specs.StandardRules.{standard_rules}
 use Rattle.world_core.specs.declared.entry.Entry.{Entry}
 use Rattle.world_core.specs.declared.op.Op.TheVariants as op
 use Rattle.world_core.specs.declared.reply.Reply.TheVariants as reply
-use Rattle.shipper.specs.declared.upload_end.UploadEnd.TheVariants as shipped
+use Rattle.shipper.specs.declared.upload.UploadEnd.TheVariants as shipped
 use Rattle.script_core.specs.declared.script.Script.{Script}
 use Rattle.script_workers.specs.declared.work.Work.TheVariants.{Upload}
 use Rattle.lifecycle_core.specs.Setting.{Setting, setting_of}

@@ -31,11 +31,11 @@ use Rattle.moment_core.specs.declared.span.Span.{Span}
 use Rattle.world_core.specs.declared.entry.Entry.{Entry}
 use Rattle.world_core.specs.declared.op.Op.TheVariants as op
 use Rattle.world_core.specs.declared.reply.Reply.TheVariants as reply
-use Rattle.shipper.specs.declared.upload_end.UploadEnd.TheVariants as shipped
+use Rattle.shipper.specs.declared.upload.UploadEnd.TheVariants as shipped
 use Rattle.sync_filters.specs.declared.found.Found.{Found}
 use Rattle.meta_fetcher.specs.declared.view.View.{View}
 use Rattle.compactor.specs.declared.compact_end.CompactEnd.TheVariants as compacting
-use Rattle.cleaner.specs.declared.clean_end.CleanEnd.TheVariants as cleaning
+use Rattle.cleaner.specs.declared.clean.CleanEnd.TheVariants as cleaning
 use Rattle.script_core.specs.declared.script.Script.{Script}
 use Rattle.script_workers.specs.declared.phase.Phase.{Phase}
 use Rattle.script_workers.specs.declared.task.Task.{Task}

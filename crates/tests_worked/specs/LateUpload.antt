@@ -2,7 +2,7 @@
 use Rattle.std.specs.Prelude.{List, [], ◌∷◌, None}
 use Rattle.moment_core.specs.StandardRules.{standard_rules}
 use Rattle.world_core.specs.declared.entry.Entry.{Entry}
-use Rattle.shipper.specs.declared.upload_end.UploadEnd.TheVariants as shipped
+use Rattle.shipper.specs.declared.upload.UploadEnd.TheVariants as shipped
 use Rattle.script_core.specs.declared.script.Script.{Script}
 use Rattle.script_workers.specs.declared.work.Work.TheVariants.{Upload}
 use Rattle.lifecycle_core.specs.Setting.{Setting, setting_of}

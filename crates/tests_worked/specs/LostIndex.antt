@@ -2,7 +2,7 @@
 use Rattle.std.specs.Prelude.{List, [], ◌∷◌}
 use Rattle.world_core.specs.declared.entry.Entry.{Entry}
 use Rattle.world_core.specs.declared.reply.Reply.TheVariants.{Absent}
-use Rattle.store_calls.specs.declared.series_end.SeriesEnd.TheVariants as called
+use Rattle.store_calls.specs.declared.series_call.SeriesEnd.TheVariants as called
 use Rattle.lifecycle_core.specs.Tasks.{End, answered}
 use Rattle.tests_worked.specs.OneBlock as one
 use Rattle.tests_worked.specs.OtherReads.{index_read, journal_with, ends_with}

@@ -4,10 +4,10 @@ use Rattle.std.specs.List.{join_with_byte}
 use Rattle.moment_core.specs.Partitions.{all_times}
 use Rattle.moment_core.specs.StandardRules.{standard_rules}
 use Rattle.world_core.specs.declared.entry.Entry.{Entry}
-use Rattle.shipper.specs.declared.upload_end.UploadEnd.TheVariants as shipped
+use Rattle.shipper.specs.declared.upload.UploadEnd.TheVariants as shipped
 use Rattle.meta_fetcher.specs.declared.view.View.{View}
-use Rattle.meta_fetcher.specs.declared.sync_end.SyncEnd.TheVariants as fetched
-use Rattle.store_calls.specs.declared.series_end.SeriesEnd.TheVariants as called
+use Rattle.meta_fetcher.specs.declared.sync.SyncEnd.TheVariants as fetched
+use Rattle.store_calls.specs.declared.series_call.SeriesEnd.TheVariants as called
 use Rattle.matchers.specs.declared.matcher.Matcher.{Matcher}
 use Rattle.matchers.specs.declared.condition.Condition.TheVariants.{Equal}
 use Rattle.script_core.specs.declared.script.Script.{Script}

@@ -4,8 +4,8 @@ use Rattle.std.specs.Prelude.{pos, List, [], ◌∷◌, ◌++◌}
 use Rattle.world_core.specs.declared.entry.Entry.{Entry}
 use Rattle.store_ranges.specs.Reads.{Query}
 use Rattle.store_calls.specs.SeriesCalls.{asking}
-use Rattle.store_calls.specs.declared.series_end.SeriesEnd.{SeriesEnd}
-use Rattle.store_calls.specs.declared.series_end.SeriesEnd.TheVariants as called
+use Rattle.store_calls.specs.declared.series_call.SeriesEnd.{SeriesEnd}
+use Rattle.store_calls.specs.declared.series_call.SeriesEnd.TheVariants as called
 use Rattle.tests_worked.specs.Entries.{clock}
 use Rattle.tests_worked.specs.OneBlock as one
 use Rattle.tests_worked.specs.SmallBlock as small

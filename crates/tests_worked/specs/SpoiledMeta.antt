@@ -2,8 +2,8 @@
 use Rattle.std.specs.Prelude.{List, [], ◌∷◌, ◌++◌, codes}
 use Rattle.block_keys.specs.declared.key.Key.TheVariants as key
 use Rattle.world_core.specs.declared.entry.Entry.{Entry}
-use Rattle.shipper.specs.declared.upload_end.UploadEnd.TheVariants as shipped
-use Rattle.meta_fetcher.specs.declared.sync_end.SyncEnd.TheVariants as fetched
+use Rattle.shipper.specs.declared.upload.UploadEnd.TheVariants as shipped
+use Rattle.meta_fetcher.specs.declared.sync.SyncEnd.TheVariants as fetched
 use Rattle.lifecycle_core.specs.Tasks.{End, uploaded, synced, without_view}
 use Rattle.tests_worked.specs.SmallBlock as small
 use Rattle.tests_worked.specs.OneBlock as one

@@ -10,7 +10,7 @@ use Rattle.block_keys.specs.declared.key.Key.TheVariants as key
 use Rattle.world_core.specs.declared.entry.Entry.{Entry}
 use Rattle.world_core.specs.declared.op.Op.TheVariants as op
 use Rattle.world_core.specs.declared.reply.Reply.TheVariants as reply
-use Rattle.cleaner.specs.declared.clean_end.CleanEnd.TheVariants as cleaning
+use Rattle.cleaner.specs.declared.clean.CleanEnd.TheVariants as cleaning
 use Rattle.script_core.specs.declared.script.Script.{Script}
 use Rattle.script_workers.specs.declared.phase.Phase.{Phase}
 use Rattle.script_workers.specs.declared.work.Work.TheVariants.{Compact, Clean}

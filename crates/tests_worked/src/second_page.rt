@@ -1,6 +1,6 @@
 ghost use Rattle.std.specs.Prelude.{Option, Some};
-ghost use Rattle.meta_fetcher.specs.declared.sync_end.SyncEnd.{SyncEnd};
-ghost use Rattle.meta_fetcher.specs.declared.sync_end.SyncEnd.TheVariants as fetched;
+ghost use Rattle.meta_fetcher.specs.declared.sync.SyncEnd.{SyncEnd};
+ghost use Rattle.meta_fetcher.specs.declared.sync.SyncEnd.TheVariants as fetched;
 ghost use Rattle.lifecycle_core.specs.Breaches.{IsSyncIn};
 ghost use Rattle.lifecycle_core.specs.SyncsAndCalls.{IsSyncBy};
 ghost use Rattle.lifecycle_core.specs.Tasks.{sync_rules};

@@ -14,8 +14,8 @@ use Rattle.base.proofs.Positional.{length-fixed_digits, below-fixed_digits, numb
 use Rattle.ulid_core.proofs.Tables.{digit_of-character, character-digit_of, nat_cmp-character, leb-character}
 use Rattle.base.specs.FixedDigits.{fixed_digits}
 use Rattle.ulid_core.specs.UlidText.{character, digit_of, IsUlidText, text_of, number_of, bad_place, read_characters, ulid_of}
-use Rattle.ulid_core.specs.declared.refusal.UlidRefusal.{UlidRefusal}
-use Rattle.ulid_core.specs.declared.refusal.UlidRefusal.TheVariants.{BadLength, BadCharacter, TooLarge}
+use Rattle.ulid_core.specs.declared.ulid.UlidRefusal.{UlidRefusal}
+use Rattle.ulid_core.specs.declared.ulid.UlidRefusal.TheVariants.{BadLength, BadCharacter, TooLarge}
 use Rattle.base.proofs.Bools.{by_bool, nat_cmp-Equal}
 use Rattle.base.proofs.Lists.{cons_parts, cons_same}
 use Rattle.base.proofs.Options.{some_not_none}

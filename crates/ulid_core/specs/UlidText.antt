@@ -4,8 +4,8 @@ use Rattle.std.specs.Prelude.{◌≡◌, ℕ, ◌^◌, ◌<◌, List, map, lengt
 use Rattle.std.specs.Int.Digits.{number_from_digits, AllBelowBase}
 use Rattle.std.specs.Str.{byte}
 use Rattle.base.specs.FixedDigits.{fixed_digits}
-use Rattle.ulid_core.specs.declared.refusal.UlidRefusal.{UlidRefusal}
-use Rattle.ulid_core.specs.declared.refusal.UlidRefusal.TheVariants.{BadLength, BadCharacter, TooLarge}
+use Rattle.ulid_core.specs.declared.ulid.UlidRefusal.{UlidRefusal}
+use Rattle.ulid_core.specs.declared.ulid.UlidRefusal.TheVariants.{BadLength, BadCharacter, TooLarge}
 
 -- Crockford's digits: the decimal digits and the letters without I, L, O and U
 unfoldable pub alphabet : List ℕ

@@ -2,10 +2,6 @@
 #![tactic(auto)]
 
 mod characters;
-mod refusal;
-mod reserved;
 mod ulid;
 
-pub use refusal::UlidRefusal;
-pub use reserved::{LEAST_RESERVED, RESERVED_COUNT};
-pub use ulid::{ENTROPY_COUNT, Ulid, UlidList};
+pub use ulid::{ENTROPY_COUNT, LEAST_RESERVED, RESERVED_COUNT, Ulid, UlidList, UlidRefusal};

@@ -6,11 +6,27 @@ ghost use Rattle.std.specs.Ordering.{nat_cmp};
 ghost use Rattle.ulid_core.specs.UlidText.{IsUlidText, text_of, bad_place, ulid_of, text_length};
 ghost use Rattle.ulid_core.specs.Limits.{ulid_time_limit, entropy_count};
 
-use crate::UlidRefusal;
 use crate::characters::{TEXT_LENGTH, character, read_number};
 use base::{List, NoMemory, TryCopy};
 use std::alloc::Global;
 use std::marker::Model;
+
+/// The least entropy that is kept for compacted blocks: 2^80 - 2^20.
+pub const LEAST_RESERVED: u128 = 0xffff_ffff_ffff_fff0_0000;
+
+/// How many ULIDs of each millisecond are kept for compacted blocks.
+pub const RESERVED_COUNT: u64 = 0x10_0000;
+
+/// Why a text is no ULID.
+#[derive(Clone, Copy, Debug, PartialEq, Eq)]
+pub enum UlidRefusal {
+    /// The text does not have 26 bytes.
+    BadLength,
+    /// The byte at this place is no character of the alphabet.
+    BadCharacter(usize),
+    /// The first character is above `7`, so the number passes 128 bits.
+    TooLarge,
+}
 
 /// How many ULIDs have the same time: one for each entropy.
 pub const ENTROPY_COUNT: u128 = 1 << 80;

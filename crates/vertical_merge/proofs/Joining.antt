@@ -19,7 +19,7 @@ use Rattle.base.proofs.Lists.{map-push, flat_map-push}
 use Rattle.base.proofs.Order.{sorted_nil, sorted_from_order}
 use Rattle.base.proofs.StableSorts.{Rises}
 use Rattle.base.specs.Lists.{joined as all_of}
-use Rattle.vertical_merge.specs.declared.parts.Parts.{Parts}
+use Rattle.vertical_merge.specs.declared.sample_merge.Parts.{Parts}
 use Rattle.vertical_merge.specs.Joined.{has_lesser_labels, has_same_labels, joined, joined_to, series_of}
 use Rattle.vertical_merge.proofs.Orders.{sets_total}
 

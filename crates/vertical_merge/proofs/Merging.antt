@@ -22,7 +22,7 @@ use Rattle.base.proofs.Membership.{each_member, all_members, of_map}
 use Rattle.base.proofs.Order.{sorted_append, sorted_map}
 use Rattle.base.proofs.StableSorts.{Rises-from_sorted}
 use Rattle.base.specs.Lists.{joined as all_of}
-use Rattle.vertical_merge.specs.declared.parts.Parts.{Parts}
+use Rattle.vertical_merge.specs.declared.sample_merge.Parts.{Parts}
 use Rattle.vertical_merge.specs.Joined.{has_lesser_labels, joined_to, compare_times, series_of, first_samples}
 use Rattle.vertical_merge.specs.Merged.{IsMerge}
 use Rattle.vertical_merge.proofs.Firsts.{IsOfClass, own_class, find-firsts, ascending-firsts}

@@ -8,7 +8,7 @@ use Rattle.label_sets.specs.declared.series.Series.{Series}
 use Rattle.label_sets.specs.Labels.{compare_sets}
 use Rattle.base.specs.Ordered.{in_order}
 use Rattle.base.specs.Lists.{joined as all_of}
-use Rattle.vertical_merge.specs.declared.parts.Parts.{Parts}
+use Rattle.vertical_merge.specs.declared.sample_merge.Parts.{Parts}
 
 abbrev pub has_lesser_labels : Series → Series → Bool
 has_lesser_labels one other = is_lt (compare_sets one.labels other.labels)

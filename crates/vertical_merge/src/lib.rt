@@ -4,7 +4,6 @@
 
 mod compacted;
 mod merger;
-mod parts;
 mod plan_laws;
 mod sample_merge;
 

@@ -5,8 +5,7 @@ ghost use Rattle.label_sets.specs.Triples.{Triple, triples_of, triples_under};
 ghost use Rattle.vertical_merge.specs.Merged.{IsMerge, IsDeduplication, PatternsAgree};
 ghost use Rattle.vertical_merge.specs.Joined.{has_lesser_labels, joined_to, series_of, first_samples};
 
-use crate::parts::Parts;
-use crate::sample_merge::first_of_parts;
+use crate::sample_merge::{Parts, first_of_parts};
 use base::{NoMemory, TryCopy};
 use label_sets::{LabelSet, SampleList, Series, SeriesList};
 use std::alloc::Global;

@@ -1,4 +1,5 @@
 //! The first sample at each time. Parts that ascend already are merged, and not sorted anew.
+
 ghost use Rattle.std.specs.Prelude.{◌≡◌, ◌+◌, ◌<◌, ◌≤◌, ◌++◌, ℕ, length, take, slice_index_or, true, All, IfOk, MatchOption};
 ghost use Rattle.std.specs.List.Sorted.{IsStrictlySortedBy};
 ghost use Rattle.base.specs.Lists.{joined as all_of};
@@ -6,8 +7,15 @@ ghost use Rattle.label_sets.specs.declared.sample.Sample.{Sample};
 ghost use Rattle.vertical_merge.specs.Joined.{compare_times, has_lesser_time, first_samples};
 
 use base::NoMemory;
-use label_sets::{Sample, SampleList};
+use label_sets::{LabelSet, Sample, SampleList};
 use std::alloc::Global;
+
+/// Series under equal labels, which are to become one: the samples of each, in their order.
+#[derive(Drop)]
+pub(crate) struct Parts {
+    pub(crate) labels: LabelSet,
+    pub(crate) parts: Vec<SampleList>,
+}
 
 /// The samples of all parts in the order of their times, of those at one time the first. The parts are merged two by two.
 pub(crate) fn first_of_parts(parts: Vec<SampleList>) -> Result<SampleList, NoMemory>

@@ -6,8 +6,8 @@ use Rattle.std.proofs.lemmas.List.{take-append-drop, drop_at, drop-drop, length-
 use Rattle.base.specs.Reading.{Steps}
 use Rattle.base.specs.Grammar.{IsBytes, HasFront}
 use Rattle.base.proofs.Binds.{bind_ok, bind_err, ok_is}
-use Rattle.wire_bytes.specs.declared.refusal.WireRefusal.{WireRefusal}
-use Rattle.wire_bytes.specs.declared.refusal.WireRefusal.TheVariants.{Short, Overlong}
+use Rattle.wire_bytes.specs.declared.varint.WireRefusal.{WireRefusal}
+use Rattle.wire_bytes.specs.declared.varint.WireRefusal.TheVariants.{Short, Overlong}
 use Rattle.wire_bytes.specs.Position.{Position, left, further}
 use Rattle.wire_bytes.specs.Fields.{groups_of, uvarint_at, varint_at, zigzag, unzigzag}
 use Rattle.wire_bytes.specs.FieldTexts.{IsUvarint, IsVarint, EndsInside, PassesLimit, Found, Only}

@@ -6,8 +6,8 @@ use Rattle.std.proofs.lemmas.Bool.{cases_lt, le-ltb, lt-ltb}
 use Rattle.base.specs.Reading.{◌>>=◌}
 use Rattle.base.specs.Grammar.{IsBytes}
 use Rattle.base.proofs.Binds.{bind_ok, bind_err, ok_is}
-use Rattle.wire_bytes.specs.declared.refusal.WireRefusal.{WireRefusal}
-use Rattle.wire_bytes.specs.declared.refusal.WireRefusal.TheVariants.{Short, Overlong}
+use Rattle.wire_bytes.specs.declared.varint.WireRefusal.{WireRefusal}
+use Rattle.wire_bytes.specs.declared.varint.WireRefusal.TheVariants.{Short, Overlong}
 use Rattle.wire_bytes.specs.Fields.{groups_of}
 use Rattle.wire_bytes.specs.FieldTexts.{IsGroups}
 

@@ -6,8 +6,8 @@ use Rattle.std.proofs.lemmas.Nat.{pow-add, shl_whole}
 use Rattle.std.proofs.lemmas.Bool.{le-ltb, lt-ltb}
 use Rattle.std.proofs.lemmas.List.{nil_from_length}
 use Rattle.base.specs.Reading.{◌>>=◌}
-use Rattle.wire_bytes.specs.declared.refusal.WireRefusal.{WireRefusal}
-use Rattle.wire_bytes.specs.declared.refusal.WireRefusal.TheVariants.{Short}
+use Rattle.wire_bytes.specs.declared.varint.WireRefusal.{WireRefusal}
+use Rattle.wire_bytes.specs.declared.varint.WireRefusal.TheVariants.{Short}
 use Rattle.wire_bytes.specs.Fields.{groups_of}
 use Rattle.wire_bytes.proofs.GroupLaws.{groups-nil}
 

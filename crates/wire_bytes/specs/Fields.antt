@@ -2,8 +2,8 @@
 use Rattle.std.specs.Prelude.{ℕ, zero, suc, ◌+◌, ◌-◌, ◌*◌, ◌/◌, ◌%◌, ◌^◌, List, [], ◌∷◌, length, take, Result, Ok, Err, nat_lt, ◌==◌, if◌then◌else◌, ℤ, pos, negsuc, ◌-ℤ◌}
 use Rattle.std.specs.Int.{Width, byte_len, from_be_bytes}
 use Rattle.base.specs.Reading.{◌>>=◌}
-use Rattle.wire_bytes.specs.declared.refusal.WireRefusal.{WireRefusal}
-use Rattle.wire_bytes.specs.declared.refusal.WireRefusal.TheVariants.{Short, Overlong}
+use Rattle.wire_bytes.specs.declared.varint.WireRefusal.{WireRefusal}
+use Rattle.wire_bytes.specs.declared.varint.WireRefusal.TheVariants.{Short, Overlong}
 use Rattle.wire_bytes.specs.Position.{Position, left, further}
 
 -- so many bytes

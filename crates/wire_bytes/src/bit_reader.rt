@@ -2,10 +2,13 @@ ghost use Rattle.std.specs.Prelude.{◌≡◌, ◌↔◌, ◌*◌, ◌-◌, ◌^
 ghost use Rattle.wire_bytes.specs.Bits.{bits_of, bits_in};
 ghost use Rattle.wire_bytes.specs.Buffer.{Shows, peek_limit};
 
-use crate::ShortBits;
 use crate::refill::refill_word;
 use crate::taking::{take_from, take_ready};
 use std::marker::Model;
+
+/// Fewer bits are left than were asked for.
+#[derive(Clone, Copy, Debug, PartialEq, Eq)]
+pub struct ShortBits;
 
 /// Reads bits from bytes, the most significant first.
 #[derive(Drop)]

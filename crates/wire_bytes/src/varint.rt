@@ -3,7 +3,14 @@ ghost use Rattle.base.specs.Reading.{Answers};
 ghost use Rattle.wire_bytes.specs.Fields.{groups_of, field_value, zigzag, unzigzag, group_base, group_count, low_group_count};
 ghost use Rattle.wire_bytes.specs.Written.{uvarint_text};
 
-use crate::WireRefusal;
+/// Why a field could not be read.
+#[derive(Clone, Copy, Debug, PartialEq, Eq)]
+pub enum WireRefusal {
+    /// The bytes end first.
+    Short,
+    /// A varint's tenth byte is above 1, so that its number passes 64 bits.
+    Overlong,
+}
 
 /// How many values a group of seven bits can have.
 pub(crate) const BASE: u64 = 128;

@@ -11,8 +11,8 @@ use Rattle.world_core.specs.Worlds.{WorldView}
 use Rattle.world_core.specs.declared.op.Op.{Op}
 use Rattle.world_core.specs.declared.reply.Reply.{Reply}
 use Rattle.world_core.specs.declared.entry.Entry.{Entry}
-use Rattle.world_core.specs.declared.acted.Acted.{Acted}
-use Rattle.world_core.specs.declared.acted.Acted.TheVariants as answer
+use Rattle.world_core.specs.declared.act.Acted.{Acted}
+use Rattle.world_core.specs.declared.act.Acted.TheVariants as answer
 
 none_since : (told : Option (List Call)) → IfSome told (λ before. told ≡ Some (before ++ []))
 none_since None = tt

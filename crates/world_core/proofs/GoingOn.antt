@@ -3,8 +3,8 @@ use Rattle.std.proofs.Common.{◌≡◌, ℕ, ◌+◌, ◌≤◌, Bool, true, fa
 use Rattle.world_core.specs.Machines.{gained, is_failed, IfDone}
 use Rattle.world_core.specs.Operations.{entry_of, has_failed}
 use Rattle.world_core.specs.Worlds.{WorldGoesOn, WorldView, failed_count}
-use Rattle.world_core.specs.declared.acted.Acted.{Acted}
-use Rattle.world_core.specs.declared.acted.Acted.TheVariants.{Done, Full, NoMemory}
+use Rattle.world_core.specs.declared.act.Acted.{Acted}
+use Rattle.world_core.specs.declared.act.Acted.TheVariants.{Done, Full, NoMemory}
 use Rattle.world_core.specs.declared.entry.Entry.{Entry}
 use Rattle.world_core.specs.declared.op.Op.{Op}
 use Rattle.world_core.proofs.Growing.{failed_more}

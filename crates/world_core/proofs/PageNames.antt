@@ -7,7 +7,7 @@ use Rattle.std.specs.Result.{result_ok}
 use Rattle.std.proofs.lemmas.List.Elements.{filter_map-append}
 use Rattle.std.proofs.lemmas.List.{take_more}
 use Rattle.ulid_core.specs.UlidText.{ulid_of}
-use Rattle.ulid_core.specs.declared.refusal.UlidRefusal.{UlidRefusal}
+use Rattle.ulid_core.specs.declared.ulid.UlidRefusal.{UlidRefusal}
 use Rattle.ulid_core.proofs.UlidLaws.{ulid_of-found}
 use Rattle.world_core.specs.Walks.{last_listed, ulids_in}
 

@@ -3,13 +3,13 @@ use Rattle.std.proofs.Common.{◌≡◌, ◌⊎◌, inl, inr, Bool, true, false,
 use Rattle.std.proofs.lemmas.List.Elements.{All-push}
 use Rattle.world_core.specs.Operations.{IsAnswer, entry_of}
 use Rattle.world_core.specs.Machines.{Asks, Drives, end_of}
-use Rattle.world_core.specs.declared.acted.Acted.{Acted}
-use Rattle.world_core.specs.declared.acted.Acted.TheVariants.{NoMemory}
+use Rattle.world_core.specs.declared.act.Acted.{Acted}
+use Rattle.world_core.specs.declared.act.Acted.TheVariants.{NoMemory}
 use Rattle.world_core.specs.declared.op.Op.{Op}
 use Rattle.world_core.specs.declared.seen.Seen.{Seen}
 use Rattle.world_core.specs.declared.entry.Entry.{Entry}
-use Rattle.world_core.specs.declared.driven.Driven.{Driven}
-use Rattle.world_core.specs.declared.driven.Driven.TheVariants.{Stopped, Full}
+use Rattle.world_core.specs.declared.driving.Driven.{Driven}
+use Rattle.world_core.specs.declared.driving.Driven.TheVariants.{Stopped, Full}
 
 -- the machine has asked for an operation after these entries, and its stop was not reached yet
 pub record Waiting {M E : Type 0} (may : M → List Entry → Option E → M → Type 0) (asked : M → Option Op) (seat last : ℕ) (first : M) (old : List Entry) (op : Op) (answered : ℕ) (now : M) (new : List Entry) : Type 0 where

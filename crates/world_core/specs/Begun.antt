@@ -2,8 +2,8 @@
 use Rattle.std.specs.Prelude.{◌≡◌, ℕ, List, Option, Result, Ok, Err}
 use Rattle.base.specs.declared.memory.NoMemory.{NoMemory as Wanting}
 use Rattle.world_core.specs.Machines.{Drives}
-use Rattle.world_core.specs.declared.driven.Driven.{Driven}
-use Rattle.world_core.specs.declared.driven.Driven.TheVariants.{NoMemory}
+use Rattle.world_core.specs.declared.driving.Driven.{Driven}
+use Rattle.world_core.specs.declared.driving.Driven.TheVariants.{NoMemory}
 use Rattle.world_core.specs.declared.entry.Entry.{Entry}
 
 -- What was made is a run of the machine. Where memory was wanting as it was begun, nothing was done.

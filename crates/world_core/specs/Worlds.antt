@@ -12,8 +12,8 @@ use Rattle.world_core.specs.Moments.{HasMoments, last_moment}
 use Rattle.world_core.specs.Standing.{stands, left_by, IsHonest}
 use Rattle.world_core.specs.declared.op.Op.{Op}
 use Rattle.world_core.specs.declared.entry.Entry.{Entry}
-use Rattle.world_core.specs.declared.acted.Acted.{Acted}
-use Rattle.world_core.specs.declared.acted.Acted.TheVariants.{Done, Full, NoMemory}
+use Rattle.world_core.specs.declared.act.Acted.{Acted}
+use Rattle.world_core.specs.declared.act.Acted.TheVariants.{Done, Full, NoMemory}
 
 -- a world: its bucket, its journal, and how many milliseconds an operation takes
 pub record WorldView (B : Type 0) : Type 0 where

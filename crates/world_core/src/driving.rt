@@ -5,9 +5,21 @@ ghost use Rattle.world_core.specs.Keeping.{IsFull};
 ghost use Rattle.world_core.specs.Machines.{Drives, is_driven_full};
 ghost use Rattle.world_core.specs.Worlds.{WorldGoesOn};
 
-use crate::{Act, Acted, Driven, Hand, Machine, World, WorldHand};
+use crate::{Act, Acted, Hand, Machine, World, WorldHand};
 use base::NoMemory;
 use bucket_core::Bucket;
+
+/// What became of a machine that was driven.
+#[derive(Drop)]
+pub enum Driven<E> {
+    /// It came to its end.
+    Ended(E),
+    /// It was stopped after the operation of this number.
+    Stopped(u32),
+    /// The journal took no more entries.
+    Full,
+    NoMemory,
+}
 
 /// Runs a machine to its end, or until as many operations are answered as `stop` says.
 ///

@@ -2,10 +2,8 @@
 #![tactic(auto)]
 
 mod act;
-mod acted;
 mod beginning;
 mod bucket_calls;
-mod driven;
 mod driving;
 mod entry;
 mod hand;
@@ -14,27 +12,23 @@ mod keeping;
 mod laws;
 mod machine;
 mod op;
-mod open_refusal;
 mod page_names;
 mod reply;
 mod seen;
 mod world;
 mod world_hand;
 
-pub use act::Act;
-pub use acted::Acted;
+pub use act::{Act, Acted};
 pub use beginning::run_begun;
-pub use driven::Driven;
-pub use driving::{drive, drive_over};
+pub use driving::{Driven, drive, drive_over};
 pub use entry::{Entry, EntryList};
 pub use hand::Hand;
 pub use journal::Journal;
 pub use laws::{fronts_are_journals, last_landed_stands};
 pub use machine::Machine;
 pub use op::Op;
-pub use open_refusal::OpenRefusal;
 pub use page_names::{MOST_LISTED, add_ulids, ascends, is_short, last_name};
 pub use reply::Reply;
 pub use seen::Seen;
-pub use world::World;
+pub use world::{OpenRefusal, World};
 pub use world_hand::WorldHand;

@@ -13,13 +13,22 @@ ghost use Rattle.world_core.specs.Machines.{gained, is_failed, IfDone, IfNotDone
 ghost use Rattle.world_core.specs.Moments.{moment_after, last_moment};
 
 use crate::keeping::{MAX_ENTRIES, MAX_KEPT, put_size, told_size};
-use crate::{Acted, Journal, Op, OpenRefusal};
+use crate::{Acted, Journal, Op};
 use base::NoMemory;
 use bucket_core::{Bucket, PageAnswer};
 use label_sets::{Text, TextList};
 use moment_core::{Moment, Span};
 use std::alloc::Global;
 use std::marker::Model;
+
+/// Why no world was opened over a bucket.
+#[derive(Drop)]
+pub enum OpenRefusal {
+    Failed,
+    /// The bucket holds something, and lists it under this name.
+    NotEmpty(Text),
+    NoMemory,
+}
 
 /// A bucket, and the journal of all that was done on it.
 #[derive(Drop)]

@@ -6,7 +6,7 @@ use Rattle.world_core.specs.declared.entry.Entry.{Entry}
 use Rattle.world_core.specs.Machines.{IfDone, gained, is_failed}
 use Rattle.world_core.specs.Operations.{has_failed}
 use Rattle.world_core.specs.Worlds.{WorldGoesOn, WorldView, failed_count}
-use Rattle.world_core.specs.declared.acted.Acted.{Acted}
+use Rattle.world_core.specs.declared.act.Acted.{Acted}
 use Rattle.world_core.specs.declared.op.Op.{Op}
 use Rattle.world_core.proofs.GoingOn.{acted_goes_on}
 use Rattle.world_turn.specs.Opening.{AsksFrom, ComesFrom, opening_of}

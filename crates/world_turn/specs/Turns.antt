@@ -7,8 +7,8 @@ use Rattle.world_core.specs.Moments.{moment_after, last_moment}
 use Rattle.world_core.specs.Operations.{IsAnswer, entry_of}
 use Rattle.world_core.specs.declared.op.Op.{Op}
 use Rattle.world_core.specs.declared.entry.Entry.{Entry}
-use Rattle.world_core.specs.declared.acted.Acted.{Acted}
-use Rattle.world_core.specs.declared.acted.Acted.TheVariants.{Done, Full, NoMemory}
+use Rattle.world_core.specs.declared.act.Acted.{Acted}
+use Rattle.world_core.specs.declared.act.Acted.TheVariants.{Done, Full, NoMemory}
 use Rattle.world_core.specs.Journals.{of_seat}
 use Rattle.world_turn.specs.Seats.{Stand}
 use Rattle.world_turn.specs.Steps.{adding, leaving, leaving_full, leaving_short, longer}

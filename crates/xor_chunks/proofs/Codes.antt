@@ -7,8 +7,8 @@ use Rattle.std.proofs.lemmas.Int.{ints}
 use Rattle.std.proofs.lemmas.Bool.{false_from_ne_true, eq-eqb, ne_eqb}
 use Rattle.std.proofs.lemmas.Bool.Decides.{Decides-int_eq}
 use Rattle.std.proofs.lemmas.Nat.{pow-add, shl_whole, or_shifted, mod_below, pow_pos, mul-le}
-use Rattle.xor_chunks.specs.declared.window_setting.WindowSetting.{WindowSetting}
-use Rattle.xor_chunks.specs.declared.window_setting.WindowSetting.TheVariants.{Unset, Set}
+use Rattle.xor_chunks.specs.declared.encoding.WindowSetting.{WindowSetting}
+use Rattle.xor_chunks.specs.declared.encoding.WindowSetting.TheVariants.{Unset, Set}
 use Rattle.xor_chunks.specs.Window.{Window}
 use Rattle.wire_bytes.specs.Bits.{bits_of}
 use Rattle.xor_chunks.specs.Written.{fits_field, change_bits, reused, value_bits, window_after, window_around, trail}

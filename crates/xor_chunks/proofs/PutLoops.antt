@@ -7,7 +7,7 @@ use Rattle.std.specs.Prelude.{FitsSigned}
 use Rattle.std.specs.Int.{cast_signed, cast_unsigned, w64}
 use Rattle.std.proofs.lemmas.Int.{to_z-of_z}
 use Rattle.label_sets.specs.declared.sample.Sample.{Sample}
-use Rattle.xor_chunks.specs.declared.last_written.LastWritten.{LastWritten}
+use Rattle.xor_chunks.specs.declared.encoding.LastWritten.{LastWritten}
 use Rattle.xor_chunks.specs.Written.{CanFollow, AreToCome, put_after, next_bits, others_bits}
 
 -- what a loop has put so far, with what is still to be put, is the whole

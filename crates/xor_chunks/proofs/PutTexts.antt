@@ -11,9 +11,9 @@ use Rattle.std.proofs.lemmas.List.Elements.{All-head, All-tail}
 use Rattle.std.proofs.lemmas.List.Concat.{flat_map-append}
 use Rattle.wire_bytes.specs.Written.{uvarint_text, varint_text}
 use Rattle.label_sets.specs.declared.sample.Sample.{Sample}
-use Rattle.xor_chunks.specs.declared.last_written.LastWritten.{LastWritten}
-use Rattle.xor_chunks.specs.declared.window_setting.WindowSetting.{WindowSetting}
-use Rattle.xor_chunks.specs.declared.window_setting.WindowSetting.TheVariants.{Unset}
+use Rattle.xor_chunks.specs.declared.encoding.LastWritten.{LastWritten}
+use Rattle.xor_chunks.specs.declared.encoding.WindowSetting.{WindowSetting}
+use Rattle.xor_chunks.specs.declared.encoding.WindowSetting.TheVariants.{Unset}
 use Rattle.wire_bytes.specs.Bits.{bits_of, bits_in}
 use Rattle.xor_chunks.specs.Written.{IsChunkTime, CanFollow, AreToCome, AreOfChunk, put_after, put_first, value_bits, window_after, others_bits, rest_bits, written}
 use Rattle.wire_bytes.proofs.BitLists.{bits_in-bytes}

@@ -13,9 +13,9 @@ use Rattle.base.proofs.Fronts.{IsBytes-after}
 use Rattle.base.proofs.SignedRanges.{pos-unsigned_abs}
 use Rattle.label_sets.specs.declared.sample.Sample.{Sample}
 use Rattle.xor_chunks.specs.State.{State}
-use Rattle.xor_chunks.specs.declared.last_written.LastWritten.{LastWritten}
+use Rattle.xor_chunks.specs.declared.encoding.LastWritten.{LastWritten}
 use Rattle.wire_bytes.specs.Bits.{bits_of, bits_in, filled}
-use Rattle.xor_chunks.specs.declared.window_setting.WindowSetting.TheVariants.{Unset}
+use Rattle.xor_chunks.specs.declared.encoding.WindowSetting.TheVariants.{Unset}
 use Rattle.xor_chunks.specs.Written.{CanFollow, IsChunkTime, AreToCome, AreOfChunk, ArePatterns, put_after, put_first, change_bits, value_bits, window_after, next_bits, others_bits, rest_bits, written}
 use Rattle.xor_chunks.specs.Grammar.{Follows, IsNext, AreOthers, AreRest, AreFromFirst, IsText}
 use Rattle.wire_bytes.proofs.BitLists.{length-bits_of, same_from_bits_of, bits_in-bytes}

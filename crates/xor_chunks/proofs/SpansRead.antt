@@ -9,7 +9,7 @@ use Rattle.label_sets.specs.declared.sample.Sample.{Sample}
 use Rattle.xor_chunks.specs.State.{State}
 use Rattle.xor_chunks.specs.declared.refusal.XorRefusal.{XorRefusal}
 use Rattle.xor_chunks.specs.declared.refusal.XorRefusal.TheVariants.{Trailing}
-use Rattle.xor_chunks.specs.declared.sample_span.SampleSpan.{SampleSpan}
+use Rattle.xor_chunks.specs.declared.spanning.SampleSpan.{SampleSpan}
 use Rattle.wire_bytes.specs.Bits.{bits_in}
 use Rattle.xor_chunks.specs.Samples.{of_first, sample_of}
 use Rattle.xor_chunks.specs.Steps.{next_at, follow_at}

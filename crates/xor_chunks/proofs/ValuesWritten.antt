@@ -8,8 +8,8 @@ use Rattle.std.proofs.lemmas.Bool.{and_parts, leb-true, ltb-true, cases_eq, eq-e
 use Rattle.std.proofs.lemmas.Bool.Decides.{Decides-int_eq}
 use Rattle.std.proofs.lemmas.Int.{ints, to_z-of_z}
 use Rattle.std.proofs.lemmas.Nat.{xor_lt, shr_below, mod_below, pow_pos}
-use Rattle.xor_chunks.specs.declared.window_setting.WindowSetting.{WindowSetting}
-use Rattle.xor_chunks.specs.declared.window_setting.WindowSetting.TheVariants.{Unset, Set}
+use Rattle.xor_chunks.specs.declared.encoding.WindowSetting.{WindowSetting}
+use Rattle.xor_chunks.specs.declared.encoding.WindowSetting.TheVariants.{Unset, Set}
 use Rattle.wire_bytes.specs.Bits.{bits_of}
 use Rattle.xor_chunks.specs.Window.{Window, whole, IsInside}
 use Rattle.xor_chunks.specs.Written.{fits_field, change_bits, trail, window_around, is_around, in_window, reused, coded, kept, value_bits, window_after}

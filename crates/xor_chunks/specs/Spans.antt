@@ -2,7 +2,7 @@
 use Rattle.std.specs.Prelude.{ℕ, suc, ℤ, Bool, List, [], ◌∷◌, length, Option, None, Some, Result, Ok}
 use Rattle.base.specs.Reading.{◌>>=◌}
 use Rattle.label_sets.specs.declared.sample.Sample.{Sample}
-use Rattle.xor_chunks.specs.declared.sample_span.SampleSpan.{SampleSpan}
+use Rattle.xor_chunks.specs.declared.spanning.SampleSpan.{SampleSpan}
 use Rattle.xor_chunks.specs.declared.refusal.XorRefusal.{XorRefusal}
 use Rattle.xor_chunks.specs.State.{State}
 use Rattle.xor_chunks.specs.Data.{others_at, data_at}

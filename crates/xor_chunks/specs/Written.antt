@@ -10,9 +10,9 @@ use Rattle.label_sets.specs.Times.{times_of}
 use Rattle.wire_bytes.specs.Bits.{bits_of, bits_in}
 use Rattle.xor_chunks.specs.Widths.{narrow_field, middle_field, wide_field, lead_field, width_field}
 use Rattle.xor_chunks.specs.Window.{Window}
-use Rattle.xor_chunks.specs.declared.last_written.LastWritten.{LastWritten}
-use Rattle.xor_chunks.specs.declared.window_setting.WindowSetting.{WindowSetting}
-use Rattle.xor_chunks.specs.declared.window_setting.WindowSetting.TheVariants.{Unset, Set}
+use Rattle.xor_chunks.specs.declared.encoding.LastWritten.{LastWritten}
+use Rattle.xor_chunks.specs.declared.encoding.WindowSetting.{WindowSetting}
+use Rattle.xor_chunks.specs.declared.encoding.WindowSetting.TheVariants.{Unset, Set}
 
 -- how many samples a chunk has as a rule: a series is cut into chunks of as many
 abbrev pub usual_count : ℕ

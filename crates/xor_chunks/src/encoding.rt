@@ -6,15 +6,30 @@ ghost use Rattle.xor_chunks.specs.Grammar.{IsText};
 ghost use Rattle.base.specs.Grammar.{IsBytes};
 ghost use Rattle.wire_bytes.specs.Bits.{bits_of, bits_in, filled};
 
-use crate::last_written::LastWritten;
 use crate::pending_bits::PendingBits;
 use crate::widths::{LEAD_FIELD, MIDDLE_FIELD, NARROW_FIELD, WIDE_FIELD, WIDTH_FIELD};
 use crate::window::Window;
-use crate::window_setting::WindowSetting;
 use base::NoMemory;
 use label_sets::Sample;
 use std::alloc::Global;
 use wire_bytes::{BitWriter, Blob, put_u16, put_u64, put_uvarint, put_varint};
+
+/// The window that was set last, if any was.
+#[derive(Clone, Copy)]
+pub(crate) enum WindowSetting {
+    Unset,
+    Set(Window),
+}
+
+/// What is known of the samples that were put: the last of them, how long it came after the one before it, and the window
+/// that was set.
+#[derive(Clone, Copy)]
+pub(crate) struct LastWritten {
+    pub time: i64,
+    pub delta: i64,
+    pub pattern: u64,
+    pub window: WindowSetting,
+}
 
 /// Whether a field of `width` bits can stand for the number.
 #[inline(always)]

@@ -1,4 +1,5 @@
 //! How many samples XOR data stands for, and between which times. No sample is kept.
+
 ghost use Rattle.std.specs.Prelude.{◌≡◌, ◌≤◌, ◌<◌, ◌-◌, ℕ, List, Ok, IfOk};
 ghost use Rattle.label_sets.specs.declared.sample.Sample.{Sample};
 ghost use Rattle.base.specs.Reading.{Answers};
@@ -10,14 +11,25 @@ ghost use Rattle.xor_chunks.specs.Known.{state_of};
 ghost use Rattle.xor_chunks.specs.Data.{rest_at, samples_at};
 ghost use Rattle.xor_chunks.specs.Spans.{span_of, with_end, end_at, with_span, span_at};
 
+use crate::XorRefusal;
 use crate::decoding::{count_of, first_of, gap_of, is_filling};
 use crate::last::Last;
 use crate::passing::pass_most;
 use crate::step::{follow, next};
 use crate::widths::STORED_FILLING;
-use crate::{SampleSpan, XorRefusal};
 use label_sets::Sample;
 use wire_bytes::BitReader;
+
+/// What is told of samples of which none is kept.
+#[derive(Clone, Copy, Debug, PartialEq, Eq)]
+pub struct SampleSpan {
+    /// How many there are, one at least.
+    pub count: u16,
+    /// The first time, in milliseconds since 1970.
+    pub first: i64,
+    /// The last time, which is the first one where there is one sample.
+    pub last: i64,
+}
 
 /// Passes over `count` samples after the second one by one, and gives the last one.
 fn pass_each<'a>(

@@ -24,8 +24,8 @@ use Rattle.world_core.proofs.PageNames.{ulids_small, AreSmall}
 use Rattle.cleaner.specs.Cleanings.{CleanRun, Counts, cleaning, deleting, deletion, if_mark, looking, none_deleted, one_block_more, one_partial_more, reads_meta, rules_of, walk_ends}
 use Rattle.cleaner.specs.Marks.{is_old_block, is_old_mark}
 use Rattle.cleaner.specs.Objects.{data_keys, data_named, objects_of, only_data}
-use Rattle.cleaner.specs.declared.clean_end.CleanEnd.{CleanEnd}
-use Rattle.cleaner.specs.declared.clean_end.CleanEnd.TheVariants.{Fault}
+use Rattle.cleaner.specs.declared.clean.CleanEnd.{CleanEnd}
+use Rattle.cleaner.specs.declared.clean.CleanEnd.TheVariants.{Fault}
 use Rattle.lifecycle_core.specs.CleaningOps.{IsCleanOp, IsDecision, IsDeleting}
 use Rattle.lifecycle_core.proofs.activities.PagesAsk.{deletes_ask, pages_ask_on}
 

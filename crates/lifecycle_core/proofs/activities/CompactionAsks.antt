@@ -28,14 +28,14 @@ use Rattle.world_core.proofs.PlanWords.{gets_ask, pages_ask}
 use Rattle.sync_filters.specs.Filters.{is_expired}
 use Rattle.sync_filters.specs.declared.found.Found.{Found}
 use Rattle.shipper.specs.Uploads.{upload}
-use Rattle.shipper.specs.declared.upload_end.UploadEnd.{UploadEnd}
-use Rattle.shipper.specs.declared.upload_end.UploadEnd.TheVariants as uploaded
+use Rattle.shipper.specs.declared.upload.UploadEnd.{UploadEnd}
+use Rattle.shipper.specs.declared.upload.UploadEnd.TheVariants as uploaded
 use Rattle.meta_fetcher.specs.OneView.{one_end_of}
 use Rattle.meta_fetcher.specs.Sightings.{Sighting}
 use Rattle.meta_fetcher.specs.Syncs.{Course, IsEnd, Synced, fault, if_mark, if_meta, listing, reading, reads_meta, sync, walk_ends, with_entry}
 use Rattle.meta_fetcher.specs.declared.rules.SyncRules.{SyncRules}
-use Rattle.meta_fetcher.specs.declared.sync_end.SyncEnd.{SyncEnd}
-use Rattle.meta_fetcher.specs.declared.sync_end.SyncEnd.TheVariants as fetched
+use Rattle.meta_fetcher.specs.declared.sync.SyncEnd.{SyncEnd}
+use Rattle.meta_fetcher.specs.declared.sync.SyncEnd.TheVariants as fetched
 use Rattle.meta_fetcher.specs.declared.view.View.{View}
 use Rattle.meta_fetcher.proofs.SyncLaws.{only_asks, sighting_at}
 use Rattle.group_planner.specs.Groups.{AreGroups}

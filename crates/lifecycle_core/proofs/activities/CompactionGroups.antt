@@ -23,7 +23,7 @@ use Rattle.meta_fetcher.specs.Sightings.{IsView, Sighting, kept_by, passed_by}
 use Rattle.meta_fetcher.specs.Syncs.{SightingsAscend, Course, IsEnd, SyncRun, Synced}
 use Rattle.meta_fetcher.specs.Syncs as sync_told
 use Rattle.meta_fetcher.specs.declared.rules.SyncRules.{SyncRules}
-use Rattle.meta_fetcher.specs.declared.sync_end.SyncEnd.TheVariants as fetched
+use Rattle.meta_fetcher.specs.declared.sync.SyncEnd.TheVariants as fetched
 use Rattle.meta_fetcher.specs.declared.view.View.{View}
 use Rattle.meta_fetcher.proofs.Ascending.{blocks_of, passed_ascend, sighted_ascend, sync_ascends}
 use Rattle.group_planner.specs.Groups.{AreGroups, Key, compare_keys, group_of, has_key, key_of, comes_before}

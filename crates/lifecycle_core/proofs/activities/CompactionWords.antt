@@ -21,8 +21,8 @@ use Rattle.world_core.proofs.PlanLaws.{AsksFor, EndsAre, end_is, nothing_given}
 use Rattle.world_core.proofs.PlanWords.{gets_are, gets_ask, puts_are, puts_ask}
 use Rattle.meta_fetcher.specs.declared.view.View.{View}
 use Rattle.shipper.specs.Uploads.{putting, upload}
-use Rattle.shipper.specs.declared.upload_end.UploadEnd.{UploadEnd}
-use Rattle.shipper.specs.declared.upload_end.UploadEnd.TheVariants as uploaded
+use Rattle.shipper.specs.declared.upload.UploadEnd.{UploadEnd}
+use Rattle.shipper.specs.declared.upload.UploadEnd.TheVariants as uploaded
 use Rattle.compactor.specs.Named.{named_segments}
 use Rattle.compactor.specs.Reading.{after_index, read_at, reads, reads_block, reads_blocks, reads_segments}
 use Rattle.compactor.specs.declared.input.Input.{Input}

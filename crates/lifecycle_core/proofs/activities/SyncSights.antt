@@ -25,7 +25,7 @@ use Rattle.meta_fetcher.specs.Syncs as sync_told
 use Rattle.meta_fetcher.proofs.SyncLaws as laws
 use Rattle.meta_fetcher.proofs.SyncLaws.{Comes, IsMarkRead, KeptByPages, KeptByReads, course_of_all, page_after, sighting_at, told}
 use Rattle.meta_fetcher.specs.declared.rules.SyncRules.{SyncRules}
-use Rattle.meta_fetcher.specs.declared.sync_end.SyncEnd.TheVariants as fetched
+use Rattle.meta_fetcher.specs.declared.sync.SyncEnd.TheVariants as fetched
 use Rattle.meta_fetcher.specs.declared.view.View.{View}
 use Rattle.lifecycle_core.specs.Sights.{IsSeen, IsSight, ShowsBlock, TellsMark}
 use Rattle.lifecycle_core.proofs.activities.Listing.{IsToBeListed, before_first_page, listed_at_last, listed_on, ulid_listed}

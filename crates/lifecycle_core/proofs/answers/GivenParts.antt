@@ -8,9 +8,9 @@ use Rattle.std.proofs.lemmas.List.Elements.{All-contains_itself}
 use Rattle.label_sets.specs.declared.series.Series.{Series}
 use Rattle.world_core.specs.declared.entry.Entry.{Entry}
 use Rattle.store_calls.specs.SeriesCalls.{asking}
-use Rattle.store_calls.specs.declared.series_end.SeriesEnd.{SeriesEnd}
-use Rattle.store_calls.specs.declared.series_end.SeriesEnd.TheVariants as called
-use Rattle.querier.specs.declared.ask.Ask.{Ask}
+use Rattle.store_calls.specs.declared.series_call.SeriesEnd.{SeriesEnd}
+use Rattle.store_calls.specs.declared.series_call.SeriesEnd.TheVariants as called
+use Rattle.querier.specs.declared.asking.Ask.{Ask}
 use Rattle.script_core.specs.Workers.{workers_of}
 use Rattle.lifecycle_core.specs.Conducts.{Who, who_of}
 use Rattle.lifecycle_core.specs.Guarantees.{Answered, IsGiven, IsPartGiven, Named, ask_by}

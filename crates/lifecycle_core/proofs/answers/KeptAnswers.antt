@@ -14,7 +14,7 @@ use Rattle.matchers.specs.declared.matcher.Matcher.{Matcher}
 use Rattle.store_calls.specs.Asking.{IsReadOf}
 use Rattle.store_calls.specs.KeptRanges.{IsOfReads}
 use Rattle.store_calls.specs.SeriesCalls.{CallEnd, SeriesRun, asking, meets, sources_of}
-use Rattle.store_calls.specs.declared.series_end.SeriesEnd.TheVariants as called
+use Rattle.store_calls.specs.declared.series_call.SeriesEnd.TheVariants as called
 use Rattle.sync_filters.specs.declared.found.Found.{Found}
 use Rattle.meta_fetcher.specs.declared.rules.SyncRules.{SyncRules}
 use Rattle.meta_fetcher.specs.declared.view.View.{View}

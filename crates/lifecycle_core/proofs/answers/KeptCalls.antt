@@ -33,7 +33,7 @@ use Rattle.vertical_merge.specs.Merged.{IsMerge}
 use Rattle.store_calls.specs.Exact.{AreShown, HoldsBlock, HoldsWhole, IsCacheOf, StandsIn, asked_of_all}
 use Rattle.store_calls.specs.KeptRanges.{IsOfReads, IsReadIn}
 use Rattle.store_calls.specs.SeriesCalls.{CallEnd, SeriesRun, meets, to_read}
-use Rattle.store_calls.specs.declared.series_end.SeriesEnd.TheVariants as called
+use Rattle.store_calls.specs.declared.series_call.SeriesEnd.TheVariants as called
 use Rattle.store_calls.proofs.CallLaws.{call_asks}
 use Rattle.store_calls.proofs.ExactCalls.{answer_exact}
 use Rattle.store_calls.proofs.FoundBlocks.{finds_blocks}

@@ -9,8 +9,8 @@ use Rattle.block_meta.specs.MetaFields.{fields_of}
 use Rattle.store_ranges.specs.ChunkRanges.{IsSetOf}
 use Rattle.store_ranges.specs.Reads.{Query as Question, damaged, fault, missing}
 use Rattle.store_calls.specs.SeriesCalls.{CallEnd, Called, Gives, SeriesRun, broke, sources_of, took}
-use Rattle.store_calls.specs.declared.series_end.SeriesEnd.{SeriesEnd}
-use Rattle.store_calls.specs.declared.series_end.SeriesEnd.TheVariants as called
+use Rattle.store_calls.specs.declared.series_call.SeriesEnd.{SeriesEnd}
+use Rattle.store_calls.specs.declared.series_call.SeriesEnd.TheVariants as called
 use Rattle.sync_filters.specs.declared.found.Found.{Found}
 use Rattle.world_core.specs.Standing.{IsHonest}
 use Rattle.world_core.specs.declared.entry.Entry.{Entry}

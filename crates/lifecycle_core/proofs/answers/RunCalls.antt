@@ -6,11 +6,11 @@ use Rattle.world_core.specs.Standing.{IsHonest}
 use Rattle.world_core.specs.Worlds.{IsOfBytes}
 use Rattle.world_core.specs.declared.entry.Entry.{Entry}
 use Rattle.store_calls.specs.SeriesCalls.{asking}
-use Rattle.store_calls.specs.declared.series_end.SeriesEnd.TheVariants as called
-use Rattle.querier.specs.declared.ask.Ask.{Ask}
+use Rattle.store_calls.specs.declared.series_call.SeriesEnd.TheVariants as called
+use Rattle.querier.specs.declared.asking.Ask.{Ask}
 use Rattle.script_core.specs.Lawful.{IsLawfulScript}
 use Rattle.compactor.specs.declared.compact_end.CompactEnd.TheVariants as compacting
-use Rattle.cleaner.specs.declared.clean_end.CleanEnd.TheVariants as cleanup
+use Rattle.cleaner.specs.declared.clean.CleanEnd.TheVariants as cleanup
 use Rattle.lifecycle_core.specs.Breaches.{IsSeatOf, IsUnbroken, watched}
 use Rattle.lifecycle_core.specs.Causes.{AreFound, AreMissesExplained, IsBlamedInCompaction, IsExplained, IsExplainedBy, SomeCame}
 use Rattle.lifecycle_core.specs.Conducts.{Who}

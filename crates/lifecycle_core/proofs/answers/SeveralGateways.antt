@@ -9,9 +9,9 @@ use Rattle.vertical_merge.specs.Merged.{IsMerge}
 use Rattle.world_core.specs.declared.entry.Entry.{Entry}
 use Rattle.store_ranges.specs.Reads.{Query as Question}
 use Rattle.store_calls.specs.SeriesCalls.{CallEnd}
-use Rattle.store_calls.specs.declared.series_end.SeriesEnd.TheVariants as called
+use Rattle.store_calls.specs.declared.series_call.SeriesEnd.TheVariants as called
 use Rattle.querier.specs.declared.answer.Names.{Names}
-use Rattle.querier.specs.declared.ask.Ask.{Ask}
+use Rattle.querier.specs.declared.asking.Ask.{Ask}
 use Rattle.script_core.specs.Workers.{workers_of}
 use Rattle.script_workers.specs.Hands.{gateway_count, gateway_of, hands_of_task}
 use Rattle.script_workers.specs.declared.hand.Hand.{Hand}

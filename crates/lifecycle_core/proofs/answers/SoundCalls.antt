@@ -12,8 +12,8 @@ use Rattle.matchers.specs.Selected.{IsQueryAnswer}
 use Rattle.matchers.specs.SelectorText.{named_replicas}
 use Rattle.matchers.specs.declared.matcher.Matcher.{Matcher}
 use Rattle.store_calls.specs.SeriesCalls.{SeriesRun, asking}
-use Rattle.store_calls.specs.declared.series_end.SeriesEnd.{SeriesEnd}
-use Rattle.store_calls.specs.declared.series_end.SeriesEnd.TheVariants as called
+use Rattle.store_calls.specs.declared.series_call.SeriesEnd.{SeriesEnd}
+use Rattle.store_calls.specs.declared.series_call.SeriesEnd.TheVariants as called
 use Rattle.store_calls.proofs.LastAbsent.{ArePresent, answer_present, damaged_present}
 use Rattle.meta_fetcher.specs.declared.rules.SyncRules.{SyncRules}
 use Rattle.world_core.specs.Standing.{IsHonest}

@@ -23,7 +23,7 @@ use Rattle.meta_fetcher.specs.Sightings.{IsView, Sighting}
 use Rattle.meta_fetcher.specs.Syncs.{Course, IsEnd, SyncRun, Synced}
 use Rattle.meta_fetcher.specs.Syncs as sync_told
 use Rattle.meta_fetcher.specs.declared.rules.SyncRules.{SyncRules}
-use Rattle.meta_fetcher.specs.declared.sync_end.SyncEnd.TheVariants as fetched
+use Rattle.meta_fetcher.specs.declared.sync.SyncEnd.TheVariants as fetched
 use Rattle.meta_fetcher.specs.declared.view.View.{View}
 use Rattle.group_planner.specs.Groups.{AreGroups, comes_before, group_of, has_key}
 use Rattle.group_planner.specs.Overlaps.{IsOverlapPlan}

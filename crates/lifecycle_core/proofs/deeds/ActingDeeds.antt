@@ -22,7 +22,7 @@ use Rattle.shipper.specs.Uploads.{upload}
 use Rattle.compactor.specs.Compactions.{CompactRun, compaction}
 use Rattle.compactor.specs.declared.compact_end.CompactEnd.{CompactEnd}
 use Rattle.cleaner.specs.Cleanings.{CleanRun, cleaning}
-use Rattle.cleaner.specs.declared.clean_end.CleanEnd.{CleanEnd}
+use Rattle.cleaner.specs.declared.clean.CleanEnd.{CleanEnd}
 use Rattle.script_workers.specs.Hands.{gateway_count, gateway_of, hands_of, same_hand}
 use Rattle.script_workers.specs.Staff.{IsWorkerOf}
 use Rattle.script_workers.specs.Whose.{IsFor, IsTaskOf, asks, cleans, compacts, ships, syncs}

@@ -16,8 +16,8 @@ use Rattle.world_core.specs.declared.entry.Entry.{Entry}
 use Rattle.world_core.proofs.PlanLaws.{AsksFor, asked_are}
 use Rattle.world_core.proofs.PlanWords.{gets_ask, puts_ask}
 use Rattle.shipper.specs.Uploads.{putting, upload}
-use Rattle.shipper.specs.declared.upload_end.UploadEnd.{UploadEnd}
-use Rattle.shipper.specs.declared.upload_end.UploadEnd.TheVariants.{Already, Fault}
+use Rattle.shipper.specs.declared.upload.UploadEnd.{UploadEnd}
+use Rattle.shipper.specs.declared.upload.UploadEnd.TheVariants.{Already, Fault}
 use Rattle.cleaner.specs.Cleanings.{CleanRun}
 use Rattle.compactor.specs.Compactions.{CompactRun}
 use Rattle.compactor.specs.NewBlocks.{new_ulid}

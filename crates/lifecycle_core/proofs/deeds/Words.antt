@@ -7,11 +7,11 @@ use Rattle.world_core.specs.declared.op.Op.{Op}
 use Rattle.world_core.specs.declared.op.Op.TheVariants as op
 use Rattle.world_core.specs.declared.entry.Entry.{Entry}
 use Rattle.shipper.specs.Uploads.{upload}
-use Rattle.shipper.specs.declared.upload_end.UploadEnd.{UploadEnd}
+use Rattle.shipper.specs.declared.upload.UploadEnd.{UploadEnd}
 use Rattle.compactor.specs.Compactions.{CompactRun}
 use Rattle.compactor.specs.declared.compact_end.CompactEnd.{CompactEnd}
 use Rattle.cleaner.specs.Cleanings.{CleanRun}
-use Rattle.cleaner.specs.declared.clean_end.CleanEnd.{CleanEnd}
+use Rattle.cleaner.specs.declared.clean.CleanEnd.{CleanEnd}
 use Rattle.script_fields.specs.Values.{agree}
 use Rattle.script_core.specs.declared.block.Block.{Block}
 use Rattle.lifecycle_core.specs.Acting.{IsReading}

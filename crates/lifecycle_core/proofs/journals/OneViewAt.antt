@@ -6,7 +6,7 @@ use Rattle.base.proofs.Membership.{of_filter}
 use Rattle.world_core.specs.declared.entry.Entry.{Entry}
 use Rattle.meta_fetcher.specs.Syncs.{SyncRun}
 use Rattle.meta_fetcher.specs.declared.rules.SyncRules.{SyncRules}
-use Rattle.meta_fetcher.specs.declared.sync_end.SyncEnd.TheVariants as fetched
+use Rattle.meta_fetcher.specs.declared.sync.SyncEnd.TheVariants as fetched
 use Rattle.meta_fetcher.specs.declared.view.View.{View}
 use Rattle.lifecycle_core.specs.Breaches.{IsSyncIn, IsViewAt}
 use Rattle.lifecycle_core.specs.Setting.{Setting}

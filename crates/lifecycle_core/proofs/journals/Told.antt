@@ -6,7 +6,7 @@ use Rattle.block_keys.specs.declared.key.Key.{Key}
 use Rattle.block_keys.specs.declared.object.Object.{Object}
 use Rattle.world_core.specs.declared.entry.Entry.{Entry}
 use Rattle.meta_fetcher.specs.Syncs.{SyncRun}
-use Rattle.meta_fetcher.specs.declared.sync_end.SyncEnd.TheVariants as fetched
+use Rattle.meta_fetcher.specs.declared.sync.SyncEnd.TheVariants as fetched
 use Rattle.store_calls.specs.Asking.{IsReadOf}
 use Rattle.store_calls.specs.KeptRanges.{IsOfReads}
 use Rattle.script_core.specs.declared.block.Block.{Block}

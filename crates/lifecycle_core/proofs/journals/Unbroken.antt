@@ -10,7 +10,7 @@ use Rattle.world_core.specs.declared.entry.Entry.{Entry}
 use Rattle.world_core.specs.declared.op.Op.{Op}
 use Rattle.world_core.specs.declared.op.Op.TheVariants as op
 use Rattle.world_core.proofs.Growing.{last_more}
-use Rattle.meta_fetcher.specs.declared.sync_end.SyncEnd.{SyncEnd}
+use Rattle.meta_fetcher.specs.declared.sync.SyncEnd.{SyncEnd}
 use Rattle.meta_fetcher.specs.declared.view.View.{View}
 use Rattle.moment_core.specs.declared.moment.Moment.{Moment}
 use Rattle.lifecycle_core.specs.Breaches.{IsBreach, IsCallRead, IsCompactorSeat, IsKept, IsReadSince, IsSyncIn, IsUnbroken, IsViewAt, Rule, mark_time, read_time, sync_time, upload_time, view_time}

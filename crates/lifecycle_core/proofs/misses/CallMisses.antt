@@ -11,7 +11,7 @@ use Rattle.store_ranges.specs.Reads.{Block, Query as Question, block_of}
 use Rattle.store_calls.specs.Asking.{IsReadOfOne}
 use Rattle.store_calls.specs.LastEntries.{EndsWith}
 use Rattle.store_calls.specs.SeriesCalls.{CallEnd, SeriesRun, meets, to_read}
-use Rattle.store_calls.specs.declared.series_end.SeriesEnd.TheVariants as called
+use Rattle.store_calls.specs.declared.series_call.SeriesEnd.TheVariants as called
 use Rattle.store_calls.proofs.CallLaws.{call_asks}
 use Rattle.store_calls.proofs.LastAbsent.{call_present}
 use Rattle.store_calls.proofs.ShownEnds.{shows_missing}

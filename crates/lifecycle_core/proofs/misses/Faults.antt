@@ -10,20 +10,20 @@ use Rattle.world_core.specs.Plans.{Runs, ends as comes_to}
 use Rattle.world_core.proofs.PlanLaws.{EndsAre, end_is, nothing_given}
 use Rattle.world_core.proofs.PlanWords.{gets_are, puts_are}
 use Rattle.shipper.specs.Uploads.{putting, upload}
-use Rattle.shipper.specs.declared.upload_end.UploadEnd.{UploadEnd}
-use Rattle.shipper.specs.declared.upload_end.UploadEnd.TheVariants as shipped
+use Rattle.shipper.specs.declared.upload.UploadEnd.{UploadEnd}
+use Rattle.shipper.specs.declared.upload.UploadEnd.TheVariants as shipped
 use Rattle.meta_fetcher.specs.Sightings.{Sighting}
 use Rattle.meta_fetcher.specs.Syncs.{Course, IsEnd, Synced, SyncRun, with_entry}
 use Rattle.meta_fetcher.specs.Syncs as sync_told
 use Rattle.meta_fetcher.proofs.SyncLaws.{KeptByPages, KeptByReads, synced}
 use Rattle.meta_fetcher.specs.declared.rules.SyncRules.{SyncRules}
-use Rattle.meta_fetcher.specs.declared.sync_end.SyncEnd.{SyncEnd}
-use Rattle.meta_fetcher.specs.declared.sync_end.SyncEnd.TheVariants as fetched
+use Rattle.meta_fetcher.specs.declared.sync.SyncEnd.{SyncEnd}
+use Rattle.meta_fetcher.specs.declared.sync.SyncEnd.TheVariants as fetched
 use Rattle.meta_fetcher.specs.declared.view.View.{View}
 use Rattle.store_ranges.specs.Reads.{Cache, Query as Question}
 use Rattle.store_calls.specs.SeriesCalls.{CallEnd, SeriesRun}
 use Rattle.store_calls.proofs.ShownEnds.{shows_failed}
-use Rattle.store_calls.specs.declared.series_end.SeriesEnd.TheVariants as called
+use Rattle.store_calls.specs.declared.series_call.SeriesEnd.TheVariants as called
 use Rattle.lifecycle_core.proofs.journals.Positions.{stands_in}
 
 -- an entry of this number was answered that its call failed

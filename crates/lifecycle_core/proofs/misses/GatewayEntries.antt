@@ -8,7 +8,7 @@ use Rattle.world_core.specs.declared.op.Op.TheVariants as op
 use Rattle.meta_fetcher.specs.Syncs.{SyncRun}
 use Rattle.meta_fetcher.proofs.SyncLaws.{only_asks}
 use Rattle.meta_fetcher.specs.declared.rules.SyncRules.{SyncRules}
-use Rattle.meta_fetcher.specs.declared.sync_end.SyncEnd.{SyncEnd}
+use Rattle.meta_fetcher.specs.declared.sync.SyncEnd.{SyncEnd}
 use Rattle.meta_fetcher.specs.declared.view.View.{View}
 use Rattle.store_ranges.specs.Reads.{Cache, Query as Question}
 use Rattle.store_calls.specs.Asking.{IsReadOf, IsReadOfOne}

@@ -18,12 +18,12 @@ use Rattle.world_core.proofs.PlanLaws.{EndsAre}
 use Rattle.world_core.proofs.PlanParts.{Parts, broken, both, parts}
 use Rattle.world_core.proofs.PlanWords.{gets_are, puts_are}
 use Rattle.shipper.specs.Uploads.{putting, upload}
-use Rattle.shipper.specs.declared.upload_end.UploadEnd.{UploadEnd}
-use Rattle.shipper.specs.declared.upload_end.UploadEnd.TheVariants as shipped
+use Rattle.shipper.specs.declared.upload.UploadEnd.{UploadEnd}
+use Rattle.shipper.specs.declared.upload.UploadEnd.TheVariants as shipped
 use Rattle.meta_fetcher.specs.OneView.{one_end_of}
 use Rattle.meta_fetcher.specs.Syncs.{Course, IsEnd, SyncRun, Synced, sync}
-use Rattle.meta_fetcher.specs.declared.sync_end.SyncEnd.{SyncEnd}
-use Rattle.meta_fetcher.specs.declared.sync_end.SyncEnd.TheVariants as fetched
+use Rattle.meta_fetcher.specs.declared.sync.SyncEnd.{SyncEnd}
+use Rattle.meta_fetcher.specs.declared.sync.SyncEnd.TheVariants as fetched
 use Rattle.meta_fetcher.specs.declared.view.View.{View}
 use Rattle.group_planner.proofs.GroupLaws.{one_answer}
 use Rattle.group_planner.specs.Groups.{AreGroups}

@@ -7,7 +7,7 @@ use Rattle.std.proofs.lemmas.Bool.Decides.{nat_tests}
 use Rattle.std.proofs.lemmas.List.Elements.{All-contains_itself}
 use Rattle.base.proofs.Lists.{find_holds, find_passes}
 use Rattle.moment_core.specs.declared.partition.Partition.{Partition}
-use Rattle.querier.specs.declared.ask.Ask.{Ask}
+use Rattle.querier.specs.declared.asking.Ask.{Ask}
 use Rattle.querier.specs.Asks.{ask_of, asks_from, has_times}
 use Rattle.world_core.specs.declared.entry.Entry.{Entry}
 use Rattle.store_ranges.specs.Reads.{Query as Question}

@@ -16,9 +16,9 @@ use Rattle.world_core.proofs.PlanLaws.{once, one_end}
 use Rattle.shipper.specs.Uploads.{upload}
 use Rattle.compactor.specs.Compactions.{compaction}
 use Rattle.cleaner.specs.Cleanings.{cleaning}
-use Rattle.shipper.specs.declared.upload_end.UploadEnd.{UploadEnd}
+use Rattle.shipper.specs.declared.upload.UploadEnd.{UploadEnd}
 use Rattle.meta_fetcher.specs.Syncs.{IsEnd, SyncRun, sync}
-use Rattle.meta_fetcher.specs.declared.sync_end.SyncEnd.{SyncEnd}
+use Rattle.meta_fetcher.specs.declared.sync.SyncEnd.{SyncEnd}
 use Rattle.store_ranges.specs.Reads.{Query as Question}
 use Rattle.store_calls.specs.SeriesCalls.{CallEnd, Gives, SeriesRun, series_call, sources_of}
 use Rattle.store_calls.proofs.OneCall.{call_tells}
@@ -36,7 +36,7 @@ use Rattle.lifecycle_core.specs.Conducts.{AreDone, Assigned, PhaseRun, TasksAt, 
 use Rattle.lifecycle_core.specs.Holdings.{Holding, Holdings, Use, holding_of, none_held}
 use Rattle.lifecycle_core.specs.Phases.{IsFinished, IsRunOf, by_script, by_workers}
 use Rattle.lifecycle_core.specs.Setting.{Setting}
-use Rattle.querier.specs.declared.ask.Ask.{Ask}
+use Rattle.querier.specs.declared.asking.Ask.{Ask}
 use Rattle.lifecycle_core.specs.Shipped.{IsShipped}
 use Rattle.lifecycle_core.specs.Tasks.{End, IsStop, PartTask, QueryTask, ShipTask, TaskRun, answered, ask_to, called_with, cleaned, compacted, question_of, refused, sync_rules, synced, synced_with, uploaded}
 use Rattle.lifecycle_core.specs.Ways.{AreFinished, PhasesRun}

@@ -13,8 +13,8 @@ use Rattle.world_core.specs.declared.op.Op.TheVariants as op
 use Rattle.world_core.proofs.PlanLaws.{once}
 use Rattle.meta_fetcher.specs.Syncs.{SyncRun, sync}
 use Rattle.meta_fetcher.specs.declared.rules.SyncRules.{SyncRules}
-use Rattle.meta_fetcher.specs.declared.sync_end.SyncEnd.{SyncEnd}
-use Rattle.meta_fetcher.specs.declared.sync_end.SyncEnd.TheVariants as fetched
+use Rattle.meta_fetcher.specs.declared.sync.SyncEnd.{SyncEnd}
+use Rattle.meta_fetcher.specs.declared.sync.SyncEnd.TheVariants as fetched
 use Rattle.meta_fetcher.specs.declared.view.View.{View}
 use Rattle.store_ranges.specs.Reads.{Query as Question}
 use Rattle.store_calls.specs.Asking.{IsReadOf, IsReadOfOne}

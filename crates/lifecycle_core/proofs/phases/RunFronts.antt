@@ -10,7 +10,7 @@ use Rattle.compactor.specs.Compactions.{compaction}
 use Rattle.cleaner.specs.Cleanings.{cleaning}
 use Rattle.meta_fetcher.specs.Syncs.{IsEnd, SyncRun, sync}
 use Rattle.meta_fetcher.specs.declared.rules.SyncRules.{SyncRules}
-use Rattle.meta_fetcher.specs.declared.sync_end.SyncEnd.{SyncEnd}
+use Rattle.meta_fetcher.specs.declared.sync.SyncEnd.{SyncEnd}
 use Rattle.store_ranges.specs.Reads.{Query as Question}
 use Rattle.store_calls.specs.SeriesCalls.{Gives, series_call, sources_of}
 use Rattle.script_core.specs.declared.block.Block.{Block}
@@ -19,7 +19,7 @@ use Rattle.script_workers.specs.declared.work.Work.TheVariants.{Upload, Sync, Co
 use Rattle.lifecycle_core.specs.Conducts.{Who}
 use Rattle.lifecycle_core.specs.Holdings.{Holding, Use}
 use Rattle.lifecycle_core.specs.Setting.{Setting}
-use Rattle.querier.specs.declared.ask.Ask.{Ask}
+use Rattle.querier.specs.declared.asking.Ask.{Ask}
 use Rattle.lifecycle_core.specs.Tasks.{End, IsStop, PartTask, QueryTask, ShipTask, StoppedRun, TaskRun, ask_to, cleaned, compacted, question_of, sync_rules}
 use Rattle.base.proofs.Lists.{middle_not_nil}
 

@@ -5,7 +5,7 @@ use Rattle.block_keys.specs.declared.object.Object.{Object}
 use Rattle.world_core.specs.Plans.{Plan, Runs}
 use Rattle.world_core.specs.declared.entry.Entry.{Entry}
 use Rattle.shipper.specs.Uploads.{upload}
-use Rattle.shipper.specs.declared.upload_end.UploadEnd.{UploadEnd}
+use Rattle.shipper.specs.declared.upload.UploadEnd.{UploadEnd}
 use Rattle.script_core.specs.declared.block.Block.{Block}
 use Rattle.lifecycle_core.specs.Setting.{Setting}
 use Rattle.lifecycle_core.specs.Tasks.{End, ShipTask, StoppedRun, refused, stopped, uploaded}

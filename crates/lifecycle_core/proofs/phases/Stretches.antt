@@ -10,7 +10,7 @@ use Rattle.world_core.specs.Plans.{Runs, noting}
 use Rattle.meta_fetcher.specs.Syncs.{Course, SyncRun, Synced, listing, with_entry}
 use Rattle.meta_fetcher.specs.declared.rules.SyncRules.{SyncRules}
 use Rattle.meta_fetcher.specs.declared.view.View.{View}
-use Rattle.meta_fetcher.specs.declared.sync_end.SyncEnd.TheVariants as fetched
+use Rattle.meta_fetcher.specs.declared.sync.SyncEnd.TheVariants as fetched
 use Rattle.world_core.specs.Journals.{of_seat}
 use Rattle.lifecycle_core.specs.Tasks.{last_number}
 use Rattle.lifecycle_core.proofs.journals.Told.{IsPart, Rises}

@@ -9,13 +9,13 @@ use Rattle.compactor.specs.Compactions.{compaction}
 use Rattle.cleaner.specs.Cleanings.{cleaning}
 use Rattle.meta_fetcher.specs.Syncs.{SyncRun}
 use Rattle.meta_fetcher.specs.declared.view.View.{View}
-use Rattle.meta_fetcher.specs.declared.sync_end.SyncEnd.{SyncEnd}
-use Rattle.meta_fetcher.specs.declared.sync_end.SyncEnd.TheVariants as fetched
+use Rattle.meta_fetcher.specs.declared.sync.SyncEnd.{SyncEnd}
+use Rattle.meta_fetcher.specs.declared.sync.SyncEnd.TheVariants as fetched
 use Rattle.store_ranges.specs.Reads.{Query as Question}
 use Rattle.store_calls.specs.SeriesCalls.{CallEnd, SeriesRun, series_call}
 use Rattle.world_core.proofs.PlanLaws.{breaks_off}
 use Rattle.matchers.specs.declared.matcher.Matcher.{Matcher}
-use Rattle.querier.specs.declared.ask.Ask.{Ask}
+use Rattle.querier.specs.declared.asking.Ask.{Ask}
 use Rattle.script_core.specs.Lawful.{IsLawfulBlock, IsLawfulWork}
 use Rattle.script_core.specs.declared.block.Block.{Block}
 use Rattle.script_workers.specs.declared.work.Work.{Work}

@@ -8,7 +8,7 @@ use Rattle.world_core.specs.declared.op.Op.TheVariants as op
 use Rattle.world_core.proofs.PlanLaws.{EachAfter}
 use Rattle.meta_fetcher.specs.Syncs.{SyncRun}
 use Rattle.meta_fetcher.specs.declared.rules.SyncRules.{SyncRules}
-use Rattle.meta_fetcher.specs.declared.sync_end.SyncEnd.{SyncEnd}
+use Rattle.meta_fetcher.specs.declared.sync.SyncEnd.{SyncEnd}
 use Rattle.lifecycle_core.specs.SyncsAndCalls.{IsSyncBy}
 use Rattle.lifecycle_core.proofs.views.OneOpening.{AllList, Is, one_opening, sync_begins}
 

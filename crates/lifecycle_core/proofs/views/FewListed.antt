@@ -31,14 +31,14 @@ use Rattle.world_core.specs.declared.reply.Reply.TheVariants as reply
 use Rattle.world_core.proofs.PlanLaws.{AsksFor, asked_are}
 use Rattle.world_core.proofs.PlanWords.{gets_ask, puts_ask}
 use Rattle.shipper.specs.Uploads.{putting, upload}
-use Rattle.shipper.specs.declared.upload_end.UploadEnd.{UploadEnd}
-use Rattle.shipper.specs.declared.upload_end.UploadEnd.TheVariants.{Already, Fault}
+use Rattle.shipper.specs.declared.upload.UploadEnd.{UploadEnd}
+use Rattle.shipper.specs.declared.upload.UploadEnd.TheVariants.{Already, Fault}
 use Rattle.meta_fetcher.specs.Syncs.{Course, IsEnd, Synced, SyncRun, with_entry}
 use Rattle.meta_fetcher.specs.Syncs as sync_told
 use Rattle.meta_fetcher.specs.declared.rules.SyncRules.{SyncRules}
 use Rattle.meta_fetcher.proofs.SyncLaws.{Comes, KeptByPages, KeptByReads, page_after, synced as walked}
-use Rattle.meta_fetcher.specs.declared.sync_end.SyncEnd.{SyncEnd}
-use Rattle.meta_fetcher.specs.declared.sync_end.SyncEnd.TheVariants as fetched
+use Rattle.meta_fetcher.specs.declared.sync.SyncEnd.{SyncEnd}
+use Rattle.meta_fetcher.specs.declared.sync.SyncEnd.TheVariants as fetched
 use Rattle.compactor.specs.Compactions.{CompactRun, compaction}
 use Rattle.compactor.specs.Compactions as compactions
 use Rattle.compactor.specs.declared.compact_end.CompactEnd.{CompactEnd}
@@ -46,7 +46,7 @@ use Rattle.compactor.specs.declared.compact_end.CompactEnd.TheVariants as compac
 use Rattle.cleaner.specs.Cleanings.{cleaning}
 use Rattle.store_ranges.specs.Reads.{Query as Question}
 use Rattle.store_calls.specs.SeriesCalls.{CallEnd}
-use Rattle.store_calls.specs.declared.series_end.SeriesEnd.{SeriesEnd}
+use Rattle.store_calls.specs.declared.series_call.SeriesEnd.{SeriesEnd}
 use Rattle.script_core.specs.declared.block.Block.{Block}
 use Rattle.script_workers.specs.declared.work.Work.{Work}
 use Rattle.script_workers.specs.declared.work.Work.TheVariants.{Upload, Sync, Compact, Clean, Query}

@@ -24,7 +24,7 @@ use Rattle.world_core.proofs.PlanWords.{chosen, gets_ask}
 use Rattle.meta_fetcher.specs.Sightings.{Sighting}
 use Rattle.meta_fetcher.specs.Syncs.{SyncRun, Synced, fault, if_mark, if_meta, listing, reading, reads_meta, walk_ends, with_entry}
 use Rattle.meta_fetcher.specs.declared.rules.SyncRules.{SyncRules}
-use Rattle.meta_fetcher.specs.declared.sync_end.SyncEnd.{SyncEnd}
+use Rattle.meta_fetcher.specs.declared.sync.SyncEnd.{SyncEnd}
 
 -- no name that the reply lists is empty
 abbrev pub ListsNames : Reply → Type 0

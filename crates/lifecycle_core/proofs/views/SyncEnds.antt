@@ -5,7 +5,7 @@ use Rattle.world_core.proofs.PlanLaws.{one_end}
 use Rattle.meta_fetcher.specs.OneView.{one_end_of}
 use Rattle.meta_fetcher.specs.Syncs.{Course, IsEnd, SyncRun, Synced, sync}
 use Rattle.meta_fetcher.specs.declared.rules.SyncRules.{SyncRules}
-use Rattle.meta_fetcher.specs.declared.sync_end.SyncEnd.{SyncEnd}
+use Rattle.meta_fetcher.specs.declared.sync.SyncEnd.{SyncEnd}
 
 pub sync_tells : (rules : SyncRules) (entries : List Entry) (one other : SyncEnd) → SyncRun rules entries (Some one) → SyncRun rules entries (Some other) → one ≡ other
 sync_tells rules entries one other (told, run, is) (also, same, so) =

@@ -31,13 +31,13 @@ use Rattle.world_core.proofs.PageNames.{ulids_small, AreSmall}
 use Rattle.meta_fetcher.specs.Syncs.{Course, IsEnd, Synced, SyncRun, with_entry}
 use Rattle.meta_fetcher.specs.Syncs as sync_told
 use Rattle.meta_fetcher.specs.declared.rules.SyncRules.{SyncRules}
-use Rattle.meta_fetcher.specs.declared.sync_end.SyncEnd.TheVariants as fetched
+use Rattle.meta_fetcher.specs.declared.sync.SyncEnd.TheVariants as fetched
 use Rattle.meta_fetcher.proofs.SyncLaws.{KeptByPages, KeptByReads, synced as walked}
 use Rattle.cleaner.specs.Cleanings.{CleanRun, Counts, cleaning, deleting, deletion, if_mark, looking, none_deleted, one_block_more, one_partial_more, reads_meta, rules_of, walk_ends}
 use Rattle.cleaner.specs.Marks.{is_old_block, is_old_mark}
 use Rattle.cleaner.specs.Objects.{objects_of}
-use Rattle.cleaner.specs.declared.clean_end.CleanEnd.{CleanEnd}
-use Rattle.cleaner.specs.declared.clean_end.CleanEnd.TheVariants as clean
+use Rattle.cleaner.specs.declared.clean.CleanEnd.{CleanEnd}
+use Rattle.cleaner.specs.declared.clean.CleanEnd.TheVariants as clean
 use Rattle.cleaner.specs.declared.clean_rules.CleanRules.{CleanRules}
 use Rattle.script_core.specs.Lawful.{IsLawfulScript}
 use Rattle.lifecycle_core.proofs.activities.MarkTexts.{own_mark}

@@ -12,8 +12,8 @@ use Rattle.std.proofs.lemmas.Bool.Decides.{nat_tests}
 use Rattle.std.proofs.lemmas.List.Elements.{All-cons, All-head, All-nil, All-tail}
 use Rattle.world_core.specs.declared.entry.Entry.{Entry}
 use Rattle.meta_fetcher.specs.declared.view.View.{View}
-use Rattle.meta_fetcher.specs.declared.sync_end.SyncEnd.{SyncEnd}
-use Rattle.meta_fetcher.specs.declared.sync_end.SyncEnd.TheVariants as fetched
+use Rattle.meta_fetcher.specs.declared.sync.SyncEnd.{SyncEnd}
+use Rattle.meta_fetcher.specs.declared.sync.SyncEnd.TheVariants as fetched
 use Rattle.store_ranges.specs.Reads.{Query as Question}
 use Rattle.script_workers.specs.Hands.{does, gateway_count, gateway_of, greatest, hands_of, places_from, same_hand, seats_after, worker_of, workers_from}
 use Rattle.script_core.specs.Workers.{seats_before, workers_after, workers_of}
@@ -37,7 +37,7 @@ use Rattle.lifecycle_core.specs.Conducts.{AreDone, Assigned, PhaseRun, TasksAt, 
 use Rattle.lifecycle_core.specs.Holdings.{Holding, Holdings, Use, holding_of, none_held, nothing_held}
 use Rattle.lifecycle_core.specs.Phases.{IsInTurn, IsRunOf, by_script, by_workers}
 use Rattle.lifecycle_core.specs.Setting.{Setting}
-use Rattle.querier.specs.declared.ask.Ask.{Ask}
+use Rattle.querier.specs.declared.asking.Ask.{Ask}
 use Rattle.store_calls.specs.SeriesCalls.{CallEnd}
 use Rattle.lifecycle_core.specs.Tasks.{End, PartTask, QueryTask, TaskRun, answered, ask_to, cleaned, compacted, question_of, synced, synced_with, without_view}
 use Rattle.lifecycle_core.specs.Ways.{AreInTurn, PhasesRun}

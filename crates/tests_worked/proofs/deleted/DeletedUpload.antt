@@ -12,16 +12,16 @@ use Rattle.world_core.specs.Standing.{IsHonest, Tells, stands}
 use Rattle.world_core.specs.Walks.{ulids_in}
 use Rattle.world_core.specs.Worlds.{IsJournal}
 use Rattle.world_core.specs.declared.entry.Entry.{Entry}
-use Rattle.shipper.specs.declared.upload_end.UploadEnd.TheVariants as shipped
-use Rattle.meta_fetcher.specs.declared.sync_end.SyncEnd.TheVariants as fetched
+use Rattle.shipper.specs.declared.upload.UploadEnd.TheVariants as shipped
+use Rattle.meta_fetcher.specs.declared.sync.SyncEnd.TheVariants as fetched
 use Rattle.cleaner.specs.Cleanings.{CleanRun, deleting, listing, looking, none_deleted, one_partial_more, rules_of, walking}
 use Rattle.cleaner.specs.Objects.{objects_of}
-use Rattle.cleaner.specs.declared.clean_end.CleanEnd.{CleanEnd}
-use Rattle.cleaner.specs.declared.clean_end.CleanEnd.TheVariants as cleaning
+use Rattle.cleaner.specs.declared.clean.CleanEnd.{CleanEnd}
+use Rattle.cleaner.specs.declared.clean.CleanEnd.TheVariants as cleaning
 use Rattle.cleaner.specs.declared.clean_rules.CleanRules.{CleanRules}
 use Rattle.store_ranges.specs.Reads.{missing}
 use Rattle.store_calls.specs.SeriesCalls.{broke}
-use Rattle.store_calls.specs.declared.series_end.SeriesEnd.TheVariants as called
+use Rattle.store_calls.specs.declared.series_call.SeriesEnd.TheVariants as called
 use Rattle.script_workers.specs.Hands.{hands_of_task, with_hands, hands_from, places_from, workers_from, seats_from}
 use Rattle.script_workers.specs.declared.work.Work.TheVariants as works
 use Rattle.script_workers.specs.declared.worker.Worker.{Worker}

@@ -14,7 +14,7 @@ use Rattle.world_core.specs.declared.op.Op.TheVariants as op
 use Rattle.world_core.proofs.PlanLaws.{front}
 use Rattle.world_core.proofs.PlanParts.{joined}
 use Rattle.meta_fetcher.specs.Syncs.{sync}
-use Rattle.meta_fetcher.specs.declared.sync_end.SyncEnd.TheVariants as fetched
+use Rattle.meta_fetcher.specs.declared.sync.SyncEnd.TheVariants as fetched
 use Rattle.group_planner.specs.Groups.{AreGroups, Key as GroupKey}
 use Rattle.group_planner.specs.Plans.{IsPlan}
 use Rattle.group_planner.specs.declared.group.Group.{Group}
@@ -26,8 +26,8 @@ use Rattle.meta_fetcher.specs.OneView.{one_end_of}
 use Rattle.cleaner.specs.Cleanings.{CleanRun, cleaning, deleting, deletion, if_mark, listing, looking, none_deleted, one_block_more, rules_of, walking}
 use Rattle.cleaner.specs.Marks.{is_old_mark}
 use Rattle.cleaner.specs.Objects.{objects_of}
-use Rattle.cleaner.specs.declared.clean_end.CleanEnd.{CleanEnd}
-use Rattle.cleaner.specs.declared.clean_end.CleanEnd.TheVariants as cleaned
+use Rattle.cleaner.specs.declared.clean.CleanEnd.{CleanEnd}
+use Rattle.cleaner.specs.declared.clean.CleanEnd.TheVariants as cleaned
 use Rattle.cleaner.specs.declared.clean_rules.CleanRules.{CleanRules}
 use Rattle.block_meta.specs.MetaFields.{MarkFields}
 use Rattle.block_meta.specs.OfBlocks.{block_mark}

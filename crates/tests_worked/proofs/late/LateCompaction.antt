@@ -6,9 +6,9 @@ use Rattle.world_core.specs.Operations.{IsLawful, IsReplyTo}
 use Rattle.world_core.specs.Standing.{IsHonest, Tells, stands}
 use Rattle.world_core.specs.Worlds.{IsJournal}
 use Rattle.world_core.specs.declared.entry.Entry.{Entry}
-use Rattle.shipper.specs.declared.upload_end.UploadEnd.TheVariants as shipped
+use Rattle.shipper.specs.declared.upload.UploadEnd.TheVariants as shipped
 use Rattle.compactor.specs.declared.compact_end.CompactEnd.TheVariants as compacting
-use Rattle.cleaner.specs.declared.clean_end.CleanEnd.TheVariants as cleaning
+use Rattle.cleaner.specs.declared.clean.CleanEnd.TheVariants as cleaning
 use Rattle.script_workers.specs.Hands.{hands_of_task, with_hands, hands_from, places_from, workers_from, seats_from}
 use Rattle.script_workers.specs.declared.work.Work.TheVariants as works
 use Rattle.script_workers.specs.declared.worker.Worker.{Worker}

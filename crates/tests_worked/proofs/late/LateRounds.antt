@@ -16,14 +16,14 @@ use Rattle.meta_fetcher.specs.OneView.{one_end_of}
 use Rattle.meta_fetcher.specs.Sightings.{sighting_of}
 use Rattle.meta_fetcher.specs.Syncs.{Course, IsEnd, SyncRun, listing, sighted, sync, with_entry}
 use Rattle.meta_fetcher.specs.declared.rules.SyncRules.{SyncRules}
-use Rattle.meta_fetcher.specs.declared.sync_end.SyncEnd.TheVariants as fetched
+use Rattle.meta_fetcher.specs.declared.sync.SyncEnd.TheVariants as fetched
 use Rattle.compactor.specs.Compactions.{CompactRun, after_sync, rounds, sync_rules}
 use Rattle.compactor.specs.declared.compact_end.CompactEnd.TheVariants as compacting
 use Rattle.cleaner.specs.Cleanings.{CleanRun, deleting, deletion, if_mark, listing as listing_of, looking, none_deleted, one_block_more, rules_of, walking}
 use Rattle.cleaner.specs.Marks.{is_old_mark}
 use Rattle.cleaner.specs.Objects.{objects_of}
-use Rattle.cleaner.specs.declared.clean_end.CleanEnd.{CleanEnd}
-use Rattle.cleaner.specs.declared.clean_end.CleanEnd.TheVariants as cleaned
+use Rattle.cleaner.specs.declared.clean.CleanEnd.{CleanEnd}
+use Rattle.cleaner.specs.declared.clean.CleanEnd.TheVariants as cleaned
 use Rattle.cleaner.specs.declared.clean_rules.CleanRules.{CleanRules}
 use Rattle.tests_worked.specs.CompactedPair as pair
 use Rattle.tests_worked.specs.Entries.{absent, found}

@@ -4,7 +4,7 @@ use Rattle.block_keys.specs.Keys.{key_ulid}
 use Rattle.block_keys.specs.declared.key.Key.TheVariants as key
 use Rattle.lifecycle_core.specs.Breaches.{mark_time, read_time, sync_time, upload_time, view_time}
 use Rattle.lifecycle_core.specs.Causes.{AreWell, IsBlamed}
-use Rattle.store_calls.specs.declared.series_end.SeriesEnd.TheVariants as called
+use Rattle.store_calls.specs.declared.series_call.SeriesEnd.TheVariants as called
 use Rattle.tests_worked.proofs.one.OtherReads.{query_came}
 use Rattle.tests_worked.specs.Entries.{stored}
 use Rattle.tests_worked.specs.LostIndex as lost

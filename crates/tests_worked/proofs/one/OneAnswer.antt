@@ -12,7 +12,7 @@ use Rattle.matchers.specs.Selected.{is_selected, selected}
 use Rattle.matchers.specs.Selectors.{is_match, accepts, is_accepted, value_or_empty}
 use Rattle.block_keys.specs.declared.key.Key.TheVariants as key
 use Rattle.world_core.specs.declared.entry.Entry.{Entry}
-use Rattle.store_calls.specs.declared.series_end.SeriesEnd.TheVariants as called
+use Rattle.store_calls.specs.declared.series_call.SeriesEnd.TheVariants as called
 use Rattle.script_workers.specs.declared.worker.Worker.{Worker}
 use Rattle.script_workers.specs.declared.work.Work.TheVariants as works
 use Rattle.lifecycle_core.specs.Completed.{IsCompletedAt, IsSettled, IsUploadedBefore, PutsMeta}
@@ -20,7 +20,7 @@ use Rattle.lifecycle_core.specs.Conducts.{CameTo}
 use Rattle.lifecycle_core.specs.Guarantees.{IsExact, IsGiven, Named, NamesUploads}
 use Rattle.lifecycle_core.specs.Held.{held, held_by}
 use Rattle.lifecycle_core.specs.Tasks.{answered, sync_rules, synced}
-use Rattle.meta_fetcher.specs.declared.sync_end.SyncEnd.TheVariants as fetched
+use Rattle.meta_fetcher.specs.declared.sync.SyncEnd.TheVariants as fetched
 use Rattle.tests_worked.specs.Entries.{clock, stored, absent}
 use Rattle.tests_worked.specs.SmallBlock as small
 use Rattle.tests_worked.specs.OneBlock as one

@@ -7,7 +7,7 @@ use Rattle.std.specs.List.{AllZip, flat_map}
 use Rattle.std.specs.Prelude.{map}
 use Rattle.base.proofs.Lists.{cons_parts}
 use Rattle.base.proofs.Membership.{only_member}
-use Rattle.querier.specs.declared.ask.Ask.{Ask}
+use Rattle.querier.specs.declared.asking.Ask.{Ask}
 use Rattle.label_sets.specs.declared.series.Series.{Series}
 use Rattle.vertical_merge.specs.Merged.{IsMerge, PatternsAgree}
 use Rattle.vertical_merge.proofs.Laws.{deduplicates, only_one}
@@ -18,10 +18,10 @@ use Rattle.tests_worked.proofs.small.SmallCalls.{merge_given, question}
 use Rattle.block_keys.specs.declared.key.Key.TheVariants as key
 use Rattle.label_sets.specs.Triples.{Triple, triples_of, triples_under}
 use Rattle.matchers.specs.declared.matcher.Matcher.{Matcher}
-use Rattle.meta_fetcher.specs.declared.sync_end.SyncEnd.TheVariants as fetched
+use Rattle.meta_fetcher.specs.declared.sync.SyncEnd.TheVariants as fetched
 use Rattle.store_ranges.specs.Reads.{missing}
 use Rattle.store_calls.specs.SeriesCalls.{broke}
-use Rattle.store_calls.specs.declared.series_end.SeriesEnd.TheVariants as called
+use Rattle.store_calls.specs.declared.series_call.SeriesEnd.TheVariants as called
 use Rattle.block_keys.specs.KeyText.{key_text}
 use Rattle.world_core.specs.Standing.{IsHonest}
 use Rattle.script_core.specs.Workers.{workers_of}

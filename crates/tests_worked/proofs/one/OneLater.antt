@@ -9,8 +9,8 @@ use Rattle.meta_fetcher.specs.Sightings.{kept_by, sighting_of}
 use Rattle.meta_fetcher.specs.Syncs.{Course, IsEnd, Synced, SyncRun, listing, sighted, with_entry}
 use Rattle.world_core.specs.Plans.{Runs, noting}
 use Rattle.meta_fetcher.specs.declared.view.View.{View}
-use Rattle.meta_fetcher.specs.declared.sync_end.SyncEnd.{SyncEnd}
-use Rattle.meta_fetcher.specs.declared.sync_end.SyncEnd.TheVariants as fetched
+use Rattle.meta_fetcher.specs.declared.sync.SyncEnd.{SyncEnd}
+use Rattle.meta_fetcher.specs.declared.sync.SyncEnd.TheVariants as fetched
 use Rattle.store_ranges.specs.Reads.{Cache, Query}
 use Rattle.store_calls.specs.SeriesCalls.{CallEnd, SeriesRun, reading, to_read}
 use Rattle.script_workers.specs.declared.task.Task.{Task}

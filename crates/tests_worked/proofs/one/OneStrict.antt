@@ -10,7 +10,7 @@ use Rattle.script_workers.specs.Hands.{hands_of_task, with_hands, hands_from, pl
 use Rattle.script_core.specs.Workers.{workers_of}
 use Rattle.script_workers.specs.declared.worker.Worker.{Worker}
 use Rattle.meta_fetcher.specs.Syncs.{SyncRun}
-use Rattle.meta_fetcher.specs.declared.sync_end.SyncEnd.TheVariants as fetched
+use Rattle.meta_fetcher.specs.declared.sync.SyncEnd.TheVariants as fetched
 use Rattle.lifecycle_core.specs.Breaches.{IsSeatOf, IsSyncIn, IsViewAt, Refuses, mark_time, sync_time, view_time}
 use Rattle.lifecycle_core.specs.Setting.{setting_of}
 use Rattle.lifecycle_core.specs.Tasks.{sync_rules}

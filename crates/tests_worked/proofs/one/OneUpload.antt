@@ -9,8 +9,8 @@ use Rattle.world_core.specs.declared.op.Op.TheVariants as op
 use Rattle.world_core.specs.declared.reply.Reply.TheVariants as reply
 use Rattle.world_core.specs.Plans.{Runs, after_get, ends as comes_to}
 use Rattle.shipper.specs.Uploads.{putting, upload}
-use Rattle.shipper.specs.declared.upload_end.UploadEnd.TheVariants.{Already, Fault}
-use Rattle.shipper.specs.declared.upload_end.UploadEnd.{UploadEnd}
+use Rattle.shipper.specs.declared.upload.UploadEnd.TheVariants.{Already, Fault}
+use Rattle.shipper.specs.declared.upload.UploadEnd.{UploadEnd}
 use Rattle.script_core.specs.declared.block.Block.{Block}
 use Rattle.script_workers.specs.declared.phase.Phase.{Phase}
 use Rattle.script_workers.specs.declared.work.Work.TheVariants as works

@@ -15,8 +15,8 @@ use Rattle.index_v2.specs.Opening.{contents_at, opened_at}
 use Rattle.index_v2.specs.declared.refusal.IndexRefusal.TheVariants.{BadSection}
 use Rattle.store_ranges.specs.Reads.{damaged, fault}
 use Rattle.store_calls.specs.SeriesCalls.{CallEnd, broke}
-use Rattle.store_calls.specs.declared.series_end.SeriesEnd.{SeriesEnd}
-use Rattle.store_calls.specs.declared.series_end.SeriesEnd.TheVariants as called
+use Rattle.store_calls.specs.declared.series_call.SeriesEnd.{SeriesEnd}
+use Rattle.store_calls.specs.declared.series_call.SeriesEnd.TheVariants as called
 use Rattle.lifecycle_core.specs.Causes.{AreUndamaged, AreWell, SomeCame}
 use Rattle.lifecycle_core.specs.Holdings.{empty_cache}
 use Rattle.lifecycle_core.specs.Phases.{IsFinished, IsRunOf}

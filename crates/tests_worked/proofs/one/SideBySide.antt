@@ -28,9 +28,9 @@ use Rattle.world_core.specs.Operations.{IsLawful, IsReplyTo}
 use Rattle.world_core.specs.Standing.{stands, Tells, IsHonest}
 use Rattle.world_core.specs.Worlds.{IsJournal}
 use Rattle.world_core.specs.declared.entry.Entry.{Entry}
-use Rattle.shipper.specs.declared.upload_end.UploadEnd.TheVariants as shipped
-use Rattle.meta_fetcher.specs.declared.sync_end.SyncEnd.TheVariants as fetched
-use Rattle.store_calls.specs.declared.series_end.SeriesEnd.TheVariants as called
+use Rattle.shipper.specs.declared.upload.UploadEnd.TheVariants as shipped
+use Rattle.meta_fetcher.specs.declared.sync.SyncEnd.TheVariants as fetched
+use Rattle.store_calls.specs.declared.series_call.SeriesEnd.TheVariants as called
 use Rattle.script_workers.specs.Hands.{hands_of_task, with_hands, hands_from, places_from, workers_from, seats_from}
 use Rattle.script_core.specs.Workers.{workers_of}
 use Rattle.script_workers.specs.declared.work.Work.TheVariants as works

@@ -22,7 +22,7 @@ use Rattle.meta_fetcher.specs.Sightings.{sighting_of}
 use Rattle.meta_fetcher.specs.Syncs.{Course, IsEnd, SyncRun, listing, sighted, sync, with_entry}
 use Rattle.sync_filters.specs.declared.found.Found.{Found}
 use Rattle.meta_fetcher.specs.declared.rules.SyncRules.{SyncRules}
-use Rattle.meta_fetcher.specs.declared.sync_end.SyncEnd.TheVariants as fetched
+use Rattle.meta_fetcher.specs.declared.sync.SyncEnd.TheVariants as fetched
 use Rattle.compactor.specs.Named.{named_segments}
 use Rattle.compactor.specs.declared.merging.Merging.TheVariants.{Merged}
 use Rattle.group_planner.specs.Groups.{AreGroups, Key}

@@ -35,7 +35,7 @@ use Rattle.store_ranges.specs.IndexRanges.{end_of}
 use Rattle.store_ranges.specs.Reads.{Block, Cache, Query, kept, range_of, used as used_range}
 use Rattle.store_calls.proofs.SmallReads.{one_number, one_stretch, only, piece}
 use Rattle.store_calls.specs.SeriesCalls.{CallEnd, SeriesRun, after_block, asking, reading, took}
-use Rattle.store_calls.specs.declared.series_end.SeriesEnd.TheVariants as called
+use Rattle.store_calls.specs.declared.series_call.SeriesEnd.TheVariants as called
 use Rattle.lifecycle_core.specs.Holdings.{Holding, Use, empty_cache}
 use Rattle.lifecycle_core.specs.Tasks.{QueryTask, answered}
 use Rattle.tests_worked.specs.OneBlock as one

@@ -22,7 +22,7 @@ use Rattle.index_parts.specs.SeriesReading.{begin_at, chunk_at, chunks_at, label
 use Rattle.index_parts.specs.SymbolsReading.{symbol_at, symbols_at}
 use Rattle.index_parts.specs.declared.chunk_place.ChunkPlace.{ChunkPlace}
 use Rattle.index_parts.specs.declared.postings_row.PostingsRow.{PostingsRow}
-use Rattle.index_parts.specs.declared.toc.Toc.{Toc}
+use Rattle.index_parts.specs.declared.toc_reading.Toc.{Toc}
 use Rattle.index_parts.specs.Parts.{Part, known}
 use Rattle.index_parts.specs.declared.index_series.IndexSeries.{IndexSeries}
 use Rattle.index_parts.specs.IndexFile.{IsIndex}

@@ -10,7 +10,7 @@ use Rattle.block_meta.specs.MetaValue.{meta_text}
 use Rattle.block_meta.specs.MetaFields.{fields_of}
 use Rattle.world_core.specs.Plans.{Runs, noting}
 use Rattle.shipper.specs.Uploads.{upload}
-use Rattle.shipper.specs.declared.upload_end.UploadEnd.TheVariants as shipped
+use Rattle.shipper.specs.declared.upload.UploadEnd.TheVariants as shipped
 use Rattle.sync_filters.specs.Filters.{is_consistent, is_covered, is_unmarked}
 use Rattle.sync_filters.specs.declared.found.Found.{Found}
 use Rattle.meta_fetcher.specs.Sightings.{covered_by, kept_by, sighting_of}
@@ -18,7 +18,7 @@ use Rattle.block_meta.specs.OfBlocks.{block_meta}
 use Rattle.meta_fetcher.specs.Syncs.{SyncRun, listing, sighted, with_entry}
 use Rattle.meta_fetcher.proofs.Ascending.{kept_ascend}
 use Rattle.meta_fetcher.specs.declared.rules.SyncRules.{SyncRules}
-use Rattle.meta_fetcher.specs.declared.sync_end.SyncEnd.TheVariants as fetched
+use Rattle.meta_fetcher.specs.declared.sync.SyncEnd.TheVariants as fetched
 use Rattle.lifecycle_core.specs.Held.{declared}
 use Rattle.lifecycle_core.specs.Setting.{Setting}
 use Rattle.lifecycle_core.specs.Tasks.{UploadTask, all_times, uploaded}

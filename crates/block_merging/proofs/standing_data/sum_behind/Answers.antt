@@ -1,5 +1,5 @@
 use Rattle.base.proofs.Binds.{ok_is}
-use Rattle.wire_bytes.specs.declared.refusal.WireRefusal.{WireRefusal}
+use Rattle.wire_bytes.specs.declared.varint.WireRefusal.{WireRefusal}
 use Rattle.block_merging.proofs.StandingData.{front_within, left_behind}
 use Rattle.block_merging.proofs.standing_data.sum_behind.Goals as goal
 

@@ -1,6 +1,6 @@
 use Rattle.std.proofs.Common.{List, subst, sym}
 use Rattle.std.proofs.lemmas.Bool.{iff_false}
-use Rattle.bucket_core.specs.declared.stored.Stored.{Stored}
+use Rattle.bucket_core.specs.declared.objects.Stored.{Stored}
 use Rattle.bucket_core.specs.Stored.{IsPlace, IsUpdated, StandsAt}
 use Rattle.std.specs.Prelude.{None}
 use Rattle.bucket_core.proofs.AtPlace.{removed_at, absent_at, untouched}

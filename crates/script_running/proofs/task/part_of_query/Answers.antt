@@ -2,7 +2,7 @@ use Rattle.std.proofs.Common.{subst}
 use Rattle.std.specs.Prelude.{FitsSigned, IfSome, Option}
 use Rattle.std.specs.Int.{w64}
 use Rattle.std.proofs.lemmas.Int.{to_z-of_z}
-use Rattle.querier.specs.declared.ask.Ask.{Ask}
+use Rattle.querier.specs.declared.asking.Ask.{Ask}
 use Rattle.script_running.specs.Lending.{setting_in}
 use Rattle.script_running.specs.declared.sight.Sight.{Sight}
 use Rattle.script_running.proofs.TaskSteps.{asked_done, asked_so, asked_where, short_done, unasked_done}

@@ -8,7 +8,7 @@ use Rattle.store_calls.specs.BlockReads.{breaks_off}
 use Rattle.store_calls.specs.BlockRuns.{IsEnd}
 use Rattle.store_calls.specs.WorkStates.{most, after_index, chunks_left}
 use Rattle.store_calls.specs.RunFindings.{FindsSeries}
-use Rattle.store_calls.specs.declared.block_outcome.BlockOutcome.TheVariants.{Damaged}
+use Rattle.store_calls.specs.declared.block_call.BlockOutcome.TheVariants.{Damaged}
 use Rattle.store_calls.proofs.Leading.{leads_kept, breaks}
 use Rattle.store_calls.proofs.IndexPlans.{whole_read, whole_refused}
 use Rattle.store_calls.proofs.index_steps.take_whole.Goals as goal

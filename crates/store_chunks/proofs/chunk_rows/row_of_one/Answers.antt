@@ -1,7 +1,7 @@
 use Rattle.std.proofs.Common.{◌∙◌, ◌++◌, ◌∷◌, [], List, ap}
 use Rattle.label_sets.specs.declared.sample.Sample.{Sample}
 use Rattle.store_chunks.specs.ChunkReads.{read}
-use Rattle.store_chunks.specs.declared.row_chunk.RowChunk.{RowChunk}
+use Rattle.store_chunks.specs.declared.chunk_row.RowChunk.{RowChunk}
 use Rattle.store_chunks.proofs.Rows.{row_alone}
 use Rattle.store_chunks.proofs.chunk_rows.row_of_one.Goals as goal
 

@@ -3,7 +3,7 @@ use Rattle.std.specs.Prelude.{OnOk}
 use Rattle.label_sets.specs.declared.sample.Sample.{Sample}
 use Rattle.store_chunks.specs.RowCounts.{counted}
 use Rattle.store_chunks.specs.ChunksRead.{reads_from, reads_apart}
-use Rattle.store_chunks.specs.declared.row_chunk.RowChunk.{RowChunk}
+use Rattle.store_chunks.specs.declared.chunk_row.RowChunk.{RowChunk}
 use Rattle.store_chunks.proofs.row_shown.add_row.Goals as goal
 
 pub add_chunks-requires : goal.add_chunks-requires

@@ -1,4 +1,4 @@
-use Rattle.cleaner.specs.declared.stage.Stage.TheVariants.{Listing, Marking, Reading, Walking, Deleting}
+use Rattle.cleaner.specs.declared.clean.Stage.TheVariants.{Listing, Marking, Reading, Walking, Deleting}
 use Rattle.cleaner.proofs.Steps.{steps_on}
 use Rattle.cleaner.proofs.clean.CleanMachine.step.Goals as goal
 

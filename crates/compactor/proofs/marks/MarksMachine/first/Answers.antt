@@ -1,4 +1,4 @@
-use Rattle.compactor.specs.declared.mark_stage.MarkStage.TheVariants.{Fresh}
+use Rattle.compactor.specs.declared.marks.MarkStage.TheVariants.{Fresh}
 use Rattle.compactor.proofs.MarkSteps.{mark_opens}
 use Rattle.compactor.proofs.marks.MarksMachine.first.Goals as goal
 

@@ -1,4 +1,4 @@
-use Rattle.compactor.specs.declared.mark_stage.MarkStage.TheVariants.{Looking, Putting}
+use Rattle.compactor.specs.declared.marks.MarkStage.TheVariants.{Looking, Putting}
 use Rattle.compactor.proofs.MarkSteps.{mark_steps}
 use Rattle.compactor.proofs.marks.MarksMachine.step.Goals as goal
 

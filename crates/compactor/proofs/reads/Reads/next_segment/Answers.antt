@@ -5,7 +5,7 @@ use Rattle.world_core.specs.declared.op.Op.TheVariants as op
 use Rattle.world_core.specs.Leads.{LeadsBy}
 use Rattle.compactor.specs.Reading.{blocks_of}
 use Rattle.compactor.specs.ReadStates.{segments_of, left_at, left_of, asked_at, asked_read}
-use Rattle.compactor.specs.declared.read_stage.ReadStage.{ReadStage}
+use Rattle.compactor.specs.declared.reads.ReadStage.{ReadStage}
 use Rattle.compactor.specs.ReadRoom.{others_of}
 use Rattle.compactor.proofs.ReadRooms.{pushed_few, pushed_many}
 use Rattle.world_core.proofs.LeadSteps.{falls_more}

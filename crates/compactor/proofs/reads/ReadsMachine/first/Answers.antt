@@ -1,5 +1,5 @@
 use Rattle.std.proofs.Common.{sym, ◌∙◌}
-use Rattle.compactor.specs.declared.read_stage.ReadStage.TheVariants.{Fresh}
+use Rattle.compactor.specs.declared.reads.ReadStage.TheVariants.{Fresh}
 use Rattle.compactor.proofs.ReadSteps.{read_opens}
 use Rattle.compactor.proofs.reads.ReadsMachine.first.Goals as goal
 

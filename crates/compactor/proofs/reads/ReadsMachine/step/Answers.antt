@@ -1,5 +1,5 @@
 use Rattle.std.proofs.Common.{sym, ◌∙◌}
-use Rattle.compactor.specs.declared.read_stage.ReadStage.TheVariants.{Indexing, Segmenting}
+use Rattle.compactor.specs.declared.reads.ReadStage.TheVariants.{Indexing, Segmenting}
 use Rattle.compactor.proofs.ReadSteps.{read_steps}
 use Rattle.compactor.proofs.reads.ReadsMachine.step.Goals as goal
 

@@ -1,4 +1,4 @@
-use Rattle.meta_fetcher.specs.declared.stage.Stage.TheVariants.{Opening, Listing, Marking, Reading}
+use Rattle.meta_fetcher.specs.declared.sync.Stage.TheVariants.{Opening, Listing, Marking, Reading}
 use Rattle.meta_fetcher.proofs.Steps.{steps_on}
 use Rattle.meta_fetcher.proofs.sync.SyncMachine.step.Goals as goal
 

@@ -1,6 +1,6 @@
 use Rattle.std.proofs.Common.{◌≡◌, ◌≢◌, false, ℕ, [], ◌∷◌, ◌++◌, Some, sym, ap, ◌∙◌, subst}
 use Rattle.world_core.specs.Machines.{IfDone, gained}
-use Rattle.world_core.specs.declared.acted.Acted.TheVariants.{NoMemory}
+use Rattle.world_core.specs.declared.act.Acted.TheVariants.{NoMemory}
 use Rattle.world_core.specs.Moments.{moment_after, last_moment}
 use Rattle.world_turn.specs.declared.view.View.{View}
 use Rattle.world_turn.specs.Resting.{first_of}

@@ -1,8 +1,0 @@
-/// The sign between a name and a value.
-#[derive(Clone, Copy)]
-pub(crate) enum Operator {
-    Equal,
-    NotEqual,
-    Matches,
-    MatchesNot,
-}
