@@ -9,8 +9,8 @@ use Rattle.base.proofs.Binds.{bind_ok, ok_is, unless_ok, refused_as_ok}
 use Rattle.base.proofs.Counted.{members_parts}
 use Rattle.wire_bytes.specs.Position.{Position, left, further}
 use Rattle.wire_bytes.specs.Fields.{uvarint_at, varint_at, groups_of, group_base}
-use Rattle.wire_bytes.specs.declared.refusal.WireRefusal.{WireRefusal}
-use Rattle.wire_bytes.specs.declared.refusal.WireRefusal.TheVariants as wire
+use Rattle.wire_bytes.specs.declared.varint.WireRefusal.{WireRefusal}
+use Rattle.wire_bytes.specs.declared.varint.WireRefusal.TheVariants as wire
 use Rattle.wire_bytes.proofs.FieldLaws.{left-further}
 use Rattle.index_parts.specs.declared.chunk_place.ChunkPlace.{ChunkPlace}
 use Rattle.index_parts.specs.declared.refusal.PartRefusal.{PartRefusal}
@@ -33,7 +33,7 @@ last_by true group n count groups e = let one : 1 ≡ count = ap (λ (x : ℕ ×
 last_by false group n count groups e = absurd cc
 
 more_by : (b : Bool) (group n count : ℕ) (groups : List ℕ) (read : Result (ℕ × ℕ) WireRefusal) → ((m c : ℕ) → read ≡ Ok (m, c) → OfSome groups c)
-    → cond b (Ok (group, 1)) (read >>= λ high. Ok (group - group_base + group_base * high.0, high.1 + 1)) ≡ Ok (n, count) → OfSome (group ∷ groups) count
+    → cond {A = Result (ℕ × ℕ) WireRefusal} b (Ok (group, 1)) (read >>= λ high. Ok (group - group_base + group_base * high.0, high.1 + 1)) ≡ Ok (n, count) → OfSome (group ∷ groups) count
 more_by true group n count groups read few e = let one : 1 ≡ count = ap (λ (x : ℕ × ℕ). x.1) (ok_is {E = WireRefusal} _ _ e) in (omega (arith, one), omega (arith, one))
 more_by false group n count groups read few e =
     let high = bind_ok read _ _ e in
@@ -99,9 +99,9 @@ Walker = Option ChunkPlace × Position
 chunk_passes : (s t : Walker) (x : ChunkPlace) → chunk_at s ≡ Ok (x, t) → Passes 3 s.1 t.1
 unfolding chunk_at
 chunk_passes s t x e =
-    let min = bind_ok _ _ _ e in
-    let max = bind_ok _ _ _ min.2 in
-    let reference = bind_ok _ _ _ max.2 in
+    let min = bind_ok {A = ℤ × Position} {B = ChunkPlace × Walker} {E = PartRefusal} (begin_at s.0 s.1) _ _ e in
+    let max = bind_ok {A = ℤ × Position} {B = ChunkPlace × Walker} {E = PartRefusal} (later_at min.0.0 min.0.1) _ _ min.2 in
+    let reference = bind_ok {A = ℕ × Position} {B = ChunkPlace × Walker} {E = PartRefusal} (reference_at s.0 max.0.1) _ _ max.2 in
     let here : Passes 3 s.1 reference.0.1 = omega (arith, begin_passes s.0 s.1 min.0.1 min.0.0 min.1, later_passes min.0.0 min.0.1 max.0.1 max.0.0 max.1, reference_passes s.0 max.0.1 reference.0.1 reference.0.0 reference.1) in
     subst (Passes 3 s.1) (ap (λ (y : ChunkPlace × Walker). y.1.1) (ok_is {E = PartRefusal} _ _ reference.2)) here
 

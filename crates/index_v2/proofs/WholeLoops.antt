@@ -123,6 +123,10 @@ row_within rows place lt none =
       | inr p ↦ let past = p.0 in absurd (omega arith)
     ]
 
+-- the front of the rows is one longer
+pub front_more : (rows : List PostingsRow) (place : ℕ) (row : PostingsRow) → slice_get rows place ≡ Some row → take (place + 1) rows ≡ take place rows ++ row ∷ []
+front_more rows place row at = take_more _ _ row (slice_get_within _ _ _ at) ∙ ap (λ r. take place rows ++ r ∷ []) (get_or_from_slice_get rows place _ row at)
+
 -- ---- an exit by `?`
 
 pub gives_stop : {X Y Z E : Type 0} (no_memory : E) (view : X → Y) (r : Result X E) (e : E) (one : Result Z E) (all : Result Y E) → IsErrAnd r (λ d. d ≡ e) → (e ≡ no_memory) ⊎ (one ≡ Err e) → (one ≡ Err e → all ≡ Err e) → Gives no_memory view r all

@@ -8,7 +8,7 @@ use Rattle.wire_bytes.specs.Crc.{crc}
 use Rattle.wire_bytes.specs.Fields.{uvarint_at}
 use Rattle.wire_bytes.specs.Position.{Position}
 use Rattle.wire_bytes.specs.Written.{uvarint_text}
-use Rattle.wire_bytes.specs.declared.refusal.WireRefusal.{WireRefusal}
+use Rattle.wire_bytes.specs.declared.varint.WireRefusal.{WireRefusal}
 use Rattle.wire_bytes.proofs.FieldLaws.{uvarint_again}
 use Rattle.wire_bytes.proofs.GroupTexts.{uvarint_text_is}
 use Rattle.index_parts.specs.Framed.{IsEntry, entry_text}
