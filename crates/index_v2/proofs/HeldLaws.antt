@@ -1,5 +1,5 @@
 -- What a reader holds: of a whole file, and of parts.
-use Rattle.std.proofs.Common.{◌≡◌, ℕ, ◌*◌, List, [], ◌∷◌, length, replicate, Option, Some, None, Result, Ok, Err, refl, sym, ap, subst, ◌∙◌, arith, ◌⊎◌, inl, inr}
+use Rattle.std.proofs.Common.{◌≡◌, ℕ, ◌*◌, List, [], ◌∷◌, length, replicate, Option, Some, None, Result, Ok, Err, refl, sym, ap, ap₂, subst, ◌∙◌, arith, ◌⊎◌, inl, inr}
 use Rattle.std.proofs.lemmas.List.{append-nil, length-replicate}
 use Rattle.std.specs.Prelude.{IfOk, ◌==◌}
 use Rattle.std.specs.Result.{IsOkAnd}
@@ -36,7 +36,7 @@ use Rattle.index_v2.specs.declared.lent_parts.IndexParts.{IndexParts}
 use Rattle.index_v2.specs.Held.{Held, opened_in, opened_of, whole_file, IsWhole, IsHeldOf, AreSlicesOf, held_of}
 use Rattle.index_v2.specs.Opening.{refused_in, contents_at, held_at, opened_at}
 use Rattle.index_v2.specs.PostingsLists.{row_of, list_of, postings_of}
-use Rattle.index_v2.specs.WholeReading.{present_at, behind_at, all_at, lists_at, difference, unless_differ, whole_at}
+use Rattle.index_v2.specs.WholeReading.{present_at, behind_at, all_at, lists_at, difference, differing_at, unless_differ, whole_at}
 use Rattle.index_v2.proofs.PostingsLaws.{row_found}
 use Rattle.index_v2.proofs.SeriesSlices.{number_absent}
 use Rattle.index_v2.proofs.OpeningLaws.{opened_found, opened_again}
@@ -126,9 +126,13 @@ lists_same here index is (row ∷ rows) lie =
     rw (list_of_index here index row.offset is (lie row (contains_first _ _)), lists_same here index is rows (λ one has. lie one (contains_later _ _ _ has))) refl
 
 -- where no series is to be read
-none_listed : (held : Held) → postings_of held [] [] ≡ Ok [] → whole_at held ≡ (lists_at held.lists held.rows >>= λ lists. unless_differ (difference held.rows lists []) >> Ok [])
+none_listed : (held : Held) → postings_of held [] [] ≡ Ok [] → whole_at held ≡ (differing_at held.lists held.rows [] >>= λ found. unless_differ found >> Ok [])
 unfolding whole_at present_at
 none_listed _ none = rw (none, nothing_left) refl
+
+differing_same : (here there : Part) (rows other : List PostingsRow) → lists_at here rows ≡ lists_at there other → rows ≡ other → differing_at here rows [] ≡ differing_at there other []
+unfolding differing_at
+differing_same here there rows other lists same = ap₂ (λ (r : Result (List (List ℕ)) IndexRefusal) (rs : List PostingsRow). r >>= λ lists. Ok (difference rs lists [])) lists same
 
 none_same : (held : Held) (opened : Opened) → IsHeldOf held opened → ((row : PostingsRow) → Contains held.rows row → HoldsSection held.lists row.offset) → postings_of held [] [] ≡ Ok [] → whole_at held ≡ whole_at (whole_file opened)
 none_same held opened is lie none =
@@ -136,8 +140,7 @@ none_same held opened is lie none =
     let there = ap (λ rows. list_of (file opened.bytes) (row_of rows [] [])) (sym is.rows_are) ∙ sym first ∙ none in
     let lists = lists_same _ _ is.lists_are _ lie ∙ ap (lists_at (file opened.bytes)) is.rows_are in
     none_listed _ none
-    ∙ ap (λ r. r >>= λ lists. unless_differ (difference held.rows lists []) >> Ok []) lists
-    ∙ ap (λ rows. lists_at (file opened.bytes) opened.rows >>= λ lists. unless_differ (difference rows lists []) >> Ok []) is.rows_are
+    ∙ ap (λ r. r >>= λ found. unless_differ found >> Ok []) (differing_same held.lists (file opened.bytes) held.rows opened.rows lists is.rows_are)
     ∙ sym (none_listed _ there)
 
 -- where the first list is refused, or a section that its series need is absent

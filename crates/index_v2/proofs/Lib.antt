@@ -4,6 +4,7 @@ pub mod RowsFound
 pub mod ValuesListed
 pub mod WholeLoops
 pub mod Differences
+pub mod KeptLists
 pub mod LentOrder
 pub mod ListNumbers
 pub mod OpeningLaws

@@ -1,11 +1,12 @@
 -- Series that stand one behind the other have together no more than the index has bytes.
-use Rattle.std.proofs.Common.{◌≡◌, inl, inr, ℕ, ◌+◌, ◌*◌, ◌<◌, ◌≤◌, ◌⊎◌, true, List, [], ◌∷◌, ◌++◌, length, map, sum_by, zip, Option, Some, None, Result, Ok, refl, sym, ap, ◌∙◌, arith}
+use Rattle.std.proofs.Common.{◌≡◌, ℕ, ◌+◌, ◌*◌, ◌^◌, ◌<◌, ◌≤◌, true, false, List, [], ◌∷◌, ◌++◌, length, map, sum_by, zip, Option, Some, None, Result, Ok, refl, sym, ap, ◌∙◌, arith}
 use Rattle.std.specs.Prelude.{IfSome}
 use Rattle.std.specs.List.{Contains}
-use Rattle.std.proofs.lemmas.Bool.{leb-true, le-leb}
+use Rattle.std.proofs.lemmas.Bool.{leb-true, le-leb, lt-leb}
 use Rattle.std.proofs.lemmas.List.{drop_all, length-map}
 use Rattle.std.proofs.lemmas.List.Sums.{sum_by-cons}
 use Rattle.base.specs.Grammar.{IsBytes}
+use Rattle.base.specs.Reading.{◌>>=◌, ◌>>◌}
 use Rattle.base.proofs.Binds.{bind_ok, then_ok, ok_is}
 use Rattle.base.proofs.Membership.{contains_first, contains_later}
 use Rattle.wire_bytes.specs.FieldTexts.{IsUvarint}
@@ -23,10 +24,15 @@ use Rattle.index_v2.specs.Held.{Held}
 use Rattle.index_v2.specs.PostingsLists.{postings_of}
 use Rattle.index_v2.specs.Sizes.{members_of, told, series_bytes}
 use Rattle.index_v2.specs.SeriesLabels.{numbered_at}
-use Rattle.index_v2.specs.WholeReading.{stands_behind, all_at, whole_at}
+use Rattle.index_v2.specs.WholeReading.{present_at, stands_behind, all_at, differing_at, unless_differ, whole_at}
 use Rattle.index_v2.proofs.FewLaws.{as_many}
 use Rattle.index_v2.proofs.LabelLaws.{numbered_found}
 use Rattle.index_v2.proofs.WholeParts.{AreApart, all_found}
+
+-- a length that leads past each place of a series
+pub behind_past : (index : List ℕ) (before : Option ℕ) (last number size : ℕ) → before ≡ Some last → size ≡ series_bytes index last → number < 2 ^ 32 → 2 ^ 64 ≤ 16 * last + size → false ≡ stands_behind index before number
+behind_past index before last number size is told small past =
+    sym (lt-leb (16 * last + series_bytes index last) (16 * number) (omega (arith, told, small, past))) ∙ sym (ap (λ (o : Option ℕ). stands_behind index o number) is)
 
 -- past the end no length is told
 pub no_entry : (index : List ℕ) (at : ℕ) → length index < at → 0 ≡ told (uvarint_at (at_place index at))
@@ -93,11 +99,11 @@ module _ (index : List ℕ) where
 pub whole_bounded : (held : Held) (list : List IndexSeries) → IsBytes held.bytes → whole_at held ≡ Ok list → sum_by members_of list ≤ length held.bytes
 unfolding whole_at
 whole_bounded held list bytes e =
-    let numbers = bind_ok (postings_of held [] []) _ list e in
+    let numbers = bind_ok (postings_of held [] []) (λ numbers. present_at held.toc numbers >> (all_at held.bytes held.symbols None None numbers >>= λ series. differing_at held.lists held.rows (zip numbers series) >>= λ found. unless_differ found >> Ok series)) list e in
     let present = then_ok _ _ list numbers.2 in
     let series = bind_ok (all_at held.bytes held.symbols None None numbers.0) _ list present.2 in
-    let lists = bind_ok _ _ list series.2 in
-    let same = then_ok _ _ list lists.2 in
+    let found = bind_ok (differing_at held.lists held.rows (zip numbers.0 series.0)) _ list series.2 in
+    let same = then_ok _ _ list found.2 in
     let read = all_found held.bytes held.symbols None None numbers.0 series.0 series.1 in
     let few = all_few held.bytes held.symbols bytes None numbers.0 series.0 read.many read.each read.apart (omega arith) in
     omega (arith, few, ap (sum_by members_of) (ok_is {E = IndexRefusal} _ _ same.2))

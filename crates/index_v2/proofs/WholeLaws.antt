@@ -1,5 +1,5 @@
 -- What reading a whole index takes from its bytes, against the grammar.
-use Rattle.std.proofs.Common.{◌≡◌, ◌≢◌, ℕ, zero, suc, true, cond, eqb, List, [], ◌∷◌, length, map, zip, Option, Some, None, Result, Ok, refl, sym, ap, subst, ◌∙◌, arith, ◌⊎◌, inl, inr}
+use Rattle.std.proofs.Common.{◌≡◌, ◌*◌, ◌≢◌, ℕ, zero, suc, true, cond, eqb, List, [], ◌∷◌, length, map, zip, Option, Some, None, Result, Ok, refl, sym, ap, subst, ◌∙◌, arith, ◌⊎◌, inl, inr}
 use Rattle.std.specs.Prelude.{slice_get, ◌&&◌, ◌==◌, nat_lt}
 use Rattle.std.specs.List.{list_any, list_all, Contains}
 use Rattle.std.specs.List.Sorted.{IsStrictlySortedBy}

@@ -1,6 +1,6 @@
 -- The loops over listed series and over rows: what was read of the front, and what is left, is the whole.
 use Rattle.std.proofs.Common.{◌≡◌, ℕ, zero, suc, ◌+◌, ◌-◌, ◌^◌, ◌<◌, ◌≤◌, List, [], ◌∷◌, ◌++◌, length, take, drop, get_or, Option, Some, None, Result, Ok, Err, refl, sym, ap, ◌∙◌, arith, add-one, drop-cons, ◌⊎◌, inl, inr}
-use Rattle.std.specs.Prelude.{slice_get, IfSome, IsErrAnd}
+use Rattle.std.specs.Prelude.{slice_get, IfSome, IsErrAnd, MatchResult}
 use Rattle.std.specs.List.{All}
 use Rattle.std.specs.List.Sorted.{IsStrictlyIncreasing}
 use Rattle.std.proofs.lemmas.List.Elements.{All-push}
@@ -99,6 +99,9 @@ no_lists : (part : Part) → lists_at part [] ≡ Ok []
 unfolding lists_at
 no_lists _ = refl
 
+pub lists_start : (part : Part) (rows : List PostingsRow) → ListsSoFar part rows 0 []
+lists_start part rows = record { many = refl; rise = λ k d lt. absurd (omega arith); whole = again _ }
+
 pub lists_step : (part : Part) (rows : List PostingsRow) (place : ℕ) (row : PostingsRow) (lists new : List (List ℕ)) (list : List ℕ)
     → ListsSoFar part rows place lists → slice_get rows place ≡ Some row → refused_as (refused_in 5) (list_in part row.offset) ≡ Ok list → IsStrictlyIncreasing list → new ≡ lists ++ list ∷ [] → ListsSoFar part rows (place + 1) new
 lists_step part rows place row lists new list far at read rises pushed =
@@ -133,3 +136,8 @@ pub gives_stop : {X Y Z E : Type 0} (no_memory : E) (view : X → Y) (r : Result
 gives_stop _ _ (Ok x) e _ _ is why then = absurd is
 gives_stop _ _ (Err d) e _ _ is (inl out) then = inl (is ∙ out)
 gives_stop _ _ (Err d) e _ _ is (inr refused) then = inr (then refused ∙ ap Err (sym is))
+
+pub stop_refused : {X Z E : Type 0} (P : X → Type 0) (r : Result X E) (e no_memory : E) (one : Result Z E) {A : Type 0} {all : Result A E} → IsErrAnd r (λ d. d ≡ e) → (e ≡ no_memory) ⊎ (one ≡ Err e) → (one ≡ Err e → all ≡ Err e) → MatchResult r P (λ d. (d ≡ no_memory) ⊎ (all ≡ Err d))
+stop_refused P (Ok x) e no_memory one is why then = absurd is
+stop_refused P (Err d) e no_memory one is (inl out) then = inl (is ∙ out)
+stop_refused P (Err d) e no_memory one is (inr refused) then = inr (then refused ∙ ap Err (sym is))

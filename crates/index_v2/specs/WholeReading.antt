@@ -1,6 +1,7 @@
 -- What reading a whole index gives, or the first refusal.
-use Rattle.std.specs.Prelude.{ℕ, ◌+◌, ◌*◌, List, [], ◌∷◌, length, zip, Option, Some, None, Bool, true, false, ◌&&◌, Result, Ok, Err, ◌==◌, nat_lt, nat_le, min, if◌then◌else◌}
+use Rattle.std.specs.Prelude.{◌≡◌, ℕ, ◌+◌, ◌*◌, ◌≤◌, List, [], ◌∷◌, length, take, zip, All, Option, Some, None, Bool, true, false, ◌&&◌, Result, Ok, Err, ◌==◌, nat_lt, nat_le, min, if◌then◌else◌}
 use Rattle.std.specs.List.{list_any, list_all}
+use Rattle.std.specs.List.Sorted.{IsStrictlyIncreasing}
 use Rattle.std.specs.Str.{bytes_eq}
 use Rattle.std.specs.declared.cmp.Ordering.{Ordering}
 use Rattle.std.specs.declared.cmp.Ordering.TheVariants.{Less, Equal, Greater}
@@ -122,6 +123,27 @@ gap_among rows lists (one ∷ listed) = earlier_place (gap_of rows lists one.0 o
 abbrev pub difference : List PostingsRow → List (List ℕ) → List (ℕ × IndexSeries) → Option ℕ
 difference rows lists listed = earlier_place (stray_from 0 rows lists listed) (gap_among rows lists listed)
 
+-- by reading the lists
+unfoldable pub differing_at : Part → List PostingsRow → List (ℕ × IndexSeries) → Result (Option ℕ) IndexRefusal
+differing_at part rows listed = do
+  lists ← lists_at part rows
+  Ok (difference rows lists listed)
+
+-- the same lists before a place, or throughout
+abbrev pub SameBefore : Option ℕ → List (List ℕ) → List (List ℕ) → Type 0
+SameBefore None kept lists = kept ≡ lists
+SameBefore (Some place) kept lists = (place ≤ length kept) × (take place kept ≡ take place lists)
+
+-- All lists are read, and the first row whose list has a number of another series is at this place. The lists before it are
+-- kept, and behind them stand as many others as there are rows.
+pub record AreKept (part : Part) (rows : List PostingsRow) (listed : List (ℕ × IndexSeries)) (kept : List (List ℕ)) (stray : Option ℕ) : Type 0 where
+  pub lists : List (List ℕ)
+  pub read : lists_at part rows ≡ Ok lists
+  pub many : length rows ≡ length kept
+  pub rise : All IsStrictlyIncreasing kept
+  pub stray_is : stray ≡ stray_from 0 rows lists listed
+  pub same : SameBefore stray kept lists
+
 abbrev pub unless_differ : Option ℕ → Result (Unit {0}) IndexRefusal
 unless_differ None = Ok tt
 unless_differ (Some place) = Err (PostingsDiffer place)
@@ -135,6 +157,6 @@ whole_at held = do
   numbers ← postings_of held [] []
   present_at held.toc numbers
   series ← all_at held.bytes held.symbols None None numbers
-  lists ← lists_at held.lists held.rows
-  unless_differ (difference held.rows lists (zip numbers series))
+  where_differ ← differing_at held.lists held.rows (zip numbers series)
+  unless_differ where_differ
   Ok series

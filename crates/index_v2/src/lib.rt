@@ -21,5 +21,5 @@ pub use index_parts::{IndexSeries, IndexSeriesList};
 pub use index_reader::IndexReader;
 pub use lent_order::compare_lent;
 pub use lent_parts::IndexParts;
-pub use lent_series::{LentLabel, LentSeries, set_of};
+pub use lent_series::{LentLabel, LentSeries, add_label, set_of};
 pub use refusal::IndexRefusal;

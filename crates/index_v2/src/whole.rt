@@ -1,10 +1,10 @@
-ghost use Rattle.std.specs.Prelude.{◌≡◌, ◌+◌, ◌-◌, ◌^◌, ◌<◌, ℕ, All, length, slice_get, None, IfOk, IfSome};
+ghost use Rattle.std.specs.Prelude.{◌≡◌, ◌⊎◌, ◌+◌, ◌-◌, ◌^◌, ◌<◌, [], ℕ, All, length, zip, slice_get, None, Err, IfOk, IfSome, OnOk, MatchResult, if◌then◌else◌};
 ghost use Rattle.base.specs.Reading.{Gives, Answers};
 ghost use Rattle.std.specs.List.Sorted.{IsStrictlyIncreasing};
 ghost use Rattle.index_parts.specs.Parts.{part_of};
-ghost use Rattle.index_v2.specs.WholeReading.{present_at, may_stand_behind, behind_at, all_at, lists_at, whole_at};
+ghost use Rattle.index_v2.specs.WholeReading.{present_at, may_stand_behind, behind_at, all_at, lists_at, differing_at, AreKept, whole_at};
 
-use crate::difference::difference;
+use crate::difference::{difference, is_kept, stray_at};
 use crate::opening::refused_of;
 use crate::postings::{POSTINGS, list_at, list_of};
 use crate::sizes::stands_behind;
@@ -99,27 +99,74 @@ pub(crate) fn all_series<'a>(
     Ok(made)
 }
 
+/// The lists of rows up to the first that has a number of another series, and the place of that one. Where it stands, and
+/// behind it, are empty lists: so together the lists have no more numbers than the series have labels and are series.
+#[derive(Drop)]
+struct KeptLists {
+    lists: Vec<NumberList>,
+    stray: Option<usize>,
+}
+
+/// A list that is kept, and else none.
+fn kept_or_none(alloc: Global, is_kept: bool, list: NumberList) -> NumberList
+    ensures { result ≡ (if is_kept then list else []) }
+{
+    if is_kept {
+        list
+    } else {
+        NumberList::new(alloc)
+    }
+}
+
 /// Reads the postings lists of all rows.
-pub(crate) fn all_lists(
+fn all_lists(
     alloc: Global,
     part: IndexPart<'_>,
     rows: &Rows<'_>,
-) -> Result<Vec<NumberList>, IndexRefusal>
-    requires { part.begin + length part.bytes.now < 2 ^ 64 }
-    ensures rise { IfOk result (λ lists. All IsStrictlyIncreasing lists.items) }
-    ensures one_each { IfOk result (λ lists. length lists.items ≡ length rows.now) }
-    ensures exact { Gives IndexRefusal.NoMemory
-        (λ lists. lists.items) result (lists_at (part_of part.entry) rows.now) }
+    numbers: &[u64],
+    series: &[LentSeries<'_>],
+) -> Result<KeptLists, IndexRefusal>
+    requires rise { IsStrictlyIncreasing numbers.now }
+    requires as_many { length numbers.now ≡ length series.now }
+    requires fits { part.begin + length part.bytes.now < 2 ^ 64 }
+    ensures few { OnOk result (length rows.now < 2 ^ 32) }
+    ensures read { MatchResult result (λ kept. AreKept (part_of part.entry) rows.now
+        (zip numbers.now series.now) kept.lists.items kept.stray)
+        (λ e. (e ≡ IndexRefusal.NoMemory) ⊎ (lists_at (part_of part.entry) rows.now ≡ Err e)) }
 {
     let mut lists = Vec::new(alloc);
+    let mut stray = None;
+    let mut guess = 0;
     for place in 0..rows.len() {
         let Some(row) = rows.get(place) else {
-            return Ok(lists);
+            return Ok(KeptLists { lists, stray });
         };
         let list = list_at(alloc, part, row.2)?;
-        lists.push(list)?;
+        let (is_kept, next) = is_kept(stray, numbers, series, row, list.members(), guess);
+        lists.push(kept_or_none(alloc, is_kept, list))?;
+        stray = stray_at(stray, is_kept, place);
+        guess = next;
     }
-    Ok(lists)
+    Ok(KeptLists { lists, stray })
+}
+
+/// Reads the postings lists of all rows. The least place at which they are not exactly those of the series.
+fn differing_place(
+    alloc: Global,
+    part: IndexPart<'_>,
+    rows: &Rows<'_>,
+    numbers: &[u64],
+    series: &[LentSeries<'_>],
+) -> Result<Option<usize>, IndexRefusal>
+    requires rise { IsStrictlyIncreasing numbers.now }
+    requires as_many { length numbers.now ≡ length series.now }
+    requires fits { part.begin + length part.bytes.now < 2 ^ 64 }
+    ensures small { IfOk result (λ found. IfSome found (λ place. place < 2 ^ 32)) }
+    ensures exact { Gives IndexRefusal.NoMemory (λ found. found) result
+        (differing_at (part_of part.entry) rows.now (zip numbers.now series.now)) }
+{
+    let kept = all_lists(alloc, part, rows, numbers, series)?;
+    Ok(difference(rows, kept.stray, kept.lists.as_slice(), numbers, series))
 }
 
 /// Reads every series, and tests that the postings lists are exactly those of the series. The index lends the texts.
@@ -148,8 +195,7 @@ pub(crate) fn whole_lent<'a>(
     let numbers = list_of(alloc, part, rows, "", "")?;
     test_present(toc, numbers.members())?;
     let series = all_series(alloc, index, symbols, numbers.members())?;
-    let lists = all_lists(alloc, part, rows)?;
-    match difference(rows, lists.as_slice(), numbers.members(), series.as_slice()) {
+    match differing_place(alloc, part, rows, numbers.members(), series.as_slice())? {
         None => Ok(List::from_vec(series)),
         Some(place) => Err(IndexRefusal::PostingsDiffer(place as u32)),
     }

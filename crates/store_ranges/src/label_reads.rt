@@ -1,14 +1,13 @@
 //! The labels of a series, by its symbol numbers.
-ghost use Rattle.std.specs.Prelude.{◌≡◌, [], length, option_map, IfOk, IsOk, OnOk, Ok};
+ghost use Rattle.std.specs.Prelude.{◌≡◌, [], length, option_map, IfOk};
 ghost use Rattle.std.specs.Result.{result_ok};
-ghost use Rattle.label_sets.specs.Labels.{added};
 ghost use Rattle.index_v2.specs.SeriesLabels.{label_of, labels_of, unplaced, all_unplaced};
 
 use crate::symbol_texts::SymbolTexts;
 use base::NoMemory;
 use index_parts::RawSeries;
-use index_v2::IndexSeries;
-use label_sets::{LabelRefusal, LabelSet};
+use index_v2::{IndexSeries, add_label};
+use label_sets::LabelSet;
 use std::alloc::Global;
 
 /// The texts of a label's symbol numbers: the name is above the one before it, and the value is not
@@ -33,23 +32,6 @@ fn label_of<'a>(
     }
 }
 
-/// Adds a label that a set has room for: its name and its value are some text, and it is not there yet.
-fn add(set: &mut LabelSet, name: &str, value: &str) -> Result<(), NoMemory>
-    requires { IsOk (added set.old name.now value.now) }
-    ensures { OnOk result (added set.old name.now value.now ≡ Ok set.new) }
-{
-    match set.add(name, value) {
-        Ok(()) => Ok(()),
-        Err(LabelRefusal::NoMemory) => Err(NoMemory),
-        Err(
-            LabelRefusal::EmptyName
-            | LabelRefusal::EmptyValue
-            | LabelRefusal::Repeated
-            | LabelRefusal::BadText(_),
-        ) => unreachable!(),
-    }
-}
-
 /// The labels of these symbol numbers. None where one of the numbers is refused.
 fn labels_of(
     alloc: Global,
@@ -67,7 +49,7 @@ fn labels_of(
     for place in 0..names.len() {
         match label_of(symbols, before, names[place], values[place]) {
             Some((name, value)) => {
-                add(&mut set, name, value)?;
+                add_label(&mut set, name, value)?;
                 before = name;
             }
             None => return Ok(None),

@@ -9,15 +9,15 @@ loop-place-init c = (named_begin c.args.symbols.now c.args.names.now c.args.valu
 pub returns-in-None : goal.returns-in-None
 returns-in-None c = named_refused c.args.symbols.now c.args.names.now c.args.values.now c.loop-place.before.now c.loop-place.place c.loop-place.set c.loop-place.invariant.0 _ _ c.loop-place-test.true c.requires refl refl c.in-None.ensures
 
-pub add-requires : goal.add-requires
-add-requires c =
+pub add_label-requires : goal.add_label-requires
+add_label-requires c =
     let label : Label = record { name = c.in-Some.name.now; value = c.in-Some.value.now } in
     has_room c.args.symbols.now c.args.names.now c.args.values.now c.loop-place.before.now c.loop-place.place c.loop-place.set c.loop-place.invariant.0 _ _ c.loop-place-test.true c.requires refl refl label c.in-Some.ensures
 
 pub loop-place-preserved : goal.loop-place-preserved
 loop-place-preserved c =
     let label : Label = record { name = c.in-Some.name.now; value = c.in-Some.value.now } in (
-      named_step c.args.symbols.now c.args.names.now c.args.values.now c.loop-place.before.now c.loop-place.place c.loop-place.set c.loop-place.invariant.0 _ _ c.loop-place-test.true c.requires refl refl label c.in-Some.ensures c.add.new.set _ c.in_ok-add.ensures refl,
+      named_step c.args.symbols.now c.args.names.now c.args.values.now c.loop-place.before.now c.loop-place.place c.loop-place.set c.loop-place.invariant.0 _ _ c.loop-place-test.true c.requires refl refl label c.in-Some.ensures c.add_label.new.set _ c.in_ok-add_label.ensures refl,
       search rules,
     )
 
