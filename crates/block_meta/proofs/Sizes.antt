@@ -10,7 +10,7 @@ use Rattle.json.specs.Lex.{Lexeme, Class, Mode, Place, lex_byte, lex, class, ope
 use Rattle.json.specs.Align.{span_byte, span}
 use Rattle.json.specs.Text.{content, plain}
 use Rattle.json.specs.Word.{word, number_before, after_number, ends_word}
-use Rattle.json.proofs.Shorter.{AtMost, content-span}
+use Rattle.block_meta.proofs.StringSpans.{AtMost, content-span}
 use Rattle.json.specs.Json as json
 use Rattle.json.specs.Lex as lexing
 use Rattle.serde_json.specs.Data as values

@@ -73,7 +73,7 @@ braces_few text selector is =
 
 name_few : (text : List ℕ) → IsTrue (is_metric_name text) → AreFew (length text) (metric_matcher text ∷ [])
 unfolding metric_matcher is_metric_name
-name_few [] is = absurd is
+name_few [] is = absurd (cc (is))
 name_few (byte ∷ bytes) is = (omega arith, ((omega arith, omega arith), tt))
 
 selector_few : (text : List ℕ) (selector : List Matcher) → IsSelectorText text selector → AreFew (length text) selector

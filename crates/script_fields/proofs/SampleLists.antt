@@ -13,7 +13,7 @@ use Rattle.script_fields.specs.declared.cause.LineCause.TheVariants.{BadSample}
 use Rattle.script_fields.specs.declared.line_refusal.LineRefusal.TheVariants as lines
 use Rattle.script_fields.specs.LineRefusals.{bad}
 use Rattle.script_fields.specs.Fields.{is_space, next_field}
-use Rattle.script_fields.specs.Samples.{texts_of, samples_from}
+use Rattle.script_fields.specs.Samples.{texts_of, samples_from, samples_of}
 use Rattle.script_fields.proofs.FieldLaws.{spaceless, Cut, cut_nothing, cut_whole, cut_front, cut_found}
 
 -- the texts that are left
@@ -98,13 +98,13 @@ from_few : (texts : List (List ℕ)) (samples : List Sample) → samples_from te
 unfolding samples_from
 from_few [] samples e = sym (ap length (ok_is {E = LineCause} _ _ e))
 from_few (text ∷ texts) samples e =
-    let first = bind_ok _ _ _ e in
-    let others = bind_ok _ _ _ first.2 in
-    omega (arith, from_few texts others.0 others.1, ap length (ok_is {E = LineCause} _ _ others.2))
+    let first = bind_ok (refused_as (λ _. BadSample) (sample_of text)) (λ sample. samples_from texts >>= λ more. Ok (sample ∷ more)) samples e in
+    let others = bind_ok (samples_from texts) (λ more. Ok (first.0 ∷ more)) samples first.2 in
+    omega (arith, from_few texts others.0 others.1, ap length (ok_is {E = LineCause} (first.0 ∷ others.0) samples others.2))
 
 -- each sample has a text of its own, and no text that is read is empty
 pub samples_few : (texts : List ℕ) → OfValue (bad (samples_of texts)) (λ (samples : List Sample). length samples ≤ 2 * length texts)
-samples_few [] = record { holds = λ samples e. absurd (none_empty samples (refused_as_ok lines.Bad _ samples e)) }
+samples_few [] = record { holds = λ samples e. absurd (none_empty samples (refused_as_ok lines.Bad (samples_of []) samples e)) }
 samples_few (x ∷ xs) = record {
-  holds = λ samples e. omega (arith, from_few (texts_of (x ∷ xs)) samples (refused_as_ok lines.Bad _ samples e), length-slice_split is_space (x ∷ xs), count_by-le-length is_space (x ∷ xs));
+  holds = λ samples e. omega (arith, from_few (texts_of (x ∷ xs)) samples (refused_as_ok lines.Bad (samples_of (x ∷ xs)) samples e), length-slice_split is_space (x ∷ xs), count_by-le-length is_space (x ∷ xs));
 }
