@@ -153,10 +153,11 @@ kept_step part rows listed place row kept new stray next seen list put is h at r
     let far = lists_step part rows place row h.full (h.full ++ list ∷ []) list h.far at read rises refl in
     let as_many = h.far.many in
     let within : length (take place rows) ≡ place = omega (arith, slice_get_within rows place row at, length-take place rows) in
+    let placed : place ≡ 0 + length (take place rows) = omega (arith, within) in
     let put_is' : put ≡ (if is_none stray && c then list else []) = put_is ∙ ap (λ (b : Bool). if b then list else []) test in
     let next_is' : next ≡ or_else stray (if is_none stray && c then None else Some place) = next_is ∙ ap (λ (b : Bool). or_else stray (if b then None else Some place)) test in
     let strays : or_else stray (if is_none stray && c then None else Some place) ≡ stray_from 0 (take (place + 1) rows) (h.full ++ list ∷ []) listed =
-    told_once stray c place ∙ ap₂ (λ (o : Option ℕ) (n : ℕ). or_else o (if c then None else Some n)) h.stray_is (sym within) ∙ sym (stray_push 0 (take place rows) h.full row list listed (within ∙ sym as_many)) ∙ ap (λ (rs : List PostingsRow). stray_from 0 rs (h.full ++ list ∷ []) listed) (sym (front_more rows place row at)) in
+    told_once stray c place ∙ ap₂ (λ (o : Option ℕ) (n : ℕ). or_else o (if c then None else Some n)) h.stray_is placed ∙ sym (stray_push 0 (take place rows) h.full row list listed (within ∙ sym as_many)) ∙ ap (λ (rs : List PostingsRow). stray_from 0 rs (h.full ++ list ∷ []) listed) (sym (front_more rows place row at)) in
     let here : KeptSoFar part rows listed (place + 1) (kept ++ (if is_none stray && c then list else []) ∷ []) (or_else stray (if is_none stray && c then None else Some place)) = record {
       full = h.full ++ list ∷ [];
       far = far;

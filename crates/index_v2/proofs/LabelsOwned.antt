@@ -60,7 +60,7 @@ module _ (labels : List LentLabel) (place : ℕ) (d label : LentLabel) (old : Li
       ap (λ o. added o label.name.now label.value.now) far ∙ added_next (map as_label (take place labels)) (as_label label) (map as_label (drop (place + 1) labels)) lawful
 
   pub has_room : IsOk (added old label.name.now label.value.now)
-  has_room = subst IsOk (sym added_here) tt
+  has_room = subst IsOk (sym added_here) refl
 
   pub copied_step : (next : ℕ) (new : List Label) → next ≡ place + 1 → added old label.name.now label.value.now ≡ Ok new → new ≡ map as_label (take next labels)
   copied_step next new n adds =

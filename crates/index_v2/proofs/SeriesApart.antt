@@ -100,10 +100,10 @@ pub whole_bounded : (held : Held) (list : List IndexSeries) → IsBytes held.byt
 unfolding whole_at
 whole_bounded held list bytes e =
     let numbers = bind_ok (postings_of held [] []) (λ numbers. present_at held.toc numbers >> (all_at held.bytes held.symbols None None numbers >>= λ series. differing_at held.lists held.rows (zip numbers series) >>= λ found. unless_differ found >> Ok series)) list e in
-    let present = then_ok _ _ list numbers.2 in
-    let series = bind_ok (all_at held.bytes held.symbols None None numbers.0) _ list present.2 in
-    let found = bind_ok (differing_at held.lists held.rows (zip numbers.0 series.0)) _ list series.2 in
-    let same = then_ok _ _ list found.2 in
+    let present = then_ok (present_at held.toc numbers.0) (all_at held.bytes held.symbols None None numbers.0 >>= λ series. differing_at held.lists held.rows (zip numbers.0 series) >>= λ found. unless_differ found >> Ok series) list numbers.2 in
+    let series = bind_ok (all_at held.bytes held.symbols None None numbers.0) (λ series. differing_at held.lists held.rows (zip numbers.0 series) >>= λ found. unless_differ found >> Ok series) list present.2 in
+    let found = bind_ok (differing_at held.lists held.rows (zip numbers.0 series.0)) (λ found. unless_differ found >> Ok series.0) list series.2 in
+    let same = then_ok (unless_differ found.0) (Ok series.0) list found.2 in
     let read = all_found held.bytes held.symbols None None numbers.0 series.0 series.1 in
     let few = all_few held.bytes held.symbols bytes None numbers.0 series.0 read.many read.each read.apart (omega arith) in
-    omega (arith, few, ap (sum_by members_of) (ok_is {E = IndexRefusal} _ _ same.2))
+    omega (arith, few, ap (sum_by members_of) (ok_is {E = IndexRefusal} series.0 list same.2))

@@ -11,7 +11,7 @@ use Rattle.std.proofs.lemmas.Option.{same_Some}
 use Rattle.std.proofs.lemmas.Cmp.{tied_itself, tied_back}
 use Rattle.std.proofs.lemmas.List.{nil_from_length}
 use Rattle.base.proofs.Lists.{zip_firsts, zip_seconds, zip_parts}
-use Rattle.base.proofs.Membership.{all_at_member, any_of_member, contains_place, member_of_any, place_of_member}
+use Rattle.base.proofs.Membership.{all_at_member, any_of_member, contains_place, member_of_any, of_map, place_of_member}
 use Rattle.base.proofs.Order.{Less-at_places}
 use Rattle.base.proofs.Bools.{bytes_eq-itself}
 use Rattle.base.specs.Reading.{refused_as}

@@ -90,7 +90,7 @@ module _ (symbols : List (List ℕ)) (names values : List ℕ) where
 
         -- the set has room for it
         pub has_room : IsOk (added labels label.name label.value)
-        has_room = subst IsOk (sym added_is) tt
+        has_room = subst IsOk (sym added_is) refl
 
         pub named_step : (new : List Label) (next : ℕ) → added labels label.name label.value ≡ Ok new → next ≡ place + 1 → AreNamed symbols names values label.name next new
         named_step new next adds next_is =

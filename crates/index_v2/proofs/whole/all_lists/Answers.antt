@@ -13,7 +13,7 @@ returns-in_err-list-clause-read c =
 
 pub loop-place-preserved : goal.loop-place-preserved
 loop-place-preserved c =
-    kept_step _ _ _ c.loop-place.place _ _ _ _ _ _ _ _ _ c.loop-place.invariant (sym c.in-Some.ensures) c.in_ok-list.ensures.exact c.in_ok-list.ensures.rise c.members.ensures c.is_kept-is_kept.ensures c.kept_or_none.ensures c.in_ok-push.ensures.items c.stray_at.ensures
+    kept_step _ _ _ c.loop-place.place _ _ _ _ _ _ _ _ _ c.loop-place.invariant (sym c.in-Some.ensures) c.in_ok-list.ensures.exact c.in_ok-list.ensures.rise c.members.ensures c.is_kept-is_kept.ensures c.kept_or_none.ensures c.in_ok-push.ensures.items c.stray_at-stray.ensures
 
 pub returns-clause-read : goal.returns-clause-read
 returns-clause-read c = kept_end _ _ _ c.loop-place.place _ _ c.loop-place.invariant (omega arith)
