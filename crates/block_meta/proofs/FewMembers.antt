@@ -267,9 +267,9 @@ thanos_few meta value n le is = record {
   labels = omega (arith, le, few_or_none _ _ value meta.labels labels_few is.labels);
   segment_files = omega (arith, le, few_or_none _ _ value meta.segment_files (list_few _) is.segment_files);
   files = omega (arith, le, few_or_none _ _ value meta.files (list_few _) is.files);
-  source = omega (arith, le, few_or_none _ _ value meta.source (λ v text e. omega (arith, text_few v text e)) is.source);
+  source = omega (arith, le, few_or_none IsText (codes "source") value meta.source (λ v text (e : IsText v text). omega (arith, text_few v text e)) is.source);
   label_texts = all_or_none (HasSmallTexts n) AreLabels (codes "labels") value meta.labels n (λ v small are. labels_all v meta.labels are n (omega (arith, le, small))) is.labels;
-  segment_texts = all_or_none (λ text. length text ≤ n) (IsList IsText) (codes "segment_files") value meta.segment_files n (λ v small are. list_all IsText length (λ w text e. omega (arith, text_few w text e)) v meta.segment_files are n (omega (arith, le, small))) is.segment_files;
+  segment_texts = all_or_none (λ text. length text ≤ n) (IsList IsText) (codes "segment_files") value meta.segment_files n (λ v small are. list_all IsText length (λ w text (e : IsText w text). omega (arith, text_few w text e)) v meta.segment_files are n (omega (arith, le, small))) is.segment_files;
   file_texts = all_or_none (λ (file : FileSize). length file.path ≤ n) (IsList IsFile) (codes "files") value meta.files n (λ v small are. list_all IsFile (λ (file : FileSize). length file.path) file_few v meta.files are n (omega (arith, le, small))) is.files;
 }
 
