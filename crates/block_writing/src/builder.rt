@@ -32,7 +32,7 @@ fn put_part(alloc: Global, writer: &mut BlockWriter, part: &[Sample]) -> Result<
 }
 
 /// Puts samples of a series, part by part as chunks.
-pub fn put_parts(
+fn put_parts(
     alloc: Global,
     writer: &mut BlockWriter,
     samples: &[Sample],
