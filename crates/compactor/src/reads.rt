@@ -11,7 +11,7 @@ ghost use Rattle.world_core.specs.Leads.{after_entry, LeadsBy};
 ghost use Rattle.compactor.specs.ReadRoom.{last_segment, most_segments, others_of};
 ghost use Rattle.compactor.specs.declared.reads_end.ReadsEnd.{ReadsEnd};
 
-use crate::input::{Input, Input, InputList, Read, ReadList};
+use crate::input::{Input, InputList, Read, ReadList};
 use crate::named::named_segments;
 use crate::reads_end::{Gathered, ReadsEnd};
 use base::NoMemory;
