@@ -14,6 +14,7 @@ use Rattle.block_content.specs.Verdict.{IsVerdict}
 use Rattle.block_content.specs.declared.checked.Checked.{Checked}
 use Rattle.block_content.specs.declared.check_refusal.CheckRefusal.{CheckRefusal}
 use Rattle.bucket_core.specs.Contents.{Contents}
+use Rattle.bucket_core.specs.Told.{ShelfTold}
 use Rattle.block_loading.specs.Loading.{IsLoaded, RefusesOnShelf}
 use Rattle.block_loading.specs.LoadReading.{IfRefused, KeepsShelf, WasBrokenOff, was_fault, refused_block}
 use Rattle.block_loading.specs.LoadedChecks.{EndsCheck, end_of}
@@ -97,5 +98,5 @@ pub ended_moved : (own ulid : ℕ) (files : BlockFiles) (r : Result Checked Load
 ended_moved own ulid files r same ends = subst (λ (n : ℕ). EndsCheck n files r) same ends
 
 -- the check leaves the shelf as the load did
-pub checked_here : {S : Type 0} (shelf : S → Option Contents) (faults : S → ℕ) (old new : S) (ulid : ℕ) (files : BlockFiles) (r : Result Checked LoadRefusal) → EndsCheck ulid files r → KeepsShelf shelf faults old new false → KeepsShelf shelf faults old new (was_fault r)
-checked_here shelf faults old new ulid files r ends kept = kept_as shelf faults old new false (was_fault r) (sym (ended_calm ulid files r ends)) kept
+pub checked_here : {S : Type 0} (tells : S → ShelfTold) (old new : S) (ulid : ℕ) (files : BlockFiles) (r : Result Checked LoadRefusal) → EndsCheck ulid files r → KeepsShelf tells old new false → KeepsShelf tells old new (was_fault r)
+checked_here tells old new ulid files r ends kept = kept_as tells old new false (was_fault r) (sym (ended_calm ulid files r ends)) kept

@@ -30,31 +30,31 @@ pub fn check_on_shelf<F: Shelf>(
     ensures few { IfOk result (λ checked. NamesFew (checked_files checked)) }
     ensures within { IfOk result (λ checked. AreWithinLimit (checked_files checked)) }
     ensures named { IfOk result (λ checked. AreNamed (checked_files checked)) }
-    ensures found { (told : Contents) → F.files shelf.old ≡ Some told
+    ensures found { (told : Contents) → (F.told shelf.old).files ≡ Some told
         → IfOk result (λ checked. IsLoaded told ulid (checked_files checked)) }
 
     // A block that the shelf has and that passes is answered with its counts.
-    ensures passes { (told : Contents) → F.files shelf.old ≡ Some told
+    ensures passes { (told : Contents) → (F.told shelf.old).files ≡ Some told
         → (files : BlockFiles) (list : List Series) → PassesOnShelf told ulid files list
         → IsOkAnd result (λ checked. (checked_files checked ≡ files)
         × (checked_series checked ≡ length list) × (checked_samples checked ≡ sample_count list))
         ⊎ WasBrokenOff result }
 
     // A refusal is the first of loading, and then of the check.
-    ensures refused { (told : Contents) → F.files shelf.old ≡ Some told
+    ensures refused { (told : Contents) → (F.told shelf.old).files ≡ Some told
         → (refusal : CheckRefusal) → result ≡ Err (LoadRefusal.Refused refusal)
         → RefusesOnShelf told ulid refusal }
-    ensures refuses { (told : Contents) → F.files shelf.old ≡ Some told
+    ensures refuses { (told : Contents) → (F.told shelf.old).files ≡ Some told
         → (refusal : CheckRefusal) → RefusesOnShelf told ulid refusal
         → (result ≡ Err (LoadRefusal.Refused refusal)) ⊎ WasBrokenOff result }
 
     // Files of the block are asked for, and no others, each once and in the order of reading. A refusal is that of the last one, or
     // of the whole block; a fault is that of the last one.
-    ensures asks { AsksInOrder F.files F.asked F.faults shelf.old shelf.new
+    ensures asks { AsksInOrder F.told shelf.old shelf.new
         ulid (StopsOnShelf ulid) (λ checked. (checked_files checked).segments) result }
 
     // The files stay as they are, and the shelf's count rises just where a fault is answered.
-    ensures kept { KeepsShelf F.files F.faults shelf.old shelf.new (was_fault result) }
+    ensures kept { KeepsShelf F.told shelf.old shelf.new (was_fault result) }
 {
     let block = LoadedBlock::load(alloc, shelf, ulid)?;
     block.check(alloc)

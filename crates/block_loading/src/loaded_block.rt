@@ -42,17 +42,17 @@ impl LoadedBlock {
         ensures ulid { IfOk result (λ block. loaded_ulid block ≡ ulid) }
 
         // Where the shelf tells its files, they are the block's, and a block that the shelf has is loaded.
-        ensures found { (told : Contents) → F.files shelf.old ≡ Some told
+        ensures found { (told : Contents) → (F.told shelf.old).files ≡ Some told
             → IfOk result (λ block. IsLoaded told ulid (loaded_files block)) }
-        ensures only { (told : Contents) → F.files shelf.old ≡ Some told
+        ensures only { (told : Contents) → (F.told shelf.old).files ≡ Some told
             → (files : BlockFiles) → IsLoaded told ulid files
             → IsOkAnd result (λ block. loaded_files block ≡ files) ⊎ WasBrokenOff result }
 
         // A refusal is the first in the order of reading.
-        ensures refused { (told : Contents) → F.files shelf.old ≡ Some told
+        ensures refused { (told : Contents) → (F.told shelf.old).files ≡ Some told
             → (refusal : CheckRefusal) → result ≡ Err (LoadRefusal.Refused refusal)
             → RefusesLoad told ulid refusal }
-        ensures refuses { (told : Contents) → F.files shelf.old ≡ Some told
+        ensures refuses { (told : Contents) → (F.told shelf.old).files ≡ Some told
             → (refusal : CheckRefusal) → RefusesLoad told ulid refusal
             → (result ≡ Err (LoadRefusal.Refused refusal)) ⊎ WasBrokenOff result }
 
@@ -62,11 +62,11 @@ impl LoadedBlock {
 
         // Files of the block are asked for, and no others, each once and in the order of reading. A refusal or a
         // fault is that of the last one.
-        ensures asks { AsksInOrder F.files F.asked F.faults shelf.old shelf.new
+        ensures asks { AsksInOrder F.told shelf.old shelf.new
             ulid (StopsAt ulid) (λ block. (loaded_files block).segments) result }
 
         // The files stay as they are, and the shelf's count rises just where a fault is answered.
-        ensures kept { KeepsShelf F.files F.faults shelf.old shelf.new (was_fault result) }
+        ensures kept { KeepsShelf F.told shelf.old shelf.new (was_fault result) }
     {
         let (files, indexed) = read_block(alloc, shelf, ulid)?;
         Ok(LoadedBlock {

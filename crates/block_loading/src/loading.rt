@@ -23,15 +23,15 @@ pub(crate) fn read_block<F: Shelf>(
     shelf: &mut F,
     ulid: Ulid,
 ) -> Result<(BlockFiles, IndexSeriesList), LoadRefusal>
-    ensures loaded { (told : Contents) → F.files shelf.old ≡ Some told
+    ensures loaded { (told : Contents) → (F.told shelf.old).files ≡ Some told
         → Loads (λ x. parts_of x.0) result (load_at told ulid) }
     ensures read { IfOk result (λ x. IsBytes x.0.index × (index_at x.0.index ≡ Ok x.1)) }
     ensures few { IfOk result (λ x. ListsFew x.0.index x.1) }
     ensures named { IfOk result (λ x. length x.0.segments ≡ last_segment x.1) }
     ensures within { IfOk result (λ x. AreWithinLimit x.0) }
-    ensures asks { AsksInOrder F.files F.asked F.faults shelf.old shelf.new
+    ensures asks { AsksInOrder F.told shelf.old shelf.new
         ulid (StopsAt ulid) (λ x. x.0.segments) result }
-    ensures kept { KeepsShelf F.files F.faults shelf.old shelf.new (was_fault result) }
+    ensures kept { KeepsShelf F.told shelf.old shelf.new (was_fault result) }
 {
     let meta = read_meta(alloc, shelf, ulid)?;
     let (index, indexed) = read_series(alloc, shelf, ulid)?;
@@ -50,17 +50,17 @@ pub(crate) fn read_block<F: Shelf>(
 /// there are no more than these. The first file that is refused ends the load, and none behind it is read.
 pub fn load<F: Shelf>(alloc: Global, shelf: &mut F, ulid: Ulid) -> Result<BlockFiles, LoadRefusal>
     // Where the shelf tells its files, they are the block's, and a block that the shelf has is loaded.
-    ensures found { (told : Contents) → F.files shelf.old ≡ Some told
+    ensures found { (told : Contents) → (F.told shelf.old).files ≡ Some told
         → IfOk result (λ files. IsLoaded told ulid files) }
-    ensures only { (told : Contents) → F.files shelf.old ≡ Some told
+    ensures only { (told : Contents) → (F.told shelf.old).files ≡ Some told
         → (files : BlockFiles) → IsLoaded told ulid files
         → IsOkAnd result (λ loaded. loaded ≡ files) ⊎ WasBrokenOff result }
 
     // A refusal is the first in the order of reading.
-    ensures refused { (told : Contents) → F.files shelf.old ≡ Some told
+    ensures refused { (told : Contents) → (F.told shelf.old).files ≡ Some told
         → (refusal : CheckRefusal) → result ≡ Err (LoadRefusal.Refused refusal)
         → RefusesLoad told ulid refusal }
-    ensures refuses { (told : Contents) → F.files shelf.old ≡ Some told
+    ensures refuses { (told : Contents) → (F.told shelf.old).files ≡ Some told
         → (refusal : CheckRefusal) → RefusesLoad told ulid refusal
         → (result ≡ Err (LoadRefusal.Refused refusal)) ⊎ WasBrokenOff result }
 
@@ -70,11 +70,11 @@ pub fn load<F: Shelf>(alloc: Global, shelf: &mut F, ulid: Ulid) -> Result<BlockF
 
     // Files of the block are asked for, and no others, each once and in the order of reading. A refusal or a
     // fault is that of the last one.
-    ensures asks { AsksInOrder F.files F.asked F.faults shelf.old shelf.new
+    ensures asks { AsksInOrder F.told shelf.old shelf.new
         ulid (StopsAt ulid) (λ files. files.segments) result }
 
     // The files stay as they are, and the shelf's count rises just where a fault is answered.
-    ensures kept { KeepsShelf F.files F.faults shelf.old shelf.new (was_fault result) }
+    ensures kept { KeepsShelf F.told shelf.old shelf.new (was_fault result) }
 {
     let block = LoadedBlock::load(alloc, shelf, ulid)?;
     Ok(block.files)

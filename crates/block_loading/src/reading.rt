@@ -45,12 +45,12 @@ fn file_of(key: &Key, answer: ShelfAnswer) -> Result<Blob, LoadRefusal>
 /// Reads the file under a key.
 fn read_file<F: Shelf>(alloc: Global, shelf: &mut F, key: &Key) -> Result<Blob, LoadRefusal>
     requires { IsLawfulKey key.now }
-    ensures read { (told : Contents) → F.files shelf.old ≡ Some told
+    ensures read { (told : Contents) → (F.told shelf.old).files ≡ Some told
         → Loads (λ bytes. bytes) result (file_at told key.now) }
     ensures within { IfOk result (λ bytes. length bytes ≤ file_limit) }
     ensures stopped { IfErr result (IfRefused (RefusesFile key.now)) }
-    ensures asks { AsksFile F.asked shelf.old shelf.new key.now result }
-    ensures kept { KeepsShelf F.files F.faults shelf.old shelf.new (was_fault result) }
+    ensures asks { AsksFile F.told shelf.old shelf.new key.now result }
+    ensures kept { KeepsShelf F.told shelf.old shelf.new (was_fault result) }
 {
     let name = key.text(alloc)?;
     let answer = shelf.read(name.as_str());
@@ -83,12 +83,12 @@ pub(crate) fn read_meta<F: Shelf>(
     shelf: &mut F,
     ulid: Ulid,
 ) -> Result<Meta, LoadRefusal>
-    ensures read { (told : Contents) → F.files shelf.old ≡ Some told
+    ensures read { (told : Contents) → (F.told shelf.old).files ≡ Some told
         → Loads fields_of result (meta_at told ulid) }
     ensures within { IfOk result (λ meta. IsOfText (fields_of meta)) }
     ensures stopped { IfErr result (IfRefused (StopsAt ulid 1)) }
-    ensures asks { AsksFile F.asked shelf.old shelf.new (Key.Meta ulid) result }
-    ensures kept { KeepsShelf F.files F.faults shelf.old shelf.new (was_fault result) }
+    ensures asks { AsksFile F.told shelf.old shelf.new (Key.Meta ulid) result }
+    ensures kept { KeepsShelf F.told shelf.old shelf.new (was_fault result) }
 {
     let text = read_file(alloc, shelf, &Key::Meta(ulid))?;
     match Meta::read(alloc, text.bytes()) {
@@ -103,15 +103,15 @@ pub(crate) fn read_series<F: Shelf>(
     shelf: &mut F,
     ulid: Ulid,
 ) -> Result<(Blob, IndexSeriesList), LoadRefusal>
-    ensures read { (told : Contents) → F.files shelf.old ≡ Some told
+    ensures read { (told : Contents) → (F.told shelf.old).files ≡ Some told
         → Loads (λ x. (x.0, x.1)) result (index_in told ulid) }
     ensures bytes { IfOk result (λ x. IsBytes x.0) }
     ensures indexed { IfOk result (λ x. index_at x.0 ≡ Ok x.1) }
     ensures few { IfOk result (λ x. ListsFew x.0 x.1) }
     ensures within { IfOk result (λ x. length x.0 ≤ file_limit) }
     ensures stopped { IfErr result (IfRefused (StopsAt ulid 2)) }
-    ensures asks { AsksFile F.asked shelf.old shelf.new (Key.Index ulid) result }
-    ensures kept { KeepsShelf F.files F.faults shelf.old shelf.new (was_fault result) }
+    ensures asks { AsksFile F.told shelf.old shelf.new (Key.Index ulid) result }
+    ensures kept { KeepsShelf F.told shelf.old shelf.new (was_fault result) }
 {
     let index = read_file(alloc, shelf, &Key::Index(ulid))?;
     match read_index(alloc, index.bytes()) {
@@ -158,13 +158,13 @@ pub(crate) fn read_segments<F: Shelf>(
     last: u32,
 ) -> Result<BlobList, LoadRefusal>
     requires { last ≤ segment_limit }
-    ensures read { (told : Contents) → F.files shelf.old ≡ Some told
+    ensures read { (told : Contents) → (F.told shelf.old).files ≡ Some told
         → Loads (λ segments. segments) result (segments_at told ulid 1 last) }
     ensures many { IfOk result (λ segments. length segments ≡ last) }
     ensures within { IfOk result (All (λ (segment : List ℕ). length segment ≤ file_limit)) }
-    ensures asks { AsksSegments F.files F.asked F.faults shelf.old shelf.new
+    ensures asks { AsksSegments F.told shelf.old shelf.new
         ulid last result }
-    ensures kept { KeepsShelf F.files F.faults shelf.old shelf.new (was_fault result) }
+    ensures kept { KeepsShelf F.told shelf.old shelf.new (was_fault result) }
 {
     let mut segments = BlobList::new(alloc);
     for number in 0..last {

@@ -1,3 +1,6 @@
+//! How a lie is told by two numbers: the first bytes in which the reply and what is owed differ. A list of names is
+//! compared as one text, in which each name ends with a byte that no text in UTF-8 has.
+
 ghost use Rattle.std.specs.Prelude.{◌≡◌, ◌⊎◌, ◌<◌, ◌≤◌, drop, length, IfOk};
 ghost use Rattle.lifecycle_core.specs.Breaches.{next_byte, text_end};
 ghost use Rattle.breach_finding.specs.Told.{IsDifference, ended_names};
@@ -44,7 +47,7 @@ pub(crate) fn first_difference(one: &[u8], other: &[u8]) -> Option<(u64, u64)>
     difference_by_bytes(one, other)
 }
 
-/// The same, byte by byte.
+/// The first bytes in which two texts differ, which are sought byte by byte.
 fn difference_by_bytes(one: &[u8], other: &[u8]) -> Option<(u64, u64)>
     ensures { IsDifference one.now other.now result }
 {

@@ -1,3 +1,6 @@
+//! The rules, asked of one entry in the order in which a breach names them: first what the bucket's contents and the
+//! entry itself tell, then what goes by a gateway's syncs and views. What later entries are judged by is noted here.
+
 ghost use Rattle.std.specs.Prelude.{◌≡◌, ◌↔◌, ◌+◌, ◌≤◌, ◌<◌, ℕ, List, Some, None, IfOk, IsTrue, OnOk, slice_get};
 ghost use Rattle.std.specs.BTreeMap.{get};
 ghost use Rattle.std.specs.Ordering.{is_eq, nat_cmp};

@@ -1,6 +1,5 @@
-//! What stands in a bucket, by keys, as puts and deletes are gone through: it is looked up, and listed in
-//! pages. The bytes stay where they are.
-//! The first entry of a journal that a rule refuses, found in one walk along the journal.
+//! The first entry of a journal that breaks a rule, found in one walk along the journal: what stands in the bucket, when blocks
+//! were put and marked, and what each gateway's last sync saw are kept up to each entry.
 #![tactic(auto)]
 
 mod differing;

@@ -1,3 +1,6 @@
+//! Whether a reply is a lie: whether it shows another thing than what the puts and deletes before it have left. A call
+//! that failed shows nothing, so it is no lie.
+
 ghost use Rattle.std.specs.Prelude.{◌≡◌, ◌++◌, codes, ℕ, List, [], IfOk, option_map};
 ghost use Rattle.std.specs.Option.{option_copied};
 ghost use Rattle.ulid_core.specs.UlidText.{text_of};

@@ -1,3 +1,6 @@
+//! Pages as the bucket would have to answer them, by what was put and deleted. A page mostly begins behind a name that
+//! stands, and is looked up from there; only behind a strange name all keys are gone through.
+
 ghost use Rattle.std.specs.Prelude.{◌≡◌, ◌↔◌, ◌==◌, ◌&&◌, ◌∷◌, ◌++◌, List, [], ℕ, IfOk, IsTrue, find, option_map, Some};
 ghost use Rattle.std.specs.List.{after_first};
 ghost use Rattle.std.specs.String.{string_bytes};
@@ -62,7 +65,7 @@ fn object_comes_after(alloc: Global, ulid: Ulid, cursor: &str, key: &Key) -> Res
     Ok(is_due(ulid, cursor, key, text.as_str()))
 }
 
-/// The same by the key's text.
+/// Whether the key, which has this text, is the block's, and the text comes after the cursor's.
 fn is_due(ulid: Ulid, cursor: &str, key: &Key, text: &str) -> bool
     ensures { result
         ≡ ((key_ulid key.now == ulid) && comes_after compare_texts (Some cursor.now) text.now) }
@@ -193,7 +196,7 @@ impl Standing {
         }
     }
 
-    /// The same behind the text of a key, which may be of another block.
+    /// The first key of the block whose text comes after that of this key, which may be of another block.
     fn object_after(
         &self,
         alloc: Global,

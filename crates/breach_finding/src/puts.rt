@@ -1,3 +1,6 @@
+//! The rules of time on puts. Everybody else goes by the time in a block's ULID and by the second in its mark, so an
+//! object that a slow worker puts long after that comes as a surprise.
+
 ghost use Rattle.std.specs.Prelude.{◌≡◌, ◌≢◌, ◌⊎◌, ◌+◌, None, List, ℕ, IfOk, IfSome, option_map};
 ghost use Rattle.std.specs.Result.{result_ok};
 ghost use Rattle.block_keys.specs.Keys.{key_ulid};
@@ -43,7 +46,7 @@ fn untimely(ulid: Ulid, moment: u64, limit: u64) -> Option<(u64, u64)>
     over(moment, time, limit)
 }
 
-/// The same of an object that is not a mark.
+/// How the put of an object under a key comes before its block's time, or too long after it. A mark may come at any time.
 fn object_untimely(key: &Key, moment: u64, limit: u64) -> Option<(u64, u64)>
     ensures { IsTold (λ x y. IsBlockObject key.now
         × (IsOver (time_of (key_ulid key.now)) moment x y

@@ -1,3 +1,6 @@
+//! What stands in the bucket by its journal: of each object the place of the entry that put it. The bytes stay in that
+//! entry, so a walk along a journal copies none of them.
+
 ghost use Rattle.std.specs.Prelude.{◌≡◌, ℕ, List, option_map, Some, OnOk, OnErr};
 ghost use Rattle.bucket_core.specs.Contents.{Contents, nothing, with_object, without_object};
 ghost use Rattle.block_keys.specs.Keys.{IsLawfulKey};

@@ -1,3 +1,6 @@
+//! What is looked up of a seat: whose it is, and its first and its last entry. They are gathered before the walk, since
+//! only the entries behind one tell whether it is the last of its seat.
+
 ghost use Rattle.std.specs.Prelude.{◌≡◌, ◌+◌, ◌-◌, ◌^◌, ◌||◌, ◌&&◌, ◌==◌, ℕ, length, min, slice_get, IfOk, OnOk, None, option_map};
 ghost use Rattle.std.specs.BTreeMap.{get};
 ghost use Rattle.std.specs.BTreeSet.{contains};

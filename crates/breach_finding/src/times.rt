@@ -1,3 +1,6 @@
+//! The rules of time on syncs, and on what a gateway or a compaction reads afterwards: what was seen at the beginning
+//! may not be so old that a cleaning has deleted the blocks since.
+
 ghost use Rattle.std.specs.Prelude.{◌≡◌, ◌↔◌, ◌/◌, ◌<◌, IsTrue, Some};
 ghost use Rattle.std.specs.BTreeMap.{get};
 ghost use Rattle.std.specs.BTreeSet.{contains};

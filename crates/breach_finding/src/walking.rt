@@ -1,3 +1,6 @@
+//! The breach of a journal: the first entry that a rule refuses. One walk finds it, as all that the rules ask of
+//! earlier entries goes along with it: what stands, the syncs under way, and when each gateway's view began.
+
 ghost use Rattle.std.specs.Prelude.{◌≡◌, ◌<◌, ℕ, List, length, Option, Some, IfOk, slice_get};
 ghost use Rattle.std.specs.BTreeMap.{get};
 ghost use Rattle.std.specs.Ordering.{nat_cmp};

@@ -1,3 +1,7 @@
+//! Which entries are a sync, told by running a real `Sync` over those of a seat: an entry goes on with it where it does
+//! what the machine asks for. A good meta is passed on to it as absent: it then asks for the same, and keeps no meta in
+//! memory.
+
 ghost use Rattle.std.specs.Prelude.{◌≡◌, ◌↔◌, ◌≤◌, ◌<◌, ℕ, List, [], ◌∷◌, Some, Ok, IfOk, IsTrue};
 ghost use Rattle.ulid_core.specs.Limits.{ulid_time_limit};
 ghost use Rattle.world_core.specs.Machines.{GoesOn};

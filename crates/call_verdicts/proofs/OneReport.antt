@@ -74,7 +74,7 @@ module _ (gateways : ℕ) (tasks : List Task) where
   alone_at own place w (syncs gateway is hand) = absurd (cc (hand))
   alone_at own place w (compacts stop is hand) = cc (hand)
   alone_at own place w (cleans stop is hand) = cc (hand)
-  alone_at own place w (asks low high selector gateway is hand below) = absurd (cc (hand))
+  alone_at own place w (asks gateway is hand below) = absurd (cc (hand))
 
   hand_by : (one other : Hand) (place : ℕ) (w v : Work) → gateway_of one ≡ gateway_of other → IsFor gateways one place w → IsFor gateways other place v → one ≡ other
   hand_by (hands.Alone a) (hands.Alone b) place w v same is so = ap hands.Alone (alone_at a place w is ∙ sym (alone_at b place v so))

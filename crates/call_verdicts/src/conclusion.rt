@@ -1,3 +1,6 @@
+//! The end of a call: its verdict is written, and what it leaves is handed back. Writing may fail too, and then the
+//! status tells that in place of the verdict.
+
 ghost use Rattle.std.specs.Prelude.{◌≡◌, ◌++◌, OnErr, OnOk, Some, None, option_map};
 ghost use Rattle.bucket_core.specs.Causes.{Rose};
 ghost use Rattle.bucket_core.specs.Contents.{nothing};

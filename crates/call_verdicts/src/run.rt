@@ -15,6 +15,6 @@ pub struct Run<B: Bucket, F> {
     pub shelf: Option<F>,
     /// What the operations of its run were answered, where one began.
     pub note: Option<RunNote<B>>,
-    /// The same of the run of a generated day, whose bucket is its own.
+    /// What the operations of a generated day were answered, where one was run. Its bucket is its own.
     pub day: Option<RunNote<MemoryBucket>>,
 }

@@ -1,3 +1,6 @@
+//! What a call comes to, with its status and its text. The text is whole before a byte of it is written, so a call that
+//! lacks memory for it writes nothing.
+
 ghost use Rattle.std.specs.Prelude.{◌≡◌, ◌≢◌, ◌++◌, ◌∷◌, [], codes, false, IfOk, OnErr, OnOk};
 ghost use Rattle.base.specs.Lines.{newline};
 ghost use Rattle.report_lines.specs.CheckLines.{check_line};

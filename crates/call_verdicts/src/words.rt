@@ -1,3 +1,5 @@
+//! The words of the command line. What a call does is decided by them alone: no setting comes from elsewhere.
+
 ghost use Rattle.std.specs.Prelude.{◌≡◌, Some, None, IfSome, option_map};
 ghost use Rattle.call_verdicts.specs.Words.{block_word, bucket_word, named_by, number_word, replay_shelf, replay_word, shelf_word};
 

@@ -1,3 +1,6 @@
+//! The machine of a compaction. It drives machines of other activities, one at a time, and passes their operations on
+//! as its own: the end of each decides which comes next, and one that fails ends the compaction.
+
 ghost use Rattle.std.specs.Prelude.{◌≡◌, ◌+◌, ◌*◌, ◌<◌, ◌≤◌, ◌^◌, ℕ, List, [], ◌∷◌, length, Option, Some, IfOk, IsSomeAnd};
 ghost use Rattle.world_core.specs.Machines.{Falls};
 ghost use Rattle.world_core.specs.Operations.{IsAnswer, entry_of};

@@ -1,3 +1,6 @@
+//! What a compaction does next: it takes the groups in order and plans each once. What a new block makes possible in
+//! its group is left to the next round, since only a sync sees that block.
+
 ghost use Rattle.std.specs.Prelude.{◌≡◌, ◌≤◌, ◌++◌, length, map, IfOk};
 ghost use Rattle.group_planner.specs.Members.{ulids_of as ulids_of_all};
 ghost use Rattle.compactor.specs.Jobs.{IsFor, Takes};

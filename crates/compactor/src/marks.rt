@@ -1,3 +1,6 @@
+//! Blocks are marked where they have no mark. So each is looked at first: a second mark would be younger than the one
+//! that stands, and the block would be deleted later than the first one promised.
+
 ghost use Rattle.std.specs.Prelude.{◌≡◌, ◌+◌, ◌-◌, ◌*◌, ◌^◌, ◌<◌, ℕ, List, length, Option, Some, IsSomeAnd};
 ghost use Rattle.ulid_core.specs.Limits.{ulid_time_limit};
 ghost use Rattle.world_core.specs.Machines.{Falls};

@@ -1,3 +1,6 @@
+//! The blocks of a group as they are read for their merge: whole, since all of their samples go into it. The index says
+//! how many segments follow. What is absent, or no index, ends the compaction at that entry.
+
 ghost use Rattle.std.specs.Prelude.{◌≡◌, ◌+◌, ◌*◌, ◌≤◌, ◌<◌, ℕ, List, [], ◌∷◌, ◌++◌, length, Option, Some, IfOk, IsSomeAnd};
 ghost use Rattle.ulid_core.specs.Limits.{ulid_time_limit};
 ghost use Rattle.block_keys.specs.Keys.{segment_limit};

@@ -1,7 +1,8 @@
 -- What is told of a bucket and of a shelf in a folder: which folder it is, and how often they have failed.
-use Rattle.std.specs.Prelude.{ℕ, List, Option, Some}
+use Rattle.std.specs.Prelude.{ℕ, List, Some, None}
 use Rattle.std.specs.String.{string_bytes}
 use Rattle.bucket_core.specs.Named.{names_told}
+use Rattle.bucket_core.specs.Told.{BucketTold, ShelfTold}
 use Rattle.dir_bucket.specs.declared.dir_bucket.DirBucket.{DirBucket}
 use Rattle.dir_bucket.specs.declared.dir_shelf.DirShelf.{DirShelf}
 
@@ -11,6 +12,10 @@ bucket_folder bucket = string_bytes bucket.folder
 
 abbrev pub bucket_faults : {R F D : Type 0} → DirBucket R F D → ℕ
 bucket_faults bucket = bucket.faults
+
+-- what is told of it: it may fail at any call
+abbrev pub bucket_told : {R F D : Type 0} → DirBucket R F D → BucketTold
+bucket_told bucket = record { contents = None; asked = None; faults = bucket_faults bucket; quiet = ⊥ }
 
 -- the name of the folder of a shelf
 abbrev pub shelf_folder : {R F D : Type 0} → DirShelf R F D → List ℕ
@@ -23,5 +28,6 @@ shelf_faults shelf = shelf.faults
 abbrev pub names_noted : {R F D : Type 0} → DirShelf R F D → List (List ℕ)
 names_noted shelf = names_told shelf.names
 
-abbrev pub names_asked : {R F D : Type 0} → DirShelf R F D → Option (List (List ℕ))
-names_asked shelf = Some (names_noted shelf)
+-- what is told of it
+abbrev pub shelf_told : {R F D : Type 0} → DirShelf R F D → ShelfTold
+shelf_told shelf = record { files = None; asked = Some (names_noted shelf); faults = shelf_faults shelf }

@@ -1,6 +1,9 @@
+//! A bucket that outlives its process, in a folder of the system. Nothing can be proved of what files hold, so its
+//! contract tells of failures alone, each of which is counted.
+
 ghost use Rattle.std.specs.Prelude.{◌≡◌, ℕ, ◌≤◌, ◌^◌, Err, IfOk, IsTrue, None, false, vec_len};
 ghost use Rattle.std.specs.String.{string_bytes};
-ghost use Rattle.bucket_core.specs.Causes.{Rose, get_failed};
+ghost use Rattle.bucket_core.specs.Causes.{CountsFaults, Rose, get_failed};
 ghost use Rattle.dir_bucket.specs.Folders.{bucket_faults, bucket_folder};
 ghost use Rattle.dir_bucket.specs.Listings.{IsListing, ShowsAtMost};
 
@@ -59,11 +62,8 @@ impl<R: Files + AllocGlobal + Clone + Drop> DirBucket<R> {
         ensures short { (most : ℕ) → IfOk read (λ bytes. vec_len bytes ≤ most)
             → ShowsAtMost most result }
         ensures folder { bucket_folder self.new ≡ bucket_folder self.old }
-        ensures later { bucket_faults self.old ≤ bucket_faults self.new }
-        ensures cause { IsTrue (get_failed result)
-            → Rose (bucket_faults self.old) (bucket_faults self.new) }
-        ensures only { get_failed result ≡ false
-            → bucket_faults self.new ≡ bucket_faults self.old }
+        ensures faults { CountsFaults (bucket_faults self.old) (bucket_faults self.new)
+            (get_failed result) }
     {
         match read {
             Ok(bytes) => match Blob::from_vec(bytes).shared() {
@@ -106,23 +106,17 @@ impl<R: Files + AllocGlobal + Clone + Drop> Bucket for DirBucket<R> {
     ghost use Rattle.std.specs.Prelude.{◌≡◌, ◌≢◌, ◌≤◌, [], None, IfSome, option_map, false};
     ghost use Rattle.bucket_core.specs.Causes.{KeepsFaults, put_failed, get_failed, delete_failed, page_failed};
     ghost use Rattle.bucket_core.specs.Contents.{IsKey};
-    ghost use Rattle.dir_bucket.specs.Folders.{bucket_faults, bucket_folder};
+    ghost use Rattle.dir_bucket.specs.Folders.{bucket_folder, bucket_told};
     ghost use Rattle.dir_bucket.specs.Listings.{ShowsAtMost, ShowsListing};
     ghost use Rattle.dir_bucket.specs.Names.{is_plain as is_plain_name};
 
-    ghost contents = { λ bucket. None };
-
-    ghost asked = { λ bucket. None };
-
-    ghost faults = { bucket_faults };
-
-    ghost quiet = { λ bucket. ⊥ };
+    ghost told = { bucket_told };
 
     ghost only_keys = { λ bucket c key told some. cc };
 
     fn put(&mut self, key: &str, bytes: &Blob) -> PutAnswer
         requires { IsKey key.now }
-        ensures kept { KeepsFaults bucket_faults (λ bucket. ⊥) self.old self.new
+        ensures kept { KeepsFaults (bucket_told self.old) (bucket_told self.new)
             (put_failed result) }
         ensures folder { bucket_folder self.new ≡ bucket_folder self.old }
         ensures strange { is_plain_name key.now ≡ false → result ≡ PutAnswer.Failed false }
@@ -148,7 +142,7 @@ impl<R: Files + AllocGlobal + Clone + Drop> Bucket for DirBucket<R> {
     }
 
     fn get(&mut self, key: &str) -> GetAnswer
-        ensures kept { KeepsFaults bucket_faults (λ bucket. ⊥) self.old self.new
+        ensures kept { KeepsFaults (bucket_told self.old) (bucket_told self.new)
             (get_failed result) }
         ensures folder { bucket_folder self.new ≡ bucket_folder self.old }
         ensures strange { is_plain_name key.now ≡ false → result ≡ GetAnswer.Absent }
@@ -161,7 +155,7 @@ impl<R: Files + AllocGlobal + Clone + Drop> Bucket for DirBucket<R> {
     }
 
     fn get_range(&mut self, key: &str, from: u64, len: u64) -> GetAnswer
-        ensures kept { KeepsFaults bucket_faults (λ bucket. ⊥) self.old self.new
+        ensures kept { KeepsFaults (bucket_told self.old) (bucket_told self.new)
             (get_failed result) }
         ensures folder { bucket_folder self.new ≡ bucket_folder self.old }
         ensures short { ShowsAtMost len result }
@@ -175,7 +169,7 @@ impl<R: Files + AllocGlobal + Clone + Drop> Bucket for DirBucket<R> {
     }
 
     fn delete(&mut self, key: &str) -> DeleteAnswer
-        ensures kept { KeepsFaults bucket_faults (λ bucket. ⊥) self.old self.new
+        ensures kept { KeepsFaults (bucket_told self.old) (bucket_told self.new)
             (delete_failed result) }
         ensures folder { bucket_folder self.new ≡ bucket_folder self.old }
         ensures strange { is_plain_name key.now ≡ false → result ≡ DeleteAnswer.Deleted }
@@ -200,7 +194,7 @@ impl<R: Files + AllocGlobal + Clone + Drop> Bucket for DirBucket<R> {
     }
 
     fn page(&mut self, within: &str, after: &str, limit: u32) -> PageAnswer
-        ensures kept { KeepsFaults bucket_faults (λ bucket. ⊥) self.old self.new
+        ensures kept { KeepsFaults (bucket_told self.old) (bucket_told self.new)
             (page_failed result) }
         ensures folder { bucket_folder self.new ≡ bucket_folder self.old }
         ensures listed { ShowsListing after.now limit result }

@@ -1,7 +1,10 @@
-ghost use Rattle.std.specs.Prelude.{◌≡◌, ℕ, ◌≤◌, [], IfOk, IsTrue, false};
+//! The shelf of a run: the blocks in a folder as Prometheus leaves them there, which are only read. It tells which
+//! files it was asked for, so that a contract can say that a check reads each file of its block once.
+
+ghost use Rattle.std.specs.Prelude.{◌≡◌, ◌≤◌, [], Some, IfOk, false};
 ghost use Rattle.std.specs.String.{string_bytes};
-ghost use Rattle.bucket_core.specs.Causes.{Rose, file_failed};
-ghost use Rattle.bucket_core.specs.Files.{IsWithinLimit};
+ghost use Rattle.bucket_core.specs.Causes.{CountsFaults, file_failed};
+ghost use Rattle.bucket_core.specs.Files.{IsWithinLimit, ShowsFile};
 ghost use Rattle.dir_bucket.specs.Folders.{names_noted, shelf_faults, shelf_folder};
 
 use crate::files::{is_absent, read_range};
@@ -46,14 +49,14 @@ impl<R: Files + AllocGlobal + Clone + Drop> DirShelf<R> {
 
     /// What a read is answered, where a failure is counted.
     fn answer(&mut self, read: io::Result<Vec<u8>>) -> ShelfAnswer
+        // What was read is found where it does not pass the limit, and told as too large where it does.
+        ensures shown { IfOk read (λ bytes. ShowsFile (Some bytes.items) result) }
+        ensures reads { IfOk read (λ _. file_failed result ≡ false) }
         ensures within { IsWithinLimit result }
         ensures names { names_noted self.new ≡ names_noted self.old }
         ensures folder { shelf_folder self.new ≡ shelf_folder self.old }
-        ensures later { shelf_faults self.old ≤ shelf_faults self.new }
-        ensures cause { IsTrue (file_failed result)
-            → Rose (shelf_faults self.old) (shelf_faults self.new) }
-        ensures calm { file_failed result ≡ false
-            → shelf_faults self.new ≡ shelf_faults self.old }
+        ensures faults { CountsFaults (shelf_faults self.old) (shelf_faults self.new)
+            (file_failed result) }
     {
         match read {
             Ok(bytes) if bytes.len() > FILE_LIMIT => ShelfAnswer::TooLarge,
@@ -82,27 +85,21 @@ fn open_folder<R: Files + AllocGlobal + Clone + Drop>(rt: &R, folder: &str) -> i
 impl<R: Files + AllocGlobal + Clone + Drop> Shelf for DirShelf<R> {
     ghost use Rattle.std.specs.Prelude.{◌≡◌, ◌≤◌, None, IsTrue, false};
     ghost use Rattle.bucket_core.specs.Asking.{AsksOnce};
-    ghost use Rattle.bucket_core.specs.Causes.{Rose, file_failed};
+    ghost use Rattle.bucket_core.specs.Causes.{CountsFaults, file_failed};
     ghost use Rattle.bucket_core.specs.Files.{IsWithinLimit};
-    ghost use Rattle.dir_bucket.specs.Folders.{names_asked, shelf_faults, shelf_folder};
+    ghost use Rattle.dir_bucket.specs.Folders.{shelf_faults, shelf_folder, shelf_told};
     ghost use Rattle.dir_bucket.specs.Names.{is_plain as is_plain_name};
 
-    ghost files = { λ shelf. None };
-
-    ghost asked = { names_asked };
-
-    ghost faults = { shelf_faults };
+    ghost told = { shelf_told };
 
     #[tactic(auto, using(crate::proofs::Noting::noted))]
     fn read(&mut self, name: &str) -> ShelfAnswer
         ensures within { IsWithinLimit result }
-        ensures asks { AsksOnce names_asked self.old self.new name.now result ShelfAnswer.NoMemory }
+        ensures asks { AsksOnce (shelf_told self.old).asked (shelf_told self.new).asked
+            name.now result ShelfAnswer.NoMemory }
         ensures folder { shelf_folder self.new ≡ shelf_folder self.old }
-        ensures later { shelf_faults self.old ≤ shelf_faults self.new }
-        ensures cause { IsTrue (file_failed result)
-            → Rose (shelf_faults self.old) (shelf_faults self.new) }
-        ensures calm { file_failed result ≡ false
-            → shelf_faults self.new ≡ shelf_faults self.old }
+        ensures faults { CountsFaults (shelf_faults self.old) (shelf_faults self.new)
+            (file_failed result) }
         ensures strange { is_plain_name name.now ≡ false → result ≡ ShelfAnswer.Absent }
     {
         self.names.note(name);

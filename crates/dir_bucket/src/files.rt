@@ -19,12 +19,9 @@ pub(crate) fn path_of<R: AllocGlobal>(rt: &R, folder: &str, name: &str) -> io::R
     Ok(format!(in rt.alloc(); "{folder}/{name}")?)
 }
 
-/// Whether the error says that there is no such file.
+/// Whether the error says that nothing stands under the name. A folder that stands there is no such error.
 pub(crate) fn is_absent(error: &io::Error) -> bool {
-    matches!(
-        error.kind(),
-        ErrorKind::NotFound | ErrorKind::NotADirectory | ErrorKind::IsADirectory
-    )
+    matches!(error.kind(), ErrorKind::NotFound | ErrorKind::NotADirectory)
 }
 
 /// Writes the bytes to a new file, and waits until the system has them on its disk.

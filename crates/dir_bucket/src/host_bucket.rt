@@ -1,3 +1,6 @@
+//! One type for both kinds of bucket that a word can name, as a site hands out one type. The notes of its calls take no
+//! memory: they are there for contracts.
+
 ghost use Rattle.std.specs.Prelude.{◌≡◌};
 
 use crate::DirBucket;
@@ -15,16 +18,9 @@ pub enum HostBucket<R: Files + AllocGlobal + Clone + Drop> {
 }
 
 impl<R: Files + AllocGlobal + Clone + Drop> Bucket for HostBucket<R> {
-    ghost use Rattle.std.specs.Prelude.{Some};
-    ghost use Rattle.dir_bucket.specs.HostBucket.{calls_noted, contents_told, faults_counted, IsQuiet, told_is_key};
+    ghost use Rattle.dir_bucket.specs.HostBucket.{bucket_told, told_is_key};
 
-    ghost contents = { contents_told };
-
-    ghost asked = { λ bucket. Some (calls_noted bucket) };
-
-    ghost faults = { faults_counted };
-
-    ghost quiet = { IsQuiet };
+    ghost told = { bucket_told };
 
     ghost only_keys = { told_is_key };
 

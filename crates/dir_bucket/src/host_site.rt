@@ -1,3 +1,5 @@
+//! The outside of the program: `memory` is a bucket that begins empty, and each other word names a folder.
+
 ghost use Rattle.std.specs.Prelude.{◌≡◌, [], None, Some, IfOk, IfSome};
 ghost use Rattle.dir_bucket.specs.Folders.{names_noted, shelf_faults, shelf_folder};
 ghost use Rattle.dir_bucket.specs.HostBucket.{calls_noted, contents_told, faults_counted as bucket_faults, folder_of, IsQuiet};
@@ -79,22 +81,14 @@ impl<R: Files + AllocGlobal + Clone + Drop> Site for HostSite<R> {
 
     type Files = DirShelf<R>;
 
-    ghost use Rattle.std.specs.Prelude.{◌≡◌, ◌≢◌, ◌≤◌, ◌+◌, [], None, Some, Err, IfOk, IfSome, is_ok, if◌then◌else◌};
-    ghost use Rattle.bucket_core.specs.Causes.{Rose};
+    ghost use Rattle.std.specs.Prelude.{◌≡◌, ◌+◌, [], None, Some, IfOk, IfSome, is_ok, if◌then◌else◌};
+    ghost use Rattle.bucket_core.specs.Causes.{CountsFaults, opening_failed};
     ghost use Rattle.dir_bucket.specs.Folders.{names_noted, shelf_faults, shelf_folder};
     ghost use Rattle.dir_bucket.specs.HostBucket.{calls_noted, contents_told, folder_of, IsQuiet, faults_counted as bucket_faults};
     ghost use Rattle.dir_bucket.specs.Places.{contents_under, folder_under};
-    ghost use Rattle.dir_bucket.specs.HostSite.{buckets_handed_out, shelves_handed_out, faults_counted};
+    ghost use Rattle.dir_bucket.specs.HostSite.{buckets_handed_out, shelves_handed_out, faults_counted, site_told};
 
-    ghost faults = { faults_counted };
-
-    ghost buckets = { buckets_handed_out };
-
-    ghost shelves = { shelves_handed_out };
-
-    ghost next_bucket = { λ site name. contents_under name };
-
-    ghost next_shelf = { λ site name. None };
+    ghost told = { site_told };
 
     fn open_bucket(&mut self, name: &str) -> Result<HostBucket<R>, SiteRefusal>
         ensures fresh { IfOk result (λ bucket. bucket_faults bucket ≡ 0) }
@@ -107,11 +101,8 @@ impl<R: Files + AllocGlobal + Clone + Drop> Site for HostSite<R> {
             ≡ (if is_ok result then buckets_handed_out self.old + 1
             else buckets_handed_out self.old) }
         ensures shelves { shelves_handed_out self.new ≡ shelves_handed_out self.old }
-        ensures later { faults_counted self.old ≤ faults_counted self.new }
-        ensures cause { result ≡ Err SiteRefusal.Failed
-            → Rose (faults_counted self.old) (faults_counted self.new) }
-        ensures calm { result ≢ Err SiteRefusal.Failed
-            → faults_counted self.new ≡ faults_counted self.old }
+        ensures faults { CountsFaults (faults_counted self.old) (faults_counted self.new)
+            (opening_failed result) }
     {
         if self.buckets == u64::MAX {
             self.faults = self.faults.saturating_add(1);
@@ -138,11 +129,8 @@ impl<R: Files + AllocGlobal + Clone + Drop> Site for HostSite<R> {
             ≡ (if is_ok result then shelves_handed_out self.old + 1
             else shelves_handed_out self.old) }
         ensures buckets { buckets_handed_out self.new ≡ buckets_handed_out self.old }
-        ensures later { faults_counted self.old ≤ faults_counted self.new }
-        ensures cause { result ≡ Err SiteRefusal.Failed
-            → Rose (faults_counted self.old) (faults_counted self.new) }
-        ensures calm { result ≢ Err SiteRefusal.Failed
-            → faults_counted self.new ≡ faults_counted self.old }
+        ensures faults { CountsFaults (faults_counted self.old) (faults_counted self.new)
+            (opening_failed result) }
     {
         if self.shelves == u64::MAX {
             self.faults = self.faults.saturating_add(1);

@@ -1,3 +1,6 @@
+//! What a run of the generated day prints in place of a report: counts alone, since its answers have far more samples
+//! than anybody reads.
+
 ghost use Rattle.std.specs.Prelude.{◌≡◌, ◌++◌, OnOk};
 ghost use Rattle.generated_day.specs.Summaries.{counted, generated_line, uploaded_line, rounds_line, cleaned_line, query_line, queries_text, summary_text};
 

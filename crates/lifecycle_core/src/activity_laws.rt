@@ -1,3 +1,6 @@
+//! Laws of what each activity asks for, told by its own entries alone, whoever works beside it. Those on blocks in
+//! whole journals stand on them.
+
 ghost use Rattle.std.specs.Prelude.{◌≡◌, ℕ, ◌<◌, ◌^◌, List, ◌∷◌, ◌++◌, Option, Some};
 ghost use Rattle.moment_core.specs.declared.rules.Rules.{Rules};
 ghost use Rattle.world_core.specs.declared.entry.Entry.{Entry};

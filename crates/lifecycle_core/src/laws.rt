@@ -1,3 +1,6 @@
+//! What is guaranteed of the journals of a script, in whatever order its workers' operations fell. Each law is a
+//! function with an empty body, whose contract is the law; none of them speaks of the machines.
+
 ghost use Rattle.std.specs.Prelude.{◌≡◌, ◌≢◌, ◌↔◌, ◌<◌, ℕ, ℤ, List, [], ◌∷◌, ◌++◌, All, Contains, Option, Some, slice_get};
 ghost use Rattle.label_sets.specs.declared.series.Series.{Series};
 ghost use Rattle.matchers.specs.declared.matcher.Matcher.{Matcher};

@@ -39,7 +39,7 @@ pub fn do_in_line<B: Bucket, R: PhaseReport + Drop>(
 
     // The hand was made over this world.
     ensures wanted { IsTrue result.2.wanted → result.0 ≡ Err Broken.NoMemory }
-    ensures keeps { KeepsRun B.faults B.quiet B.asked world false world
+    ensures keeps { KeepsRun B.told world false world
         result.2.opened.value result.2.wanted result.2.world }
 {
     let hand = LineHand::new(world);

@@ -1,3 +1,6 @@
+//! Whose seat does a task. A run in line has one hand for all workers, but its journal names their seats, so that it is
+//! also a journal of workers beside each other and the same laws speak of it.
+
 ghost use Rattle.std.specs.Prelude.{◌≡◌, ◌-◌, ◌==◌, ◌^◌, min, length, IfOk};
 ghost use Rattle.base.specs.Lists.{is_one_of};
 ghost use Rattle.script_core.specs.Workers.{seats_before, workers_of};

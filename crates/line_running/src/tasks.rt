@@ -47,7 +47,7 @@ pub(crate) fn do_task<B: Bucket, R: Drop>(
     ensures full { result.0 ≡ Err Broken.Full → IsFull result.1.world.journal }
     ensures refused { result.1.refused ≡ is_full_came result.0 }
     ensures wanted { IsTrue result.1.wanted → result.0 ≡ Err Broken.NoMemory }
-    ensures keeps { KeepsRun B.faults B.quiet B.asked hand.opened.value hand.wanted hand.world
+    ensures keeps { KeepsRun B.told hand.opened.value hand.wanted hand.world
         result.1.opened.value result.1.wanted result.1.world }
     ensures step { (views : Holdings) → AreSeen views progress.old.gateways.items
         → TaskStep (setting_in means.now)
@@ -125,7 +125,7 @@ fn do_part<B: Bucket, R: Drop>(
     ensures full { result.0 ≡ Err Broken.Full → IsFull result.1.world.journal }
     ensures refused { result.1.refused ≡ is_full_came result.0 }
     ensures wanted { IsTrue result.1.wanted → result.0 ≡ Err Broken.NoMemory }
-    ensures keeps { KeepsRun B.faults B.quiet B.asked hand.opened.value hand.wanted hand.world
+    ensures keeps { KeepsRun B.told hand.opened.value hand.wanted hand.world
         result.1.opened.value result.1.wanted result.1.world }
     ensures step { (views : Holdings) → AreSeen views progress.old.gateways.items
         → PartStep (setting_in means.now)
@@ -181,7 +181,7 @@ fn do_over<B: Bucket>(
     ensures full { result.0 ≡ Err Broken.Full → IsFull result.1.world.journal }
     ensures refused { result.1.refused ≡ is_full_came result.0 }
     ensures wanted { IsTrue result.1.wanted → result.0 ≡ Err Broken.NoMemory }
-    ensures keeps { KeepsRun B.faults B.quiet B.asked hand.opened.value hand.wanted hand.world
+    ensures keeps { KeepsRun B.told hand.opened.value hand.wanted hand.world
         result.1.opened.value result.1.wanted result.1.world }
     ensures done { (who : Who) (place : ℕ) (held : Holding) → who.gateway ≡ gateway
         → Sees held sight.old

@@ -4,4 +4,5 @@ pub mod Taking
 pub mod Ready
 pub mod Joined
 pub mod Refused
+pub mod Looking
 pub mod Parts

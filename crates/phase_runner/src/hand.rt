@@ -1,3 +1,6 @@
+//! The hand of one worker in its thread: each operation takes a turn on the shared world. The gate is asked before the
+//! turn is, so that a worker that is held up there keeps no other waiting.
+
 ghost use Rattle.std.specs.Prelude.{◌≡◌};
 ghost use Rattle.world_turn.specs.Passes.{table_of, view_of};
 
@@ -82,6 +85,8 @@ impl<'a, B: Bucket, G: Gate, R: Wait> Hand for TurnHand<'a, B, G, R> {
 
     ghost wanted = { λ hand. hand.view.wanted };
 
+    ghost known = { λ hand. hand.view.known };
+
     ghost keeps = { GoesOn };
 
     ghost keeps_none = { goes_on-none };
@@ -97,6 +102,16 @@ impl<'a, B: Bucket, G: Gate, R: Wait> Hand for TurnHand<'a, B, G, R> {
         self.number = number_after(self.number, &acted);
         self.pass = Some(pass);
         acted
+    }
+
+    /// It asks no gate and waits for nobody.
+    fn look(&mut self) -> u64 {
+        let Some(pass) = self.pass.take() else {
+            unreachable!()
+        };
+        let (count, pass) = self.shared.look(pass);
+        self.pass = Some(pass);
+        count
     }
 }
 

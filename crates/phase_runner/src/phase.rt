@@ -1,3 +1,6 @@
+//! The workers of a phase beside each other. Each has a pass that is split from the root before the first job begins
+//! and joined again behind the last, so the root knows afterwards what any of them has met.
+
 ghost use Rattle.std.specs.Prelude.{◌≡◌, ◌⊎◌, ◌||◌, IsTrue, ℕ, ◌+◌, ◌^◌, ◌<◌, ◌≤◌, [], true, Some, map, vec_len, List, MatchBool};
 ghost use Rattle.std.specs.List.{list_any};
 ghost use Rattle.phase_runner.specs.Phases.{AreSeated, AreEnded, HasSplit, HasJoined, HasRun, Runs};

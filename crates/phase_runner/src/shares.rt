@@ -24,7 +24,7 @@ pub fn for_each_beside<R: Threads + Sync, T: Send, F: Fn(usize, &mut T) + Sync>(
     shares_from(rt, f, 0, threads.min(s.len().max(1)), s);
 }
 
-/// The same for a part of the places, which stands at `base`.
+/// Calls `f` at each place of a part that stands at `base` among all places, in at most so many threads.
 #[cycle(shares)]
 fn shares_from<R: Threads + Sync, T: Send, F: Fn(usize, &mut T) + Sync>(
     rt: &R,

@@ -1,3 +1,6 @@
+//! One job in a thread, and how many threads a phase is worth: a thread takes longer to start than a small upload
+//! takes, and workers who wait for each other's turns gain nothing by more of them.
+
 ghost use Rattle.std.specs.Prelude.{◌≡◌, ℕ, ◌<◌, length, All, slice_index_or};
 ghost use Rattle.phase_runner.specs.Works.{IsReady, IsDone};
 

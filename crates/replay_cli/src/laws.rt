@@ -1,3 +1,6 @@
+//! Laws of what the program prints: a report, or the summary of a generated day, tells nothing that the journal of its
+//! run does not show. They bring the laws of `lifecycle_core` to what a user reads.
+
 ghost use Rattle.std.specs.Prelude.{◌≡◌, ◌++◌, ℕ, Bool, true, List, Contains};
 ghost use Rattle.world_core.specs.Standing.{IsHonest};
 ghost use Rattle.world_core.specs.Worlds.{failed_count};

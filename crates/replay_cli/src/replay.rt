@@ -1,3 +1,6 @@
+//! The call `replay`: a script is run with the workers of each phase in threads. It promises what `serial` promises,
+//! but not that it returns, since it waits for turns and threads.
+
 ghost use Rattle.std.specs.Prelude.{◌≡◌, ◌≢◌, Some, None, IfSome, is_some};
 ghost use Rattle.replay_cli.specs.Calls.{Leaves, outside};
 ghost use Rattle.replay_cli.specs.InPhases.{IsInPhases};

@@ -56,7 +56,7 @@ pub(crate) fn run_with_threads<B: Bucket + Send, G: Gate + Sync, T: Threads + Wa
     run_telling(rt, alloc, gate, script, shelf, world, Beside { rt })
 }
 
-/// The same, with the lines of answers' series put in this way.
+/// Does the phases with their workers in threads, and puts the lines of answers' series in this way.
 fn run_telling<B: Bucket + Send, G: Gate + Sync, T: Threads + Wait + Sync, W: SeriesWay + Drop>(
     rt: &T,
     alloc: Global,

@@ -1,3 +1,6 @@
+//! Standard input and output as a source and a sink. What a reader still has, and what became of what a writer took,
+//! nobody knows, so they tell of failures alone.
+
 use bucket_core::{ReadAnswer, Sink, Source, WriteAnswer};
 use std::io::{Read, Write};
 

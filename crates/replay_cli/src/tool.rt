@@ -1,3 +1,6 @@
+//! The calls that wait for nobody: `serial`, `check` and `generate`. The contract of this one function is what the
+//! program promises, of its verdict, of the bucket and the shelf that it opened, and of its run.
+
 ghost use Rattle.std.specs.Prelude.{◌≡◌, ◌≢◌, ℕ, Some, None, IfSome, IsSome, is_some};
 ghost use Rattle.call_verdicts.specs.Checks.{files_of};
 ghost use Rattle.call_verdicts.specs.Noted.{IsFullSaid, IsNoted, met};

@@ -1,3 +1,6 @@
+//! The lines of a report, word by word: one for each activity, and behind that of a query the series of the answer.
+//! They are what a user sees of a run; a fault is told by the number of its entry, at which he reads on in the journal.
+
 ghost use Rattle.std.specs.Prelude.{◌≡◌, ◌++◌, ◌∷◌, ◌*◌, ◌-◌, ◌^◌, [], codes, length, min, OnOk};
 ghost use Rattle.std.specs.List.{flat_map, list_any};
 ghost use Rattle.base.specs.Decimal.{decimal_text, signed_text};

@@ -1,3 +1,6 @@
+//! A report that counts in place of telling, for the generated day. Of activities that did not end as asked it keeps
+//! the lines, so that what went wrong is not lost in sums.
+
 ghost use Rattle.std.specs.Prelude.{◌≡◌, ◌≢◌, ◌++◌, ◌&&◌, [], List, Err, IfOk, OnErr, OnOk, true};
 ghost use Rattle.script_core.specs.declared.script.Script.{Script};
 ghost use Rattle.script_workers.specs.declared.task.Task.{Task};

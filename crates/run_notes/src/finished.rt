@@ -1,3 +1,6 @@
+//! The end of a run over a world. It hands out the journal and the bucket apart, never the world, so that no operation
+//! can be done behind the note that says what the run's operations were answered.
+
 ghost use Rattle.std.specs.Prelude.{◌≡◌, [], None, IsSomeAnd};
 ghost use Rattle.run_notes.specs.Notes.{Tells};
 ghost use Rattle.world_turn.specs.Passes.{view_of};
@@ -66,7 +69,7 @@ impl<B: Bucket> Finished<B> {
         ensures note { result.0 ≡ self.note }
         ensures journal { result.1 ≡ self.world.journal }
         ensures bucket { result.2 ≡ self.world.bucket }
-        ensures holds { IsWorld B.contents B.faults self.world }
+        ensures holds { IsWorld B.told self.world }
     {
         let Finished { world, note } = self;
         let (journal, bucket) = world.into_parts();

@@ -1,3 +1,6 @@
+//! A script that is being read: what the lines so far leave to the next one. A text as a whole and one that comes part
+//! by part are read by the same steps on it, so that both give the same script and the same refusals.
+
 ghost use Rattle.std.specs.Prelude.{◌≡◌, ◌≤◌, ◌++◌, OnOk, length};
 ghost use Rattle.script_fields.specs.Limits.{most_tasks, most_gateways};
 ghost use Rattle.script_workers.specs.Works.{has_compaction};

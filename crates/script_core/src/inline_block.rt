@@ -1,3 +1,6 @@
+//! A block that a script declares with its series. Their lines come in any order, and the block has them in the order
+//! of their labels, as its index will.
+
 use crate::series_map::series_list;
 use crate::{Block, Body};
 use base::NoMemory;

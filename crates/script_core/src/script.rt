@@ -1,3 +1,6 @@
+//! What a run does, as its text spells it. Who does which task at which seat is told here too, since the report, both
+//! ways to run and the laws on journals have to speak of the same workers.
+
 use crate::BlockList;
 use crate::reader::read_script;
 use base::NoMemory;

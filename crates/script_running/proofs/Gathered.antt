@@ -159,7 +159,7 @@ Fors gateways place w hs = AllByRecursion (λ (h : Hand). IsFor gateways h place
 asked_fors : (gateways place number count : ℕ) (low high : ℤ) (selector : ℕ) → number + count ≤ gateways → Fors gateways place (works.Query low high selector) (map hands.Gateway (range_with_len number count))
 asked_fors gateways place number zero low high selector within = tt
 asked_fors gateways place number (suc count) low high selector within =
-    (asks low high selector number refl refl (omega (arith, within)), asked_fors gateways place (number + 1) count low high selector (omega (arith, within)))
+    (asks number refl refl (omega (arith, within)), asked_fors gateways place (number + 1) count low high selector (omega (arith, within)))
 
 all_fors : (gateways place : ℕ) (w : Work) → Fors gateways place w (hands_of_task gateways place w)
 unfolding hands_of_task

@@ -140,7 +140,7 @@ module _ (script : Script) (lawful : IsLawfulScript script) (place : ℕ) (phase
               let same : gateway ≡ g = cc (whose, is) in
               let less : gateway < length script.gateways = subst (IsLawfulWork script.gateways script.blocks (length script.selectors)) one may in
               omega (arith, same, less)
-          by_work w (asks low high selector gateway one whose less) may = let same : gateway ≡ g = cc (whose, is) in omega (arith, same, less)
+          by_work w (asks gateway one whose less) may = let same : gateway ≡ g = cc (whose, is) in omega (arith, same, less)
 
       some_task : (places : List ℕ) → places ≢ [] → All (IsTaskOf gateways phase.tasks h) places → g < length script.gateways
       some_task [] some only = absurd (some refl)

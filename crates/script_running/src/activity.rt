@@ -1,3 +1,6 @@
+//! Uploads, syncs and calls as a script's workers do them: what each takes of the script, and how its end is told as
+//! the part of the worker who did it.
+
 ghost use Rattle.std.specs.Prelude.{◌≡◌, ◌≤◌, ◌||◌, ◌⊎◌, ℕ, ℤ, false, Option, Some, Err, option_map, IfSome, IsTrue, slice_get, unwrap_or};
 ghost use Rattle.world_core.specs.Machines.{end_of};
 ghost use Rattle.world_core.specs.Keeping.{IsFull};

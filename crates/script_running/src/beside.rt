@@ -82,7 +82,7 @@ pub fn run_beside<B: Bucket + Send, G: Gate + Sync, P: Report, R: Threads + Wait
 
     // The bucket has failed no more often than before, unless the journal shows it.
     ensures unfailed { IfOk result (λ run. failed_count run.1.world.journal ≡ 0
-        → B.faults run.1.world.bucket ≡ B.faults world.bucket) }
+        → (B.told run.1.world.bucket).faults ≡ (B.told world.bucket).faults) }
 
     // A run that came to its end wanted no memory for an operation.
     ensures unwanted { IfOk result (λ run. run.0.came ≡ Ok tt
@@ -90,8 +90,8 @@ pub fn run_beside<B: Bucket + Send, G: Gate + Sync, P: Report, R: Threads + Wait
 
     // Unless memory was wanted for one, all that the bucket was asked is journaled if it was before.
     ensures all { IfOk result (λ run. (view_of run.1.root.value).wanted ≡ false
-        → (before : List Call) → IsAllAsked B.asked before world
-        → IsAllAsked B.asked before run.1.world) }
+        → (before : List Call) → IsAllAsked B.told before world
+        → IsAllAsked B.told before run.1.world) }
 
     // Where nothing was begun, the world is as it was.
     ensures unbegun { IfErr result (λ same. same ≡ world) }

@@ -317,7 +317,8 @@ fn cut_back(alloc: Global, outcomes: &mut OutcomeList, count: usize)
     *outcomes = OutcomeList::from_vec(kept);
 }
 
-/// The same, but for want of memory some outcomes may have been added.
+/// Adds the outcomes of a phase's tasks to the others, and their lines to the report. For want of memory some outcomes may have
+/// been added, which the caller takes back.
 fn tell<P: Report, W: CompareWay>(
     alloc: Global,
     script: &Script,

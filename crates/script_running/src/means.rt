@@ -1,3 +1,6 @@
+//! What the workers of a script are lent of it. It crosses threads, which patterns that were built do not: so workers
+//! have the texts of the selectors, and read those of their own queries again.
+
 ghost use Rattle.std.specs.Prelude.{◌≡◌, ◌<◌, ℕ, List, Some, IfOk, length, slice_get};
 ghost use Rattle.matchers.specs.SelectorRefusals.{IsReadable};
 ghost use Rattle.matchers.specs.declared.matcher.Matcher.{Matcher};

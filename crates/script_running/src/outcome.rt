@@ -1,3 +1,6 @@
+//! How activities ended, as a report tells it. A number in it is mostly that of an entry, by which a reader finds in
+//! the journal what the activity met.
+
 ghost use Rattle.std.specs.Prelude.{◌≡◌};
 
 use base::List;

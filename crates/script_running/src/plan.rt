@@ -1,3 +1,6 @@
+//! What an upload ships. A block of the script's text is built when its upload is due, and not before, so that its
+//! files take no memory while they are not needed; one of the shelf was read and checked before the first phase.
+
 ghost use Rattle.std.specs.Prelude.{◌≡◌, ◌≢◌, Err, IfErr, IfOk};
 ghost use Rattle.block_keys.specs.Blocks.{IsBlock};
 ghost use Rattle.block_meta.specs.Built.{objects_of};

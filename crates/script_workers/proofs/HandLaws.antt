@@ -69,7 +69,7 @@ does_for gateways (Alone own) place (works.Query low high selector) h =
     let clash : false ≡ true = sym (none_alone_among own (range_with_len 0 gateways)) ∙ h in absurd cc
 does_for gateways (Gateway gateway) place (works.Query low high selector) h =
     let below : nat_lt gateway gateways ≡ true = sym (gateway_among gateway gateways) ∙ h in
-    asks low high selector gateway refl refl (grind (arith, nat_tests))
+    asks gateway refl refl (grind (arith, nat_tests))
 
 pub for_does : (gateways : ℕ) (hand : Hand) (place : ℕ) (work : Work) → IsFor gateways hand place work → does gateways hand place work ≡ true
 unfolding hands_of_task
@@ -77,7 +77,7 @@ for_does gateways hand place work (ships ulid stop is who) = rw (is, who, itself
 for_does gateways hand place work (compacts stop is who) = rw (is, who, itself) refl
 for_does gateways hand place work (cleans stop is who) = rw (is, who, itself) refl
 for_does gateways hand place work (syncs gateway is who) = rw (is, who, itself) refl
-for_does gateways hand place work (asks low high selector gateway is who below) =
+for_does gateways hand place work (asks gateway is who below) =
     let inside : nat_lt gateway gateways ≡ true = grind (arith, nat_tests) in
     rw (is, who) (gateway_among gateway gateways ∙ inside)
 

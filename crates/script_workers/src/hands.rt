@@ -3,7 +3,7 @@
 ghost use Rattle.std.specs.Prelude.{◌≡◌, OnOk, IfOk, map, min};
 ghost use Rattle.std.specs.List.{list_any, fold, range_with_len};
 ghost use Rattle.script_workers.specs.declared.hand.Hand.TheVariants as hand_kinds;
-ghost use Rattle.script_workers.specs.Hands.{greatest, gateway_count, same_hand, with_hand, with_hands, hands_of, does, places_from};
+ghost use Rattle.script_workers.specs.Hands.{greatest, gateway_count, own_hand, same_hand, with_hand, with_hands, hands_of, does, places_from};
 
 use crate::hand::Hand;
 use crate::{Task, Work};
@@ -36,10 +36,20 @@ pub fn add_hands(
 ) -> Result<(), NoMemory>
     ensures { OnOk result (hands.new.items ≡ with_hands gateways hands.old.items place work.now) }
 {
+    if work.asking().is_some() {
+        add_gateways(hands, gateways)
+    } else {
+        add_hand(hands, own_hand(place, work))
+    }
+}
+
+/// Who does the task at a place, where it does not ask all gateways.
+fn own_hand(place: u64, work: &Work) -> Hand
+    ensures { result ≡ own_hand place work.now }
+{
     match work {
-        Work::Upload(..) | Work::Compact(_) | Work::Clean(_) => add_hand(hands, Hand::Alone(place)),
-        Work::Sync(gateway) => add_hand(hands, Hand::Gateway(*gateway)),
-        Work::Query { .. } => add_gateways(hands, gateways),
+        Work::Sync(gateway) => Hand::Gateway(*gateway),
+        _ => Hand::Alone(place),
     }
 }
 
@@ -73,10 +83,10 @@ fn has_hand(hands: &[Hand], hand: Hand) -> bool
 pub(crate) fn does(gateways: u32, hand: Hand, place: u64, work: &Work) -> bool
     ensures { result ≡ does gateways hand place work.now }
 {
-    match work {
-        Work::Upload(..) | Work::Compact(_) | Work::Clean(_) => hand.is(Hand::Alone(place)),
-        Work::Sync(gateway) => hand.is(Hand::Gateway(*gateway)),
-        Work::Query { .. } => hand.is_among(gateways),
+    if work.asking().is_some() {
+        hand.is_among(gateways)
+    } else {
+        hand.is(own_hand(place, work))
     }
 }
 

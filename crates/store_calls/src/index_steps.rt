@@ -32,8 +32,8 @@ const LEAST: u64 = LEAST_SIZE as u64;
 
 const CONTENTS: u64 = CONTENTS_SIZE as u64;
 
-/// Begins: with the table of contents, or with the whole index where the meta tells no size that an
-/// index may have.
+/// The first step of a block's call: it asks for the table of contents, or for the whole index where the
+/// meta tells no size that an index may have.
 pub(crate) fn begin(asked: &Asked<'_>) -> Step
     ensures { (cache : Cache) → Leads asked.now cache (9 * most * most)
         (Leading (block_call (query_asked asked.now) (block_asked asked.now) cache)) (Ok result) }
@@ -44,7 +44,7 @@ pub(crate) fn begin(asked: &Asked<'_>) -> Step
     }
 }
 
-/// The same where the meta tells the size.
+/// The first step where the meta tells how long the index is.
 fn begin_sized(asked: &Asked<'_>, size: u64) -> Step
     ensures { (cache : Cache) → Leads asked.now cache (9 * most * most)
         (Leading (by_size breaks_off (query_asked asked.now) (block_asked asked.now) (Some size)

@@ -1,3 +1,6 @@
+//! Laws of calls, told by their entries and by the cache before them alone: what an answer has, and what the end of a
+//! call says of the bucket. The laws on whole journals stand on them.
+
 ghost use Rattle.std.specs.Prelude.{◌≡◌, ◌≢◌, ℕ, List, [], true, All, Contains, IsTrue, Option, Some};
 ghost use Rattle.std.specs.List.{AllZip};
 ghost use Rattle.bucket_core.specs.Contents.{Contents};

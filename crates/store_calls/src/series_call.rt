@@ -1,3 +1,6 @@
+//! The machine of a gateway's call (Thanos: `Series` of the store API): the blocks of its view one after another, and
+//! the merge of what each gives. The ranges that it keeps go from block to block, and on to the gateway's next call.
+
 ghost use Rattle.std.specs.Prelude.{◌≡◌, ◌+◌, ◌<◌, ℕ, List, [], ◌∷◌, Option, Some, Ok, IfOk, IsSomeAnd};
 ghost use Rattle.world_core.specs.Operations.{IsAnswer, entry_of};
 ghost use Rattle.world_core.specs.Machines.{GoesOn, Falls};
@@ -178,7 +181,7 @@ impl<'a> SeriesCall<'a> {
         Ok(self.end(cache, SeriesEnd::Answer { series, sources }))
     }
 
-    /// Comes to its end.
+    /// Ends the call in this way. The cache stays with it, for `into_cache`.
     fn end(&mut self, cache: IndexCache, end: SeriesEnd) -> Act<SeriesEnd>
         ensures done { result ≡ act.Done end }
         ensures over { self.new ≡ record self.old { stage = stage.Over cache } }

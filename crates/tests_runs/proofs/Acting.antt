@@ -3,7 +3,7 @@ use Rattle.std.proofs.Common.{◌≡◌, ◌⊎◌, inl, inr, ◌||◌, IsTrue, 
 use Rattle.world_core.specs.declared.entry.Entry.{Entry}
 use Rattle.world_core.specs.declared.act.Acted.{Acted}
 use Rattle.world_core.specs.declared.act.Acted.TheVariants.{NoMemory}
-use Rattle.world_turn.specs.Turns.{is_wanting}
+use Rattle.world_core.specs.Machines.{is_wanting}
 use Rattle.phase_runner.proofs.Taking.{or_false, or_more, or_left, or_right}
 
 pub wanting : (P : Type 0) (acted : Acted) → P ⊎ (acted ≡ NoMemory) → P ⊎ IsTrue (is_wanting acted)

@@ -1,3 +1,6 @@
+//! Laws on a run that is written out entry by entry: a block is uploaded, synced and asked for. The definitions are
+//! tried on it: they have to take this journal as a run, and this report as what may be said of it.
+
 ghost use Rattle.std.specs.Prelude.{◌≡◌, ℕ, List, All, Bool, true};
 ghost use Rattle.world_core.specs.Standing.{IsHonest};
 ghost use Rattle.script_core.specs.Lawful.{IsLawfulScript};

@@ -1,3 +1,6 @@
+//! Laws on changes of that run, each of which is refused. So it is seen that the definitions do not take whatever
+//! comes.
+
 ghost use Rattle.std.specs.Prelude.{ℕ, List, ◌++◌, Bool};
 ghost use Rattle.world_core.specs.declared.entry.Entry.{Entry};
 ghost use Rattle.world_core.specs.Standing.{IsHonest};

@@ -1,3 +1,6 @@
+//! Laws on a run with two lawful journals, as the upload and the first sync of one phase may fall either way. Both are
+//! reported alike: the block is too young to be seen when it stands already.
+
 ghost use Rattle.std.specs.Prelude.{ℕ, true};
 ghost use Rattle.world_core.specs.Standing.{IsHonest};
 ghost use Rattle.script_core.specs.Lawful.{IsLawfulScript};

@@ -8,11 +8,13 @@ use replay_cli::Status;
 use std::io;
 use std::io::Write;
 
-/// How the program is called, a line a form.
-const USAGE: &str = "usage: tosraem serial BUCKET SHELF < SCRIPT
-       tosraem replay BUCKET SHELF < SCRIPT
-       tosraem check SHELF ULID
-       tosraem generate NUMBER
+/// How the program is called, a line a form, and what stands for the words.
+const USAGE: &str =
+    "usage: tosraem serial BUCKET SHELF < SCRIPT    runs a script, one activity after another
+       tosraem replay BUCKET SHELF < SCRIPT    runs it with those of one phase beside each other, in threads
+       tosraem check SHELF ULID                checks one block, as a shipper does before it ships
+       tosraem generate NUMBER                 runs a day that the program makes itself
+BUCKET is the word memory, or a folder that is new or empty. SHELF is the word none, or a folder of blocks.
 ";
 
 /// Says on standard error, or to another writer, what is to be said of a call that ended with this number.
@@ -35,25 +37,25 @@ fn advice(status: Status) -> &'static str
         Status::Done | Status::ActivityFailed => "",
         Status::WordsRefused => USAGE,
         Status::ScriptRefused => {
-            "Mend the script at the line that is named, or split one that is too long, and run again.\n"
+            "The script was not run. docs/SCRIPT.md tells the causes under What is refused; bad rules speaks of the rule lines above the one that is named.\n"
         }
         Status::SourceFault => {
             "The script comes from standard input: see that it can be read, and run again.\n"
         }
         Status::SinkFault => {
-            "The report goes to standard output: see that there is room for it, and run again.\n"
+            "The report goes to standard output: see that its reader stays and that there is room for it, and run again.\n"
         }
         Status::NoMemory => {
-            "There was not enough memory, or a block's index names far more than its files hold: run again where there is more memory, or mend the block.\n"
+            "There was not enough memory: run again where there is more of it.\n"
         }
         Status::BucketNotEmpty => {
-            "A run begins with an empty bucket: empty the folder, or name another one.\n"
+            "A run begins with an empty bucket, and this folder holds something: name a new one. (BUCKET comes first, SHELF second.)\n"
         }
         Status::JournalFull => {
-            "One run takes about a million operations: split the script into several runs.\n"
+            "The journal of one run has room for 1,048,576 operations and for a gibibyte of what they move: only a script that does less runs to its end.\n"
         }
         Status::SiteFault => {
-            "See that the words name folders that can be opened and read, and run again.\n"
+            "BUCKET or SHELF could not be opened or read: see that SHELF is there, that both are folders, and that they may be read and BUCKET written.\n"
         }
     }
 }

@@ -1,4 +1,4 @@
-ghost use Rattle.std.specs.Prelude.{◌≡◌, ◌⊎◌, ◌++◌, ◌||◌, IfSome, IsTrue};
+ghost use Rattle.std.specs.Prelude.{◌≡◌, ◌⊎◌, ◌++◌, ◌||◌, ◌<◌, ◌≤◌, IfSome, IsTrue};
 ghost use Rattle.world_core.specs.Operations.{IsLawful, IsAnswer};
 ghost use Rattle.world_core.specs.Keeping.{IsFull};
 ghost use Rattle.world_core.specs.Machines.{gained, IfDone, is_full};
@@ -25,6 +25,9 @@ pub trait Hand {
     /// Memory was wanted in one of its operations. A hand that can't tell may say that it was not.
     ghost wanted: { Self → Bool };
 
+    /// The number of the last entry that it has seen, of whatever seat.
+    ghost known: { Self → ℕ };
+
     /// What its operations keep, between the hand before them and the hand after them.
     ghost keeps: { Self → Self → Type 0 };
 
@@ -40,6 +43,23 @@ pub trait Hand {
             → IfSome (front self.new) (λ entries. ¬ IsFull entries) }
         ensures wanted { IsTrue (wanted self.new)
             → IsTrue (wanted self.old) ⊎ (result ≡ Acted.NoMemory) }
+        ensures keeps { keeps self.old self.new }
+
+        // Its entry comes later than all that it had seen.
+        ensures above { IfDone result (λ seen. known self.old < seen.seq) }
+        ensures within { IfDone result (λ seen. seen.seq ≤ known self.new) }
+        ensures known { known self.old ≤ known self.new };
+
+    /// The number of the last entry that there is now, or was since it last saw one. Nothing is done, and each entry that it adds
+    /// from now on has a greater number.
+    fn look(&mut self) -> u64
+        ensures value { result ≡ known self.new }
+        ensures known { known self.old ≤ known self.new }
+        ensures entries { entries self.new ≡ entries self.old }
+        ensures seat { seat self.new ≡ seat self.old }
+        ensures front { front self.new ≡ front self.old }
+        ensures refused { refused self.new ≡ refused self.old }
+        ensures wanted { wanted self.new ≡ wanted self.old }
         ensures keeps { keeps self.old self.new };
 
     /// What is kept holds where nothing was done.

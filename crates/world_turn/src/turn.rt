@@ -32,10 +32,10 @@ impl<B: Bucket> Shared<B> {
         requires rests { (place.old.me.1 ≡ []) × (place.old.me.0.live ≡ true) }
         ensures same { (place.new.table_id ≡ place.old.table_id) × (place.new.id ≡ place.old.id) }
         ensures finds { Finds place.old.me.0 result.journal }
-        ensures comes { ComesFrom B.faults (opened_of place.old.me.0) result }
+        ensures comes { ComesFrom B.told (opened_of place.old.me.0) result }
         ensures holds { (wanted : Bool)
             × (place.new.me ≡ (holding place.old.me.0 result.journal wanted, (0, None) ∷ []))
-            × (wanted ≡ false → AsksFrom B.asked (opened_of place.old.me.0) result) }
+            × (wanted ≡ false → AsksFrom B.told (opened_of place.old.me.0) result) }
     {
         let backoff = Backoff::new();
         for _ in rt.forever() {
@@ -86,9 +86,9 @@ impl<B: Bucket> Shared<B> {
         requires worked { (w : World B) × (place.old.me.1 ≡ (0, Some w) ∷ [])
             × (w.journal
             ≡ place.old.me.0.held ++ gained place.old.me.0.seat asked.now.value acted.now)
-            × ComesFrom B.faults (opened_of place.old.me.0) w × (length w.journal ≤ most_entries)
+            × ComesFrom B.told (opened_of place.old.me.0) w × (length w.journal ≤ most_entries)
             × (acted.now ≢ Acted.NoMemory → place.old.me.0.held_wanted ≡ false
-            → AsksFrom B.asked (opened_of place.old.me.0) w) }
+            → AsksFrom B.told (opened_of place.old.me.0) w) }
         ensures same { (place.new.table_id ≡ place.old.table_id) × (place.new.id ≡ place.old.id) }
         ensures settled { place.new.me ≡ (settled place.old.me.0 asked.now.value acted.now, []) }
     {
@@ -122,33 +122,33 @@ impl<B: Bucket> Shared<B> {
         requires own { place.old.table_id ≡ self.now.table.shared.table_id }
         requires holds { (place.old.me.0.live ≡ true) × (place.old.me.0.holds ≡ true) }
         requires lies { (w : World B) × (place.old.me.1 ≡ (0, Some w) ∷ [])
-            × (w.journal ≡ place.old.me.0.held) × ComesFrom B.faults (opened_of place.old.me.0) w
-            × (place.old.me.0.held_wanted ≡ false → AsksFrom B.asked (opened_of place.old.me.0) w) }
+            × (w.journal ≡ place.old.me.0.held) × ComesFrom B.told (opened_of place.old.me.0) w
+            × (place.old.me.0.held_wanted ≡ false → AsksFrom B.told (opened_of place.old.me.0) w) }
         ensures same { (place.new.table_id ≡ place.old.table_id) × (place.new.id ≡ place.old.id) }
         ensures gives { place.new.me ≡ (leaving place.old.me.0, []) }
     {
         self.table.shared.store::<Give>(place, TURN, FREE);
     }
 
-    /// The same, and the pass has seen the whole journal.
+    /// Gives the turn back, and the world with it, where the pass has seen the whole journal.
     fn give_full(&self, place: &mut Place<B>)
         requires own { place.old.table_id ≡ self.now.table.shared.table_id }
         requires holds { (place.old.me.0.live ≡ true) × (place.old.me.0.holds ≡ true) }
         requires lies { (w : World B) × (place.old.me.1 ≡ (0, Some w) ∷ [])
-            × (w.journal ≡ place.old.me.0.held) × ComesFrom B.faults (opened_of place.old.me.0) w
-            × (place.old.me.0.held_wanted ≡ false → AsksFrom B.asked (opened_of place.old.me.0) w) }
+            × (w.journal ≡ place.old.me.0.held) × ComesFrom B.told (opened_of place.old.me.0) w
+            × (place.old.me.0.held_wanted ≡ false → AsksFrom B.told (opened_of place.old.me.0) w) }
         ensures same { (place.new.table_id ≡ place.old.table_id) × (place.new.id ≡ place.old.id) }
         ensures gives { place.new.me ≡ (leaving_full place.old.me.0, []) }
     {
         self.table.shared.store::<GiveFull>(place, TURN, FREE);
     }
 
-    /// The same, and memory was wanted.
+    /// Gives the turn back, and the world with it, where memory was wanted.
     fn give_short(&self, place: &mut Place<B>)
         requires own { place.old.table_id ≡ self.now.table.shared.table_id }
         requires holds { (place.old.me.0.live ≡ true) × (place.old.me.0.holds ≡ true) }
         requires lies { (w : World B) × (place.old.me.1 ≡ (0, Some w) ∷ [])
-            × (w.journal ≡ place.old.me.0.held) × ComesFrom B.faults (opened_of place.old.me.0) w }
+            × (w.journal ≡ place.old.me.0.held) × ComesFrom B.told (opened_of place.old.me.0) w }
         ensures same { (place.new.table_id ≡ place.old.table_id) × (place.new.id ≡ place.old.id) }
         ensures gives { place.new.me ≡ (leaving_short place.old.me.0, []) }
     {

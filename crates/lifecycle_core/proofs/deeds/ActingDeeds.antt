@@ -135,7 +135,7 @@ alone_place gateways place q w (ships ulid stop is who) = let same : place ≡ q
 alone_place gateways place q w (compacts stop is who) = let same : place ≡ q = cc (who) in sym same
 alone_place gateways place q w (cleans stop is who) = let same : place ≡ q = cc (who) in sym same
 alone_place gateways place q w (syncs own is who) = absurd (cc (who))
-alone_place gateways place q w (asks low high selector own is who below) = absurd (cc (who))
+alone_place gateways place q w (asks own is who below) = absurd (cc (who))
 
 -- the works that have a worker of their own
 abbrev IsAlone : Work → Type 0
@@ -150,7 +150,7 @@ alone_work gateways place q w (ships ulid stop is who) = subst IsAlone (sym is) 
 alone_work gateways place q w (compacts stop is who) = subst IsAlone (sym is) tt
 alone_work gateways place q w (cleans stop is who) = subst IsAlone (sym is) tt
 alone_work gateways place q w (syncs own is who) = absurd (cc (who))
-alone_work gateways place q w (asks low high selector own is who below) = absurd (cc (who))
+alone_work gateways place q w (asks own is who below) = absurd (cc (who))
 
 -- whoever compacts has no gateway
 compacts_alone : (gateways : ℕ) (hand : Hand) (q : ℕ) (stop : Option ℕ) → IsFor gateways hand q (Compact stop) → gateway_of hand ≡ None
@@ -158,7 +158,7 @@ compacts_alone gateways hand q stop (ships ulid own is who) = ap gateway_of who
 compacts_alone gateways hand q stop (compacts own is who) = ap gateway_of who
 compacts_alone gateways hand q stop (cleans own is who) = ap gateway_of who
 compacts_alone gateways hand q stop (syncs own is who) = absurd (cc (is))
-compacts_alone gateways hand q stop (asks low high selector own is who below) = absurd (cc (is))
+compacts_alone gateways hand q stop (asks own is who below) = absurd (cc (is))
 
 -- ---- what a task's run is
 

@@ -1,5 +1,5 @@
 -- Every lawful journal of a lawful script is an acting one: gateways do nothing but read, each at a seat of its own.
-use Rattle.std.proofs.Common.{◌≡◌, ◌≢◌, ◌⊎◌, inl, inr, ℕ, zero, suc, ◌+◌, ◌<◌, ◌≤◌, ◌==◌, Bool, true, false, cond, List, [], ◌∷◌, length, map, Contains, Option, Some, None, refl, sym, ◌∙◌, ap, subst, arith}
+use Rattle.std.proofs.Common.{◌≡◌, ◌≢◌, ◌⊎◌, inl, inr, ℕ, zero, suc, ◌+◌, ◌<◌, ◌≤◌, ◌==◌, Bool, IsTrue, true, false, cond, List, [], ◌∷◌, length, map, Contains, Option, Some, None, refl, sym, ◌∙◌, ap, subst, arith}
 use Rattle.std.specs.Prelude.{is_none, slice_get}
 use Rattle.std.specs.List.{All, AllByRecursion, AllZip, filter}
 use Rattle.std.proofs.lemmas.Bool.Decides.{nat_tests}
@@ -18,6 +18,7 @@ use Rattle.script_core.specs.declared.script.Script.{Script}
 use Rattle.script_workers.specs.Hands.{gateway_count, gateway_of, hands_of}
 use Rattle.script_workers.specs.Staff.{IsWorkerOf}
 use Rattle.script_workers.specs.Whose.{IsFor, IsTaskOf, ships, compacts, cleans, syncs, asks}
+use Rattle.script_workers.specs.Works.{asks_all}
 use Rattle.script_workers.specs.declared.hand.Hand.{Hand}
 use Rattle.script_workers.specs.declared.hand.Hand.TheVariants as hands
 use Rattle.script_workers.specs.declared.phase.Phase.{Phase}
@@ -116,12 +117,19 @@ IsOther (Compact stop) = ⊥
 IsOther (Clean stop) = ⊥
 IsOther (Query low high selector) = Unit {0}
 
+asking_other : (w : Work) → IsTrue (asks_all w) → IsOther w
+asking_other (Upload ulid stop) is = absurd (cc (is))
+asking_other (Sync gateway) is = tt
+asking_other (Compact stop) is = absurd (cc (is))
+asking_other (Clean stop) is = absurd (cc (is))
+asking_other (Query low high selector) is = tt
+
 for_gateway : (gateways gateway place : ℕ) (w : Work) → IsFor gateways (hands.Gateway gateway) place w → IsOther w
 for_gateway gateways gateway place w (ships ulid stop is who) = absurd (cc (who))
 for_gateway gateways gateway place w (compacts stop is who) = absurd (cc (who))
 for_gateway gateways gateway place w (cleans stop is who) = absurd (cc (who))
 for_gateway gateways gateway place w (syncs own is who) = subst IsOther (sym is) tt
-for_gateway gateways gateway place w (asks low high selector own is who below) = subst IsOther (sym is) tt
+for_gateway gateways gateway place w (asks own is who below) = asking_other w is
 
 abbrev AllRead : List Entry → Type 0
 AllRead entries = All (λ (e : Entry). IsReading e.op) entries

@@ -37,7 +37,7 @@ use Rattle.lifecycle_core.specs.Phases.{IsInTurn, IsRunOf, by_script, by_workers
 use Rattle.lifecycle_core.specs.Setting.{Setting}
 use Rattle.lifecycle_core.specs.Tasks.{End, TaskRun, last_number, sync_rules}
 use Rattle.lifecycle_core.specs.Ways.{AreInTurn, PhasesRun}
-use Rattle.lifecycle_core.proofs.phases.OwnSyncs.{AreQuiet, IsFitFor, IsLatest, IsLatestAt, IsLone, NoneOver, ReadsABlock, latest_at, latest_behind, latest_in, latest_none, latest_past, latest_stays, lone_in, none_over, quiet_clock, quiet_next}
+use Rattle.lifecycle_core.proofs.phases.OwnSyncs.{AreQuiet, IsFitFor, asking_fits, IsLatest, IsLatestAt, IsLone, NoneOver, ReadsABlock, latest_at, latest_behind, latest_in, latest_none, latest_past, latest_stays, lone_in, none_over, quiet_clock, quiet_next}
 use Rattle.lifecycle_core.proofs.phases.PhaseViews.{views_left}
 use Rattle.lifecycle_core.proofs.journals.Positions.{zipped}
 pub use Rattle.lifecycle_core.proofs.phases.Stretches.{all_of_seat, no_listing, part_filter, part_left, part_middle, part_right, part_whole, rises_filter, rises_left, rises_right}
@@ -67,7 +67,7 @@ fit_for gateways hand place w by is (ships ulid stop work own) = subst (IsFitFor
 fit_for gateways hand place w by is (compacts stop work own) = subst (IsFitFor by) (sym work) (is ∙ ap gateway_of own)
 fit_for gateways hand place w by is (cleans stop work own) = subst (IsFitFor by) (sym work) (is ∙ ap gateway_of own)
 fit_for gateways hand place w by is (syncs gateway work own) = subst (IsFitFor by) (sym work) (is ∙ ap gateway_of own)
-fit_for gateways hand place w by is (asks low high selector gateway work own below) = subst (IsFitFor by) (sym work) tt
+fit_for gateways hand place w by is (asks gateway asking own below) = asking_fits by w asking
 
 -- each worker of a list of hands is one of them
 hand_of : (gateways before : ℕ) (tasks : List Task) (hs : List Hand) (worker : Worker) → Contains (workers_from gateways before tasks hs) worker

@@ -1,3 +1,6 @@
+//! Rows of answers that are gathered. Labels, times and patterns are single numbers or letters, since all that matters
+//! is which gateway's sample stays and which sources are named.
+
 use crate::says::{cut_at, put, put_number, say};
 use label_sets::{LabelSet, Sample, SampleList, Series, SeriesList};
 use querier::{Answer, Gather, InTurn};

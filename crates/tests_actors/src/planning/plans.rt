@@ -1,3 +1,6 @@
+//! Rows of plans: blocks told by their times alone, and named by their places. Most of them are answered as another
+//! program's planner answered them.
+
 use crate::says::{cut, cut_at, put, put_number, say};
 use base::NoMemory;
 use block_meta::{BlockPlan, Meta};

@@ -1,3 +1,6 @@
+//! Rows of numbers, moments, spans, ULIDs and keys: what a text is read as, and that what is written of it is that
+//! text.
+
 use crate::basics::bytes::print_bytes;
 use crate::basics::written::print_written;
 use crate::says::{copied, cut, put, say, show};

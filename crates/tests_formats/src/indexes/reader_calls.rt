@@ -1,3 +1,6 @@
+//! Rows of calls on the reader of an index. The same words serve a server's index, changed ones, those that our writer
+//! made, and parts of each, so that their answers can be compared line by line.
+
 use crate::indexes::blocks::print_block;
 use crate::indexes::chunk_notation::print_chunks;
 use crate::indexes::taken::print_taken;

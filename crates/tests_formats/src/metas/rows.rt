@@ -1,3 +1,6 @@
+//! Rows of metas and marks. Most are a lawful text with a member more or another one, and say just that: of a key that
+//! occurs twice the last value counts.
+
 use crate::metas::fields::print_fields;
 use crate::says::{copied, file_of, put, say};
 use base::NoMemory;

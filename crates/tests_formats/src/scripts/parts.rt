@@ -1,3 +1,5 @@
+//! What a script was read as, part by part, with its workers and their seats, as rows print it.
+
 use crate::says::{put, say, show, tell};
 use base::NoMemory;
 use script_core::{Block, Body, Phase, Script, WorkerList};

@@ -1,3 +1,6 @@
+//! Rows of calls on a bucket and a shelf in one real folder, and on a bucket in memory that has to answer alike; and of
+//! changes to the folder that no bucket makes: other folders, files of any length, and files that may not be read.
+
 ghost use Rattle.std.specs.Prelude.{IsTrue};
 ghost use Rattle.bucket_core.specs.Contents.{IsKey};
 

@@ -1,3 +1,5 @@
+//! Rows of runs over real folders, of which each prints what stands in a file beside its script.
+
 use crate::says::{put, say, text_of};
 use crate::setting::CALM;
 use crate::tool::{Ended, end_of};

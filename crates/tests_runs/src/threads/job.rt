@@ -1,3 +1,5 @@
+//! Jobs for tests of threads: each asks for operations of one kind over and over, and counts what it was answered.
+
 ghost use Rattle.std.specs.Prelude.{◌≡◌};
 ghost use Rattle.world_core.specs.Operations.{IsLawful};
 

@@ -1,6 +1,5 @@
 ghost use Rattle.std.specs.Prelude.{◌≡◌, ◌||◌};
-ghost use Rattle.world_core.specs.Machines.{is_full};
-ghost use Rattle.world_turn.specs.Turns.{is_wanting};
+ghost use Rattle.world_core.specs.Machines.{is_full, is_wanting};
 
 use world_core::Acted;
 

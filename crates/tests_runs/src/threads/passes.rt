@@ -1,3 +1,6 @@
+//! Two passes over one shared world, each used in a thread of its own, and what the root knows of the journal before
+//! and after it takes them in.
+
 ghost use Rattle.std.specs.Prelude.{◌≡◌, []};
 ghost use Rattle.world_turn.specs.Closing.{AllJoined};
 ghost use Rattle.world_turn.specs.Passes.{table_of, view_of};

@@ -78,7 +78,7 @@ const MANY_CALLS: u64 = 16;
 
 /// Two uploads wait for each other before their operation number 2, so neither comes past it unless both run.
 pub fn uploads_meet<R: Threads + Wait + Sync>(rt: &R, alloc: Global) -> bool {
-    let gate = Watch::new(true, 2);
+    let gate = Watch::new(true, 1, 2);
     let files = FileList::new(alloc);
     let ended = end_over_memory(rt, alloc, REPLAY, files, TWO_BLOCKS, &CALM, &gate);
     let good = has_told(&ended, TWO_BLOCKS_REPORT) && gate.saw_both();

@@ -21,7 +21,7 @@ returns-in_err-block-clause-refuses g c = λ told h refusal is.
     ]
 
 pub returns-in_err-block-clause-asks : goal.returns-in_err-block-clause-asks
-returns-in_err-block-clause-asks g c = asked_on g.F.Shelf.files g.F.Shelf.asked g.F.Shelf.faults _ _ _ _ c.args.ulid (StopsAt c.args.ulid) (StopsOnShelf c.args.ulid) c.from_residual.result c.in_err-block.field-0.0 c.from_residual.ensures.1 (λ count refusal stops. inl stops) c.in_err-block.ensures.asks
+returns-in_err-block-clause-asks g c = asked_on g.F.Shelf.told _ _ _ _ c.args.ulid (StopsAt c.args.ulid) (StopsOnShelf c.args.ulid) c.from_residual.result c.in_err-block.field-0.0 c.from_residual.ensures.1 (λ count refusal stops. inl stops) c.in_err-block.ensures.asks
 
 -- ---- it was loaded, and its check ended so
 
@@ -64,10 +64,10 @@ pub returns-clause-asks : goal.returns-clause-asks
 returns-clause-asks g c =
     let files = loaded_files c.in_ok-block.block in
     let ends = ended_moved _ _ _ _ c.in_ok-block.ensures.ulid c.check.ensures in
-    asked_whole g.F.Shelf.files g.F.Shelf.asked g.F.Shelf.faults (λ (block : LoadedBlock). (loaded_files block).segments) _ _ _ c.args.ulid (StopsAt c.args.ulid) (StopsOnShelf c.args.ulid) c.in_ok-block.block c.check.result (ended_segments c.args.ulid files c.check.result ends)
+    asked_whole g.F.Shelf.told (λ (block : LoadedBlock). (loaded_files block).segments) _ _ _ c.args.ulid (StopsAt c.args.ulid) (StopsOnShelf c.args.ulid) c.in_ok-block.block c.check.result (ended_segments c.args.ulid files c.check.result ends)
     (λ count whole. ended_said c.args.ulid files (StopsOnShelf c.args.ulid count) c.check.result ends
     (λ refusal why. inr (record { files = files; within = c.in_ok-block.ensures.within; named = c.in_ok-block.ensures.named; count_is = whole; refused = why })))
     (ended_calm c.args.ulid files c.check.result ends) c.in_ok-block.ensures.asks
 
 pub returns-clause-kept : goal.returns-clause-kept
-returns-clause-kept g c = checked_here g.F.Shelf.files g.F.Shelf.faults _ _ (loaded_ulid c.in_ok-block.block) (loaded_files c.in_ok-block.block) c.check.result c.check.ensures c.in_ok-block.ensures.kept
+returns-clause-kept g c = checked_here g.F.Shelf.told _ _ (loaded_ulid c.in_ok-block.block) (loaded_files c.in_ok-block.block) c.check.result c.check.ensures c.in_ok-block.ensures.kept

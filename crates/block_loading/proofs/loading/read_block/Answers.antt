@@ -28,22 +28,22 @@ returns-clause-loaded g c = λ told h. all_loaded told c.args.ulid (fields_of c.
     (c.last_segment.ensures.value ∙ ap last_segment c.members.ensures) c.in_ok-segments.segments (c.in_ok-segments.ensures.read told (c.in_ok-index.ensures.kept.same ∙ (c.in_ok-meta.ensures.kept.same ∙ h)))
 
 pub returns-in_err-meta-clause-asks : goal.returns-in_err-meta-clause-asks
-returns-in_err-meta-clause-asks g c = asked_meta g.F.Shelf.files g.F.Shelf.asked g.F.Shelf.faults _ c.args.ulid c.from_residual.result _ _ c.in_err-meta.field-0.0 c.from_residual.ensures.1 c.in_err-meta.ensures.asks (λ told h. c.in_err-meta.ensures.read told h) c.in_err-meta.ensures.stopped
+returns-in_err-meta-clause-asks g c = asked_meta g.F.Shelf.told _ c.args.ulid c.from_residual.result _ _ c.in_err-meta.field-0.0 c.from_residual.ensures.1 c.in_err-meta.ensures.asks (λ told h. c.in_err-meta.ensures.read told h) c.in_err-meta.ensures.stopped
 
 pub returns-in_err-index-clause-asks : goal.returns-in_err-index-clause-asks
-returns-in_err-index-clause-asks g c = asked_index g.F.Shelf.files g.F.Shelf.asked g.F.Shelf.faults _ c.args.ulid c.from_residual-in_err-index.result _ _ (file_asked g.F.Shelf.asked _ _ _ c.in_ok-meta.meta c.in_ok-meta.ensures.asks) (c.in_ok-meta.ensures.kept.calm refl) (fields_of c.in_ok-meta.meta) (λ told h. c.in_ok-meta.ensures.read told h) _ c.in_err-index.field-0.0 c.from_residual-in_err-index.ensures.1 c.in_err-index.ensures.asks
+returns-in_err-index-clause-asks g c = asked_index g.F.Shelf.told _ c.args.ulid c.from_residual-in_err-index.result _ _ (file_asked g.F.Shelf.told _ _ _ c.in_ok-meta.meta c.in_ok-meta.ensures.asks) (c.in_ok-meta.ensures.kept.calm refl) (fields_of c.in_ok-meta.meta) (λ told h. c.in_ok-meta.ensures.read told h) _ c.in_err-index.field-0.0 c.from_residual-in_err-index.ensures.1 c.in_err-index.ensures.asks
     (λ told h. c.in_err-index.ensures.read told (c.in_ok-meta.ensures.kept.same ∙ h)) c.in_err-index.ensures.stopped
 
 pub returns-in_err-segments-clause-asks : goal.returns-in_err-segments-clause-asks
-returns-in_err-segments-clause-asks g c = asked_segments g.F.Shelf.files g.F.Shelf.asked g.F.Shelf.faults _ c.args.ulid c.from_residual-in_err-segments.result _ _ (file_asked g.F.Shelf.asked _ _ _ c.in_ok-meta.meta c.in_ok-meta.ensures.asks) (c.in_ok-meta.ensures.kept.calm refl) (fields_of c.in_ok-meta.meta) (λ told h. c.in_ok-meta.ensures.read told h) c.in_ok-index.index c.in_ok-index.indexed c.last_segment.result _ _ _
-    (file_asked g.F.Shelf.asked _ _ _ (c.in_ok-index.index, c.in_ok-index.indexed) c.in_ok-index.ensures.asks) (λ told h. c.in_ok-index.ensures.read told (c.in_ok-meta.ensures.kept.same ∙ h)) (c.last_segment.ensures.value ∙ ap last_segment c.members.ensures) (c.in_ok-index.ensures.kept.same ∙ c.in_ok-meta.ensures.kept.same) (c.in_ok-index.ensures.kept.calm refl ∙ c.in_ok-meta.ensures.kept.calm refl) c.in_err-segments.ensures.asks
+returns-in_err-segments-clause-asks g c = asked_segments g.F.Shelf.told _ c.args.ulid c.from_residual-in_err-segments.result _ _ (file_asked g.F.Shelf.told _ _ _ c.in_ok-meta.meta c.in_ok-meta.ensures.asks) (c.in_ok-meta.ensures.kept.calm refl) (fields_of c.in_ok-meta.meta) (λ told h. c.in_ok-meta.ensures.read told h) c.in_ok-index.index c.in_ok-index.indexed c.last_segment.result _ _ _
+    (file_asked g.F.Shelf.told _ _ _ (c.in_ok-index.index, c.in_ok-index.indexed) c.in_ok-index.ensures.asks) (λ told h. c.in_ok-index.ensures.read told (c.in_ok-meta.ensures.kept.same ∙ h)) (c.last_segment.ensures.value ∙ ap last_segment c.members.ensures) (c.in_ok-index.ensures.kept.same ∙ c.in_ok-meta.ensures.kept.same) (c.in_ok-index.ensures.kept.calm refl ∙ c.in_ok-meta.ensures.kept.calm refl) c.in_err-segments.ensures.asks
     (λ off. passed_on c.from_residual-in_err-segments.result c.in_err-segments.field-0.0 c.from_residual-in_err-segments.ensures.1 (inr off)) (no_value _ c.from_residual-in_err-segments.result c.in_err-segments.field-0.0 c.from_residual-in_err-segments.ensures.1)
     (λ said. said_on (StopsAt c.args.ulid (2 + c.in_err-segments.ensures.asks.count)) c.from_residual-in_err-segments.result c.in_err-segments.field-0.0 c.from_residual-in_err-segments.ensures.1 said)
     (fault_on c.from_residual-in_err-segments.result c.in_err-segments.field-0.0 c.from_residual-in_err-segments.ensures.1)
 
 pub returns-clause-asks : goal.returns-clause-asks
-returns-clause-asks g c = asked_segments g.F.Shelf.files g.F.Shelf.asked g.F.Shelf.faults _ c.args.ulid _ _ _ (file_asked g.F.Shelf.asked _ _ _ c.in_ok-meta.meta c.in_ok-meta.ensures.asks) (c.in_ok-meta.ensures.kept.calm refl) (fields_of c.in_ok-meta.meta) (λ told h. c.in_ok-meta.ensures.read told h) c.in_ok-index.index c.in_ok-index.indexed c.last_segment.result _ _ _
-    (file_asked g.F.Shelf.asked _ _ _ (c.in_ok-index.index, c.in_ok-index.indexed) c.in_ok-index.ensures.asks) (λ told h. c.in_ok-index.ensures.read told (c.in_ok-meta.ensures.kept.same ∙ h)) (c.last_segment.ensures.value ∙ ap last_segment c.members.ensures) (c.in_ok-index.ensures.kept.same ∙ c.in_ok-meta.ensures.kept.same) (c.in_ok-index.ensures.kept.calm refl ∙ c.in_ok-meta.ensures.kept.calm refl) c.in_ok-segments.ensures.asks
+returns-clause-asks g c = asked_segments g.F.Shelf.told _ c.args.ulid _ _ _ (file_asked g.F.Shelf.told _ _ _ c.in_ok-meta.meta c.in_ok-meta.ensures.asks) (c.in_ok-meta.ensures.kept.calm refl) (fields_of c.in_ok-meta.meta) (λ told h. c.in_ok-meta.ensures.read told h) c.in_ok-index.index c.in_ok-index.indexed c.last_segment.result _ _ _
+    (file_asked g.F.Shelf.told _ _ _ (c.in_ok-index.index, c.in_ok-index.indexed) c.in_ok-index.ensures.asks) (λ told h. c.in_ok-index.ensures.read told (c.in_ok-meta.ensures.kept.same ∙ h)) (c.last_segment.ensures.value ∙ ap last_segment c.members.ensures) (c.in_ok-index.ensures.kept.same ∙ c.in_ok-meta.ensures.kept.same) (c.in_ok-index.ensures.kept.calm refl ∙ c.in_ok-meta.ensures.kept.calm refl) c.in_ok-segments.ensures.asks
     (λ off. absurd (answered c.in_ok-segments.segments (inr off))) (ap (λ (n : ℕ). 2 + n) (c.in_ok-segments.ensures.asks.whole ∙ sym c.in_ok-segments.ensures.many)) (λ said. tt) (λ fault. fault)
 
 pub returns-clause-within : goal.returns-clause-within

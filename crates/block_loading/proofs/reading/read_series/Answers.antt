@@ -20,13 +20,13 @@ pub returns-in-Err-clause-read : goal.returns-in-Err-clause-read
 returns-in-Err-clause-read g c = λ told h. index_stopped told c.args.ulid c.in_ok-index.index c.bytes.result.now (c.in_ok-index.ensures.read told h) c.bytes.ensures c.in-Err.refusal c.refused_block.result c.in-Err.ensures.exact c.refused_block.ensures
 
 pub returns-in_err-index-clause-asks : goal.returns-in_err-index-clause-asks
-returns-in_err-index-clause-asks g c = file_stopped g.F.Shelf.asked _ _ _ c.in_err-index.field-0.0 c.from_residual.result c.from_residual.ensures.1 c.in_err-index.ensures.asks
+returns-in_err-index-clause-asks g c = file_stopped g.F.Shelf.told _ _ _ c.in_err-index.field-0.0 c.from_residual.result c.from_residual.ensures.1 c.in_err-index.ensures.asks
 
 pub returns-in-Ok-clause-asks : goal.returns-in-Ok-clause-asks
-returns-in-Ok-clause-asks g c = inl (file_asked g.F.Shelf.asked _ _ _ c.in_ok-index.index c.in_ok-index.ensures.asks)
+returns-in-Ok-clause-asks g c = inl (file_asked g.F.Shelf.told _ _ _ c.in_ok-index.index c.in_ok-index.ensures.asks)
 
 pub returns-in-Err-clause-asks : goal.returns-in-Err-clause-asks
-returns-in-Err-clause-asks g c = inl (file_asked g.F.Shelf.asked _ _ _ c.in_ok-index.index c.in_ok-index.ensures.asks)
+returns-in-Err-clause-asks g c = inl (file_asked g.F.Shelf.told _ _ _ c.in_ok-index.index c.in_ok-index.ensures.asks)
 
 pub returns-in_err-index-clause-stopped : goal.returns-in_err-index-clause-stopped
 returns-in_err-index-clause-stopped g c = said_on (StopsAt c.args.ulid 2) c.from_residual.result c.in_err-index.field-0.0 c.from_residual.ensures.1 (file_last c.args.ulid 1 2 (Index c.args.ulid) refl refl c.in_err-index.field-0.0 c.in_err-index.ensures.stopped)

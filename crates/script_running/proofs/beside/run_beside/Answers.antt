@@ -19,7 +19,7 @@ run_phases-came-requires-clause-seats g c = λ κs lives. c.in-Ok-open.ensures.p
 
 pub run_phases-came-requires-clause-gone : goal.run_phases-came-requires-clause-gone
 run_phases-came-requires-clause-gone g c = λ κs lives.
-    first_gone (setting_by c.args.script.now c.lend-means.result.shelf) (opening_of g.B.Bucket.faults g.B.Bucket.asked c.args.world) (view_of c.in-Ok-open.root) c.in-Ok.standing.sights.items c.in-Ok.standing.outcomes c.in-Ok-open.ensures.pass.3 c.in-Ok.ensures.each c.in-Ok.ensures.unseen c.in-Ok.ensures.empty
+    first_gone (setting_by c.args.script.now c.lend-means.result.shelf) (opening_of g.B.Bucket.told c.args.world) (view_of c.in-Ok-open.root) c.in-Ok.standing.sights.items c.in-Ok.standing.outcomes c.in-Ok-open.ensures.pass.3 c.in-Ok.ensures.each c.in-Ok.ensures.unseen c.in-Ok.ensures.empty
 
 pub returns-in-Ok-open-clause-tick : goal.returns-in-Ok-open-clause-tick
 returns-in-Ok-open-clause-tick g c = c.close-closed.ensures.closes.ticks ∙ c.run_phases-came.ensures.tick ∙ ap (λ v. v.tick) c.in-Ok-open.ensures.pass.3
@@ -39,14 +39,14 @@ returns-in-Ok-open-clause-refused g c =
     ap (λ (p : Pass). (view_of p).refused) c.close-closed.ensures.root ∙ c.run_phases-came.ensures.refused ∙ ap (λ v. v.refused || is_full_came c.run_phases-came.result.0) c.in-Ok-open.ensures.pass.3
 
 pub returns-in-Ok-open-clause-unfailed : goal.returns-in-Ok-open-clause-unfailed
-returns-in-Ok-open-clause-unfailed g c = λ none. c.close-closed.ensures.comes.unfailed none ∙ ap (λ w. g.B.Bucket.faults w.bucket) c.in-Ok-open.ensures.opened
+returns-in-Ok-open-clause-unfailed g c = λ none. c.close-closed.ensures.comes.unfailed none ∙ ap (λ w. (g.B.Bucket.told w.bucket).faults) c.in-Ok-open.ensures.opened
 
 pub run_phases-came-requires-clause-unwanted : goal.run_phases-came-requires-clause-unwanted
 run_phases-came-requires-clause-unwanted g c = λ κs lives. ap (λ v. v.wanted) c.in-Ok-open.ensures.pass.3
 
 pub returns-in-Ok-open-clause-all : goal.returns-in-Ok-open-clause-all
 returns-in-Ok-open-clause-all g c = λ never before was.
-    c.close-closed.ensures.all (sym (ap (λ (p : Pass). (view_of p).wanted) c.close-closed.ensures.root) ∙ never) before (subst (IsAllAsked g.B.Bucket.asked before) (sym c.in-Ok-open.ensures.opened) was)
+    c.close-closed.ensures.all (sym (ap (λ (p : Pass). (view_of p).wanted) c.close-closed.ensures.root) ∙ never) before (subst (IsAllAsked g.B.Bucket.told before) (sym c.in-Ok-open.ensures.opened) was)
 
 pub returns-in-Ok-open-clause-unwanted : goal.returns-in-Ok-open-clause-unwanted
 returns-in-Ok-open-clause-unwanted g c = λ done. ap (λ (p : Pass). (view_of p).wanted) c.close-closed.ensures.root ∙ c.run_phases-came.ensures.unwanted done

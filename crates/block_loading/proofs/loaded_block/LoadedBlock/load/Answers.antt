@@ -20,7 +20,7 @@ returns-in_err-files-clause-refuses g c = λ told h refusal is. error_on c.from_
     (says_refuses files_read told c.args.ulid (Err c.in_err-files.field-0.0) refusal (c.in_err-files.ensures.loaded told h) is)
 
 pub returns-in_err-files-clause-asks : goal.returns-in_err-files-clause-asks
-returns-in_err-files-clause-asks g c = asked_on g.F.Shelf.files g.F.Shelf.asked g.F.Shelf.faults _ _ _ _ c.args.ulid (StopsAt c.args.ulid) (StopsAt c.args.ulid) c.from_residual.result c.in_err-files.field-0.0 c.from_residual.ensures.1 (λ count refusal stops. stops) c.in_err-files.ensures.asks
+returns-in_err-files-clause-asks g c = asked_on g.F.Shelf.told _ _ _ _ c.args.ulid (StopsAt c.args.ulid) (StopsAt c.args.ulid) c.from_residual.result c.in_err-files.field-0.0 c.from_residual.ensures.1 (λ count refusal stops. stops) c.in_err-files.ensures.asks
 
 -- ---- it was loaded
 
@@ -36,4 +36,4 @@ returns-clause-refuses g c = λ told h refusal is. absurd (not_stopped (c.in_ok-
     (says_refuses files_read told c.args.ulid (Ok (c.in_ok-files.files, c.in_ok-files.indexed)) refusal (c.in_ok-files.ensures.loaded told h) is))
 
 pub returns-clause-asks : goal.returns-clause-asks
-returns-clause-asks g c = asked_whole g.F.Shelf.files g.F.Shelf.asked g.F.Shelf.faults _ _ _ _ c.args.ulid (StopsAt c.args.ulid) (StopsAt c.args.ulid) _ _ refl (λ count whole. tt) refl c.in_ok-files.ensures.asks
+returns-clause-asks g c = asked_whole g.F.Shelf.told _ _ _ _ c.args.ulid (StopsAt c.args.ulid) (StopsAt c.args.ulid) _ _ refl (λ count whole. tt) refl c.in_ok-files.ensures.asks
