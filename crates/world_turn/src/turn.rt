@@ -12,9 +12,9 @@ use crate::Shared;
 use crate::plays::{Append, Give, GiveFull, GiveShort, Take};
 use crate::shared::{COUNT, Place, TURN};
 use bucket_core::Bucket;
+use crossbeam_utils::Backoff;
 use std::snapshot::Snapshot;
 use std::sync::Wait;
-use std::{hint, thread};
 use world_core::{Acted, Op, World};
 
 /// The one slot of the table, in which the world lies.
@@ -24,9 +24,6 @@ const SLOT: usize = 0;
 const FREE: u64 = 0;
 
 const HELD: u64 = 1;
-
-/// So many rounds a pass spins while another has the turn. From then on it yields its processor in each round.
-const SPINS: u32 = 64;
 
 impl<B: Bucket> Shared<B> {
     /// Takes the turn, and the world with it.
@@ -40,7 +37,7 @@ impl<B: Bucket> Shared<B> {
             × (place.new.me ≡ (holding place.old.me.0 result.journal wanted, (0, None) ∷ []))
             × (wanted ≡ false → AsksFrom B.told (opened_of place.old.me.0) result) }
     {
-        let mut spins = 0u32;
+        let backoff = Backoff::new();
         for _ in rt.forever() {
             if self
                 .table
@@ -50,7 +47,7 @@ impl<B: Bucket> Shared<B> {
             {
                 return self.lift(place);
             }
-            spins = back_off(spins);
+            backoff.snooze();
         }
         unreachable!()
     }
@@ -156,16 +153,5 @@ impl<B: Bucket> Shared<B> {
         ensures gives { place.new.me ≡ (leaving_short place.old.me.0, []) }
     {
         self.table.shared.store::<GiveShort>(place, TURN, FREE);
-    }
-}
-
-/// Waits a moment, and counts the rounds that were spun.
-fn back_off(spins: u32) -> u32 {
-    if spins < SPINS {
-        hint::spin_loop();
-        spins + 1
-    } else {
-        thread::yield_now();
-        spins
     }
 }
