@@ -1,5 +1,5 @@
-//! The series of a number, in a whole index or in a part of one. The number may come from a hostile list, so what is
-//! copied even for one series is held to a budget.
+//! The series of a number, in a whole index or in a part of one. What is copied of a series is bounded by its own bytes,
+//! so a number that a hostile list gives costs no more than that.
 
 ghost use Rattle.std.specs.Prelude.{◌≡◌, ◌⊎◌, ◌+◌, ◌-◌, ◌*◌, ◌^◌, ◌<◌, ◌≤◌, ℕ, List, length, IfOk, Ok, Err};
 ghost use Rattle.std.specs.Result.{IsOkAnd};
