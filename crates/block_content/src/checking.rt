@@ -104,7 +104,7 @@ fn count_one(
     }
 }
 
-/// Counts the samples of a chunk whose place lies within the block's times. None of them is looked at.
+/// The same of a chunk whose place lies within the block's times. No sample is looked at.
 fn count_within(segments: &[Blob], place: ChunkPlace, budget: usize) -> Result<Counted, ChunkCause>
     ensures counted { MadeOfChunk segments.now place
         (λ counted part. (counted.samples ≡ length part) × (counted.outside ≡ None)
@@ -120,7 +120,7 @@ fn count_within(segments: &[Blob], place: ChunkPlace, budget: usize) -> Result<C
     })
 }
 
-/// Counts the samples of a chunk at any place, and finds the first that is outside of the block's times.
+/// The same of a chunk at any place.
 fn count_beyond(
     alloc: Global,
     meta: &Meta,
@@ -225,7 +225,7 @@ pub(crate) fn count_all(
     Ok(Counts { samples, outside })
 }
 
-/// Reads all chunks of a block whose index lends the texts of its labels, each once, and keeps no samples.
+/// The same where the index lends the texts of the series' labels.
 pub(crate) fn count_lent(
     alloc: Global,
     meta: &Meta,
@@ -317,7 +317,7 @@ fn count_block(
     count_some(alloc, meta, segments, indexed.members(), budget)
 }
 
-/// The series and the samples of a block that may be shipped under a ULID, and whose index was read before.
+/// The same of a block whose index was read.
 #[tactic(auto, unfolding(crate::specs::CheckReading::indexed_at))]
 fn count_indexed(
     alloc: Global,

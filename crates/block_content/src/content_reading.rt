@@ -69,7 +69,7 @@ fn lent_index(alloc: Global, index: &[u8]) -> Result<List<LentSeries<'_>>, Index
     reader.whole_lent(alloc)
 }
 
-/// The series of an index, which lends the texts of their labels, with a refusal as the block's.
+/// The same of series whose texts the index lends.
 pub(crate) fn read_lent(alloc: Global, index: &[u8]) -> Result<List<LentSeries<'_>>, CheckRefusal>
     ensures exact { Gives CheckRefusal.NoMemory
         (λ list. list) result (refused_as refused_index (index_at index.now)) }
@@ -244,7 +244,7 @@ pub(crate) fn first_repeated(indexed: &[IndexSeries]) -> Option<u32>
     None
 }
 
-/// The first of lent series whose chunks do not follow one another in time.
+/// The same of lent series.
 pub(crate) fn lent_repeated(indexed: &[LentSeries<'_>]) -> Option<u32>
     ensures { MatchOption result (first_at repeated_in indexed.now ≡ None)
         (λ found. (place : ℕ) × (first_at repeated_in indexed.now ≡ Some (place, tt))

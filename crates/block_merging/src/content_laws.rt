@@ -1,6 +1,3 @@
-//! Laws over the writer of blocks and the readers of their content: what is put into a block is what its files hold,
-//! and nothing else. So the laws on journals can speak of samples where a bucket has bytes alone.
-
 ghost use Rattle.std.specs.Prelude.{◌≡◌, ◌≢◌, ℕ, List, [], ◌∷◌};
 ghost use Rattle.label_sets.specs.declared.series.Series.{Series};
 ghost use Rattle.block_meta.specs.declared.block_plan.BlockPlan.{BlockPlan};

@@ -1,6 +1,3 @@
-//! The object that retires a block before it is deleted, so that whoever still reads the block has time to end.
-//! Compactions write it and cleanings go by its age, which is counted in whole seconds, as in Thanos.
-
 ghost use Rattle.std.specs.Prelude.{◌≡◌, ◌<◌, IfOk};
 ghost use Rattle.block_meta.specs.Lawful.{deletion_limit};
 

@@ -1,6 +1,3 @@
-//! What a block says of itself: all that a sync, or the planner of a compaction, knows of it, as neither of them reads
-//! an index.
-
 ghost use Rattle.std.specs.Prelude.{◌≡◌, ◌<ℤ◌, ◌≤ℤ◌, pos, neg_ℤ, ◌^◌};
 ghost use Rattle.std.specs.Int.{int_max};
 ghost use Rattle.std.specs.List.Sorted.{IsStrictlyIncreasing};

@@ -1,6 +1,3 @@
-//! The object store that all activities work on. What a contract can say of it is what the bucket itself tells: one in
-//! memory tells what stands, one in a folder nothing of what it holds.
-
 ghost use Rattle.std.specs.Prelude.{◌≡◌, ℕ, ◌≤◌, List, [], ◌∷◌, Option, Some, IsSome, IfSome, option_map, IsTrue, false};
 ghost use Rattle.bucket_core.specs.Asking.{Call, puts, gets, gets_range, deletes, lists, Asks, AsksOnce};
 ghost use Rattle.bucket_core.specs.Causes.{KeepsFaults, put_failed, get_failed, delete_failed, page_failed};

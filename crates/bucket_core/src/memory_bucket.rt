@@ -1,6 +1,3 @@
-//! The bucket of the word `memory`, and of most tests. It tells what it holds, so a contract over it says what each
-//! call leaves; and calls can be made to fail by their numbers, with their effect or without it.
-
 ghost use Rattle.std.specs.Prelude.{◌≡◌, ◌≤◌, [], option_map, IsTrue, false, OnOk, OnErr};
 ghost use Rattle.std.proofs.Props.{props};
 ghost use Rattle.std.specs.List.Sorted.{IsStrictlySortedBy};

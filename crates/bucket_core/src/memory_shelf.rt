@@ -1,6 +1,3 @@
-//! A shelf for tests, with files in memory, of which calls can be made to fail by their numbers. The program's own
-//! shelves are folders.
-
 ghost use Rattle.std.specs.Prelude.{◌≡◌, ◌+◌, ◌≤◌, List, [], option_map, false};
 ghost use Rattle.bucket_core.specs.Calls.{next_call};
 ghost use Rattle.bucket_core.specs.Causes.{file_failed};

@@ -1,6 +1,3 @@
-//! A sink for tests that keeps what was written and can be made to fail at one call: so it is tried that a report which
-//! could not be written is never told as written.
-
 ghost use Rattle.std.specs.Prelude.{◌≡◌, ◌≤◌, ◌<◌, ◌++◌, [], length, take, option_map, IsTrue, Some};
 ghost use Rattle.bucket_core.specs.Calls.{next_call};
 ghost use Rattle.bucket_core.specs.Causes.{Rose, write_failed};

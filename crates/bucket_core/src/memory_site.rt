@@ -1,6 +1,3 @@
-//! A site for tests with one bucket and one shelf, handed out under any name. What it will hand out is told beforehand,
-//! so that contracts over it can say what a call found when it opened them.
-
 ghost use Rattle.std.specs.Prelude.{◌≡◌, Some};
 ghost use Rattle.std.specs.Option.{ForSome};
 ghost use Rattle.bucket_core.specs.MemoryBucket.{faults_counted as bucket_faults};

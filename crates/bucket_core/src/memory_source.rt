@@ -1,5 +1,3 @@
-//! A source for tests: the bytes of a script in memory, and one call that can be made to fail in the middle of them.
-
 ghost use Rattle.std.specs.Prelude.{◌≡◌, ◌≤◌, ◌<◌, ◌↔◌, ◌++◌, length, take, drop, option_map, IsTrue, Some};
 ghost use Rattle.bucket_core.specs.Calls.{next_call};
 ghost use Rattle.bucket_core.specs.Causes.{Rose, read_failed};

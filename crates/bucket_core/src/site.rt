@@ -1,6 +1,3 @@
-//! Where the words of a call become a bucket and a shelf. It counts what it hands out, so that a contract can say that
-//! a call opened each at most once, and none that no word names.
-
 ghost use Rattle.std.specs.Prelude.{◌≡◌, ◌≢◌, ℕ, ◌+◌, ◌≤◌, List, [], Option, Some, IfSome, IfOk, is_ok, if◌then◌else◌};
 ghost use Rattle.bucket_core.specs.Causes.{Rose};
 ghost use Rattle.bucket_core.specs.Contents.{Contents};

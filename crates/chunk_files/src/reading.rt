@@ -1,6 +1,3 @@
-//! Chunks out of a segment file: each is lent where it lies, once its sum is found right. Histograms have a refusal of
-//! their own, since they are no damage, but samples of a kind that nothing here reads.
-
 ghost use Rattle.std.specs.Prelude.{◌≡◌, ◌+◌, ◌<◌, ◌∷◌, IfOk, ℕ, List, slice_index, drop, length};
 ghost use Rattle.std.specs.Result.{IsOkAnd};
 ghost use Rattle.base.specs.Grammar.{IsBytes};

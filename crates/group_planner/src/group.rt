@@ -1,6 +1,3 @@
-//! Which blocks belong together: those of one resolution whose external labels differ in replica labels alone. So the
-//! blocks of replicas fall into one group, and become one block without them.
-
 ghost use Rattle.std.specs.Prelude.{◌≡◌, ◌++◌, ◌∷◌, ◌&&◌, [], List, map, IfOk, OnOk};
 ghost use Rattle.std.specs.List.Sorted.{IsSortedBy};
 ghost use Rattle.std.specs.Ordering.{int_eq, is_eq};

@@ -1,6 +1,3 @@
-//! The fields of an index, as `wire_bytes` reads them, but each refusal with the place at which its field begins: that
-//! is what a caller is told of a damaged index.
-
 ghost use Rattle.std.specs.Prelude.{◌≡◌, ◌-◌, ◌*◌, ◌≤◌, ◌<◌, Ok, Err, MatchResult, length, true, false};
 ghost use Rattle.std.specs.Str.{is_utf8};
 ghost use Rattle.std.specs.Int.{w8, w32, w64};

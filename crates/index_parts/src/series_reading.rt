@@ -1,7 +1,3 @@
-//! A series of an index as it stands: its labels by symbol numbers, and each chunk's times and place, told from those
-//! of the chunk before it. No symbol is looked up here, as a gateway has the symbols apart from the bytes of its
-//! series.
-
 ghost use Rattle.std.specs.Prelude.{◌≡◌, ◌⊎◌, ◌≤◌, ◌*◌, ◌+◌, ◌<◌, ◌^◌, List, ℕ, ℤ, length, IfOk, Ok, Err, Some, MatchResult};
 ghost use Rattle.base.specs.Reading.{Answers, Gives};
 ghost use Rattle.base.specs.Grammar.{IsBytes};

@@ -1,6 +1,3 @@
-//! How much reading an index may cost. Its sections may lie within one another and share texts, as the format does not
-//! forbid it, so a hostile index describes far more than it holds: what passes the budget counts as a want of memory.
-
 ghost use Rattle.std.specs.Prelude.{◌≡◌, ◌+◌, ◌-◌, ◌*◌, ◌^◌, ◌<◌, ◌≤◌, [], length, map, min, sum_by, IfOk, MatchResult};
 ghost use Rattle.index_v2.specs.Budget.{label_bytes, list_bytes, members_of, series_bytes, text_bytes, told, read_share, text_share};
 ghost use Rattle.index_v2.specs.LentLabels.{as_label};

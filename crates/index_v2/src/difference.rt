@@ -1,7 +1,3 @@
-//! Whether the postings lists of an index are just those of its series, and at which row they first are not. Rows and
-//! series are walked side by side, and each search begins where the last one led, as what comes next mostly stands
-//! near.
-
 ghost use Rattle.std.specs.Prelude.{◌≡◌, ◌==◌, ◌^◌, ◌<◌, ◌≤◌, All, length, map, zip, None, Some, IfSome, if◌then◌else◌};
 ghost use Rattle.std.specs.List.{list_all};
 ghost use Rattle.base.specs.Lists.{is_one_of};

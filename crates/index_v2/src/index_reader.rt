@@ -1,7 +1,3 @@
-//! An opened index: the file of a block that is checked or merged, or the parts that a gateway got by ranges. Opening
-//! reads the tables alone; whether all sections agree is told by `whole`, and the other calls agree with what that
-//! answers.
-
 ghost use Rattle.std.specs.Prelude.{◌≡◌, ◌⊎◌, ◌+◌, ◌-◌, ◌*◌, ◌^◌, ◌<◌, ◌≤◌, [], length, All, slice_get, MatchResult, IfOk, IfErr, IfSome, Ok, Err, Some, None, option_map};
 ghost use Rattle.std.specs.Result.{IsOkAnd};
 ghost use Rattle.std.specs.Option.{option_copied};

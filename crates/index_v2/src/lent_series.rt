@@ -1,6 +1,3 @@
-//! A series whose labels' texts stay in the index. Checks and merges go through all series of a block in the room of
-//! one, so that a series takes no memory of its own.
-
 ghost use Rattle.std.specs.Prelude.{◌≡◌, [], map, Ok, Err, IfOk, MatchResult};
 ghost use Rattle.base.specs.Reading.{Gives};
 ghost use Rattle.std.specs.Option.{option_copied};

@@ -1,6 +1,3 @@
-//! The series of a number, in a whole index or in a part of one. The number may come from a hostile list, so what is
-//! copied even for one series is held to a budget.
-
 ghost use Rattle.std.specs.Prelude.{◌≡◌, ◌⊎◌, ◌+◌, ◌-◌, ◌*◌, ◌^◌, ◌<◌, ◌≤◌, ℕ, List, length, IfOk, Ok, Err};
 ghost use Rattle.std.specs.Result.{IsOkAnd};
 ghost use Rattle.base.specs.Reading.{Gives};

@@ -1,6 +1,3 @@
-//! What is asked of the postings table: the list of a label, and the values of a name. A label without a row has no
-//! series: its list is empty, and nothing is refused.
-
 ghost use Rattle.std.specs.Prelude.{◌≡◌, ◌⊎◌, ◌+◌, ◌*◌, ◌^◌, ◌<◌, ◌≤◌, ℕ, List, All, length, IfOk, Ok, Err, Some};
 ghost use Rattle.base.specs.Reading.{Gives, refused_as};
 ghost use Rattle.index_parts.specs.Parts.{part_of, file, list_in, IsPartOf, HoldsSection};

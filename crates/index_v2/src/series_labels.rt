@@ -1,6 +1,3 @@
-//! How the symbol numbers of a series become its labels, which have to be a label set. Where a number is refused those
-//! behind it are still read, since bytes that cannot be read are named before what they say.
-
 ghost use Rattle.std.specs.Prelude.{◌≡◌, ◌*◌, ◌<◌, ℕ, List, [], length, map, Ok, Err, MatchResult, slice_get};
 ghost use Rattle.std.specs.Option.{option_copied};
 ghost use Rattle.std.specs.Result.{result_map_both};

@@ -1,6 +1,3 @@
-//! The symbols of an opened index. An index without series may lack the section of them: then there are none, and a
-//! number that names one is refused where it stands.
-
 ghost use Rattle.std.specs.Prelude.{◌≡◌, ◌+◌, ◌^◌, ◌<◌, ◌≤◌, length, slice_get, IfOk};
 ghost use Rattle.std.specs.Option.{option_copied};
 ghost use Rattle.base.specs.Reading.{Gives};

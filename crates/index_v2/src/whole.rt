@@ -1,6 +1,3 @@
-//! The whole of an index, read and tested at once: every series, every postings list, and that the lists are just those
-//! of the series. A block of a shelf is shipped, and a block is merged, only where its index was read so.
-
 ghost use Rattle.std.specs.Prelude.{◌≡◌, ◌+◌, ◌*◌, ◌-◌, ◌^◌, ◌<◌, ◌≤◌, ℕ, All, length, sum_by, slice_get, None, IfOk};
 ghost use Rattle.base.specs.Reading.{Gives, Answers};
 ghost use Rattle.std.specs.List.Sorted.{IsStrictlyIncreasing};

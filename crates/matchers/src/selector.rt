@@ -1,6 +1,3 @@
-//! What a query asks of label sets. It keeps its text, since patterns that were built do not cross threads: a worker
-//! reads the text again. A replica label may not be named, as series lose it before they are shown.
-
 ghost use Rattle.std.specs.Prelude.{◌≡◌, ◌⊎◌, List, IsTrue, IsOk, IfOk, IfErr, IsErrAnd, MatchResult};
 ghost use Rattle.matchers.specs.declared.matcher.Matcher.{Matcher};
 ghost use Rattle.matchers.specs.declared.selector_refusal.SelectorRefusal.{SelectorRefusal};

@@ -1,6 +1,3 @@
-//! Rule lines. Most set a value in place of the one before; a replica label is one more, and a retention of no time is
-//! none.
-
 ghost use Rattle.base.specs.Reading.{Answers, Gives};
 ghost use Rattle.script_fields.specs.declared.line_refusal.LineRefusal.TheVariants as line_refusals;
 ghost use Rattle.script_fields.specs.LineRefusals.{bad};

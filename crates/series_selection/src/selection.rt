@@ -1,6 +1,3 @@
-//! How a selector finds its series in an index without reading one: by postings lists alone, as Prometheus does it.
-//! Where a matcher names an external label of the block, all its series have that value or none does.
-
 ghost use Rattle.std.specs.Prelude.{◌≡◌, ◌⊎◌, ◌*◌, ◌^◌, ◌<◌, ◌≤◌, ℕ, List, [], All, length, Some, Ok, Err, IfOk, IfErr, IsOk, OnOk, MatchResult, true, if◌then◌else◌};
 ghost use Rattle.std.specs.List.{Contains, filter, flat_map};
 ghost use Rattle.std.specs.List.Sorted.{IsStrictlyIncreasing, IsNonDecreasing, IsPermutation};

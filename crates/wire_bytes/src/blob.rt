@@ -1,6 +1,3 @@
-//! The bytes of an object on their way from a block's writer through a bucket and its journal to a reader. Copies count
-//! owners, so that a segment stands in memory once, however often it is put, kept and read.
-
 ghost use Rattle.std.specs.Prelude.{◌≡◌, List, ℕ, take, drop, IfOk};
 ghost use Rattle.std.specs.Arc.{arc_value};
 ghost use Rattle.wire_bytes.specs.Kept.{kept_bytes};
@@ -50,7 +47,7 @@ impl Blob {
         }
     }
 
-    /// The blob with its owners counted: copies share its bytes from here on. The room that a vector had beside them is given back.
+    /// The same bytes, which copies share from here on. The room that a vector had beside them is given back.
     pub fn shared(self) -> Result<Self, NoMemory>
         ensures { IfOk result (λ blob. blob ≡ self) }
     {

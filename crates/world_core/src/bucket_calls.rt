@@ -1,6 +1,3 @@
-//! Operations as calls of a bucket. It is the one place where a world asks its bucket for anything, once for each
-//! operation, with keys as texts.
-
 ghost use Rattle.std.specs.Prelude.{◌≡◌, ◌↔◌, ◌≤◌, IfOk, IsTrue};
 ghost use Rattle.block_keys.specs.Keys.{IsLawfulKey};
 ghost use Rattle.ulid_core.specs.UlidText.{text_of};

@@ -1,6 +1,3 @@
-//! How a machine is run by a hand. Here alone an activity is stopped between two operations, as a script asks for it:
-//! so what a process leaves that ends in the midst of its work can be tried.
-
 ghost use Rattle.std.specs.Prelude.{◌≡◌, ◌≢◌, ◌⊎◌, ◌||◌, List, IfSome, IsTrue};
 ghost use Rattle.bucket_core.specs.Asking.{Call};
 ghost use Rattle.world_core.specs.Asking.{IsAllAsked};

@@ -1,6 +1,3 @@
-//! The record of all that was done over a bucket, of which the laws speak. Room for an entry is made before its
-//! operation is done, so that nothing happens to the bucket that is not told.
-
 ghost use Rattle.std.specs.Prelude.{◌≡◌, ◌↔◌, ℕ, ◌+◌, ◌≤◌, ◌<◌, IsTrue, List, [], ◌∷◌, ◌++◌, length, IfOk, OnErr};
 ghost use Rattle.std.specs.Option.{option_copied};
 ghost use Rattle.world_core.specs.Asking.{AsksIn};

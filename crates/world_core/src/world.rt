@@ -1,6 +1,3 @@
-//! A bucket with its journal and its clock: an operation is done, dated and told in one step. Only an empty bucket is
-//! opened, so that all that ever stands in it was put by an entry.
-
 ghost use Rattle.std.specs.Prelude.{◌≡◌, false, ◌↔◌, ℕ, ◌+◌, ◌≤◌, ◌<◌, IsTrue, [], ◌∷◌, ◌++◌, length, ◌≢◌, List, Some, slice_get, IfOk, IfErr, MatchResult, IfSome, option_map};
 ghost use Rattle.ulid_core.specs.Limits.{ulid_time_limit};
 ghost use Rattle.bucket_core.specs.Asking.{Call, Asks, AsksOnce};

@@ -1,6 +1,3 @@
-//! The hand of an activity that has a world to itself: all its operations are done at one seat, and the world is handed
-//! back behind them.
-
 ghost use Rattle.std.specs.Prelude.{◌≡◌, Some, false};
 
 use crate::{Acted, Hand, Op, World};

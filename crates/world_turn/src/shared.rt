@@ -1,6 +1,3 @@
-//! A world that threads share by turns: whoever has the turn takes the world, does one operation on it and lays it
-//! back. A worker has a pass, of which proofs know what the journal had at least when it was used last.
-
 ghost use Rattle.std.specs.Prelude.{◌≡◌, false, List, ℕ, ◌+◌, ◌<◌, ◌^◌, ◌-◌, [], ◌∷◌, Some, None, IfOk, IfErr, MatchResult};
 ghost use Rattle.bucket_core.specs.Asking.{Call};
 ghost use Rattle.world_core.specs.Asking.{IsAllAsked};

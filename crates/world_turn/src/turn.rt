@@ -133,7 +133,7 @@ impl<B: Bucket> Shared<B> {
         self.table.shared.store::<Give>(place, TURN, FREE);
     }
 
-    /// Gives the turn back, and the world with it, where the pass has seen the whole journal.
+    /// The same, and the pass has seen the whole journal.
     fn give_full(&self, place: &mut Place<B>)
         requires own { place.old.table_id ≡ self.now.table.shared.table_id }
         requires holds { (place.old.me.0.live ≡ true) × (place.old.me.0.holds ≡ true) }
@@ -146,7 +146,7 @@ impl<B: Bucket> Shared<B> {
         self.table.shared.store::<GiveFull>(place, TURN, FREE);
     }
 
-    /// Gives the turn back, and the world with it, where memory was wanted.
+    /// The same, and memory was wanted.
     fn give_short(&self, place: &mut Place<B>)
         requires own { place.old.table_id ≡ self.now.table.shared.table_id }
         requires holds { (place.old.me.0.live ≡ true) × (place.old.me.0.holds ≡ true) }
