@@ -3,6 +3,7 @@
 
 mod calls;
 mod memory_shelf;
+mod occupied;
 mod runs;
 
 use crate::says::{put, show};

@@ -5,16 +5,18 @@ use bucket_core::{
     FileList, MemoryBucket, MemoryShelf, MemorySink, MemorySite, MemorySource, Site,
 };
 use phase_runner::Gate;
-use replay_cli::{run_replay, run_tool};
+use replay_cli::{Run, run_replay, run_tool};
 use std::alloc::Global;
 use std::sync::Wait;
 use std::thread::Threads;
 use wire_bytes::Blob;
+use world_core::Journal;
 
-/// How a call ended, and what it wrote.
+/// How a call ended, its journal if it had a bucket, and what it wrote.
 #[derive(Drop)]
 pub(crate) struct Ended {
     pub(crate) status: u8,
+    pub(crate) journal: Option<Journal>,
     pub(crate) out: MemorySink,
 }
 
@@ -57,14 +59,18 @@ where
     let mut list = Vec::new(alloc);
     add_words(&mut list, call);
     add_words(&mut list, words);
-    let status = status_of(threads, alloc, &list, site, &mut source, &mut out, gate);
+    let (status, journal) = run_of(threads, alloc, &list, site, &mut source, &mut out, gate);
     drop(list);
     drop(source);
-    Ended { status, out }
+    Ended {
+        status,
+        journal,
+        out,
+    }
 }
 
-/// The status of a call, which is done with threads where its first word is `replay`.
-fn status_of<R: Threads + Wait + Sync, S: Site, G: Gate + Sync>(
+/// The status and the journal of a call, which is done with threads where its first word is `replay`.
+fn run_of<R: Threads + Wait + Sync, S: Site, G: Gate + Sync>(
     threads: &R,
     alloc: Global,
     words: &[String],
@@ -72,7 +78,7 @@ fn status_of<R: Threads + Wait + Sync, S: Site, G: Gate + Sync>(
     source: &mut MemorySource,
     out: &mut MemorySink,
     gate: &G,
-) -> u8
+) -> (u8, Option<Journal>)
 where
     S::Store: Drop + Send,
     S::Files: Drop,
@@ -83,9 +89,12 @@ where
         }
         _ => run_tool(alloc, words, site, source, out),
     };
-    let status = run.status;
-    drop(run);
-    status
+    let Run {
+        status,
+        journal,
+        ..
+    } = run;
+    (status, journal)
 }
 
 /// Adds the words of a text. A word for which there is no memory is lacking, by which the row fails.

@@ -4,7 +4,8 @@
 ghost use Rattle.std.specs.Prelude.{IsTrue};
 ghost use Rattle.bucket_core.specs.Contents.{IsKey};
 
-use crate::folders::memory_shelf::{CHECK, SERIAL, SHELVED, print_over_memory};
+use crate::folders::memory_shelf::{CHECK, SHELVED, UPLOADED, print_over_memory};
+use crate::folders::occupied::print_over_object;
 use crate::folders::runs::{print_beside, print_over_files};
 use crate::lines::{ONE_BLOCK, script_of};
 use crate::says::{cut, put, say, say_names, show, text_of};
@@ -48,8 +49,10 @@ pub(crate) fn print_call<R: Threads + Wait + Sync, B: Bucket, F: Shelf>(
             let call = if kind == "runs" { "serial" } else { "replay" };
             print_beside(threads, rt, (call, places), "runs", name);
         }
-        "words" => print_over_memory(threads, rt, CHECK, "", text),
-        "served" => print_over_memory(threads, rt, SERIAL, SHELVED, text),
+        "words" => print_over_memory(threads, rt, &CHECK, text),
+        "served" => print_over_memory(threads, rt, &SHELVED, text),
+        "shipped" => print_over_memory(threads, rt, &UPLOADED, text),
+        "occupied" => print_over_object(threads, rt, text),
         "folder" | "file" | "mode" => show(rt, &change(rt, kind, text).is_ok()),
         "read" => print_read(rt, folder.shelf.read(text)),
         "memory" => {
@@ -76,7 +79,7 @@ fn print_answer<B: Bucket>(rt: &HostRuntime, bucket: &mut B, kind: &str, text: &
     }
 }
 
-fn is_key(key: &str) -> bool
+pub(crate) fn is_key(key: &str) -> bool
     ensures { IsTrue result → IsKey key.now }
 {
     match key.as_bytes() {

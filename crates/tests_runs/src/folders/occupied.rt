@@ -16,7 +16,11 @@ use std::thread::Threads;
 use wire_bytes::Blob;
 
 /// Prints the status and the text of the empty script over a bucket that holds one object, under this key.
-pub(crate) fn print_over_object<R: Threads + Wait + Sync>(threads: &R, rt: &HostRuntime, key: &str) {
+pub(crate) fn print_over_object<R: Threads + Wait + Sync>(
+    threads: &R,
+    rt: &HostRuntime,
+    key: &str,
+) {
     if !is_key(key) {
         return say(rt, "no key");
     }
@@ -24,7 +28,14 @@ pub(crate) fn print_over_object<R: Threads + Wait + Sync>(threads: &R, rt: &Host
     let shelf = MemoryShelf::new(rt.alloc(), FileList::new(rt.alloc()));
     let mut site = MemorySite::new(bucket, shelf, false);
     let words = ("serial", "memory none");
-    let ended = end_of(threads, words, &mut site, Vec::new(rt.alloc()), &CALM, &Open);
+    let ended = end_of(
+        threads,
+        words,
+        &mut site,
+        Vec::new(rt.alloc()),
+        &CALM,
+        &Open,
+    );
     drop(site);
     print_ended(rt, &ended, None);
     drop(ended);
