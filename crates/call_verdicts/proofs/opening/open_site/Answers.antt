@@ -26,7 +26,7 @@ returns-in-Ok-open_world-clause-opened g c =
 
 pub returns-in-Err-open_world-clause-ended : goal.returns-in-Err-open_world-clause-ended
 returns-in-Err-open_world-clause-ended g c =
-    subst (HasNotOpened (site_call (g.S.Site.told c.args.site.now) (g.S.Site.told c.open_shelf.new.site) g.S.Store.Bucket.told g.S.Files.Shelf.told) c.args.bucket.now (named_by c.args.shelf.now) c.args.script.now) (sym c.early.ensures)
+    subst (HasNotOpened (site_call (g.S.Site.told c.args.site.now) (g.S.Site.told c.open_shelf.new.site) g.S.Store.Bucket.told g.S.Files.Shelf.told) c.args.bucket.now (named_by c.args.shelf.now) c.args.script.now) (sym c.early-in-Err-open_world.ensures)
     (unopened_site (g.S.Site.told c.args.site.now) (g.S.Site.told c.open_bucket.new.self) (g.S.Site.told c.open_shelf.new.site) g.S.Store.Bucket.told g.S.Files.Shelf.told c.args.bucket.now (named_by c.args.shelf.now) c.args.script.now
     c.in-Ok.store c.in-Ok.ensures.opened (c.in-Ok.ensures.faults.only refl) c.in-Ok.ensures.counted c.in-Ok.ensures.shelves c.in-Ok.ensures.files c.in-Ok-open_shelf.ensures.bucket
     c.in-Ok-open_shelf.shelf c.in-Ok-open_shelf.ensures.only c.in-Ok-open_shelf.ensures.opened
@@ -34,7 +34,7 @@ returns-in-Err-open_world-clause-ended g c =
 
 pub returns-in-Err-open_shelf-clause-ended : goal.returns-in-Err-open_shelf-clause-ended
 returns-in-Err-open_shelf-clause-ended g c =
-    subst (HasNotOpened (site_call (g.S.Site.told c.args.site.now) (g.S.Site.told c.open_shelf.new.site) g.S.Store.Bucket.told g.S.Files.Shelf.told) c.args.bucket.now (named_by c.args.shelf.now) c.args.script.now) (sym c.early.ensures)
+    subst (HasNotOpened (site_call (g.S.Site.told c.args.site.now) (g.S.Site.told c.open_shelf.new.site) g.S.Store.Bucket.told g.S.Files.Shelf.told) c.args.bucket.now (named_by c.args.shelf.now) c.args.script.now) (sym c.early-in-Err-open_shelf.ensures)
     (unshelved_site (g.S.Site.told c.args.site.now) (g.S.Site.told c.open_bucket.new.self) (g.S.Site.told c.open_shelf.new.site) g.S.Store.Bucket.told g.S.Files.Shelf.told c.args.bucket.now (named_by c.args.shelf.now) c.args.script.now
     c.in-Ok.store c.in-Ok.ensures.opened (c.in-Ok.ensures.faults.only refl) c.in-Ok.ensures.counted c.in-Ok.ensures.shelves c.in-Ok.ensures.files c.in-Err-open_shelf.ensures.bucket
     c.in-Err-open_shelf.refusal c.without_shelf.result c.in-Err-open_shelf.ensures.cause c.in-Err-open_shelf.ensures.only c.in-Err-open_shelf.ensures.refused c.in-Err-open_shelf.ensures.asked
