@@ -22,11 +22,11 @@ use Rattle.call_verdicts.proofs.Verdicts.{if_told, run_told}
 
 -- ---- refusals of a site
 
-pub refusal_failed : {X : Type 0} (before now : ℕ) (refusal : SiteRefusal) → CountsFaults before now (opening_failed {X = X} (Err refusal)) → refusal ≡ site.Failed → Rose before now
+pub refusal_failed : (before now : ℕ) (refusal : SiteRefusal) → CountsFaults before now (opening_failed {X = ⊥} (Err refusal)) → refusal ≡ site.Failed → Rose before now
 refusal_failed before now site.Failed counts is = counts.cause refl
 refusal_failed before now site.NoMemory counts is = absurd (cc is)
 
-pub refusal_calm : {X : Type 0} (before now : ℕ) (refusal : SiteRefusal) → CountsFaults before now (opening_failed {X = X} (Err refusal)) → refusal ≢ site.Failed → now ≡ before
+pub refusal_calm : (before now : ℕ) (refusal : SiteRefusal) → CountsFaults before now (opening_failed {X = ⊥} (Err refusal)) → refusal ≢ site.Failed → now ≡ before
 refusal_calm before now site.Failed counts other = absurd (other refl)
 refusal_calm before now site.NoMemory counts other = counts.only refl
 

@@ -28,7 +28,7 @@ use Rattle.call_verdicts.specs.declared.conclusion.Ended.{Ended}
 use Rattle.call_verdicts.specs.declared.verdict.Verdict.{Verdict}
 use Rattle.call_verdicts.specs.declared.verdict.Verdict.TheVariants as verdict
 use Rattle.call_verdicts.proofs.BucketAsked.{back_opened, just_handed, none_asked, none_opened, only_opened, unopened_asked, unshelved_asked}
-use Rattle.call_verdicts.proofs.Checks.{back_none, handed_none}
+use Rattle.call_verdicts.proofs.Checks.{back_none, handed_none, not_named}
 use Rattle.call_verdicts.proofs.HandedBack.{back_of_none, if_map}
 use Rattle.call_verdicts.proofs.Opened.{first_none, first_told, opened_told, unhanded_told, unshelved_told}
 use Rattle.call_verdicts.proofs.Openings.{both_gone, both_there, handed_one, no_shelf, open_behind, refusal_calm, refusal_failed, short_both, unopened_told, untouched_gone, untouched_kept}
@@ -118,7 +118,7 @@ module _ {B F : Type 0} (before mid after : SiteTold) (store : B → BucketTold)
       site = short_refused refusal x.verdict (after.faults ≡ before.faults) failed (λ other. only other ∙ calm);
       handed = handed_one before.buckets after.buckets x.store (ap (λ (o : Option B). is_some o) handed) (still.handed ∙ one);
       named = before_opening refusal x.verdict (IsOpened {F = F} (Some name) word x.store None) failed short;
-      of = no_shelf files before after word None refl (refused ∙ shelves) (λ gone. let never : IsSome {X = List ℕ} None = subst (λ (w : Option (List ℕ)). IsSome w) gone some in absurd (cc never));
+      of = no_shelf files before after word None refl (refused ∙ shelves) (λ gone. absurd (not_named word gone some));
       unfailed = tt;
       unasked = tt;
       note = refl;

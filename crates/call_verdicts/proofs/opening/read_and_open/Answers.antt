@@ -5,8 +5,8 @@ use Rattle.call_verdicts.specs.Words.{named_by}
 use Rattle.call_verdicts.proofs.Unopened.{ended_site, ended_source}
 use Rattle.call_verdicts.proofs.opening.read_and_open.Goals as goal
 
-pub returns-in-Ok-clause-ready : goal.returns-in-Ok-clause-ready
-returns-in-Ok-clause-ready g c = record {
+pub returns-in-Ok-open_site-clause-ready : goal.returns-in-Ok-open_site-clause-ready
+returns-in-Ok-open_site-clause-ready g c = record {
   read = c.in-Ok.ensures.read;
   lawful = c.in-Ok.ensures.lawful;
   source = c.in-Ok.ensures.only;
