@@ -18,10 +18,10 @@ pub fn run_compaction<H: Hand>(
     hand: &mut H,
 ) -> Driven<CompactEnd>
     requires { 1 ≤ rules.now.page_limit }
-    ensures run { Drives (CompactRun rules.now) (H.seat hand.old) stop result (H.entries hand.old)
-        (H.entries hand.new) }
-    ensures hand { Turned H.entries H.known H.seat H.front H.refused H.wanted H.keeps
-        hand.old hand.new (is_driven_full result) (is_driven_wanting result) }
+    ensures run { Drives (CompactRun rules.now)
+        (H.told hand.old).seat stop result (H.told hand.old).entries (H.told hand.new).entries }
+    ensures hand { Turned H.told H.keeps hand.old hand.new (is_driven_full result)
+        (is_driven_wanting result) }
 {
     run_begun(Compact::start(alloc, rules), stop, hand)
 }

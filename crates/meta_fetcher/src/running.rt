@@ -12,10 +12,10 @@ use world_core::{Driven, Hand, run_begun};
 /// Syncs a gateway by these rules.
 pub fn run_sync<H: Hand>(alloc: Global, rules: SyncRules, hand: &mut H) -> Driven<SyncEnd>
     requires { 1 ≤ rules.page_limit }
-    ensures run { Drives (SyncRun rules) (H.seat hand.old) None result (H.entries hand.old)
-        (H.entries hand.new) }
-    ensures hand { Turned H.entries H.known H.seat H.front H.refused H.wanted H.keeps
-        hand.old hand.new (is_driven_full result) (is_driven_wanting result) }
+    ensures run { Drives (SyncRun rules)
+        (H.told hand.old).seat None result (H.told hand.old).entries (H.told hand.new).entries }
+    ensures hand { Turned H.told H.keeps hand.old hand.new (is_driven_full result)
+        (is_driven_wanting result) }
 {
     run_begun(Sync::start(alloc, rules), None, hand)
 }

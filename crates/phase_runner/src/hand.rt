@@ -75,17 +75,14 @@ impl<'a, B: Bucket, G: Gate, R: Wait> Hand for TurnHand<'a, B, G, R> {
     ghost use Rattle.std.specs.Prelude.{Some};
     ghost use Rattle.phase_runner.specs.Hands.{GoesOn, goes_on-none, goes_on-more};
 
-    ghost entries = { λ hand. hand.view.own };
-
-    ghost seat = { λ hand. hand.seat };
-
-    ghost front = { λ hand. Some hand.view.front };
-
-    ghost refused = { λ hand. hand.view.refused };
-
-    ghost wanted = { λ hand. hand.view.wanted };
-
-    ghost known = { λ hand. hand.view.known };
+    ghost told = { λ hand. record {
+      entries = hand.view.own;
+      seat = hand.seat;
+      front = Some hand.view.front;
+      known = hand.view.known;
+      refused = hand.view.refused;
+      wanted = hand.view.wanted;
+    } };
 
     ghost keeps = { GoesOn };
 

@@ -101,17 +101,14 @@ impl<B: Bucket> Hand for LineHand<B> {
     ghost use Rattle.world_core.specs.Operations.{IsLawful, IsAnswer};
     ghost use Rattle.run_notes.specs.LineHands.{KeepsRun, keeps_run-none, keeps_run-more};
 
-    ghost entries = { λ hand. hand.world.journal };
-
-    ghost seat = { λ hand. hand.seat };
-
-    ghost front = { λ hand. Some hand.world.journal };
-
-    ghost refused = { λ hand. hand.refused };
-
-    ghost wanted = { λ hand. hand.wanted };
-
-    ghost known = { λ hand. length hand.world.journal };
+    ghost told = { λ hand. record {
+      entries = hand.world.journal;
+      seat = hand.seat;
+      front = Some hand.world.journal;
+      known = length hand.world.journal;
+      refused = hand.refused;
+      wanted = hand.wanted;
+    } };
 
     ghost keeps = { λ old new. KeepsRun B.told old.opened.value old.wanted
         old.world new.opened.value new.wanted new.world };

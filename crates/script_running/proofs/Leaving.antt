@@ -2,6 +2,7 @@
 use Rattle.std.proofs.Common.{◌≡◌, ◌⊎◌, inl, inr, ℕ, Bool, IsTrue, true, false, List, refl, sym, subst}
 use Rattle.std.specs.Prelude.{Option, Result, Ok, Err}
 use Rattle.world_core.specs.Machines.{is_driven_full, is_driven_wanting}
+use Rattle.world_core.specs.Told.{HandTold}
 use Rattle.world_core.specs.Turning.{Turned}
 use Rattle.world_core.specs.declared.driving.Driven.{Driven}
 use Rattle.world_core.specs.declared.driving.Driven.TheVariants.{Ended, Stopped, Full, NoMemory}
@@ -19,9 +20,9 @@ came_short (Ok x) is = absurd (cc (is))
 came_short (Err broken.Full) is = absurd (cc (is))
 came_short (Err broken.NoMemory) is = refl
 
-module _ {H : Type 0} (entries : H → List Entry) (known seat : H → ℕ) (front : H → Option (List Entry)) (refused wanted : H → Bool) (keeps : H → H → Type 0) where
+module _ {H : Type 0} (told : H → HandTold) (keeps : H → H → Type 0) where
   abbrev pub Left : H → H → Bool → Bool → Type 0
-  Left old new full short = Turned entries known seat front refused wanted keeps old new full short
+  Left old new full short = Turned told keeps old new full short
 
   -- as what was come to says
   abbrev pub LeftBy : {X : Type 0} → H → H → Result X Broken → Type 0
@@ -30,7 +31,7 @@ module _ {H : Type 0} (entries : H → List Entry) (known seat : H → ℕ) (fro
   -- nothing was done, and the journal was not full
   pub idle_left : {X : Type 0} → ((hand : H) → keeps hand hand) → (hand : H) (came : Result X Broken) → is_full_came came ≡ false → LeftBy hand hand came
   idle_left none hand came is =
-      subst (λ (b : Bool). Left hand hand b (is_short_came came)) (sym is) (none_turned entries known seat front refused wanted keeps none hand (is_short_came came))
+      subst (λ (b : Bool). Left hand hand b (is_short_came came)) (sym is) (none_turned told keeps none hand (is_short_came came))
 
   -- what wanted no memory is no less if that is said of it
   shorter : (old new : H) (full short : Bool) → Left old new full false → Left old new full short
@@ -71,6 +72,6 @@ module _ {H : Type 0} (entries : H → List Entry) (known seat : H → ℕ) (fro
   pub broken_left : ((first next last : H) → keeps first next → keeps next last → keeps first last) → (first next last : H) (came : Result Part Broken) (why : Broken) → came ≡ Err why → Left first next false false → LeftBy next last came
       → LeftBy {X = Unit {0}} first last (Err why)
   broken_left more first next last came broken.Full is one two =
-      more_turned entries known seat front refused wanted keeps more first next last true false one (subst (λ (c : Result Part Broken). LeftBy next last c) is two)
+      more_turned told keeps more first next last true false one (subst (λ (c : Result Part Broken). LeftBy next last c) is two)
   broken_left more first next last came broken.NoMemory is one two =
-      more_turned entries known seat front refused wanted keeps more first next last false true one (subst (λ (c : Result Part Broken). LeftBy next last c) is two)
+      more_turned told keeps more first next last false true one (subst (λ (c : Result Part Broken). LeftBy next last c) is two)

@@ -40,11 +40,11 @@ pub(crate) fn upload<H: Hand>(
     requires known { (setting : Setting) × Knows setting shelf.now block.now }
     ensures ran { (setting : Setting) (ulid : ℕ) → Knows setting shelf.now block.now
         → (end : Option End)
-        × Adds (ShipTask setting block.now stop) (H.seat hand.old) (H.entries hand.old)
-        (H.entries hand.new) end result
+        × Adds (ShipTask setting block.now stop) (H.told hand.old).seat (H.told hand.old).entries
+        (H.told hand.new).entries end result
         × CameBy (works.Upload ulid stop) end result }
-    ensures hand { Turned H.entries H.known H.seat H.front H.refused H.wanted H.keeps
-        hand.old hand.new (is_full_came result) (is_short_came result) }
+    ensures hand { Turned H.told H.keeps hand.old hand.new (is_full_came result)
+        (is_short_came result) }
 {
     match objects_of(alloc, block, shelf) {
         Ok(objects) => upload_came(run_upload(objects, stop, hand)),
@@ -79,12 +79,12 @@ pub(crate) fn sync<H: Hand>(
     hand: &mut H,
 ) -> Result<Part, Broken>
     ensures ran { (end : Option SyncEnd)
-        × Adds (SyncRun (sync_rules (setting_in means.now) place)) (H.seat hand.old)
-        (H.entries hand.old) (H.entries hand.new) end result
+        × Adds (SyncRun (sync_rules (setting_in means.now) place)) (H.told hand.old).seat
+        (H.told hand.old).entries (H.told hand.new).entries end result
         × CameBy (works.Sync place) (option_map synced end) result
         × (view.new ≡ view_by view.old end) }
-    ensures hand { Turned H.entries H.known H.seat H.front H.refused H.wanted H.keeps
-        hand.old hand.new (is_full_came result) (is_short_came result) }
+    ensures hand { Turned H.told H.keeps hand.old hand.new (is_full_came result)
+        (is_short_came result) }
 {
     take_view(run_sync(alloc, sync_rules(means, place), hand), view)
 }

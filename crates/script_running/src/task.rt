@@ -41,13 +41,13 @@ pub fn run_task<H: Hand>(
     // the worker held. If it came to its end, the worker sees by what it holds then.
     ensures done { (who : Who) (place : ℕ) (held : Holding) → who.gateway ≡ gateway
         → Sees held sight.old
-        → HasDone (setting_in means.now) who place work.now held (H.seat hand.old)
-        (H.entries hand.old) (H.entries hand.new) sight.new result }
+        → HasDone (setting_in means.now) who place work.now held (H.told hand.old).seat
+        (H.told hand.old).entries (H.told hand.new).entries sight.new result }
 
     // The task is broken off as full exactly where an operation was answered so, and then the journal is full. Memory was
     // wanted in an operation only where the task is broken off for that.
-    ensures hand { Turned H.entries H.known H.seat H.front H.refused H.wanted H.keeps
-        hand.old hand.new (is_full_came result) (is_short_came result) }
+    ensures hand { Turned H.told H.keeps hand.old hand.new (is_full_came result)
+        (is_short_came result) }
 {
     let alloc = means.alloc();
     match work {
@@ -111,9 +111,10 @@ fn ask_view<H: Hand>(
         → slice_get means.now.script.selectors number ≡ Some selector
         → HasAsked held
         (asking selector means.now.script.rules.replicas ask.now.low ask.now.high)
-        (H.seat hand.old) (H.entries hand.old) (H.entries hand.new) sight.new result }
-    ensures hand { Turned H.entries H.known H.seat H.front H.refused H.wanted H.keeps
-        hand.old hand.new (is_full_came result) (is_short_came result) }
+        (H.told hand.old).seat (H.told hand.old).entries (H.told hand.new).entries
+        sight.new result }
+    ensures hand { Turned H.told H.keeps hand.old hand.new (is_full_came result)
+        (is_short_came result) }
 {
     let Some(view) = &sight.view else {
         return Ok(Came::Query(QueryPart::NoAnswer(NoAnswer::NoView)));

@@ -26,11 +26,11 @@ pub(crate) fn compact<H: Hand>(
 ) -> Result<Part, Broken>
     requires { 1 ≤ rules.now.page_limit }
     ensures ran { (end : Option End)
-        × Adds (StoppedRun (compaction rules.now) compacted stop) (H.seat hand.old)
-        (H.entries hand.old) (H.entries hand.new) end result
+        × Adds (StoppedRun (compaction rules.now) compacted stop) (H.told hand.old).seat
+        (H.told hand.old).entries (H.told hand.new).entries end result
         × CameBy (works.Compact stop) end result }
-    ensures hand { Turned H.entries H.known H.seat H.front H.refused H.wanted H.keeps
-        hand.old hand.new (is_full_came result) (is_short_came result) }
+    ensures hand { Turned H.told H.keeps hand.old hand.new (is_full_came result)
+        (is_short_came result) }
 {
     compact_came(run_compaction(alloc, rules, stop, hand))
 }
@@ -51,11 +51,11 @@ pub(crate) fn clean<H: Hand>(
 ) -> Result<Part, Broken>
     requires { 1 ≤ rules.now.page_limit }
     ensures ran { (end : Option End)
-        × Adds (StoppedRun (cleaning rules.now) cleaned stop) (H.seat hand.old)
-        (H.entries hand.old) (H.entries hand.new) end result
+        × Adds (StoppedRun (cleaning rules.now) cleaned stop) (H.told hand.old).seat
+        (H.told hand.old).entries (H.told hand.new).entries end result
         × CameBy (works.Clean stop) end result }
-    ensures hand { Turned H.entries H.known H.seat H.front H.refused H.wanted H.keeps
-        hand.old hand.new (is_full_came result) (is_short_came result) }
+    ensures hand { Turned H.told H.keeps hand.old hand.new (is_full_came result)
+        (is_short_came result) }
 {
     clean_came(run_cleaning(alloc, rules, stop, hand))
 }

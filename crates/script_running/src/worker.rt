@@ -142,9 +142,9 @@ fn do_tasks<H: Hand>(
     requires places { All (λ place. place < length tasks.now) places.now }
     ensures worked { (who : Who) (held : Holding) → who.gateway ≡ gateway → Sees held sight
         → HasWorked (setting_in means.now) tasks.now who places.now held
-        (H.seat hand.old) (H.entries hand.old) (H.entries hand.new) result }
-    ensures hand { Turned H.entries H.known H.seat H.front H.refused H.wanted H.keeps
-        hand.old hand.new (is_full_came result.came) (is_short_came result.came) }
+        (H.told hand.old).seat (H.told hand.old).entries (H.told hand.new).entries result }
+    ensures hand { Turned H.told H.keeps hand.old hand.new (is_full_came result.came)
+        (is_short_came result.came) }
 {
     let mut sight = sight;
     let Ok(mut parts) = Vec::with_capacity(means.alloc(), places.len()) else {

@@ -19,9 +19,9 @@ pub fn run_upload<H: Hand>(
 ) -> Driven<UploadEnd>
     requires { (ulid : ℕ) × IsBlock ulid objects }
     ensures run { (ulid : ℕ) → IsBlock ulid objects → Drives (Runs (upload ulid objects))
-        (H.seat hand.old) stop result (H.entries hand.old) (H.entries hand.new) }
-    ensures hand { Turned H.entries H.known H.seat H.front H.refused H.wanted H.keeps
-        hand.old hand.new (is_driven_full result) (is_driven_wanting result) }
+        (H.told hand.old).seat stop result (H.told hand.old).entries (H.told hand.new).entries }
+    ensures hand { Turned H.told H.keeps hand.old hand.new (is_driven_full result)
+        (is_driven_wanting result) }
 {
     run_begun(Upload::start(objects), stop, hand)
 }

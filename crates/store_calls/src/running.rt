@@ -37,9 +37,9 @@ pub fn run_call<H: Hand>(
 ) -> Driven<CallLeft>
     ensures run { Drives
         (CallRun view.now (asking selector.now replicas.now low high) (held cache))
-        (H.seat hand.old) None result (H.entries hand.old) (H.entries hand.new) }
-    ensures hand { Turned H.entries H.known H.seat H.front H.refused H.wanted H.keeps
-        hand.old hand.new (is_driven_full result) (is_driven_wanting result) }
+        (H.told hand.old).seat None result (H.told hand.old).entries (H.told hand.new).entries }
+    ensures hand { Turned H.told H.keeps hand.old hand.new (is_driven_full result)
+        (is_driven_wanting result) }
 {
     match SeriesCall::start(alloc, view, selector, replicas, low, high, cache) {
         Ok(mut machine) => match drive(&mut machine, hand, None) {

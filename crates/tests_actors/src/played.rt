@@ -79,17 +79,14 @@ impl Played {
 impl Hand for Played {
     ghost use Rattle.std.specs.Prelude.{None, false};
 
-    ghost entries = { λ hand. hand.entries.items };
-
-    ghost seat = { λ hand. 1 };
-
-    ghost front = { λ hand. None };
-
-    ghost refused = { λ hand. hand.refused };
-
-    ghost wanted = { λ hand. false };
-
-    ghost known = { λ hand. hand.last };
+    ghost told = { λ hand. record {
+      entries = hand.entries.items;
+      seat = 1;
+      front = None;
+      known = hand.last;
+      refused = hand.refused;
+      wanted = false;
+    } };
 
     ghost keeps = { λ old new. Unit {0} };
 

@@ -16,10 +16,10 @@ pub fn run_begun<M: Machine + Drop, H: Hand>(
     hand: &mut H,
 ) -> Driven<M::End>
     requires { IfOk begun M.fresh }
-    ensures run { DrivesBegun M.may begun (H.seat hand.old) stop result (H.entries hand.old)
-        (H.entries hand.new) }
-    ensures hand { Turned H.entries H.known H.seat H.front H.refused H.wanted H.keeps
-        hand.old hand.new (is_driven_full result) (is_driven_wanting result) }
+    ensures run { DrivesBegun M.may begun (H.told hand.old).seat stop result
+        (H.told hand.old).entries (H.told hand.new).entries }
+    ensures hand { Turned H.told H.keeps hand.old hand.new (is_driven_full result)
+        (is_driven_wanting result) }
 {
     match begun {
         Ok(mut machine) => {

@@ -35,9 +35,9 @@ pub fn drive<M: Machine, H: Hand>(
 ) -> Driven<M::End>
     requires { M.fresh machine.old }
     ensures run { Drives (λ made end. M.may machine.old made end machine.new)
-        (H.seat hand.old) stop result (H.entries hand.old) (H.entries hand.new) }
-    ensures hand { Turned H.entries H.known H.seat H.front H.refused H.wanted H.keeps
-        hand.old hand.new (is_driven_full result) (is_driven_wanting result) }
+        (H.told hand.old).seat stop result (H.told hand.old).entries (H.told hand.new).entries }
+    ensures hand { Turned H.told H.keeps hand.old hand.new (is_driven_full result)
+        (is_driven_wanting result) }
 {
     let mut op = match machine.first() {
         Ok(Act::Do(op)) => op,

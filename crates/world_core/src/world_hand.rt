@@ -43,17 +43,14 @@ impl<B: Bucket> Hand for WorldHand<B> {
     ghost use Rattle.world_core.specs.Asking.{KeepsAsked, asked-none, asked-more};
     ghost use Rattle.world_core.specs.Worlds.{WorldGoesOn, goes_on-none, goes_on-more};
 
-    ghost entries = { λ hand. hand.world.journal };
-
-    ghost seat = { λ hand. hand.seat };
-
-    ghost front = { λ hand. Some hand.world.journal };
-
-    ghost refused = { λ hand. hand.refused };
-
-    ghost wanted = { λ hand. hand.wanted };
-
-    ghost known = { λ hand. length hand.world.journal };
+    ghost told = { λ hand. record {
+      entries = hand.world.journal;
+      seat = hand.seat;
+      front = Some hand.world.journal;
+      known = length hand.world.journal;
+      refused = hand.refused;
+      wanted = hand.wanted;
+    } };
 
     ghost keeps = { λ old new. WorldGoesOn B.told old.world new.world
         × KeepsAsked B.told old.wanted old.world new.wanted new.world };

@@ -19,9 +19,9 @@ pub returns-in-Ok-own_cache-clause-asked : goal.returns-in-Ok-own_cache-clause-a
 returns-in-Ok-own_cache-clause-asked g c = λ holding selector sees at.
     let low = c.args.ask.now.low in
     let high = c.args.ask.now.high in
-    let seat = g.H.Hand.seat c.args.hand.now in
-    let old = g.H.Hand.entries c.args.hand.now in
-    let new = g.H.Hand.entries c.run_call.new.hand in
+    let seat = (g.H.Hand.told c.args.hand.now).seat in
+    let old = (g.H.Hand.told c.args.hand.now).entries in
+    let new = (g.H.Hand.told c.run_call.new.hand).entries in
     let own = c.in-Ok.selector in
     let rules = c.rules.result.now in
     let same = one_value own selector (slice_get c.args.means.now.script.selectors c.args.number) c.in-Ok.ensures at in
@@ -33,26 +33,26 @@ returns-in-Ok-own_cache-clause-asked g c = λ holding selector sees at.
     sees)
 
 pub returns-in-Ok-own_cache-clause-hand : goal.returns-in-Ok-own_cache-clause-hand
-returns-in-Ok-own_cache-clause-hand g c = end_left g.H.Hand.entries g.H.Hand.known g.H.Hand.seat g.H.Hand.front g.H.Hand.refused g.H.Hand.wanted g.H.Hand.keeps (λ (left : CallLeft). part.Query (call_part left.end)) _ _ c.run_call.result c.take_cache.result c.take_cache.ensures.came c.run_call.ensures.hand
+returns-in-Ok-own_cache-clause-hand g c = end_left g.H.Hand.told g.H.Hand.keeps (λ (left : CallLeft). part.Query (call_part left.end)) _ _ c.run_call.result c.take_cache.result c.take_cache.ensures.came c.run_call.ensures.hand
 
 pub returns-in_default-clause-asked : goal.returns-in_default-clause-asked
 returns-in_default-clause-asked g c = λ holding selector sees at.
-    short_asked holding (asking selector c.args.means.now.script.rules.replicas c.args.ask.now.low c.args.ask.now.high) (g.H.Hand.seat c.args.hand.now) (g.H.Hand.entries c.args.hand.now) _
+    short_asked holding (asking selector c.args.means.now.script.rules.replicas c.args.ask.now.low c.args.ask.now.high) (g.H.Hand.told c.args.hand.now).seat (g.H.Hand.told c.args.hand.now).entries _
 
 pub returns-in_default-own_cache-clause-asked : goal.returns-in_default-own_cache-clause-asked
 returns-in_default-own_cache-clause-asked g c = λ holding selector sees at.
-    short_asked holding (asking selector c.args.means.now.script.rules.replicas c.args.ask.now.low c.args.ask.now.high) (g.H.Hand.seat c.args.hand.now) (g.H.Hand.entries c.args.hand.now) _
+    short_asked holding (asking selector c.args.means.now.script.rules.replicas c.args.ask.now.low c.args.ask.now.high) (g.H.Hand.told c.args.hand.now).seat (g.H.Hand.told c.args.hand.now).entries _
 
 pub returns-in_default-view-clause-asked : goal.returns-in_default-view-clause-asked
 returns-in_default-view-clause-asked g c = λ holding selector sees at.
-    blind_asked holding (asking selector c.args.means.now.script.rules.replicas c.args.ask.now.low c.args.ask.now.high) (g.H.Hand.seat c.args.hand.now) (g.H.Hand.entries c.args.hand.now)
+    blind_asked holding (asking selector c.args.means.now.script.rules.replicas c.args.ask.now.low c.args.ask.now.high) (g.H.Hand.told c.args.hand.now).seat (g.H.Hand.told c.args.hand.now).entries
     c.args.sight.now c.in-None.is sees
 
 pub returns-in_default-clause-hand : goal.returns-in_default-clause-hand
-returns-in_default-clause-hand g c = none_turned g.H.Hand.entries g.H.Hand.known g.H.Hand.seat g.H.Hand.front g.H.Hand.refused g.H.Hand.wanted g.H.Hand.keeps g.met.H.Hand.keeps_none _ true
+returns-in_default-clause-hand g c = none_turned g.H.Hand.told g.H.Hand.keeps g.met.H.Hand.keeps_none _ true
 
 pub returns-in_default-own_cache-clause-hand : goal.returns-in_default-own_cache-clause-hand
-returns-in_default-own_cache-clause-hand g c = none_turned g.H.Hand.entries g.H.Hand.known g.H.Hand.seat g.H.Hand.front g.H.Hand.refused g.H.Hand.wanted g.H.Hand.keeps g.met.H.Hand.keeps_none _ true
+returns-in_default-own_cache-clause-hand g c = none_turned g.H.Hand.told g.H.Hand.keeps g.met.H.Hand.keeps_none _ true
 
 pub returns-in_default-view-clause-hand : goal.returns-in_default-view-clause-hand
-returns-in_default-view-clause-hand g c = none_turned g.H.Hand.entries g.H.Hand.known g.H.Hand.seat g.H.Hand.front g.H.Hand.refused g.H.Hand.wanted g.H.Hand.keeps g.met.H.Hand.keeps_none _ false
+returns-in_default-view-clause-hand g c = none_turned g.H.Hand.told g.H.Hand.keeps g.met.H.Hand.keeps_none _ false

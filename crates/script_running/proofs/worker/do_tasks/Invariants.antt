@@ -13,8 +13,8 @@ invariant-loop-number g l =
     let h = g.H.Hand in
     record {
       worked : (who : Who) (held : Holding) → who.gateway ≡ l.gateway → Sees held l.initial.sight
-          → Worked (setting_in l.means) l.tasks who (take l.number l.places) held (h.seat l.initial.hand) (h.entries l.initial.hand) (h.entries l.hand) l.sight l.parts.items;
-      turned : Turned h.entries h.known h.seat h.front h.refused h.wanted h.keeps l.initial.hand l.hand false false;
+          → Worked (setting_in l.means) l.tasks who (take l.number l.places) held (h.told l.initial.hand).seat (h.told l.initial.hand).entries (h.told l.hand).entries l.sight l.parts.items;
+      turned : Turned h.told h.keeps l.initial.hand l.hand false false;
       count : length l.parts.items ≡ l.number;
       room : length l.places ≤ l.parts.cap;
     }

@@ -8,8 +8,8 @@ invariant-turns g l =
     let m = g.M.Machine in
     let h = g.H.Hand in
     record {
-      waiting : Waiting m.may m.asked (h.seat l.fn.hand) l.last l.fn.machine (h.entries l.fn.hand) l.op l.answered l.machine (h.entries l.hand);
-      turned : Turned h.entries h.known h.seat h.front h.refused h.wanted h.keeps l.fn.hand l.hand false false;
+      waiting : Waiting m.may m.asked (h.told l.fn.hand).seat l.last l.fn.machine (h.told l.fn.hand).entries l.op l.answered l.machine (h.told l.hand).entries;
+      turned : Turned h.told h.keeps l.fn.hand l.hand false false;
     }
 
 abbrev pub decreases-turns : goal.decreases-turns

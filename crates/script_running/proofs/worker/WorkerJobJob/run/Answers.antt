@@ -25,23 +25,14 @@ pub returns-clause-run : goal.returns-clause-run
 returns-clause-run g c =
     let i = c.self.inside in
     let a = c.self.invariant in
-    subst (λ (post : Post). (made : List Entry) × (g.H.Hand.entries c.do_tasks.new.hand ≡ g.H.Hand.entries c.args.hand.now ++ made) × MayWork post (g.H.Hand.seat c.args.hand.now) made (g.H.Hand.front c.do_tasks.new.hand) c.do_tasks.result) c.self.view_is
+    subst (λ (post : Post). (made : List Entry) × ((g.H.Hand.told c.do_tasks.new.hand).entries ≡ (g.H.Hand.told c.args.hand.now).entries ++ made) × MayWork post (g.H.Hand.told c.args.hand.now).seat made (g.H.Hand.told c.do_tasks.new.hand).front c.do_tasks.result) c.self.view_is
     (may_work (record { loan = i.means.now; phase = i.phase; worker = i.worker; sight = i.sight }) a.phase a.at
-    (g.H.Hand.seat c.args.hand.now) (g.H.Hand.entries c.args.hand.now) (g.H.Hand.entries c.do_tasks.new.hand) (g.H.Hand.front c.do_tasks.new.hand) c.do_tasks.result
+    (g.H.Hand.told c.args.hand.now).seat (g.H.Hand.told c.args.hand.now).entries (g.H.Hand.told c.do_tasks.new.hand).entries (g.H.Hand.told c.do_tasks.new.hand).front c.do_tasks.result
     (λ who held by sees.
-    subst (λ (ts : List Task). HasWorked (setting_in i.means.now) ts who i.worker.tasks held (g.H.Hand.seat c.args.hand.now) (g.H.Hand.entries c.args.hand.now) (g.H.Hand.entries c.do_tasks.new.hand) c.do_tasks.result) a.own
-    (subst (λ (ps : List ℕ). HasWorked (setting_in i.means.now) i.tasks.now who ps held (g.H.Hand.seat c.args.hand.now) (g.H.Hand.entries c.args.hand.now) (g.H.Hand.entries c.do_tasks.new.hand) c.do_tasks.result) c.members-places.ensures
+    subst (λ (ts : List Task). HasWorked (setting_in i.means.now) ts who i.worker.tasks held (g.H.Hand.told c.args.hand.now).seat (g.H.Hand.told c.args.hand.now).entries (g.H.Hand.told c.do_tasks.new.hand).entries c.do_tasks.result) a.own
+    (subst (λ (ps : List ℕ). HasWorked (setting_in i.means.now) i.tasks.now who ps held (g.H.Hand.told c.args.hand.now).seat (g.H.Hand.told c.args.hand.now).entries (g.H.Hand.told c.do_tasks.new.hand).entries c.do_tasks.result) c.members-places.ensures
     (c.do_tasks.ensures.worked who held by sees)))
     (λ is. c.do_tasks.ensures.hand.is_full (ap is_full_came is)))
 
-pub returns-clause-seat : goal.returns-clause-seat
-returns-clause-seat g c = c.do_tasks.ensures.hand.same_seat
-
-pub returns-clause-refused : goal.returns-clause-refused
-returns-clause-refused g c = c.do_tasks.ensures.hand.was_refused
-
-pub returns-clause-wanted : goal.returns-clause-wanted
-returns-clause-wanted g c = c.do_tasks.ensures.hand.was_wanted
-
-pub returns-clause-keeps : goal.returns-clause-keeps
-returns-clause-keeps g c = c.do_tasks.ensures.hand.kept
+pub returns-clause-hand : goal.returns-clause-hand
+returns-clause-hand g c = c.do_tasks.ensures.hand
