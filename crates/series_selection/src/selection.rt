@@ -36,9 +36,9 @@ use wire_bytes::NumberList;
 /// for each row of the name. It takes time in proportion to these rows and to the bytes of the lists, and where a matcher reads
 /// several lists, to their numbers times the logarithm of how many lists there are. The time is reckoned and not proved.
 ///
-/// Where the lists of one matcher come to more than eight bytes and numbers for each byte of the part in which lists are read,
-/// it answers `NoMemory`. In an index whose lists lie apart they come to less than two, since the lists of one name share no
-/// number: only rows that share a list, or lists that lie within one another, ask for more.
+/// The numbers of one matcher's lists are held together. In an index of a list of series these lists share no number (law
+/// `lists_share_no_number`), so they have no more numbers than there are series. Only an index that `whole` refuses can have
+/// rows of one name that share a list, and then each of them counts.
 pub fn select_postings(
     alloc: Global,
     index: &IndexReader<'_>,
