@@ -8,7 +8,7 @@ use Rattle.std.specs.declared.cmp.Ordering.TheVariants.{Less, Equal, Greater}
 use Rattle.json.specs.Json.{Json, Items, Members, Parse, parse_map, after_end_array, read_key, items_step, members_step, items, members, value_with, value, if_last}
 use Rattle.json.specs.Token as token
 use Rattle.json.specs.Token.{Token}
-use Rattle.json.specs.Lex.{Lexeme, Class, Mode, Place, lex_byte, lex, class, operator_lexeme, string_token, begins_colon, if_allowed, may_begin, may_close, place_token, punctuate, tokens}
+use Rattle.json.specs.Lex.{Lexeme, Class, Mode, Place, lex_byte, lex, class, operator_lexeme, string_token, begins_colon, if_allowed, place_token, punctuate, tokens}
 use Rattle.json.specs.Align.{span_byte, span}
 use Rattle.json.specs.Text.{content, plain}
 use Rattle.json.specs.Word.{word, head, literal, number_before, after_number, ends_word}
