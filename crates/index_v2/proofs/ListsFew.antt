@@ -69,8 +69,13 @@ few_again opened few = rw (le-leb (lists_size (file opened.bytes) opened.rows) (
 sizes_same : (here : Part) (index : List ℕ) → IsPartOf here index → (rows : List PostingsRow) → ((row : PostingsRow) → Contains rows row → HoldsSection here row.offset) → lists_size here rows ≡ lists_size (file index) rows
 sizes_same here index is [] lie = refl
 sizes_same here index is (row ∷ rows) lie =
-    omega (arith, size_of_index here index row.offset is (lie row (contains_first row rows)), sizes_same here index is rows (λ one has. lie one (contains_later one row rows has)),
-    sum_by-cons (λ (r : PostingsRow). list_size here r.offset) row rows, sum_by-cons (λ (r : PostingsRow). list_size (file index) r.offset) row rows)
+    omega (
+      arith,
+      size_of_index here index row.offset is (lie row (contains_first row rows)),
+      sizes_same here index is rows (λ one has. lie one (contains_later _ _ _ has)),
+      sum_by-cons (λ (r : PostingsRow). list_size here r.offset) row rows,
+      sum_by-cons (λ (r : PostingsRow). list_size (file index) r.offset) row rows,
+    )
 
 pub few_same : (here : Part) (index : List ℕ) (rows others : List PostingsRow) (toc other : Toc) → IsPartOf here index → ((row : PostingsRow) → Contains rows row → HoldsSection here row.offset) → rows ≡ others → toc ≡ other → few_at toc here rows ≡ few_at other (file index) others
 unfolding few_at

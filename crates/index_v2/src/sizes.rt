@@ -2,7 +2,10 @@
 
 ghost use Rattle.std.specs.Prelude.{◌≡◌, ◌*◌, ◌^◌, ◌<◌, nat_le, IfSome};
 ghost use Rattle.base.specs.Reading.{Answers};
-ghost use Rattle.index_parts.specs.Parts.{part_of, list_size, lists_size};
+ghost use Rattle.std.specs.Int.{w32};
+ghost use Rattle.wire_bytes.specs.Fields.{number_at};
+ghost use Rattle.index_parts.specs.Placed.{at_place};
+ghost use Rattle.index_parts.specs.Parts.{part_of, told, list_size, lists_size};
 ghost use Rattle.index_v2.specs.Sizes.{series_bytes};
 ghost use Rattle.index_v2.specs.WholeReading.{stands_behind, few_at};
 
@@ -46,11 +49,17 @@ fn list_size(part: IndexPart<'_>, at: u64) -> u32
     if at < part.begin {
         return 0;
     }
-    let from = at - part.begin;
-    if from > part.bytes.len() as u64 {
+    size_at(part.bytes, at - part.begin)
+}
+
+/// The number that four bytes at a place make, or 0 where fewer are left.
+fn size_at(bytes: &[u8], at: u64) -> u32
+    ensures { result ≡ told (number_at w32 (at_place bytes.now at)) }
+{
+    if at > bytes.len() as u64 {
         return 0;
     }
-    let mut cursor = Cursor::at(part.bytes, from as usize);
+    let mut cursor = Cursor::at(bytes, at as usize);
     cursor.take_u32().unwrap_or(0)
 }
 
@@ -84,8 +93,5 @@ pub(crate) fn test_lists(
     if are_few(part, rows, toc.postings_table) {
         return Ok(());
     }
-    Err(IndexRefusal::BadSection(
-        POSTINGS,
-        PartRefusal::Unordered(toc.postings),
-    ))
+    Err(IndexRefusal::BadSection(POSTINGS, PartRefusal::Unordered(toc.postings)))
 }

@@ -18,7 +18,7 @@ use Rattle.index_parts.specs.declared.postings_row.PostingsRow.{PostingsRow}
 use Rattle.index_parts.proofs.FrameLaws.{regroup}
 use Rattle.index_writing.specs.declared.label_groups.LabelRow.{LabelRow}
 use Rattle.index_writing.specs.Aligned.{padded, each_at, places_at}
-use Rattle.index_writing.specs.SymbolsInUse.{symbols_of}
+use Rattle.index_writing.specs.SymbolsInUse.{symbols_of, symbol_of}
 use Rattle.index_writing.specs.WriteSteps.{greatest}
 use Rattle.index_parts.specs.LabelIndices.{label_offsets_text}
 use Rattle.index_writing.specs.Written.{label_rows, parts_of, toc_of, with_label_indices, with_lists, with_label_offsets, offset_rows, written}
@@ -26,6 +26,7 @@ use Rattle.index_writing.proofs.AlignedTexts.{padded_longer, places_many}
 use Rattle.index_writing.proofs.IndexWritten.{numbers, rows, all_place, row_places, many_rows, table}
 use Rattle.index_writing.proofs.SectionSizes.{section_least}
 use Rattle.index_writing.proofs.Standing.{each_begins}
+use Rattle.index_writing.proofs.TableRows.{row_of_all}
 use Rattle.index_writing.proofs.WrittenIndex.{written_lists}
 
 -- the length before a section's content is read
@@ -72,7 +73,8 @@ offsets_same f symbols [] [] many = refl
 offsets_same f symbols [] (place ∷ places) many = absurd (omega (arith, many))
 offsets_same f symbols (row ∷ rows) [] many = absurd (omega (arith, many))
 offsets_same f symbols (row ∷ rows) (place ∷ places) many =
-    omega (arith, offsets_same f symbols rows places (omega (arith, many)), sum_by-cons f place places, sum_by-cons (λ (r : PostingsRow). f r.offset) _ (label_rows symbols rows places))
+    let first : PostingsRow = record { name = symbol_of symbols row.name; value = symbol_of symbols row.value; offset = place } in
+    omega (arith, offsets_same f symbols rows places (omega (arith, many)), sum_by-cons f place places, sum_by-cons (λ (r : PostingsRow). f r.offset) first (label_rows symbols rows places))
 
 pub lists_few : (list : List IndexSeries) → length (written list) ≤ greatest → lists_size (file (written list)) (table list) ≤ 8 * (toc_of (parts_of list)).postings_table
 unfolding parts_of toc_of with_lists with_label_offsets each_at places_at
@@ -84,5 +86,5 @@ lists_few list room =
     let others = rows_small (written list) room (padded 4 front ++ postings_text (numbers list)) more.more (rows list) more.is in
     let all = one_more (written list) room front more.more (numbers list) texts more.is others in
     let offsets = offsets_same f (symbols_of list) (rows list) (row_places list) (many_rows list) in
-    omega (arith, all, offsets, sum_by-cons (λ (row : PostingsRow). f row.offset) _ (label_rows (symbols_of list) (rows list) (row_places list)), sum_by-cons f (all_place list) (row_places list),
+    omega (arith, all, offsets, sum_by-cons (λ (row : PostingsRow). f row.offset) (row_of_all (all_place list)) (label_rows (symbols_of list) (rows list) (row_places list)), sum_by-cons f (all_place list) (row_places list),
     length-append (with_lists (parts_of list)) (label_offsets_text (offset_rows (parts_of list))))
