@@ -1,12 +1,11 @@
 -- The postings lists that are written are few for the bytes before the table.
-use Rattle.std.proofs.Common.{◌≡◌, ℕ, ◌+◌, ◌-◌, ◌*◌, ◌^◌, ◌<◌, ◌≤◌, List, [], ◌∷◌, ◌++◌, length, drop, map, Result, refl, sym, ap, ◌∙◌, arith, append_assoc, length-append}
+use Rattle.std.proofs.Common.{◌≡◌, ℕ, ◌+◌, ◌-◌, ◌*◌, ◌^◌, ◌<◌, ◌≤◌, List, [], ◌∷◌, ◌++◌, length, drop, map, refl, sym, ap, ◌∙◌, arith, append_assoc, length-append}
 use Rattle.std.specs.Int.{w32, to_be_bytes}
 use Rattle.std.specs.List.{sum_by}
 use Rattle.std.proofs.lemmas.Bool.{le-ltb}
 use Rattle.std.proofs.lemmas.List.{drop_at}
 use Rattle.std.proofs.lemmas.List.Sums.{sum_by-cons}
 use Rattle.wire_bytes.specs.Crc.{crc}
-use Rattle.wire_bytes.specs.Fields.{number_at}
 use Rattle.wire_bytes.proofs.FixedLaws.{wide32, number_again}
 use Rattle.index_parts.specs.Framed.{section_text}
 use Rattle.index_parts.specs.Lists.{list_content}
@@ -22,7 +21,7 @@ use Rattle.index_writing.specs.SymbolsInUse.{symbols_of, symbol_of}
 use Rattle.index_writing.specs.WriteSteps.{greatest}
 use Rattle.index_parts.specs.LabelIndices.{label_offsets_text}
 use Rattle.index_writing.specs.Written.{label_rows, parts_of, toc_of, with_label_indices, with_lists, with_label_offsets, offset_rows, written}
-use Rattle.index_writing.proofs.AlignedTexts.{padded_longer, places_many}
+use Rattle.index_writing.proofs.AlignedTexts.{padded_longer}
 use Rattle.index_writing.proofs.IndexWritten.{numbers, rows, all_place, row_places, many_rows, table}
 use Rattle.index_writing.proofs.SectionSizes.{section_least}
 use Rattle.index_writing.proofs.Standing.{each_begins}

@@ -56,9 +56,9 @@ module _ (held : Held) (passes : PostingsRow → Bool) (place : ℕ) (alone : Is
     given_by (Err e) read (inl out) = inl out
     given_by (Err e) read (inr refused) = inr (row_refused e refused)
 
-    pub rises_by : (one : X → Bool) (result : Result X IndexRefusal) → IfOk result (λ x. IsReadOn held place before (numbers x)) → IfOk result (λ x. one x ≡ true → IsStrictlyIncreasing (numbers x))
-    rises_by one (Ok x) read = λ _. alone_rises held place before (numbers x) read none
-    rises_by one (Err e) read = tt
+    pub rises_by : (result : Result X IndexRefusal) → IfOk result (λ x. IsReadOn held place before (numbers x)) → IfOk result (λ x. IsStrictlyIncreasing (numbers x))
+    rises_by (Ok x) read = alone_rises held place before (numbers x) read none
+    rises_by (Err e) read = tt
 
     pub stands_by : (result : Result X IndexRefusal) → IfOk result (λ x. IsReadOn held place before (numbers x)) → OnOk result (ListsStand held (filter passes held.rows))
     stands_by (Ok x) read = row_stands (numbers x) read
