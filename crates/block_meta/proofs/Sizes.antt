@@ -1,15 +1,18 @@
 -- A JSON text has no more values, and no more bytes in its strings, than bytes.
-use Rattle.std.proofs.Common.{◌≡◌, ℕ, zero, suc, ◌+◌, ◌≤◌, Bool, true, false, cond, List, [], ◌∷◌, length, Option, Some, None, option_map, option_and_then, refl, subst, arith}
+use Rattle.std.proofs.Common.{◌≡◌, ℕ, zero, suc, ◌+◌, ◌-◌, ◌≤◌, Bool, true, false, cond, List, [], ◌∷◌, length, take, drop, Option, Some, None, option_map, option_and_then, refl, subst, arith}
+use Rattle.std.specs.Prelude.{nat_eq, ◌&&◌, ◌==◌}
+use Rattle.std.specs.List.{starts_with}
 use Rattle.std.specs.Ordering.{match_ordering}
 use Rattle.std.specs.declared.cmp.Ordering.{Ordering}
 use Rattle.std.specs.declared.cmp.Ordering.TheVariants.{Less, Equal, Greater}
 use Rattle.json.specs.Json.{Json, Items, Members, Parse, parse_map, after_end_array, read_key, items_step, members_step, items, members, value_with, value, if_last}
 use Rattle.json.specs.Token as token
 use Rattle.json.specs.Token.{Token}
-use Rattle.json.specs.Lex.{Lexeme, Class, Mode, Place, lex_byte, lex, class, operator_lexeme, string_token, begins_colon, if_allowed, may_begin, may_close, place_token, punctuate, tokens}
+use Rattle.json.specs.Lex.{Lexeme, Class, Mode, Place, lex_byte, lex, class, operator_lexeme, string_token, begins_colon, if_allowed, place_token, punctuate, tokens}
 use Rattle.json.specs.Align.{span_byte, span}
 use Rattle.json.specs.Text.{content, plain}
-use Rattle.json.specs.Word.{word, number_before, after_number, ends_word}
+use Rattle.json.specs.Word.{word, head, literal, number_before, after_number, ends_word}
+use Rattle.json.specs.Ascii as ascii
 use Rattle.block_meta.proofs.StringSpans.{AtMost, content-span}
 use Rattle.json.specs.Json as json
 use Rattle.json.specs.Lex as lexing
@@ -199,13 +202,17 @@ abbrev total : List Lexeme → ℕ
 total [] = 0
 total (l ∷ ls) = lexeme_size l + total ls
 
-by_test : (b : Bool) (l m : Lexeme) → lexeme_size l ≤ 1 → lexeme_size m ≤ 1 → lexeme_size (cond b l m) ≤ 1
-by_test true l m x y = x
-by_test false l m x y = y
+operator_by : (a b c d e : Bool)
+    → lexeme_size (cond a (lexing.token token.begin_object) (cond b (lexing.token token.end_object) (cond c (lexing.token token.begin_array) (cond d (lexing.token token.end_array) (cond e lexing.comma lexing.colon))))) ≤ 1
+operator_by true b c d e = omega arith
+operator_by false true c d e = omega arith
+operator_by false false true d e = omega arith
+operator_by false false false true e = omega arith
+operator_by false false false false true = omega arith
+operator_by false false false false false = omega arith
 
 operator_small : (x : ℕ) → lexeme_size (operator_lexeme x) ≤ 1
-operator_small x =
-    by_test _ _ _ (omega arith) (by_test _ _ _ (omega arith) (by_test _ _ _ (omega arith) (by_test _ _ _ (omega arith) (by_test _ lexing.comma lexing.colon (omega arith) (omega arith)))))
+operator_small x = operator_by (x == 123) (x == 125) (x == 91) (x == 93) (x == 44)
 
 token_by : (b : Bool) (t u : Token) → token_size t ≤ 1 → token_size u ≤ 1 → token_size (cond b t u) ≤ 1
 token_by true t u x y = x
@@ -213,14 +220,22 @@ token_by false t u x y = y
 
 number_small : (t : List ℕ) (after : Option (List ℕ)) → token_size (number_before t after) ≤ 1
 number_small t None = omega arith
-number_small t (Some rest) = token_by (ends_word rest) _ token.bad (omega arith) (omega arith)
+number_small t (Some rest) = token_by (ends_word rest) (token.number (take (length t - length rest) t)) token.bad (omega arith) (omega arith)
+
+literal_small : (name : List ℕ) (one : Token) (t : List ℕ) → token_size one ≤ 1 → token_size (literal name one t) ≤ 1
+literal_small name one t le = token_by (starts_with nat_eq t name && ends_word (drop (length name) t)) one token.bad le (omega arith)
+
+word_by : (a b c : Bool) (x y z w : Token) → token_size x ≤ 1 → token_size y ≤ 1 → token_size z ≤ 1 → token_size w ≤ 1 → token_size (cond a x (cond b y (cond c z w))) ≤ 1
+word_by true b c x y z w k l m n = k
+word_by false true c x y z w k l m n = l
+word_by false false true x y z w k l m n = m
+word_by false false false x y z w k l m n = n
 
 word_small : (t : List ℕ) → token_size (word t) ≤ 1
 unfolding word
 word_small t =
-    token_by _ _ _ (token_by _ (token.boolean true) token.bad (omega arith) (omega arith))
-    (token_by _ _ _ (token_by _ (token.boolean false) token.bad (omega arith) (omega arith))
-    (token_by _ _ _ (token_by _ token.null token.bad (omega arith) (omega arith)) (number_small t (after_number t))))
+    word_by (head t == 116) (head t == 102) (head t == 110) (literal ascii.true_text (token.boolean true) t) (literal ascii.false_text (token.boolean false) t) (literal ascii.null_text token.null t) (number_before t (after_number t))
+    (literal_small ascii.true_text (token.boolean true) t (omega arith)) (literal_small ascii.false_text (token.boolean false) t (omega arith)) (literal_small ascii.null_text token.null t (omega arith)) (number_small t (after_number t))
 
 string_small : (n : ℕ) (s : Option (List ℕ)) → AtMost n s → token_size (string_token s) ≤ suc n
 string_small n None most = omega arith

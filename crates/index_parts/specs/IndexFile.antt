@@ -15,6 +15,7 @@ use Rattle.index_parts.specs.Postings.{IsPostings}
 use Rattle.index_parts.specs.Rows.{IsPostingsTable}
 use Rattle.index_parts.specs.declared.index_series.IndexSeries.{IndexSeries}
 use Rattle.index_parts.specs.Opened.{Opened}
+use Rattle.index_parts.specs.Parts.{file, lists_size}
 
 -- ---- what an index begins and ends with, and its tables
 
@@ -111,6 +112,11 @@ pub record AreSeriesOf (opened : Opened) (listed : List (ℕ × IndexSeries)) : 
   pub apart : InOrder (StandsBehind opened.bytes) (map (λ one. one.0) listed)
   pub ascend : IsStrictlySortedBy compare_series (map (λ one. one.1) listed)
 
+-- The lists of all rows, each as often as a row names it, have no more than eight bytes for each byte before the table. So
+-- their bytes can be read once for each row. Lists that have no bytes left over behind their numbers never come near it.
+abbrev pub AreFewLists : Opened → Type 0
+AreFewLists opened = lists_size (file opened.bytes) opened.rows ≤ 8 * opened.toc.postings_table
+
 -- The bytes are an index of these series. Each row of the table lists exactly its series, and each label of a series has its
 -- row.
 pub record IsIndex (index : List ℕ) (list : List IndexSeries) : Type 0 where
@@ -122,6 +128,7 @@ pub record IsIndex (index : List ℕ) (list : List IndexSeries) : Type 0 where
   pub series_are : AreSeriesOf opened listed
   pub rows_are : (row : PostingsRow) → Contains opened.rows row → IsListOf opened.bytes listed row
   pub complete : (number : ℕ) (series : IndexSeries) → Contains listed (number, series) → (label : Label) → Contains series.labels label → HasRow opened.rows label
+  pub lists_few : AreFewLists opened
 
 -- In an index of a list, these are exactly the numbers of the listed series with a name and a value; two empty texts stand
 -- for all series.

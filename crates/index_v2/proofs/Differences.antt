@@ -22,7 +22,6 @@ use Rattle.base.proofs.Bools.{or_true, or_false}
 use Rattle.base.proofs.Rising.{rise_le, rise_less}
 use Rattle.index_parts.proofs.RowPlaces.{rows_total, stands_behind}
 use Rattle.index_parts.proofs.RowsBegin.{same_compare}
-use Rattle.index_v2.proofs.WholeLoops.{drop_at}
 
 -- ---- a number among others that ascend
 

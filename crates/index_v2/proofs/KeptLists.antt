@@ -1,5 +1,5 @@
 -- Lists that are kept up to the first with a number of another series tell the same least place as all of them.
-use Rattle.std.proofs.Common.{◌≡◌, ◌≢◌, ℕ, zero, suc, ◌+◌, ◌<◌, ◌≤◌, Bool, true, false, cond, List, [], ◌∷◌, ◌++◌, length, get_or, take, take_all, drop, min, Option, Some, None, Result, Ok, Err, refl, sym, ap, ap₂, subst, ◌∙◌, arith}
+use Rattle.std.proofs.Common.{◌≡◌, ℕ, zero, suc, ◌+◌, ◌<◌, ◌≤◌, Bool, true, false, List, [], ◌∷◌, ◌++◌, length, get_or, take, take_all, drop, Option, Some, None, Ok, Err, refl, sym, ap, ap₂, subst, ◌∙◌, arith}
 use Rattle.std.specs.Prelude.{slice_get, is_none, IfSome, ◌&&◌, if◌then◌else◌}
 use Rattle.std.specs.List.{All, list_all}
 use Rattle.std.specs.List.Sorted.{IsStrictlyIncreasing}
@@ -10,7 +10,7 @@ use Rattle.std.proofs.lemmas.Option.{slice_get_within}
 use Rattle.std.proofs.lemmas.List.Elements.{All-push}
 use Rattle.base.specs.Firsts.{or_else}
 use Rattle.base.specs.Lists.{is_one_of}
-use Rattle.base.specs.Reading.{◌>>=◌, ◌>>◌, refused_as}
+use Rattle.base.specs.Reading.{refused_as}
 use Rattle.label_sets.specs.declared.label.Label.{Label}
 use Rattle.index_parts.specs.declared.postings_row.PostingsRow.{PostingsRow}
 use Rattle.index_parts.specs.declared.index_series.IndexSeries.{IndexSeries}
@@ -18,7 +18,7 @@ use Rattle.index_parts.specs.Parts.{Part, list_in}
 use Rattle.index_parts.specs.RowOrder.{compare_row}
 use Rattle.index_v2.specs.declared.refusal.IndexRefusal.{IndexRefusal}
 use Rattle.index_v2.specs.Opening.{refused_in}
-use Rattle.index_v2.specs.WholeReading.{is_of_row, stray_from, gap_from, gap_of, gap_among, earlier_place, by_order, difference, lists_at, differing_at, SameBefore, AreKept}
+use Rattle.index_v2.specs.WholeReading.{is_of_row, stray_from, gap_from, gap_of, gap_among, earlier_place, by_order, lists_at, differing_at, SameBefore, AreKept}
 use Rattle.index_v2.proofs.Differences.{difference_within}
 use Rattle.index_v2.proofs.ListNumbers.{none_rise}
 use Rattle.index_v2.proofs.WholeLoops.{ListsSoFar, lists_step, lists_end, front_more}

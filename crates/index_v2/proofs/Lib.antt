@@ -5,6 +5,7 @@ pub mod ValuesListed
 pub mod WholeLoops
 pub mod Differences
 pub mod KeptLists
+pub mod ListsFew
 pub mod LentOrder
 pub mod ListNumbers
 pub mod OpeningLaws

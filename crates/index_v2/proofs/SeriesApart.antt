@@ -1,5 +1,5 @@
 -- Series that stand one behind the other have together no more than the index has bytes.
-use Rattle.std.proofs.Common.{◌≡◌, ℕ, ◌+◌, ◌*◌, ◌^◌, ◌<◌, ◌≤◌, true, false, List, [], ◌∷◌, ◌++◌, length, map, sum_by, zip, Option, Some, None, Result, Ok, refl, sym, ap, ◌∙◌, arith}
+use Rattle.std.proofs.Common.{◌≡◌, ℕ, ◌+◌, ◌*◌, ◌^◌, ◌<◌, ◌≤◌, true, false, List, [], ◌∷◌, ◌++◌, length, sum_by, zip, Option, Some, None, Ok, refl, sym, ap, ◌∙◌, arith}
 use Rattle.std.specs.Prelude.{IfSome}
 use Rattle.std.specs.List.{Contains}
 use Rattle.std.proofs.lemmas.Bool.{leb-true, le-leb, lt-leb}
@@ -22,9 +22,10 @@ use Rattle.index_parts.proofs.SeriesLaws as parts
 use Rattle.index_v2.specs.declared.refusal.IndexRefusal.{IndexRefusal}
 use Rattle.index_v2.specs.Held.{Held}
 use Rattle.index_v2.specs.PostingsLists.{postings_of}
-use Rattle.index_v2.specs.Sizes.{members_of, told, series_bytes}
+use Rattle.index_parts.specs.Parts.{told}
+use Rattle.index_v2.specs.Sizes.{members_of, series_bytes}
 use Rattle.index_v2.specs.SeriesLabels.{numbered_at}
-use Rattle.index_v2.specs.WholeReading.{present_at, stands_behind, all_at, differing_at, unless_differ, whole_at}
+use Rattle.index_v2.specs.WholeReading.{present_at, stands_behind, all_at, few_at, differing_at, unless_differ, whole_at}
 use Rattle.index_v2.proofs.FewLaws.{as_many}
 use Rattle.index_v2.proofs.LabelLaws.{numbered_found}
 use Rattle.index_v2.proofs.WholeParts.{AreApart, all_found}
@@ -99,10 +100,11 @@ module _ (index : List ℕ) where
 pub whole_bounded : (held : Held) (list : List IndexSeries) → IsBytes held.bytes → whole_at held ≡ Ok list → sum_by members_of list ≤ length held.bytes
 unfolding whole_at
 whole_bounded held list bytes e =
-    let numbers = bind_ok (postings_of held [] []) (λ numbers. present_at held.toc numbers >> (all_at held.bytes held.symbols None None numbers >>= λ series. differing_at held.lists held.rows (zip numbers series) >>= λ found. unless_differ found >> Ok series)) list e in
-    let present = then_ok (present_at held.toc numbers.0) (all_at held.bytes held.symbols None None numbers.0 >>= λ series. differing_at held.lists held.rows (zip numbers.0 series) >>= λ found. unless_differ found >> Ok series) list numbers.2 in
-    let series = bind_ok (all_at held.bytes held.symbols None None numbers.0) (λ series. differing_at held.lists held.rows (zip numbers.0 series) >>= λ found. unless_differ found >> Ok series) list present.2 in
-    let found = bind_ok (differing_at held.lists held.rows (zip numbers.0 series.0)) (λ found. unless_differ found >> Ok series.0) list series.2 in
+    let numbers = bind_ok (postings_of held [] []) (λ numbers. present_at held.toc numbers >> (all_at held.bytes held.symbols None None numbers >>= λ series. few_at held.toc held.lists held.rows >> (differing_at held.lists held.rows (zip numbers series) >>= λ found. unless_differ found >> Ok series))) list e in
+    let present = then_ok (present_at held.toc numbers.0) (all_at held.bytes held.symbols None None numbers.0 >>= λ series. few_at held.toc held.lists held.rows >> (differing_at held.lists held.rows (zip numbers.0 series) >>= λ found. unless_differ found >> Ok series)) list numbers.2 in
+    let series = bind_ok (all_at held.bytes held.symbols None None numbers.0) (λ series. few_at held.toc held.lists held.rows >> (differing_at held.lists held.rows (zip numbers.0 series) >>= λ found. unless_differ found >> Ok series)) list present.2 in
+    let few_lists = then_ok (few_at held.toc held.lists held.rows) (differing_at held.lists held.rows (zip numbers.0 series.0) >>= λ found. unless_differ found >> Ok series.0) list series.2 in
+    let found = bind_ok (differing_at held.lists held.rows (zip numbers.0 series.0)) (λ found. unless_differ found >> Ok series.0) list few_lists.2 in
     let same = then_ok (unless_differ found.0) (Ok series.0) list found.2 in
     let read = all_found held.bytes held.symbols None None numbers.0 series.0 series.1 in
     let few = all_few held.bytes held.symbols bytes None numbers.0 series.0 read.many read.each read.apart (omega arith) in

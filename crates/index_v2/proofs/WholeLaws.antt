@@ -33,18 +33,19 @@ use Rattle.index_parts.specs.declared.index_series.IndexSeries.{IndexSeries}
 use Rattle.index_parts.specs.Opened.{Opened}
 use Rattle.index_parts.specs.Framed.{IsEntry}
 use Rattle.index_parts.specs.Turns.{InOrder}
-use Rattle.index_parts.specs.IndexFile.{StandsBehind, compare_series, BelongsTo, IsListOf, AreListed, Holds, IsOpened, AreSeriesOf}
+use Rattle.index_parts.specs.IndexFile.{StandsBehind, compare_series, BelongsTo, IsListOf, AreListed, Holds, IsOpened, AreSeriesOf, AreFewLists}
 use Rattle.index_v2.specs.declared.refusal.IndexRefusal.{IndexRefusal}
 use Rattle.index_v2.specs.Opening.{refused_in}
 use Rattle.index_parts.specs.Parts.{file}
 use Rattle.index_v2.specs.Held.{whole_file}
 use Rattle.index_v2.specs.PostingsLists.{row_of, list_of, postings_of}
-use Rattle.index_v2.specs.WholeReading.{present_at, all_at, lists_at, belongs, has_value, is_of_row}
+use Rattle.index_v2.specs.WholeReading.{present_at, all_at, lists_at, few_at, belongs, has_value, is_of_row}
 use Rattle.index_parts.proofs.RowPlaces.{rows_total}
 use Rattle.index_v2.proofs.RowsHeld.{held_ascends}
 use Rattle.index_parts.proofs.RowsBegin.{same_compare}
 use Rattle.index_v2.proofs.LabelLaws.{numbered_found, numbered_again}
 use Rattle.index_v2.proofs.SeriesApart.{apart_found, apart_again}
+use Rattle.index_v2.proofs.ListsFew.{few_again}
 use Rattle.index_v2.proofs.WholeParts.{AreLists, all_found, all_again, lists_found, lists_again}
 
 -- ---- which row a series belongs to
@@ -264,6 +265,7 @@ pub record HasRead (opened : Opened) (numbers : List ℕ) (list : List IndexSeri
   pub listed : postings_of (whole_file opened) [] [] ≡ Ok numbers
   pub present : present_at opened.toc numbers ≡ Ok tt
   pub series : all_at opened.bytes opened.symbols None None numbers ≡ Ok list
+  pub few : few_at opened.toc (file opened.bytes) opened.rows ≡ Ok tt
   pub read : lists_at (file opened.bytes) opened.rows ≡ Ok lists
 
 module _ (opened : Opened) (numbers : List ℕ) (list : List IndexSeries) (lists : List (List ℕ)) (are : IsBytes opened.bytes) (is : IsOpened opened) (has : HasRead opened numbers list lists) where
@@ -299,9 +301,9 @@ entry_of opened listed known n has =
     (is.stands.content, subst (λ (m : ℕ). IsEntry opened.bytes (16 * m) is.stands.content) one.2 is.stands.entry)
 
 -- such series are read, where each row has a list
-pub read_again : (opened : Opened) (listed : List (ℕ × IndexSeries)) → IsOpened opened → AreSeriesOf opened listed → ((row : PostingsRow) → Contains opened.rows row → (numbers : List ℕ) × IsPostings opened.bytes row.offset numbers)
+pub read_again : (opened : Opened) (listed : List (ℕ × IndexSeries)) → IsOpened opened → AreSeriesOf opened listed → AreFewLists opened → ((row : PostingsRow) → Contains opened.rows row → (numbers : List ℕ) × IsPostings opened.bytes row.offset numbers)
     → (lists : List (List ℕ)) × HasRead opened (map (λ (one : ℕ × IndexSeries). one.0) listed) (map (λ (one : ℕ × IndexSeries). one.1) listed) lists
-read_again opened listed is known stand =
+read_again opened listed is known few stand =
     let numbers = map (λ (one : ℕ × IndexSeries). one.0) listed in
     let list = map (λ (one : ℕ × IndexSeries). one.1) listed in
     let lists = lists_again _ _ (λ row has. let one = stand row has in (one.0, list_again IsNextPosting posting_at posting_turn _ _ _ one.1)) in (
@@ -316,6 +318,7 @@ read_again opened listed is known stand =
           behind = tt;
           ascend = known.ascend;
         });
+        few = few_again opened few;
         read = lists.1;
       },
     )

@@ -13,7 +13,7 @@ use Rattle.label_sets.specs.Labels.{compare_sets, value_of}
 use Rattle.index_parts.specs.declared.refusal.PartRefusal.TheVariants as part
 use Rattle.index_parts.specs.declared.toc_reading.Toc.{Toc}
 use Rattle.index_parts.specs.declared.postings_row.PostingsRow.{PostingsRow}
-use Rattle.index_parts.specs.Parts.{Part, list_in}
+use Rattle.index_parts.specs.Parts.{Part, list_in, lists_size}
 use Rattle.index_parts.specs.declared.index_series.IndexSeries.{IndexSeries}
 use Rattle.index_parts.specs.IndexFile.{series_unit}
 use Rattle.index_v2.specs.declared.refusal.IndexRefusal.{IndexRefusal}
@@ -61,6 +61,10 @@ all_at index symbols last before (number ∷ numbers) = do
   Ok (series ∷ others)
 
 -- ---- the postings lists, in the table's order
+
+-- together they are few for the bytes before the table: tested before any of them is read
+unfoldable pub few_at : Toc → Part → List PostingsRow → Result (Unit {0}) IndexRefusal
+few_at toc here rows = unless (nat_le (lists_size here rows) (8 * toc.postings_table)) (BadSection postings_section (part.Unordered toc.postings))
 
 unfoldable pub lists_at : Part → List PostingsRow → Result (List (List ℕ)) IndexRefusal
 lists_at part [] = Ok []
@@ -150,13 +154,14 @@ unless_differ (Some place) = Err (PostingsDiffer place)
 
 -- ---- the whole
 
--- the list of all series, absent sections, the series in order, the postings lists in the table's order, and last whether
+-- the list of all series, absent sections, the series in order, how long the lists are, these in the table's order, and last whether
 -- these are exactly those of the series
 unfoldable pub whole_at : Held → Result (List IndexSeries) IndexRefusal
 whole_at held = do
   numbers ← postings_of held [] []
   present_at held.toc numbers
   series ← all_at held.bytes held.symbols None None numbers
+  few_at held.toc held.lists held.rows
   where_differ ← differing_at held.lists held.rows (zip numbers series)
   unless_differ where_differ
   Ok series

@@ -10,7 +10,7 @@ ghost use Rattle.index_v2.specs.WholeReading.{present_at, may_stand_behind, behi
 use crate::difference::{difference, is_kept, stray_at};
 use crate::opening::refused_of;
 use crate::postings::{POSTINGS, list_at, list_of};
-use crate::sizes::stands_behind;
+use crate::sizes::{stands_behind, test_lists};
 use crate::symbols::{SYMBOLS, Symbols};
 use crate::{IndexRefusal, IndexSeriesList, LentSeries};
 use base::{List, NoMemory};
@@ -198,6 +198,7 @@ pub(crate) fn whole_lent<'a>(
     let numbers = list_of(alloc, part, rows, "", "")?;
     test_present(toc, numbers.members())?;
     let series = all_series(alloc, index, symbols, numbers.members())?;
+    test_lists(toc, part, rows)?;
     match differing_place(alloc, part, rows, numbers.members(), series.as_slice())? {
         None => Ok(List::from_vec(series)),
         Some(place) => Err(IndexRefusal::PostingsDiffer(place as u32)),

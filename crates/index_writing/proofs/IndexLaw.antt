@@ -24,6 +24,7 @@ use Rattle.index_writing.specs.Written.{AreWritable, first_or, up_to_symbols, ta
 use Rattle.base.proofs.Lists.{zip_firsts, zip_seconds}
 use Rattle.base.proofs.Membership.{contains_first}
 use Rattle.index_writing.proofs.SeriesApart.{apart_written}
+use Rattle.index_writing.proofs.ListsFew.{lists_few}
 use Rattle.index_writing.proofs.SeriesNumbers.{numbers_after}
 use Rattle.index_writing.proofs.AlignedTexts.{padded_longer}
 use Rattle.index_writing.proofs.Standing.{longer}
@@ -123,6 +124,7 @@ module _ (list : List IndexSeries) (shown : IsShown list) where
     };
     rows_are = rows_hold list shown.room shown.labels;
     complete = λ n s has label h. complete list shown.room shown.labels n s label has h;
+    lists_few = lists_few list shown.room;
   }
 
   offsets_shown : IsLabelOffsets (written list) (toc_of (parts_of list)).label_offsets (offset_rows (parts_of list))

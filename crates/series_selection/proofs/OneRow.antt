@@ -1,13 +1,10 @@
 -- The one row that decides for a matcher with one text.
-use Rattle.std.proofs.Common.{◌≡◌, ℕ, ◌*◌, ◌≤◌, Bool, true, false, not, ◌&&◌, List, [], ◌∷◌, ◌++◌, length, sum_by, Option, Some, None, Result, Ok, Err, refl, sym, ap, subst, ◌∙◌, arith, inl, inr, ◌⊎◌}
-use Rattle.std.specs.Prelude.{slice_get, is_some, if◌then◌else◌, IfOk, IfErr, IfSome, OnOk}
-use Rattle.label_sets.specs.declared.label.Label.{Label}
-use Rattle.label_sets.specs.Labels.{value_of}
+use Rattle.std.proofs.Common.{◌≡◌, ℕ, Bool, true, false, not, ◌&&◌, List, [], ◌∷◌, ◌++◌, Option, Some, None, Result, Ok, Err, refl, sym, ap, subst, ◌∙◌, inl, inr, ◌⊎◌}
+use Rattle.std.specs.Prelude.{slice_get, IfOk, IfErr, IfSome, OnOk}
 use Rattle.std.specs.List.{filter}
 use Rattle.std.specs.List.Sorted.{IsStrictlyIncreasing}
 use Rattle.std.specs.Str.{bytes_eq}
-use Rattle.std.proofs.lemmas.List.{append-nil, length-append}
-use Rattle.std.proofs.lemmas.List.Sums.{sum_by-cons}
+use Rattle.std.proofs.lemmas.List.{append-nil}
 use Rattle.std.proofs.lemmas.List.Elements.{filter_agree}
 use Rattle.base.specs.Reading.{Gives}
 use Rattle.label_sets.proofs.LabelValues.{bytes_eq_differs}
@@ -16,13 +13,12 @@ use Rattle.matchers.specs.declared.condition.Condition.TheVariants.{Equal, NotEq
 use Rattle.matchers.specs.declared.matcher.Matcher.{Matcher}
 use Rattle.matchers.specs.Selectors.{is_accepted}
 use Rattle.index_parts.specs.declared.postings_row.PostingsRow.{PostingsRow}
-use Rattle.index_parts.specs.Parts.{Part}
 use Rattle.index_v2.specs.declared.refusal.IndexRefusal.{IndexRefusal}
 use Rattle.index_v2.specs.declared.refusal.IndexRefusal.TheVariants.{NoMemory}
 use Rattle.index_v2.specs.Held.{Held}
 use Rattle.index_parts.specs.RowOrder.{IsAlone}
 use Rattle.index_v2.specs.PostingsLists.{is_row_of, list_of}
-use Rattle.series_selection.specs.Selections.{decides, deciding}
+use Rattle.series_selection.specs.Selections.{decides}
 use Rattle.series_selection.specs.SelectionSteps.{numbers_at, ListsStand, IsReadOn, IsDecidedBy}
 use Rattle.series_selection.proofs.NumbersRead.{numbers_none, numbers_with, numbers_refused}
 use Rattle.series_selection.proofs.Walk.{stand_none, stand_same, stand_one, alone_rises}
@@ -60,9 +56,9 @@ module _ (held : Held) (passes : PostingsRow → Bool) (place : ℕ) (alone : Is
     given_by (Err e) read (inl out) = inl out
     given_by (Err e) read (inr refused) = inr (row_refused e refused)
 
-    pub rises_by : (one : X → Bool) (result : Result X IndexRefusal) → IfOk result (λ x. IsReadOn held place before (numbers x)) → IfOk result (λ x. one x ≡ true → IsStrictlyIncreasing (numbers x))
-    rises_by one (Ok x) read = λ _. alone_rises held place before (numbers x) read none
-    rises_by one (Err e) read = tt
+    pub rises_by : (result : Result X IndexRefusal) → IfOk result (λ x. IsReadOn held place before (numbers x)) → IfOk result (λ x. IsStrictlyIncreasing (numbers x))
+    rises_by (Ok x) read = alone_rises held place before (numbers x) read none
+    rises_by (Err e) read = tt
 
     pub stands_by : (result : Result X IndexRefusal) → IfOk result (λ x. IsReadOn held place before (numbers x)) → OnOk result (ListsStand held (filter passes held.rows))
     stands_by (Ok x) read = row_stands (numbers x) read

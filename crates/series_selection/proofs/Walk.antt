@@ -1,12 +1,11 @@
 -- The walk over the rows of a matcher's name: what was read of the rows before a place.
-use Rattle.std.proofs.Common.{◌≡◌, ◌≢◌, ℕ, zero, suc, ◌+◌, ◌*◌, ◌<◌, ◌≤◌, Bool, true, false, cond, List, [], ◌∷◌, ◌++◌, length, sum_by, take, drop, Option, Some, Result, Ok, Err, refl, sym, ap, subst, ◌∙◌, arith, inl, inr}
+use Rattle.std.proofs.Common.{◌≡◌, ◌≢◌, ℕ, zero, suc, ◌+◌, ◌<◌, ◌≤◌, Bool, true, false, cond, List, [], ◌∷◌, ◌++◌, length, take, drop, Option, Some, Result, Ok, Err, refl, sym, ap, subst, ◌∙◌, arith, inl, inr}
 use mathlib.Core.Bool.{beq}
 use Rattle.std.specs.Prelude.{slice_get, not, if◌then◌else◌, OnOk, IfOk}
 use Rattle.base.specs.Reading.{Gives}
 use Rattle.std.specs.List.{filter}
 use Rattle.std.specs.List.Sorted.{IsStrictlyIncreasing, IsStrictlySortedBy}
-use Rattle.std.proofs.lemmas.List.{append-nil, length-append, take-append-drop}
-use Rattle.std.proofs.lemmas.List.Sums.{sum_by-append, sum_by-cons}
+use Rattle.std.proofs.lemmas.List.{append-nil, take-append-drop}
 use Rattle.std.proofs.lemmas.List.Elements.{filter-append, Contains-append_cases}
 use Rattle.std.proofs.lemmas.Option.{slice_get_within}
 use Rattle.base.proofs.Membership.{no_member, only_member}
@@ -24,7 +23,6 @@ use Rattle.index_v2.specs.declared.refusal.IndexRefusal.TheVariants.{NoMemory}
 use Rattle.index_v2.specs.Held.{Held, IsHeldOf}
 use Rattle.index_v2.specs.PostingsLists.{list_of}
 use Rattle.index_parts.specs.RowOrder.{BeginsAt}
-use Rattle.index_v2.proofs.ListNumbers.{none_rise}
 use Rattle.index_v2.proofs.WholeLoops.{drop_at, front_more}
 use Rattle.index_v2.proofs.ValuesListed.{differs, behind}
 use Rattle.series_selection.specs.Selections.{decides}
@@ -181,8 +179,11 @@ module _ (held : Held) (m : Matcher) (first place : ℕ) (listed : List ℕ) (ro
 pub alone_rises : (held : Held) (place : ℕ) (before numbers : List ℕ) → IsReadOn held place before numbers → before ≡ [] → IsStrictlyIncreasing numbers
 alone_rises held place before numbers r none = subst IsStrictlyIncreasing (sym (r.numbers_are ∙ ap (λ (xs : List ℕ). xs ++ r.list) none)) r.rises
 
-pub nothing_rises : (numbers : List ℕ) → numbers ≡ [] → IsStrictlyIncreasing numbers
-nothing_rises numbers none = subst IsStrictlyIncreasing (sym none) none_rise
+-- the list of a row
+pub row_is_read : (held : Held) (place : ℕ) (r : Result (List ℕ) IndexRefusal) → Gives NoMemory (λ x. x) r (list_of held.lists (slice_get held.rows place)) → IfOk r IsStrictlyIncreasing
+    → ((opened : Opened) → IsHeldOf held opened → (row : PostingsRow) → slice_get opened.rows place ≡ Some row → IfOk r (λ numbers. IsPostings opened.bytes row.offset numbers)) → IfOk r (λ list. IsReadOn held place [] list)
+row_is_read held place (Ok list) read rise found = record { list = list; list_is = read; numbers_are = refl; rises = rise; stands = found }
+row_is_read held place (Err e) read rise found = tt
 
 -- the list of the first row
 first_stands : (held : Held) (rows : List PostingsRow) (numbers : List ℕ) → held.rows ≡ rows → list_of held.lists (slice_get rows 0) ≡ Ok numbers

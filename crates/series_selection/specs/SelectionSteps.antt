@@ -1,5 +1,5 @@
 -- What selecting series gives, matcher by matcher, or the first refusal.
-use Rattle.std.specs.Prelude.{◌≡◌, ℕ, List, [], ◌∷◌, ◌++◌, slice_get, Option, Some, None, Bool, not, Result, Ok, if◌then◌else◌}
+use Rattle.std.specs.Prelude.{◌≡◌, ℕ, List, [], ◌∷◌, ◌++◌, map, slice_get, Option, Some, None, Bool, not, Result, Ok, if◌then◌else◌}
 use Rattle.std.specs.List.{Contains, filter, flat_map}
 use Rattle.std.specs.List.Sorted.{IsStrictlyIncreasing}
 use Rattle.std.specs.Str.{bytes_eq}
@@ -29,6 +29,16 @@ unfoldable pub numbers_at : Part → List PostingsRow → Result (List ℕ) Inde
 numbers_at part rows = do
   lists ← lists_at part rows
   Ok (flat_map (λ list. list) lists)
+
+-- which of numbers are among others
+abbrev pub marks_of : List ℕ → List ℕ → List Bool
+marks_of others numbers = map (λ n. is_one_of others n) numbers
+
+-- the lists of rows are read, and these marks say which of numbers they have
+pub record AreMarked (part : Part) (rows : List PostingsRow) (numbers : List ℕ) (marks : List Bool) : Type 0 where
+  pub listed : List ℕ
+  pub read : numbers_at part rows ≡ Ok listed
+  pub marks_are : marks ≡ marks_of listed numbers
 
 -- those that a matcher leaves of numbers, by the rows
 unfoldable pub left_by_rows : Part → List PostingsRow → Matcher → List ℕ → Result (List ℕ) IndexRefusal

@@ -51,13 +51,13 @@ over_holds parts held is =
 -- over a table that is read, and without symbols, nothing but memory is wanting
 
 held_read : {A : Type 0} (section : ℕ) (b : Bool) (read : Result (List A) PartRefusal) → IsOk read → IsOk (if b then Ok [] else refused_as (refused_in section) read)
-held_read section true read is = tt
-held_read section false (Ok x) is = tt
-held_read section false (Err e) is = absurd is
+held_read section true read is = refl
+held_read section false (Ok x) is = refl
+held_read section false (Err e) is = absurd (cc (is))
 
 then_read : (parts : IndexParts) (symbols : List (List ℕ)) (r : Result (List PostingsRow) IndexRefusal) → IsOk r → IsOk (r >>= λ rows. Ok (held_of parts symbols rows))
-then_read parts symbols (Ok rows) is = tt
-then_read parts symbols (Err e) is = absurd is
+then_read parts symbols (Ok rows) is = refl
+then_read parts symbols (Err e) is = absurd (cc (is))
 
 pub over_reads : (parts : IndexParts) → parts.toc.symbols ≡ 0 → IsOk (postings_table_at (known (table_of parts)) parts.toc.postings_table) → IsOk (over_at parts)
 unfolding over_at
@@ -66,4 +66,4 @@ over_reads parts none is = rw none (then_read parts [] _ (held_read 6 (parts.toc
 pub memory_alone : (e : IndexRefusal) (read : Result Held IndexRefusal) → IsOk read → (e ≡ NoMemory) ⊎ (read ≡ Err e) → e ≡ NoMemory
 memory_alone e read is (inl out) = out
 memory_alone e (Ok x) is (inr refused) = absurd cc
-memory_alone e (Err d) is (inr refused) = absurd is
+memory_alone e (Err d) is (inr refused) = absurd (cc (is))

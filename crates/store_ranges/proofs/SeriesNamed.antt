@@ -1,6 +1,6 @@
 -- A series that is read in a part of an index, by the symbol numbers that stand there.
 use Rattle.std.proofs.Common.{◌≡◌, ℕ, ◌+◌, ◌-◌, ◌*◌, ◌^◌, ◌<◌, ◌≤◌, List, [], length, Option, Some, None, Result, Ok, Err, refl, sym, ap, ap₂, ◌∙◌, arith}
-use Rattle.std.specs.Prelude.{IsErr, IfOk, IfSome, option_map}
+use Rattle.std.specs.Prelude.{IsErr, IfOk, option_map}
 use Rattle.std.specs.Result.{result_ok}
 use Rattle.base.specs.declared.memory.NoMemory.{NoMemory}
 use Rattle.base.specs.Reading.{◌>>=◌, refused_as}
