@@ -1,5 +1,5 @@
 -- Which blocks pass: what the functions give is what the relations say.
-use Rattle.std.proofs.Common.{◌≡◌, ℕ, ◌*◌, ◌≤◌, sum_by, List, [], ◌∷◌, length, Bool, true, false, Result, Ok, Err, pos, refl, sym, ap, subst, ◌∙◌, ◌⊎◌, inl, inr}
+use Rattle.std.proofs.Common.{◌≡◌, ℕ, List, [], ◌∷◌, length, Bool, true, false, Result, Ok, Err, pos, refl, sym, ap, subst, ◌∙◌, ◌⊎◌, inl, inr}
 use Rattle.std.specs.Prelude.{IfOk, IfErr, IsErrAnd, ◌≢◌}
 use Rattle.std.specs.List.{AllByRecursion, AllZip}
 use Rattle.std.specs.Ordering.{int_eq}
@@ -17,10 +17,10 @@ use Rattle.index_v2.specs.declared.refusal.IndexRefusal.TheVariants as index
 use Rattle.block_meta.specs.declared.meta.Meta.{Meta}
 use Rattle.base.specs.Firsts.{IsFirstAt}
 use Rattle.block_content.specs.Content.{HoldsSeries, IsContent}
-use Rattle.block_content.specs.ContentReading.{index_at, refused_index, series_bytes, NamesFew, chunked_at, contents_at, content_at}
+use Rattle.block_content.specs.ContentReading.{index_at, refused_index, chunked_at, contents_at, content_at}
 use Rattle.block_content.specs.ContentRefusals.{RefusesContent}
 use Rattle.block_content.specs.Checking.{IsOwn, Passes, HasPassed, RefusesBlock}
-use Rattle.block_content.specs.CheckReading.{is_alone, own_at, has_series, some_at, files_at, check_at, indexed_at}
+use Rattle.block_content.specs.CheckReading.{is_alone, own_at, has_series, some_at, files_at, check_at}
 use Rattle.block_meta.specs.declared.block_files.BlockFiles.{BlockFiles}
 use Rattle.block_content.specs.declared.check_refusal.CheckRefusal.{CheckRefusal}
 use Rattle.block_content.specs.declared.check_refusal.CheckRefusal.TheVariants.{NoFile, BadMeta, UlidDiffers, NotLevelOne, SourcesNotSelf, Downsampled, TooLarge, BadIndex, EmptyBlock, BadChunk, OutsideRange, Repeated, NoMemory}
@@ -298,13 +298,6 @@ module _ (files : BlockFiles) (index : List ℕ) (segments : List (List ℕ)) (i
   pub held_passes : (series samples : ℕ) → HasCounts ulid files.meta index segments series samples → HasPassed ulid files series samples
   held_passes series samples counts = let h = held series samples counts in record { list = h.0; passes = h.1; series_are = h.2; samples_are = h.3 }
 
-  pub held_few : ((indexed : List IndexSeries) × (index_at index ≡ Ok indexed) × (sum_by (series_bytes segments) indexed ≤ 8 * sum_by length segments)) → NamesFew files
-  held_few (indexed, read, few) = record {
-    indexed = indexed;
-    index_is = index_found files.index indexed own_bytes (ap index_at (sym index_is) ∙ read);
-    together = subst (λ (s : List (List ℕ)). sum_by (series_bytes s) indexed ≤ 8 * sum_by length s) segments_are few;
-  }
-
   pub held_only : (series samples : ℕ) (list : List Series) → HasCounts ulid files.meta index segments series samples → Passes ulid files list → (series ≡ length list) × (samples ≡ sample_count list)
   held_only series samples list counts is = counts_only files own_bytes all_bytes ulid series samples list (moved_counts series samples counts) is
 
@@ -337,26 +330,6 @@ stopped_why Q (Err y) e is q = subst Q (sym is) q
 pub stopped_other : {X : Type 0} (r : Result X CheckRefusal) (e refusal : CheckRefusal) → IsErrAnd r (λ x. x ≡ e) → (e ≡ refusal) ⊎ (e ≡ NoMemory) → (r ≡ Err refusal) ⊎ (r ≡ Err NoMemory)
 stopped_other r e refusal is (inl same) = inl (stopped_with r e refusal is same)
 stopped_other r e refusal is (inr none) = inr (stopped_with r e NoMemory is none)
-
--- ---- where the index was read before
-
-indexed_is : (ulid : ℕ) (meta : Meta) (index : List ℕ) (segments : List (List ℕ)) (indexed : List IndexSeries) → index_at index ≡ Ok indexed → check_at ulid meta index segments ≡ indexed_at ulid meta segments indexed
-unfolding check_at files_at indexed_at
-indexed_is ulid meta index segments indexed read = rw read refl
-
-module _ (ulid : ℕ) (meta : Meta) (index : List ℕ) (segments : List (List ℕ)) (indexed seen : List IndexSeries) (read : index_at index ≡ Ok indexed) (lent : seen ≡ indexed) where
-  same_reading : check_at ulid meta index segments ≡ indexed_at ulid meta segments seen
-  same_reading = indexed_is ulid meta index segments indexed read ∙ ap (indexed_at ulid meta segments) (sym lent)
-
-  pub indexed_counts : (series samples : ℕ) → ((list : List Series) × (indexed_at ulid meta segments seen ≡ Ok list) × (series ≡ length list) × (samples ≡ sample_count list)) → HasCounts ulid meta index segments series samples
-  indexed_counts series samples (list, is, many, count) = (list, same_reading ∙ is, many, count)
-
-  pub indexed_few : sum_by (series_bytes segments) seen ≤ 8 * sum_by length segments → (indexed : List IndexSeries) × (index_at index ≡ Ok indexed) × (sum_by (series_bytes segments) indexed ≤ 8 * sum_by length segments)
-  indexed_few few = (indexed, read, subst (λ (xs : List IndexSeries). sum_by (series_bytes segments) xs ≤ 8 * sum_by length segments) lent few)
-
-  pub indexed_refused : (e : CheckRefusal) → (e ≡ NoMemory) ⊎ (indexed_at ulid meta segments seen ≡ Err e) → (e ≡ NoMemory) ⊎ (check_at ulid meta index segments ≡ Err e)
-  indexed_refused e (inl none) = inl none
-  indexed_refused e (inr h) = inr (same_reading ∙ h)
 
 -- ---- what is inside a checked block
 

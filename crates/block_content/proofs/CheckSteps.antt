@@ -4,7 +4,7 @@ use Rattle.std.proofs.lemmas.Bool.Decides.{Decides-eqb}
 use Rattle.std.proofs.Common.{◌≡◌, ℕ, suc, arith, List, [], ◌∷◌, length, Bool, true, false, Option, None, Some, Result, Ok, Err, ℤ, refl, sym, ap, subst, ◌∙◌, ◌⊎◌, inl, inr}
 use Rattle.base.proofs.Binds.{err_is}
 use Rattle.base.proofs.FirstLaws.{each_many}
-use Rattle.block_content.proofs.Counting.{length-list_of}
+use Rattle.block_content.proofs.CountsSoFar.{length-list_of}
 use Rattle.label_sets.specs.declared.series.Series.{Series}
 use Rattle.index_parts.specs.declared.index_series.IndexSeries.{IndexSeries}
 use Rattle.block_meta.specs.declared.meta.Meta.{Meta}

@@ -44,12 +44,6 @@ check_at ulid meta index segments = do
   own_at ulid meta
   files_at meta index segments
 
--- the same of a block whose index was read
-unfoldable pub indexed_at : ℕ → Meta → List (List ℕ) → List IndexSeries → Result (List Series) CheckRefusal
-indexed_at ulid meta segments indexed = do
-  own_at ulid meta
-  some_at meta segments indexed
-
 -- ---- what is counted
 
 -- how many series and samples were read

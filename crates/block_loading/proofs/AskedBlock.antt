@@ -1,5 +1,5 @@
 -- Which files of a block a load asked for, as it goes on or stops.
-use Rattle.std.proofs.Common.{◌≡◌, ℕ, zero, suc, ◌+◌, ◌<◌, List, [], ◌∷◌, length, true, false, Option, Some, Result, Ok, Err, refl, sym, ap, subst, ◌∙◌, ◌⊎◌, inl, inr, arith}
+use Rattle.std.proofs.Common.{◌≡◌, ℕ, zero, suc, ◌+◌, ◌<◌, List, [], ◌∷◌, length, true, false, Some, Result, Ok, Err, refl, sym, ap, subst, ◌∙◌, ◌⊎◌, inl, inr, arith}
 use Rattle.std.specs.Prelude.{◌≤◌, IsTrue, IfOk, IfErr, IsErrAnd}
 use Rattle.base.proofs.Binds.{ok_is}
 use Rattle.block_keys.specs.declared.key.Key.TheVariants.{Meta, Index, Segment}

@@ -1,5 +1,5 @@
 -- What the end of a check says of a block that was loaded.
-use Rattle.std.proofs.Common.{◌≡◌, ℕ, Option, Result, Ok, Err, false, List, length, refl, sym, ap, subst, ◌∙◌, ◌⊎◌, inl, inr}
+use Rattle.std.proofs.Common.{◌≡◌, ℕ, Result, Ok, Err, false, List, length, refl, sym, ap, subst, ◌∙◌, ◌⊎◌, inl, inr}
 use Rattle.std.specs.Prelude.{IfOk, IfErr}
 use Rattle.std.specs.Result.{IsOkAnd}
 use Rattle.std.proofs.lemmas.Result.{IfOk-weaker}
@@ -7,7 +7,6 @@ use Rattle.base.proofs.Binds.{err_is}
 use Rattle.label_sets.specs.declared.series.Series.{Series}
 use Rattle.label_sets.specs.Counts.{sample_count}
 use Rattle.block_meta.specs.declared.block_files.BlockFiles.{BlockFiles}
-use Rattle.block_content.specs.ContentReading.{NamesFew}
 use Rattle.block_content.specs.Checked.{checked_files, checked_series, checked_samples}
 use Rattle.block_content.specs.Checking.{Passes, HasPassed, RefusesBlock}
 use Rattle.block_content.specs.Verdict.{IsVerdict}
@@ -43,13 +42,6 @@ module _ (ulid : ℕ) (files : BlockFiles) where
 
   pub ended_segments : (r : Result Checked LoadRefusal) → EndsCheck ulid files r → IfOk r (λ checked. (checked_files checked).segments ≡ files.segments)
   ended_segments r ends = ended_ok (λ checked. (checked_files checked).segments ≡ files.segments) (λ checked same passed. ap (λ (f : BlockFiles). f.segments) same) r ends
-
-  few_of : (v : Result Checked CheckRefusal) → IsVerdict ulid files v → IfOk (end_of v) (λ checked. NamesFew (checked_files checked))
-  few_of (Ok checked) is = subst NamesFew (sym is.found.0) is.few
-  few_of (Err refusal) is = tt
-
-  pub ended_few : (r : Result Checked LoadRefusal) → EndsCheck ulid files r → IfOk r (λ checked. NamesFew (checked_files checked))
-  ended_few r (v, is, told) = subst (λ (e : Result Checked LoadRefusal). IfOk e (λ checked. NamesFew (checked_files checked))) (sym told) (few_of v is)
 
   passes_of : (list : List Series) (v : Result Checked CheckRefusal) → IsVerdict ulid files v → Passes ulid files list
       → IsOkAnd (end_of v) (λ checked. (checked_files checked ≡ files) × (checked_series checked ≡ length list) × (checked_samples checked ≡ sample_count list)) ⊎ WasBrokenOff (end_of v)

@@ -1,5 +1,5 @@
 -- What one call after another leaves of a shelf.
-use Rattle.std.proofs.Common.{◌≡◌, ℕ, ◌≤◌, Bool, true, false, refl, sym, subst, ◌∙◌, arith}
+use Rattle.std.proofs.Common.{◌≡◌, Bool, true, false, refl, sym, subst, ◌∙◌, arith}
 use Rattle.std.specs.Prelude.{IsTrue}
 use Rattle.bucket_core.specs.Causes.{CountsFaults}
 use Rattle.bucket_core.specs.Told.{ShelfTold}

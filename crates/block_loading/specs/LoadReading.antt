@@ -35,6 +35,10 @@ WasBrokenOff {X} result = (result ≡ Err NoMemory) ⊎ (result ≡ Err ShelfFau
 abbrev pub Loads : {X Y : Type 0} → (X → Y) → Result X LoadRefusal → Result Y LoadRefusal → Type 0
 Loads {X} {Y} view result read = MatchResult result (λ x. read ≡ Ok (view x)) (λ e. IsBrokenOff e ⊎ (read ≡ Err e))
 
+-- The same of the index of a block, whose series are not kept.
+abbrev pub LoadsIndex : Result (List ℕ × ℕ) LoadRefusal → Result (List ℕ × List IndexSeries) LoadRefusal → Type 0
+LoadsIndex result read = MatchResult result (λ x. (indexed : List IndexSeries) → index_at x.0 ≡ Ok indexed → read ≡ Ok (x.0, indexed)) (λ e. IsBrokenOff e ⊎ (read ≡ Err e))
+
 -- what is said of the block, if it was refused and loading not broken off
 abbrev pub IfRefused : (CheckRefusal → Type 0) → LoadRefusal → Type 0
 IfRefused Says (Refused refusal) = Says refusal

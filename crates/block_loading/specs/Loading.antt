@@ -75,9 +75,13 @@ greatest (number ∷ numbers) = max number (greatest numbers)
 unfoldable pub last_segment : List IndexSeries → ℕ
 last_segment indexed = greatest (map file_number (flat_map (λ one. one.chunks) indexed))
 
+-- This is the greatest number of a file that the series of an index name.
+abbrev pub NamesLast : List ℕ → ℕ → Type 0
+NamesLast index last = (indexed : List IndexSeries) × (index_at index ≡ Ok indexed) × (last ≡ last_segment indexed)
+
 -- The block has as many segments as its index names.
 abbrev pub AreNamed : BlockFiles → Type 0
-AreNamed files = (indexed : List IndexSeries) × (index_at files.index ≡ Ok indexed) × (length files.segments ≡ last_segment indexed)
+AreNamed files = NamesLast files.index (length files.segments)
 
 -- ---- the block
 

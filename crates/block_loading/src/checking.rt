@@ -5,7 +5,6 @@ ghost use Rattle.label_sets.specs.declared.series.Series.{Series};
 ghost use Rattle.label_sets.specs.Counts.{sample_count};
 ghost use Rattle.block_meta.specs.declared.block_files.BlockFiles.{BlockFiles};
 ghost use Rattle.block_content.specs.Checking.{HasPassed};
-ghost use Rattle.block_content.specs.ContentReading.{NamesFew};
 ghost use Rattle.block_content.specs.Checked.{checked_files, checked_series, checked_samples};
 ghost use Rattle.block_content.specs.declared.check_refusal.CheckRefusal.{CheckRefusal};
 ghost use Rattle.bucket_core.specs.Contents.{Contents};
@@ -18,7 +17,7 @@ use bucket_core::Shelf;
 use std::alloc::Global;
 use ulid_core::Ulid;
 
-/// Loads a block from a shelf, and tests whether it may be shipped under its ULID. The index is read once.
+/// Loads a block from a shelf, and tests whether it may be shipped under its ULID.
 pub fn check_on_shelf<F: Shelf>(
     alloc: Global,
     shelf: &mut F,
@@ -27,7 +26,6 @@ pub fn check_on_shelf<F: Shelf>(
     // What is answered passes, whatever the shelf tells; where it tells its files, they are the block's.
     ensures passed { IfOk result (λ checked.
         HasPassed ulid (checked_files checked) (checked_series checked) (checked_samples checked)) }
-    ensures few { IfOk result (λ checked. NamesFew (checked_files checked)) }
     ensures within { IfOk result (λ checked. AreWithinLimit (checked_files checked)) }
     ensures named { IfOk result (λ checked. AreNamed (checked_files checked)) }
     ensures found { (told : Contents) → (F.told shelf.old).files ≡ Some told

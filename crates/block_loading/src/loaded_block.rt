@@ -1,26 +1,18 @@
 //! Blocks that were loaded from a shelf and are to be checked, which needs no shelf.
-ghost use Rattle.std.specs.Prelude.{◌≡◌, Ok};
-ghost use Rattle.base.specs.Grammar.{IsBytes};
-ghost use Rattle.block_content.specs.ContentReading.{index_at};
-
 use crate::LoadRefusal;
 use crate::loading::read_block;
 use crate::reading::refused_block;
-use block_content::{Checked, check_indexed};
+use block_content::{Checked, check};
 use block_meta::BlockFiles;
 use bucket_core::Shelf;
-use index_v2::IndexSeriesList;
 use std::alloc::Global;
 use ulid_core::Ulid;
 
-/// The files of a block that were loaded from a shelf, with the series of its index, to be checked under its ULID.
+/// The files of a block that were loaded from a shelf, to be checked under its ULID.
 #[derive(Drop)]
 pub struct LoadedBlock {
     ulid: Ulid,
     pub(crate) files: BlockFiles,
-    indexed: IndexSeriesList,
-    ghost bytes: { IsBytes files.index },
-    ghost read: { index_at files.index ≡ Ok indexed },
 }
 
 impl LoadedBlock {
@@ -33,7 +25,7 @@ impl LoadedBlock {
     ghost use Rattle.block_loading.specs.LoadReading.{AsksInOrder, KeepsShelf, WasBrokenOff, was_fault};
     ghost use Rattle.block_loading.specs.LoadedChecks.{EndsCheck, loaded_files, loaded_ulid};
 
-    /// Loads a block's files from a shelf, as `load` does, with the series of its index.
+    /// Loads a block's files from a shelf, as `load` does.
     pub fn load<F: Shelf>(
         alloc: Global,
         shelf: &mut F,
@@ -68,24 +60,16 @@ impl LoadedBlock {
         // The files stay as they are, and the shelf's count rises just where a fault is answered.
         ensures kept { KeepsShelf F.told shelf.old shelf.new (was_fault result) }
     {
-        let (files, indexed) = read_block(alloc, shelf, ulid)?;
-        Ok(LoadedBlock {
-            ulid,
-            files,
-            indexed,
-        })
+        let files = read_block(alloc, shelf, ulid)?;
+        Ok(LoadedBlock { ulid, files })
     }
 
     /// Tests whether the block may be shipped under its ULID.
     pub fn check(self, alloc: Global) -> Result<Checked, LoadRefusal>
         ensures { EndsCheck (loaded_ulid self) (loaded_files self) result }
     {
-        let LoadedBlock {
-            ulid,
-            files,
-            indexed,
-        } = self;
-        match check_indexed(alloc, ulid, files, &indexed) {
+        let LoadedBlock { ulid, files } = self;
+        match check(alloc, ulid, files) {
             Ok(checked) => Ok(checked),
             Err(refusal) => Err(refused_block(refusal)),
         }

@@ -1,19 +1,16 @@
 //! Loading a block's files from a shelf.
-ghost use Rattle.std.specs.Prelude.{◌≡◌, ◌⊎◌, Some, Ok, Err, IfOk, length};
+ghost use Rattle.std.specs.Prelude.{◌≡◌, ◌⊎◌, Some, Err, IfOk};
 ghost use Rattle.std.specs.Result.{IsOkAnd};
-ghost use Rattle.base.specs.Grammar.{IsBytes};
 ghost use Rattle.block_meta.specs.declared.block_files.BlockFiles.{BlockFiles};
-ghost use Rattle.block_content.specs.ContentReading.{index_at, ListsFew};
 ghost use Rattle.block_content.specs.declared.check_refusal.CheckRefusal.{CheckRefusal};
 ghost use Rattle.bucket_core.specs.Contents.{Contents};
-ghost use Rattle.block_loading.specs.Loading.{last_segment, IsLoaded, RefusesLoad, AreWithinLimit, AreNamed, StopsAt};
+ghost use Rattle.block_loading.specs.Loading.{IsLoaded, RefusesLoad, AreWithinLimit, AreNamed, StopsAt};
 ghost use Rattle.block_loading.specs.LoadReading.{Loads, KeepsShelf, AsksInOrder, WasBrokenOff, was_fault, parts_of, load_at};
 
-use crate::reading::{last_segment, read_meta, read_segments, read_series};
+use crate::reading::{read_meta, read_named, read_segments};
 use crate::{LoadRefusal, LoadedBlock};
 use block_meta::BlockFiles;
 use bucket_core::Shelf;
-use index_v2::IndexSeriesList;
 use std::alloc::Global;
 use ulid_core::Ulid;
 
@@ -22,26 +19,23 @@ pub(crate) fn read_block<F: Shelf>(
     alloc: Global,
     shelf: &mut F,
     ulid: Ulid,
-) -> Result<(BlockFiles, IndexSeriesList), LoadRefusal>
+) -> Result<BlockFiles, LoadRefusal>
     ensures loaded { (told : Contents) → (F.told shelf.old).files ≡ Some told
-        → Loads (λ x. parts_of x.0) result (load_at told ulid) }
-    ensures read { IfOk result (λ x. IsBytes x.0.index × (index_at x.0.index ≡ Ok x.1)) }
-    ensures few { IfOk result (λ x. ListsFew x.0.index x.1) }
-    ensures named { IfOk result (λ x. length x.0.segments ≡ last_segment x.1) }
-    ensures within { IfOk result (λ x. AreWithinLimit x.0) }
+        → Loads parts_of result (load_at told ulid) }
+    ensures named { IfOk result AreNamed }
+    ensures within { IfOk result AreWithinLimit }
     ensures asks { AsksInOrder F.told shelf.old shelf.new
-        ulid (StopsAt ulid) (λ x. x.0.segments) result }
+        ulid (StopsAt ulid) (λ files. files.segments) result }
     ensures kept { KeepsShelf F.told shelf.old shelf.new (was_fault result) }
 {
     let meta = read_meta(alloc, shelf, ulid)?;
-    let (index, indexed) = read_series(alloc, shelf, ulid)?;
-    let segments = read_segments(alloc, shelf, ulid, last_segment(indexed.members()))?;
-    let files = BlockFiles {
+    let (index, last) = read_named(alloc, shelf, ulid)?;
+    let segments = read_segments(alloc, shelf, ulid, last)?;
+    Ok(BlockFiles {
         meta,
         index,
         segments,
-    };
-    Ok((files, indexed))
+    })
 }
 
 /// Loads a block's files from a shelf.

@@ -67,7 +67,7 @@ impl Meta {
         ensures only { (meta : MetaFields) → IsMetaText bytes.now meta
             → meta_of_text bytes.now ≡ Ok meta }
 
-        // No list has more members than the text has bytes.
+        // No list has more members than the text has bytes, and no text in it more bytes.
         ensures few { IfOk result (λ meta. HasFew (fields_of meta) (length bytes.now)) }
     {
         Meta::of_text(alloc, bytes)

@@ -32,15 +32,13 @@ use Rattle.vertical_merge.proofs.OneMerge.{one_merge}
 use Rattle.report_lines.specs.lifecycle_core.proofs.phases.HandLists.{Apart, joins_from}
 use Rattle.report_lines.specs.lifecycle_core.proofs.phases.OneCut.{cut_is_unfinished, cuts_tell}
 use Rattle.report_lines.specs.lifecycle_core.proofs.phases.OneEnding.{ends_tell}
-use Rattle.report_lines.specs.script_running.specs.Outcomes.{IsOutcome, IsOutcomeOf, IsPart, IsQueryOutcome, PhasesCame, TaskCame, TasksCame, answers_of, is_as_asked}
+use Rattle.report_lines.specs.script_running.specs.Outcomes.{IsOutcome, IsOutcomeOf, IsPart, IsQueryOutcome, IsWhole, Outcome, Part, PhasesCame, TaskCame, TasksCame, answers_of, is_as_asked}
 use Rattle.report_lines.specs.script_running.proofs.GivenParts.{same_parts}
 use Rattle.report_lines.specs.script_running.specs.declared.outcome.NoAnswer.{NoAnswer}
-use Rattle.report_lines.specs.script_running.specs.declared.outcome.Outcome.{Outcome}
-use Rattle.report_lines.specs.script_running.specs.declared.outcome.Outcome.TheVariants as outcome
+use Rattle.report_lines.specs.script_running.specs.declared.came.Came.TheVariants as outcome
 use Rattle.report_lines.specs.script_running.specs.declared.outcome.QueryOutcome.{QueryOutcome}
 use Rattle.report_lines.specs.script_running.specs.declared.outcome.QueryOutcome.TheVariants as query
-use Rattle.report_lines.specs.script_running.specs.declared.part.Part.{Part}
-use Rattle.report_lines.specs.script_running.specs.declared.part.QueryPart.{QueryPart}
+use Rattle.report_lines.specs.script_running.specs.declared.outcome.QueryPart.{QueryPart}
 use Rattle.querier.specs.Gathered.{IsGathered, gathered_samples}
 use Rattle.querier.specs.declared.answer.Answer.{Answer}
 use Rattle.querier.specs.declared.answer.Names.{Names}
@@ -193,15 +191,23 @@ query_once own (query.Answer one names) (query.Answer other others) is so =
     ap (λ (x : Answer). query.Answer x names) (answer_once (answers_of own) one other is.1 so.1)
     ∙ ap (λ (l : List Names). query.Answer other l) (is.2 ∙ sym so.2)
 
+whole_once : (part : Part) (one other : Outcome) → IsWhole part one → IsWhole part other → one ≡ other
+whole_once (outcome.Upload end) one other is so = is ∙ sym so
+whole_once (outcome.Unshipped cause) one other is so = is ∙ sym so
+whole_once (outcome.Sync end) one other is so = is ∙ sym so
+whole_once (outcome.Compact end) one other is so = is ∙ sym so
+whole_once (outcome.Clean end) one other is so = is ∙ sym so
+whole_once (outcome.Query own) one other is so = absurd is
+
+alone_once : (parts : List Part) (own too : Part) (one other : Outcome) → parts ≡ own ∷ [] → parts ≡ too ∷ [] → IsWhole own one → IsWhole too other → one ≡ other
+alone_once parts own too one other are also is so =
+    let same : own ≡ too = cc (are, also) in whole_once own one other is (subst (λ (p : Part). IsWhole p other) (sym same) so)
+
 of_once : (w : Work) (parts : List Part) (one other : Outcome) → IsOutcomeOf w parts one → IsOutcomeOf w parts other → one ≡ other
-of_once (work.Upload ulid stop) parts one other (end, is, o) (also, so, p) =
-    let same : end ≡ also = cc (is, so) in o ∙ ap outcome.Upload same ∙ sym p
-of_once (work.Sync gateway) parts one other (end, is, o) (also, so, p) =
-    let same : end ≡ also = cc (is, so) in o ∙ ap outcome.Sync same ∙ sym p
-of_once (work.Compact stop) parts one other (end, is, o) (also, so, p) =
-    let same : end ≡ also = cc (is, so) in o ∙ ap outcome.Compact same ∙ sym p
-of_once (work.Clean stop) parts one other (end, is, o) (also, so, p) =
-    let same : end ≡ also = cc (is, so) in o ∙ ap outcome.Clean same ∙ sym p
+of_once (work.Upload ulid stop) parts one other (own, are, is) (too, also, so) = alone_once parts own too one other are also is so
+of_once (work.Sync gateway) parts one other (own, are, is) (too, also, so) = alone_once parts own too one other are also is so
+of_once (work.Compact stop) parts one other (own, are, is) (too, also, so) = alone_once parts own too one other are also is so
+of_once (work.Clean stop) parts one other (own, are, is) (too, also, so) = alone_once parts own too one other are also is so
 of_once (work.Query low high selector) parts one other (own, end, are, is, o) (too, also, so_are, so, p) =
     let same : own ≡ too = same_parts own too (sym are ∙ so_are) in
     o ∙ ap outcome.Query (query_once own end also is (subst (λ (l : List QueryPart). IsQueryOutcome l also) (sym same) so)) ∙ sym p

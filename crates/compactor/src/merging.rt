@@ -177,7 +177,7 @@ fn place_of(alloc: Global, index: &[u8], series: u32, chunk: u32) -> Result<Chun
     let Some(one) = indexed.get(series as usize) else {
         return Err(NoMemory);
     };
-    match one.chunks.get(chunk as usize) {
+    match one.chunks().get(chunk as usize) {
         Some(place) => Ok(*place),
         None => Err(NoMemory),
     }

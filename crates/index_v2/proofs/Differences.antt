@@ -84,39 +84,6 @@ pub has_number_is : (number : ℕ) (list : List ℕ) (r : Result ℕ ℕ) (found
 has_number_is number list (Ok place) found rising is e = let a = tells_place list _ (Ok place) rising is in e ∙ sym (has number list place a.0 a.1)
 has_number_is number list (Err place) found rising is e = e ∙ sym (lacks number _ (tells_place _ number (Err place) rising is))
 
--- ---- the first stray
-
-pub record StraySoFar (rows : List PostingsRow) (lists : List (List ℕ)) (listed : List (ℕ × IndexSeries)) (place : ℕ) : Type 0 where
-  pub whole : stray_from 0 rows lists listed ≡ stray_from place (drop place rows) (drop place lists) listed
-
-list_at_front : (lists : List (List ℕ)) (place : ℕ) (list : List ℕ) → place < length lists → list ≡ get_or lists place list → drop place lists ≡ list ∷ drop (place + 1) lists
-list_at_front lists place _ lt e = rw add-one (drop-cons _ _ _ lt ∙ ap (λ x. x ∷ drop (suc place) lists) (sym e))
-
-stray_next : (place : ℕ) (row : PostingsRow) (rows : List PostingsRow) (list : List ℕ) (lists : List (List ℕ)) (listed : List (ℕ × IndexSeries)) → list_all (is_of_row listed row) list ≡ true → stray_from place (row ∷ rows) (list ∷ lists) listed ≡ stray_from (place + 1) rows lists listed
-unfolding stray_from
-stray_next _ _ _ _ _ _ e = rw e refl
-
-stray_here : (place : ℕ) (row : PostingsRow) (rows : List PostingsRow) (list : List ℕ) (lists : List (List ℕ)) (listed : List (ℕ × IndexSeries)) → list_all (is_of_row listed row) list ≡ false → stray_from place (row ∷ rows) (list ∷ lists) listed ≡ Some place
-unfolding stray_from
-stray_here _ _ _ _ _ _ e = rw e refl
-
-no_stray : (place : ℕ) (lists : List (List ℕ)) (listed : List (ℕ × IndexSeries)) → stray_from place [] lists listed ≡ None
-unfolding stray_from
-no_stray _ _ _ = refl
-
-pub stray_step : (rows : List PostingsRow) (lists : List (List ℕ)) (listed : List (ℕ × IndexSeries)) (place : ℕ) (row : PostingsRow) (seen list : List ℕ) (test : Bool) → StraySoFar rows lists listed place → length rows ≡ length lists → slice_get rows place ≡ Some row → list ≡ get_or lists place list → seen ≡ list → test ≡ list_all (is_of_row listed row) seen → test ≡ true → StraySoFar rows lists listed (place + 1)
-stray_step rows lists listed place row seen list test far many at here s e all_are =
-    let lt = slice_get_within _ place row at in
-    record { whole = far.whole ∙ rw (drop_at rows place row at, list_at_front lists place list (omega arith) here) (stray_next place row (drop (place + 1) rows) list (drop (place + 1) lists) listed (ap (list_all (is_of_row listed row)) (sym s) ∙ sym e ∙ all_are)) }
-
-pub stray_stop : (rows : List PostingsRow) (lists : List (List ℕ)) (listed : List (ℕ × IndexSeries)) (place : ℕ) (row : PostingsRow) (seen list : List ℕ) (test : Bool) → StraySoFar rows lists listed place → length rows ≡ length lists → slice_get rows place ≡ Some row → list ≡ get_or lists place list → seen ≡ list → test ≡ list_all (is_of_row listed row) seen → test ≡ false → Some place ≡ stray_from 0 rows lists listed
-stray_stop rows lists listed place row seen list test far many at here s e not_all =
-    let lt = slice_get_within rows _ _ at in
-    sym (far.whole ∙ rw (drop_at rows place row at, list_at_front lists place list (omega arith) here) (stray_here _ _ _ _ _ _ (ap (list_all (is_of_row listed row)) (sym s) ∙ sym e ∙ not_all)))
-
-pub stray_end : (rows : List PostingsRow) (lists : List (List ℕ)) (listed : List (ℕ × IndexSeries)) (place : ℕ) → StraySoFar rows lists listed place → length rows ≤ place → None ≡ stray_from 0 rows lists listed
-stray_end _ _ _ _ far le = sym (far.whole ∙ rw (drop_all) (no_stray _ _ _))
-
 -- ---- the gap of a label
 
 gap_less : (from : ℕ) (row : PostingsRow) (rows : List PostingsRow) (list : List ℕ) (lists : List (List ℕ)) (number : ℕ) (label : Label) → compare_row row label.name label.value ≡ Less → gap_from from (row ∷ rows) (list ∷ lists) number label ≡ gap_from (from + 1) rows lists number label

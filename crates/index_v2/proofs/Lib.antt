@@ -3,8 +3,8 @@ pub mod LabelReading
 pub mod RowsFound
 pub mod ValuesListed
 pub mod WholeLoops
-pub mod Spending
 pub mod Differences
+pub mod KeptLists
 pub mod LentOrder
 pub mod ListNumbers
 pub mod OpeningLaws
@@ -19,6 +19,7 @@ pub mod LabelledSeries
 pub mod Unplaced
 pub mod LabelsOwned
 pub mod WholeParts
+pub mod SeriesApart
 pub mod WholeLaws
 pub mod WholeRead
 pub mod WholeGives

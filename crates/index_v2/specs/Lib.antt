@@ -11,4 +11,4 @@ pub mod PostingsLists
 pub mod WholeReading
 pub mod Differing
 pub mod WholeGiven
-pub mod Budget
+pub mod Sizes

@@ -2,11 +2,12 @@
 //! series are walked side by side, and each search begins where the last one led, as what comes next mostly stands
 //! near.
 
-ghost use Rattle.std.specs.Prelude.{◌≡◌, ◌==◌, ◌^◌, ◌<◌, ◌≤◌, All, length, map, zip, None, Some, IfSome, if◌then◌else◌};
+ghost use Rattle.std.specs.Prelude.{◌≡◌, ◌==◌, ◌&&◌, All, is_none, length, map, zip, None, Some, if◌then◌else◌};
+ghost use Rattle.base.specs.Firsts.{or_else};
 ghost use Rattle.std.specs.List.{list_all};
 ghost use Rattle.base.specs.Lists.{is_one_of};
 ghost use Rattle.index_v2.specs.LentLabels.{as_label};
-ghost use Rattle.index_v2.specs.WholeReading.{belongs, is_of_row, stray_from, gap_from, gap_of, gap_among, earlier_place, difference};
+ghost use Rattle.index_v2.specs.WholeReading.{belongs, is_of_row, gap_from, gap_of, gap_among, earlier_place};
 ghost use Rattle.std.specs.List.Sorted.{IsStrictlyIncreasing};
 
 use crate::nearby::{Spot, Walk, place_near};
@@ -96,31 +97,36 @@ fn has_number(list: &[u64], number: u64, guess: usize) -> (bool, usize)
     }
 }
 
-/// The place of the first row whose list has a number of another series.
-pub(crate) fn first_stray(
-    rows: &Rows<'_>,
-    lists: &[NumberList],
+/// Whether a list is kept: where no row before it has a list with a number of another series, and neither has it. With this
+/// comes where the list of the next row probably begins.
+pub(crate) fn is_kept(
+    stray: Option<usize>,
     numbers: &[u64],
     series: &[LentSeries<'_>],
-) -> Option<usize>
+    row: (&str, &str, u64),
+    list: &[u64],
+    guess: usize,
+) -> (bool, usize)
     requires rise { IsStrictlyIncreasing numbers.now }
     requires as_many { length numbers.now ≡ length series.now }
-    requires one_each { length rows.now ≡ length lists.now }
-    ensures few { length rows.now < 2 ^ 32 }
-    ensures exact { result ≡ stray_from 0 rows.now lists.now (zip numbers.now series.now) }
+    ensures { result.0 ≡ (is_none stray && list_all (is_of_row (zip numbers.now series.now)
+        (record { name = row.entry.0.now; value = row.entry.1.now; offset = row.entry.2 }))
+        list.now) }
 {
-    let mut guess = 0usize;
-    for place in 0..rows.len() {
-        let Some(row) = rows.get(place) else {
-            return None;
-        };
-        let (are, next) = are_of_row(numbers, series, row, lists[place].members(), guess);
-        if !are {
-            return Some(place);
-        }
-        guess = next;
+    match stray {
+        None => are_of_row(numbers, series, row, list, guess),
+        Some(_) => (false, guess),
     }
-    None
+}
+
+/// The place that was found, or this one where its list is not kept.
+pub(crate) fn stray_at(stray: Option<usize>, is_kept: bool, place: usize) -> Option<usize>
+    ensures { result ≡ or_else stray (if is_kept then None else Some place) }
+{
+    match stray {
+        Some(place) => Some(place),
+        None => unless_has(is_kept, place),
+    }
 }
 
 /// The place of a row, unless its list has the number.
@@ -177,7 +183,7 @@ fn gap_of(
 }
 
 /// The least of these places for all series.
-pub(crate) fn first_gap(
+fn first_gap(
     rows: &Rows<'_>,
     lists: &[NumberList],
     numbers: &[u64],
@@ -199,23 +205,20 @@ pub(crate) fn first_gap(
     least
 }
 
-/// The least place at which the lists are not exactly those of the series.
+/// The least place at which the lists are not exactly those of the series, by the first row whose list has a number of another
+/// series, and by the lists before it: those behind it may stand as empty lists.
 pub(crate) fn difference(
     rows: &Rows<'_>,
-    lists: &[NumberList],
+    stray: Option<usize>,
+    kept: &[NumberList],
     numbers: &[u64],
     series: &[LentSeries<'_>],
 ) -> Option<usize>
-    requires rises { IsStrictlyIncreasing numbers.now }
-    requires rise { All IsStrictlyIncreasing lists.now }
+    requires rise { All IsStrictlyIncreasing kept.now }
     requires as_many { length numbers.now ≡ length series.now }
-    requires one_each { length rows.now ≡ length lists.now }
-    ensures within { IfSome result (λ place. place ≤ length rows.now) }
-    ensures few { length rows.now < 2 ^ 32 }
-    ensures exact { result ≡ difference rows.now lists.now (zip numbers.now series.now) }
+    requires one_each { length rows.now ≡ length kept.now }
+    ensures { result ≡ earlier_place stray
+        (gap_among rows.now kept.now (zip numbers.now series.now)) }
 {
-    earlier_place(
-        first_stray(rows, lists, numbers, series),
-        first_gap(rows, lists, numbers, series),
-    )
+    earlier_place(stray, first_gap(rows, kept, numbers, series))
 }

@@ -1,7 +1,5 @@
 -- What operations keep of the hand that does them, one after another.
-use Rattle.std.proofs.Common.{◌≡◌, ℕ, Bool, false, List, subst}
-use Rattle.std.specs.Prelude.{Option}
-use Rattle.bucket_core.specs.Asking.{Call}
+use Rattle.std.proofs.Common.{◌≡◌, Bool, false, subst}
 use Rattle.bucket_core.specs.Told.{BucketTold}
 use Rattle.world_core.specs.Worlds.{WorldView}
 use Rattle.run_notes.specs.LineHands.{KeepsRun, keeps_run-more, keeps_run-none}

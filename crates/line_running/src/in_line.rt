@@ -49,7 +49,7 @@ pub fn do_in_line<B: Bucket, R: PhaseReport + Drop>(
     let Ok(mut progress) = Progress::new(alloc, script) else {
         return (Err(Broken::NoMemory), R::empty(alloc), hand);
     };
-    let means = Means::lend(script, shelf, texts.members());
+    let means = Means::lend(alloc, script, shelf, texts.members());
     let (came, hand) = run_phases(alloc, script, &means, &mut progress, hand);
     (came, progress.into_report(), hand)
 }

@@ -5,4 +5,7 @@ pub mod Ready
 pub mod Joined
 pub mod Refused
 pub mod Looking
-pub mod Parts
+pub mod Blocks
+pub mod Rounds
+pub mod Dealt
+pub mod Sharing

@@ -2,10 +2,9 @@
 use Rattle.std.proofs.Common.{◌≡◌, ◌≢◌, ◌⊎◌, inl, inr, ℕ, true, false, List, [], ◌∷◌, Option, Some, None, Err, refl, sym, ap, subst}
 use Rattle.std.specs.Prelude.{IfSome, IsSomeAnd}
 use Rattle.std.proofs.lemmas.Bool.{true≢false}
-use Rattle.std.proofs.lemmas.List.Elements.{All-head}
 use Rattle.bucket_core.specs.Causes.{Rose}
-use Rattle.bucket_core.specs.Contents.{Contents, nothing}
-use Rattle.bucket_core.specs.Pages.{IsName, IsPage}
+use Rattle.bucket_core.specs.Contents.{Contents}
+use Rattle.bucket_core.specs.Pages.{IsPage}
 use Rattle.world_core.specs.declared.entry.Entry.{Entry}
 use Rattle.script_core.specs.GivenUp.{HasPatternLine}
 use Rattle.script_core.specs.Reading.{script_of}
@@ -16,6 +15,7 @@ use Rattle.call_verdicts.specs.Verdicts.{Around, IsAdded, IsBegun, IsCalm, IsCal
 use Rattle.call_verdicts.specs.declared.status.Status.{Status}
 use Rattle.call_verdicts.specs.declared.verdict.Verdict.{Verdict}
 use Rattle.call_verdicts.specs.declared.verdict.Verdict.TheVariants.{WordsRefused, SourceFault, ScriptRefused, SiteFault, NotEmpty, Full, Report, Checked, NoMemory}
+use Rattle.call_verdicts.proofs.Verdicts.{no_name}
 use Rattle.replay_cli.proofs.CalmRuns.{calm_run, well_run}
 
 -- some query of the text asks by a lawful pattern
@@ -41,11 +41,6 @@ joined (Some entries) P Q if_any some = (entries, if_any, some)
 unlike : (o : Option (List Entry)) (P : List Entry → Type 0) → IsSomeAnd o (λ entries. ¬ P entries) → IsSomeAnd o P → ⊥
 unlike None P other some = other
 unlike (Some entries) P other some = other some
-
-no_name : (name : List ℕ) → ¬ IsPage nothing [] [] 1 (name ∷ [])
-no_name name page =
-    let first = All-head (IsName nothing []) name [] page.stand in
-    cc (first.1)
 
 -- a run that begins has a script, which is refused for the size of a pattern alone
 refused_for_size : (around : Around) (refusal : ScriptRefusal) → IsBegun around → IsUnread around.text around.left around.source_failed (ScriptRefused refusal) → around.journal ≡ None → HasPatterns around

@@ -32,22 +32,17 @@ use Rattle.call_verdicts.specs.lifecycle_core.specs.Tasks.{End, answered, cleane
 use Rattle.call_verdicts.specs.lifecycle_core.proofs.phases.Turns.{finished_in_turn}
 use Rattle.base.proofs.Membership.{contains_first, contains_later, member_cases, no_member}
 use Rattle.base.proofs.Pairs.{second_in_zip}
-use Rattle.call_verdicts.specs.script_running.specs.Outcomes.{IsOutcome, IsOutcomeOf, IsPart, IsQueryOutcome, PhasesCame, TasksCame, call_part, clean_outcome, compact_outcome, first_none, sync_outcome, upload_outcome, why_none}
-use Rattle.call_verdicts.specs.script_running.specs.Outcomes.{is_as_asked}
+use Rattle.call_verdicts.specs.script_running.specs.Outcomes.{IsOutcome, IsOutcomeOf, IsPart, IsQueryOutcome, IsWhole, Outcome, Part, PhasesCame, TasksCame, call_part, first_none, is_as_asked, sync_outcome, why_none}
 use Rattle.call_verdicts.specs.Shippable.{IsTooGreat, RefusesNone, StaysWithin}
 use Rattle.call_verdicts.specs.Verdicts.{IsTrusted, IsWholeRun}
 use Rattle.replay_cli.proofs.Refusals.{none_refused}
-use Rattle.call_verdicts.specs.script_running.specs.declared.outcome.Outcome.{Outcome}
-use Rattle.call_verdicts.specs.script_running.specs.declared.outcome.Outcome.TheVariants as outcome
-use Rattle.call_verdicts.specs.script_running.specs.declared.outcome.CompactOutcome.TheVariants as compact
-use Rattle.call_verdicts.specs.script_running.specs.declared.outcome.CleanOutcome.TheVariants as clean
+use Rattle.call_verdicts.specs.script_running.specs.declared.came.Came.TheVariants as outcome
+use Rattle.call_verdicts.specs.script_running.specs.declared.came.Stop.TheVariants as halt
 use Rattle.call_verdicts.specs.script_running.specs.declared.outcome.QueryOutcome.{QueryOutcome}
 use Rattle.call_verdicts.specs.script_running.specs.declared.outcome.QueryOutcome.TheVariants as query
-use Rattle.call_verdicts.specs.script_running.specs.declared.outcome.UploadOutcome.TheVariants as upload
-use Rattle.call_verdicts.specs.script_running.specs.declared.part.Part.{Part}
-use Rattle.call_verdicts.specs.script_running.specs.declared.part.Part.TheVariants as part
-use Rattle.call_verdicts.specs.script_running.specs.declared.part.QueryPart.{QueryPart}
-use Rattle.call_verdicts.specs.script_running.specs.declared.part.QueryPart.TheVariants as given
+use Rattle.call_verdicts.specs.script_running.specs.declared.came.Came.TheVariants as part
+use Rattle.call_verdicts.specs.script_running.specs.declared.outcome.QueryPart.{QueryPart}
+use Rattle.call_verdicts.specs.script_running.specs.declared.outcome.QueryPart.TheVariants as given
 
 -- ---- one task
 
@@ -55,7 +50,7 @@ use Rattle.call_verdicts.specs.script_running.specs.declared.part.QueryPart.TheV
 abbrev Calm : End → Type 0
 Calm end = IsWell end × ((cause : ℕ) → ¬ (end ≡ refused cause)) × (¬ IsTooGreat end)
 
-upload_asked : (end : UploadEnd) → IsWell (uploaded end) → is_as_asked (outcome.Upload (upload_outcome end)) ≡ true
+upload_asked : (end : UploadEnd) → IsWell (uploaded end) → is_as_asked (outcome.Upload (halt.Ended end)) ≡ true
 upload_asked (shipped.Done count) well = refl
 upload_asked shipped.Already well = refl
 upload_asked (shipped.Fault entry) well = absurd well
@@ -66,7 +61,7 @@ sync_asked (fetched.Fault entry) well = absurd well
 sync_asked (fetched.Damaged entry) well = absurd well
 sync_asked fetched.TooMany well = absurd well
 
-compact_asked : (end : CompactEnd) → IsWell (compacted end) → ¬ IsTooGreat (compacted end) → is_as_asked (outcome.Compact (compact_outcome end)) ≡ true
+compact_asked : (end : CompactEnd) → IsWell (compacted end) → ¬ IsTooGreat (compacted end) → is_as_asked (outcome.Compact (halt.Ended end)) ≡ true
 compact_asked (merged.Done collected groups expired) well fits = refl
 compact_asked (merged.Fault entry) well fits = absurd well
 compact_asked (merged.Missing entry) well fits = absurd well
@@ -74,7 +69,7 @@ compact_asked (merged.Damaged entry) well fits = absurd well
 compact_asked merged.TooMany well fits = absurd well
 compact_asked merged.TooLarge well fits = absurd (fits tt)
 
-clean_asked : (end : CleanEnd) → IsWell (cleaned end) → ¬ IsTooGreat (cleaned end) → is_as_asked (outcome.Clean (clean_outcome end)) ≡ true
+clean_asked : (end : CleanEnd) → IsWell (cleaned end) → ¬ IsTooGreat (cleaned end) → is_as_asked (outcome.Clean (halt.Ended end)) ≡ true
 clean_asked (swept.Done blocks partials) well fits = refl
 clean_asked (swept.Fault entry) well fits = absurd well
 clean_asked (swept.Damaged entry) well fits = absurd well
@@ -83,6 +78,7 @@ clean_asked swept.TooMany well fits = absurd (fits tt)
 -- a part that is as asked
 abbrev IsFine : Part → Type 0
 IsFine (part.Upload end) = is_as_asked (outcome.Upload end) ≡ true
+IsFine (part.Unshipped cause) = ⊥
 IsFine (part.Sync end) = is_as_asked (outcome.Sync end) ≡ true
 IsFine (part.Compact end) = is_as_asked (outcome.Compact end) ≡ true
 IsFine (part.Clean end) = is_as_asked (outcome.Clean end) ≡ true
@@ -98,14 +94,14 @@ fine_as : (one other : Part) → one ≡ other → IsFine other → IsFine one
 fine_as one other is fine = subst IsFine (sym is) fine
 
 part_fine : (w : Work) (end : End) (one : Part) → Calm end → IsPart w end one → IsFine one
-part_fine (work.Upload ulid stop) (uploaded e) one well is = fine_as one (part.Upload (upload_outcome e)) is (upload_asked e well.0)
+part_fine (work.Upload ulid stop) (uploaded e) one well is = fine_as one (part.Upload (halt.Ended e)) is (upload_asked e well.0)
 part_fine (work.Upload ulid stop) (refused cause) one well is = absurd (well.1 cause refl)
-part_fine (work.Upload ulid stop) (stopped count) one well is = fine_as one (part.Upload (upload.Stopped count)) is refl
+part_fine (work.Upload ulid stop) (stopped count) one well is = fine_as one (part.Upload (halt.At count)) is refl
 part_fine (work.Sync gateway) (synced e) one well is = fine_as one (part.Sync (sync_outcome e)) is (sync_asked e well.0)
-part_fine (work.Compact stop) (compacted e) one well is = fine_as one (part.Compact (compact_outcome e)) is (compact_asked e well.0 well.2)
-part_fine (work.Compact stop) (stopped count) one well is = fine_as one (part.Compact (compact.Stopped count)) is refl
-part_fine (work.Clean stop) (cleaned e) one well is = fine_as one (part.Clean (clean_outcome e)) is (clean_asked e well.0 well.2)
-part_fine (work.Clean stop) (stopped count) one well is = fine_as one (part.Clean (clean.Stopped count)) is refl
+part_fine (work.Compact stop) (compacted e) one well is = fine_as one (part.Compact (halt.Ended e)) is (compact_asked e well.0 well.2)
+part_fine (work.Compact stop) (stopped count) one well is = fine_as one (part.Compact (halt.At count)) is refl
+part_fine (work.Clean stop) (cleaned e) one well is = fine_as one (part.Clean (halt.Ended e)) is (clean_asked e well.0 well.2)
+part_fine (work.Clean stop) (stopped count) one well is = fine_as one (part.Clean (halt.At count)) is refl
 part_fine (work.Query low high n) (answered used e) one well is = fine_as one (part.Query (call_part e)) is (call_fine used e well.0)
 part_fine (work.Query low high n) without_view one well is = absurd well.0
 part_fine (work.Query low high n) not_asked one well is = fine_as one (part.Query given.NotAsked) is refl
@@ -134,11 +130,19 @@ query_asked own (query.NoAnswer gateway why) fine is = absurd (let none = none_t
 asked_as : (o p : Outcome) → o ≡ p → is_as_asked p ≡ true → is_as_asked o ≡ true
 asked_as o p is asked = ap is_as_asked is ∙ asked
 
+whole_asked : (one : Part) (o : Outcome) → IsFine one → IsWhole one o → is_as_asked o ≡ true
+whole_asked (part.Upload end) o fine is = asked_as o (outcome.Upload end) is fine
+whole_asked (part.Unshipped cause) o fine is = absurd fine
+whole_asked (part.Sync end) o fine is = asked_as o (outcome.Sync end) is fine
+whole_asked (part.Compact end) o fine is = asked_as o (outcome.Compact end) is fine
+whole_asked (part.Clean end) o fine is = asked_as o (outcome.Clean end) is fine
+whole_asked (part.Query own) o fine is = absurd is
+
 of_asked : (w : Work) (parts : List Part) (o : Outcome) → AllByRecursion IsFine parts → IsOutcomeOf w parts o → is_as_asked o ≡ true
-of_asked (work.Upload ulid stop) parts o fine (end, are, is) = asked_as o (outcome.Upload end) is (subst (AllByRecursion IsFine) are fine).0
-of_asked (work.Sync gateway) parts o fine (end, are, is) = asked_as o (outcome.Sync end) is (subst (AllByRecursion IsFine) are fine).0
-of_asked (work.Compact stop) parts o fine (end, are, is) = asked_as o (outcome.Compact end) is (subst (AllByRecursion IsFine) are fine).0
-of_asked (work.Clean stop) parts o fine (end, are, is) = asked_as o (outcome.Clean end) is (subst (AllByRecursion IsFine) are fine).0
+of_asked (work.Upload ulid stop) parts o fine (one, are, is) = whole_asked one o (subst (AllByRecursion IsFine) are fine).0 is
+of_asked (work.Sync gateway) parts o fine (one, are, is) = whole_asked one o (subst (AllByRecursion IsFine) are fine).0 is
+of_asked (work.Compact stop) parts o fine (one, are, is) = whole_asked one o (subst (AllByRecursion IsFine) are fine).0 is
+of_asked (work.Clean stop) parts o fine (one, are, is) = whole_asked one o (subst (AllByRecursion IsFine) are fine).0 is
 of_asked (work.Query low high n) parts o fine (own, end, are, is, same) = asked_as o (outcome.Query end) same (query_asked own end (subst (AllByRecursion IsFine) are fine) is)
 
 outcome_asked : (w : Work) (own : List End) (o : Outcome) → AreWell own → IsOutcome w own o → is_as_asked o ≡ true

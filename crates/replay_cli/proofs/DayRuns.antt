@@ -2,7 +2,7 @@
 use Rattle.std.proofs.Common.{◌≡◌, ℕ, Bool, true, false, List, [], ◌++◌, length, take, refl, sym, ◌∙◌, ap, subst, inl}
 use Rattle.std.specs.Prelude.{Option, Some, None, Result, Ok, Err}
 use Rattle.std.specs.List.{list_all}
-use Rattle.bucket_core.specs.Contents.{Contents}
+use Rattle.bucket_core.specs.Told.{BucketTold}
 use Rattle.bucket_core.specs.declared.memory_bucket.MemoryBucket.{MemoryBucket}
 use Rattle.world_core.specs.Keeping.{IsFull}
 use Rattle.world_core.specs.Operations.{PutsBytes, ShowsBytes}
@@ -12,12 +12,11 @@ use Rattle.world_core.specs.declared.entry.Entry.{Entry}
 use Rattle.world_core.proofs.Growing.{Each-none}
 use Rattle.script_core.specs.Lawful.{IsLawfulScript}
 use Rattle.script_core.specs.declared.script.Script.{Script}
-use Rattle.call_verdicts.specs.script_running.specs.Outcomes.{is_as_asked}
+use Rattle.call_verdicts.specs.script_running.specs.Outcomes.{Outcome, is_as_asked}
 use Rattle.call_verdicts.specs.script_running.specs.Shelves.{setting_by}
 use Rattle.call_verdicts.specs.script_running.specs.Tasks.{is_full_came}
 use Rattle.call_verdicts.specs.script_running.specs.declared.came.Broken.{Broken}
 use Rattle.call_verdicts.specs.script_running.specs.declared.came.Broken.TheVariants as broken
-use Rattle.call_verdicts.specs.script_running.specs.declared.outcome.Outcome.{Outcome}
 use Rattle.call_verdicts.specs.script_running.specs.declared.sight.Sight.{Sight}
 use Rattle.call_verdicts.specs.report_lines.specs.BreachLines.{breach_text}
 use Rattle.call_verdicts.specs.report_lines.specs.Telling.{report_of, tasks_of}
@@ -123,10 +122,10 @@ day_noted v entries bucket (Some n) noted = record { journal_is = noted.journal_
 
 -- ---- what was left
 
-pub true_parts : {B : Type 0} (contents : B → Option Contents) (faults : B → ℕ) (world : WorldView B) (a : List Entry) (b : B) → a ≡ world.journal → b ≡ world.bucket → IsWorld contents faults world → IsTrueOfStore contents faults a b
-true_parts {B} contents faults world a b journal bucket is =
-    subst (λ (x : List Entry). IsTrueOfStore contents faults x b) (sym journal) (subst (λ (y : B). IsTrueOfStore contents faults world.journal y) (sym bucket) (true_of contents faults world is))
+pub true_parts : {B : Type 0} (tells : B → BucketTold) (world : WorldView B) (a : List Entry) (b : B) → a ≡ world.journal → b ≡ world.bucket → IsWorld tells world → IsTrueOfStore tells a b
+true_parts {B} tells world a b journal bucket is =
+    subst (λ (x : List Entry). IsTrueOfStore tells x b) (sym journal) (subst (λ (y : B). IsTrueOfStore tells world.journal y) (sym bucket) (true_of tells world is))
 
 -- a quiet bucket has not failed
-pub never_failed : {B : Type 0} (faults : B → ℕ) (quiet : B → Type 0) (old new : WorldView B) (a : List Entry) → old.journal ≡ [] → a ≡ new.journal → WorldGoesOn faults quiet old new → quiet old.bucket → failed_count a ≡ 0
-never_failed faults quiet old new a fresh is on q = ap failed_count is ∙ (on.calm q).1 ∙ ap failed_count fresh
+pub never_failed : {B : Type 0} (tells : B → BucketTold) (old new : WorldView B) (a : List Entry) → old.journal ≡ [] → a ≡ new.journal → WorldGoesOn tells old new → (tells old.bucket).quiet → failed_count a ≡ 0
+never_failed tells old new a fresh is on q = ap failed_count is ∙ (on.calm q).1 ∙ ap failed_count fresh

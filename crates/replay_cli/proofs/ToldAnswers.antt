@@ -27,17 +27,16 @@ use Rattle.call_verdicts.specs.lifecycle_core.specs.Setting.{Setting}
 use Rattle.call_verdicts.specs.lifecycle_core.proofs.answers.SeveralGateways as Several
 use Rattle.call_verdicts.specs.lifecycle_core.proofs.answers.SeveralGateways.{AllAnswered, CameAll, end_of, given_by_all, named_by_all, names_from, names_of_all, series_of}
 use Rattle.call_verdicts.specs.lifecycle_core.specs.Tasks.{End, answered, not_asked, refused, stopped, synced, uploaded, without_view, compacted, cleaned}
-use Rattle.call_verdicts.specs.script_running.specs.Outcomes.{IsOutcome, IsPart, IsQueryOutcome, PhasesCame, TaskCame, TasksCame, answers_of, call_part, first_none, names_of, why_none}
+use Rattle.call_verdicts.specs.script_running.specs.Outcomes.{IsOutcome, IsPart, IsQueryOutcome, Outcome, PhasesCame, TaskCame, TasksCame, answers_of, call_part, first_none, names_of, why_none}
 use Rattle.replay_cli.specs.ToldAnswers.{IsTold, IsWorth, ToldAnswer, answered_by}
 use Rattle.call_verdicts.specs.Verdicts.{IsFullRun, IsWholeRun}
 use Rattle.call_verdicts.specs.report_lines.specs.Telling.{tasks_of}
 use Rattle.call_verdicts.specs.script_running.specs.declared.outcome.NoAnswer.TheVariants as nothing
-use Rattle.call_verdicts.specs.script_running.specs.declared.outcome.Outcome.{Outcome}
-use Rattle.call_verdicts.specs.script_running.specs.declared.outcome.Outcome.TheVariants as outcome
+use Rattle.call_verdicts.specs.script_running.specs.declared.came.Came.TheVariants as outcome
 use Rattle.call_verdicts.specs.script_running.specs.declared.outcome.QueryOutcome.TheVariants as query
-use Rattle.call_verdicts.specs.script_running.specs.declared.part.Part.TheVariants as part
-use Rattle.call_verdicts.specs.script_running.specs.declared.part.QueryPart.{QueryPart}
-use Rattle.call_verdicts.specs.script_running.specs.declared.part.QueryPart.TheVariants as given
+use Rattle.call_verdicts.specs.script_running.specs.declared.came.Came.TheVariants as part
+use Rattle.call_verdicts.specs.script_running.specs.declared.outcome.QueryPart.{QueryPart}
+use Rattle.call_verdicts.specs.script_running.specs.declared.outcome.QueryPart.TheVariants as given
 
 -- ---- which task an outcome is of
 

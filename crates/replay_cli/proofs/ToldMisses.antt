@@ -24,19 +24,17 @@ use Rattle.call_verdicts.specs.lifecycle_core.specs.Holdings.{Use}
 use Rattle.call_verdicts.specs.lifecycle_core.specs.Setting.{Setting}
 use Rattle.call_verdicts.specs.lifecycle_core.specs.Tasks.{End, answered, cleaned, compacted, not_asked, refused, stopped, synced, uploaded, without_view}
 use Rattle.call_verdicts.specs.lifecycle_core.proofs.phases.Turns.{cut_in_turn, finished_in_turn}
-use Rattle.call_verdicts.specs.script_running.specs.Outcomes.{IsOutcome, IsPart, IsQueryOutcome, PhasesCame, TaskCame, TasksCame, call_part, compact_outcome, first_none}
+use Rattle.call_verdicts.specs.script_running.specs.Outcomes.{IsOutcome, IsPart, IsQueryOutcome, IsWhole, Outcome, Part, PhasesCame, TaskCame, TasksCame, call_part, first_none}
 use Rattle.call_verdicts.specs.Verdicts.{IsFullRun, IsWholeRun}
-use Rattle.call_verdicts.specs.script_running.specs.declared.outcome.Outcome.{Outcome}
-use Rattle.call_verdicts.specs.script_running.specs.declared.outcome.Outcome.TheVariants as outcome
-use Rattle.call_verdicts.specs.script_running.specs.declared.outcome.CompactOutcome.{CompactOutcome}
-use Rattle.call_verdicts.specs.script_running.specs.declared.outcome.CompactOutcome.TheVariants as compact
+use Rattle.call_verdicts.specs.script_running.specs.declared.came.Came.TheVariants as outcome
+use Rattle.call_verdicts.specs.script_running.specs.declared.came.Stop.TheVariants as halt
 use Rattle.call_verdicts.specs.script_running.specs.declared.outcome.QueryOutcome.{QueryOutcome}
 use Rattle.call_verdicts.specs.script_running.specs.declared.outcome.QueryOutcome.TheVariants as query
 use Rattle.call_verdicts.specs.script_running.specs.declared.outcome.NoAnswer.{NoAnswer}
 use Rattle.call_verdicts.specs.script_running.specs.declared.outcome.NoAnswer.TheVariants as none
-use Rattle.call_verdicts.specs.script_running.specs.declared.part.Part.TheVariants as part
-use Rattle.call_verdicts.specs.script_running.specs.declared.part.QueryPart.{QueryPart}
-use Rattle.call_verdicts.specs.script_running.specs.declared.part.QueryPart.TheVariants as given
+use Rattle.call_verdicts.specs.script_running.specs.declared.came.Came.TheVariants as part
+use Rattle.call_verdicts.specs.script_running.specs.declared.outcome.QueryPart.{QueryPart}
+use Rattle.call_verdicts.specs.script_running.specs.declared.outcome.QueryPart.TheVariants as given
 use Rattle.std.proofs.lemmas.Option.{same_Some}
 use Rattle.replay_cli.proofs.CalmRuns.{end_came}
 use Rattle.replay_cli.proofs.ToldAnswers.{inner}
@@ -97,11 +95,19 @@ IsCallMiss number end = (used : Use) × (end ≡ answered used (called.Missing n
 abbrev IsCompactionMiss : ℕ → End → Type 0
 IsCompactionMiss number end = end ≡ compacted (merged.Missing number)
 
+no_whole : (one : Part) (end : QueryOutcome) → IsWhole one (outcome.Query end) → ⊥
+no_whole (part.Upload own) end is = absurd (cc (is))
+no_whole (part.Unshipped cause) end is = absurd (cc (is))
+no_whole (part.Sync own) end is = absurd (cc (is))
+no_whole (part.Compact own) end is = absurd (cc (is))
+no_whole (part.Clean own) end is = absurd (cc (is))
+no_whole (part.Query own) end is = is
+
 all_missed : (gateway number : ℕ) (w : Work) (own : List End) → IsOutcome w own (missing gateway number) → HasEnd (IsCallMiss number) own
-all_missed gateway number (work.Upload ulid stop) own (parts, zipped, (end, are, is)) = absurd (cc (is))
-all_missed gateway number (work.Sync g) own (parts, zipped, (end, are, is)) = absurd (cc (is))
-all_missed gateway number (work.Compact stop) own (parts, zipped, (end, are, is)) = absurd (cc (is))
-all_missed gateway number (work.Clean stop) own (parts, zipped, (end, are, is)) = absurd (cc (is))
+all_missed gateway number (work.Upload ulid stop) own (parts, zipped, (one, are, whole)) = absurd (no_whole one (query.NoAnswer gateway (none.Missing number)) whole)
+all_missed gateway number (work.Sync g) own (parts, zipped, (one, are, whole)) = absurd (no_whole one (query.NoAnswer gateway (none.Missing number)) whole)
+all_missed gateway number (work.Compact stop) own (parts, zipped, (one, are, whole)) = absurd (no_whole one (query.NoAnswer gateway (none.Missing number)) whole)
+all_missed gateway number (work.Clean stop) own (parts, zipped, (one, are, whole)) = absurd (no_whole one (query.NoAnswer gateway (none.Missing number)) whole)
 all_missed gateway number (work.Query low high n) own (parts, zipped, (given_parts, end, are, is, same)) =
     let m = query_missed low high n 0 own given_parts gateway number (subst (AllZip (IsPart (work.Query low high n)) own) are zipped) (subst (IsQueryOutcome given_parts) (end_is gateway number end same) is) in
     (answered m.0 (called.Missing number), m.1, (m.0, refl))
@@ -110,41 +116,43 @@ all_missed gateway number (work.Query low high n) own (parts, zipped, (given_par
 
 -- a line that tells of a compaction's missing object
 abbrev missing_input : ℕ → Outcome
-missing_input number = outcome.Compact (compact.Missing number)
+missing_input number = outcome.Compact (halt.Ended (merged.Missing number))
 
-merge_missed : (number : ℕ) (end : CompactEnd) → compact.Missing number ≡ compact_outcome end → IsCompactionMiss number (compacted end)
-merge_missed number (merged.Done collected groups expired) is = absurd (cc (is))
-merge_missed number (merged.Fault m) is = absurd (cc (is))
-merge_missed number (merged.Missing m) is = let same : m ≡ number = cc (is) in ap (λ (k : ℕ). compacted (merged.Missing k)) same
-merge_missed number (merged.Damaged m) is = absurd (cc (is))
-merge_missed number merged.TooMany is = absurd (cc (is))
-merge_missed number merged.TooLarge is = absurd (cc (is))
+whole_input : (number : ℕ) (one : Part) → IsWhole one (missing_input number) → one ≡ part.Compact (halt.Ended (merged.Missing number))
+whole_input number (part.Upload end) is = absurd (cc (is))
+whole_input number (part.Unshipped cause) is = absurd (cc (is))
+whole_input number (part.Sync end) is = absurd (cc (is))
+whole_input number (part.Compact end) is = let same : end ≡ halt.Ended (merged.Missing number) = cc (is) in ap part.Compact same
+whole_input number (part.Clean end) is = absurd (cc (is))
+whole_input number (part.Query own) is = absurd is
 
-part_compact : (one other : CompactOutcome) → part.Compact one ≡ part.Compact other → one ≡ other
-part_compact one other is = cc (is)
+input_missed : (number : ℕ) (w : Work) (end : End) → IsPart w end (part.Compact (halt.Ended (merged.Missing number))) → IsCompactionMiss number end
+input_missed number (work.Upload ulid stop) (uploaded e) is = absurd (cc (is))
+input_missed number (work.Upload ulid stop) (refused cause) is = absurd (cc (is))
+input_missed number (work.Upload ulid stop) (stopped count) is = absurd (cc (is))
+input_missed number (work.Sync g) (synced e) is = absurd (cc (is))
+input_missed number (work.Compact stop) (compacted e) is = let same : e ≡ merged.Missing number = cc (is) in ap compacted same
+input_missed number (work.Compact stop) (stopped count) is = absurd (cc (is))
+input_missed number (work.Clean stop) (cleaned e) is = absurd (cc (is))
+input_missed number (work.Clean stop) (stopped count) is = absurd (cc (is))
+input_missed number (work.Query low high n) (answered used e) is = absurd (cc (is))
+input_missed number (work.Query low high n) without_view is = absurd (cc (is))
+input_missed number (work.Query low high n) not_asked is = absurd (cc (is))
+input_missed number w end is = absurd is
 
-input_missed : (stop : Option ℕ) (number : ℕ) (end : End) → IsPart (work.Compact stop) end (part.Compact (compact.Missing number)) → IsCompactionMiss number end
-input_missed stop number (compacted e) is = merge_missed number e (part_compact (compact.Missing number) (compact_outcome e) is)
-input_missed stop number (stopped count) is = absurd (let same = part_compact (compact.Missing number) (compact.Stopped count) is in cc (same))
-input_missed stop number (cleaned e) is = absurd is
-input_missed stop number (answered used e) is = absurd is
-input_missed stop number without_view is = absurd is
-input_missed stop number not_asked is = absurd is
-input_missed stop number (uploaded e) is = absurd is
-input_missed stop number (synced e) is = absurd is
-input_missed stop number (refused cause) is = absurd is
+one_missed : (number : ℕ) (w : Work) (own : List End) → AllZip (IsPart w) own (part.Compact (halt.Ended (merged.Missing number)) ∷ []) → HasEnd (IsCompactionMiss number) own
+one_missed number w [] all = absurd all
+one_missed number w (end ∷ own) all = (end, contains_first end own, input_missed number w end all.0)
 
-one_missed : (stop : Option ℕ) (number : ℕ) (own : List End) → AllZip (IsPart (work.Compact stop)) own (part.Compact (compact.Missing number) ∷ []) → HasEnd (IsCompactionMiss number) own
-one_missed stop number [] all = absurd all
-one_missed stop number (end ∷ own) all = (end, contains_first end own, input_missed stop number end all.0)
+whole_missed : (number : ℕ) (w : Work) (own : List End) (parts : List Part) (one : Part) → AllZip (IsPart w) own parts → parts ≡ one ∷ [] → IsWhole one (missing_input number) → HasEnd (IsCompactionMiss number) own
+whole_missed number w own parts one zipped are whole =
+    one_missed number w own (subst (AllZip (IsPart w) own) (are ∙ ap (λ (x : Part). x ∷ []) (whole_input number one whole)) zipped)
 
 all_inputs_missed : (number : ℕ) (w : Work) (own : List End) → IsOutcome w own (missing_input number) → HasEnd (IsCompactionMiss number) own
-all_inputs_missed number (work.Upload ulid stop) own (parts, zipped, (end, are, is)) = absurd (cc (is))
-all_inputs_missed number (work.Sync g) own (parts, zipped, (end, are, is)) = absurd (cc (is))
-all_inputs_missed number (work.Compact stop) own (parts, zipped, (end, are, is)) =
-    let same : end ≡ compact.Missing number = cc (is) in
-    one_missed stop number own (subst (AllZip (IsPart (work.Compact stop)) own) (are ∙ ap (λ (x : CompactOutcome). part.Compact x ∷ []) same) zipped)
-all_inputs_missed number (work.Clean stop) own (parts, zipped, (end, are, is)) = absurd (cc (is))
+all_inputs_missed number (work.Upload ulid stop) own (parts, zipped, (one, are, whole)) = whole_missed number (work.Upload ulid stop) own parts one zipped are whole
+all_inputs_missed number (work.Sync g) own (parts, zipped, (one, are, whole)) = whole_missed number (work.Sync g) own parts one zipped are whole
+all_inputs_missed number (work.Compact stop) own (parts, zipped, (one, are, whole)) = whole_missed number (work.Compact stop) own parts one zipped are whole
+all_inputs_missed number (work.Clean stop) own (parts, zipped, (one, are, whole)) = whole_missed number (work.Clean stop) own parts one zipped are whole
 all_inputs_missed number (work.Query low high n) own (parts, zipped, (given_parts, end, are, is, same)) = absurd (cc (same))
 
 -- ---- among the ends of a run

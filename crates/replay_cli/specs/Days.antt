@@ -1,5 +1,6 @@
 -- The run of the generated day, over a bucket of its own. A summary takes the place of its report.
 use Rattle.std.specs.Prelude.{◌≡◌, ◌⊎◌, ℕ, Bool, List, [], ◌++◌, Option, Some, None, IsSomeAnd, option_map}
+use Rattle.bucket_core.specs.MemoryBucket.{bucket_told}
 use Rattle.bucket_core.specs.declared.memory_bucket.MemoryBucket.{MemoryBucket}
 use Rattle.world_core.specs.Standing.{IsHonest}
 use Rattle.world_core.specs.Worlds.{IsOfBytes, failed_count}
@@ -18,7 +19,7 @@ use Rattle.call_verdicts.specs.report_lines.specs.Summed.{IsDayText}
 use Rattle.call_verdicts.specs.report_lines.specs.Tallies.{AreTallied}
 use Rattle.call_verdicts.specs.report_lines.specs.declared.tally.Tally.{Tally}
 use Rattle.script_workers.specs.declared.task.Task.{Task}
-use Rattle.call_verdicts.specs.script_running.specs.declared.outcome.Outcome.{Outcome}
+use Rattle.call_verdicts.specs.script_running.specs.Outcomes.{Outcome}
 use Rattle.run_notes.specs.declared.run_note.RunNote.{RunNote}
 use Rattle.call_verdicts.specs.Noted.{IsNoted, met}
 use Rattle.call_verdicts.specs.Verdicts.{Around, IfShort, IsCaused, IsFullRun, IsWholeRun}
@@ -54,7 +55,7 @@ pub record IsDayRun (number : ℕ) (entries : List Entry) (v : Verdict) : Type 0
 -- The note of a day's run is of the journal that is handed back, and of the answers by which the call comes to its verdict. The bucket
 -- does not tell what it was asked, and is not handed back.
 abbrev pub IsDayNoted : Verdict → Option (List Entry) → Option (RunNote MemoryBucket) → Type 0
-IsDayNoted v journal note = IsNoted met (λ bucket. None) v journal (option_map (λ n. n.world.value.bucket) note) note
+IsDayNoted v journal note = IsNoted met bucket_told v journal (option_map (λ n. n.world.value.bucket) note) note
 
 -- ---- the call
 

@@ -1,7 +1,8 @@
 //! A run is prepared, in whichever way its tasks are to be done, and ended.
 
+ghost use Rattle.call_verdicts.specs.Outside.{outside, site_call};
 ghost use Rattle.call_verdicts.specs.Words.{named_by};
-ghost use Rattle.replay_cli.specs.Calls.{IsEndOfRun, Prepares, outside};
+ghost use Rattle.replay_cli.specs.Calls.{IsEndOfRun, Prepares};
 
 use bucket_core::{Bucket, Site, Source};
 use call_verdicts::script_running::ShelfBlockList;
@@ -31,10 +32,9 @@ pub(crate) fn prepare<S: Site, R: Source, W: CheckWay>(
     way: &W,
 ) -> Result<Prepared<S::Store, S::Files>, Ended<S::Store, S::Files>>
     requires { W.can_check way.now }
-    ensures { Prepares (outside R.left R.faults script.old script.new
-        S.buckets S.next_bucket S.shelves S.next_shelf S.faults site.old site.new
-        S.Store.contents S.Store.faults S.Store.asked S.Files.files S.Files.faults S.Files.asked
-        bucket.now (named_by shelf.now)) result }
+    ensures { Prepares (outside (R.told script.old) (R.told script.new)
+        (site_call (S.told site.old) (S.told site.new) S.Store.told S.Files.told))
+        bucket.now (named_by shelf.now) result }
 {
     match read_and_open(alloc, bucket, shelf, site, script) {
         Ok(
@@ -68,7 +68,7 @@ pub(crate) fn end_run<B: Bucket, F>(
     run: Finished<B>,
     shelf: Option<F>,
 ) -> Ended<B, F>
-    ensures { IsEndOfRun B.contents B.faults verdict run.world run.note shelf result }
+    ensures { IsEndOfRun B.told verdict run.world run.note shelf result }
 {
     let (conclusion, note) = Conclusion::of_run(verdict, run);
     Ended {

@@ -28,8 +28,8 @@ pub(crate) fn run_in_line<B: Bucket>(
     shelf: &[ShelfBlock],
     world: World<B>,
 ) -> (Verdict, Finished<B>)
-    requires { MayRun B.asked script.now shelf.now world }
-    ensures { HasRun in_line B.asked B.faults script.now shelf.now world
+    requires { MayRun B.told script.now shelf.now world }
+    ensures { HasRun in_line B.told script.now shelf.now world
         result.0 result.1.world result.1.note }
 {
     let (came, report, hand) = do_in_line(alloc, script, shelf, world);
@@ -49,8 +49,8 @@ pub(crate) fn run_with_threads<B: Bucket + Send, G: Gate + Sync, T: Threads + Wa
     shelf: &[ShelfBlock],
     world: World<B>,
 ) -> (Verdict, Finished<B>)
-    requires { MayRun B.asked script.now shelf.now world }
-    ensures { HasRun beside B.asked B.faults script.now shelf.now world
+    requires { MayRun B.told script.now shelf.now world }
+    ensures { HasRun beside B.told script.now shelf.now world
         result.0 result.1.world result.1.note }
 {
     run_telling(rt, alloc, gate, script, shelf, world, Beside { rt })
@@ -66,9 +66,9 @@ fn run_telling<B: Bucket + Send, G: Gate + Sync, T: Threads + Wait + Sync, W: Se
     world: World<B>,
     way: W,
 ) -> (Verdict, Finished<B>)
-    requires may { MayRun B.asked script.now shelf.now world }
+    requires may { MayRun B.told script.now shelf.now world }
     requires way { W.can_put way }
-    ensures { HasRun beside B.asked B.faults script.now shelf.now world
+    ensures { HasRun beside B.told script.now shelf.now world
         result.0 result.1.world result.1.note }
 {
     let mut report = LinesBy::new(alloc, way);

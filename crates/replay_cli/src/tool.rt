@@ -4,12 +4,14 @@
 ghost use Rattle.std.specs.Prelude.{◌≡◌, ◌≢◌, ℕ, Some, None, IfSome, IsSome, is_some};
 ghost use Rattle.call_verdicts.specs.Checks.{files_of};
 ghost use Rattle.call_verdicts.specs.Noted.{IsFullSaid, IsNoted, met};
-ghost use Rattle.call_verdicts.specs.Kept.{IsHandedBack, IsHandedOut, IsNotAsked, IsShelfOf, IsUntouched, told_of};
+ghost use Rattle.call_verdicts.specs.Kept.{AsksNoBucket, IsHandedBack, IsHandedOut, IsShelfOf, IsUntouched, told_of};
 ghost use Rattle.call_verdicts.specs.Asked.{IsBroken, IsBucketAsked, IsUndecided, WasAskedFor};
 ghost use Rattle.call_verdicts.specs.Statuses.{number_of};
 ghost use Rattle.call_verdicts.specs.Verdicts.{EndsCalmly, IsCaused, IsCheckSaid, IsSaid, around_call, saying_to};
-ghost use Rattle.call_verdicts.specs.Words.{block_word, bucket_word, named_by, number_word, shelf_word};
-ghost use Rattle.replay_cli.specs.Calls.{Leaves, outside};
+ghost use Rattle.call_verdicts.specs.Words.{block_word, bucket_word, named_by, number_word, serial_names, shelf_word};
+ghost use Rattle.replay_cli.specs.Calls.{Leaves};
+ghost use Rattle.call_verdicts.specs.Outside.{outside, site_call};
+ghost use Rattle.bucket_core.specs.Told.{next_bucket};
 ghost use Rattle.replay_cli.specs.Days.{IsDayNoted, IsToolCaused};
 ghost use Rattle.replay_cli.specs.Ways.{in_line};
 ghost use Rattle.call_verdicts.specs.lifecycle_core.specs.InLine.{IsInLine};
@@ -41,17 +43,16 @@ pub fn run_tool<S: Site, R: Source, K: Sink>(
     // operation that was answered with the full journal just where the verdict does.
     ensures verdict { (verdict : Verdict) × (status : Status)
         × IsToolCaused (number_word words.now)
-        (around_call IsInLine R.left R.faults script.old script.new
-        S.buckets S.next_bucket S.shelves S.next_shelf S.faults
-        (bucket_word words.now) (shelf_word words.now)
-        (block_word words.now) site.old site.new S.Store.faults S.Files.faults
+        (around_call IsInLine (outside (R.told script.old) (R.told script.new)
+        (site_call (S.told site.old) (S.told site.new) S.Store.told S.Files.told))
+        (serial_names words.now)
         result.store result.shelf result.journal) verdict
-        × IsSaid verdict (saying_to K.faults K.written out.old out.new) status
+        × IsSaid verdict (saying_to (K.told out.old) (K.told out.new)) status
         × (result.status ≡ number_of status)
         × (verdict ≢ Verdict.NoMemory
-        → IsBucketAsked S.Store.asked verdict result.journal result.store)
+        → IsBucketAsked S.Store.told verdict result.journal result.store)
         × (number_word words.now ≡ None
-        → IsNoted met S.Store.asked verdict result.journal result.store result.note)
+        → IsNoted met S.Store.told verdict result.journal result.store result.note)
         × (IsSome (number_word words.now)
         → IsDayNoted verdict result.journal result.day) }
 
@@ -63,48 +64,50 @@ pub fn run_tool<S: Site, R: Source, K: Sink>(
     // Where an operation of the run was answered that the journal is full, the status says that, unless the sink failed: want
     // of memory is never told in its place.
     ensures full { IfSome result.note (λ note. IsFullSaid note.full
-        (saying_to K.faults K.written out.old out.new) result.status) }
+        (saying_to (K.told out.old) (K.told out.new)) result.status) }
     ensures day_full { IfSome result.day (λ note. IsFullSaid note.full
-        (saying_to K.faults K.written out.old out.new) result.status) }
+        (saying_to (K.told out.old) (K.told out.new)) result.status) }
 
     // A calm call ends as asked, unless there is no memory, a pattern of its script is too large, a block of it is refused, or
     // a task met a limit.
     ensures calm { EndsCalmly
-        (around_call IsInLine R.left R.faults script.old script.new
-        S.buckets S.next_bucket S.shelves S.next_shelf S.faults
-        (bucket_word words.now) (shelf_word words.now)
-        (block_word words.now) site.old site.new S.Store.faults S.Files.faults
+        (around_call IsInLine (outside (R.told script.old) (R.told script.new)
+        (site_call (S.told site.old) (S.told site.new) S.Store.told S.Files.told))
+        (serial_names words.now)
         result.store result.shelf result.journal)
-        (saying_to K.faults K.written out.old out.new) result.status }
+        (saying_to (K.told out.old) (K.told out.new)) result.status }
 
     // Where the words ask for the check of a block, the statuses 0 and 5 say that its line was written.
     ensures checked { (block : ℕ) → block_word words.now ≡ Some block
-        → IsCheckSaid (files_of (S.next_shelf site.old) (shelf_word words.now)) block
-        (saying_to K.faults K.written out.old out.new) result.status }
+        → IsCheckSaid
+        (files_of S.Files.told (S.told site.old) (shelf_word words.now) result.shelf) block
+        (saying_to (K.told out.old) (K.told out.new)) result.status }
 
-    ensures handed { IsHandedOut S.buckets site.old site.new result.store }
+    ensures handed { IsHandedOut (S.told site.old).buckets (S.told site.new).buckets
+        result.store }
     ensures kept { number_word words.now ≡ None
         → is_some result.journal ≡ is_some result.store }
 
     // The journal is true of the bucket that is handed back, and without an entry that is as the site opened it under the
     // name of its word.
     ensures back { number_word words.now ≡ None
-        → IsHandedBack S.Store.contents S.Store.faults result.journal result.store }
-    ensures untouched { IfSome (told_of (S.next_bucket site.old) (bucket_word words.now))
-        (λ c. IsUntouched S.Store.contents c result.journal result.store) }
+        → IsHandedBack S.Store.told result.journal result.store }
+    ensures untouched { IfSome (told_of (next_bucket (S.told site.old)) (bucket_word words.now))
+        (λ c. IsUntouched S.Store.told c result.journal result.store) }
 
     // No bucket is asked for where no word names one.
     ensures closed { bucket_word words.now ≡ None
-        → IsNotAsked S.buckets S.next_bucket site.old site.new }
+        → AsksNoBucket (S.told site.old) (S.told site.new) }
 
     // So is the shelf, and no shelf is asked for where no word names one.
-    ensures shelf { IsShelfOf S.shelves S.next_shelf S.Files.files (shelf_word words.now)
-        site.old site.new result.shelf }
+    ensures shelf { IsShelfOf S.Files.told (shelf_word words.now) (S.told site.old)
+        (S.told site.new) result.shelf }
 
     // A check asks its shelf for files of the block, each once; for all that are reached, where it says how it ended. A run
     // asks it for files of the blocks that its script takes from there, each once.
-    ensures asked { IfSome result.shelf (WasAskedFor S.Files.asked
-        (files_of (S.next_shelf site.old) (shelf_word words.now)) (R.left script.old)
+    ensures asked { IfSome result.shelf (WasAskedFor S.Files.told
+        (files_of S.Files.told (S.told site.old) (shelf_word words.now) result.shelf)
+        (R.told script.old).left
         (block_word words.now)
         (IsUndecided result.status)) }
 {
@@ -127,29 +130,30 @@ fn come_to<S: Site, R: Source>(
     script: &mut R,
 ) -> Ended<S::Store, S::Files>
     ensures cause { IsCaused
-        (around_call IsInLine R.left R.faults script.old script.new
-        S.buckets S.next_bucket S.shelves S.next_shelf S.faults
-        (bucket_word words.now) (shelf_word words.now)
-        (block_word words.now) site.old site.new S.Store.faults S.Files.faults
+        (around_call IsInLine (outside (R.told script.old) (R.told script.new)
+        (site_call (S.told site.old) (S.told site.new) S.Store.told S.Files.told))
+        (serial_names words.now)
         result.conclusion.store result.shelf result.conclusion.journal)
         result.conclusion.verdict }
-    ensures handed { IsHandedOut S.buckets site.old site.new result.conclusion.store }
+    ensures handed { IsHandedOut (S.told site.old).buckets (S.told site.new).buckets
+        result.conclusion.store }
     ensures kept { is_some result.conclusion.journal ≡ is_some result.conclusion.store }
-    ensures back { IsHandedBack S.Store.contents S.Store.faults result.conclusion.journal
+    ensures back { IsHandedBack S.Store.told result.conclusion.journal
         result.conclusion.store }
     ensures asked_bucket { result.conclusion.verdict ≢ Verdict.NoMemory
-        → IsBucketAsked S.Store.asked result.conclusion.verdict result.conclusion.journal
+        → IsBucketAsked S.Store.told result.conclusion.verdict result.conclusion.journal
         result.conclusion.store }
-    ensures untouched { IfSome (told_of (S.next_bucket site.old) (bucket_word words.now))
-        (λ c. IsUntouched S.Store.contents c result.conclusion.journal result.conclusion.store) }
+    ensures untouched { IfSome (told_of (next_bucket (S.told site.old)) (bucket_word words.now))
+        (λ c. IsUntouched S.Store.told c result.conclusion.journal result.conclusion.store) }
     ensures closed { bucket_word words.now ≡ None
-        → IsNotAsked S.buckets S.next_bucket site.old site.new }
-    ensures noted { IsNoted met S.Store.asked result.conclusion.verdict
+        → AsksNoBucket (S.told site.old) (S.told site.new) }
+    ensures noted { IsNoted met S.Store.told result.conclusion.verdict
         result.conclusion.journal result.conclusion.store result.note }
-    ensures shelf { IsShelfOf S.shelves S.next_shelf S.Files.files (shelf_word words.now)
-        site.old site.new result.shelf }
-    ensures asked { IfSome result.shelf (WasAskedFor S.Files.asked
-        (files_of (S.next_shelf site.old) (shelf_word words.now)) (R.left script.old)
+    ensures shelf { IsShelfOf S.Files.told (shelf_word words.now) (S.told site.old)
+        (S.told site.new) result.shelf }
+    ensures asked { IfSome result.shelf (WasAskedFor S.Files.told
+        (files_of S.Files.told (S.told site.old) (shelf_word words.now) result.shelf)
+        (R.told script.old).left
         (block_word words.now)
         (IsBroken result.conclusion.verdict)) }
 {
@@ -175,10 +179,9 @@ fn read_and_run<S: Site, R: Source>(
     site: &mut S,
     script: &mut R,
 ) -> Ended<S::Store, S::Files>
-    ensures { Leaves in_line (outside R.left R.faults script.old script.new
-        S.buckets S.next_bucket S.shelves S.next_shelf S.faults site.old site.new
-        S.Store.contents S.Store.faults S.Store.asked S.Files.files S.Files.faults S.Files.asked
-        bucket.now (named_by shelf.now)) result }
+    ensures { Leaves in_line (outside (R.told script.old) (R.told script.new)
+        (site_call (S.told site.old) (S.told site.new) S.Store.told S.Files.told))
+        bucket.now (named_by shelf.now) result }
 {
     match prepare(alloc, bucket, shelf, site, script, &InTurn) {
         Ok(

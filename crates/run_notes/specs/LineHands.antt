@@ -1,7 +1,6 @@
 -- What operations keep of the hand of a run whose tasks are done one after another.
-use Rattle.std.specs.Prelude.{◌≡◌, ℕ, Bool, List, Option, refl}
+use Rattle.std.specs.Prelude.{◌≡◌, Bool, refl}
 use Rattle.std.proofs.Common.{◌∙◌}
-use Rattle.bucket_core.specs.Asking.{Call}
 use Rattle.bucket_core.specs.Told.{BucketTold}
 use Rattle.world_core.specs.Asking.{KeepsAsked, asked-more, asked-none}
 use Rattle.world_core.specs.Worlds.{WorldGoesOn, WorldView, goes_on-more, goes_on-none}

@@ -7,15 +7,13 @@ use Rattle.script_workers.specs.declared.hand.Hand.TheVariants as hands
 use Rattle.script_workers.specs.declared.work.Work.{Work}
 use Rattle.script_workers.specs.declared.work.Work.TheVariants as work
 use Rattle.lifecycle_core.specs.Tasks.{End, answered, cleaned, compacted, not_asked, refused, stopped, synced, uploaded, without_view}
-use Rattle.script_running.specs.Outcomes.{AreAllParts, IsPart, call_part, clean_outcome, compact_outcome, sync_outcome, upload_outcome}
-use Rattle.script_running.specs.declared.outcome.CleanOutcome.TheVariants as clean
-use Rattle.script_running.specs.declared.outcome.CompactOutcome.TheVariants as compact
+use Rattle.script_running.specs.Outcomes.{AreAllParts, IsPart, IsWhole, Outcome, Part, call_part, sync_outcome}
 use Rattle.script_running.specs.declared.outcome.NoAnswer.TheVariants as none
-use Rattle.script_running.specs.declared.outcome.UploadOutcome.TheVariants as upload
-use Rattle.script_running.specs.declared.part.Part.{Part}
-use Rattle.script_running.specs.declared.part.Part.TheVariants as part
-use Rattle.script_running.specs.declared.part.QueryPart.{QueryPart}
-use Rattle.script_running.specs.declared.part.QueryPart.TheVariants as given
+use Rattle.script_running.specs.declared.came.Came.TheVariants as part
+use Rattle.script_running.specs.declared.came.Came.TheVariants as outcome
+use Rattle.script_running.specs.declared.came.Stop.TheVariants as halt
+use Rattle.script_running.specs.declared.outcome.QueryPart.{QueryPart}
+use Rattle.script_running.specs.declared.outcome.QueryPart.TheVariants as given
 
 one_query : (low high : ℤ) (selector : ℕ) (end : End) (one : Part) → IsPart (work.Query low high selector) end one → (own : QueryPart) × (one ≡ part.Query own)
 one_query low high selector (uploaded e) one is = absurd is
@@ -37,20 +35,24 @@ query_parts low high selector (end ∷ ends) (one ∷ parts) all =
     let rest = query_parts low high selector ends parts all.1 in
     (first.0 ∷ rest.0, ap (λ (p : Part). p ∷ parts) first.1 ∙ ap (λ (l : List Part). part.Query first.0 ∷ l) rest.1)
 
+-- one part that is the whole of its task
+whole_by : (one own : Part) (o : Outcome) → one ≡ own → IsWhole own o → (p : Part) × (q : Outcome) × (one ∷ [] ≡ p ∷ []) × IsWhole p q
+whole_by one own o is whole = (own, o, ap (λ (p : Part). p ∷ []) is, whole)
+
 one_upload : (ulid : ℕ) (stop : Option ℕ) (end : End) (one : Part) → IsPart (work.Upload ulid stop) end one → AreAllParts (work.Upload ulid stop) (one ∷ [])
-one_upload ulid stop (uploaded e) one is = (upload_outcome e, ap (λ (p : Part). p ∷ []) is)
+one_upload ulid stop (uploaded e) one is = whole_by one _ (outcome.Upload (halt.Ended e)) is refl
 one_upload ulid stop (synced e) one is = absurd is
 one_upload ulid stop (compacted e) one is = absurd is
 one_upload ulid stop (cleaned e) one is = absurd is
 one_upload ulid stop (answered used e) one is = absurd is
 one_upload ulid stop without_view one is = absurd is
 one_upload ulid stop not_asked one is = absurd is
-one_upload ulid stop (refused cause) one is = (upload.Refused cause, ap (λ (p : Part). p ∷ []) is)
-one_upload ulid stop (stopped count) one is = (upload.Stopped count, ap (λ (p : Part). p ∷ []) is)
+one_upload ulid stop (refused cause) one is = whole_by one _ (outcome.Unshipped cause) is refl
+one_upload ulid stop (stopped count) one is = whole_by one _ (outcome.Upload (halt.At count)) is refl
 
 one_sync : (gateway : ℕ) (end : End) (one : Part) → IsPart (work.Sync gateway) end one → AreAllParts (work.Sync gateway) (one ∷ [])
 one_sync gateway (uploaded e) one is = absurd is
-one_sync gateway (synced e) one is = (sync_outcome e, ap (λ (p : Part). p ∷ []) is)
+one_sync gateway (synced e) one is = whole_by one _ (outcome.Sync (sync_outcome e)) is refl
 one_sync gateway (compacted e) one is = absurd is
 one_sync gateway (cleaned e) one is = absurd is
 one_sync gateway (answered used e) one is = absurd is
@@ -62,24 +64,24 @@ one_sync gateway (stopped count) one is = absurd is
 one_compact : (stop : Option ℕ) (end : End) (one : Part) → IsPart (work.Compact stop) end one → AreAllParts (work.Compact stop) (one ∷ [])
 one_compact stop (uploaded e) one is = absurd is
 one_compact stop (synced e) one is = absurd is
-one_compact stop (compacted e) one is = (compact_outcome e, ap (λ (p : Part). p ∷ []) is)
+one_compact stop (compacted e) one is = whole_by one _ (outcome.Compact (halt.Ended e)) is refl
 one_compact stop (cleaned e) one is = absurd is
 one_compact stop (answered used e) one is = absurd is
 one_compact stop without_view one is = absurd is
 one_compact stop not_asked one is = absurd is
 one_compact stop (refused cause) one is = absurd is
-one_compact stop (stopped count) one is = (compact.Stopped count, ap (λ (p : Part). p ∷ []) is)
+one_compact stop (stopped count) one is = whole_by one _ (outcome.Compact (halt.At count)) is refl
 
 one_clean : (stop : Option ℕ) (end : End) (one : Part) → IsPart (work.Clean stop) end one → AreAllParts (work.Clean stop) (one ∷ [])
 one_clean stop (uploaded e) one is = absurd is
 one_clean stop (synced e) one is = absurd is
 one_clean stop (compacted e) one is = absurd is
-one_clean stop (cleaned e) one is = (clean_outcome e, ap (λ (p : Part). p ∷ []) is)
+one_clean stop (cleaned e) one is = whole_by one _ (outcome.Clean (halt.Ended e)) is refl
 one_clean stop (answered used e) one is = absurd is
 one_clean stop without_view one is = absurd is
 one_clean stop not_asked one is = absurd is
 one_clean stop (refused cause) one is = absurd is
-one_clean stop (stopped count) one is = (clean.Stopped count, ap (λ (p : Part). p ∷ []) is)
+one_clean stop (stopped count) one is = whole_by one _ (outcome.Clean (halt.At count)) is refl
 
 -- one who does a task alone has one end and one part
 alone_parts : (w : Work) (ends : List End) (parts : List Part) → ((end : End) (one : Part) → IsPart w end one → AreAllParts w (one ∷ [])) → length ends ≡ 1 → AllZip (IsPart w) ends parts → AreAllParts w parts

@@ -28,11 +28,10 @@ use Rattle.script_running.specs.Beside.{CameSoFar, HasRunBeside, IsCutForMemory}
 use Rattle.script_running.specs.Cutting.{AreParts, KnowsPhases, Passed}
 use Rattle.script_running.specs.Ended.{HasEnded, HaveEnded}
 use Rattle.script_running.specs.Going.{HasBrokenOff, HasFinished, HasGone, HasIdled, HasSeenFull, HasStopped, IfFull}
-use Rattle.script_running.specs.Outcomes.{PhasesCame}
+use Rattle.script_running.specs.Outcomes.{Outcome, PhasesCame}
 use Rattle.script_running.specs.Workers.{IsBrokenOff}
 use Rattle.script_running.specs.declared.came.Broken.{Broken}
 use Rattle.script_running.specs.declared.came.Broken.TheVariants as broken
-use Rattle.script_running.specs.declared.outcome.Outcome.{Outcome}
 use Rattle.script_running.specs.declared.sight.Sight.{Sight}
 use Rattle.script_running.specs.declared.worker.WorkerEnd.{WorkerEnd}
 use Rattle.script_running.proofs.Begun.{begun_more, phases_run}

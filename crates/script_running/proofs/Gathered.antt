@@ -29,15 +29,13 @@ use Rattle.script_running.specs.Begun.{AreLeft}
 use Rattle.script_running.specs.Beside.{AreSeen}
 use Rattle.script_running.specs.Ended.{HasEnded, HaveEnded}
 use Rattle.script_running.specs.Gathering.{AreSeenBeside, AreTakenIn, AreTold, IsFilled, IsToldBy, laid_in, parts_at, slot_at}
-use Rattle.script_running.specs.Outcomes.{IsPart, TaskCame, TasksCame}
+use Rattle.script_running.specs.Outcomes.{IsPart, Outcome, Part, TaskCame, TasksCame}
 use Rattle.script_running.proofs.AllParts.{all_parts}
 use Rattle.script_running.specs.Sights.{Sees}
 use Rattle.script_running.specs.Tasks.{WhenDone}
 use Rattle.script_running.specs.declared.came.Broken.{Broken}
 use Rattle.script_running.specs.Workers.{AreParts, IsBrokenOff}
 use Rattle.script_running.specs.declared.gathering.Slots.{Slots}
-use Rattle.script_running.specs.declared.outcome.Outcome.{Outcome}
-use Rattle.script_running.specs.declared.part.Part.{Part}
 use Rattle.script_running.specs.declared.sight.Sight.{Sight}
 use Rattle.script_running.specs.declared.worker.WorkerEnd.{WorkerEnd}
 

@@ -1,6 +1,6 @@
 -- What the ends of a phase's workers come to together.
 use Rattle.std.proofs.Common.{◌≡◌, ◌≢◌, Bool, true, false, ℕ, zero, suc, ◌<◌, List, [], ◌∷◌, ◌++◌, length, get_or, Option, None, Some, refl, sym, ap, ◌∙◌, subst, arith, append_assoc, append-nil}
-use Rattle.std.specs.Prelude.{IfSome, IsSome, MatchBool, Ok, Err, OnErr, OnOk, Result, slice_get, take}
+use Rattle.std.specs.Prelude.{IfOk, IfSome, IsSome, MatchBool, Ok, Err, OnErr, OnOk, Result, slice_get, take}
 use Rattle.std.specs.List.{All}
 use mathlib.Core.List.{IsPrefix}
 use Rattle.std.proofs.lemmas.List.Elements.{All-head, All-tail, All-weaker}
@@ -11,6 +11,7 @@ use Rattle.script_workers.specs.Hands.{gateway_count, hands_of}
 use Rattle.script_workers.specs.Staff.{AreSeated}
 use Rattle.script_workers.specs.declared.phase.Phase.{Phase}
 use Rattle.script_workers.specs.declared.task.Task.{Task}
+use Rattle.script_workers.specs.declared.work.Work.{Work}
 use Rattle.script_workers.specs.declared.worker.Worker.{Worker}
 use Rattle.script_workers.proofs.StaffLaws.{is_staff}
 use Rattle.script_core.proofs.SeatLaws.{are_seated}
@@ -22,14 +23,13 @@ use Rattle.lifecycle_core.specs.Setting.{Setting}
 use Rattle.lifecycle_core.specs.Tasks.{End}
 use Rattle.script_running.specs.Begun.{AreLeft}
 use Rattle.script_running.specs.Ended.{HaveEnded}
-use Rattle.script_running.specs.Gathering.{AreAllEmpty, AreEmpty, AreSeenBeside, AreTakenIn, AreTold, Gathers, HasSlot, HaveCome, slot_at, slot_in}
+use Rattle.script_running.specs.Gathering.{AreAllEmpty, AreEmpty, AreSeenBeside, AreTakenIn, AreTold, Gathers, HasSlot, HaveCome, IsToldBy, slot_at, slot_in}
 use Rattle.script_running.specs.Going.{Met}
 use Rattle.script_running.specs.declared.came.Broken.{Broken}
 use Rattle.script_running.specs.declared.came.Broken.TheVariants as broken
 use Rattle.script_running.specs.declared.gathering.Column.{Column}
 use Rattle.script_running.specs.declared.gathering.Slots.{Slots}
-use Rattle.script_running.specs.declared.outcome.Outcome.{Outcome}
-use Rattle.script_running.specs.declared.part.Part.{Part}
+use Rattle.script_running.specs.Outcomes.{AreAllParts, IsOutcomeOf, Outcome, Part}
 use Rattle.script_running.specs.declared.sight.Sight.{Sight}
 use Rattle.script_running.specs.declared.worker.WorkerEnd.{WorkerEnd}
 use Rattle.script_running.proofs.Gathered.{gathered}
@@ -144,3 +144,8 @@ told_of tasks own slots outcomes later result same told = subst (λ (l : List Ta
 -- as many gateways see something as are counted
 pub gateways_counted : (script : Script) → IsLawfulScript script → (sights : List Sight) → length sights ≡ length script.gateways → length sights ≡ gateway_count script.gateways
 gateways_counted script lawful sights each = omega (arith, each, lawful.few_gateways)
+
+-- a task's outcome is told by its parts
+pub told_if : (w : Work) (parts own : List Part) (r : Result Outcome NoMemory) → parts ≡ own → ((x : Work) → AreAllParts x parts → IfOk r (IsOutcomeOf x parts)) → IfOk r (IsToldBy w own)
+told_if w parts own (Ok o) same whole = subst (λ (l : List Part). IsToldBy w l o) same (whole w)
+told_if w parts own (Err none) same whole = tt

@@ -1,6 +1,6 @@
 -- What gateways gave to a query, one after another.
 use Rattle.std.proofs.Common.{◌≡◌, ◌≢◌, ℕ, suc, ◌+◌, ◌<◌, get_or, take, drop, Bool, true, false, List, [], ◌∷◌, ◌++◌, length, map, Option, Some, None, refl, sym, ◌∙◌, ap, subst, arith, append-nil}
-use Rattle.std.specs.Prelude.{Ok, Err, OnOk, Result, is_some, not}
+use Rattle.std.specs.Prelude.{Ok, Err, MatchResult, OnOk, Result, is_some, not}
 use Rattle.std.proofs.lemmas.List.{map-id, take-append-drop}
 use Rattle.base.proofs.Lists.{drop_place}
 use Rattle.querier.specs.Gathered.{IsGathered}
@@ -9,19 +9,14 @@ use Rattle.querier.specs.declared.answer.Names.{Names}
 use Rattle.script_workers.specs.declared.work.Work.{Work}
 use Rattle.script_workers.specs.declared.work.Work.TheVariants as work
 use Rattle.script_running.specs.Given.{HasGiven}
-use Rattle.script_running.specs.Outcomes.{AreAllParts, IsOutcomeOf, IsQueryOutcome, answers_of, first_none, names_of, or_first, why_none}
-use Rattle.script_running.specs.declared.outcome.CleanOutcome.{CleanOutcome}
-use Rattle.script_running.specs.declared.outcome.CompactOutcome.{CompactOutcome}
+use Rattle.script_running.specs.Outcomes.{AreAllParts, IsOutcomeOf, IsQueryOutcome, IsWhole, Outcome, Part, answers_of, first_none, names_of, or_first, why_none}
 use Rattle.script_running.specs.declared.outcome.NoAnswer.{NoAnswer}
-use Rattle.script_running.specs.declared.outcome.Outcome.TheVariants as outcome
+use Rattle.script_running.specs.declared.came.Came.TheVariants as outcome
 use Rattle.script_running.specs.declared.outcome.QueryOutcome.{QueryOutcome}
 use Rattle.script_running.specs.declared.outcome.QueryOutcome.TheVariants as query
-use Rattle.script_running.specs.declared.outcome.SyncOutcome.{SyncOutcome}
-use Rattle.script_running.specs.declared.outcome.UploadOutcome.{UploadOutcome}
-use Rattle.script_running.specs.declared.part.Part.{Part}
-use Rattle.script_running.specs.declared.part.Part.TheVariants as part
-use Rattle.script_running.specs.declared.part.QueryPart.{QueryPart}
-use Rattle.script_running.specs.declared.part.QueryPart.TheVariants as given
+use Rattle.script_running.specs.declared.came.Came.TheVariants as part
+use Rattle.script_running.specs.declared.outcome.QueryPart.{QueryPart}
+use Rattle.script_running.specs.declared.outcome.QueryPart.TheVariants as given
 use Rattle.script_running.specs.declared.query_parts.Given.{Given}
 use Rattle.script_running.proofs.Taking.{found}
 
@@ -176,62 +171,44 @@ same_parts (p ∷ one) (q ∷ other) is =
     ap (λ (x : QueryPart). x ∷ one) (inner p q first) ∙ ap (λ (l : List QueryPart). q ∷ l) (same_parts one other rest)
 
 -- all parts were those of gateways
+no_whole : (own : List QueryPart) (parts : List Part) (one : Part) (o : Outcome) → parts ≡ map part.Query own → parts ≡ one ∷ [] → IsWhole one o → ⊥
+no_whole [] parts one o are only whole = absurd (cc (are, only))
+no_whole (q ∷ own) parts one o are only whole =
+    let is : one ≡ part.Query q = cc (are, only) in subst (λ (p : Part). IsWhole p o) is whole
+
 pub query_whole : (own : List QueryPart) (end : QueryOutcome) (parts : List Part) → parts ≡ map part.Query own → IsQueryOutcome own end → (w : Work) → AreAllParts w parts → IsOutcomeOf w parts (outcome.Query end)
-query_whole [] end parts are is (work.Upload ulid stop) (one, only) = absurd (cc (are, only))
-query_whole (p ∷ own) end parts are is (work.Upload ulid stop) (one, only) = absurd (cc (are, only))
-query_whole [] end parts are is (work.Sync gateway) (one, only) = absurd (cc (are, only))
-query_whole (p ∷ own) end parts are is (work.Sync gateway) (one, only) = absurd (cc (are, only))
-query_whole [] end parts are is (work.Compact stop) (one, only) = absurd (cc (are, only))
-query_whole (p ∷ own) end parts are is (work.Compact stop) (one, only) = absurd (cc (are, only))
-query_whole [] end parts are is (work.Clean stop) (one, only) = absurd (cc (are, only))
-query_whole (p ∷ own) end parts are is (work.Clean stop) (one, only) = absurd (cc (are, only))
+query_whole own end parts are is (work.Upload ulid stop) (one, o, only, whole) = absurd (no_whole own parts one o are only whole)
+query_whole own end parts are is (work.Sync gateway) (one, o, only, whole) = absurd (no_whole own parts one o are only whole)
+query_whole own end parts are is (work.Compact stop) (one, o, only, whole) = absurd (no_whole own parts one o are only whole)
+query_whole own end parts are is (work.Clean stop) (one, o, only, whole) = absurd (no_whole own parts one o are only whole)
 query_whole own end parts are is (work.Query low high selector) all = (own, end, are, is, refl)
 
--- one of them was not a gateway's part of a query
-abbrev IsAlone : Part → Type 0
-IsAlone one = (q : QueryPart) → one ≢ part.Query q
+-- the whole of a task is no gateway's part of a query
+not_query : (one : Part) (o : Outcome) (q : QueryPart) → IsWhole one o → one ≢ part.Query q
+not_query one o q whole = λ is. subst (λ (p : Part). IsWhole p o) is whole
 
-not_all : (own others : List QueryPart) (one : Part) (rest : List Part) → IsAlone one → map part.Query own ++ one ∷ rest ≡ map part.Query others → ⊥
-not_all [] [] one rest alone is = absurd (cc (is))
-not_all [] (q ∷ others) one rest alone is = alone q (cc (is))
-not_all (p ∷ own) [] one rest alone is = absurd (cc (is))
-not_all (p ∷ own) (q ∷ others) one rest alone is = not_all own others one rest alone (cc (is))
+not_all : (own others : List QueryPart) (one : Part) (o : Outcome) (rest : List Part) → IsWhole one o → map part.Query own ++ one ∷ rest ≡ map part.Query others → ⊥
+not_all [] [] one o rest whole is = absurd (cc (is))
+not_all [] (q ∷ others) one o rest whole is = not_query one o q whole (cc (is))
+not_all (p ∷ own) [] one o rest whole is = absurd (cc (is))
+not_all (p ∷ own) (q ∷ others) one o rest whole is = not_all own others one o rest whole (cc (is))
 
-only_one : (own : List QueryPart) (one other : Part) (rest parts : List Part) → parts ≡ map part.Query own ++ one ∷ rest → parts ≡ other ∷ [] → IsAlone other → one ≡ other
-only_one [] one other rest parts are only alone = cc (are, only)
-only_one (p ∷ own) one other rest parts are only alone = absurd (alone p (cc (are, only)))
+only_one : (own : List QueryPart) (one other : Part) (o : Outcome) (rest parts : List Part) → parts ≡ map part.Query own ++ one ∷ rest → parts ≡ other ∷ [] → IsWhole other o → one ≡ other
+only_one [] one other o rest parts are only whole = cc (are, only)
+only_one (p ∷ own) one other o rest parts are only whole = absurd (not_query other o p whole (cc (are, only)))
 
--- it was an upload's
-upload_whole : (own : List QueryPart) (end : UploadOutcome) (rest parts : List Part) → parts ≡ map part.Query own ++ part.Upload end ∷ rest → (w : Work) → AreAllParts w parts → IsOutcomeOf w parts (outcome.Upload end)
-upload_whole own end rest parts are (work.Upload ulid stop) (one, only) = let same = only_one own (part.Upload end) (part.Upload one) rest parts are only (λ q is. absurd (cc (is))) in let inner : end ≡ one = cc (same) in (one, only, ap outcome.Upload inner)
-upload_whole own end rest parts are (work.Sync gateway) (one, only) = let same = only_one own (part.Upload end) (part.Sync one) rest parts are only (λ q is. absurd (cc (is))) in absurd (cc (same))
-upload_whole own end rest parts are (work.Compact stop) (one, only) = let same = only_one own (part.Upload end) (part.Compact one) rest parts are only (λ q is. absurd (cc (is))) in absurd (cc (same))
-upload_whole own end rest parts are (work.Clean stop) (one, only) = let same = only_one own (part.Upload end) (part.Clean one) rest parts are only (λ q is. absurd (cc (is))) in absurd (cc (same))
-upload_whole own end rest parts are (work.Query low high selector) (others, all) = absurd (not_all own others (part.Upload end) rest (λ q is. absurd (cc (is))) (sym are ∙ all))
+alone_whole : (own : List QueryPart) (one : Part) (o : Outcome) (rest parts : List Part) → parts ≡ map part.Query own ++ one ∷ rest → IsWhole one o
+    → (other : Part) (p : Outcome) → parts ≡ other ∷ [] → IsWhole other p → (x : Part) × (parts ≡ x ∷ []) × IsWhole x o
+alone_whole own one o rest parts are whole other p only also =
+    (other, only, subst (λ (x : Part). IsWhole x o) (only_one own one other p rest parts are only also) whole)
 
--- it was a sync's
-sync_whole : (own : List QueryPart) (end : SyncOutcome) (rest parts : List Part) → parts ≡ map part.Query own ++ part.Sync end ∷ rest → (w : Work) → AreAllParts w parts → IsOutcomeOf w parts (outcome.Sync end)
-sync_whole own end rest parts are (work.Upload ulid stop) (one, only) = let same = only_one own (part.Sync end) (part.Upload one) rest parts are only (λ q is. absurd (cc (is))) in absurd (cc (same))
-sync_whole own end rest parts are (work.Sync gateway) (one, only) = let same = only_one own (part.Sync end) (part.Sync one) rest parts are only (λ q is. absurd (cc (is))) in let inner : end ≡ one = cc (same) in (one, only, ap outcome.Sync inner)
-sync_whole own end rest parts are (work.Compact stop) (one, only) = let same = only_one own (part.Sync end) (part.Compact one) rest parts are only (λ q is. absurd (cc (is))) in absurd (cc (same))
-sync_whole own end rest parts are (work.Clean stop) (one, only) = let same = only_one own (part.Sync end) (part.Clean one) rest parts are only (λ q is. absurd (cc (is))) in absurd (cc (same))
-sync_whole own end rest parts are (work.Query low high selector) (others, all) = absurd (not_all own others (part.Sync end) rest (λ q is. absurd (cc (is))) (sym are ∙ all))
-
--- it was a compaction's
-compact_whole : (own : List QueryPart) (end : CompactOutcome) (rest parts : List Part) → parts ≡ map part.Query own ++ part.Compact end ∷ rest → (w : Work) → AreAllParts w parts → IsOutcomeOf w parts (outcome.Compact end)
-compact_whole own end rest parts are (work.Upload ulid stop) (one, only) = let same = only_one own (part.Compact end) (part.Upload one) rest parts are only (λ q is. absurd (cc (is))) in absurd (cc (same))
-compact_whole own end rest parts are (work.Sync gateway) (one, only) = let same = only_one own (part.Compact end) (part.Sync one) rest parts are only (λ q is. absurd (cc (is))) in absurd (cc (same))
-compact_whole own end rest parts are (work.Compact stop) (one, only) = let same = only_one own (part.Compact end) (part.Compact one) rest parts are only (λ q is. absurd (cc (is))) in let inner : end ≡ one = cc (same) in (one, only, ap outcome.Compact inner)
-compact_whole own end rest parts are (work.Clean stop) (one, only) = let same = only_one own (part.Compact end) (part.Clean one) rest parts are only (λ q is. absurd (cc (is))) in absurd (cc (same))
-compact_whole own end rest parts are (work.Query low high selector) (others, all) = absurd (not_all own others (part.Compact end) rest (λ q is. absurd (cc (is))) (sym are ∙ all))
-
--- it was a cleaning's
-clean_whole : (own : List QueryPart) (end : CleanOutcome) (rest parts : List Part) → parts ≡ map part.Query own ++ part.Clean end ∷ rest → (w : Work) → AreAllParts w parts → IsOutcomeOf w parts (outcome.Clean end)
-clean_whole own end rest parts are (work.Upload ulid stop) (one, only) = let same = only_one own (part.Clean end) (part.Upload one) rest parts are only (λ q is. absurd (cc (is))) in absurd (cc (same))
-clean_whole own end rest parts are (work.Sync gateway) (one, only) = let same = only_one own (part.Clean end) (part.Sync one) rest parts are only (λ q is. absurd (cc (is))) in absurd (cc (same))
-clean_whole own end rest parts are (work.Compact stop) (one, only) = let same = only_one own (part.Clean end) (part.Compact one) rest parts are only (λ q is. absurd (cc (is))) in absurd (cc (same))
-clean_whole own end rest parts are (work.Clean stop) (one, only) = let same = only_one own (part.Clean end) (part.Clean one) rest parts are only (λ q is. absurd (cc (is))) in let inner : end ≡ one = cc (same) in (one, only, ap outcome.Clean inner)
-clean_whole own end rest parts are (work.Query low high selector) (others, all) = absurd (not_all own others (part.Clean end) rest (λ q is. absurd (cc (is))) (sym are ∙ all))
+-- one of them was the whole of its task
+first_whole : (own : List QueryPart) (one : Part) (o : Outcome) (rest parts : List Part) → parts ≡ map part.Query own ++ one ∷ rest → IsWhole one o → (w : Work) → AreAllParts w parts → IsOutcomeOf w parts o
+first_whole own one o rest parts are whole (work.Upload ulid stop) (other, p, only, also) = alone_whole own one o rest parts are whole other p only also
+first_whole own one o rest parts are whole (work.Sync gateway) (other, p, only, also) = alone_whole own one o rest parts are whole other p only also
+first_whole own one o rest parts are whole (work.Compact stop) (other, p, only, also) = alone_whole own one o rest parts are whole other p only also
+first_whole own one o rest parts are whole (work.Clean stop) (other, p, only, also) = alone_whole own one o rest parts are whole other p only also
+first_whole own one o rest parts are whole (work.Query low high selector) (others, all) = absurd (not_all own others one o rest whole (sym are ∙ all))
 
 -- the part that comes next is the first of those that are left
 parts_here : (parts yielded : List Part) (x : Part) → map (λ (y : Part). y) yielded ≡ take (length yielded) parts → (length yielded < length parts) × (x ≡ get_or parts (length yielded) x) → parts ≡ yielded ++ x ∷ drop (length yielded + 1) parts
@@ -239,23 +216,17 @@ parts_here parts yielded x so_far turn =
     let at = drop_place parts (length yielded) x (found parts (length yielded) (length yielded) x refl turn.0 turn.1) in
     sym (take-append-drop (length yielded) parts) ∙ ap (λ (l : List Part). l ++ drop (length yielded) parts) (sym so_far ∙ map-id yielded) ∙ ap (λ (l : List Part). yielded ++ l) at
 
-next_is : (own : List QueryPart) (parts yielded : List Part) (x one : Part) → x ≡ one → yielded ≡ map part.Query own → map (λ (y : Part). y) yielded ≡ take (length yielded) parts → (length yielded < length parts) × (x ≡ get_or parts (length yielded) x)
-    → parts ≡ map part.Query own ++ one ∷ drop (length yielded + 1) parts
-next_is own parts yielded x one is are so_far turn =
-    parts_here parts yielded x so_far turn ∙ ap (λ (l : List Part). l ++ x ∷ drop (length yielded + 1) parts) are ∙ ap (λ (y : Part). map part.Query own ++ y ∷ drop (length yielded + 1) parts) is
+pub whole_here : (own : List QueryPart) (o : Outcome) (parts yielded : List Part) (one : Part) → IsWhole one o → yielded ≡ map part.Query own → map (λ (y : Part). y) yielded ≡ take (length yielded) parts → (length yielded < length parts) × (one ≡ get_or parts (length yielded) one)
+    → (w : Work) → AreAllParts w parts → IsOutcomeOf w parts o
+whole_here own o parts yielded one whole are so_far turn =
+    first_whole own one o (drop (length yielded + 1) parts) parts
+    (parts_here parts yielded one so_far turn ∙ ap (λ (l : List Part). l ++ one ∷ drop (length yielded + 1) parts) are) whole
 
-pub upload_here : (own : List QueryPart) (end : UploadOutcome) (parts yielded : List Part) (x : Part) → x ≡ part.Upload end → yielded ≡ map part.Query own → map (λ (y : Part). y) yielded ≡ take (length yielded) parts → (length yielded < length parts) × (x ≡ get_or parts (length yielded) x)
-    → (w : Work) → AreAllParts w parts → IsOutcomeOf w parts (outcome.Upload end)
-upload_here own end parts yielded x is are so_far turn = upload_whole own end (drop (length yielded + 1) parts) parts (next_is own parts yielded x (part.Upload end) is are so_far turn)
+-- what was taken for a gateway's part, or for the whole of a task
+pub is_whole : (one : Part) (r : Result QueryPart Outcome) (o : Outcome) → MatchResult r (λ own. one ≡ part.Query own) (IsWhole one) → r ≡ Err o → IsWhole one o
+is_whole one (Ok own) o tells is = absurd (cc (is))
+is_whole one (Err p) o tells is = let same : p ≡ o = cc (is) in subst (IsWhole one) same tells
 
-pub sync_here : (own : List QueryPart) (end : SyncOutcome) (parts yielded : List Part) (x : Part) → x ≡ part.Sync end → yielded ≡ map part.Query own → map (λ (y : Part). y) yielded ≡ take (length yielded) parts → (length yielded < length parts) × (x ≡ get_or parts (length yielded) x)
-    → (w : Work) → AreAllParts w parts → IsOutcomeOf w parts (outcome.Sync end)
-sync_here own end parts yielded x is are so_far turn = sync_whole own end (drop (length yielded + 1) parts) parts (next_is own parts yielded x (part.Sync end) is are so_far turn)
-
-pub compact_here : (own : List QueryPart) (end : CompactOutcome) (parts yielded : List Part) (x : Part) → x ≡ part.Compact end → yielded ≡ map part.Query own → map (λ (y : Part). y) yielded ≡ take (length yielded) parts → (length yielded < length parts) × (x ≡ get_or parts (length yielded) x)
-    → (w : Work) → AreAllParts w parts → IsOutcomeOf w parts (outcome.Compact end)
-compact_here own end parts yielded x is are so_far turn = compact_whole own end (drop (length yielded + 1) parts) parts (next_is own parts yielded x (part.Compact end) is are so_far turn)
-
-pub clean_here : (own : List QueryPart) (end : CleanOutcome) (parts yielded : List Part) (x : Part) → x ≡ part.Clean end → yielded ≡ map part.Query own → map (λ (y : Part). y) yielded ≡ take (length yielded) parts → (length yielded < length parts) × (x ≡ get_or parts (length yielded) x)
-    → (w : Work) → AreAllParts w parts → IsOutcomeOf w parts (outcome.Clean end)
-clean_here own end parts yielded x is are so_far turn = clean_whole own end (drop (length yielded + 1) parts) parts (next_is own parts yielded x (part.Clean end) is are so_far turn)
+pub is_query : (one : Part) (r : Result QueryPart Outcome) (own : QueryPart) → MatchResult r (λ own. one ≡ part.Query own) (IsWhole one) → r ≡ Ok own → one ≡ part.Query own
+is_query one (Ok p) own tells is = let same : p ≡ own = cc (is) in tells ∙ ap part.Query same
+is_query one (Err o) own tells is = absurd (cc (is))

@@ -46,13 +46,12 @@ use Rattle.script_running.specs.Cutting.{KnowsPhases, Passed}
 use Rattle.script_running.specs.Ended.{AreInRow, HaveEnded, IsPostOf}
 use Rattle.script_running.specs.Gathering.{HaveOwnGateways, Gathers}
 use Rattle.script_running.specs.Going.{HasCome, HasGone, HasSeenFull, HasStopped, IfFull, IsClockSet, Met}
-use Rattle.script_running.specs.Outcomes.{PhasesCame, TasksCame}
+use Rattle.script_running.specs.Outcomes.{Outcome, PhasesCame, TasksCame}
 use Rattle.script_running.specs.Lending.{Loan}
 use Rattle.script_running.specs.Shelves.{setting_by}
 use Rattle.script_running.specs.Workers.{IsAtWork, MayWork, Post}
 use Rattle.script_running.specs.declared.came.Broken.{Broken}
 use Rattle.script_running.specs.declared.came.Broken.TheVariants as broken
-use Rattle.script_running.specs.declared.outcome.Outcome.{Outcome}
 use Rattle.script_running.specs.declared.shelf.ShelfBlock.{ShelfBlock}
 use Rattle.script_running.specs.declared.sight.Sight.{Sight}
 use Rattle.script_running.specs.declared.worker.WorkerEnd.{WorkerEnd}

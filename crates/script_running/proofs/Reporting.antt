@@ -9,7 +9,7 @@ use Rattle.script_workers.specs.declared.task.Task.{Task}
 use Rattle.script_running.specs.Reporting.{HasToldFirst, TellsFirst}
 use Rattle.script_running.specs.declared.came.Broken.{Broken}
 use Rattle.script_running.specs.declared.came.Broken.TheVariants as broken
-use Rattle.script_running.specs.declared.outcome.Outcome.{Outcome}
+use Rattle.script_running.specs.Outcomes.{Outcome}
 
 abbrev pub tasks_in : List Phase → List Task
 tasks_in phases = flat_map (λ (phase : Phase). phase.tasks) phases

@@ -18,7 +18,7 @@ use Rattle.lifecycle_core.proofs.phases.Fronts.{script_is_cut_well}
 use Rattle.script_running.specs.Beside.{HasRunBeside}
 use Rattle.script_running.specs.Going.{HasCome, HasGone}
 use Rattle.script_running.specs.declared.came.Broken.{Broken}
-use Rattle.script_running.specs.declared.outcome.Outcome.{Outcome}
+use Rattle.script_running.specs.Outcomes.{Outcome}
 use Rattle.script_running.proofs.Closing.{all_ran, all_stopped}
 use Rattle.script_running.proofs.Going.{gone_none}
 use Rattle.script_running.specs.Sights.{no_sight}

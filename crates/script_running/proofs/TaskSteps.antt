@@ -34,15 +34,15 @@ use Rattle.lifecycle_core.specs.Setting.{Setting}
 use Rattle.lifecycle_core.specs.Tasks.{End, PartTask, QueryTask, ShipTask, StoppedRun, TaskRun, answered, ask_to, called_with, cleaned, compacted, not_asked, question_of, sync_rules, synced, synced_with, without_view}
 use Rattle.lifecycle_core.proofs.phases.GatewayParts.{ask_partition}
 use Rattle.lifecycle_core.specs.Ways.{IsDueAfter}
-use Rattle.script_running.specs.Drives.{Came}
+use Rattle.script_running.specs.Outcomes.{Part}
 use Rattle.script_running.proofs.Calls.{Called}
 use Rattle.script_running.specs.Sights.{Sees, cache_of}
 use Rattle.script_running.specs.Tasks.{Adds, Answers, CameBy, Does, HasAsked, HasDone, WhenDone, WhenFull, view_by}
 use Rattle.script_running.specs.declared.came.Broken.{Broken}
 use Rattle.script_running.specs.declared.came.Broken.TheVariants as broken
 use Rattle.script_running.specs.declared.outcome.NoAnswer.TheVariants as none
-use Rattle.script_running.specs.declared.part.Part.TheVariants as part
-use Rattle.script_running.specs.declared.part.QueryPart.TheVariants as given
+use Rattle.script_running.specs.declared.came.Came.TheVariants as part
+use Rattle.script_running.specs.declared.outcome.QueryPart.TheVariants as given
 use Rattle.script_running.specs.declared.sight.Sight.{Sight}
 
 pub when_full : {X : Type 0} (came : Result X Broken) (P Q : Type 0) → (P → Q) → WhenFull came P → WhenFull came Q
@@ -58,7 +58,7 @@ pub due_by : {E F : Type 0} (one : List Entry → E → Type 0) (other : List En
     → IsDueAfter one seat made → IsDueAfter other seat made
 due_by one other seat made runs d = (d.0, d.1, λ seen answer. let next = d.2 seen answer in runs (made ++ entry_of seat d.0 seen ∷ []) next.0 next.1)
 
-module _ (setting : Setting) (who : Who) (place : ℕ) (held : Holding) (seat : ℕ) (old new : List Entry) (came : Came) where
+module _ (setting : Setting) (who : Who) (place : ℕ) (held : Holding) (seat : ℕ) (old new : List Entry) (came : Result Part Broken) where
   -- a run of an activity, with the end that it is for the task
   by_run : {E : Type 0} (work : Work) (is_run : List Entry → E → Type 0) (as_end : E → Option End) (end : E) (after : Holding) (sight : Sight) → (a : Adds is_run seat old new end came)
       → ((made : List Entry) (e : E) → is_run made e → Does setting who place work held made (as_end e)) → TaskRun setting who place work held a.made (as_end end) after → WhenDone came (Sees after sight) → CameBy work (as_end end) came
@@ -154,7 +154,7 @@ call_run used held view asked cache made own is same kept run =
     (own, subst (λ (v : View). SeriesRun v asked held.cache made own) (sym same) (subst (λ (x : Cache). SeriesRun view asked x made own) (sym kept) run), refl, refl)
 
 -- a call's end is that of any query
-any_query : (used : Use) (end : Option CallEnd) (came : Came) → CameBy (works.Query (pos 0) (pos 0) 0) (option_map (λ (call : CallEnd). answered used call.end) end) came → (low high : ℤ) (selector : ℕ)
+any_query : (used : Use) (end : Option CallEnd) (came : Result Part Broken) → CameBy (works.Query (pos 0) (pos 0) 0) (option_map (λ (call : CallEnd). answered used call.end) end) came → (low high : ℤ) (selector : ℕ)
     → CameBy (works.Query low high selector) (option_map (λ (call : CallEnd). answered used call.end) end) came
 any_query used (Some end) (Ok own) is low high selector = is
 any_query used (Some end) (Err broken.Full) is low high selector = absurd is
@@ -164,14 +164,14 @@ any_query used None (Err broken.Full) is low high selector = tt
 any_query used None (Err broken.NoMemory) is low high selector = tt
 
 -- by what a gateway sees after its call
-sight_left : (held : Holding) (before after : Sight) (used : Use) (own : Option CallEnd) (came : Came) → CameBy (works.Query (pos 0) (pos 0) 0) (option_map (λ (call : CallEnd). answered used call.end) own) came
+sight_left : (held : Holding) (before after : Sight) (used : Use) (own : Option CallEnd) (came : Result Part Broken) → CameBy (works.Query (pos 0) (pos 0) 0) (option_map (λ (call : CallEnd). answered used call.end) own) came
     → IfSome own (λ (call : CallEnd). call.cache ≡ cache_of after.cache) → Sees held before → after.view ≡ before.view → WhenDone came (Sees (called_with held own) after)
 sight_left held before after used (Some call) (Ok o) by left sees same = record { view_is = sees.view_is ∙ sym same; cache_is = left }
 sight_left held before after used None (Ok o) by left sees same = absurd by
 sight_left held before after used own (Err why) by left sees same = tt
 
 -- one with a view answers by a call over it
-pub call_asked : (held : Holding) (asked : Question) (seat : ℕ) (old new : List Entry) (came : Came) (before after : Sight) (view : View) (cache : Cache) → before.view ≡ Some view → after.view ≡ before.view → cache ≡ cache_of before.cache
+pub call_asked : (held : Holding) (asked : Question) (seat : ℕ) (old new : List Entry) (came : Result Part Broken) (before after : Sight) (view : View) (cache : Cache) → before.view ≡ Some view → after.view ≡ before.view → cache ≡ cache_of before.cache
     → ((used : Use) (low high : ℤ) (selector : ℕ) → Called view asked cache seat old new used low high selector after.cache came)
     → Sees held before → HasAsked held asked seat old new after came
 call_asked held asked seat old new came before after view cache is same kept ran sees =
@@ -240,7 +240,7 @@ question_is : (setting : Setting) (selector : ℕ) (ask : Ask) (matchers : List 
     → question_of setting selector ask ≡ Some (asking matchers setting.script.rules.replicas ask.low ask.high)
 question_is setting selector ask matchers at = ap (λ o. option_map (λ (m : List Matcher). asking m setting.script.rules.replicas ask.low ask.high) o) at
 
-pub asked_done : (setting : Setting) (who : Who) (place : ℕ) (held : Holding) (seat : ℕ) (old new : List Entry) (came : Came) (sight : Sight) (low high : ℤ) (selector : ℕ) (gateway : Option ℕ) (ask : Ask) (matchers : List Matcher)
+pub asked_done : (setting : Setting) (who : Who) (place : ℕ) (held : Holding) (seat : ℕ) (old new : List Entry) (came : Result Part Broken) (sight : Sight) (low high : ℤ) (selector : ℕ) (gateway : Option ℕ) (ask : Ask) (matchers : List Matcher)
     → who.gateway ≡ gateway → ask_to setting gateway low high ≡ Some ask → slice_get setting.script.selectors selector ≡ Some matchers
     → HasAsked held (asking matchers setting.script.rules.replicas ask.low ask.high) seat old new sight came
     → HasDone setting who place (works.Query low high selector) held seat old new sight came
@@ -295,20 +295,8 @@ pub asked_where : (setting : Setting) (gateway : Option ℕ) (low low' high high
 asked_where setting gateway low low' high high' asked own l h is so =
     subst (λ (x : ℤ). ask_to setting gateway x high' ≡ own) l (subst (λ (y : ℤ). ask_to setting gateway low y ≡ own) h (sym is ∙ so))
 
--- numbers that were passed on are the same
-pub asked_told : (view : View) (matchers : List Matcher) (replicas : List (List ℕ)) (cache : Cache) (low low' high high' : ℤ) (seat : ℕ) (old new : List Entry) (used : Use) (line_low line_high : ℤ) (number : ℕ) (left : Option IndexCache) (came : Came) → low ≡ low' → high ≡ high'
-    → Called view (asking matchers replicas low high) cache seat old new used line_low line_high number left came → Called view (asking matchers replicas low' high') cache seat old new used line_low line_high number left came
-asked_told view matchers replicas cache low low' high high' seat old new used line_low line_high number left came l h ran =
-    subst (λ (x : ℤ). Called view (asking matchers replicas x high') cache seat old new used line_low line_high number left came) l
-    (subst (λ (y : ℤ). Called view (asking matchers replicas low y) cache seat old new used line_low line_high number left came) h ran)
-
-pub asked_so : (held : Holding) (matchers : List Matcher) (replicas : List (List ℕ)) (low low' high high' : ℤ) (seat : ℕ) (old new : List Entry) (sight : Sight) (came : Came) → low ≡ low' → high ≡ high'
-    → HasAsked held (asking matchers replicas low high) seat old new sight came → HasAsked held (asking matchers replicas low' high') seat old new sight came
-asked_so held matchers replicas low low' high high' seat old new sight came l h asked =
-    subst (λ (x : ℤ). HasAsked held (asking matchers replicas x high') seat old new sight came) l (subst (λ (y : ℤ). HasAsked held (asking matchers replicas low y) seat old new sight came) h asked)
-
 -- a selector and rules that are the same
-pub asked_again : (held : Holding) (matchers own : List Matcher) (rules its : Rules) (low high : ℤ) (seat : ℕ) (old new : List Entry) (sight : Sight) (came : Came) → matchers ≡ own → rules ≡ its
+pub asked_again : (held : Holding) (matchers own : List Matcher) (rules its : Rules) (low high : ℤ) (seat : ℕ) (old new : List Entry) (sight : Sight) (came : Result Part Broken) → matchers ≡ own → rules ≡ its
     → HasAsked held (asking matchers rules.replicas low high) seat old new sight came → HasAsked held (asking own its.replicas low high) seat old new sight came
 asked_again held matchers own rules its low high seat old new sight came same are asked =
     subst (λ (r : Rules). HasAsked held (asking own r.replicas low high) seat old new sight came) are (subst (λ (m : List Matcher). HasAsked held (asking m rules.replicas low high) seat old new sight came) same asked)
@@ -322,12 +310,6 @@ upto_range low high one other = omega (arith, ints, one, other)
 
 pub from_range : (low high : ℤ) → neg_ℤ (pos (2 ^ 62)) ≤ℤ low → low ≤ℤ high → neg_ℤ (pos (2 ^ 62)) ≤ℤ high
 from_range low high one other = omega (arith, ints, one, other)
-
-pub query_done : (setting : Setting) (who : Who) (place : ℕ) (held : Holding) (work : Work) (seat : ℕ) (old new : List Entry) (sight : Sight) (came : Came) (low low' high high' : ℤ) (number : ℕ) → low ≡ low' → high ≡ high'
-    → work ≡ works.Query low' high' number → HasDone setting who place (works.Query low high number) held seat old new sight came → HasDone setting who place work held seat old new sight came
-query_done setting who place held work seat old new sight came low low' high high' number l h w done =
-    let is : works.Query low high number ≡ work = ap (λ x. works.Query x high number) l ∙ ap (λ y. works.Query low' y number) h ∙ sym w in
-    subst (λ (x : Work). HasDone setting who place x held seat old new sight came) is done
 
 -- ---- the times that a gateway is asked fit their numbers
 

@@ -16,8 +16,7 @@ use Rattle.script_workers.specs.declared.work.Work.TheVariants as works
 use Rattle.script_running.specs.Gathering.{AreTold, IsTakenAt, IsToldBy, laid_in, parts_at, slot_at, slot_in}
 use Rattle.script_running.specs.declared.gathering.Column.{Column}
 use Rattle.script_running.specs.declared.gathering.Slots.{Slots}
-use Rattle.script_running.specs.declared.outcome.Outcome.{Outcome}
-use Rattle.script_running.specs.declared.part.Part.{Part}
+use Rattle.script_running.specs.Outcomes.{Outcome, Part}
 use Rattle.script_running.proofs.AllParts.{few_parts}
 use Rattle.script_running.proofs.Taking.{found, same_or, set_here}
 

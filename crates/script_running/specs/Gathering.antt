@@ -2,6 +2,8 @@
 use Rattle.std.specs.Prelude.{◌≡◌, ◌≢◌, ◌⊎◌, ℕ, ◌+◌, ◌<◌, List, [], ◌∷◌, ◌++◌, length, All, Contains, Option, Some, None, IsSome, Result, Ok, Err, slice_get}
 use Rattle.std.specs.List.{flat_map, zip}
 use mathlib.Core.List.{IsPrefix}
+use Rattle.script_core.specs.Lawful.{IsLawfulScript}
+use Rattle.script_core.specs.Workers.{workers_of}
 use Rattle.script_workers.specs.Hands.{gateway_of, hands_of_task}
 use Rattle.script_workers.specs.declared.phase.Phase.{Phase}
 use Rattle.script_workers.specs.declared.task.Task.{Task}
@@ -13,14 +15,13 @@ use Rattle.lifecycle_core.specs.Setting.{Setting}
 use Rattle.lifecycle_core.specs.Tasks.{End}
 use Rattle.script_running.specs.Beside.{AreSeen}
 use Rattle.script_running.specs.Going.{Met}
-use Rattle.script_running.specs.Outcomes.{AreAllParts, IsOutcomeOf, TasksCame}
+use Rattle.script_running.specs.Outcomes.{AreAllParts, IsOutcomeOf, Outcome, Part, TasksCame}
 use Rattle.script_running.specs.Sights.{Sees, no_sight}
 use Rattle.script_running.specs.declared.came.Broken.{Broken}
 use Rattle.script_running.specs.declared.came.Broken.TheVariants as broken
-use Rattle.script_running.specs.declared.outcome.Outcome.{Outcome}
 use Rattle.script_running.specs.declared.gathering.Column.{Column}
 use Rattle.script_running.specs.declared.gathering.Slots.{Slots}
-use Rattle.script_running.specs.declared.part.Part.{Part}
+use Rattle.script_running.specs.declared.gathering.Staffed.{Staffed}
 use Rattle.script_running.specs.declared.sight.Sight.{Sight}
 use Rattle.script_running.specs.declared.worker.WorkerEnd.{WorkerEnd}
 
@@ -35,6 +36,13 @@ Gathers setting phase workers ends others after sights old new (Ok done) =
     AreDone workers ends × AreSeen after sights × ((own : List Outcome) × (new ≡ old ++ own) × TasksCame setting.script workers ends 0 phase.tasks own)
 Gathers setting phase workers ends others after sights old new (Err why) =
     (new ≡ old) × Met why others
+
+-- the phase of this number, and the workers who do its tasks
+pub record IsPhaseOf (setting : Setting) (number : ℕ) (phase : Phase) (staffed : Staffed) : Type 0 where
+  pub lawful : IsLawfulScript setting.script
+  pub at : slice_get setting.script.phases number ≡ Some phase
+  pub tasks : staffed.tasks.now ≡ phase.tasks
+  pub workers : staffed.workers.now ≡ workers_of setting.script number
 
 -- outcomes were added, or none
 abbrev pub AreMore : List Outcome → List Outcome → Type 0

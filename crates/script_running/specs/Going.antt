@@ -19,10 +19,9 @@ use Rattle.script_running.specs.Begun.{WereBegun}
 use Rattle.script_running.specs.Beside.{AreSeen}
 use Rattle.script_running.specs.Cutting.{KnowsPhases, Passed}
 use Rattle.script_running.specs.Ended.{AreInRow, HaveEnded}
-use Rattle.script_running.specs.Outcomes.{PhasesCame}
+use Rattle.script_running.specs.Outcomes.{Outcome, PhasesCame}
 use Rattle.script_running.specs.declared.came.Broken.{Broken}
 use Rattle.script_running.specs.declared.came.Broken.TheVariants as broken
-use Rattle.script_running.specs.declared.outcome.Outcome.{Outcome}
 use Rattle.script_running.specs.declared.sight.Sight.{Sight}
 use Rattle.script_running.specs.declared.worker.WorkerEnd.{WorkerEnd}
 

@@ -15,4 +15,7 @@ pub mod Gathering
 pub mod Reporting
 pub use Rattle.world_core.specs.Machines
 pub use Rattle.world_core.specs.Keeping
+pub use Rattle.shipper
+pub use Rattle.compactor
+pub use Rattle.cleaner
 pub use Rattle.lifecycle_core

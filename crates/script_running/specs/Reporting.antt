@@ -6,7 +6,7 @@ use Rattle.script_workers.specs.declared.phase.Phase.{Phase}
 use Rattle.script_workers.specs.declared.task.Task.{Task}
 use Rattle.script_running.specs.declared.came.Broken.{Broken}
 use Rattle.script_running.specs.declared.came.Broken.TheVariants as broken
-use Rattle.script_running.specs.declared.outcome.Outcome.{Outcome}
+use Rattle.script_running.specs.Outcomes.{Outcome}
 
 -- the report tells how the tasks of some first phases came out, and of no others
 abbrev pub TellsFirst : {P : Type 0} → (P → Script → List Task → List Outcome → Type 0) → Script → P → List Outcome → Type 0

@@ -14,8 +14,7 @@ use Rattle.lifecycle_core.specs.Holdings.{Holding}
 use Rattle.lifecycle_core.specs.Setting.{Setting}
 use Rattle.lifecycle_core.specs.Tasks.{End, QueryTask, TaskRun}
 use Rattle.lifecycle_core.specs.Ways.{IsDueAfter}
-use Rattle.script_running.specs.Drives.{Came}
-use Rattle.script_running.specs.Outcomes.{IsPart}
+use Rattle.script_running.specs.Outcomes.{IsPart, Part}
 use Rattle.script_running.specs.Sights.{Sees}
 use Rattle.script_running.specs.declared.came.Broken.{Broken}
 use Rattle.script_running.specs.declared.came.Broken.TheVariants as broken
@@ -42,8 +41,14 @@ is_full_came (Ok x) = false
 is_full_came (Err broken.Full) = true
 is_full_came (Err broken.NoMemory) = false
 
+-- whether memory was wanting
+abbrev pub is_short_came : {X : Type 0} → Result X Broken → Bool
+is_short_came (Ok x) = false
+is_short_came (Err broken.Full) = false
+is_short_came (Err broken.NoMemory) = true
+
 -- entries that one seat added, which with this end are such a run
-pub record Adds {E : Type 0} (is_run : List Entry → E → Type 0) (seat : ℕ) (old new : List Entry) (end : E) (came : Came) : Type 0 where
+pub record Adds {E : Type 0} (is_run : List Entry → E → Type 0) (seat : ℕ) (old new : List Entry) (end : E) (came : Result Part Broken) : Type 0 where
   pub made : List Entry
   pub entries : new ≡ old ++ made
   pub seats : All (λ e. e.seat ≡ seat) made
@@ -51,7 +56,7 @@ pub record Adds {E : Type 0} (is_run : List Entry → E → Type 0) (seat : ℕ)
   pub due : WhenFull came (IsDueAfter is_run seat made)
 
 -- A worker's part of a task comes to its end, or breaks off without one.
-abbrev pub CameBy : Work → Option End → Came → Type 0
+abbrev pub CameBy : Work → Option End → Result Part Broken → Type 0
 CameBy work (Some end) (Ok own) = IsPart work end own
 CameBy work (Some end) (Err broken.Full) = ⊥
 CameBy work (Some end) (Err broken.NoMemory) = ⊥
@@ -73,7 +78,7 @@ Does setting who place work before made end = (after : Holding) × TaskRun setti
 
 -- A worker that held this did a task: what its hand's list gained is a run of the task, with the end by which it came out. It
 -- holds what the run leaves, and where the run came to its end, it sees by this.
-pub record HasDone (setting : Setting) (who : Who) (place : ℕ) (work : Work) (before : Holding) (seat : ℕ) (old new : List Entry) (sight : Sight) (came : Came) : Type 0 where
+pub record HasDone (setting : Setting) (who : Who) (place : ℕ) (work : Work) (before : Holding) (seat : ℕ) (old new : List Entry) (sight : Sight) (came : Result Part Broken) : Type 0 where
   pub made : List Entry
   pub entries : new ≡ old ++ made
   pub seats : All (λ e. e.seat ≡ seat) made
@@ -90,7 +95,7 @@ Answers asked before made one = QueryTask before.used (Some asked) before made o
 
 -- A gateway that held this was asked a question: with the view of what it holds, if it has one. What its hand's list gained is a run of
 -- its answer, with the end by which it came out. Where that came to its end, it sees by this.
-pub record HasAsked (before : Holding) (asked : Question) (seat : ℕ) (old new : List Entry) (sight : Sight) (came : Came) : Type 0 where
+pub record HasAsked (before : Holding) (asked : Question) (seat : ℕ) (old new : List Entry) (sight : Sight) (came : Result Part Broken) : Type 0 where
   pub end : Option End
   pub after : Holding
   pub adds : Adds (Answers asked before) seat old new (end, after) came

@@ -1,7 +1,6 @@
 //! A script's phases one after another, the workers of each beside each other in threads.
 
 ghost use Rattle.std.specs.Prelude.{◌≡◌, ◌≢◌, ◌+◌, ◌++◌, ◌<◌, ◌||◌, List, [], Ok, Err, Some, IfOk, IfErr, OnErr, OnOk, false, length, slice_get, take};
-ghost use Rattle.std.specs.List.{All};
 ghost use Rattle.bucket_core.specs.Asking.{Call};
 ghost use Rattle.world_core.specs.Asking.{IsAllAsked};
 ghost use Rattle.world_core.specs.Worlds.{failed_count};
@@ -13,15 +12,14 @@ ghost use Rattle.script_running.specs.Shelves.{AreAllAtHand, setting_by};
 ghost use Rattle.script_running.specs.Beside.{HasRunBeside};
 ghost use Rattle.script_running.specs.Reporting.{HasToldFirst};
 ghost use Rattle.script_running.specs.Going.{HasCome, HasGone, IsClockSet};
-ghost use Rattle.script_running.specs.Sights.{no_sight};
 ghost use Rattle.script_running.specs.Tasks.{is_full_came};
 ghost use Rattle.world_turn.specs.Closing.{AllJoined};
 ghost use Rattle.world_turn.specs.Passes.{table_of, view_of};
 ghost use Rattle.world_turn.specs.Turns.{IsLater, IsSame};
 
 use crate::comparing::Beside;
-use crate::gathering::{gather, jobs_of};
-use crate::{Broken, Means, OutcomeList, Report, ShelfBlock, Sight, selector_texts};
+use crate::gathering::{Staffed, gather, jobs_of};
+use crate::{Broken, Means, OutcomeList, Report, ShelfBlock, Standing, selector_texts};
 use base::NoMemory;
 use bucket_core::Bucket;
 use phase_runner::{Gate, run_phase};
@@ -39,14 +37,6 @@ pub struct RunEnd {
     pub outcomes: OutcomeList,
     /// What broke the run off, if anything did.
     pub came: Result<(), Broken>,
-}
-
-/// What stays from one phase to the next.
-#[derive(Drop)]
-struct Standing {
-    /// By what each gateway sees.
-    sights: Vec<Sight>,
-    outcomes: OutcomeList,
 }
 
 /// Runs a script over a world, with what was read of the shelf for its blocks: each phase's workers beside each other, and the
@@ -102,7 +92,7 @@ pub fn run_beside<B: Bucket + Send, G: Gate + Sync, P: Report, R: Threads + Wait
     let Ok(texts) = selector_texts(alloc, &script.selectors) else {
         return Err(world);
     };
-    let means = Means::lend(script, shelf, texts.members());
+    let means = Means::lend(alloc, script, shelf, texts.members());
     match Shared::open(alloc, world) {
         Ok((shared, root)) => {
             let (came, root) = run_phases(
@@ -124,26 +114,6 @@ pub fn run_beside<B: Bucket + Send, G: Gate + Sync, P: Report, R: Threads + Wait
             Ok((RunEnd { outcomes, came }, closed))
         }
         Err((NoMemory, world)) => Err(world),
-    }
-}
-
-impl Standing {
-    /// No gateway has synced, and nothing was done.
-    fn new(alloc: Global, script: &Script) -> Result<Standing, NoMemory>
-        ensures each { IfOk result
-            (λ standing. length standing.sights.items ≡ length script.now.gateways) }
-        ensures unseen { IfOk result
-            (λ standing. All (λ sight. sight ≡ no_sight) standing.sights.items) }
-        ensures empty { IfOk result (λ standing. standing.outcomes ≡ []) }
-    {
-        let mut sights = Vec::new(alloc);
-        for _ in 0..script.gateways.len() {
-            sights.push(Sight::new())?;
-        }
-        Ok(Standing {
-            sights,
-            outcomes: OutcomeList::new(alloc),
-        })
     }
 }
 
@@ -240,7 +210,7 @@ fn phase_beside<B: Bucket + Send, G: Gate + Sync, P: Report, R: Threads + Wait +
     };
     let workers = staff.members();
     let sights = &mut standing.sights;
-    let Ok(jobs) = jobs_of(alloc, means, place, phase, workers, sights) else {
+    let Ok(jobs) = jobs_of(means, place, phase, workers, sights) else {
         return (Err(Broken::NoMemory), root);
     };
     let (begun, root) = begin_phase(rt, shared, root, phase);
@@ -251,17 +221,12 @@ fn phase_beside<B: Bucket + Send, G: Gate + Sync, P: Report, R: Threads + Wait +
     if end.memory {
         return (Err(Broken::NoMemory), end.root);
     }
-    let came = gather(
-        alloc,
+    let staffed = Staffed {
         script,
-        phase.tasks.members(),
+        tasks: phase.tasks.members(),
         workers,
-        end.ends,
-        &mut standing.sights,
-        &mut standing.outcomes,
-        report,
-        &Beside { rt },
-    );
+    };
+    let came = gather(alloc, &staffed, end.ends, standing, report, &Beside { rt });
     (came, end.root)
 }
 

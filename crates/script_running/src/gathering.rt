@@ -15,22 +15,32 @@ ghost use Rattle.script_fields.specs.Limits.{most_gateways};
 ghost use Rattle.script_running.specs.Begun.{AreLeft};
 ghost use Rattle.script_running.specs.Beside.{AreSeen};
 ghost use Rattle.script_running.specs.Ended.{HaveEnded, IsPostOf};
-ghost use Rattle.script_running.specs.Gathering.{HaveOwnGateways, AreAllEmpty, AreEmpty, AreLaid, AreMore, AreSeenBeside, AreTakenIn, AreTold, Gathers, HasSlot, HaveCome, IsLaid, IsSeen, IsTaken, IsTakenAt, IsToldBy, IsWorse, laid_in, parts_at, slot_at};
+ghost use Rattle.script_running.specs.Gathering.{HaveOwnGateways, AreAllEmpty, AreEmpty, AreLaid, AreMore, AreSeenBeside, AreTakenIn, AreTold, Gathers, HasSlot, HaveCome, IsLaid, IsPhaseOf, IsSeen, IsTaken, IsTakenAt, IsToldBy, IsWorse, laid_in, parts_at, slot_at};
 ghost use Rattle.script_running.specs.Going.{Met};
 ghost use Rattle.script_running.specs.Workers.{IsAtWork};
 ghost use Rattle.script_running.specs.Tasks.{is_full_came};
-ghost use Rattle.script_running.specs.declared.outcome.Outcome.{Outcome};
+ghost use Rattle.script_running.specs.Outcomes.{Outcome};
 
-use crate::{Broken, Means, OutcomeList, Part, Report, Sight, WorkerEnd, WorkerJob, outcome_of};
+use crate::{
+    Broken, Means, Outcome, OutcomeList, Part, Report, Sight, Standing, WorkerEnd, WorkerJob,
+    outcome_of,
+};
 use base::{NoMemory, TryCopy};
 use querier::CompareWay;
 use script_core::{Phase, Script, Task, Work, Worker};
 use std::alloc::Global;
 use std::mem;
 
+/// A phase of a script: its tasks, and the workers who do them.
+#[derive(Clone, Copy)]
+pub struct Staffed<'a> {
+    pub script: &'a Script,
+    pub tasks: &'a [Task],
+    pub workers: &'a [Worker],
+}
+
 /// A job for each worker of the phase, which takes what its gateway sees.
-pub(crate) fn jobs_of<'a>(
-    alloc: Global,
+pub fn jobs_of<'a>(
     means: &'a Means<'a>,
     place: usize,
     phase: &'a Phase,
@@ -49,11 +59,11 @@ pub(crate) fn jobs_of<'a>(
     ensures left { (held : Holdings) → AreSeen held sights.old.items
         → OnOk result (AreSeenBeside held workers.now sights.new.items) }
 {
-    let mut jobs = Vec::with_capacity(alloc, workers.len())?;
+    let mut jobs = Vec::with_capacity(means.alloc(), workers.len())?;
     for worker in workers {
         let own = worker.copy()?;
         let sight = take_sight(worker.gateway, sights);
-        jobs.push_reserved(WorkerJob::new(alloc, means, place, phase, own, sight));
+        jobs.push_reserved(WorkerJob::new(means, place, phase, own, sight));
     }
     Ok(jobs)
 }
@@ -73,50 +83,47 @@ fn take_sight(gateway: Option<u32>, sights: &mut Vec<Sight>) -> Sight
 /// the report.
 ///
 /// It takes memory only where no worker met the full journal, so that this is what is told of such a phase.
-pub(crate) fn gather<P: Report, W: CompareWay>(
+pub fn gather<P: Report, W: CompareWay>(
     alloc: Global,
-    script: &Script,
-    tasks: &[Task],
-    workers: &[Worker],
+    phase: &Staffed<'_>,
     ends: Vec<WorkerEnd>,
-    sights: &mut Vec<Sight>,
-    outcomes: &mut OutcomeList,
+    standing: &mut Standing,
     report: &mut P,
     way: &W,
 ) -> Result<(), Broken>
     requires way { W.can_compare way.now }
-    requires many { length workers.now ≡ length ends.items }
-    requires gateways { All
-        (λ worker. IfSome worker.gateway (λ gateway. gateway < length sights.old.items))
-        workers.now }
-    requires few { length sights.old.items ≤ most_gateways }
-    requires places { All (λ worker. All (λ place. place < length tasks.now) worker.tasks)
-        workers.now }
-    ensures each { length sights.new.items ≡ length sights.old.items }
+    requires many { length phase.now.workers.now ≡ length ends.items }
+    requires gateways { All (λ worker. IfSome worker.gateway
+        (λ gateway. gateway < length standing.old.sights.items)) phase.now.workers.now }
+    requires few { length standing.old.sights.items ≤ most_gateways }
+    requires places { All (λ worker. All (λ place. place < length phase.now.tasks.now) worker.tasks)
+        phase.now.workers.now }
+    ensures each { length standing.new.sights.items ≡ length standing.old.sights.items }
     ensures came { HaveCome ends.items result }
-    ensures gathers { (setting : Setting) (number : ℕ) (phase : Phase) (before after : Holdings)
-        (front : List Entry) (kept : List (ℕ × List Entry)) (own : List (List End))
-        (lasts : List Holding) → IsLawfulScript setting.script
-        → length sights.old.items ≡ gateway_count setting.script.gateways
-        → slice_get setting.script.phases number ≡ Some phase → tasks.now ≡ phase.tasks
-        → workers.now ≡ workers_of setting.script number
-        → HaveEnded setting phase.tasks before front workers.now kept ends.items own lasts
-        → AreLeft before workers.now lasts after → AreSeenBeside before workers.now sights.old.items
-        → Gathers setting phase workers.now own ends.items after sights.new.items outcomes.old
-        outcomes.new result }
-    ensures reported { (before : List Task) → P.tells report.old script.now before outcomes.old
-        → OnOk result (P.tells report.new script.now (before ++ tasks.now) outcomes.new) }
+    ensures gathers { (setting : Setting) (number : ℕ) (own : Phase) (before after : Holdings)
+        (front : List Entry) (kept : List (ℕ × List Entry)) (told : List (List End))
+        (lasts : List Holding) → IsPhaseOf setting number own phase.now
+        → length standing.old.sights.items ≡ gateway_count setting.script.gateways
+        → HaveEnded setting own.tasks before front phase.now.workers.now kept ends.items told lasts
+        → AreLeft before phase.now.workers.now lasts after
+        → AreSeenBeside before phase.now.workers.now standing.old.sights.items
+        → Gathers setting own phase.now.workers.now told ends.items after standing.new.sights.items
+        standing.old.outcomes standing.new.outcomes result }
+    ensures reported { (before : List Task)
+        → P.tells report.old phase.now.script.now before standing.old.outcomes
+        → OnOk result (P.tells report.new phase.now.script.now
+        (before ++ phase.now.tasks.now) standing.new.outcomes) }
     ensures unreported { result ≡ Err Broken.Full → report.new ≡ report.old }
-    ensures kept { OnErr result (outcomes.new ≡ outcomes.old) }
+    ensures kept { OnErr result (standing.new.outcomes ≡ standing.old.outcomes) }
 {
     if any_full(&ends) {
         return Err(Broken::Full);
     }
-    let Ok(mut slots) = slots_for(alloc, tasks.len(), sights.len()) else {
+    let Ok(mut slots) = slots_for(alloc, phase.tasks.len(), standing.sights.len()) else {
         return Err(Broken::NoMemory);
     };
-    match take_in(workers, ends, sights, &mut slots) {
-        Ok(()) => tell_all(alloc, script, tasks, slots, outcomes, report, way),
+    match take_in(phase.workers, ends, &mut standing.sights, &mut slots) {
+        Ok(()) => tell_all(alloc, phase, slots, &mut standing.outcomes, report, way),
         Err(broken) => Err(broken),
     }
 }
@@ -282,8 +289,7 @@ fn empty_slots(alloc: Global, count: usize) -> Result<Column, NoMemory>
 /// is added.
 fn tell_all<P: Report, W: CompareWay>(
     alloc: Global,
-    script: &Script,
-    tasks: &[Task],
+    phase: &Staffed<'_>,
     slots: Slots,
     outcomes: &mut OutcomeList,
     report: &mut P,
@@ -292,14 +298,16 @@ fn tell_all<P: Report, W: CompareWay>(
     requires way { W.can_compare way.now }
     requires few { length slots.gateways.items ≤ most_gateways }
     ensures told { OnOk result ((own : List Outcome) × (outcomes.new ≡ outcomes.old ++ own)
-        × AreTold slots 0 tasks.now own) }
+        × AreTold slots 0 phase.now.tasks.now own) }
     ensures untold { OnErr result (outcomes.new ≡ outcomes.old) }
     ensures why { result ≢ Err Broken.Full }
-    ensures reported { (before : List Task) → P.tells report.old script.now before outcomes.old
-        → OnOk result (P.tells report.new script.now (before ++ tasks.now) outcomes.new) }
+    ensures reported { (before : List Task)
+        → P.tells report.old phase.now.script.now before outcomes.old
+        → OnOk result (P.tells report.new phase.now.script.now
+        (before ++ phase.now.tasks.now) outcomes.new) }
 {
     let before = outcomes.len();
-    match tell(alloc, script, tasks, slots, outcomes, report, way) {
+    match tell(alloc, phase, slots, outcomes, report, way) {
         Ok(()) => Ok(()),
         Err(NoMemory) => {
             cut_back(alloc, outcomes, before);
@@ -321,8 +329,7 @@ fn cut_back(alloc: Global, outcomes: &mut OutcomeList, count: usize)
 /// been added, which the caller takes back.
 fn tell<P: Report, W: CompareWay>(
     alloc: Global,
-    script: &Script,
-    tasks: &[Task],
+    phase: &Staffed<'_>,
     slots: Slots,
     outcomes: &mut OutcomeList,
     report: &mut P,
@@ -331,46 +338,59 @@ fn tell<P: Report, W: CompareWay>(
     requires way { W.can_compare way.now }
     requires few { length slots.gateways.items ≤ most_gateways }
     ensures told { OnOk result ((own : List Outcome) × (outcomes.new ≡ outcomes.old ++ own)
-        × AreTold slots 0 tasks.now own) }
+        × AreTold slots 0 phase.now.tasks.now own) }
     ensures more { AreMore outcomes.old outcomes.new }
-    ensures reported { (before : List Task) → P.tells report.old script.now before outcomes.old
-        → OnOk result (P.tells report.new script.now (before ++ tasks.now) outcomes.new) }
+    ensures reported { (before : List Task)
+        → P.tells report.old phase.now.script.now before outcomes.old
+        → OnOk result (P.tells report.new phase.now.script.now
+        (before ++ phase.now.tasks.now) outcomes.new) }
 {
     let mut slots = slots;
+    let script = phase.script;
+    let tasks = phase.tasks;
     for place in 0..tasks.len() {
         let task = &tasks[place];
-        let Ok(()) = tell_one(
-            alloc, script, task, place, &mut slots, outcomes, report, way,
-        ) else {
+        let Ok(outcome) = outcome_at(alloc, &task.work, place, &mut slots, way) else {
+            return Err(NoMemory);
+        };
+        let Ok(()) = tell_one(script, task, outcome, outcomes, report) else {
             return Err(NoMemory);
         };
     }
     Ok(())
 }
 
-/// Adds the outcome of the task at a place, whose slots are empty then.
-#[tactic(auto, using(crate::proofs::Gathers::all_first, crate::proofs::Gathers::pushed_first))]
-fn tell_one<P: Report, W: CompareWay>(
+/// How the task at a place came out, whose slots are empty then.
+fn outcome_at<W: CompareWay>(
     alloc: Global,
-    script: &Script,
-    task: &Task,
+    work: &Work,
     place: usize,
     slots: &mut Slots,
-    outcomes: &mut OutcomeList,
-    report: &mut P,
     way: &W,
-) -> Result<(), NoMemory>
+) -> Result<Outcome, NoMemory>
     requires way { W.can_compare way.now }
     requires few { length slots.old.gateways.items ≤ most_gateways }
-    ensures told { OnOk result ((o : Outcome) × (outcomes.new ≡ outcomes.old ++ o ∷ [])
-        × IsToldBy task.now.work (parts_at slots.old place task.now.work) o) }
-    ensures more { AreMore outcomes.old outcomes.new }
+    ensures told { IfOk result (IsToldBy work.now (parts_at slots.old place work.now)) }
     ensures taken { IsTakenAt place slots.old slots.new }
+{
+    let parts = take_parts(alloc, work, place, slots)?;
+    outcome_of(alloc, parts, way)
+}
+
+/// Adds the outcome of a task, also to the report.
+#[tactic(auto, using(crate::proofs::Gathers::all_first, crate::proofs::Gathers::pushed_first))]
+fn tell_one<P: Report>(
+    script: &Script,
+    task: &Task,
+    outcome: Outcome,
+    outcomes: &mut OutcomeList,
+    report: &mut P,
+) -> Result<(), NoMemory>
+    ensures told { OnOk result (outcomes.new ≡ outcomes.old ++ outcome ∷ []) }
+    ensures more { AreMore outcomes.old outcomes.new }
     ensures reported { (before : List Task) → P.tells report.old script.now before outcomes.old
         → OnOk result (P.tells report.new script.now (before ++ task.now ∷ []) outcomes.new) }
 {
-    let parts = take_parts(alloc, &task.work, place, slots)?;
-    let outcome = outcome_of(alloc, parts, way)?;
     report.add(script, task, &outcome)?;
     outcomes.push(outcome)
 }

@@ -1,18 +1,17 @@
 //! The rows that decide what a matcher takes, and the numbers in their lists.
-ghost use Rattle.std.specs.Prelude.{◌≡◌, ◌⊎◌, ◌+◌, ◌-◌, ◌*◌, ◌^◌, ◌<◌, ◌≤◌, [], ◌++◌, not, true, All, length, min, slice_get, take, Err, IfOk, IfErr, IfSome, OnOk};
+ghost use Rattle.std.specs.Prelude.{◌≡◌, ◌⊎◌, ◌+◌, ◌-◌, ◌*◌, ◌^◌, ◌<◌, ◌≤◌, [], ◌++◌, not, true, All, length, slice_get, take, Err, IfOk, IfErr, IfSome, OnOk};
 ghost use Rattle.std.specs.List.{filter};
 ghost use Rattle.std.specs.List.Sorted.{IsStrictlyIncreasing};
 ghost use Rattle.base.specs.Reading.{Gives};
 ghost use Rattle.matchers.specs.ConditionSearches.{condition_asked};
 ghost use Rattle.matchers.specs.Selectors.{is_accepted};
-ghost use Rattle.index_v2.specs.Budget.{read_share};
 ghost use Rattle.index_v2.specs.PostingsLists.{is_row_of, list_of};
 ghost use Rattle.index_v2.specs.declared.refusal.IndexRefusal.TheVariants.{NoMemory as IsNoMemory};
 ghost use Rattle.series_selection.specs.Selections.{decides};
-ghost use Rattle.series_selection.specs.SelectionSteps.{numbers_at, ListsStand, IsWithinBudget, IsReadOn, IsDecidedBy};
+ghost use Rattle.series_selection.specs.SelectionSteps.{numbers_at, ListsStand, IsReadOn, IsDecidedBy};
 
 use base::NoMemory;
-use index_v2::{IndexReader, IndexRefusal, READ_SHARE, spend};
+use index_v2::{IndexReader, IndexRefusal};
 use label_sets::Text;
 use matchers::{Condition, ConditionSearcher, Matcher};
 use std::alloc::Global;
@@ -39,22 +38,16 @@ pub(crate) struct Listed {
     pub(crate) numbers: Vec<u64>,
     /// Whether there is one list at most, so that the numbers ascend.
     pub(crate) is_one: bool,
-    /// How many bytes and numbers may still be read.
-    left: usize,
 }
 
-/// Before any list is read. Those of one matcher may come to eight bytes and numbers for each byte of the part in which lists
-/// are read: rows that share a list, or lists that lie within one another, may ask for more.
-fn none_listed(alloc: Global, index: &IndexReader<'_>) -> Listed
+/// Before any list is read.
+fn none_listed(alloc: Global) -> Listed
     ensures none { result.numbers.items ≡ [] }
     ensures one { result.is_one ≡ true }
-    ensures left { result.left ≡ min (read_share * length index.now.lists.bytes) (2 ^ 64 - 1) }
-    ensures bound { result.left ≤ read_share * length index.now.lists.bytes }
 {
     Listed {
         numbers: Vec::new(alloc),
         is_one: true,
-        left: index.lists_size().saturating_mul(READ_SHARE),
     }
 }
 
@@ -79,21 +72,15 @@ fn read_on(
 ) -> Result<Listed, IndexRefusal>
     requires { place < length index.now.rows }
     ensures read { IfOk result (λ more. IsReadOn index.now place
-        listed.numbers.items listed.left more.numbers.items more.left) }
+        listed.numbers.items more.numbers.items) }
     ensures one { IfOk result (λ more. more.is_one ≡ true → listed.numbers.items ≡ []) }
     ensures refused { IfErr result (λ e. (e ≡ IsNoMemory)
         ⊎ (list_of index.now.lists (slice_get index.now.rows place) ≡ Err e)) }
 {
     let list = index.row_numbers(alloc, place)?;
-    let rest = spend(listed.left, index.list_size(place))?;
-    let left = spend(rest, list.len())?;
     let is_one = listed.numbers.is_empty();
     let numbers = joined_numbers(listed.numbers, list)?;
-    Ok(Listed {
-        numbers,
-        is_one,
-        left,
-    })
+    Ok(Listed { numbers, is_one })
 }
 
 /// The list of the row of a name and a value, which is found by halving.
@@ -109,12 +96,10 @@ fn listed_in(
         → IsStrictlyIncreasing listed.numbers.items) }
     ensures stand { OnOk result
         (ListsStand index.now (filter (is_row_of name.now value.now) index.now.rows)) }
-    ensures budget { OnOk result
-        (IsWithinBudget index.now.lists (filter (is_row_of name.now value.now) index.now.rows)) }
 {
     match index.find_row(name, value) {
-        Some(place) => read_on(alloc, index, place, none_listed(alloc, index)),
-        None => Ok(none_listed(alloc, index)),
+        Some(place) => read_on(alloc, index, place, none_listed(alloc)),
+        None => Ok(none_listed(alloc)),
     }
 }
 
@@ -135,11 +120,9 @@ fn listed_under(
         → IsStrictlyIncreasing listed.numbers.items) }
     ensures stand { OnOk result
         (ListsStand index.now (filter (decides matcher.now) index.now.rows)) }
-    ensures budget { OnOk result
-        (IsWithinBudget index.now.lists (filter (decides matcher.now) index.now.rows)) }
 {
     let name = matcher.name.as_str();
-    let mut listed = none_listed(alloc, index);
+    let mut listed = none_listed(alloc);
     for place in index.first_row(name)..index.row_count() {
         let Some(row) = index.row(place) else {
             return Ok(listed);
@@ -194,8 +177,6 @@ fn listed_of(
         → IsStrictlyIncreasing found.1.numbers.items) }
     ensures stand { OnOk result
         (ListsStand index.now (filter (decides matcher.now) index.now.rows)) }
-    ensures budget { OnOk result
-        (IsWithinBudget index.now.lists (filter (decides matcher.now) index.now.rows)) }
 {
     let listed = listed_in(alloc, index, matcher.name.as_str(), value)?;
     Ok((wanted, listed))
@@ -214,8 +195,6 @@ fn listed_asked(
         → IsStrictlyIncreasing found.1.numbers.items) }
     ensures stand { OnOk result
         (ListsStand index.now (filter (decides matcher.now) index.now.rows)) }
-    ensures budget { OnOk result
-        (IsWithinBudget index.now.lists (filter (decides matcher.now) index.now.rows)) }
 {
     let mut searcher = matcher.condition.searcher()?;
     let wanted = !searcher.accepts("");
@@ -237,8 +216,6 @@ pub(crate) fn listed_by(
         → IsStrictlyIncreasing found.1.numbers.items) }
     ensures stand { OnOk result
         (ListsStand index.now (filter (decides matcher.now) index.now.rows)) }
-    ensures budget { OnOk result
-        (IsWithinBudget index.now.lists (filter (decides matcher.now) index.now.rows)) }
 {
     match only_value(&matcher.condition) {
         Some((value, wanted)) => listed_of(alloc, index, matcher, value, wanted),

@@ -21,7 +21,7 @@ ghost use Rattle.index_v2.specs.WholeReading.{lists_at};
 ghost use Rattle.index_v2.specs.declared.refusal.IndexRefusal.{IndexRefusal};
 ghost use Rattle.index_v2.specs.declared.refusal.IndexRefusal.TheVariants.{NoMemory};
 ghost use Rattle.series_selection.specs.Selections.{decides, deciding, rows_read, IsSelection, AreMatching};
-ghost use Rattle.series_selection.specs.SelectionSteps.{left_by, left_by_rows, left_at, selected_at, ListsStand, IsWithinBudget};
+ghost use Rattle.series_selection.specs.SelectionSteps.{left_by, left_by_rows, left_at, selected_at, ListsStand};
 
 use crate::keeping::kept_numbers;
 use crate::rows::{Listed, all_listed, listed_by};
@@ -60,11 +60,9 @@ pub fn select_postings(
     ensures refused { IfErr result (λ e. (e ≡ NoMemory)
         ⊎ (lists_at index.now.lists (rows_read external.now index.now.rows selector.now) ≡ Err e)) }
 
-    // The numbers have 32 bits, and are no more than one list can have. What is read for a matcher is within its budget.
+    // The numbers have 32 bits, and are no more than one list can have.
     ensures small { IfOk result (All (λ n. n < 2 ^ 32)) }
     ensures few { IfOk result (λ numbers. 4 * length numbers ≤ length index.now.lists.bytes) }
-    ensures budget { OnOk result ((matcher : Matcher) → Contains selector.now matcher
-        → IsWithinBudget index.now.lists (deciding external.now index.now.rows matcher)) }
 
     // Over the whole of an opened index, or over parts of it, it is what the selector takes by the lists that stand there.
     ensures found { (opened : Opened) → IsHeldOf index.now opened
@@ -119,8 +117,6 @@ fn selected_numbers(
     ensures few { IfOk result (λ numbers. 4 * length numbers ≤ length index.now.lists.bytes) }
     ensures stand { OnOk result
         (ListsStand index.now (rows_read external.now index.now.rows selector.now)) }
-    ensures budget { OnOk result ((matcher : Matcher) → Contains selector.now matcher
-        → IsWithinBudget index.now.lists (deciding external.now index.now.rows matcher)) }
 {
     let listed = all_listed(alloc, index)?;
     left_by_all(alloc, index, selector.matchers(), external, listed)
@@ -140,8 +136,6 @@ fn left_by_all(
     ensures rises { IfOk result IsStrictlyIncreasing }
     ensures stand { OnOk result (ListsStand index.now
         (flat_map (deciding external.now index.now.rows) matchers.now)) }
-    ensures budget { OnOk result ((matcher : Matcher) → Contains matchers.now matcher
-        → IsWithinBudget index.now.lists (deciding external.now index.now.rows matcher)) }
 {
     let mut left = numbers;
     for matcher in matchers {
@@ -165,8 +159,6 @@ fn left_by(
     ensures rises { IfOk result IsStrictlyIncreasing }
     ensures stand { OnOk result
         (ListsStand index.now (deciding external.now index.now.rows matcher.now)) }
-    ensures budget { OnOk result
-        (IsWithinBudget index.now.lists (deciding external.now index.now.rows matcher.now)) }
 {
     match external.value(matcher.name.as_str()) {
         Some(value) => left_by_value(alloc, matcher, value, numbers),
@@ -208,8 +200,6 @@ fn left_by_rows(
     ensures rises { IfOk result IsStrictlyIncreasing }
     ensures stand { OnOk result
         (ListsStand index.now (filter (decides matcher.now) index.now.rows)) }
-    ensures budget { OnOk result
-        (IsWithinBudget index.now.lists (filter (decides matcher.now) index.now.rows)) }
 {
     let (wanted, listed) = listed_by(alloc, index, matcher)?;
     let others = sorted_numbers(listed)?;

@@ -1,5 +1,5 @@
 //! The symbols of an index, kept without its bytes.
-ghost use Rattle.std.specs.Prelude.{◌≡◌, ◌<◌, ◌++◌, ◌∷◌, [], length, slice_get, sum_by, Some, IfOk, OnOk};
+ghost use Rattle.std.specs.Prelude.{◌≡◌, ◌<◌, ◌++◌, ◌∷◌, [], length, slice_get, Some, IfOk, OnOk};
 ghost use Rattle.std.specs.Option.{option_copied};
 ghost use Rattle.std.specs.String.{string_bytes};
 ghost use Rattle.store_ranges.specs.TextPlaces.{text_at, texts_at, IsTextAt, AreTextsAt};
@@ -43,13 +43,6 @@ impl SymbolTexts {
         ensures { option_copied result ≡ slice_get self.now number }
     {
         text_of(self.all.as_str(), self.places.as_slice(), number)
-    }
-
-    /// How many bytes the texts have.
-    pub fn size(&self) -> usize
-        ensures { result ≡ sum_by length self.now }
-    {
-        self.all.len()
     }
 }
 

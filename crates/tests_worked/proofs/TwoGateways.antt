@@ -44,14 +44,13 @@ use Rattle.lifecycle_core.specs.Holdings.{Holdings, none_held, nothing_held}
 use Rattle.lifecycle_core.specs.Phases.{IsRunOf, by_script, by_workers}
 use Rattle.lifecycle_core.specs.Tasks.{End, QueryTask, asks_in, synced, uploaded}
 use Rattle.lifecycle_core.specs.Ways.{PhasesRun}
-use Rattle.call_verdicts.specs.script_running.specs.Outcomes.{IsOutcome, PhasesCame, TasksCame}
-use Rattle.call_verdicts.specs.script_running.specs.declared.outcome.Outcome.{Outcome}
-use Rattle.call_verdicts.specs.script_running.specs.declared.outcome.Outcome.TheVariants as outcome
+use Rattle.call_verdicts.specs.script_running.specs.Outcomes.{IsOutcome, Outcome, PhasesCame, TasksCame}
+use Rattle.call_verdicts.specs.script_running.specs.declared.came.Came.TheVariants as outcome
 use Rattle.call_verdicts.specs.script_running.specs.declared.outcome.QueryOutcome.TheVariants as queries
 use Rattle.call_verdicts.specs.script_running.specs.declared.outcome.SyncOutcome.TheVariants as syncs
-use Rattle.call_verdicts.specs.script_running.specs.declared.outcome.UploadOutcome.TheVariants as uploads
-use Rattle.call_verdicts.specs.script_running.specs.declared.part.Part.TheVariants as part
-use Rattle.call_verdicts.specs.script_running.specs.declared.part.QueryPart.TheVariants as gave
+use Rattle.call_verdicts.specs.script_running.specs.declared.came.Stop.TheVariants as stops
+use Rattle.call_verdicts.specs.script_running.specs.declared.came.Came.TheVariants as part
+use Rattle.call_verdicts.specs.script_running.specs.declared.outcome.QueryPart.TheVariants as gave
 use Rattle.call_verdicts.specs.report_lines.specs.Reports.{upload_words, sync_words, source_line, series_line, counts_text, answer_text, parted_text, named_lines, named_line, named_count, query_text, activity_text}
 use Rattle.call_verdicts.specs.Verdicts.{IsReport}
 use Rattle.call_verdicts.specs.report_lines.specs.Telling.{report_of}
@@ -347,9 +346,9 @@ both_out = (
 )
 
 abbrev outcomes : List Outcome
-outcomes = outcome.Upload (uploads.Done 3) ∷ outcome.Sync (syncs.Blocks 1) ∷ outcome.Sync (syncs.Blocks 1) ∷ answered_so ∷ []
+outcomes = outcome.Upload (stops.Ended (shipped.Done 3)) ∷ outcome.Sync (syncs.Blocks 1) ∷ outcome.Sync (syncs.Blocks 1) ∷ answered_so ∷ []
 
-first_came : TasksCame two.script (uploader ∷ []) first_ends 0 two.first_tasks (outcome.Upload (uploads.Done 3) ∷ [])
+first_came : TasksCame two.script (uploader ∷ []) first_ends 0 two.first_tasks (outcome.Upload (stops.Ended (shipped.Done 3)) ∷ [])
 unfolding hands_of_task
 first_came = (
   record {
@@ -387,10 +386,10 @@ second_came = (
 
 came : PhasesCame two.script 0 two.script.phases two.ends outcomes
 came = (
-  outcome.Upload (uploads.Done 3) ∷ [],
+  outcome.Upload (stops.Ended (shipped.Done 3)) ∷ [],
   outcome.Sync (syncs.Blocks 1) ∷ outcome.Sync (syncs.Blocks 1) ∷ answered_so ∷ [],
   refl,
-  subst (λ (ws : List Worker). TasksCame two.script ws first_ends 0 two.first_tasks (outcome.Upload (uploads.Done 3) ∷ [])) (sym first_workers) first_came,
+  subst (λ (ws : List Worker). TasksCame two.script ws first_ends 0 two.first_tasks (outcome.Upload (stops.Ended (shipped.Done 3)) ∷ [])) (sym first_workers) first_came,
   (
     outcome.Sync (syncs.Blocks 1) ∷ outcome.Sync (syncs.Blocks 1) ∷ answered_so ∷ [],
     [],

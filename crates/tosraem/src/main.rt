@@ -5,10 +5,11 @@ ghost use Rattle.std.specs.Prelude.{◌≡◌, ◌≢◌, true, false, None, IsS
 ghost use Rattle.replay_cli.specs.lifecycle_core.specs.InLine.{IsInLine};
 ghost use Rattle.replay_cli.specs.call_verdicts.specs.Asked.{IsBucketAsked};
 ghost use Rattle.replay_cli.specs.InPhases.{IsInPhases};
-ghost use Rattle.replay_cli.specs.call_verdicts.specs.Kept.{IsHandedBack, IsHandedOut, IsNotAsked, IsShelfOf};
+ghost use Rattle.replay_cli.specs.call_verdicts.specs.Kept.{AsksNoBucket, IsHandedBack, IsHandedOut, IsShelfOf};
 ghost use Rattle.replay_cli.specs.call_verdicts.specs.Noted.{IsNoted, met, met_alone};
+ghost use Rattle.replay_cli.specs.call_verdicts.specs.Outside.{outside, site_call};
 ghost use Rattle.replay_cli.specs.call_verdicts.specs.Verdicts.{IsCaused, around_call, saying_to};
-ghost use Rattle.replay_cli.specs.call_verdicts.specs.Words.{block_word, bucket_word, number_word, replay_shelf, replay_word, shelf_word};
+ghost use Rattle.replay_cli.specs.call_verdicts.specs.Words.{bucket_word, number_word, replay_names, replay_shelf, replay_word, serial_names, shelf_word};
 ghost use Rattle.replay_cli.specs.Days.{IsDayNoted, IsToolCaused};
 ghost use Rattle.replay_cli.specs.call_verdicts.specs.declared.verdict.Verdict.TheVariants.{NoMemory};
 ghost use Rattle.tosraem.specs.Calls.{IsServed, names_replay};
@@ -63,28 +64,26 @@ where
     S::Store: Send,
     ensures serial { names_replay words.now ≡ false → IsServed
         (IsToolCaused (number_word words.now)
-        (around_call IsInLine R.left R.faults script.old script.new
-        S.buckets S.next_bucket S.shelves S.next_shelf S.faults
-        (bucket_word words.now) (shelf_word words.now)
-        (block_word words.now) site.old site.new S.Store.faults S.Files.faults
+        (around_call IsInLine (outside (R.told script.old) (R.told script.new)
+        (site_call (S.told site.old) (S.told site.new) S.Store.told S.Files.told))
+        (serial_names words.now)
         result.store result.shelf result.journal))
-        (saying_to K.faults K.written out.old out.new)
+        (saying_to (K.told out.old) (K.told out.new))
         (λ verdict. verdict ≢ NoMemory
-        → IsBucketAsked S.Store.asked verdict result.journal result.store)
+        → IsBucketAsked S.Store.told verdict result.journal result.store)
         (λ verdict. (number_word words.now ≡ None
-        → IsNoted met S.Store.asked verdict result.journal result.store result.note)
+        → IsNoted met S.Store.told verdict result.journal result.store result.note)
         × (IsSome (number_word words.now) → IsDayNoted verdict result.journal result.day))
         result.status }
     ensures replay { names_replay words.now ≡ true → IsServed
-        (IsCaused (around_call IsInPhases R.left R.faults script.old script.new
-        S.buckets S.next_bucket S.shelves S.next_shelf S.faults
-        (replay_word words.now) (replay_shelf words.now)
-        None site.old site.new S.Store.faults S.Files.faults
+        (IsCaused (around_call IsInPhases (outside (R.told script.old) (R.told script.new)
+        (site_call (S.told site.old) (S.told site.new) S.Store.told S.Files.told))
+        (replay_names words.now)
         result.store result.shelf result.journal))
-        (saying_to K.faults K.written out.old out.new)
+        (saying_to (K.told out.old) (K.told out.new))
         (λ verdict. verdict ≢ NoMemory
-        → IsBucketAsked S.Store.asked verdict result.journal result.store)
-        (λ verdict. IsNoted met_alone S.Store.asked verdict result.journal result.store result.note)
+        → IsBucketAsked S.Store.told verdict result.journal result.store)
+        (λ verdict. IsNoted met_alone S.Store.told verdict result.journal result.store result.note)
         result.status }
 
     // There is the note of a generated day only where the words name one.
@@ -93,19 +92,20 @@ where
     ensures day_alone { names_replay words.now ≡ true → result.day ≡ None }
 
     // The bucket and the shelf are those of that call, as it left them; a generated day has a bucket of its own.
-    ensures handed { IsHandedOut S.buckets site.old site.new result.store }
+    ensures handed { IsHandedOut (S.told site.old).buckets (S.told site.new).buckets
+        result.store }
     ensures kept { number_word words.now ≡ None
         → is_some result.journal ≡ is_some result.store }
     ensures back { number_word words.now ≡ None
-        → IsHandedBack S.Store.contents S.Store.faults result.journal result.store }
+        → IsHandedBack S.Store.told result.journal result.store }
     ensures closed { bucket_word words.now ≡ None → replay_word words.now ≡ None
-        → IsNotAsked S.buckets S.next_bucket site.old site.new }
+        → AsksNoBucket (S.told site.old) (S.told site.new) }
     ensures shelf { names_replay words.now ≡ false
-        → IsShelfOf S.shelves S.next_shelf S.Files.files (shelf_word words.now)
-        site.old site.new result.shelf }
+        → IsShelfOf S.Files.told (shelf_word words.now) (S.told site.old)
+        (S.told site.new) result.shelf }
     ensures lent { names_replay words.now ≡ true
-        → IsShelfOf S.shelves S.next_shelf S.Files.files (replay_shelf words.now)
-        site.old site.new result.shelf }
+        → IsShelfOf S.Files.told (replay_shelf words.now) (S.told site.old)
+        (S.told site.new) result.shelf }
 {
     if asks_for_threads(words) {
         run_replay(

@@ -10,14 +10,13 @@ use Rattle.script_workers.specs.declared.work.Work.TheVariants as works
 use Rattle.lifecycle_core.specs.Holdings.{Use}
 use Rattle.lifecycle_core.specs.Tasks.{answered, synced, uploaded}
 use Rattle.lifecycle_core.proofs.answers.Joining.{none_merged}
-use Rattle.call_verdicts.specs.script_running.specs.Outcomes.{IsOutcome}
-use Rattle.call_verdicts.specs.script_running.specs.declared.outcome.Outcome.{Outcome}
-use Rattle.call_verdicts.specs.script_running.specs.declared.outcome.Outcome.TheVariants as outcome
+use Rattle.call_verdicts.specs.script_running.specs.Outcomes.{IsOutcome, Outcome}
+use Rattle.call_verdicts.specs.script_running.specs.declared.came.Came.TheVariants as outcome
 use Rattle.call_verdicts.specs.script_running.specs.declared.outcome.QueryOutcome.TheVariants as queries
 use Rattle.call_verdicts.specs.script_running.specs.declared.outcome.SyncOutcome.TheVariants as syncs
-use Rattle.call_verdicts.specs.script_running.specs.declared.outcome.UploadOutcome.TheVariants as uploads
-use Rattle.call_verdicts.specs.script_running.specs.declared.part.Part.TheVariants as part
-use Rattle.call_verdicts.specs.script_running.specs.declared.part.QueryPart.TheVariants as given
+use Rattle.call_verdicts.specs.script_running.specs.declared.came.Stop.TheVariants as stops
+use Rattle.call_verdicts.specs.script_running.specs.declared.came.Came.TheVariants as part
+use Rattle.call_verdicts.specs.script_running.specs.declared.outcome.QueryPart.TheVariants as given
 use Rattle.tests_worked.specs.SmallBlock as small
 use Rattle.tests_worked.proofs.small.SmallCalls.{merge_given}
 
@@ -34,11 +33,11 @@ small_outcome = outcome.Query (queries.Answer small_answer (record { gateway = 0
 abbrev pub no_outcome : Outcome
 no_outcome = outcome.Query (queries.Answer no_answer (record { gateway = 0; sources = [] } ∷ []))
 
-pub upload_out : (ulid : ℕ) (stop : Option ℕ) → IsOutcome (works.Upload ulid stop) (uploaded (shipped.Done 3) ∷ []) (outcome.Upload (uploads.Done 3))
-upload_out ulid stop = (part.Upload (uploads.Done 3) ∷ [], (refl, tt), (uploads.Done 3, refl, refl))
+pub upload_out : (ulid : ℕ) (stop : Option ℕ) → IsOutcome (works.Upload ulid stop) (uploaded (shipped.Done 3) ∷ []) (outcome.Upload (stops.Ended (shipped.Done 3)))
+upload_out ulid stop = (part.Upload (stops.Ended (shipped.Done 3)) ∷ [], (refl, tt), (part.Upload (stops.Ended (shipped.Done 3)), refl, refl))
 
 pub sync_out : (gateway : ℕ) (view : View) (count : ℕ) → length view.kept ≡ count → IsOutcome (works.Sync gateway) (synced (fetched.View view) ∷ []) (outcome.Sync (syncs.Blocks count))
-sync_out gateway view count is = (part.Sync (syncs.Blocks count) ∷ [], (ap (λ (n : ℕ). part.Sync (syncs.Blocks n)) (sym is), tt), (syncs.Blocks count, refl, refl))
+sync_out gateway view count is = (part.Sync (syncs.Blocks count) ∷ [], (ap (λ (n : ℕ). part.Sync (syncs.Blocks n)) (sym is), tt), (part.Sync (syncs.Blocks count), refl, refl))
 
 pub small_out : (low high : ℤ) (selector : ℕ) (used : Use) → IsOutcome (works.Query low high selector) (answered used (called.Answer (small.up ∷ []) (small.a ∷ [])) ∷ []) small_outcome
 small_out low high selector used = (

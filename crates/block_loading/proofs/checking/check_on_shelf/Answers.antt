@@ -5,7 +5,7 @@ use Rattle.block_loading.specs.LoadedChecks.{EndsCheck, loaded_files, loaded_uli
 use Rattle.block_loading.specs.declared.loaded_block.LoadedBlock.{LoadedBlock}
 use Rattle.block_loading.proofs.Calls.{answered, error_on, not_stopped, passed_on}
 use Rattle.block_loading.proofs.AskedBlock.{asked_on, asked_whole}
-use Rattle.block_loading.proofs.Ended.{checked_here, ended_as, ended_calm, ended_few, ended_moved, ended_passed, ended_passes, ended_refused, ended_refuses, ended_said, ended_segments}
+use Rattle.block_loading.proofs.Ended.{checked_here, ended_as, ended_calm, ended_moved, ended_passed, ended_passes, ended_refused, ended_refuses, ended_said, ended_segments}
 use Rattle.block_loading.proofs.checking.check_on_shelf.Goals as goal
 
 -- ---- it was not loaded
@@ -27,9 +27,6 @@ returns-in_err-block-clause-asks g c = asked_on g.F.Shelf.told _ _ _ _ c.args.ul
 
 pub returns-clause-passed : goal.returns-clause-passed
 returns-clause-passed g c = ended_passed c.args.ulid (loaded_files c.in_ok-block.block) c.check.result (ended_moved _ _ _ _ c.in_ok-block.ensures.ulid c.check.ensures)
-
-pub returns-clause-few : goal.returns-clause-few
-returns-clause-few g c = ended_few c.args.ulid (loaded_files c.in_ok-block.block) c.check.result (ended_moved _ _ _ _ c.in_ok-block.ensures.ulid c.check.ensures)
 
 pub returns-clause-within : goal.returns-clause-within
 returns-clause-within g c = ended_as c.args.ulid (loaded_files c.in_ok-block.block) AreWithinLimit c.in_ok-block.ensures.within c.check.result (ended_moved _ _ _ _ c.in_ok-block.ensures.ulid c.check.ensures)

@@ -1,24 +1,16 @@
-use Rattle.std.proofs.Common.{◌≢◌, []}
-use Rattle.std.specs.Prelude.{IfSome}
-use Rattle.std.proofs.lemmas.Result.{IfOk-weaker}
-use Rattle.call_verdicts.specs.Asked.{IsBucketAsked, WasAsked, WasOnlyOpened, for_opening}
-use Rattle.call_verdicts.specs.declared.verdict.Verdict.TheVariants as verdict
-use Rattle.call_verdicts.proofs.BucketAsked.{err_map, just_handed}
+use Rattle.std.proofs.Common.{subst, sym}
+use Rattle.call_verdicts.specs.Openings.{HasNotOpened}
+use Rattle.call_verdicts.specs.Outside.{site_call}
+use Rattle.call_verdicts.specs.Words.{named_by}
+use Rattle.call_verdicts.proofs.Unopened.{all_opened, unhanded, unopened_site, unshelved_site, unused_yet}
 use Rattle.call_verdicts.proofs.opening.open_site.Goals as goal
 
-pub returns-in-Ok-clause-asked : goal.returns-in-Ok-clause-asked
-returns-in-Ok-clause-asked g c =
-    IfOk-weaker c.open_behind.result (λ ready. WasAsked g.S.Store.Bucket.asked [] c.in-Ok.bucket → WasAsked g.S.Store.Bucket.asked for_opening ready.0.bucket) (λ ready. WasAsked g.S.Store.Bucket.asked for_opening ready.0.bucket)
-    (λ ready so. so (just_handed g.S.Store.Bucket.asked c.in-Ok.bucket c.in-Ok.ensures.unasked)) c.open_behind.ensures.asked
+pub returns-in-Err-clause-ended : goal.returns-in-Err-clause-ended
+returns-in-Err-clause-ended g c =
+    subst (HasNotOpened (site_call (g.S.Site.told c.args.site.now) (g.S.Site.told c.open_bucket.new.self) g.S.Store.Bucket.told g.S.Files.Shelf.told) c.args.bucket.now (named_by c.args.shelf.now) c.args.script.now) (sym c.early.ensures)
+    (unhanded (g.S.Site.told c.args.site.now) (g.S.Site.told c.args.site.now) (g.S.Site.told c.open_bucket.new.self) g.S.Store.Bucket.told g.S.Files.Shelf.told c.args.bucket.now (named_by c.args.shelf.now) c.args.script.now c.in-Err.refusal c.refusal_verdict.result c.without_bucket-conclusion.result
+    c.in-Err.ensures.faults c.in-Err.ensures.counted c.in-Err.ensures.shelves c.in-Err.ensures.files
+    c.without_bucket-conclusion.ensures.verdict c.without_bucket-conclusion.ensures.journal c.without_bucket-conclusion.ensures.store c.refusal_verdict.ensures.failed c.refusal_verdict.ensures.none c.refusal_verdict.ensures.early)
 
-pub returns-in-Ok-clause-back_asked : goal.returns-in-Ok-clause-back_asked
-returns-in-Ok-clause-back_asked g c =
-    err_map c.open_behind.result
-    (λ ended. WasAsked g.S.Store.Bucket.asked [] c.in-Ok.bucket → ended.conclusion.verdict ≢ verdict.NoMemory → IsBucketAsked g.S.Store.Bucket.asked ended.conclusion.verdict ended.conclusion.journal ended.conclusion.store)
-    (λ ended. ended.conclusion.verdict ≢ verdict.NoMemory → IsBucketAsked g.S.Store.Bucket.asked ended.conclusion.verdict ended.conclusion.journal ended.conclusion.store)
-    (λ ended so. so (just_handed g.S.Store.Bucket.asked c.in-Ok.bucket c.in-Ok.ensures.unasked)) c.open_behind.ensures.back_asked
-
-pub returns-in-Ok-clause-only_opened : goal.returns-in-Ok-clause-only_opened
-returns-in-Ok-clause-only_opened g c =
-    err_map c.open_behind.result (λ ended. WasAsked g.S.Store.Bucket.asked [] c.in-Ok.bucket → IfSome ended.conclusion.store (WasOnlyOpened g.S.Store.Bucket.asked)) (λ ended. IfSome ended.conclusion.store (WasOnlyOpened g.S.Store.Bucket.asked))
-    (λ ended so. so (just_handed g.S.Store.Bucket.asked c.in-Ok.bucket c.in-Ok.ensures.unasked)) c.open_behind.ensures.only_opened
+pub open_world-requires-unused : goal.open_world-requires-unused
+open_world-requires-unused g c = unused_yet _ _ c.in-Ok.ensures.opened

@@ -1,8 +1,10 @@
 use Rattle.std.proofs.Common.{◌≡◌, sym, ◌∙◌, ap, refl}
 use Rattle.std.specs.Prelude.{Some, None, option_map}
 use Rattle.replay_cli.specs.InPhases.{IsInPhases}
+use Rattle.bucket_core.specs.Told.{next_bucket}
+use Rattle.call_verdicts.specs.Outside.{names, site_call, outside}
 use Rattle.call_verdicts.specs.Verdicts.{around_call}
-use Rattle.call_verdicts.specs.Words.{named_by, replay_shelf, replay_word}
+use Rattle.call_verdicts.specs.Words.{replay_names, named_by, replay_shelf, replay_word}
 use Rattle.call_verdicts.specs.declared.words.Named.{Named}
 use Rattle.call_verdicts.proofs.Checks.{caused_run, caused_words, not_named}
 use Rattle.call_verdicts.proofs.BucketAsked.{none_asked}
@@ -19,8 +21,7 @@ use Rattle.replay_cli.proofs.replay.come_to.Goals as goal
 pub returns-in-Some-clause-cause : goal.returns-in-Some-clause-cause
 returns-in-Some-clause-cause g c = (
   caused_run
-      (λ bucket shelf block. around_call IsInPhases g.R.Source.left g.R.Source.faults c.args.script.now c.read_and_run.new.script g.S.Site.buckets g.S.Site.next_bucket g.S.Site.shelves g.S.Site.next_shelf g.S.Site.faults bucket shelf block
-      c.args.site.now c.read_and_run.new.site g.S.Store.Bucket.faults g.S.Files.Shelf.faults c.read_and_run.result.conclusion.store c.read_and_run.result.shelf c.read_and_run.result.conclusion.journal)
+      (λ bucket shelf block. around_call IsInPhases (outside (g.R.Source.told c.args.script.now) (g.R.Source.told c.read_and_run.new.script) (site_call (g.S.Site.told c.args.site.now) (g.S.Site.told c.read_and_run.new.site) g.S.Store.Bucket.told g.S.Files.Shelf.told)) (names bucket shelf block) c.read_and_run.result.conclusion.store c.read_and_run.result.shelf c.read_and_run.result.conclusion.journal)
       (Some c.in-Some.named.bucket.now) (replay_word c.args.words.now) (named_by c.in-Some.named.shelf.now) (replay_shelf c.args.words.now) None None c.read_and_run.result.conclusion.verdict
       c.in-Some.ensures.bucket c.in-Some.ensures.shelf refl
       (is_named c.in-Some.named.bucket.now (replay_word c.args.words.now) c.in-Some.ensures.bucket) refl c.read_and_run.ensures.cause,
@@ -38,12 +39,12 @@ returns-in-Some-clause-back g c = c.read_and_run.ensures.back
 
 pub returns-in-Some-clause-untouched : goal.returns-in-Some-clause-untouched
 returns-in-Some-clause-untouched g c =
-    untouched_named g.S.Store.Bucket.contents (g.S.Site.next_bucket c.args.site.now) (Some c.in-Some.named.bucket.now) (replay_word c.args.words.now) c.read_and_run.result.conclusion.journal c.read_and_run.result.conclusion.store
+    untouched_named g.S.Store.Bucket.told (next_bucket (g.S.Site.told c.args.site.now)) (Some c.in-Some.named.bucket.now) (replay_word c.args.words.now) c.read_and_run.result.conclusion.journal c.read_and_run.result.conclusion.store
     c.in-Some.ensures.bucket c.read_and_run.ensures.untouched
 
 pub returns-in-Some-clause-shelf : goal.returns-in-Some-clause-shelf
 returns-in-Some-clause-shelf g c =
-    shelf_named g.S.Site.shelves g.S.Site.next_shelf g.S.Files.Shelf.files (named_by c.in-Some.named.shelf.now) (replay_shelf c.args.words.now) c.args.site.now c.read_and_run.new.site c.read_and_run.result.shelf
+    shelf_named g.S.Files.Shelf.told (named_by c.in-Some.named.shelf.now) (replay_shelf c.args.words.now) (g.S.Site.told c.args.site.now) (g.S.Site.told c.read_and_run.new.site) c.read_and_run.result.shelf
     c.in-Some.ensures.shelf c.read_and_run.ensures.shelf
 
 pub returns-in-Some-clause-asked : goal.returns-in-Some-clause-asked
@@ -55,8 +56,7 @@ pub returns-in-None-clause-cause : goal.returns-in-None-clause-cause
 returns-in-None-clause-cause g c =
     let none : replay_word c.args.words.now ≡ None = sym c.read_replay.ensures.bucket ∙ ap (option_map (λ (named : Named). named.bucket.now)) c.in-None.is in (
       caused_words
-          (around_call IsInPhases g.R.Source.left g.R.Source.faults c.args.script.now c.args.script.now g.S.Site.buckets g.S.Site.next_bucket g.S.Site.shelves g.S.Site.next_shelf g.S.Site.faults (replay_word c.args.words.now) (replay_shelf c.args.words.now) None
-          c.args.site.now c.args.site.now g.S.Store.Bucket.faults g.S.Files.Shelf.faults c.without_bucket.result.store None c.without_bucket.result.journal)
+          (around_call IsInPhases (outside (g.R.Source.told c.args.script.now) (g.R.Source.told c.args.script.now) (site_call (g.S.Site.told c.args.site.now) (g.S.Site.told c.args.site.now) g.S.Store.Bucket.told g.S.Files.Shelf.told)) (replay_names c.args.words.now) c.without_bucket.result.store None c.without_bucket.result.journal)
           c.without_bucket.result.verdict (not_named (replay_word c.args.words.now) none) c.without_bucket.ensures.journal refl refl c.without_bucket.ensures.verdict
           (record { handed = refl; next = refl }, record { handed = refl; next = refl }),
       not_short c.without_bucket.result.verdict WordsRefused _ c.without_bucket.ensures.verdict tt,
@@ -69,7 +69,7 @@ returns-in-Some-clause-asked_bucket g c = c.read_and_run.ensures.asked_bucket
 
 pub returns-in-None-clause-asked_bucket : goal.returns-in-None-clause-asked_bucket
 returns-in-None-clause-asked_bucket g c = λ never.
-    none_asked g.S.Store.Bucket.asked c.without_bucket.result.verdict c.without_bucket.result.journal c.without_bucket.result.store c.without_bucket.ensures.journal
+    none_asked g.S.Store.Bucket.told c.without_bucket.result.verdict c.without_bucket.result.journal c.without_bucket.result.store c.without_bucket.ensures.journal
 
 -- ---- the note of a run
 
@@ -78,4 +78,4 @@ returns-in-Some-clause-noted g c = c.read_and_run.ensures.noted
 
 pub returns-in-None-clause-noted : goal.returns-in-None-clause-noted
 returns-in-None-clause-noted g c =
-    without_bucket met_alone g.S.Store.Bucket.asked c.without_bucket.result.verdict c.without_bucket.result.journal c.without_bucket.result.store None refl c.without_bucket.ensures.journal c.without_bucket.ensures.store (ap tells_full c.without_bucket.ensures.verdict)
+    without_bucket met_alone g.S.Store.Bucket.told c.without_bucket.result.verdict c.without_bucket.result.journal c.without_bucket.result.store None refl c.without_bucket.ensures.journal c.without_bucket.ensures.store (ap tells_full c.without_bucket.ensures.verdict)

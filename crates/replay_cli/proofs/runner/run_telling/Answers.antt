@@ -6,7 +6,7 @@ use Rattle.phase_runner.specs.Passes.{view_of}
 use Rattle.call_verdicts.specs.script_running.specs.Shelves.{setting_by}
 use Rattle.call_verdicts.specs.script_running.specs.Beside.{HasRunBeside}
 use Rattle.call_verdicts.specs.declared.verdict.Verdict.TheVariants as verdict
-use Rattle.call_verdicts.specs.Asked.{WasAsked, for_opening}
+use Rattle.call_verdicts.specs.Asked.{calls_asked, WasAsked, for_opening}
 use Rattle.call_verdicts.specs.Noted.{met_alone}
 use Rattle.call_verdicts.proofs.BucketAsked.{run_asked}
 use Rattle.call_verdicts.proofs.Noted.{noted_world, unnoted, unwanted_by}
@@ -41,12 +41,12 @@ returns-in-Ok g c =
           (subst (λ (es : List Entry). HasRunBeside (setting_by c.args.script.now c.args.shelf.now) es c.in-Ok.end.outcomes c.in-Ok.end.came) (sym (ap (λ w. w.journal) over)) c.in-Ok.ensures.ran)
           (ends_over c.args.script.now c.entries.result.now world.journal c.run_beside.new.report.lines v (c.entries.ensures ∙ c.journal-journal.ensures.journal ∙ ap (λ w. w.journal) c.world-world.ensures ∙ sym (ap (λ w. w.journal) over)) c.verdict_of-verdict.ensures.whole)
           c.verdict_of-verdict.ensures.full c.verdict_of-verdict.ensures.none;
-      unfailed = λ none. ap (λ w. g.B.Bucket.faults w.bucket) over ∙ c.in-Ok.ensures.unfailed (sym (ap (λ w. failed_count w.journal) over) ∙ none);
-      all = λ never before was. subst (IsAllAsked g.B.Bucket.asked before) (sym over) (c.in-Ok.ensures.all (unwanted_by known.wanted v never short) before was);
-      noted = noted_world met_alone g.B.Bucket.asked v world known.refused known.wanted c.of_closed.result.note c.of_closed.ensures.note
+      unfailed = λ none. ap (λ w. (g.B.Bucket.told w.bucket).faults) over ∙ c.in-Ok.ensures.unfailed (sym (ap (λ w. failed_count w.journal) over) ∙ none);
+      all = λ never before was. subst (IsAllAsked g.B.Bucket.told before) (sym over) (c.in-Ok.ensures.all (unwanted_by known.wanted v never short) before was);
+      noted = noted_world met_alone g.B.Bucket.told v world known.refused known.wanted c.of_closed.result.note c.of_closed.ensures.note
           (alone_told known.refused known.wanted c.in-Ok.end.came came v c.in-Ok.ensures.refused is (full_told c.args.script.now c.entries.result.now c.run_beside.new.report.lines came v c.verdict_of-verdict.ensures.whole c.verdict_of-verdict.ensures.full c.verdict_of-verdict.ensures.none))
           short
-          (λ never. run_asked g.B.Bucket.asked c.args.world world c.requires.may.fresh c.requires.may.asked (λ before was. subst (IsAllAsked g.B.Bucket.asked before) (sym over) (c.in-Ok.ensures.all never before was)));
+          (λ never. run_asked g.B.Bucket.told c.args.world world c.requires.may.fresh c.requires.may.asked (λ before was. subst (IsAllAsked g.B.Bucket.told before) (sym over) (c.in-Ok.ensures.all never before was)));
     }
 
 -- ---- nothing was begun
@@ -60,8 +60,8 @@ returns-in-Err g c =
     let none = ap (λ w. w.journal) same ∙ c.requires.may.fresh in
     record {
       cause = none_beside (setting_by c.args.script.now c.args.shelf.now) c.unbegun.result.world.journal none;
-      unfailed = λ _. ap (λ w. g.B.Bucket.faults w.bucket) same;
+      unfailed = λ _. ap (λ w. (g.B.Bucket.told w.bucket).faults) same;
       all = λ never before was. absurd (never refl);
-      noted = unnoted met_alone g.B.Bucket.asked verdict.NoMemory (Some c.unbegun.result.world.journal) (Some c.unbegun.result.world.bucket) c.unbegun.result.note c.unbegun.ensures.note none refl
-          (inr (subst (WasAsked g.B.Bucket.asked for_opening) (sym (ap (λ w. w.bucket) same)) c.requires.may.asked));
+      noted = unnoted met_alone g.B.Bucket.told verdict.NoMemory (Some c.unbegun.result.world.journal) (Some c.unbegun.result.world.bucket) c.unbegun.result.note c.unbegun.ensures.note none refl
+          (inr (subst (WasAsked (calls_asked g.B.Bucket.told) for_opening) (sym (ap (λ w. w.bucket) same)) c.requires.may.asked));
     }

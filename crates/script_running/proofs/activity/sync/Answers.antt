@@ -7,9 +7,9 @@ use Rattle.script_workers.specs.declared.work.Work.TheVariants as works
 use Rattle.script_running.specs.Lending.{setting_in}
 use Rattle.lifecycle_core.specs.Tasks.{sync_rules, synced}
 use Rattle.script_running.specs.Outcomes.{sync_outcome}
-use Rattle.script_running.specs.declared.part.Part.TheVariants as part
-use Rattle.script_running.specs.Drives.{sync_came}
-use Rattle.script_running.proofs.Syncs.{driven_told, wanted_by}
+use Rattle.script_running.specs.declared.came.Came.TheVariants as part
+use Rattle.script_running.proofs.Leaving.{end_left}
+use Rattle.script_running.proofs.Syncs.{driven_told}
 use Rattle.script_running.proofs.activity.sync.Goals as goal
 
 pub returns-clause-ran : goal.returns-clause-ran
@@ -20,5 +20,5 @@ returns-clause-ran g c =
     (subst (λ (r : SyncRules). Drives (SyncRun r) (g.H.Hand.seat c.args.hand.now) None c.run_sync.result (g.H.Hand.entries c.args.hand.now) (g.H.Hand.entries c.run_sync.new.hand)) c.sync_rules.ensures.rules c.run_sync.ensures.run) in
     (_, told.0, told.1, c.take_view.ensures.view)
 
-pub returns-clause-wanted : goal.returns-clause-wanted
-returns-clause-wanted g c = wanted_by sync_came c.run_sync.result c.take_view.result refl c.take_view.ensures.came c.run_sync.ensures.wanted
+pub returns-clause-hand : goal.returns-clause-hand
+returns-clause-hand g c = end_left g.H.Hand.entries g.H.Hand.known g.H.Hand.seat g.H.Hand.front g.H.Hand.refused g.H.Hand.wanted g.H.Hand.keeps (λ end. part.Sync (sync_outcome end)) _ _ c.run_sync.result c.take_view.result c.take_view.ensures.came c.run_sync.ensures.hand

@@ -115,8 +115,8 @@ returns-clause-came g c =
     ((c.run_phase-end.result.root ≡ c.begin_phase-begun.result.1) × (c.run_phase-end.result.ends.items ≡ [])) c.run_phase-end.result.memory c.if-end.false c.run_phase-end.ensures.run in
     phase_comes c.args.script.now c.args.means.now.shelf c.args.place c.args.phase.now c.requires.at c.args.root c.args.standing.now.sights.items c.args.standing.now.outcomes c.requires.gone c.requires.own.1 c.begin_phase-begun.result.1 clock.0 clock.1
     c.args.means.now c.requires.lent refl c.requires.lawful c.begin_phase-begun.result.1.splits (c.begin_phase-begun.ensures.pass.2 ∙ c.requires.seats) c.members-workers.result.now are c.in-Ok-jobs_of.jobs.items sent
-    c.run_phase-end.result.root (vec_len c.in-Ok-jobs_of.jobs) run.0 run.1 c.run_phase-end.result.ends.items run.2 c.gather-came.new.sights.items c.gather-came.new.outcomes c.gather-came.result (c.gather-came.ensures.each ∙ c.jobs_of.ensures.each)
-    (λ after own lasts have left. c.gather-came.ensures.gathers (setting_by c.args.script.now c.args.means.now.shelf) c.args.place c.args.phase.now c.requires.gone.held after (view_of c.run_phase-end.result.root).front run.0 own lasts c.requires.lawful (gateways_counted c.args.script.now c.requires.lawful c.jobs_of.new.sights.items (c.jobs_of.ensures.each ∙ c.requires.gone.each)) c.requires.at c.members.ensures are have left
+    c.run_phase-end.result.root (vec_len c.in-Ok-jobs_of.jobs) run.0 run.1 c.run_phase-end.result.ends.items run.2 c.gather-came.new.standing.sights.items c.gather-came.new.standing.outcomes c.gather-came.result (c.gather-came.ensures.each ∙ c.jobs_of.ensures.each)
+    (λ after own lasts have left. c.gather-came.ensures.gathers (setting_by c.args.script.now c.args.means.now.shelf) c.args.place c.args.phase.now c.requires.gone.held after (view_of c.run_phase-end.result.root).front run.0 own lasts (record { lawful = c.requires.lawful; at = c.requires.at; tasks = c.members.ensures; workers = are }) (gateways_counted c.args.script.now c.requires.lawful c.jobs_of.new.sights.items (c.jobs_of.ensures.each ∙ c.requires.gone.each)) have left
     (c.in-Ok-jobs_of.ensures.left c.requires.gone.held c.requires.gone.seen))
 
 -- ---- whether the full journal was met
@@ -203,7 +203,7 @@ returns-then-end-clause-kept g c = refl
 
 pub returns-clause-reported : goal.returns-clause-reported
 returns-clause-reported g c = λ before told.
-    subst (λ (ts : List Task). OnOk c.gather-came.result (g.P.Report.tells c.gather-came.new.report c.args.script.now (before ++ ts) c.gather-came.new.outcomes)) c.members.ensures (c.gather-came.ensures.reported before told)
+    subst (λ (ts : List Task). OnOk c.gather-came.result (g.P.Report.tells c.gather-came.new.report c.args.script.now (before ++ ts) c.gather-came.new.standing.outcomes)) c.members.ensures (c.gather-came.ensures.reported before told)
 
 pub returns-clause-unreported : goal.returns-clause-unreported
 returns-clause-unreported g c = c.gather-came.ensures.unreported

@@ -9,7 +9,7 @@ use Rattle.world_turn.specs.Passes.{view_of}
 use Rattle.world_turn.specs.declared.pass.Pass.{Pass}
 use Rattle.script_running.specs.Beside.{HasRunBeside}
 use Rattle.script_running.specs.Tasks.{is_full_came}
-use Rattle.script_running.specs.declared.outcome.Outcome.{Outcome}
+use Rattle.script_running.specs.Outcomes.{Outcome}
 use Rattle.script_running.specs.declared.shelf.ShelfBlock.{ShelfBlock}
 use Rattle.script_running.proofs.Running.{first_gone, none_before, run_came}
 use Rattle.script_running.proofs.beside.run_beside.Goals as goal

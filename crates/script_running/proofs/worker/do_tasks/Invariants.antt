@@ -1,5 +1,5 @@
-use Rattle.std.proofs.Common.{◌≡◌, ◌≤◌, length, take}
-use Rattle.std.specs.Prelude.{IsTrue}
+use Rattle.std.proofs.Common.{◌≡◌, ◌≤◌, false, length, take}
+use Rattle.world_core.specs.Turning.{Turned}
 use Rattle.lifecycle_core.specs.Conducts.{Who}
 use Rattle.lifecycle_core.specs.Holdings.{Holding}
 use Rattle.script_running.specs.Lending.{setting_in}
@@ -14,10 +14,7 @@ invariant-loop-number g l =
     record {
       worked : (who : Who) (held : Holding) → who.gateway ≡ l.gateway → Sees held l.initial.sight
           → Worked (setting_in l.means) l.tasks who (take l.number l.places) held (h.seat l.initial.hand) (h.entries l.initial.hand) (h.entries l.hand) l.sight l.parts.items;
-      seat : h.seat l.hand ≡ h.seat l.initial.hand;
-      refused : h.refused l.hand ≡ h.refused l.initial.hand;
-      keeps : h.keeps l.initial.hand l.hand;
-      wanted : IsTrue (h.wanted l.hand) → IsTrue (h.wanted l.initial.hand);
+      turned : Turned h.entries h.known h.seat h.front h.refused h.wanted h.keeps l.initial.hand l.hand false false;
       count : length l.parts.items ≡ l.number;
       room : length l.places ≤ l.parts.cap;
     }

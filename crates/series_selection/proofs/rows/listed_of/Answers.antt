@@ -1,6 +1,6 @@
 use Rattle.std.proofs.Common.{sym, ap, subst, ◌∙◌}
 use Rattle.index_v2.proofs.WholeLoops.{gives_stop}
-use Rattle.series_selection.specs.SelectionSteps.{numbers_at, ListsStand, IsWithinBudget}
+use Rattle.series_selection.specs.SelectionSteps.{numbers_at, ListsStand}
 use Rattle.series_selection.proofs.OneRow.{named_rows}
 use Rattle.series_selection.proofs.rows.listed_of.Goals as goal
 
@@ -12,9 +12,6 @@ returns-clause-wanted c = c.requires.wanted_is
 
 pub returns-clause-stand : goal.returns-clause-stand
 returns-clause-stand c = subst (ListsStand c.args.index.now) (named_rows c.args.matcher.now c.as_str.result.now c.args.value.now c.args.wanted c.args.index.now.rows c.as_str.ensures c.requires) c.in_ok-listed.ensures.stand
-
-pub returns-clause-budget : goal.returns-clause-budget
-returns-clause-budget c = subst (IsWithinBudget c.args.index.now.lists) (named_rows c.args.matcher.now c.as_str.result.now c.args.value.now c.args.wanted c.args.index.now.rows c.as_str.ensures c.requires) c.in_ok-listed.ensures.budget
 
 pub returns-in_err-listed-clause-gives : goal.returns-in_err-listed-clause-gives
 returns-in_err-listed-clause-gives c =

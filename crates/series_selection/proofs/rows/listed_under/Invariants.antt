@@ -8,6 +8,6 @@ use Rattle.series_selection.proofs.rows.listed_under.Given as goal
 abbrev pub invariant-loop-place : goal.invariant-loop-place
 invariant-loop-place l =
     BeginsAt l.index.rows l.matcher.name l.initial.place
-    × ReadSoFar l.index l.matcher l.initial.place l.place l.listed.numbers.items l.listed.left
+    × ReadSoFar l.index l.matcher l.initial.place l.place l.listed.numbers.items
     × (condition_asked l.searcher ≡ l.matcher.condition)
     × (l.listed.is_one ≡ true → IsStrictlyIncreasing l.listed.numbers.items)

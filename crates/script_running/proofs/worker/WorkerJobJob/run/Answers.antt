@@ -1,9 +1,10 @@
-use Rattle.std.proofs.Common.{◌≡◌, ◌++◌, ◌<◌, inl, inr, ℕ, List, length, sym, ap, subst}
+use Rattle.std.proofs.Common.{◌≡◌, ◌++◌, ◌<◌, ℕ, List, length, sym, ap, subst}
 use Rattle.std.specs.List.{All}
 use Rattle.world_core.specs.declared.entry.Entry.{Entry}
 use Rattle.script_workers.specs.declared.task.Task.{Task}
 use Rattle.script_running.specs.Lending.{setting_in}
-use Rattle.script_running.specs.Workers.{HasWorked, MayWork, Post, is_short_end}
+use Rattle.script_running.specs.Tasks.{is_full_came}
+use Rattle.script_running.specs.Workers.{HasWorked, MayWork, Post}
 use Rattle.script_running.proofs.JobSteps.{allows_all, may_work}
 use Rattle.script_running.proofs.worker.WorkerJobJob.run.Goals as goal
 
@@ -31,7 +32,16 @@ returns-clause-run g c =
     subst (λ (ts : List Task). HasWorked (setting_in i.means.now) ts who i.worker.tasks held (g.H.Hand.seat c.args.hand.now) (g.H.Hand.entries c.args.hand.now) (g.H.Hand.entries c.do_tasks.new.hand) c.do_tasks.result) a.own
     (subst (λ (ps : List ℕ). HasWorked (setting_in i.means.now) i.tasks.now who ps held (g.H.Hand.seat c.args.hand.now) (g.H.Hand.entries c.args.hand.now) (g.H.Hand.entries c.do_tasks.new.hand) c.do_tasks.result) c.members-places.ensures
     (c.do_tasks.ensures.worked who held by sees)))
-    c.do_tasks.ensures.full)
+    (λ is. c.do_tasks.ensures.hand.is_full (ap is_full_came is)))
+
+pub returns-clause-seat : goal.returns-clause-seat
+returns-clause-seat g c = c.do_tasks.ensures.hand.same_seat
+
+pub returns-clause-refused : goal.returns-clause-refused
+returns-clause-refused g c = c.do_tasks.ensures.hand.was_refused
 
 pub returns-clause-wanted : goal.returns-clause-wanted
-returns-clause-wanted g c = λ so. elim (c.do_tasks.ensures.wanted so) [ inl before ↦ inl before | inr none ↦ inr (ap is_short_end none) ]
+returns-clause-wanted g c = c.do_tasks.ensures.hand.was_wanted
+
+pub returns-clause-keeps : goal.returns-clause-keeps
+returns-clause-keeps g c = c.do_tasks.ensures.hand.kept
