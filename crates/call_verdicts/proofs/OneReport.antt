@@ -13,7 +13,7 @@ use Rattle.std.proofs.lemmas.List.Elements.{All-contains}
 use Rattle.label_sets.specs.declared.series.Series.{Series}
 use Rattle.world_core.specs.declared.entry.Entry.{Entry}
 use Rattle.script_workers.specs.Hands.{gateway_count, gateway_of, hands_of, hands_of_task, places_from, same_hand, seats_after, worker_of, workers_from}
-use Rattle.script_workers.specs.Whose.{IsFor, IsTaskOf, asks, cleans, compacts, ships, syncs}
+use Rattle.script_workers.specs.Whose.{IsFor, IsTaskOf, does_alone, asks, syncs}
 use Rattle.script_workers.specs.declared.hand.Hand.{Hand}
 use Rattle.script_workers.specs.declared.hand.Hand.TheVariants as hands
 use Rattle.script_workers.specs.declared.phase.Phase.{Phase}
@@ -68,10 +68,8 @@ zip_once (p ∷ ps) (x ∷ own) place one other up a b =
 
 module _ (gateways : ℕ) (tasks : List Task) where
   alone_at : (own place : ℕ) (w : Work) → IsFor gateways (hands.Alone own) place w → own ≡ place
-  alone_at own place w (ships ulid stop is hand) = cc (hand)
+  alone_at own place w (does_alone none apart hand) = cc (hand)
   alone_at own place w (syncs gateway is hand) = absurd (cc (hand))
-  alone_at own place w (compacts stop is hand) = cc (hand)
-  alone_at own place w (cleans stop is hand) = cc (hand)
   alone_at own place w (asks gateway is hand below) = absurd (cc (hand))
 
   hand_by : (one other : Hand) (place : ℕ) (w v : Work) → gateway_of one ≡ gateway_of other → IsFor gateways one place w → IsFor gateways other place v → one ≡ other
