@@ -18,6 +18,7 @@ use Rattle.script_workers.specs.declared.hand.Hand.{Hand}
 use Rattle.script_workers.specs.declared.hand.Hand.TheVariants as hands
 use Rattle.script_workers.specs.declared.phase.Phase.{Phase}
 use Rattle.script_workers.specs.declared.task.Task.{Task}
+use Rattle.script_workers.specs.Works.{asks_all}
 use Rattle.script_workers.specs.declared.work.Work.{Work}
 use Rattle.script_workers.specs.declared.work.Work.TheVariants as work
 use Rattle.script_workers.specs.declared.worker.Worker.{Worker}
@@ -32,7 +33,7 @@ use Rattle.vertical_merge.proofs.OneMerge.{one_merge}
 use Rattle.report_lines.specs.lifecycle_core.proofs.phases.HandLists.{Apart, joins_from}
 use Rattle.report_lines.specs.lifecycle_core.proofs.phases.OneCut.{cut_is_unfinished, cuts_tell}
 use Rattle.report_lines.specs.lifecycle_core.proofs.phases.OneEnding.{ends_tell}
-use Rattle.report_lines.specs.script_running.specs.Outcomes.{IsOutcome, IsOutcomeOf, IsPart, IsQueryOutcome, IsWhole, Outcome, Part, PhasesCame, TaskCame, TasksCame, answers_of, is_as_asked}
+use Rattle.report_lines.specs.script_running.specs.Outcomes.{IsOutcome, IsOutcomeOf, IsPart, IsQueryOutcome, IsWhole, Outcome, OutcomeBy, Part, PhasesCame, TaskCame, TasksCame, answers_of, is_as_asked}
 use Rattle.report_lines.specs.script_running.proofs.GivenParts.{same_parts}
 use Rattle.report_lines.specs.script_running.specs.declared.outcome.NoAnswer.{NoAnswer}
 use Rattle.report_lines.specs.script_running.specs.declared.came.Came.TheVariants as outcome
@@ -201,14 +202,14 @@ alone_once : (parts : List Part) (own too : Part) (one other : Outcome) → part
 alone_once parts own too one other are also is so =
     let same : own ≡ too = cc (are, also) in whole_once own one other is (subst (λ (p : Part). IsWhole p other) (sym same) so)
 
-of_once : (w : Work) (parts : List Part) (one other : Outcome) → IsOutcomeOf w parts one → IsOutcomeOf w parts other → one ≡ other
-of_once (work.Upload ulid stop) parts one other (own, are, is) (too, also, so) = alone_once parts own too one other are also is so
-of_once (work.Sync gateway) parts one other (own, are, is) (too, also, so) = alone_once parts own too one other are also is so
-of_once (work.Compact stop) parts one other (own, are, is) (too, also, so) = alone_once parts own too one other are also is so
-of_once (work.Clean stop) parts one other (own, are, is) (too, also, so) = alone_once parts own too one other are also is so
-of_once (work.Query low high selector) parts one other (own, end, are, is, o) (too, also, so_are, so, p) =
+once_by : (all : Bool) (parts : List Part) (one other : Outcome) → OutcomeBy all parts one → OutcomeBy all parts other → one ≡ other
+once_by false parts one other (own, are, is) (too, also, so) = alone_once parts own too one other are also is so
+once_by true parts one other (own, end, are, is, o) (too, also, so_are, so, p) =
     let same : own ≡ too = same_parts own too (sym are ∙ so_are) in
     o ∙ ap outcome.Query (query_once own end also is (subst (λ (l : List QueryPart). IsQueryOutcome l also) (sym same) so)) ∙ sym p
+
+of_once : (w : Work) (parts : List Part) (one other : Outcome) → IsOutcomeOf w parts one → IsOutcomeOf w parts other → one ≡ other
+of_once w parts one other is so = once_by (asks_all w) parts one other is so
 
 pub outcome_once : (w : Work) (own : List End) (one other : Outcome) → IsOutcome w own one → IsOutcome w own other → one ≡ other
 outcome_once w own one other (parts, zipped, of) (others, also, so) =

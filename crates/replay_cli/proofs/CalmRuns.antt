@@ -1,5 +1,5 @@
 -- Where every task has ended well, every outcome is as asked.
-use Rattle.std.proofs.Common.{◌≡◌, inl, inr, ℕ, ◌+◌, Bool, true, List, [], ◌∷◌, Contains, Option, refl, ◌∙◌, ap, subst, None, map, sym}
+use Rattle.std.proofs.Common.{◌≡◌, inl, inr, ℕ, ◌+◌, Bool, true, false, List, [], ◌∷◌, Contains, Option, refl, ◌∙◌, ap, subst, None, map, sym}
 use Rattle.std.specs.List.{AllZip, list_all, AllByRecursion}
 use Rattle.std.proofs.lemmas.List.Folds.{list_all-append}
 use Rattle.std.proofs.lemmas.Bool.{and_from}
@@ -21,6 +21,7 @@ use Rattle.script_workers.specs.declared.hand.Hand.{Hand}
 use Rattle.script_workers.specs.declared.phase.Phase.{Phase}
 use Rattle.script_core.specs.declared.script.Script.{Script}
 use Rattle.script_workers.specs.declared.task.Task.{Task}
+use Rattle.script_workers.specs.Works.{asks_all}
 use Rattle.script_workers.specs.declared.work.Work.{Work}
 use Rattle.script_workers.specs.declared.work.Work.TheVariants as work
 use Rattle.script_workers.specs.declared.worker.Worker.{Worker}
@@ -32,7 +33,7 @@ use Rattle.call_verdicts.specs.lifecycle_core.specs.Tasks.{End, answered, cleane
 use Rattle.call_verdicts.specs.lifecycle_core.proofs.phases.Turns.{finished_in_turn}
 use Rattle.base.proofs.Membership.{contains_first, contains_later, member_cases, no_member}
 use Rattle.base.proofs.Pairs.{second_in_zip}
-use Rattle.call_verdicts.specs.script_running.specs.Outcomes.{IsOutcome, IsOutcomeOf, IsPart, IsQueryOutcome, IsWhole, Outcome, Part, PhasesCame, TasksCame, call_part, first_none, is_as_asked, sync_outcome, why_none}
+use Rattle.call_verdicts.specs.script_running.specs.Outcomes.{IsOutcome, IsOutcomeOf, IsPart, IsQueryOutcome, IsWhole, Outcome, OutcomeBy, Part, PhasesCame, TasksCame, call_part, first_none, is_as_asked, sync_outcome, why_none}
 use Rattle.call_verdicts.specs.Shippable.{IsTooGreat, RefusesNone, StaysWithin}
 use Rattle.call_verdicts.specs.Verdicts.{IsTrusted, IsWholeRun}
 use Rattle.replay_cli.proofs.Refusals.{none_refused}
@@ -138,12 +139,12 @@ whole_asked (part.Compact end) o fine is = asked_as o (outcome.Compact end) is f
 whole_asked (part.Clean end) o fine is = asked_as o (outcome.Clean end) is fine
 whole_asked (part.Query own) o fine is = absurd is
 
+asked_by : (all : Bool) (parts : List Part) (o : Outcome) → AllByRecursion IsFine parts → OutcomeBy all parts o → is_as_asked o ≡ true
+asked_by false parts o fine (one, are, is) = whole_asked one o (subst (AllByRecursion IsFine) are fine).0 is
+asked_by true parts o fine (own, end, are, is, same) = asked_as o (outcome.Query end) same (query_asked own end (subst (AllByRecursion IsFine) are fine) is)
+
 of_asked : (w : Work) (parts : List Part) (o : Outcome) → AllByRecursion IsFine parts → IsOutcomeOf w parts o → is_as_asked o ≡ true
-of_asked (work.Upload ulid stop) parts o fine (one, are, is) = whole_asked one o (subst (AllByRecursion IsFine) are fine).0 is
-of_asked (work.Sync gateway) parts o fine (one, are, is) = whole_asked one o (subst (AllByRecursion IsFine) are fine).0 is
-of_asked (work.Compact stop) parts o fine (one, are, is) = whole_asked one o (subst (AllByRecursion IsFine) are fine).0 is
-of_asked (work.Clean stop) parts o fine (one, are, is) = whole_asked one o (subst (AllByRecursion IsFine) are fine).0 is
-of_asked (work.Query low high n) parts o fine (own, end, are, is, same) = asked_as o (outcome.Query end) same (query_asked own end (subst (AllByRecursion IsFine) are fine) is)
+of_asked w parts o fine of = asked_by (asks_all w) parts o fine of
 
 outcome_asked : (w : Work) (own : List End) (o : Outcome) → AreWell own → IsOutcome w own o → is_as_asked o ≡ true
 outcome_asked w own o well (parts, zipped, of) = of_asked w parts o (parts_fine w own parts well zipped) of

@@ -12,6 +12,7 @@ use Rattle.cleaner.specs.declared.clean.CleanEnd.TheVariants as swept
 use Rattle.store_calls.specs.declared.series_call.SeriesEnd.{SeriesEnd}
 use Rattle.store_calls.specs.declared.series_call.SeriesEnd.TheVariants as called
 use Rattle.script_workers.specs.Hands.{gateway_count, gateway_of, hands_of_task}
+use Rattle.script_workers.specs.Works.{asks_all}
 use Rattle.script_core.specs.Workers.{workers_of}
 use Rattle.script_workers.specs.declared.phase.Phase.{Phase}
 use Rattle.script_core.specs.declared.script.Script.{Script}
@@ -117,18 +118,25 @@ IsWhole (part.Compact end) o = o ≡ outcome.Compact end
 IsWhole (part.Clean end) o = o ≡ outcome.Clean end
 IsWhole (part.Query own) o = ⊥
 
--- How a task comes out, by the parts of those who did it, in their order: a query by those of all gateways, and every other task by that
--- of its one worker.
-abbrev pub IsOutcomeOf : Work → List Part → Outcome → Type 0
-IsOutcomeOf (work.Query low high selector) parts o =
+-- How a task comes out that asks all gateways, by the parts of all of them in their order; and any other, by that of its one worker.
+abbrev pub OutcomeBy : Bool → List Part → Outcome → Type 0
+OutcomeBy true parts o =
     (own : List QueryPart) × (end : QueryOutcome) × (parts ≡ map part.Query own) × IsQueryOutcome own end
     × (o ≡ outcome.Query end)
-IsOutcomeOf other parts o = (one : Part) × (parts ≡ one ∷ []) × IsWhole one o
+OutcomeBy false parts o = (one : Part) × (parts ≡ one ∷ []) × IsWhole one o
+
+-- how a task comes out, by the parts of all who did it
+abbrev pub IsOutcomeOf : Work → List Part → Outcome → Type 0
+IsOutcomeOf work parts o = OutcomeBy (asks_all work) parts o
+
+-- the parts of all gateways, or of one worker who did all
+abbrev pub PartsBy : Bool → List Part → Type 0
+PartsBy true parts = (own : List QueryPart) × (parts ≡ map part.Query own)
+PartsBy false parts = (one : Part) × (o : Outcome) × (parts ≡ one ∷ []) × IsWhole one o
 
 -- the parts are those of all who do the task
 abbrev pub AreAllParts : Work → List Part → Type 0
-AreAllParts (work.Query low high selector) parts = (own : List QueryPart) × (parts ≡ map part.Query own)
-AreAllParts other parts = (one : Part) × (o : Outcome) × (parts ≡ one ∷ []) × IsWhole one o
+AreAllParts work parts = PartsBy (asks_all work) parts
 
 -- How a task comes out, by the ends of those who did it, in their order.
 abbrev pub IsOutcome : Work → List End → Outcome → Type 0
