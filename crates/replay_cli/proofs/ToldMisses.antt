@@ -26,13 +26,12 @@ use Rattle.call_verdicts.specs.lifecycle_core.specs.Tasks.{End, answered, cleane
 use Rattle.call_verdicts.specs.lifecycle_core.proofs.phases.Turns.{cut_in_turn, finished_in_turn}
 use Rattle.call_verdicts.specs.script_running.specs.Outcomes.{IsOutcome, IsPart, IsQueryOutcome, IsWhole, Outcome, Part, PhasesCame, TaskCame, TasksCame, call_part, first_none}
 use Rattle.call_verdicts.specs.Verdicts.{IsFullRun, IsWholeRun}
-use Rattle.call_verdicts.specs.script_running.specs.declared.came.Came.TheVariants as outcome
+use Rattle.call_verdicts.specs.script_running.specs.declared.came.Came.TheVariants as came_to
 use Rattle.call_verdicts.specs.script_running.specs.declared.came.Stop.TheVariants as halt
 use Rattle.call_verdicts.specs.script_running.specs.declared.outcome.QueryOutcome.{QueryOutcome}
 use Rattle.call_verdicts.specs.script_running.specs.declared.outcome.QueryOutcome.TheVariants as query
 use Rattle.call_verdicts.specs.script_running.specs.declared.outcome.NoAnswer.{NoAnswer}
 use Rattle.call_verdicts.specs.script_running.specs.declared.outcome.NoAnswer.TheVariants as none
-use Rattle.call_verdicts.specs.script_running.specs.declared.came.Came.TheVariants as part
 use Rattle.call_verdicts.specs.script_running.specs.declared.outcome.QueryPart.{QueryPart}
 use Rattle.call_verdicts.specs.script_running.specs.declared.outcome.QueryPart.TheVariants as given
 use Rattle.std.proofs.lemmas.Option.{same_Some}
@@ -41,7 +40,7 @@ use Rattle.replay_cli.proofs.ToldAnswers.{inner}
 
 -- a line that tells of a missing object
 abbrev missing : ℕ → ℕ → Outcome
-missing gateway number = outcome.Query (query.NoAnswer gateway (none.Missing number))
+missing gateway number = came_to.Query (query.NoAnswer gateway (none.Missing number))
 
 -- one end of its task was such a call's
 abbrev Missed : List End → ℕ → Type 0
@@ -55,7 +54,7 @@ call_missed number used (called.Missing m) is =
 call_missed number used (called.Damaged m) is = absurd (cc (is))
 call_missed number used (called.Fault m) is = absurd (cc (is))
 
-part_missed : (low high : ℤ) (n number : ℕ) (end : End) → IsPart (work.Query low high n) end (part.Query (given.NoAnswer (none.Missing number))) → Missed (end ∷ []) number
+part_missed : (low high : ℤ) (n number : ℕ) (end : End) → IsPart (work.Query low high n) end (came_to.Query (given.NoAnswer (none.Missing number))) → Missed (end ∷ []) number
 part_missed low high n number (answered used e) is = call_missed number used e (inner (given.NoAnswer (none.Missing number)) (call_part e) is)
 part_missed low high n number without_view is = absurd (let same = inner (given.NoAnswer (none.Missing number)) (given.NoAnswer none.NoView) is in cc (same))
 part_missed low high n number not_asked is = absurd (let same = inner (given.NoAnswer (none.Missing number)) given.NotAsked is in cc (same))
@@ -69,7 +68,7 @@ part_missed low high n number (stopped count) is = absurd is
 later_missed : (end : End) (ends : List End) (number : ℕ) → Missed ends number → Missed (end ∷ ends) number
 later_missed end ends number m = (m.0, contains_later end (answered m.0 (called.Missing number)) ends m.1)
 
-query_missed : (low high : ℤ) (n first : ℕ) (ends : List End) (own : List QueryPart) (gateway number : ℕ) → AllZip (IsPart (work.Query low high n)) ends (map part.Query own) → first_none first own ≡ Some (gateway, none.Missing number) → Missed ends number
+query_missed : (low high : ℤ) (n first : ℕ) (ends : List End) (own : List QueryPart) (gateway number : ℕ) → AllZip (IsPart (work.Query low high n)) ends (map came_to.Query own) → first_none first own ≡ Some (gateway, none.Missing number) → Missed ends number
 query_missed low high n first [] [] gateway number all is = absurd (cc (is))
 query_missed low high n first [] (q ∷ own) gateway number all is = absurd all
 query_missed low high n first (end ∷ ends) [] gateway number all is = absurd all
@@ -78,10 +77,10 @@ query_missed low high n first (end ∷ ends) (given.Answer a ∷ own) gateway nu
 query_missed low high n first (end ∷ ends) (given.NoAnswer why ∷ own) gateway number all is =
     let pair : ◌≡◌ {A = ℕ × NoAnswer} (first, why) (gateway, none.Missing number) = same_Some (first, why) (gateway, none.Missing number) is in
     let same : why ≡ none.Missing number = ap (λ (p : ℕ × NoAnswer). p.1) pair in
-    let m = part_missed low high n number end (subst (λ (y : NoAnswer). IsPart (work.Query low high n) end (part.Query (given.NoAnswer y))) same all.0) in
+    let m = part_missed low high n number end (subst (λ (y : NoAnswer). IsPart (work.Query low high n) end (came_to.Query (given.NoAnswer y))) same all.0) in
     (m.0, Contains-append_left (end ∷ []) ends (answered m.0 (called.Missing number)) m.1)
 
-end_is : (gateway number : ℕ) (end : QueryOutcome) → missing gateway number ≡ outcome.Query end → end ≡ query.NoAnswer gateway (none.Missing number)
+end_is : (gateway number : ℕ) (end : QueryOutcome) → missing gateway number ≡ came_to.Query end → end ≡ query.NoAnswer gateway (none.Missing number)
 end_is gateway number end is = cc (is)
 
 -- some end of a task is such a one
@@ -95,13 +94,13 @@ IsCallMiss number end = (used : Use) × (end ≡ answered used (called.Missing n
 abbrev IsCompactionMiss : ℕ → End → Type 0
 IsCompactionMiss number end = end ≡ compacted (merged.Missing number)
 
-no_whole : (one : Part) (end : QueryOutcome) → IsWhole one (outcome.Query end) → ⊥
-no_whole (part.Upload own) end is = absurd (cc (is))
-no_whole (part.Unshipped cause) end is = absurd (cc (is))
-no_whole (part.Sync own) end is = absurd (cc (is))
-no_whole (part.Compact own) end is = absurd (cc (is))
-no_whole (part.Clean own) end is = absurd (cc (is))
-no_whole (part.Query own) end is = is
+no_whole : (one : Part) (end : QueryOutcome) → IsWhole one (came_to.Query end) → ⊥
+no_whole (came_to.Upload own) end is = absurd (cc (is))
+no_whole (came_to.Unshipped cause) end is = absurd (cc (is))
+no_whole (came_to.Sync own) end is = absurd (cc (is))
+no_whole (came_to.Compact own) end is = absurd (cc (is))
+no_whole (came_to.Clean own) end is = absurd (cc (is))
+no_whole (came_to.Query own) end is = is
 
 all_missed : (gateway number : ℕ) (w : Work) (own : List End) → IsOutcome w own (missing gateway number) → HasEnd (IsCallMiss number) own
 all_missed gateway number (work.Upload ulid stop) own (parts, zipped, (one, are, whole)) = absurd (no_whole one (query.NoAnswer gateway (none.Missing number)) whole)
@@ -116,17 +115,17 @@ all_missed gateway number (work.Query low high n) own (parts, zipped, (given_par
 
 -- a line that tells of a compaction's missing object
 abbrev missing_input : ℕ → Outcome
-missing_input number = outcome.Compact (halt.Ended (merged.Missing number))
+missing_input number = came_to.Compact (halt.Ended (merged.Missing number))
 
-whole_input : (number : ℕ) (one : Part) → IsWhole one (missing_input number) → one ≡ part.Compact (halt.Ended (merged.Missing number))
-whole_input number (part.Upload end) is = absurd (cc (is))
-whole_input number (part.Unshipped cause) is = absurd (cc (is))
-whole_input number (part.Sync end) is = absurd (cc (is))
-whole_input number (part.Compact end) is = let same : end ≡ halt.Ended (merged.Missing number) = cc (is) in ap part.Compact same
-whole_input number (part.Clean end) is = absurd (cc (is))
-whole_input number (part.Query own) is = absurd is
+whole_input : (number : ℕ) (one : Part) → IsWhole one (missing_input number) → one ≡ came_to.Compact (halt.Ended (merged.Missing number))
+whole_input number (came_to.Upload end) is = absurd (cc (is))
+whole_input number (came_to.Unshipped cause) is = absurd (cc (is))
+whole_input number (came_to.Sync end) is = absurd (cc (is))
+whole_input number (came_to.Compact end) is = let same : end ≡ halt.Ended (merged.Missing number) = cc (is) in ap came_to.Compact same
+whole_input number (came_to.Clean end) is = absurd (cc (is))
+whole_input number (came_to.Query own) is = absurd is
 
-input_missed : (number : ℕ) (w : Work) (end : End) → IsPart w end (part.Compact (halt.Ended (merged.Missing number))) → IsCompactionMiss number end
+input_missed : (number : ℕ) (w : Work) (end : End) → IsPart w end (came_to.Compact (halt.Ended (merged.Missing number))) → IsCompactionMiss number end
 input_missed number (work.Upload ulid stop) (uploaded e) is = absurd (cc (is))
 input_missed number (work.Upload ulid stop) (refused cause) is = absurd (cc (is))
 input_missed number (work.Upload ulid stop) (stopped count) is = absurd (cc (is))
@@ -140,7 +139,7 @@ input_missed number (work.Query low high n) without_view is = absurd (cc (is))
 input_missed number (work.Query low high n) not_asked is = absurd (cc (is))
 input_missed number w end is = absurd is
 
-one_missed : (number : ℕ) (w : Work) (own : List End) → AllZip (IsPart w) own (part.Compact (halt.Ended (merged.Missing number)) ∷ []) → HasEnd (IsCompactionMiss number) own
+one_missed : (number : ℕ) (w : Work) (own : List End) → AllZip (IsPart w) own (came_to.Compact (halt.Ended (merged.Missing number)) ∷ []) → HasEnd (IsCompactionMiss number) own
 one_missed number w [] all = absurd all
 one_missed number w (end ∷ own) all = (end, contains_first end own, input_missed number w end all.0)
 

@@ -11,7 +11,7 @@ use Rattle.base.proofs.Pairs.{second_in_zip, beside_first}
 use Rattle.base.proofs.Options.{one_value}
 use Rattle.script_workers.specs.Hands.{gateway_count, gateway_of, hands_of, hands_of_task}
 use Rattle.script_workers.specs.Staff.{AreSeated, IsStaff, IsWorkerOf}
-use Rattle.script_workers.specs.Whose.{IsFor, IsTaskOf, asks, cleans, compacts, ships, syncs}
+use Rattle.script_workers.specs.Whose.{IsFor, IsTaskOf, does_alone, asks, syncs}
 use Rattle.script_workers.specs.declared.hand.Hand.{Hand}
 use Rattle.script_workers.specs.declared.hand.Hand.TheVariants as hands
 use Rattle.script_workers.specs.declared.phase.Phase.{Phase}
@@ -161,10 +161,10 @@ asked_fors gateways place number (suc count) low high selector within =
 
 all_fors : (gateways place : ℕ) (w : Work) → Fors gateways place w (hands_of_task gateways place w)
 unfolding hands_of_task
-all_fors gateways place (works.Upload ulid stop) = (ships ulid stop refl refl, tt)
+all_fors gateways place (works.Upload ulid stop) = (does_alone refl (λ g is. cc (is)) refl, tt)
 all_fors gateways place (works.Sync gateway) = (syncs gateway refl refl, tt)
-all_fors gateways place (works.Compact stop) = (compacts stop refl refl, tt)
-all_fors gateways place (works.Clean stop) = (cleans stop refl refl, tt)
+all_fors gateways place (works.Compact stop) = (does_alone refl (λ g is. cc (is)) refl, tt)
+all_fors gateways place (works.Clean stop) = (does_alone refl (λ g is. cc (is)) refl, tt)
 all_fors gateways place (works.Query low high selector) = asked_fors gateways place 0 gateways low high selector (omega arith)
 
 -- ---- all tasks

@@ -6,15 +6,14 @@ use Rattle.base.proofs.Lists.{drop_place}
 use Rattle.querier.specs.Gathered.{IsGathered}
 use Rattle.querier.specs.declared.answer.Answer.{Answer}
 use Rattle.querier.specs.declared.answer.Names.{Names}
+use Rattle.script_workers.specs.Works.{asks_all}
 use Rattle.script_workers.specs.declared.work.Work.{Work}
-use Rattle.script_workers.specs.declared.work.Work.TheVariants as work
 use Rattle.script_running.specs.Given.{HasGiven}
-use Rattle.script_running.specs.Outcomes.{AreAllParts, IsOutcomeOf, IsQueryOutcome, IsWhole, Outcome, Part, answers_of, first_none, names_of, or_first, why_none}
+use Rattle.script_running.specs.Outcomes.{AreAllParts, IsOutcomeOf, IsQueryOutcome, IsWhole, Outcome, OutcomeBy, Part, PartsBy, answers_of, first_none, names_of, or_first, why_none}
 use Rattle.script_running.specs.declared.outcome.NoAnswer.{NoAnswer}
-use Rattle.script_running.specs.declared.came.Came.TheVariants as outcome
+use Rattle.script_running.specs.declared.came.Came.TheVariants as came_to
 use Rattle.script_running.specs.declared.outcome.QueryOutcome.{QueryOutcome}
 use Rattle.script_running.specs.declared.outcome.QueryOutcome.TheVariants as query
-use Rattle.script_running.specs.declared.came.Came.TheVariants as part
 use Rattle.script_running.specs.declared.outcome.QueryPart.{QueryPart}
 use Rattle.script_running.specs.declared.outcome.QueryPart.TheVariants as given
 use Rattle.script_running.specs.declared.query_parts.Given.{Given}
@@ -158,57 +157,50 @@ all_answered parts before own h none gathered = (sym h.none ∙ none, subst (λ 
 
 -- ---- a task's outcome, by the parts that came before one, and all of them
 
-inner : (own : QueryPart) (other : QueryPart) → part.Query own ≡ part.Query other → own ≡ other
+inner : (own : QueryPart) (other : QueryPart) → came_to.Query own ≡ came_to.Query other → own ≡ other
 inner own other is = cc (is)
 
-pub same_parts : (one other : List QueryPart) → map part.Query one ≡ map part.Query other → one ≡ other
+pub same_parts : (one other : List QueryPart) → map came_to.Query one ≡ map came_to.Query other → one ≡ other
 same_parts [] [] is = refl
 same_parts [] (q ∷ other) is = absurd (cc (is))
 same_parts (p ∷ one) [] is = absurd (cc (is))
 same_parts (p ∷ one) (q ∷ other) is =
-    let first : part.Query p ≡ part.Query q = cc (is) in
-    let rest : map part.Query one ≡ map part.Query other = cc (is) in
+    let first : came_to.Query p ≡ came_to.Query q = cc (is) in
+    let rest : map came_to.Query one ≡ map came_to.Query other = cc (is) in
     ap (λ (x : QueryPart). x ∷ one) (inner p q first) ∙ ap (λ (l : List QueryPart). q ∷ l) (same_parts one other rest)
 
 -- all parts were those of gateways
-no_whole : (own : List QueryPart) (parts : List Part) (one : Part) (o : Outcome) → parts ≡ map part.Query own → parts ≡ one ∷ [] → IsWhole one o → ⊥
+no_whole : (own : List QueryPart) (parts : List Part) (one : Part) (o : Outcome) → parts ≡ map came_to.Query own → parts ≡ one ∷ [] → IsWhole one o → ⊥
 no_whole [] parts one o are only whole = absurd (cc (are, only))
 no_whole (q ∷ own) parts one o are only whole =
-    let is : one ≡ part.Query q = cc (are, only) in subst (λ (p : Part). IsWhole p o) is whole
+    let is : one ≡ came_to.Query q = cc (are, only) in subst (λ (p : Part). IsWhole p o) is whole
 
-pub query_whole : (own : List QueryPart) (end : QueryOutcome) (parts : List Part) → parts ≡ map part.Query own → IsQueryOutcome own end → (w : Work) → AreAllParts w parts → IsOutcomeOf w parts (outcome.Query end)
-query_whole own end parts are is (work.Upload ulid stop) (one, o, only, whole) = absurd (no_whole own parts one o are only whole)
-query_whole own end parts are is (work.Sync gateway) (one, o, only, whole) = absurd (no_whole own parts one o are only whole)
-query_whole own end parts are is (work.Compact stop) (one, o, only, whole) = absurd (no_whole own parts one o are only whole)
-query_whole own end parts are is (work.Clean stop) (one, o, only, whole) = absurd (no_whole own parts one o are only whole)
-query_whole own end parts are is (work.Query low high selector) all = (own, end, are, is, refl)
+query_by : (own : List QueryPart) (end : QueryOutcome) (parts : List Part) → parts ≡ map came_to.Query own → IsQueryOutcome own end → (all : Bool) → PartsBy all parts → OutcomeBy all parts (came_to.Query end)
+query_by own end parts are is true all = (own, end, are, is, refl)
+query_by own end parts are is false (one, o, only, whole) = absurd (no_whole own parts one o are only whole)
+
+pub query_whole : (own : List QueryPart) (end : QueryOutcome) (parts : List Part) → parts ≡ map came_to.Query own → IsQueryOutcome own end → (w : Work) → AreAllParts w parts → IsOutcomeOf w parts (came_to.Query end)
+query_whole own end parts are is w all = query_by own end parts are is (asks_all w) all
 
 -- the whole of a task is no gateway's part of a query
-not_query : (one : Part) (o : Outcome) (q : QueryPart) → IsWhole one o → one ≢ part.Query q
+not_query : (one : Part) (o : Outcome) (q : QueryPart) → IsWhole one o → one ≢ came_to.Query q
 not_query one o q whole = λ is. subst (λ (p : Part). IsWhole p o) is whole
 
-not_all : (own others : List QueryPart) (one : Part) (o : Outcome) (rest : List Part) → IsWhole one o → map part.Query own ++ one ∷ rest ≡ map part.Query others → ⊥
+not_all : (own others : List QueryPart) (one : Part) (o : Outcome) (rest : List Part) → IsWhole one o → map came_to.Query own ++ one ∷ rest ≡ map came_to.Query others → ⊥
 not_all [] [] one o rest whole is = absurd (cc (is))
 not_all [] (q ∷ others) one o rest whole is = not_query one o q whole (cc (is))
 not_all (p ∷ own) [] one o rest whole is = absurd (cc (is))
 not_all (p ∷ own) (q ∷ others) one o rest whole is = not_all own others one o rest whole (cc (is))
 
-only_one : (own : List QueryPart) (one other : Part) (o : Outcome) (rest parts : List Part) → parts ≡ map part.Query own ++ one ∷ rest → parts ≡ other ∷ [] → IsWhole other o → one ≡ other
+only_one : (own : List QueryPart) (one other : Part) (o : Outcome) (rest parts : List Part) → parts ≡ map came_to.Query own ++ one ∷ rest → parts ≡ other ∷ [] → IsWhole other o → one ≡ other
 only_one [] one other o rest parts are only whole = cc (are, only)
 only_one (p ∷ own) one other o rest parts are only whole = absurd (not_query other o p whole (cc (are, only)))
 
-alone_whole : (own : List QueryPart) (one : Part) (o : Outcome) (rest parts : List Part) → parts ≡ map part.Query own ++ one ∷ rest → IsWhole one o
-    → (other : Part) (p : Outcome) → parts ≡ other ∷ [] → IsWhole other p → (x : Part) × (parts ≡ x ∷ []) × IsWhole x o
-alone_whole own one o rest parts are whole other p only also =
-    (other, only, subst (λ (x : Part). IsWhole x o) (only_one own one other p rest parts are only also) whole)
-
 -- one of them was the whole of its task
-first_whole : (own : List QueryPart) (one : Part) (o : Outcome) (rest parts : List Part) → parts ≡ map part.Query own ++ one ∷ rest → IsWhole one o → (w : Work) → AreAllParts w parts → IsOutcomeOf w parts o
-first_whole own one o rest parts are whole (work.Upload ulid stop) (other, p, only, also) = alone_whole own one o rest parts are whole other p only also
-first_whole own one o rest parts are whole (work.Sync gateway) (other, p, only, also) = alone_whole own one o rest parts are whole other p only also
-first_whole own one o rest parts are whole (work.Compact stop) (other, p, only, also) = alone_whole own one o rest parts are whole other p only also
-first_whole own one o rest parts are whole (work.Clean stop) (other, p, only, also) = alone_whole own one o rest parts are whole other p only also
-first_whole own one o rest parts are whole (work.Query low high selector) (others, all) = absurd (not_all own others one o rest whole (sym are ∙ all))
+first_by : (own : List QueryPart) (one : Part) (o : Outcome) (rest parts : List Part) → parts ≡ map came_to.Query own ++ one ∷ rest → IsWhole one o → (all : Bool) → PartsBy all parts → OutcomeBy all parts o
+first_by own one o rest parts are whole false (other, p, only, also) =
+    (other, only, subst (λ (x : Part). IsWhole x o) (only_one own one other p rest parts are only also) whole)
+first_by own one o rest parts are whole true (others, all) = absurd (not_all own others one o rest whole (sym are ∙ all))
 
 -- the part that comes next is the first of those that are left
 parts_here : (parts yielded : List Part) (x : Part) → map (λ (y : Part). y) yielded ≡ take (length yielded) parts → (length yielded < length parts) × (x ≡ get_or parts (length yielded) x) → parts ≡ yielded ++ x ∷ drop (length yielded + 1) parts
@@ -216,17 +208,8 @@ parts_here parts yielded x so_far turn =
     let at = drop_place parts (length yielded) x (found parts (length yielded) (length yielded) x refl turn.0 turn.1) in
     sym (take-append-drop (length yielded) parts) ∙ ap (λ (l : List Part). l ++ drop (length yielded) parts) (sym so_far ∙ map-id yielded) ∙ ap (λ (l : List Part). yielded ++ l) at
 
-pub whole_here : (own : List QueryPart) (o : Outcome) (parts yielded : List Part) (one : Part) → IsWhole one o → yielded ≡ map part.Query own → map (λ (y : Part). y) yielded ≡ take (length yielded) parts → (length yielded < length parts) × (one ≡ get_or parts (length yielded) one)
+pub whole_here : (own : List QueryPart) (o : Outcome) (parts yielded : List Part) (one : Part) → IsWhole one o → yielded ≡ map came_to.Query own → map (λ (y : Part). y) yielded ≡ take (length yielded) parts → (length yielded < length parts) × (one ≡ get_or parts (length yielded) one)
     → (w : Work) → AreAllParts w parts → IsOutcomeOf w parts o
-whole_here own o parts yielded one whole are so_far turn =
-    first_whole own one o (drop (length yielded + 1) parts) parts
-    (parts_here parts yielded one so_far turn ∙ ap (λ (l : List Part). l ++ one ∷ drop (length yielded + 1) parts) are) whole
-
--- what was taken for a gateway's part, or for the whole of a task
-pub is_whole : (one : Part) (r : Result QueryPart Outcome) (o : Outcome) → MatchResult r (λ own. one ≡ part.Query own) (IsWhole one) → r ≡ Err o → IsWhole one o
-is_whole one (Ok own) o tells is = absurd (cc (is))
-is_whole one (Err p) o tells is = let same : p ≡ o = cc (is) in subst (IsWhole one) same tells
-
-pub is_query : (one : Part) (r : Result QueryPart Outcome) (own : QueryPart) → MatchResult r (λ own. one ≡ part.Query own) (IsWhole one) → r ≡ Ok own → one ≡ part.Query own
-is_query one (Ok p) own tells is = let same : p ≡ own = cc (is) in tells ∙ ap part.Query same
-is_query one (Err o) own tells is = absurd (cc (is))
+whole_here own o parts yielded one whole are so_far turn = λ w all.
+    first_by own one o (drop (length yielded + 1) parts) parts
+    (parts_here parts yielded one so_far turn ∙ ap (λ (l : List Part). l ++ one ∷ drop (length yielded + 1) parts) are) whole (asks_all w) all

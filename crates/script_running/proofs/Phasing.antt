@@ -21,7 +21,7 @@ use Rattle.world_turn.specs.declared.view.View.{View as Known}
 use Rattle.phase_runner.specs.Phases.{HasRun, Runs}
 use Rattle.script_workers.specs.Hands.{gateway_count, hands_of, places_from}
 use Rattle.script_workers.specs.Staff.{IsWorkerOf}
-use Rattle.script_workers.specs.Whose.{IsFor, IsTaskOf, asks, cleans, compacts, ships, syncs}
+use Rattle.script_workers.specs.Whose.{IsFor, IsTaskOf, does_alone, asks, syncs}
 use Rattle.script_workers.specs.declared.hand.Hand.{Hand}
 use Rattle.script_workers.specs.declared.hand.Hand.TheVariants as hands
 use Rattle.script_workers.specs.declared.phase.Phase.{Phase}
@@ -132,9 +132,7 @@ module _ (script : Script) (lawful : IsLawfulScript script) (place : ℕ) (phase
           (allowed script place phase lawful at) (contains_place phase.tasks spot t.task t.is))
         where
           by_work : (w : Work) → IsFor gateways h spot w → IsLawfulWork script.gateways script.blocks (length script.selectors) w → g < length script.gateways
-          by_work w (ships ulid stop one whose) may = absurd (cc (whose, is))
-          by_work w (compacts stop one whose) may = absurd (cc (whose, is))
-          by_work w (cleans stop one whose) may = absurd (cc (whose, is))
+          by_work w (does_alone none apart whose) may = absurd (cc (whose, is))
           by_work w (syncs gateway one whose) may =
               let same : gateway ≡ g = cc (whose, is) in
               let less : gateway < length script.gateways = subst (IsLawfulWork script.gateways script.blocks (length script.selectors)) one may in

@@ -12,6 +12,7 @@ use Rattle.cleaner.specs.declared.clean.CleanEnd.TheVariants as swept
 use Rattle.store_calls.specs.declared.series_call.SeriesEnd.{SeriesEnd}
 use Rattle.store_calls.specs.declared.series_call.SeriesEnd.TheVariants as called
 use Rattle.script_workers.specs.Hands.{gateway_count, gateway_of, hands_of_task}
+use Rattle.script_workers.specs.Works.{asks_all}
 use Rattle.script_core.specs.Workers.{workers_of}
 use Rattle.script_workers.specs.declared.phase.Phase.{Phase}
 use Rattle.script_core.specs.declared.script.Script.{Script}
@@ -22,8 +23,7 @@ use Rattle.script_workers.specs.declared.worker.Worker.{Worker}
 use Rattle.lifecycle_core.specs.Conducts.{CameTo}
 use Rattle.lifecycle_core.specs.Tasks.{End, uploaded, synced, compacted, cleaned, answered, not_asked, refused, without_view, stopped}
 use Rattle.script_running.specs.declared.came.Came.{Came}
-use Rattle.script_running.specs.declared.came.Came.TheVariants as part
-use Rattle.script_running.specs.declared.came.Came.TheVariants as outcome
+use Rattle.script_running.specs.declared.came.Came.TheVariants as came_to
 use Rattle.script_running.specs.declared.came.Stop.TheVariants as stop
 use Rattle.script_running.specs.declared.outcome.SyncOutcome.{SyncOutcome}
 use Rattle.script_running.specs.declared.outcome.SyncOutcome.TheVariants as sync
@@ -57,17 +57,17 @@ call_part (called.Fault entry) = given.NoAnswer (none.Fault entry)
 
 -- A worker's part of a task, by the end to which it came.
 abbrev pub IsPart : Work → End → Part → Type 0
-IsPart (work.Upload ulid count) (uploaded end) p = p ≡ part.Upload (stop.Ended end)
-IsPart (work.Upload ulid count) (refused cause) p = p ≡ part.Unshipped cause
-IsPart (work.Upload ulid count) (stopped at) p = p ≡ part.Upload (stop.At at)
-IsPart (work.Sync gateway) (synced end) p = p ≡ part.Sync (sync_outcome end)
-IsPart (work.Compact count) (compacted end) p = p ≡ part.Compact (stop.Ended end)
-IsPart (work.Compact count) (stopped at) p = p ≡ part.Compact (stop.At at)
-IsPart (work.Clean count) (cleaned end) p = p ≡ part.Clean (stop.Ended end)
-IsPart (work.Clean count) (stopped at) p = p ≡ part.Clean (stop.At at)
-IsPart (work.Query low high selector) (answered used end) p = p ≡ part.Query (call_part end)
-IsPart (work.Query low high selector) without_view p = p ≡ part.Query (given.NoAnswer none.NoView)
-IsPart (work.Query low high selector) not_asked p = p ≡ part.Query given.NotAsked
+IsPart (work.Upload ulid count) (uploaded end) p = p ≡ came_to.Upload (stop.Ended end)
+IsPart (work.Upload ulid count) (refused cause) p = p ≡ came_to.Unshipped cause
+IsPart (work.Upload ulid count) (stopped at) p = p ≡ came_to.Upload (stop.At at)
+IsPart (work.Sync gateway) (synced end) p = p ≡ came_to.Sync (sync_outcome end)
+IsPart (work.Compact count) (compacted end) p = p ≡ came_to.Compact (stop.Ended end)
+IsPart (work.Compact count) (stopped at) p = p ≡ came_to.Compact (stop.At at)
+IsPart (work.Clean count) (cleaned end) p = p ≡ came_to.Clean (stop.Ended end)
+IsPart (work.Clean count) (stopped at) p = p ≡ came_to.Clean (stop.At at)
+IsPart (work.Query low high selector) (answered used end) p = p ≡ came_to.Query (call_part end)
+IsPart (work.Query low high selector) without_view p = p ≡ came_to.Query (given.NoAnswer none.NoView)
+IsPart (work.Query low high selector) not_asked p = p ≡ came_to.Query given.NotAsked
 -- no other task comes to such an end
 IsPart other end p = ⊥
 
@@ -110,25 +110,32 @@ IsQueryOutcome parts (query.Answer own names) =
 
 -- the part is the whole of its task, which came out so
 abbrev pub IsWhole : Part → Outcome → Type 0
-IsWhole (part.Upload end) o = o ≡ outcome.Upload end
-IsWhole (part.Unshipped cause) o = o ≡ outcome.Unshipped cause
-IsWhole (part.Sync end) o = o ≡ outcome.Sync end
-IsWhole (part.Compact end) o = o ≡ outcome.Compact end
-IsWhole (part.Clean end) o = o ≡ outcome.Clean end
-IsWhole (part.Query own) o = ⊥
+IsWhole (came_to.Upload end) o = o ≡ came_to.Upload end
+IsWhole (came_to.Unshipped cause) o = o ≡ came_to.Unshipped cause
+IsWhole (came_to.Sync end) o = o ≡ came_to.Sync end
+IsWhole (came_to.Compact end) o = o ≡ came_to.Compact end
+IsWhole (came_to.Clean end) o = o ≡ came_to.Clean end
+IsWhole (came_to.Query own) o = ⊥
 
--- How a task comes out, by the parts of those who did it, in their order: a query by those of all gateways, and every other task by that
--- of its one worker.
+-- How a task comes out that asks all gateways, by the parts of all of them in their order; and any other, by that of its one worker.
+abbrev pub OutcomeBy : Bool → List Part → Outcome → Type 0
+OutcomeBy true parts o =
+    (own : List QueryPart) × (end : QueryOutcome) × (parts ≡ map came_to.Query own) × IsQueryOutcome own end
+    × (o ≡ came_to.Query end)
+OutcomeBy false parts o = (one : Part) × (parts ≡ one ∷ []) × IsWhole one o
+
+-- how a task comes out, by the parts of all who did it
 abbrev pub IsOutcomeOf : Work → List Part → Outcome → Type 0
-IsOutcomeOf (work.Query low high selector) parts o =
-    (own : List QueryPart) × (end : QueryOutcome) × (parts ≡ map part.Query own) × IsQueryOutcome own end
-    × (o ≡ outcome.Query end)
-IsOutcomeOf other parts o = (one : Part) × (parts ≡ one ∷ []) × IsWhole one o
+IsOutcomeOf work parts o = OutcomeBy (asks_all work) parts o
+
+-- the parts of all gateways, or of one worker who did all
+abbrev pub PartsBy : Bool → List Part → Type 0
+PartsBy true parts = (own : List QueryPart) × (parts ≡ map came_to.Query own)
+PartsBy false parts = (one : Part) × (o : Outcome) × (parts ≡ one ∷ []) × IsWhole one o
 
 -- the parts are those of all who do the task
 abbrev pub AreAllParts : Work → List Part → Type 0
-AreAllParts (work.Query low high selector) parts = (own : List QueryPart) × (parts ≡ map part.Query own)
-AreAllParts other parts = (one : Part) × (o : Outcome) × (parts ≡ one ∷ []) × IsWhole one o
+AreAllParts work parts = PartsBy (asks_all work) parts
 
 -- How a task comes out, by the ends of those who did it, in their order.
 abbrev pub IsOutcome : Work → List End → Outcome → Type 0
@@ -160,26 +167,26 @@ PhasesCame script number phases ends outcomes = PhasesTold (λ number phase ends
 
 -- the activity ended as asked
 abbrev pub is_as_asked : Outcome → Bool
-is_as_asked (outcome.Upload (stop.Ended (shipped.Done count))) = true
-is_as_asked (outcome.Upload (stop.Ended shipped.Already)) = true
-is_as_asked (outcome.Upload (stop.Ended (shipped.Fault entry))) = false
-is_as_asked (outcome.Upload (stop.At count)) = true
-is_as_asked (outcome.Unshipped cause) = false
-is_as_asked (outcome.Sync (sync.Blocks count)) = true
-is_as_asked (outcome.Sync (sync.Fault entry)) = false
-is_as_asked (outcome.Sync (sync.Damaged entry)) = false
-is_as_asked (outcome.Sync sync.TooMany) = false
-is_as_asked (outcome.Compact (stop.Ended (merged.Done collected joined expired))) = true
-is_as_asked (outcome.Compact (stop.Ended (merged.Fault entry))) = false
-is_as_asked (outcome.Compact (stop.Ended (merged.Missing entry))) = false
-is_as_asked (outcome.Compact (stop.Ended (merged.Damaged entry))) = false
-is_as_asked (outcome.Compact (stop.Ended merged.TooMany)) = false
-is_as_asked (outcome.Compact (stop.Ended merged.TooLarge)) = false
-is_as_asked (outcome.Compact (stop.At count)) = true
-is_as_asked (outcome.Clean (stop.Ended (swept.Done blocks partials))) = true
-is_as_asked (outcome.Clean (stop.Ended (swept.Fault entry))) = false
-is_as_asked (outcome.Clean (stop.Ended (swept.Damaged entry))) = false
-is_as_asked (outcome.Clean (stop.Ended swept.TooMany)) = false
-is_as_asked (outcome.Clean (stop.At count)) = true
-is_as_asked (outcome.Query (query.Answer own names)) = true
-is_as_asked (outcome.Query (query.NoAnswer gateway why)) = false
+is_as_asked (came_to.Upload (stop.Ended (shipped.Done count))) = true
+is_as_asked (came_to.Upload (stop.Ended shipped.Already)) = true
+is_as_asked (came_to.Upload (stop.Ended (shipped.Fault entry))) = false
+is_as_asked (came_to.Upload (stop.At count)) = true
+is_as_asked (came_to.Unshipped cause) = false
+is_as_asked (came_to.Sync (sync.Blocks count)) = true
+is_as_asked (came_to.Sync (sync.Fault entry)) = false
+is_as_asked (came_to.Sync (sync.Damaged entry)) = false
+is_as_asked (came_to.Sync sync.TooMany) = false
+is_as_asked (came_to.Compact (stop.Ended (merged.Done collected joined expired))) = true
+is_as_asked (came_to.Compact (stop.Ended (merged.Fault entry))) = false
+is_as_asked (came_to.Compact (stop.Ended (merged.Missing entry))) = false
+is_as_asked (came_to.Compact (stop.Ended (merged.Damaged entry))) = false
+is_as_asked (came_to.Compact (stop.Ended merged.TooMany)) = false
+is_as_asked (came_to.Compact (stop.Ended merged.TooLarge)) = false
+is_as_asked (came_to.Compact (stop.At count)) = true
+is_as_asked (came_to.Clean (stop.Ended (swept.Done blocks partials))) = true
+is_as_asked (came_to.Clean (stop.Ended (swept.Fault entry))) = false
+is_as_asked (came_to.Clean (stop.Ended (swept.Damaged entry))) = false
+is_as_asked (came_to.Clean (stop.Ended swept.TooMany)) = false
+is_as_asked (came_to.Clean (stop.At count)) = true
+is_as_asked (came_to.Query (query.Answer own names)) = true
+is_as_asked (came_to.Query (query.NoAnswer gateway why)) = false

@@ -18,7 +18,7 @@ pub struct Standing {
 
 impl Standing {
     /// No gateway has synced, and nothing was done.
-    pub(crate) fn new(alloc: Global, script: &Script) -> Result<Standing, NoMemory>
+    pub fn new(alloc: Global, script: &Script) -> Result<Standing, NoMemory>
         ensures each { IfOk result
             (λ standing. length standing.sights.items ≡ length script.now.gateways) }
         ensures unseen { IfOk result

@@ -25,7 +25,7 @@ use Rattle.cleaner.specs.Cleanings.{CleanRun, cleaning}
 use Rattle.cleaner.specs.declared.clean.CleanEnd.{CleanEnd}
 use Rattle.script_workers.specs.Hands.{gateway_count, gateway_of, hands_of, same_hand}
 use Rattle.script_workers.specs.Staff.{IsWorkerOf}
-use Rattle.script_workers.specs.Whose.{IsFor, IsTaskOf, asks, cleans, compacts, ships, syncs}
+use Rattle.script_workers.specs.Whose.{IsFor, IsTaskOf, does_alone, asks, syncs}
 use Rattle.script_workers.specs.Works.{CompactOnce, is_compaction, works_in, works_of}
 use Rattle.script_workers.proofs.StaffLaws.{is_staff}
 use Rattle.script_workers.specs.declared.hand.Hand.{Hand}
@@ -131,9 +131,7 @@ alone_hand (hands.Gateway gateway) is = absurd (cc (is))
 
 -- who acts alone has one place
 alone_place : (gateways place q : ℕ) (w : Work) → IsFor gateways (hands.Alone place) q w → q ≡ place
-alone_place gateways place q w (ships ulid stop is who) = let same : place ≡ q = cc (who) in sym same
-alone_place gateways place q w (compacts stop is who) = let same : place ≡ q = cc (who) in sym same
-alone_place gateways place q w (cleans stop is who) = let same : place ≡ q = cc (who) in sym same
+alone_place gateways place q w (does_alone none apart who) = let same : place ≡ q = cc (who) in sym same
 alone_place gateways place q w (syncs own is who) = absurd (cc (who))
 alone_place gateways place q w (asks own is who below) = absurd (cc (who))
 
@@ -146,17 +144,17 @@ IsAlone (Clean stop) = Unit {0}
 IsAlone (Query low high selector) = ⊥
 
 alone_work : (gateways place q : ℕ) (w : Work) → IsFor gateways (hands.Alone place) q w → IsAlone w
-alone_work gateways place q w (ships ulid stop is who) = subst IsAlone (sym is) tt
-alone_work gateways place q w (compacts stop is who) = subst IsAlone (sym is) tt
-alone_work gateways place q w (cleans stop is who) = subst IsAlone (sym is) tt
+alone_work gateways place q (Upload ulid stop) (does_alone none apart who) = tt
+alone_work gateways place q (Compact stop) (does_alone none apart who) = tt
+alone_work gateways place q (Clean stop) (does_alone none apart who) = tt
+alone_work gateways place q (Sync gateway) (does_alone none apart who) = apart gateway refl
+alone_work gateways place q (Query low high selector) (does_alone none apart who) = cc (none)
 alone_work gateways place q w (syncs own is who) = absurd (cc (who))
 alone_work gateways place q w (asks own is who below) = absurd (cc (who))
 
 -- whoever compacts has no gateway
 compacts_alone : (gateways : ℕ) (hand : Hand) (q : ℕ) (stop : Option ℕ) → IsFor gateways hand q (Compact stop) → gateway_of hand ≡ None
-compacts_alone gateways hand q stop (ships ulid own is who) = ap gateway_of who
-compacts_alone gateways hand q stop (compacts own is who) = ap gateway_of who
-compacts_alone gateways hand q stop (cleans own is who) = ap gateway_of who
+compacts_alone gateways hand q stop (does_alone none apart who) = ap gateway_of who
 compacts_alone gateways hand q stop (syncs own is who) = absurd (cc (is))
 compacts_alone gateways hand q stop (asks own is who below) = absurd (cc (is))
 

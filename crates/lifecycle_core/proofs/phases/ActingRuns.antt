@@ -17,7 +17,7 @@ use Rattle.script_core.specs.Workers.{workers_before, workers_of}
 use Rattle.script_core.specs.declared.script.Script.{Script}
 use Rattle.script_workers.specs.Hands.{gateway_count, gateway_of, hands_of}
 use Rattle.script_workers.specs.Staff.{IsWorkerOf}
-use Rattle.script_workers.specs.Whose.{IsFor, IsTaskOf, ships, compacts, cleans, syncs, asks}
+use Rattle.script_workers.specs.Whose.{IsFor, IsTaskOf, does_alone, syncs, asks}
 use Rattle.script_workers.specs.Works.{asks_all}
 use Rattle.script_workers.specs.declared.hand.Hand.{Hand}
 use Rattle.script_workers.specs.declared.hand.Hand.TheVariants as hands
@@ -125,9 +125,7 @@ asking_other (Clean stop) is = absurd (cc (is))
 asking_other (Query low high selector) is = tt
 
 for_gateway : (gateways gateway place : ℕ) (w : Work) → IsFor gateways (hands.Gateway gateway) place w → IsOther w
-for_gateway gateways gateway place w (ships ulid stop is who) = absurd (cc (who))
-for_gateway gateways gateway place w (compacts stop is who) = absurd (cc (who))
-for_gateway gateways gateway place w (cleans stop is who) = absurd (cc (who))
+for_gateway gateways gateway place w (does_alone none apart who) = absurd (cc (who))
 for_gateway gateways gateway place w (syncs own is who) = subst IsOther (sym is) tt
 for_gateway gateways gateway place w (asks own is who below) = asking_other w is
 

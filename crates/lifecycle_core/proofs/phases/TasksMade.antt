@@ -14,12 +14,13 @@ use Rattle.script_core.specs.Lawful.{IsLawfulScript}
 use Rattle.script_core.specs.Workers.{seats_before, workers_of}
 use Rattle.script_core.proofs.SeatLaws.{workers_at}
 use Rattle.script_workers.specs.Hands.{gateway_count, gateway_of, hands_of, places_from, seats_after, worker_of, workers_from}
-use Rattle.script_workers.specs.Whose.{IsFor, IsTaskOf, asks, cleans, compacts, ships, syncs}
+use Rattle.script_workers.specs.Whose.{IsFor, IsTaskOf, does_alone, asks, syncs}
 use Rattle.script_workers.proofs.StaffLaws.{are_places}
 use Rattle.script_workers.specs.declared.hand.Hand.{Hand}
 use Rattle.script_workers.specs.declared.phase.Phase.{Phase}
 use Rattle.script_workers.specs.declared.task.Task.{Task}
 use Rattle.script_workers.specs.declared.work.Work.{Work}
+use Rattle.script_workers.specs.declared.work.Work.TheVariants as works
 use Rattle.script_workers.specs.declared.work.Work.TheVariants.{Sync}
 use Rattle.script_workers.specs.declared.worker.Worker.{Worker}
 use Rattle.lifecycle_core.specs.Breaches.{IsSeatOf}
@@ -63,9 +64,11 @@ all_fitting by tasks (p ∷ places) (own ∷ found) each at = (
 )
 
 fit_for : (gateways : ℕ) (hand : Hand) (place : ℕ) (w : Work) (by : Option ℕ) → by ≡ gateway_of hand → IsFor gateways hand place w → IsFitFor by w
-fit_for gateways hand place w by is (ships ulid stop work own) = subst (IsFitFor by) (sym work) (is ∙ ap gateway_of own)
-fit_for gateways hand place w by is (compacts stop work own) = subst (IsFitFor by) (sym work) (is ∙ ap gateway_of own)
-fit_for gateways hand place w by is (cleans stop work own) = subst (IsFitFor by) (sym work) (is ∙ ap gateway_of own)
+fit_for gateways hand place (works.Upload ulid stop) by is (does_alone none apart own) = is ∙ ap gateway_of own
+fit_for gateways hand place (works.Compact stop) by is (does_alone none apart own) = is ∙ ap gateway_of own
+fit_for gateways hand place (works.Clean stop) by is (does_alone none apart own) = is ∙ ap gateway_of own
+fit_for gateways hand place (works.Sync gateway) by is (does_alone none apart own) = absurd (apart gateway refl)
+fit_for gateways hand place (works.Query low high selector) by is (does_alone none apart own) = absurd (cc (none))
 fit_for gateways hand place w by is (syncs gateway work own) = subst (IsFitFor by) (sym work) (is ∙ ap gateway_of own)
 fit_for gateways hand place w by is (asks gateway asking own below) = asking_fits by w asking
 

@@ -18,7 +18,7 @@ use Rattle.store_ranges.specs.Reads.{Query as Question}
 use Rattle.script_workers.specs.Hands.{does, gateway_count, gateway_of, greatest, hands_of, places_from, same_hand, seats_after, worker_of, workers_from}
 use Rattle.script_core.specs.Workers.{seats_before, workers_after, workers_of}
 use Rattle.script_core.specs.Lawful.{IsLawfulScript}
-use Rattle.script_workers.specs.Whose.{AreEnough, IsFor, ships, compacts, cleans, syncs, asks}
+use Rattle.script_workers.specs.Whose.{AreEnough, IsFor, does_alone, syncs, asks}
 use Rattle.script_workers.specs.Works.{asks_all, has_sync, is_sync_of, works_in, works_of}
 use Rattle.script_workers.specs.declared.hand.Hand.{Hand}
 use Rattle.script_workers.specs.declared.hand.Hand.TheVariants as hands
@@ -159,16 +159,12 @@ not_own gateways g place (Clean stop) is = refl
 not_own gateways g place (Query low high selector) is = refl
 
 for_asking : (gateways g place : ℕ) (w : Work) → IsFor gateways (hands.Gateway g) place w → IsAsking w → g < gateways
-for_asking gateways g place w (ships ulid stop is who) query = absurd (cc (who))
-for_asking gateways g place w (compacts stop is who) query = absurd (cc (who))
-for_asking gateways g place w (cleans stop is who) query = absurd (cc (who))
+for_asking gateways g place w (does_alone none apart who) query = absurd (cc (who))
 for_asking gateways g place w (syncs gateway is who) query = absurd (cc (subst IsAsking is query))
 for_asking gateways g place w (asks gateway is who below) query = let same : g ≡ gateway = cc (who) in subst (λ n. n < gateways) (sym same) below
 
 for_alone : (gateways p place : ℕ) (w : Work) → IsFor gateways (hands.Alone p) place w → IsAsking w → ⊥
-for_alone gateways p place w (ships ulid stop is who) query = cc (subst IsAsking is query)
-for_alone gateways p place w (compacts stop is who) query = cc (subst IsAsking is query)
-for_alone gateways p place w (cleans stop is who) query = cc (subst IsAsking is query)
+for_alone gateways p place w (does_alone none apart who) query = cc (none, query)
 for_alone gateways p place w (syncs gateway is who) query = cc (subst IsAsking is query)
 for_alone gateways p place w (asks gateway is who below) query = absurd (cc (who))
 

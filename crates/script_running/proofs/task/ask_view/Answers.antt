@@ -15,8 +15,8 @@ use Rattle.script_running.proofs.TaskSteps.{asked_again, blind_asked, call_asked
 use Rattle.script_running.proofs.task.ask_view.Goals as goal
 use Rattle.base.proofs.Options.{one_value}
 
-pub returns-in-Ok-own_cache-clause-asked : goal.returns-in-Ok-own_cache-clause-asked
-returns-in-Ok-own_cache-clause-asked g c = λ holding selector sees at.
+pub returns-clause-asked : goal.returns-clause-asked
+returns-clause-asked g c = λ holding selector sees at.
     let low = c.args.ask.now.low in
     let high = c.args.ask.now.high in
     let seat = (g.H.Hand.told c.args.hand.now).seat in
@@ -32,27 +32,27 @@ returns-in-Ok-own_cache-clause-asked g c = λ holding selector sees at.
     (λ used line_low line_high number. call_told c.in-Some.view (asking own rules.replicas low high) (held c.in-Ok-own_cache.own) seat old new used line_low line_high number _ _ c.run_call.result c.take_cache.result c.take_cache.ensures.came c.take_cache.ensures.cache drives)
     sees)
 
-pub returns-in-Ok-own_cache-clause-hand : goal.returns-in-Ok-own_cache-clause-hand
-returns-in-Ok-own_cache-clause-hand g c = end_left g.H.Hand.told g.H.Hand.keeps (λ (left : CallLeft). part.Query (call_part left.end)) _ _ c.run_call.result c.take_cache.result c.take_cache.ensures.came c.run_call.ensures.hand
+pub returns-clause-hand : goal.returns-clause-hand
+returns-clause-hand g c = end_left g.H.Hand.told g.H.Hand.keeps (λ (left : CallLeft). part.Query (call_part left.end)) _ _ c.run_call.result c.take_cache.result c.take_cache.ensures.came c.run_call.ensures.hand
 
-pub returns-in_default-clause-asked : goal.returns-in_default-clause-asked
-returns-in_default-clause-asked g c = λ holding selector sees at.
+pub returns-in_default-selector-clause-asked : goal.returns-in_default-selector-clause-asked
+returns-in_default-selector-clause-asked g c = λ holding selector sees at.
     short_asked holding (asking selector c.args.means.now.script.rules.replicas c.args.ask.now.low c.args.ask.now.high) (g.H.Hand.told c.args.hand.now).seat (g.H.Hand.told c.args.hand.now).entries _
 
 pub returns-in_default-own_cache-clause-asked : goal.returns-in_default-own_cache-clause-asked
 returns-in_default-own_cache-clause-asked g c = λ holding selector sees at.
     short_asked holding (asking selector c.args.means.now.script.rules.replicas c.args.ask.now.low c.args.ask.now.high) (g.H.Hand.told c.args.hand.now).seat (g.H.Hand.told c.args.hand.now).entries _
 
-pub returns-in_default-view-clause-asked : goal.returns-in_default-view-clause-asked
-returns-in_default-view-clause-asked g c = λ holding selector sees at.
+pub returns-in_default-clause-asked : goal.returns-in_default-clause-asked
+returns-in_default-clause-asked g c = λ holding selector sees at.
     blind_asked holding (asking selector c.args.means.now.script.rules.replicas c.args.ask.now.low c.args.ask.now.high) (g.H.Hand.told c.args.hand.now).seat (g.H.Hand.told c.args.hand.now).entries
     c.args.sight.now c.in-None.is sees
 
-pub returns-in_default-clause-hand : goal.returns-in_default-clause-hand
-returns-in_default-clause-hand g c = none_turned g.H.Hand.told g.H.Hand.keeps g.met.H.Hand.keeps_none _ true
+pub returns-in_default-selector-clause-hand : goal.returns-in_default-selector-clause-hand
+returns-in_default-selector-clause-hand g c = none_turned g.H.Hand.told g.H.Hand.keeps g.met.H.Hand.keeps_none _ true
 
 pub returns-in_default-own_cache-clause-hand : goal.returns-in_default-own_cache-clause-hand
 returns-in_default-own_cache-clause-hand g c = none_turned g.H.Hand.told g.H.Hand.keeps g.met.H.Hand.keeps_none _ true
 
-pub returns-in_default-view-clause-hand : goal.returns-in_default-view-clause-hand
-returns-in_default-view-clause-hand g c = none_turned g.H.Hand.told g.H.Hand.keeps g.met.H.Hand.keeps_none _ false
+pub returns-in_default-clause-hand : goal.returns-in_default-clause-hand
+returns-in_default-clause-hand g c = none_turned g.H.Hand.told g.H.Hand.keeps g.met.H.Hand.keeps_none _ false
