@@ -9,7 +9,7 @@ use Rattle.compactor.specs.Compactions.{after_merge, merging}
 use Rattle.compactor.specs.CompactStates.{Begins, groups_left}
 use Rattle.compactor.specs.Merges.{IsMerging}
 use Rattle.compactor.specs.NewBlocks.{new_ulid}
-use Rattle.compactor.proofs.OneMerge.{one_merging}
+use Rattle.compactor.specs.OneMerge.{one_merging}
 use Rattle.compactor.specs.declared.compact.Compact.{Compact}
 use Rattle.compactor.specs.declared.compact_end.CompactEnd.{CompactEnd}
 use Rattle.compactor.specs.declared.input.Input.{Input}

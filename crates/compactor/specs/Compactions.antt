@@ -35,7 +35,7 @@ use Rattle.compactor.specs.Merges.{IsMerging}
 use Rattle.compactor.specs.declared.merging.Merging.{Merging}
 use Rattle.compactor.specs.declared.merging.Merging.TheVariants as merging_is
 use Rattle.meta_fetcher.specs.OneView.{one_end_of}
-use Rattle.compactor.proofs.OneMerge.{one_merging}
+use Rattle.compactor.specs.OneMerge.{one_merging}
 use Rattle.compactor.specs.declared.compact_end.CompactEnd.{CompactEnd}
 use Rattle.compactor.specs.declared.compact_end.CompactEnd.TheVariants.{Done, Fault, Missing, Damaged, TooMany, TooLarge}
 

@@ -19,6 +19,8 @@ pub mod Named
 pub mod Reading
 pub mod Inputs
 pub mod Merges
+pub mod OneRefusal
+pub mod OneMerge
 pub mod InputFiles
 pub mod ReadRoom
 pub mod ReadStates

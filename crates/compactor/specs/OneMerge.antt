@@ -23,7 +23,7 @@ use Rattle.compactor.specs.Merges.{Given, IsRefused, IsMerging}
 use Rattle.compactor.specs.declared.merging.Merging.{Merging}
 use Rattle.compactor.specs.declared.merging.Merging.TheVariants.{Merged, Refused, TooLarge}
 use Rattle.vertical_merge.proofs.OnePlan.{one_compacted}
-use Rattle.compactor.proofs.OneRefusal.{none_refused, refused_once}
+use Rattle.compactor.specs.OneRefusal.{none_refused, refused_once}
 
 -- ---- what is given
 
