@@ -148,8 +148,7 @@ module _ (files : BlockFiles) (bytes : IsBytes files.index) (are : AllByRecursio
       let same_list : read.0 ≡ list = ok_is {E = CheckRefusal} _ _ few.2 in
       let is = content_found files bytes are list (behind_index files.meta files.index files.segments indexed.0 indexed.1 ∙ read.1 ∙ ap (λ (l : List Series). Ok l) same_list) in
       let same = one_answer indexed.0 is.indexed (index_at files.index) index (index_again files.index is.indexed bytes is.index_is) in
-      let there = are_some indexed.0 (unless_is _ _ some.1) in
-      (
+      let there = are_some indexed.0 (unless_is _ _ some.1) in (
         is,
         some_with (HoldsSeries files.segments) is.indexed list is.series_are (subst (λ (xs : List IndexSeries). xs ≢ []) same there),
         few_found files bytes indexed.0 index (unless_is _ _ few.1),
