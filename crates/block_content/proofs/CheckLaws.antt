@@ -4,10 +4,10 @@ use Rattle.std.specs.Prelude.{IfOk, IfErr, IsErrAnd, ◌≢◌}
 use Rattle.std.specs.List.{AllByRecursion, AllZip}
 use Rattle.std.specs.Ordering.{int_eq}
 use Rattle.std.proofs.lemmas.Bool.Decides.{Decides-int_eq, Decides-eqb}
-use Rattle.std.proofs.lemmas.Bool.{false_from_ne_true, eq-eqb, ne_eqb}
-use Rattle.base.specs.Reading.{◌>>◌, unless, refused_as}
+use Rattle.std.proofs.lemmas.Bool.{true≢false, false_from_ne_true, eq-eqb, ne_eqb}
+use Rattle.base.specs.Reading.{◌>>=◌, ◌>>◌, unless, refused_as}
 use Rattle.base.specs.Grammar.{IsBytes}
-use Rattle.base.proofs.Binds.{bind_ok, bind_err, then_ok, err_is, unless_is, refused_as_ok, one_answer}
+use Rattle.base.proofs.Binds.{bind_ok, bind_err, then_ok, ok_is, err_is, unless_is, refused_as_ok, one_answer}
 use Rattle.label_sets.specs.declared.series.Series.{Series}
 use Rattle.label_sets.specs.Counts.{sample_count}
 use Rattle.index_parts.specs.declared.index_series.IndexSeries.{IndexSeries}
@@ -19,14 +19,17 @@ use Rattle.base.specs.Firsts.{IsFirstAt}
 use Rattle.block_content.specs.Content.{HoldsSeries, IsContent}
 use Rattle.block_content.specs.ContentReading.{index_at, refused_index, chunked_at, contents_at, content_at}
 use Rattle.block_content.specs.ContentRefusals.{RefusesContent}
+use Rattle.block_content.specs.Named.{names_few, NamesFew}
 use Rattle.block_content.specs.Checking.{IsOwn, Passes, HasPassed, RefusesBlock}
 use Rattle.block_content.specs.CheckReading.{is_alone, own_at, has_series, some_at, files_at, check_at}
 use Rattle.block_meta.specs.declared.block_files.BlockFiles.{BlockFiles}
 use Rattle.block_content.specs.declared.check_refusal.CheckRefusal.{CheckRefusal}
-use Rattle.block_content.specs.declared.check_refusal.CheckRefusal.TheVariants.{NoFile, BadMeta, UlidDiffers, NotLevelOne, SourcesNotSelf, Downsampled, TooLarge, BadIndex, EmptyBlock, BadChunk, OutsideRange, Repeated, NoMemory}
+use Rattle.block_content.specs.declared.check_refusal.CheckRefusal.TheVariants.{NoFile, BadMeta, UlidDiffers, NotLevelOne, SourcesNotSelf, Downsampled, TooLarge, BadIndex, EmptyBlock, BadChunk, OutsideRange, Repeated, NamesTooMuch, NoMemory}
 use Rattle.block_content.proofs.TimesAndOrder.{index_found, index_again}
 use Rattle.block_content.proofs.ContentLaws.{index_kept, content_found, content_again, content_refused, content_refuses}
 use Rattle.block_content.proofs.ContentSteps.{behind_index}
+use Rattle.block_content.proofs.NamedBytes.{few_found, few_again}
+use Rattle.block_content.proofs.CheckSteps.{few_then}
 
 -- ---- what the meta says
 
@@ -121,26 +124,46 @@ then_parts (Err d) s e h = inl cc
 -- ---- the files
 
 module _ (files : BlockFiles) (bytes : IsBytes files.index) (are : AllByRecursion IsBytes files.segments) where
-  -- where the index has a series, checking is reading the content
-  same_files : (indexed : List IndexSeries) → index_at files.index ≡ Ok indexed → has_series indexed ≡ true → files_at files.meta files.index files.segments ≡ content_at files
+  -- where the index has a series, checking is reading the content, and then the test that it names little
+  same_files : (indexed : List IndexSeries) → index_at files.index ≡ Ok indexed → has_series indexed ≡ true → files_at files.meta files.index files.segments ≡ (content_at files >>= few_then files.index files.segments indexed)
   unfolding files_at some_at
-  same_files indexed e some = let as_block : refused_as refused_index (index_at files.index) ≡ Ok indexed = ap (refused_as refused_index) e in rw (as_block, some) (sym (behind_index files.meta files.index files.segments indexed as_block))
+  same_files indexed e some =
+      let as_block : refused_as refused_index (index_at files.index) ≡ Ok indexed = ap (refused_as refused_index) e in
+      rw (as_block, some) (ap (λ (read : Result (List Series) CheckRefusal). read >>= few_then files.index files.segments indexed) (sym (behind_index files.meta files.index files.segments indexed as_block)))
 
-  pub files_found : (list : List Series) → files_at files.meta files.index files.segments ≡ Ok list → IsContent files list × (list ≢ [])
+  -- the content is this, and names little or not
+  then_few : (indexed : List IndexSeries) (list : List Series) (b : Bool) → index_at files.index ≡ Ok indexed → has_series indexed ≡ true → content_at files ≡ Ok list → names_few files.index files.segments indexed ≡ b
+      → files_at files.meta files.index files.segments ≡ (unless b NamesTooMuch >> Ok list)
+  then_few indexed list b e some read is =
+      same_files indexed e some ∙ ap (λ (r : Result (List Series) CheckRefusal). r >>= few_then files.index files.segments indexed) read ∙ ap (λ (c : Bool). unless c NamesTooMuch >> Ok list) is
+
+  pub files_found : (list : List Series) → files_at files.meta files.index files.segments ≡ Ok list → IsContent files list × (list ≢ []) × NamesFew files
   unfolding files_at some_at
   files_found list e =
       let indexed = bind_ok _ _ _ e in
       let some = then_ok _ _ _ indexed.2 in
+      let read = bind_ok _ _ _ some.2 in
+      let few = then_ok _ _ _ read.2 in
       let index = refused_as_ok _ _ _ indexed.1 in
-      let is = content_found files bytes are list (behind_index files.meta files.index files.segments indexed.0 indexed.1 ∙ some.2) in
+      let same_list : read.0 ≡ list = ok_is {E = CheckRefusal} _ _ few.2 in
+      let is = content_found files bytes are list (behind_index files.meta files.index files.segments indexed.0 indexed.1 ∙ read.1 ∙ ap (λ (l : List Series). Ok l) same_list) in
       let same = one_answer indexed.0 is.indexed (index_at files.index) index (index_again files.index is.indexed bytes is.index_is) in
-      let there = are_some indexed.0 (unless_is _ _ some.1) in
-      (is, some_with (HoldsSeries files.segments) is.indexed list is.series_are (subst (λ (xs : List IndexSeries). xs ≢ []) same there))
+      let there = are_some indexed.0 (unless_is _ _ some.1) in (
+        is,
+        some_with (HoldsSeries files.segments) is.indexed list is.series_are (subst (λ (xs : List IndexSeries). xs ≢ []) same there),
+        few_found files bytes indexed.0 index (unless_is _ _ few.1),
+      )
 
-  pub files_again : (list : List Series) → IsContent files list → list ≢ [] → files_at files.meta files.index files.segments ≡ Ok list
-  files_again list is some =
-      same_files is.indexed (index_again files.index is.indexed bytes is.index_is) (has_some is.indexed (some_of (HoldsSeries files.segments) is.indexed list is.series_are some))
-      ∙ content_again files bytes are list is
+  pub files_again : (list : List Series) → IsContent files list → list ≢ [] → NamesFew files → files_at files.meta files.index files.segments ≡ Ok list
+  files_again list is some few =
+      let index = index_again files.index is.indexed bytes is.index_is in
+      then_few is.indexed list true index (has_some is.indexed (some_of (HoldsSeries files.segments) is.indexed list is.series_are some)) (content_again files bytes are list is) (few_again files bytes is.indexed index few)
+
+  files_much : (list : List Series) → IsContent files list → list ≢ [] → (NamesFew files → ⊥) → files_at files.meta files.index files.segments ≡ Err NamesTooMuch
+  files_much list is some much =
+      let index = index_again files.index is.indexed bytes is.index_is in
+      let told : names_few files.index files.segments is.indexed ≡ false = false_from_ne_true (names_few files.index files.segments is.indexed) (λ passed. much (few_found files bytes is.indexed index passed)) in
+      then_few is.indexed list false index (has_some is.indexed (some_of (HoldsSeries files.segments) is.indexed list is.series_are some)) (content_again files bytes are list is) told
 
   module _ (ulid : ℕ) (own : IsOwn ulid files.meta) where
     of_content : (e : CheckRefusal) → RefusesContent files e → RefusesBlock ulid files e
@@ -156,21 +179,38 @@ module _ (files : BlockFiles) (bytes : IsBytes files.index) (are : AllByRecursio
     of_content Downsampled is = absurd is
     of_content (TooLarge key) is = absurd is
     of_content EmptyBlock is = absurd is
+    of_content NamesTooMuch is = absurd is
     of_content NoMemory is = absurd is
 
     of_either : (e : CheckRefusal) → (e ≡ NoMemory) ⊎ RefusesContent files e → (e ≡ NoMemory) ⊎ RefusesBlock ulid files e
     of_either e (inl none) = inl none
     of_either e (inr is) = inr (of_content e is)
 
-    some_refused : (indexed : List IndexSeries) (e : CheckRefusal) → refused_as refused_index (index_at files.index) ≡ Ok indexed → some_at files.meta files.segments indexed ≡ Err e → (e ≡ NoMemory) ⊎ RefusesBlock ulid files e
+    much_refused : (indexed : List IndexSeries) (list : List Series) (e : CheckRefusal) → refused_as refused_index (index_at files.index) ≡ Ok indexed → has_series indexed ≡ true → content_at files ≡ Ok list → few_then files.index files.segments indexed list ≡ Err e → RefusesBlock ulid files e
+    much_refused indexed list e read some held h =
+        let index = refused_as_ok _ _ _ read in
+        elim (test_failed {B = List Series} (names_few files.index files.segments indexed) NamesTooMuch (Ok list) e h) [
+          | inl (much, same) ↦
+              let is = content_found files bytes are list held in
+              let own_index = one_answer indexed is.indexed (index_at files.index) index (index_again files.index is.indexed bytes is.index_is) in
+              let there : list ≢ [] = some_with (HoldsSeries files.segments) is.indexed list is.series_are (subst (λ (xs : List IndexSeries). xs ≢ []) own_index (are_some indexed some)) in
+              let why : RefusesBlock ulid files NamesTooMuch = (own, (list, is, there), λ few. true≢false (sym (few_again files bytes indexed index few) ∙ much)) in
+              subst (RefusesBlock ulid files) same why
+          | inr (few, refused) ↦ absurd cc
+        ]
+
+    some_refused : (indexed : List IndexSeries) (e : CheckRefusal) → refused_as refused_index (index_at files.index) ≡ Ok indexed → some_at files.meta files.index files.segments indexed ≡ Err e → (e ≡ NoMemory) ⊎ RefusesBlock ulid files e
     unfolding some_at
     some_refused indexed e read h =
-        elim (test_failed (has_series indexed) EmptyBlock (chunked_at files.meta files.segments indexed) e h) [
+        elim (test_failed (has_series indexed) EmptyBlock (chunked_at files.meta files.segments indexed >>= few_then files.index files.segments indexed) e h) [
           | inl (none, same) ↦
               let index = index_found files.index indexed bytes (refused_as_ok _ _ _ read) in
               let why : RefusesBlock ulid files EmptyBlock = (own, subst (IsIndex files.index) (has_none indexed none) index) in
               inr (subst (RefusesBlock ulid files) same why)
-          | inr (some, refused) ↦ of_either e (content_refused files bytes are e (behind_index files.meta files.index files.segments indexed read ∙ refused))
+          | inr (some, behind) ↦ elim (bind_err (chunked_at files.meta files.segments indexed) (few_then files.index files.segments indexed) e behind) [
+            | inl refused ↦ of_either e (content_refused files bytes are e (behind_index files.meta files.index files.segments indexed read ∙ refused))
+            | inr (list, held, much) ↦ inr (much_refused indexed list e read some (behind_index files.meta files.index files.segments indexed read ∙ held) much)
+          ]
         ]
 
     index_stops : (e : CheckRefusal) → refused_as refused_index (index_at files.index) ≡ Err e → content_at files ≡ Err e
@@ -180,13 +220,14 @@ module _ (files : BlockFiles) (bytes : IsBytes files.index) (are : AllByRecursio
     pub files_refused : (e : CheckRefusal) → files_at files.meta files.index files.segments ≡ Err e → (e ≡ NoMemory) ⊎ RefusesBlock ulid files e
     unfolding files_at
     files_refused e h =
-        elim (bind_err (refused_as refused_index (index_at files.index)) (λ (indexed : List IndexSeries). some_at files.meta files.segments indexed) e h) [
+        elim (bind_err (refused_as refused_index (index_at files.index)) (λ (indexed : List IndexSeries). some_at files.meta files.index files.segments indexed) e h) [
           | inl refused ↦ of_either e (content_refused files bytes are e (index_stops e refused))
           | inr (indexed, read, refused) ↦ some_refused indexed e read refused
         ]
 
   files_stop : (e : CheckRefusal) (indexed : List IndexSeries) → IsIndex files.index indexed → indexed ≢ [] → RefusesContent files e → files_at files.meta files.index files.segments ≡ Err e
-  files_stop e indexed is some refuses = same_files indexed (index_again files.index indexed bytes is) (has_some indexed some) ∙ content_refuses files bytes are e refuses
+  files_stop e indexed is some refuses =
+      same_files indexed (index_again files.index indexed bytes is) (has_some indexed some) ∙ ap (λ (read : Result (List Series) CheckRefusal). read >>= few_then files.index files.segments indexed) (content_refuses files bytes are e refuses)
 
   index_stop : (refusal : IndexRefusal) → index_at files.index ≡ Err refusal → refusal ≢ index.NoMemory → files_at files.meta files.index files.segments ≡ Err (BadIndex refusal)
   unfolding files_at
@@ -201,7 +242,7 @@ module _ (files : BlockFiles) (bytes : IsBytes files.index) (are : AllByRecursio
   behind_own ulid e own refused = rw (own_again ulid files.meta own) refused
 
   pub check_found : (ulid : ℕ) (list : List Series) → own_at ulid files.meta ≡ Ok tt → files_at files.meta files.index files.segments ≡ Ok list → Passes ulid files list
-  check_found ulid list own read = let found = files_found list read in record { own = own_found ulid files.meta own; content = found.0; some = found.1 }
+  check_found ulid list own read = let found = files_found list read in record { own = own_found ulid files.meta own; content = found.0; some = found.1; few = found.2 }
 
   pub check_read : (ulid : ℕ) (list : List Series) → check_at ulid files.meta files.index files.segments ≡ Ok list → Passes ulid files list
   unfolding check_at
@@ -217,7 +258,7 @@ module _ (files : BlockFiles) (bytes : IsBytes files.index) (are : AllByRecursio
 
   pub check_again : (ulid : ℕ) (list : List Series) → Passes ulid files list → check_at ulid files.meta files.index files.segments ≡ Ok list
   unfolding check_at
-  check_again ulid list is = rw (own_again ulid files.meta is.own) (files_again list is.content is.some)
+  check_again ulid list is = rw (own_again ulid files.meta is.own) (files_again list is.content is.some is.few)
 
   own_stop : (ulid : ℕ) (e : CheckRefusal) → own_at ulid files.meta ≡ Err e → check_at ulid files.meta files.index files.segments ≡ Err e
   unfolding check_at
@@ -239,6 +280,7 @@ module _ (files : BlockFiles) (bytes : IsBytes files.index) (are : AllByRecursio
       behind_own ulid (OutsideRange series time) own (files_stop (OutsideRange series time) is.indexed is.index_is (some_of (HoldsSeries files.segments) is.indexed is.list is.series_are (some_at_place _ _ is.list is.at_series is.first)) is)
   check_refuses ulid (Repeated series) (own, is) =
       behind_own ulid (Repeated series) own (files_stop (Repeated series) is.indexed is.index_is (some_at_place _ _ is.indexed is.at_series is.first) is)
+  check_refuses ulid NamesTooMuch (own, (list, is, some), much) = behind_own ulid NamesTooMuch own (files_much list is some much)
   check_refuses ulid (NoFile key) is = absurd is
   check_refuses ulid (BadMeta refusal) is = absurd is
   check_refuses ulid (TooLarge key) is = absurd is

@@ -37,6 +37,14 @@ taken xs i lt = length-take-le i xs (omega arith)
 pub fitted_more : (place n more : ℕ) → n ≡ fitted place → more ≡ min (n + 1) (2 ^ 32 - 1) → more ≡ fitted (place + 1)
 fitted_more place n more e e' = omega (arith, e, e')
 
+-- ---- sums that are counted up to the greatest number
+
+pub sum_more : {A : Type 0} (f : A → ℕ) (xs : List A) (i : ℕ) (x d : A) (sum more n : ℕ) → sum ≡ min (sum_by f (take i xs)) (2 ^ 64 - 1) → i < length xs → x ≡ get_or xs i d → more ≡ min (sum + n) (2 ^ 64 - 1) → min n (2 ^ 64 - 1) ≡ min (f x) (2 ^ 64 - 1) → more ≡ min (sum_by f (take (i + 1) xs)) (2 ^ 64 - 1)
+sum_more f xs i x d sum more n far lt at added is = omega (arith, far, added, is, sum_by-push f (take i xs) x, ap (sum_by f) (front xs i x d lt at))
+
+pub sum_end : {A : Type 0} (f : A → ℕ) (xs : List A) (i sum : ℕ) → sum ≡ min (sum_by f (take i xs)) (2 ^ 64 - 1) → length xs ≤ i → sum ≡ min (sum_by f xs) (2 ^ 64 - 1)
+sum_end {A} f xs i sum far le = far ∙ ap (λ (ys : List A). min (sum_by f ys) (2 ^ 64 - 1)) (take_all i xs le)
+
 -- ---- the bytes of segments
 
 pub bytes_step : (segments : List (List ℕ)) (i : ℕ) (segment d lent : List ℕ) → AllByRecursion IsBytes (take i segments) → i < length segments → segment ≡ get_or segments i d → lent ≡ segment → IsBytes lent → AllByRecursion IsBytes (take (i + 1) segments)

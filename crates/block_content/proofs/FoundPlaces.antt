@@ -1,5 +1,5 @@
 -- What is kept of places is found there, and what is read at a place is found.
-use Rattle.std.proofs.Common.{◌≡◌, ℕ, ◌^◌, ◌<◌, List, true, cond, Option, None, Some, Result, Ok, Err, refl, sym, ap, subst, ◌∙◌, arith, ◌⊎◌, inl, inr}
+use Rattle.std.proofs.Common.{◌≡◌, ℕ, ◌^◌, ◌<◌, List, length, true, cond, Option, None, Some, Result, Ok, Err, refl, sym, ap, subst, ◌∙◌, arith, ◌⊎◌, inl, inr}
 use Rattle.std.specs.Prelude.{IfErr, IsErrAnd}
 use Rattle.std.specs.BTreeMap.{get}
 use Rattle.std.specs.Ordering.{is_eq, nat_cmp}
@@ -19,7 +19,7 @@ use Rattle.xor_chunks.proofs.TextsRead.{data_again}
 use Rattle.chunk_files.specs.declared.refusal.ChunkRefusal.{ChunkRefusal}
 use Rattle.index_parts.specs.declared.chunk_place.ChunkPlace.{ChunkPlace}
 use Rattle.block_meta.specs.declared.meta.Meta.{Meta}
-use Rattle.block_content.specs.ContentReading.{data_of, first_time}
+use Rattle.block_content.specs.ContentReading.{data_of, bytes_in, chunk_bytes, first_time}
 use Rattle.block_content.specs.StoredPlaces.{place_number, stored_at, lies_within, IsFoundAt, Finds, AreFound, IsKept}
 use Rattle.block_content.specs.declared.chunk_cause.ChunkCause.{ChunkCause}
 use Rattle.block_content.specs.declared.chunk_cause.ChunkCause.TheVariants.{File, Data}
@@ -39,10 +39,14 @@ same_stored : (segments : List (List ℕ)) (p q : ChunkPlace) → p.segment ≡ 
 unfolding stored_at
 same_stored segments p q segment offset = rw (segment, offset) refl
 
+same_bytes : (segments : List (List ℕ)) (p q : ChunkPlace) → p.segment ≡ q.segment → p.offset ≡ q.offset → chunk_bytes segments p ≡ chunk_bytes segments q
+same_bytes segments p q segment offset = rw (segment, offset) refl
+
 same_found : (meta : Meta) (segments : List (List ℕ)) (p q : ChunkPlace) (found : Found) → p.offset < 2 ^ 32 → q.offset < 2 ^ 32 → place_number p ≡ place_number q → IsFoundAt meta segments p found → IsFoundAt meta segments q found
-same_found meta segments p q found small small' same (samples, stored, span, time) =
+same_found meta segments p q found small small' same (samples, stored, span, time, bytes) =
     let segment = same_segment p q small small' same in
-    (samples, sym (same_stored segments p q segment (same_offset p q segment same)) ∙ stored, span, time)
+    let offset = same_offset p q segment same in
+    (samples, sym (same_stored segments p q segment offset) ∙ stored, span, time, bytes ∙ same_bytes segments p q segment offset)
 
 -- ---- what is kept
 
@@ -79,8 +83,8 @@ module _ (segments : List (List ℕ)) (place : ChunkPlace) where
     pub no_samples : (d : XorRefusal) → spans.span_at 8 content ≡ Err d → stored_at segments place ≡ Err (Data d)
     no_samples d e = behind ∙ ap (refused_as Data) (read_refused (data_at 8 content) d e)
 
-    pub found_there : (meta : Meta) (found : Found) (told : (samples : List Sample) × IsText 8 content samples × (found.span ≡ spans.span_of samples)) → ((samples : List Sample) → IsText 8 content samples → found.outside ≡ first_time meta samples) → IsFoundAt meta segments place found
-    found_there meta found (samples, is, span) time = (samples, behind ∙ ap (refused_as Data) (data_again 8 content samples is), span, time samples is)
+    pub found_there : (meta : Meta) (found : Found) (told : (samples : List Sample) × IsText 8 content samples × (found.span ≡ spans.span_of samples)) → ((samples : List Sample) → IsText 8 content samples → found.outside ≡ first_time meta samples) → found.bytes ≡ length content → IsFoundAt meta segments place found
+    found_there meta found (samples, is, span) time long = (samples, behind ∙ ap (refused_as Data) (data_again 8 content samples is), span, time samples is, long ∙ sym (ap bytes_in stands))
 
 -- samples of one data are the same
 pub one_text : (content : List ℕ) (samples others : List Sample) → IsText 8 content samples → IsText 8 content others → samples ≡ others

@@ -16,3 +16,4 @@ pub mod FewListed
 pub mod ContentTests
 pub mod SpanTests
 pub mod FoundPlaces
+pub mod NamedBytes

@@ -10,7 +10,7 @@ use Rattle.block_meta.specs.declared.meta.Meta.{Meta}
 use Rattle.xor_chunks.specs.Data.{data_at}
 use Rattle.xor_chunks.specs.Spans as spans
 use Rattle.xor_chunks.specs.declared.refusal.XorRefusal.TheVariants as xor
-use Rattle.block_content.specs.ContentReading.{data_of, are_some, have_times_of, is_time, part_at, samples_at, chunk_at, span_at, first_time}
+use Rattle.block_content.specs.ContentReading.{data_of, chunk_bytes, are_some, have_times_of, is_time, part_at, samples_at, chunk_at, span_at, first_time}
 use Rattle.block_content.specs.StoredPlaces.{stored_at, IsFoundAt}
 use Rattle.block_content.specs.declared.chunk_cause.ChunkCause.{ChunkCause}
 use Rattle.block_content.specs.declared.chunk_cause.ChunkCause.TheVariants.{File, Data, NoSamples, TimesDiffer}
@@ -63,13 +63,16 @@ module _ (segments : List (List ℕ)) (place : ChunkPlace) where
     pub found_refused : (e : ChunkCause) → span_at place found.span ≡ Err e → chunk_at segments place ≡ Err e
     unfolding tested
     found_refused e refused =
-        let (samples, stored, spans_are, time) = is in
+        let (samples, stored, spans_are, time, bytes) = is in
         let test = tested_err (part_at place samples) (length samples) e (sym (span_tests place samples) ∙ ap (span_at place) (sym spans_are) ∙ refused) in
         chunk_behind samples stored ∙ part_fails _ _ samples e test
 
     pub found_passes : (count : ℕ) → span_at place found.span ≡ Ok count → (part : List Sample) × (chunk_at segments place ≡ Ok part) × ((count ≡ length part) × (found.outside ≡ first_time meta part))
     unfolding tested
     found_passes count passes =
-        let (samples, stored, spans_are, time) = is in
+        let (samples, stored, spans_are, time, bytes) = is in
         let test = tested_ok (part_at place samples) (length samples) count (sym (span_tests place samples) ∙ ap (span_at place) (sym spans_are) ∙ passes) in
         (samples, chunk_behind samples stored ∙ (part_passes _ _ samples test.0).0, (test.1, time))
+
+pub found_bytes : (segments : List (List ℕ)) (place : ChunkPlace) (meta : Meta) (found : Found) → IsFoundAt meta segments place found → found.bytes ≡ chunk_bytes segments place
+found_bytes segments place meta found (samples, stored, spans_are, time, bytes) = bytes

@@ -6,9 +6,10 @@ use Rattle.index_parts.specs.IndexFile.{IsIndex}
 use Rattle.block_meta.specs.declared.meta.Meta.{Meta}
 use Rattle.block_content.specs.Content.{IsContent}
 use Rattle.block_content.specs.ContentRefusals.{RefusesContent}
+use Rattle.block_content.specs.Named.{NamesFew}
 use Rattle.block_meta.specs.declared.block_files.BlockFiles.{BlockFiles}
 use Rattle.block_content.specs.declared.check_refusal.CheckRefusal.{CheckRefusal}
-use Rattle.block_content.specs.declared.check_refusal.CheckRefusal.TheVariants.{NoFile, BadMeta, UlidDiffers, NotLevelOne, SourcesNotSelf, Downsampled, TooLarge, BadIndex, EmptyBlock, BadChunk, OutsideRange, Repeated, NoMemory}
+use Rattle.block_content.specs.declared.check_refusal.CheckRefusal.TheVariants.{NoFile, BadMeta, UlidDiffers, NotLevelOne, SourcesNotSelf, Downsampled, TooLarge, BadIndex, EmptyBlock, BadChunk, OutsideRange, Repeated, NamesTooMuch, NoMemory}
 
 -- The meta is that of this block, which was compacted of no other and has all its samples.
 pub record IsOwn (ulid : ℕ) (meta : Meta) : Type 0 where
@@ -17,11 +18,12 @@ pub record IsOwn (ulid : ℕ) (meta : Meta) : Type 0 where
   pub one_source : meta.sources ≡ ulid ∷ []
   pub sampled : meta.resolution ≡ pos 0
 
--- The block passes, and holds these series.
+-- The block passes, and holds these series, which name little for its bytes.
 pub record Passes (ulid : ℕ) (files : BlockFiles) (list : List Series) : Type 0 where
   pub own : IsOwn ulid files.meta
   pub content : IsContent files list
   pub some : list ≢ []
+  pub few : NamesFew files
 
 -- The block passes, and holds so many series and samples.
 pub record HasPassed (ulid : ℕ) (files : BlockFiles) (series samples : ℕ) : Type 0 where
@@ -41,6 +43,7 @@ RefusesBlock ulid files EmptyBlock = IsOwn ulid files.meta × IsIndex files.inde
 RefusesBlock ulid files (BadChunk series chunk cause) = IsOwn ulid files.meta × RefusesContent files (BadChunk series chunk cause)
 RefusesBlock ulid files (OutsideRange series time) = IsOwn ulid files.meta × RefusesContent files (OutsideRange series time)
 RefusesBlock ulid files (Repeated series) = IsOwn ulid files.meta × RefusesContent files (Repeated series)
+RefusesBlock ulid files NamesTooMuch = IsOwn ulid files.meta × ((list : List Series) × IsContent files list × (list ≢ [])) × (NamesFew files → ⊥)
 RefusesBlock ulid files (NoFile key) = ⊥
 RefusesBlock ulid files (BadMeta refusal) = ⊥
 RefusesBlock ulid files (TooLarge key) = ⊥

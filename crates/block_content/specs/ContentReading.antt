@@ -18,7 +18,7 @@ use Rattle.index_parts.specs.declared.chunk_place.ChunkPlace.{ChunkPlace}
 use Rattle.index_parts.specs.declared.index_series.IndexSeries.{IndexSeries}
 use Rattle.index_v2.specs.declared.refusal.IndexRefusal.{IndexRefusal}
 use Rattle.index_v2.specs.declared.refusal.IndexRefusal.TheVariants as index
-use Rattle.index_v2.specs.Budget.{members_of}
+use Rattle.index_v2.specs.Sizes.{members_of}
 use Rattle.index_v2.specs.Held.{whole_file}
 use Rattle.index_v2.specs.Opening.{opened_at}
 use Rattle.index_v2.specs.WholeReading.{whole_at}
@@ -181,7 +181,7 @@ refused_order r = Repeated (fitted r.0)
 pub record ListsFew (index : List ℕ) (list : List IndexSeries) : Type 0 where
   pub series : 4 * length list ≤ length index
   pub each : All (λ (one : IndexSeries). 2 * length one.labels + 3 * length one.chunks ≤ length index) list
-  pub members : sum_by members_of list ≤ 8 * length index
+  pub members : sum_by members_of list ≤ length index
 
 -- the times of the series that were read, and then the order of their chunks
 unfoldable pub tested_at : Meta → List IndexSeries → List Series → Result (List Series) CheckRefusal

@@ -16,6 +16,7 @@ pub use Rattle.index_parts.specs.IndexFile
 pub mod Content
 pub mod ContentReading
 pub mod StoredPlaces
+pub mod Named
 pub mod ContentRefusals
 pub mod Checking
 pub mod CheckReading

@@ -13,7 +13,7 @@ use Rattle.xor_chunks.specs.Widths.{stored_filling}
 use Rattle.index_parts.specs.declared.chunk_place.ChunkPlace.{ChunkPlace}
 use Rattle.index_parts.specs.declared.index_series.IndexSeries.{IndexSeries}
 use Rattle.block_meta.specs.declared.meta.Meta.{Meta}
-use Rattle.block_content.specs.ContentReading.{data_of, first_time}
+use Rattle.block_content.specs.ContentReading.{data_of, chunk_bytes, first_time}
 use Rattle.block_content.specs.declared.chunk_cause.ChunkCause.{ChunkCause}
 use Rattle.block_content.specs.declared.chunk_cause.ChunkCause.TheVariants.{File, Data}
 use Rattle.block_content.specs.declared.places.Found.{Found}
@@ -50,10 +50,10 @@ stored_at segments place = do
 abbrev pub lies_within : Meta → SampleSpan → Bool
 lies_within meta span = int_le meta.min_time span.first && int_lt span.last meta.max_time
 
--- This was found of the samples at a place: their span, and the time of the first outside the block's times.
+-- This was found of the data at a place: its length, the span of its samples, and the time of the first outside the block's times.
 abbrev pub IsFoundAt : Meta → List (List ℕ) → ChunkPlace → Found → Type 0
 IsFoundAt meta segments place found =
-    (samples : List Sample) × (stored_at segments place ≡ Ok samples) × (found.span ≡ span_of samples) × (found.outside ≡ first_time meta samples)
+    (samples : List Sample) × (stored_at segments place ≡ Ok samples) × (found.span ≡ span_of samples) × (found.outside ≡ first_time meta samples) × (found.bytes ≡ chunk_bytes segments place)
 
 -- What is found at a place, or the first refusal of its data, unless memory ran out.
 abbrev pub Finds : Meta → List (List ℕ) → ChunkPlace → Result Found ChunkCause → Type 0

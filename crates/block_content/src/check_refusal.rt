@@ -38,6 +38,9 @@ pub enum CheckRefusal {
     },
     /// The first series of which a chunk does not begin after the one before it ends.
     Repeated(u32),
+    /// The chunks and the texts of labels that the index names, each counted as often as it is named, have many times the bytes
+    /// of the block.
+    NamesTooMuch,
     NoMemory,
 }
 

@@ -1,15 +1,17 @@
 //! Whether a block may be shipped.
-ghost use Rattle.std.specs.Prelude.{◌≡◌, ◌⊎◌, Err, MatchResult};
+ghost use Rattle.std.specs.Prelude.{◌≡◌, ◌⊎◌, length, sum_by, Err, MatchResult};
 ghost use Rattle.std.specs.List.{AllByRecursion};
 ghost use Rattle.base.specs.Grammar.{IsBytes};
 ghost use Rattle.base.specs.Reading.{Answers};
+ghost use Rattle.block_content.specs.Named.{counted};
 ghost use Rattle.block_content.specs.Verdict.{IsVerdict};
 ghost use Rattle.block_content.specs.CheckReading.{is_alone, own_at, some_at, check_at, HaveCounts};
 
 use crate::chunk_order::first_repeated;
-use crate::chunk_reading::look_at;
+use crate::chunk_reading::segment_bytes;
 use crate::counting::{count_all, test_found};
 use crate::index_reading::read_index;
+use crate::naming::names_few;
 use crate::{CheckRefusal, Checked};
 use block_meta::{BlockFiles, Meta};
 use index_v2::LentSeries;
@@ -51,19 +53,25 @@ fn is_alone(ulid: Ulid, sources: &[Ulid]) -> bool
 fn count_some(
     alloc: Global,
     meta: &Meta,
+    index: &[u8],
     segments: &[Blob],
+    bytes: u64,
     indexed: &[LentSeries<'_>],
 ) -> Result<(u64, u64), CheckRefusal>
+    requires { bytes ≡ counted (sum_by length segments.now) }
     ensures { MatchResult result
-        (HaveCounts (some_at meta.now segments.now indexed.now))
+        (HaveCounts (some_at meta.now index.now segments.now indexed.now))
         (λ e. (e ≡ CheckRefusal.NoMemory)
-        ⊎ (some_at meta.now segments.now indexed.now ≡ Err e)) }
+        ⊎ (some_at meta.now index.now segments.now indexed.now ≡ Err e)) }
 {
     if indexed.is_empty() {
         return Err(CheckRefusal::EmptyBlock);
     }
     let counts = count_all(alloc, meta, segments, indexed)?;
     test_found(counts.outside, first_repeated(indexed))?;
+    if !names_few(index, bytes, counts.bytes, indexed) {
+        return Err(CheckRefusal::NamesTooMuch);
+    }
     Ok((indexed.len() as u64, counts.samples))
 }
 
@@ -82,10 +90,10 @@ fn count_block(
         ⊎ (check_at ulid meta.now index.now segments.now ≡ Err e)) }
     ensures bytes { IsBytes index.now × AllByRecursion IsBytes segments.now }
 {
-    look_at(segments);
+    let bytes = segment_bytes(segments);
     test_meta(ulid, meta)?;
     let indexed = read_index(alloc, index)?;
-    count_some(alloc, meta, segments, indexed.members())
+    count_some(alloc, meta, index, segments, bytes, indexed.members())
 }
 
 /// Tests whether a block may be shipped under a ULID. The files of a refused block are dropped.

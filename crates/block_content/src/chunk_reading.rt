@@ -1,10 +1,11 @@
 //! The samples of one chunk.
-ghost use Rattle.std.specs.Prelude.{◌≡◌, ◌+◌, ◌*◌, ◌≤◌, ◌&&◌, length, option_copied, IfOk};
+ghost use Rattle.std.specs.Prelude.{◌≡◌, ◌+◌, ◌*◌, ◌≤◌, ◌&&◌, length, sum_by, option_copied, IfOk};
 ghost use Rattle.std.specs.List.{AllByRecursion};
 ghost use Rattle.std.specs.Ordering.{int_eq};
 ghost use Rattle.base.specs.Grammar.{IsBytes};
 ghost use Rattle.xor_chunks.specs.Data.{with_samples};
 ghost use Rattle.base.specs.Reading.{Answers, Gives};
+ghost use Rattle.block_content.specs.Named.{counted};
 ghost use Rattle.block_content.specs.ContentReading.{data_of, is_time, have_times_of, part_at, samples_at, chunk_at, chunk_bytes, span_at, refused_cause};
 
 use crate::{CheckRefusal, ChunkCause};
@@ -15,20 +16,23 @@ use label_sets::Sample;
 use wire_bytes::Blob;
 use xor_chunks::{SampleSpan, XorRefusal, append_stored};
 
-fn length_of(segment: &[u8]) -> usize
+fn length_of(segment: &[u8]) -> u64
     ensures value { result ≡ length segment.now }
     ensures bytes { IsBytes segment.now }
 {
-    segment.len()
+    segment.len() as u64
 }
 
-/// Looks at each segment. That all of them are bytes is what contracts learn of it.
-pub(crate) fn look_at(segments: &[Blob])
-    ensures { AllByRecursion IsBytes segments.now }
+/// How many bytes segments have together. That they are bytes is what contracts learn of it.
+pub(crate) fn segment_bytes(segments: &[Blob]) -> u64
+    ensures value { result ≡ counted (sum_by length segments.now) }
+    ensures bytes { AllByRecursion IsBytes segments.now }
 {
+    let mut bytes = 0u64;
     for segment in segments {
-        let _length = length_of(segment.bytes());
+        bytes = bytes.saturating_add(length_of(segment.bytes()));
     }
+    bytes
 }
 
 /// The XOR data of the chunk at a place.

@@ -14,7 +14,7 @@ ghost use Rattle.block_content.specs.ContentReading.{index_at, series_of, list_o
 
 use crate::CheckRefusal;
 use crate::chunk_order::first_repeated;
-use crate::chunk_reading::{append_chunk, look_at, refused_chunk};
+use crate::chunk_reading::{append_chunk, refused_chunk, segment_bytes};
 use crate::counting::{count_all, test_found};
 use crate::index_reading::read_index;
 use base::List;
@@ -128,7 +128,7 @@ fn read_content(
         × ListsFew index.now indexed × AreFew segments.now indexed list) }
     ensures bytes { IsBytes index.now × AllByRecursion IsBytes segments.now }
 {
-    look_at(segments);
+    let _bytes = segment_bytes(segments);
     let indexed = read_index(alloc, index)?;
     let counts = count_all(alloc, meta, segments, indexed.members())?;
     test_found(counts.outside, first_repeated(indexed.members()))?;

@@ -1,10 +1,11 @@
 //! Counting what a block holds, chunk by chunk and series by series. No samples are kept, and the data at a place is read once.
-ghost use Rattle.std.specs.Prelude.{◌≡◌, ◌^◌, ◌-◌, min, length, option_map, OnOk};
+ghost use Rattle.std.specs.Prelude.{◌≡◌, ◌^◌, ◌-◌, min, length, sum_by, option_map, IfOk, OnOk};
 ghost use Rattle.base.specs.Firsts.{or_else, first_at};
 ghost use Rattle.base.specs.Lists.{joined};
 ghost use Rattle.label_sets.specs.Counts.{sample_count};
 ghost use Rattle.block_content.specs.CheckReading.{found_at, IsFirstFound};
-ghost use Rattle.block_content.specs.ContentReading.{list_of, first_time, first_outside, MadeOfChunk, WalksChunks, WalksSeries};
+ghost use Rattle.block_content.specs.ContentReading.{chunk_bytes, series_bytes, list_of, first_time, first_outside, MadeOfChunk, WalksChunks, WalksSeries};
+ghost use Rattle.block_content.specs.Named.{counted};
 ghost use Rattle.block_content.specs.StoredPlaces.{AreFound};
 
 use crate::chunk_order::places_ascend;
@@ -20,6 +21,8 @@ use wire_bytes::Blob;
 /// What was counted of a chunk or of a series.
 #[derive(Clone, Copy)]
 struct Counted {
+    /// How many bytes of data there are.
+    bytes: u64,
     samples: u64,
     /// The time of the first sample outside the block's times.
     outside: Option<i64>,
@@ -47,11 +50,13 @@ fn count_one(
     ensures counted { MadeOfChunk segments.now place
         (λ counted part. (counted.samples ≡ length part)
         × (counted.outside ≡ first_time meta.now part)) result }
+    ensures bytes { IfOk result (λ counted. counted.bytes ≡ chunk_bytes segments.now place) }
     ensures kept { OnOk result (AreFound meta.now segments.now places.new) }
 {
     let found = find(alloc, meta, segments, place, places)?;
     let count = test_span(found.span, &place)?;
     Ok(Counted {
+        bytes: found.bytes,
         samples: u64::from(count),
         outside: found.outside,
     })
@@ -70,8 +75,11 @@ fn count_series(
     ensures read { WalksChunks segments.now series chunks.now
         (λ counted parts. (counted.samples ≡ min (length (joined parts)) (2 ^ 64 - 1))
         × (counted.outside ≡ first_time meta.now (joined parts))) result }
+    ensures bytes { IfOk result (λ one. one.bytes
+        ≡ counted (sum_by (chunk_bytes segments.now) chunks.now)) }
     ensures kept { OnOk result (AreFound meta.now segments.now places.new) }
 {
+    let mut bytes = 0u64;
     let mut samples = 0u64;
     let mut outside = None;
     let mut chunk = 0u32;
@@ -80,16 +88,23 @@ fn count_series(
             Ok(counted) => counted,
             Err(cause) => return Err(refused_chunk(series, chunk, cause)),
         };
+        bytes = bytes.saturating_add(counted.bytes);
         samples = samples.saturating_add(counted.samples);
         outside = found_or_time(outside, counted.outside);
         chunk = chunk.saturating_add(1);
     }
-    Ok(Counted { samples, outside })
+    Ok(Counted {
+        bytes,
+        samples,
+        outside,
+    })
 }
 
 /// What was counted of a block: its samples, and the series and the time of the first sample outside its times.
 #[derive(Clone, Copy)]
 pub(crate) struct Counts {
+    /// How many bytes of data the chunks have, each counted as often as it is named.
+    pub(crate) bytes: u64,
     pub(crate) samples: u64,
     pub(crate) outside: Option<(u32, i64)>,
 }
@@ -117,18 +132,26 @@ pub(crate) fn count_all(
         (λ counts parts. (counts.samples ≡ sample_count (list_of indexed.now parts))
         × IsFirstFound (first_at (first_outside meta.now) (list_of indexed.now parts))
         counts.outside) result }
+    ensures bytes { IfOk result (λ counts. counts.bytes
+        ≡ counted (sum_by (series_bytes segments.now) indexed.now)) }
 {
     let mut places = Places::new(alloc, !places_ascend(indexed));
+    let mut bytes = 0u64;
     let mut samples = 0u64;
     let mut outside = None;
     let mut series = 0u32;
     for one in indexed {
         let counted = count_series(alloc, meta, segments, series, one.chunks(), &mut places)?;
+        bytes = bytes.saturating_add(counted.bytes);
         samples = samples.saturating_add(counted.samples);
         outside = found_or_this(outside, series, counted.outside);
         series = series.saturating_add(1);
     }
-    Ok(Counts { samples, outside })
+    Ok(Counts {
+        bytes,
+        samples,
+        outside,
+    })
 }
 
 /// Refuses what was found.

@@ -11,6 +11,7 @@ mod chunk_reading;
 mod content_reading;
 mod counting;
 mod index_reading;
+mod naming;
 mod places;
 mod shipping;
 mod testing;

@@ -22,9 +22,11 @@ use std::collections::BTreeMap;
 use wire_bytes::Blob;
 use xor_chunks::{SampleSpan, XorRefusal, decode_stored, span_stored};
 
-/// What was found of the samples at a place, none of which is kept.
+/// What was found of the data at a place, of which no sample is kept.
 #[derive(Clone, Copy)]
 pub(crate) struct Found {
+    /// How many bytes the data has.
+    pub(crate) bytes: u64,
     pub(crate) span: Option<SampleSpan>,
     /// The time of the first sample outside the block's times.
     pub(crate) outside: Option<i64>,
@@ -125,7 +127,11 @@ fn read_place(
     let content = data_of(segments, place)?;
     let span = span_stored(content)?;
     let outside = time_outside(alloc, meta, content, span)?;
-    Ok(Found { span, outside })
+    Ok(Found {
+        bytes: content.len() as u64,
+        span,
+        outside,
+    })
 }
 
 impl Places {

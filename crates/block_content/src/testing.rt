@@ -12,7 +12,7 @@ ghost use Rattle.block_content.specs.ContentReading.{ListsFew};
 
 use crate::CheckRefusal;
 use crate::chunk_order::first_repeated;
-use crate::chunk_reading::look_at;
+use crate::chunk_reading::segment_bytes;
 use crate::counting::{count_all, test_found};
 use crate::index_reading::read_index;
 use base::List;
@@ -31,7 +31,7 @@ fn test_files<'a>(
     ensures few { IfOk result (ListsFew index.now) }
     ensures bytes { IsBytes index.now × AllByRecursion IsBytes segments.now }
 {
-    look_at(segments);
+    let _bytes = segment_bytes(segments);
     let indexed = read_index(alloc, index)?;
     let counts = count_all(alloc, meta, segments, indexed.members())?;
     test_found(counts.outside, first_repeated(indexed.members()))?;

@@ -6,7 +6,7 @@ use Rattle.block_meta.specs.declared.block_files.BlockFiles.{BlockFiles}
 use Rattle.block_content.specs.Checking.{RefusesBlock}
 use Rattle.block_content.specs.declared.checked.Checked.{Checked}
 use Rattle.block_content.specs.declared.check_refusal.CheckRefusal.{CheckRefusal}
-use Rattle.block_content.specs.declared.check_refusal.CheckRefusal.TheVariants.{NoFile, BadMeta, UlidDiffers, NotLevelOne, SourcesNotSelf, Downsampled, TooLarge, BadIndex, EmptyBlock, BadChunk, OutsideRange, Repeated, NoMemory}
+use Rattle.block_content.specs.declared.check_refusal.CheckRefusal.TheVariants.{NoFile, BadMeta, UlidDiffers, NotLevelOne, SourcesNotSelf, Downsampled, TooLarge, BadIndex, EmptyBlock, BadChunk, OutsideRange, Repeated, NamesTooMuch, NoMemory}
 use Rattle.bucket_core.specs.Contents.{Contents}
 use Rattle.block_loading.specs.Loading.{IsLoaded, RefusesLoad, RefusesOnShelf}
 use Rattle.block_loading.specs.LoadReading.{IsBrokenOff, WasBrokenOff, Loads, refused_block, BlockParts, parts_of, load_at}
@@ -67,6 +67,7 @@ block_told EmptyBlock refusal h = (cc, λ n. absurd cc)
 block_told (BadChunk series chunk cause) refusal h = (cc, λ n. absurd cc)
 block_told (OutsideRange series time) refusal h = (cc, λ n. absurd cc)
 block_told (Repeated series) refusal h = (cc, λ n. absurd cc)
+block_told NamesTooMuch refusal h = (cc, λ n. absurd cc)
 block_told NoMemory refusal h = absurd cc
 
 -- a refusal of a block is said of it
@@ -83,6 +84,7 @@ block_kept ulid files EmptyBlock is = refl
 block_kept ulid files (BadChunk series chunk cause) is = refl
 block_kept ulid files (OutsideRange series time) is = refl
 block_kept ulid files (Repeated series) is = refl
+block_kept ulid files NamesTooMuch is = refl
 block_kept ulid files NoMemory is = absurd is
 
 -- what was answered was not broken off

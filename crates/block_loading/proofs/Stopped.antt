@@ -62,6 +62,7 @@ block_calm check.EmptyBlock = refl
 block_calm (check.BadChunk series chunk cause) = refl
 block_calm (check.OutsideRange series time) = refl
 block_calm (check.Repeated series) = refl
+block_calm check.NamesTooMuch = refl
 block_calm check.NoMemory = refl
 
 -- a refusal of the block is no fault
@@ -83,6 +84,7 @@ last_file ulid before count key counted is check.EmptyBlock said = absurd said
 last_file ulid before count key counted is (check.BadChunk series chunk cause) said = absurd said
 last_file ulid before count key counted is (check.OutsideRange series time) said = absurd said
 last_file ulid before count key counted is (check.Repeated series) said = absurd said
+last_file ulid before count key counted is check.NamesTooMuch said = absurd said
 last_file ulid before count key counted is check.NoMemory said = absurd said
 
 pub file_last : (ulid before count : ℕ) (key : Key) → count ≡ before + 1 → key ≡ key_after ulid before → (e : LoadRefusal) → IfRefused (RefusesFile key) e → IfRefused (StopsAt ulid count) e

@@ -59,6 +59,7 @@ RefusesFile key check.EmptyBlock = ⊥
 RefusesFile key (check.BadChunk series chunk cause) = ⊥
 RefusesFile key (check.OutsideRange series time) = ⊥
 RefusesFile key (check.Repeated series) = ⊥
+RefusesFile key check.NamesTooMuch = ⊥
 RefusesFile key check.NoMemory = ⊥
 
 abbrev pub is_fault : LoadRefusal → Bool

@@ -12,6 +12,7 @@ ghost use Rattle.block_writing.specs.WrittenMeta.{IsWritten};
 ghost use Rattle.block_writing.specs.Built.{IsBuilt};
 ghost use Rattle.block_content.specs.Content.{IsContent};
 ghost use Rattle.block_content.specs.Checking.{Passes, RefusesBlock};
+ghost use Rattle.block_content.specs.Named.{NamesFew};
 ghost use Rattle.block_content.specs.declared.check_refusal.CheckRefusal.TheVariants.{EmptyBlock};
 ghost use Rattle.block_merging.specs.PutContent.{AreSeriesOf, AreBytes, IsFirstLevel};
 
@@ -56,11 +57,12 @@ pub fn files_are_one()
         → (index ≡ other) × (segments ≡ others) }
 {}
 
-/// A law: a block of level 1 that is its own only source may be shipped once it is written, unless it has no series.
+/// A law: a block of level 1 that is its own only source may be shipped once it is written, unless it has no series, or its labels'
+/// texts are long and shared by so many that they pass what an index may name.
 pub fn written_blocks_pass()
     ensures passes { (put : Put) (files : BlockFiles) (list : List Series)
         → IsWritten put files → IsFirstLevel put.plan → put.series ≢ []
-        → AreSeriesOf put.series list → Passes put.plan.ulid files list }
+        → AreSeriesOf put.series list → NamesFew files → Passes put.plan.ulid files list }
     ensures empty { (put : Put) (files : BlockFiles)
         → IsWritten put files → IsFirstLevel put.plan → put.series ≡ []
         → RefusesBlock put.plan.ulid files EmptyBlock }
@@ -70,7 +72,7 @@ pub fn written_blocks_pass()
 pub fn built_blocks_pass()
     ensures passes { (plan : BlockPlan) (series : List Series) (files : BlockFiles)
         → IsBuilt plan series files → IsFirstLevel (plan_fields plan) → series ≢ []
-        → Passes plan.ulid files series }
+        → NamesFew files → Passes plan.ulid files series }
     ensures empty { (plan : BlockPlan) (files : BlockFiles)
         → IsBuilt plan [] files → IsFirstLevel (plan_fields plan)
         → RefusesBlock plan.ulid files EmptyBlock }

@@ -32,7 +32,11 @@ fn put_part(alloc: Global, writer: &mut BlockWriter, part: &[Sample]) -> Result<
 }
 
 /// Puts samples of a series, part by part as chunks.
-fn put_parts(alloc: Global, writer: &mut BlockWriter, samples: &[Sample]) -> Result<(), NoMemory>
+pub fn put_parts(
+    alloc: Global,
+    writer: &mut BlockWriter,
+    samples: &[Sample],
+) -> Result<(), NoMemory>
     requires samples { AreOfBlock writer.old.plan samples.now }
     requires times { AreLawfulTimes writer.old.plan.min_time writer.old.plan.max_time }
     requires after { BeginAfter writer.old.chunks samples.now }

@@ -12,5 +12,5 @@ mod written_meta;
 pub use block_meta::{BlobList, BlockFiles, BuildRefusal};
 pub use block_writer::BlockWriter;
 pub use buildable::may_build;
-pub use builder::build;
+pub use builder::{build, put_parts};
 pub use segments::SegmentPlace;

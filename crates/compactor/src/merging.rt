@@ -159,6 +159,13 @@ fn number_of(
     }
 }
 
+/// The member of a list at a place, if there is one.
+fn member_at(chunks: &[ChunkPlace], at: usize) -> Option<ChunkPlace>
+    ensures { result ≡ slice_get chunks.now at }
+{
+    chunks.get(at).copied()
+}
+
 /// The place of a chunk of an index, by the numbers that a refusal gives of its series and of itself.
 fn place_of(alloc: Global, index: &[u8], series: u32, chunk: u32) -> Result<ChunkPlace, NoMemory>
     ensures { IfOk result (λ place. (indexed : List IndexSeries) (one : IndexSeries)
@@ -177,8 +184,8 @@ fn place_of(alloc: Global, index: &[u8], series: u32, chunk: u32) -> Result<Chun
     let Some(one) = indexed.get(series as usize) else {
         return Err(NoMemory);
     };
-    match one.chunks().get(chunk as usize) {
-        Some(place) => Ok(*place),
+    match member_at(one.chunks(), chunk as usize) {
+        Some(place) => Ok(place),
         None => Err(NoMemory),
     }
 }

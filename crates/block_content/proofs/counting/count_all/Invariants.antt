@@ -4,6 +4,6 @@ use Rattle.block_content.proofs.counting.count_all.Given as goal
 
 abbrev pub invariant-loop-one : goal.invariant-loop-one
 invariant-loop-one l = record {
-  counted : AllSoFar l.meta l.segments l.indexed l.one-index l.samples l.outside l.series;
+  counted : AllSoFar l.meta l.segments l.indexed l.one-index l.bytes l.samples l.outside l.series;
   kept : AreFound l.meta l.segments l.places;
 }

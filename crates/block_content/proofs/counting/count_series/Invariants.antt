@@ -4,6 +4,6 @@ use Rattle.block_content.proofs.counting.count_series.Given as goal
 
 abbrev pub invariant-loop-place : goal.invariant-loop-place
 invariant-loop-place l = record {
-  counted : CountedSoFar l.meta l.segments l.chunks l.place-index l.samples l.outside l.chunk;
+  counted : CountedSoFar l.meta l.segments l.chunks l.place-index l.bytes l.samples l.outside l.chunk;
   kept : AreFound l.meta l.segments l.places;
 }

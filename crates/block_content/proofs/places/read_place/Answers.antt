@@ -1,4 +1,4 @@
-use Rattle.std.proofs.Common.{inr}
+use Rattle.std.proofs.Common.{length, refl, inr}
 use Rattle.block_content.specs.declared.chunk_cause.ChunkCause.TheVariants.{File, Data}
 use Rattle.block_content.proofs.FoundPlaces.{stops, no_data, no_samples, found_there}
 use Rattle.block_content.proofs.places.read_place.Goals as goal
@@ -13,4 +13,4 @@ returns-in_err-span c =
 
 pub returns : goal.returns
 returns c =
-    found_there c.args.segments.now c.args.place c.in_ok-content.content.now c.in_ok-content.ensures c.args.meta.now (record { span = c.in_ok-span.span; outside = c.in_ok-outside.outside }) c.in_ok-span.ensures.found c.in_ok-outside.ensures.time
+    found_there c.args.segments.now c.args.place c.in_ok-content.content.now c.in_ok-content.ensures c.args.meta.now (record { bytes = length c.in_ok-content.content.now; span = c.in_ok-span.span; outside = c.in_ok-outside.outside }) c.in_ok-span.ensures.found c.in_ok-outside.ensures.time refl
