@@ -85,5 +85,11 @@ lists_few list room =
     let others = rows_small (written list) room (padded 4 front ++ postings_text (numbers list)) more.more (rows list) more.is in
     let all = one_more (written list) room front more.more (numbers list) texts more.is others in
     let offsets = offsets_same f (symbols_of list) (rows list) (row_places list) (many_rows list) in
-    omega (arith, all, offsets, sum_by-cons (λ (row : PostingsRow). f row.offset) (row_of_all (all_place list)) (label_rows (symbols_of list) (rows list) (row_places list)), sum_by-cons f (all_place list) (row_places list),
-    length-append (with_lists (parts_of list)) (label_offsets_text (offset_rows (parts_of list))))
+    omega (
+      arith,
+      all,
+      offsets,
+      sum_by-cons (λ (row : PostingsRow). f row.offset) (row_of_all (all_place list)) (label_rows (symbols_of list) (rows list) (row_places list)),
+      sum_by-cons f (all_place list) (row_places list),
+      length-append (with_lists (parts_of list)) (label_offsets_text (offset_rows (parts_of list))),
+    )
