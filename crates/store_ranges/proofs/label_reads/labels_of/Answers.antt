@@ -17,7 +17,7 @@ add_label-requires c =
 pub loop-place-preserved : goal.loop-place-preserved
 loop-place-preserved c =
     let label : Label = record { name = c.in-Some.name.now; value = c.in-Some.value.now } in (
-      named_step c.args.symbols.now c.args.names.now c.args.values.now c.loop-place.before.now c.loop-place.place c.loop-place.set c.loop-place.invariant.0 _ _ c.loop-place-test.true c.requires refl refl label c.in-Some.ensures c.add_label.new.set _ c.in_ok-add_label.ensures refl,
+      named_step c.args.symbols.now c.args.names.now c.args.values.now c.loop-place.before.now c.loop-place.place c.loop-place.set c.loop-place.invariant.0 _ _ c.loop-place-test.true c.requires refl refl label c.in-Some.ensures c.add_label.new.set _ c.in_ok-add_label-in-Some.ensures refl,
       search rules,
     )
 
