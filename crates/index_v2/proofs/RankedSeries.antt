@@ -11,10 +11,10 @@ use Rattle.index_v2.specs.declared.ranks.Ranks.{Ranks}
 use Rattle.index_v2.specs.Ranks.{AreSymbols, IsRanked, AreRanked, compare_ranks, series_ranks_at}
 use Rattle.index_v2.specs.SeriesLabels.{labelled_at, numbered_at}
 use Rattle.index_v2.specs.declared.refusal.IndexRefusal.{IndexRefusal}
-use Rattle.index_v2.specs.declared.refusal.IndexRefusal.TheVariants.{NoMemory}
+use Rattle.index_v2.specs.declared.refusal.IndexRefusal.TheVariants.{NoMemory, BadSeries}
 use Rattle.index_parts.specs.declared.refusal.PartRefusal.TheVariants as part
 use Rattle.index_v2.specs.Opening.{refused_of}
-use Rattle.index_v2.specs.WholeReading.{may_stand_behind}
+use Rattle.index_v2.specs.WholeReading.{stands_behind, may_stand_behind, behind_at}
 use Rattle.index_v2.proofs.LabelRanks.{are_read}
 use Rattle.index_v2.proofs.RankedGaps.{nth}
 use Rattle.index_v2.proofs.SymbolRanks.{sets_so}
@@ -56,3 +56,23 @@ ranks_not_refused index symbols at series refusal are e read = let known = (are_
 pub ranks_refused : {P : Type 0} (index : List ℕ) (symbols : List (List ℕ)) (at number : ℕ) (series : IndexSeries) (refusal : PartRefusal) (answer : IndexRefusal) → AreSymbols symbols → labelled_at index symbols at ≡ Ok series → (refusal ≡ part.NoMemory) ⊎ (series_ranks_at index at ≡ Err refusal) → answer ≡ refused_of number refusal → (answer ≡ NoMemory) ⊎ P
 ranks_refused index symbols at number series refusal answer are e (inl out) is = inl (is ∙ ap (refused_of number) out)
 ranks_refused index symbols at number series refusal answer are e (inr read) is = ranks_not_refused index symbols at series refusal are e read
+
+-- ---- behind others
+
+module _ (index : List ℕ) (symbols : List (List ℕ)) (last : Option ℕ) (before : Option IndexSeries) (number : ℕ) where
+  pub behind_unread : (e : IndexRefusal) → numbered_at index symbols number ≡ Err e → behind_at index symbols last before number ≡ Err e
+  unfolding behind_at
+  behind_unread e read = rw read refl
+
+  module _ (one : IndexSeries) (read : numbered_at index symbols number ≡ Ok one) where
+    pub behind_read : (b d : Bool) → b ≡ stands_behind index last number → b ≡ true → d ≡ may_stand_behind before one → d ≡ true → behind_at index symbols last before number ≡ Ok one
+    unfolding behind_at
+    behind_read b d is so' its so = rw (read, sym is ∙ so', sym its ∙ so) refl
+
+    pub behind_within : (b : Bool) → b ≡ stands_behind index last number → b ≡ false → behind_at index symbols last before number ≡ Err (BadSeries number (part.Unordered (16 * number)))
+    unfolding behind_at
+    behind_within b is never = rw (read, sym is ∙ never) refl
+
+    pub behind_below : (b d : Bool) → b ≡ stands_behind index last number → b ≡ true → d ≡ may_stand_behind before one → d ≡ false → behind_at index symbols last before number ≡ Err (BadSeries number (part.Unordered (16 * number)))
+    unfolding behind_at
+    behind_below b d is so' its low = rw (read, sym is ∙ so', sym its ∙ low) refl
