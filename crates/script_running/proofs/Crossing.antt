@@ -4,6 +4,8 @@ use denote.Ref.{NamedLft}
 use denote.Param.Send.{IsSend, IsSync, sendable}
 use Rattle.std.proofs.Crossing.{crosses}
 use Rattle.std.proofs.MapsCrossing.{crosses as maps_cross}
+use Rattle.bytes.proofs.block.Block.TheSendSync as block
+use Rattle.bytes.proofs.block.Seen.TheSendSync as seen
 use Rattle.lru.proofs.list.List.TheSendSync as nodes
 use Rattle.lru.proofs.entry.Deed.TheSendSync as deed
 use Rattle.lru.proofs.key_ref.KeyRef.TheSendSync as key
@@ -24,7 +26,19 @@ use Rattle.script_running.specs.contracts.shelf.ShelfBlock as ShelfBlock
 use Rattle.script_running.specs.contracts.shelf.ShelfFound as ShelfFound
 
 kept_sync : IsSync Kept.the_row
-kept_sync = search (sendable, crosses) depth 24
+kept_sync = search (sendable, crosses, block.the_send, block.the_sync, seen.the_sync) depth 40 fits 40000
+
+kept_send : IsSend Kept.the_row
+kept_send = search (sendable, crosses, block.the_send, block.the_sync, seen.the_send) depth 40 fits 40000
+
+kept_sent : IsSend (Kept.the_field).row
+kept_sent = let kept = kept_send in search (sendable, crosses) depth 24
+
+blob_send : IsSend Blob.the_row
+blob_send = let kept = kept_sent in search (sendable, crosses) depth 24
+
+blob_sent : IsSend (Blob.the_field).row
+blob_sent = let blob = blob_send in search (sendable, crosses) depth 24
 
 kept_field : IsSync (Kept.the_field).row
 kept_field = let kept = kept_sync in search (sendable, crosses) depth 24
@@ -72,7 +86,7 @@ view_field : IsSend (View.the_field).row
 view_field = let found = found_list in search (sendable, crosses) depth 60 fits 40000
 
 cache_field : IsSend (IndexCache.the_field).row
-cache_field = search (sendable, crosses, maps_cross, nodes.the_send, deed.the_send, key.the_send) depth 60 fits 40000
+cache_field = let blob = blob_sent in search (sendable, crosses, maps_cross, nodes.the_send, deed.the_send, key.the_send) depth 60 fits 40000
 
 sight_field : IsSend (Sight.the_field).row
 sight_field = let view = view_field in let cache = cache_field in search (sendable, crosses) depth 60 fits 40000
