@@ -44,14 +44,16 @@ use Rattle.moment_core.specs.Limits.{moment_limit}
 use Rattle.script_running.specs.Begun.{AreLeft, WasBegun, WereKept}
 use Rattle.script_running.specs.Cutting.{KnowsPhases, Passed}
 use Rattle.script_running.specs.Ended.{AreInRow, HaveEnded, IsPostOf}
-use Rattle.script_running.specs.Gathering.{HaveOwnGateways, Gathers}
-use Rattle.script_running.specs.Going.{HasCome, HasGone, HasSeenFull, HasStopped, IfFull, IsClockSet, Met}
+use Rattle.script_running.specs.Gathering.{HasGathered, HaveCome, HaveOwnGateways, Joined}
+use Rattle.script_running.specs.Going.{HasCome, HasGone, HasReached, HasSeenFull, HasStopped, IfFull, IsClockSet, Met}
 use Rattle.script_running.specs.Outcomes.{Outcome, PhasesCame, TasksCame}
 use Rattle.script_running.specs.Lending.{Loan}
+use Rattle.script_running.specs.Reporting.{tasks_in}
 use Rattle.script_running.specs.Shelves.{setting_by}
 use Rattle.script_running.specs.Workers.{IsAtWork, MayWork, Post}
 use Rattle.script_running.specs.declared.came.Broken.{Broken}
 use Rattle.script_running.specs.declared.came.Broken.TheVariants as broken
+use Rattle.script_running.specs.declared.progress.Progress.{Progress}
 use Rattle.script_running.specs.declared.shelf.ShelfBlock.{ShelfBlock}
 use Rattle.script_running.specs.declared.sight.Sight.{Sight}
 use Rattle.script_running.specs.declared.worker.WorkerEnd.{WorkerEnd}
@@ -60,6 +62,7 @@ use Rattle.script_running.proofs.Gathered.{same_place}
 use Rattle.script_running.proofs.Going.{gone_more}
 use Rattle.script_running.proofs.JobSteps.{allowed}
 use Rattle.script_running.proofs.Knowing.{knows_more, knows_on}
+use Rattle.script_running.proofs.Reporting.{still_same, tasks_more}
 use Rattle.script_running.proofs.Rows.{workers_in_row}
 
 abbrev Kept : Type 0
@@ -265,20 +268,36 @@ module _ (script : Script) (shelf : List ShelfBlock) (place : ℕ) (phase : Phas
         stands = inr (inl (record { one = one; begins = begins; others = others; ends = ended.0; lasts = ended.1; have = have; seat = splits + 1; row = in_row; knows = knows; met = met.1 }));
       }
 
-      -- what the phase comes to, by what its workers' ends come to together
-      phase_came : (seen_then : List Sight) (later : List Outcome) (came : Result (Unit {0}) Broken) → length seen_then ≡ length sights → Gathers own phase workers ended.0 others next.0 seen_then outcomes later came
-          → HasCome own (view_of after) (take (place + 1) script.phases) seen_then later came
-      phase_came seen_then later (Err why) each gathers = broke why later gathers
-      phase_came seen_then later (Ok done) each (all, sees, (own_outcomes, are, tasks)) =
-          let same : workers ≡ workers_of script (length front_phases) = workers_are ∙ ap (workers_of script) (sym long) in
-          subst (λ (ps : List Phase). HasGone own (view_of after) ps seen_then later) (sym (take_place script.phases place phase at))
-          (subst (λ (os : List Outcome). HasGone own (view_of after) (front_phases ++ phase ∷ []) seen_then os) (sym are)
-          (gone_more own (view_of root) (view_of after) front_phases sights seen_then outcomes own_outcomes phase one ended.0 next.0 g next.2 (subst (λ (ws : List Worker). AreDone ws ended.0) same all) (subst (λ (ws : List Worker). TasksCame script ws ended.0 0 phase.tasks own_outcomes) same tasks) knows each sees))
+      -- ---- what the phase comes to, by what its workers' ends come to together, and by the report
 
-      pub phase_comes : (seen_then : List Sight) (later : List Outcome) (came : Result (Unit {0}) Broken) → length seen_then ≡ length sights
-          → ((holdings : Holdings) (each : List (List End)) (lasts : List Holding) → HaveEnded own phase.tasks g.held (view_of after).front workers kept others each lasts → AreLeft g.held workers lasts holdings → Gathers own phase workers each others holdings seen_then outcomes later came)
-          → HasCome own (view_of after) (take (place + 1) script.phases) seen_then later came
-      phase_comes seen_then later came each gathers = phase_came seen_then later came each (gathers next.0 ended.0 ended.1 ended.2 left)
+      abbrev joined_of : Holdings → List (List End) → List Holding → Joined
+      joined_of holdings each lasts = record { number = place; phase = phase; before = g.held; after = holdings; front = (view_of after).front; kept = kept; ends = each; lasts = lasts }
+
+      module _ {P : Type 0} (tells : P → Script → List Task → List Outcome → Type 0) (report : P) (told : tells report script (tasks_in front_phases) outcomes) (mid new : Progress P) (same : mid.report ≡ report) (each : length new.sights.items ≡ length sights) where
+        whole : HasGathered tells own (joined_of next.0 ended.0 ended.1) mid new → HasReached tells own (view_of after) (take (place + 1) script.phases) new
+        whole h =
+            let here : workers_of script place ≡ workers_of script (length front_phases) = ap (workers_of script) (sym long) in
+            let ahead = take_place script.phases place phase at in
+            record {
+              outcomes = outcomes ++ h.own;
+              gone = subst (λ (ps : List Phase). HasGone own (view_of after) ps new.sights.items (outcomes ++ h.own)) (sym ahead)
+                  (gone_more own (view_of root) (view_of after) front_phases sights new.sights.items outcomes h.own phase one ended.0 next.0 g next.2 (subst (λ (ws : List Worker). AreDone ws ended.0) here h.done) (subst (λ (ws : List Worker). TasksCame script ws ended.0 0 phase.tasks h.own) here h.came) knows each h.seen);
+              told = subst (λ (ts : List Task). tells new.report script ts (outcomes ++ h.own)) (tasks_more front_phases phase ∙ ap tasks_in (sym ahead))
+                  (h.told (tasks_in front_phases) outcomes (subst (λ (r : P). tells r script (tasks_in front_phases) outcomes) (sym same) told));
+            }
+
+        comes : (came : Result (Unit {0}) Broken) → HaveCome others came → (came ≡ Err broken.Full → new.report ≡ mid.report) → OnOk came (HasGathered tells own (joined_of next.0 ended.0 ended.1) mid new) → HasCome tells own (view_of after) (take (place + 1) script.phases) new came
+        comes (Ok done) met keeps h = whole h
+        comes (Err why) met keeps h = record {
+          outcomes = outcomes;
+          stopped = broke why outcomes (refl, met);
+          told = (report, still_same report new.report why (λ full. keeps full ∙ same), front_phases, phase ∷ drop (place + 1) script.phases, parts, told);
+        }
+
+        pub phase_comes : (came : Result (Unit {0}) Broken) → HaveCome others came → (came ≡ Err broken.Full → new.report ≡ mid.report)
+            → ((holdings : Holdings) (ends : List (List End)) (lasts : List Holding) → HaveEnded own phase.tasks g.held (view_of after).front workers kept others ends lasts → AreLeft g.held workers lasts holdings → OnOk came (HasGathered tells own (joined_of holdings ends lasts) mid new))
+            → HasCome tells own (view_of after) (take (place + 1) script.phases) new came
+        phase_comes came met keeps gathers = comes came met keeps (gathers next.0 ended.0 ended.1 ended.2 left)
 
 -- ---- the jobs
 

@@ -3,10 +3,11 @@ use Rattle.std.proofs.Common.{◌≡◌, ◌≢◌, ◌⊎◌, inl, inr, ℕ, �
 use Rattle.std.specs.Prelude.{OnOk, Result, slice_get}
 use Rattle.std.specs.List.{flat_map, range_with_len}
 use Rattle.std.proofs.Math.ListN.{set, length-set}
-use Rattle.std.proofs.lemmas.List.{flat_map_more, map-id}
+use Rattle.std.proofs.lemmas.List.{flat_map_more, map-id, take_all}
 use Rattle.std.proofs.lemmas.List.FromFn.{map-range_with_len_more}
 use Rattle.std.proofs.lemmas.Option.{slice_get_past}
-use Rattle.base.proofs.Lists.{take_place, slice_get-set_other}
+use Rattle.base.proofs.Lists.{take_none, take_place, slice_get-set_other}
+use Rattle.script_core.specs.declared.script.Script.{Script}
 use Rattle.script_workers.specs.Hands.{gateway_of, hands_of_task}
 use Rattle.script_workers.specs.declared.hand.Hand.{Hand}
 use Rattle.script_workers.specs.declared.hand.Hand.TheVariants as hands
@@ -17,7 +18,9 @@ use Rattle.script_running.specs.Gathering.{AreTold, IsTakenAt, IsToldBy, laid_in
 use Rattle.script_running.specs.declared.gathering.Column.{Column}
 use Rattle.script_running.specs.declared.gathering.Slots.{Slots}
 use Rattle.script_running.specs.Outcomes.{Outcome, Part}
+use Rattle.script_running.specs.Reporting.{AddsTo}
 use Rattle.script_running.proofs.AllParts.{few_parts}
+use Rattle.script_running.proofs.Reporting.{adds_more, adds_none}
 use Rattle.script_running.proofs.Taking.{found, same_or, set_here}
 
 -- ---- one slot
@@ -217,19 +220,25 @@ pub of_query : (slots : Slots) (place : ℕ) (low high : ℤ) (selector : ℕ) (
 of_query slots place low high selector w parts number is all are =
     are ∙ ap (λ (n : ℕ). flat_map (λ (k : ℕ). laid_in (slot_at slots (Some k) place)) (range_with_len 0 n)) all ∙ asked_parts slots place low high selector ∙ ap (parts_at slots place) (sym is)
 
--- the tasks so far, and the next one
-pub told_next : (slots now : Slots) (place : ℕ) (tasks : List Task) (task : Task) (before outcomes after : List Outcome) → AreLeftFrom place slots now → place < length tasks → task ≡ get_or tasks place task
-    → (own : List Outcome) × (outcomes ≡ before ++ own) × AreTold slots 0 (take place tasks) own → (o : Outcome) × (after ≡ outcomes ++ o ∷ []) × IsToldBy task.work (parts_at now place task.work) o
-    → (own : List Outcome) × (after ≡ before ++ own) × AreTold slots 0 (take (place + 1) tasks) own
-told_next slots now place tasks task before outcomes after left within value told one =
-    let here : place ≡ 0 + length (take place tasks) = omega (arith, length-take place tasks, within) in
-    let by : IsToldBy task.work (parts_at slots place task.work) one.0 = subst (λ (l : List Part). IsToldBy task.work l one.0) (parts_left place slots now task.work left) one.2 in (
-      told.0 ++ one.0 ∷ [],
-      one.1 ∙ ap (λ (l : List Outcome). l ++ one.0 ∷ []) told.1 ∙ append_assoc before told.0 (one.0 ∷ []),
-      subst (λ (l : List Task). AreTold slots 0 l (told.0 ++ one.0 ∷ [])) (sym (take_place tasks place task (found tasks place place task refl within value)))
-          (told_more slots 0 (take place tasks) task told.0 one.0 told.2 (subst (λ (n : ℕ). IsToldBy task.work (parts_at slots n task.work) one.0) here by)),
-    )
+-- ---- what the report tells
 
-pub tasks_next : (before tasks : List Task) (place : ℕ) (task : Task) → place < length tasks → task ≡ get_or tasks place task → (before ++ take place tasks) ++ task ∷ [] ≡ before ++ take (place + 1) tasks
-tasks_next before tasks place task within value =
-    append_assoc before (take place tasks) (task ∷ []) ∙ ap (λ (l : List Task). before ++ l) (sym (take_place tasks place task (found tasks place place task refl within value)))
+module _ {P : Type 0} (tells : P → Script → List Task → List Outcome → Type 0) (script : Script) (slots : Slots) (tasks : List Task) (first : P) where
+  -- the first tasks, by their parts, and by the report
+  abbrev pub ToldTo : ℕ → P → Type 0
+  ToldTo place report = (own : List Outcome) × AreTold slots 0 (take place tasks) own × AddsTo tells script (take place tasks) own first report
+
+  pub told_none : ToldTo 0 first
+  told_none = ([], subst (λ (ts : List Task). AreTold slots 0 ts [] × AddsTo tells script ts [] first first) (sym (take_none tasks)) (refl, adds_none tells script first))
+
+  pub told_all : (place : ℕ) (report : P) → length tasks ≤ place → ToldTo place report → (own : List Outcome) × AreTold slots 0 tasks own × AddsTo tells script tasks own first report
+  told_all place report all told = (told.0, subst (λ (ts : List Task). AreTold slots 0 ts told.0 × AddsTo tells script ts told.0 first report) (take_all place tasks all) (told.1, told.2))
+
+  -- the tasks so far, and the next one
+  pub told_next : (now : Slots) (place : ℕ) (task : Task) (old new : P) → AreLeftFrom place slots now → place < length tasks → task ≡ get_or tasks place task → ToldTo place old
+      → (o : Outcome) × IsToldBy task.work (parts_at now place task.work) o × AddsTo tells script (task ∷ []) (o ∷ []) old new → ToldTo (place + 1) new
+  told_next now place task old new left within value told one =
+      let here : place ≡ 0 + length (take place tasks) = omega (arith, length-take place tasks, within) in
+      let by : IsToldBy task.work (parts_at slots place task.work) one.0 = subst (λ (l : List Part). IsToldBy task.work l one.0) (parts_left place slots now task.work left) one.1 in
+      let more = told_more slots 0 (take place tasks) task told.0 one.0 told.1 (subst (λ (n : ℕ). IsToldBy task.work (parts_at slots n task.work) one.0) here by) in
+      let adds = adds_more tells script (take place tasks) (task ∷ []) told.0 (one.0 ∷ []) first old new told.2 one.2 in
+      (told.0 ++ one.0 ∷ [], subst (λ (l : List Task). AreTold slots 0 l (told.0 ++ one.0 ∷ []) × AddsTo tells script l (told.0 ++ one.0 ∷ []) first new) (sym (take_place tasks place task (found tasks place place task refl within value))) (more, adds))

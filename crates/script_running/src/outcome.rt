@@ -1,12 +1,7 @@
 //! How activities ended, as a report tells it. A number in it is mostly that of an entry, by which a reader finds in
 //! the journal what the activity met.
 
-use crate::Outcome;
-use base::List;
 use querier::{Answer, NamesList};
-
-/// Outcomes in the order in which the report tells them.
-pub type OutcomeList = List<Outcome>;
 
 /// How a gateway's sync ended.
 #[derive(Clone, Copy, Debug, PartialEq, Eq)]
