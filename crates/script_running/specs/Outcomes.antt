@@ -55,21 +55,34 @@ call_part (called.Missing entry) = given.NoAnswer (none.Missing entry)
 call_part (called.Damaged entry) = given.NoAnswer (none.Damaged entry)
 call_part (called.Fault entry) = given.NoAnswer (none.Fault entry)
 
+-- a gateway's part of what all gateways are asked, by the end to which it came
+abbrev pub IsGatewayPart : End → Part → Type 0
+IsGatewayPart (answered used end) p = p ≡ came_to.Query (call_part end)
+IsGatewayPart without_view p = p ≡ came_to.Query (given.NoAnswer none.NoView)
+IsGatewayPart not_asked p = p ≡ came_to.Query given.NotAsked
+-- it comes to no other end
+IsGatewayPart other p = ⊥
+
+-- what one worker does of a task that asks not all gateways, by the end to which it came: all of it
+abbrev pub IsOwnPart : Work → End → Part → Type 0
+IsOwnPart (work.Upload ulid count) (uploaded end) p = p ≡ came_to.Upload (stop.Ended end)
+IsOwnPart (work.Upload ulid count) (refused cause) p = p ≡ came_to.Unshipped cause
+IsOwnPart (work.Upload ulid count) (stopped at) p = p ≡ came_to.Upload (stop.At at)
+IsOwnPart (work.Sync gateway) (synced end) p = p ≡ came_to.Sync (sync_outcome end)
+IsOwnPart (work.Compact count) (compacted end) p = p ≡ came_to.Compact (stop.Ended end)
+IsOwnPart (work.Compact count) (stopped at) p = p ≡ came_to.Compact (stop.At at)
+IsOwnPart (work.Clean count) (cleaned end) p = p ≡ came_to.Clean (stop.Ended end)
+IsOwnPart (work.Clean count) (stopped at) p = p ≡ came_to.Clean (stop.At at)
+-- no other task comes to such an end
+IsOwnPart other end p = ⊥
+
+abbrev pub PartBy : Bool → Work → End → Part → Type 0
+PartBy true w = IsGatewayPart
+PartBy false w = IsOwnPart w
+
 -- A worker's part of a task, by the end to which it came.
 abbrev pub IsPart : Work → End → Part → Type 0
-IsPart (work.Upload ulid count) (uploaded end) p = p ≡ came_to.Upload (stop.Ended end)
-IsPart (work.Upload ulid count) (refused cause) p = p ≡ came_to.Unshipped cause
-IsPart (work.Upload ulid count) (stopped at) p = p ≡ came_to.Upload (stop.At at)
-IsPart (work.Sync gateway) (synced end) p = p ≡ came_to.Sync (sync_outcome end)
-IsPart (work.Compact count) (compacted end) p = p ≡ came_to.Compact (stop.Ended end)
-IsPart (work.Compact count) (stopped at) p = p ≡ came_to.Compact (stop.At at)
-IsPart (work.Clean count) (cleaned end) p = p ≡ came_to.Clean (stop.Ended end)
-IsPart (work.Clean count) (stopped at) p = p ≡ came_to.Clean (stop.At at)
-IsPart (work.Query low high selector) (answered used end) p = p ≡ came_to.Query (call_part end)
-IsPart (work.Query low high selector) without_view p = p ≡ came_to.Query (given.NoAnswer none.NoView)
-IsPart (work.Query low high selector) not_asked p = p ≡ came_to.Query given.NotAsked
--- no other task comes to such an end
-IsPart other end p = ⊥
+IsPart w = PartBy (asks_all w) w
 
 -- why a gateway gave no answer, if it was asked and gave none
 abbrev pub why_none : QueryPart → Option NoAnswer

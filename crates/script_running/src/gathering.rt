@@ -1,7 +1,8 @@
 //! The workers of a phase, sent with what their gateways see, and their ends, laid together in the order of the lines.
 
 ghost use Rattle.std.specs.Prelude.{◌≡◌, ◌≢◌, ◌<◌, ◌≤◌, ◌++◌, ℕ, List, Ok, Err, None, Some, IfOk, IfSome, MatchBool, OnOk, length, slice_get};
-ghost use Rattle.std.specs.List.{All, AllZip};
+ghost use Rattle.std.specs.List.{All, AllZip, flat_map, range_with_len};
+ghost use Rattle.script_workers.specs.Hands.{gateway_of, own_hand};
 ghost use Rattle.lifecycle_core.specs.Holdings.{Holdings};
 ghost use Rattle.lifecycle_core.specs.Setting.{Setting};
 ghost use Rattle.script_fields.specs.Limits.{most_gateways};
@@ -325,19 +326,51 @@ fn take_parts(
     ensures parts { IfOk result (λ parts. parts.items ≡ parts_at slots.old place work.now) }
     ensures taken { IsTakenAt place slots.old slots.new }
 {
-    let mut parts = Vec::new(alloc);
+    match work.asking() {
+        Some(_) => take_all(alloc, place, slots),
+        None => take_one(alloc, own_gateway(work), place, slots),
+    }
+}
+
+/// The gateway whose worker does a task that asks not all of them, if it is one's.
+fn own_gateway(work: &Work) -> Option<u32>
+    ensures { (place : ℕ) → result ≡ gateway_of (own_hand place work.now) }
+{
     match work {
-        Work::Upload(..) | Work::Compact(_) | Work::Clean(_) => take_part(
-            &mut slots.alone,
-            place,
-            &mut parts,
-        )?,
-        Work::Sync(gateway) => take_of(slots, *gateway as usize, place, &mut parts)?,
-        Work::Query { .. } => {
-            for gateway in 0..slots.gateways.len() {
-                take_of(slots, gateway, place, &mut parts)?;
-            }
-        }
+        Work::Sync(gateway) => Some(*gateway),
+        _ => None,
+    }
+}
+
+/// Takes what the workers of all gateways came to in the task at a place.
+fn take_all(alloc: Global, place: usize, slots: &mut Slots) -> Result<Vec<Part>, NoMemory>
+    ensures parts { IfOk result (λ parts. parts.items
+        ≡ flat_map (λ gateway. laid_in (slot_at slots.old (Some gateway) place))
+        (range_with_len 0 (length slots.old.gateways.items))) }
+    ensures taken { IsTakenAt place slots.old slots.new }
+{
+    let mut parts = Vec::new(alloc);
+    for gateway in 0..slots.gateways.len() {
+        take_of(slots, gateway, place, &mut parts)?;
+    }
+    Ok(parts)
+}
+
+/// Takes what one worker came to in the task at a place, by its gateway, if it is one's.
+fn take_one(
+    alloc: Global,
+    gateway: Option<u32>,
+    place: usize,
+    slots: &mut Slots,
+) -> Result<Vec<Part>, NoMemory>
+    ensures parts { IfOk result
+        (λ parts. parts.items ≡ laid_in (slot_at slots.old gateway place)) }
+    ensures taken { IsTakenAt place slots.old slots.new }
+{
+    let mut parts = Vec::new(alloc);
+    match gateway {
+        Some(gateway) => take_of(slots, gateway as usize, place, &mut parts)?,
+        None => take_part(&mut slots.alone, place, &mut parts)?,
     }
     Ok(parts)
 }
