@@ -1,6 +1,6 @@
 -- What a drive of a gateway's call leaves.
 use Rattle.std.proofs.Common.{◌≡◌, ℕ, ℤ, List, refl, sym, subst}
-use Rattle.std.specs.Prelude.{Option, Some, None, option_map, Result, Ok, Err, IfSome}
+use Rattle.std.specs.Prelude.{Option, Some, None, option_map, Result, Err, IfSome}
 use Rattle.store_calls.specs.CallRuns.{CallRun, end_by}
 use Rattle.store_calls.specs.declared.running.CallLeft.{CallLeft}
 use Rattle.store_ranges.specs.Reads.{Cache, Query as Question}

@@ -1,6 +1,6 @@
 -- What gateways gave to a query, one after another.
 use Rattle.std.proofs.Common.{◌≡◌, ◌≢◌, ℕ, suc, ◌+◌, ◌<◌, get_or, take, drop, Bool, true, false, List, [], ◌∷◌, ◌++◌, length, map, Option, Some, None, refl, sym, ◌∙◌, ap, subst, arith, append-nil}
-use Rattle.std.specs.Prelude.{Ok, Err, MatchResult, OnOk, Result, is_some, not}
+use Rattle.std.specs.Prelude.{Ok, Err, OnOk, Result, is_some, not}
 use Rattle.std.proofs.lemmas.List.{map-id, take-append-drop}
 use Rattle.base.proofs.Lists.{drop_place}
 use Rattle.querier.specs.Gathered.{IsGathered}

@@ -1,5 +1,5 @@
 -- A run beside, from an empty journal to the world that comes out again.
-use Rattle.std.proofs.Common.{◌≡◌, ℕ, List, [], length, sym, ap, subst, arith}
+use Rattle.std.proofs.Common.{◌≡◌, ℕ, List, [], length, sym, ap, subst}
 use Rattle.std.specs.Prelude.{Ok, Err, Result}
 use Rattle.std.specs.List.{All}
 use Rattle.base.proofs.Lists.{take_none}

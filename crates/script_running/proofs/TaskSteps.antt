@@ -14,7 +14,6 @@ use Rattle.meta_fetcher.specs.declared.view.View.{View}
 use Rattle.meta_fetcher.specs.Syncs.{SyncRun}
 use Rattle.matchers.specs.declared.matcher.Matcher.{Matcher}
 use Rattle.store_ranges.specs.Reads.{Cache, Query as Question}
-use Rattle.store_ranges.specs.declared.cache.IndexCache.{IndexCache}
 use Rattle.store_calls.specs.SeriesCalls.{CallEnd, SeriesRun, asking, series_call}
 use Rattle.world_core.proofs.PlanLaws.{breaks_off}
 use Rattle.cleaner.specs.Cleanings.{cleaning}
