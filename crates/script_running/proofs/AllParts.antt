@@ -11,7 +11,6 @@ use Rattle.script_workers.specs.declared.work.Work.{Work}
 use Rattle.script_workers.specs.declared.work.Work.TheVariants as work
 use Rattle.lifecycle_core.specs.Tasks.{End, answered, cleaned, compacted, not_asked, refused, stopped, synced, uploaded, without_view}
 use Rattle.script_running.specs.Outcomes.{AreAllParts, IsGatewayPart, IsOwnPart, IsPart, IsWhole, Outcome, Part, PartBy, PartsBy, call_part, sync_outcome}
-use Rattle.script_running.specs.declared.outcome.NoAnswer.TheVariants as none
 use Rattle.script_running.specs.declared.came.Came.TheVariants as came_to
 use Rattle.script_running.specs.declared.came.Stop.TheVariants as halt
 use Rattle.script_running.specs.declared.outcome.QueryPart.{QueryPart}
@@ -22,8 +21,8 @@ one_gateway (uploaded e) one is = absurd is
 one_gateway (synced e) one is = absurd is
 one_gateway (compacted e) one is = absurd is
 one_gateway (cleaned e) one is = absurd is
-one_gateway (answered used e) one is = (call_part e, is)
-one_gateway without_view one is = (given.NoAnswer none.NoView, is)
+one_gateway (answered used e) one is = (call_part used.view.first e, is)
+one_gateway without_view one is = (given.NoView, is)
 one_gateway not_asked one is = (given.NotAsked, is)
 one_gateway (refused cause) one is = absurd is
 one_gateway (stopped count) one is = absurd is

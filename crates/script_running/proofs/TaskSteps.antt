@@ -39,7 +39,6 @@ use Rattle.script_running.specs.Sights.{Sees, cache_of}
 use Rattle.script_running.specs.Tasks.{Adds, Answers, CameAs, CameBy, Does, HasAsked, HasDone, WhenDone, WhenFull, view_by}
 use Rattle.script_running.specs.declared.came.Broken.{Broken}
 use Rattle.script_running.specs.declared.came.Broken.TheVariants as broken
-use Rattle.script_running.specs.declared.outcome.NoAnswer.TheVariants as none
 use Rattle.script_running.specs.declared.came.Came.TheVariants as part
 use Rattle.script_running.specs.declared.outcome.QueryPart.TheVariants as given
 use Rattle.script_running.specs.declared.sight.Sight.{Sight}
@@ -131,7 +130,7 @@ a_view (Some used) view is = (used, refl, cc (is))
 
 -- one without a view answers so
 pub blind_asked : (held : Holding) (asked : Question) (seat : ℕ) (journal : List Entry) (sight : Sight) → sight.view ≡ None → Sees held sight
-    → HasAsked held asked seat journal journal sight (Ok (part.Query (given.NoAnswer none.NoView)))
+    → HasAsked held asked seat journal journal sight (Ok (part.Query given.NoView))
 blind_asked held asked seat journal sight blind sees = record {
   end = Some without_view;
   after = held;
@@ -161,11 +160,11 @@ sight_left held before after used own (Err why) by left sees same = tt
 
 -- one with a view answers by a call over it
 pub call_asked : (held : Holding) (asked : Question) (seat : ℕ) (old new : List Entry) (came : Result Part Broken) (before after : Sight) (view : View) (cache : Cache) → before.view ≡ Some view → after.view ≡ before.view → cache ≡ cache_of before.cache
-    → ((used : Use) → Called view asked cache seat old new used after.cache came)
+    → ((used : Use) → used.view ≡ view → Called view asked cache seat old new used after.cache came)
     → Sees held before → HasAsked held asked seat old new after came
 call_asked held asked seat old new came before after view cache is same kept ran sees =
     let seen = a_view held.used view (sees.view_is ∙ is) in
-    let r = ran seen.0 in
+    let r = ran seen.0 seen.2 in
     let a = r.1 in
     let end : Option CallEnd → Option End = option_map (λ (call : CallEnd). answered seen.0 call.end) in
     let runs : (made : List Entry) (e : Option CallEnd) → SeriesRun view asked cache made e → Answers asked held made (end e, called_with held e) =

@@ -30,8 +30,12 @@ pub enum QueryOutcome {
 pub enum QueryPart {
     /// None of the query's times lie in its partition.
     NotAsked,
-    Answer(Answer),
-    NoAnswer(NoAnswer),
+    /// It has not synced yet.
+    NoView,
+    /// What it answered over a view, and the number of the first entry of the sync that gave the view.
+    Answer(Answer, u64),
+    /// Why it gave no answer over such a view.
+    NoAnswer(NoAnswer, u64),
 }
 
 /// Why a gateway gave no answer.
