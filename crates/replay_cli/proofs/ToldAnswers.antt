@@ -31,7 +31,6 @@ use Rattle.call_verdicts.specs.script_running.specs.Outcomes.{IsOutcome, IsPart,
 use Rattle.replay_cli.specs.ToldAnswers.{IsTold, IsWorth, ToldAnswer, answered_by}
 use Rattle.call_verdicts.specs.Verdicts.{IsFullRun, IsWholeRun}
 use Rattle.call_verdicts.specs.report_lines.specs.Telling.{tasks_of}
-use Rattle.call_verdicts.specs.script_running.specs.declared.outcome.NoAnswer.TheVariants as nothing
 use Rattle.call_verdicts.specs.script_running.specs.declared.came.Came.TheVariants as came_to
 use Rattle.call_verdicts.specs.script_running.specs.declared.outcome.QueryOutcome.TheVariants as query
 use Rattle.call_verdicts.specs.script_running.specs.declared.outcome.QueryPart.{QueryPart}
