@@ -14,10 +14,11 @@ use Rattle.script_workers.proofs.StaffLaws.{is_staff}
 use Rattle.script_core.proofs.SeatLaws.{are_seated}
 use Rattle.script_core.specs.Lawful.{IsLawfulScript}
 use Rattle.script_core.specs.declared.script.Script.{Script}
-use Rattle.script_core.specs.Workers.{workers_before}
+use Rattle.script_core.specs.Workers.{workers_before, workers_of}
 use Rattle.lifecycle_core.specs.Conducts.{AreDone}
 use Rattle.lifecycle_core.specs.Setting.{Setting}
-use Rattle.script_running.specs.Gathering.{AreAllEmpty, AreEmpty, AreJoined, AreTakenIn, AreTold, HasGathered, HasSlot, HaveCome, IsToldBy, Joined, slot_at, slot_in}
+use Rattle.script_running.specs.Begun.{ends_in, workers_in}
+use Rattle.script_running.specs.Gathering.{AreAllEmpty, AreEmpty, AreJoined, AreSeenBeside, AreTakenIn, AreTold, HasGathered, HasSlot, HaveCome, IsToldBy, Joined, slot_at, slot_in}
 use Rattle.script_running.specs.Going.{Met}
 use Rattle.script_running.specs.Reporting.{AddsTo}
 use Rattle.script_running.specs.declared.came.Broken.{Broken}
@@ -81,15 +82,18 @@ module _ {P : Type 0} (tells : P → Script → List Task → List Outcome → T
   came_whole after old new all taken empty (Ok done) told =
       let gateways = gateway_count setting.script.gateways in
       let tasks = (one.phase).tasks in
-      let seated = subst (AreSeated gateways tasks (hands_of gateways tasks) (length (workers_before setting.script one.number))) (sym j.workers) (are_seated setting.script one.number one.phase j.lawful j.at) in
+      let staff : workers_in one.made ≡ workers_of setting.script one.number = j.workers ∙ j.staff in
+      let seated = subst (AreSeated gateways tasks (hands_of gateways tasks) (length (workers_before setting.script one.number))) (sym staff) (are_seated setting.script one.number one.phase j.lawful j.at) in
       let own : AreTold new 0 tasks told.0 = subst (λ (ts : List Task). AreTold new 0 ts told.0) j.tasks told.1 in
-      let g = gathered setting one.number one.phase (length (workers_before setting.script one.number)) (is_staff gateways tasks) staffed.workers.now seated one.before one.after one.front one.kept others one.ends one.lasts j.have j.left before.sights.items after.sights.items old new all taken
-      (none_filled (length staffed.tasks.now) (length before.sights.items) old empty) ((taken.same).wide ∙ empty.wide ∙ j.counted) told.0 own j.beside in
+      let taken' = subst (λ (ws : List Worker). AreTakenIn ws others before.sights.items after.sights.items old new) (sym j.workers) taken in
+      let beside = subst (λ (ws : List Worker). AreSeenBeside one.before ws before.sights.items) (sym j.workers) j.beside in
+      let g = gathered setting one.number one.phase (length (workers_before setting.script one.number)) (is_staff gateways tasks) one.made seated one.before one.after one.front others j.have j.left before.sights.items after.sights.items old new all taken'
+      (none_filled (length staffed.tasks.now) (length before.sights.items) old empty) ((taken.same).wide ∙ empty.wide ∙ j.counted) told.0 own beside in
       record {
-        done = subst (λ (ws : List Worker). AreDone ws one.ends) j.workers g.0;
+        done = subst (λ (ws : List Worker). AreDone ws (ends_in one.made)) staff g.0;
         seen = g.1;
         own = told.0;
-        came = subst (λ (ws : List Worker). TasksCame setting.script ws one.ends 0 tasks told.0) j.workers g.2;
+        came = subst (λ (ws : List Worker). TasksCame setting.script ws (ends_in one.made) 0 tasks told.0) staff g.2;
         told = subst (λ (s : Script). AddsTo tells s tasks told.0 before.report after.report) j.script_is (subst (λ (ts : List Task). AddsTo tells staffed.script.now ts told.0 before.report after.report) j.tasks told.2);
       }
 

@@ -11,10 +11,9 @@ use Rattle.script_workers.specs.declared.task.Task.{Task}
 use Rattle.script_workers.specs.declared.work.Work.{Work}
 use Rattle.script_workers.specs.declared.worker.Worker.{Worker}
 use Rattle.lifecycle_core.specs.Conducts.{AreDone}
-use Rattle.lifecycle_core.specs.Holdings.{Holding, Holdings}
+use Rattle.lifecycle_core.specs.Holdings.{Holdings}
 use Rattle.lifecycle_core.specs.Setting.{Setting}
-use Rattle.lifecycle_core.specs.Tasks.{End}
-use Rattle.script_running.specs.Begun.{AreLeft}
+use Rattle.script_running.specs.Begun.{AreLeft, Made, ends_in, workers_in}
 use Rattle.script_running.specs.Beside.{AreSeen}
 use Rattle.script_running.specs.Ended.{HaveEnded}
 use Rattle.script_running.specs.Going.{Met}
@@ -34,7 +33,7 @@ use Rattle.script_running.specs.declared.worker.WorkerEnd.{WorkerEnd}
 abbrev pub AreSeenBeside : Holdings → List Worker → List Sight → Type 0
 AreSeenBeside held workers sights = (place : ℕ) (sight : Sight) → slice_get sights place ≡ Some sight → All (λ (w : Worker). w.gateway ≢ Some place) workers → Sees (held place) sight
 
--- A phase whose workers were joined: what was kept of each one's seat, to which ends its tasks came, and what it holds last.
+-- A phase whose workers were joined: what each of them made.
 pub record Joined : Type 0 where
   pub number : ℕ
   pub phase : Phase
@@ -43,9 +42,7 @@ pub record Joined : Type 0 where
   pub after : Holdings
   -- what the root has seen of the journal
   pub front : List Entry
-  pub kept : List (ℕ × List Entry)
-  pub ends : List (List End)
-  pub lasts : List Holding
+  pub made : List Made
 
 -- These are the workers of the phase of the setting, who came back so. Gateways without a worker in it see by what they hold.
 pub record AreJoined (setting : Setting) (staffed : Staffed) (others : List WorkerEnd) (sights : List Sight) (one : Joined) : Type 0 where
@@ -53,18 +50,19 @@ pub record AreJoined (setting : Setting) (staffed : Staffed) (others : List Work
   pub script_is : staffed.script.now ≡ setting.script
   pub at : slice_get setting.script.phases one.number ≡ Some one.phase
   pub tasks : staffed.tasks.now ≡ one.phase.tasks
-  pub workers : staffed.workers.now ≡ workers_of setting.script one.number
+  pub workers : workers_in one.made ≡ staffed.workers.now
+  pub staff : staffed.workers.now ≡ workers_of setting.script one.number
   pub counted : length sights ≡ gateway_count setting.script.gateways
-  pub have : HaveEnded setting one.phase.tasks one.before one.front staffed.workers.now one.kept others one.ends one.lasts
-  pub left : AreLeft one.before staffed.workers.now one.lasts one.after
+  pub have : HaveEnded setting one.phase.tasks one.before one.front one.made others
+  pub left : AreLeft one.before one.made one.after
   pub beside : AreSeenBeside one.before staffed.workers.now sights
 
 -- All workers of the phase came to all their ends: gateways see what they hold after it, and the report tells of its tasks too.
 pub record HasGathered {P : Type 0} (tells : P → Script → List Task → List Outcome → Type 0) (setting : Setting) (one : Joined) (old new : Progress P) : Type 0 where
-  pub done : AreDone (workers_of setting.script one.number) one.ends
+  pub done : AreDone (workers_of setting.script one.number) (ends_in one.made)
   pub seen : AreSeen one.after new.sights.items
   pub own : List Outcome
-  pub came : TasksCame setting.script (workers_of setting.script one.number) one.ends 0 one.phase.tasks own
+  pub came : TasksCame setting.script (workers_of setting.script one.number) (ends_in one.made) 0 one.phase.tasks own
   pub told : AddsTo tells setting.script one.phase.tasks own old.report new.report
 
 -- ---- before the phase

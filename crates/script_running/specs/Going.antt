@@ -12,12 +12,12 @@ use Rattle.script_core.specs.Workers.{workers_of}
 use Rattle.script_core.specs.declared.script.Script.{Script}
 use Rattle.script_workers.specs.declared.phase.Phase.{Phase}
 use Rattle.script_workers.specs.declared.task.Task.{Task}
-use Rattle.lifecycle_core.specs.Holdings.{Holding, Holdings, none_held}
+use Rattle.lifecycle_core.specs.Holdings.{Holdings, none_held}
 use Rattle.lifecycle_core.specs.Phases.{by_workers}
 use Rattle.lifecycle_core.specs.Setting.{Setting}
 use Rattle.lifecycle_core.specs.Tasks.{End}
 use Rattle.lifecycle_core.specs.Ways.{AreFinished, BeginsPhase}
-use Rattle.script_running.specs.Begun.{WereBegun}
+use Rattle.script_running.specs.Begun.{Made, WereBegun, kept_in, workers_in}
 use Rattle.script_running.specs.Beside.{AreSeen}
 use Rattle.script_running.specs.Cutting.{KnowsPhases, Passed}
 use Rattle.script_running.specs.Ended.{AreInRow, HaveEnded}
@@ -71,11 +71,12 @@ pub record HasBrokenOff (setting : Setting) (root : Known) (done : List Phase) (
   pub one : Passed
   pub begins : BeginsPhase phase one.clock
   pub others : List WorkerEnd
-  pub ends : List (List End)
-  pub lasts : List Holding
-  pub have : HaveEnded setting phase.tasks held root.front (workers_of setting.script (length done)) one.kept others ends lasts
+  pub made : List Made
+  pub workers : workers_in made ≡ workers_of setting.script (length done)
+  pub kept : kept_in made ≡ one.kept
+  pub have : HaveEnded setting phase.tasks held root.front made others
   pub seat : ℕ
-  pub row : AreInRow seat (workers_of setting.script (length done))
+  pub row : AreInRow seat (workers_in made)
   pub knows : KnowsPhases root (passed ++ one ∷ [])
   pub met : Met why others
 

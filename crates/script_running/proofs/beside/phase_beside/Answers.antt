@@ -129,14 +129,15 @@ returns-clause-came g c =
     c.run_phase-end.result.root (vec_len c.in-Ok-jobs_of.jobs) run.0 run.1 c.run_phase-end.result.ends.items run.2
     g.P.Report.tells c.args.progress.now.report r.told (record { sights = c.jobs_of.new.sights; report = c.args.progress.now.report }) c.gather-came.new.progress refl (c.gather-came.ensures.each ∙ c.jobs_of.ensures.each)
     c.gather-came.result c.gather-came.ensures.came c.gather-came.ensures.unreported
-    (λ after own lasts have left. c.gather-came.ensures.gathers (setting_by c.args.run.now.script.now c.args.run.now.means.now.shelf)
-    (record { number = c.args.place; phase = c.args.phase.now; before = r.gone.held; after = after; front = (view_of c.run_phase-end.result.root).front; kept = run.0; ends = own; lasts = lasts })
+    (λ after made staff have left. c.gather-came.ensures.gathers (setting_by c.args.run.now.script.now c.args.run.now.means.now.shelf)
+    (record { number = c.args.place; phase = c.args.phase.now; before = r.gone.held; after = after; front = (view_of c.run_phase-end.result.root).front; made = made })
     (record {
       lawful = c.requires.lawful;
       script_is = refl;
       at = c.requires.at;
       tasks = c.members.ensures;
-      workers = are;
+      workers = staff;
+      staff = are;
       counted = gateways_counted c.args.run.now.script.now c.requires.lawful c.jobs_of.new.sights.items (c.jobs_of.ensures.each ∙ r.gone.each);
       have = have;
       left = left;
