@@ -111,14 +111,17 @@ pub fn run_beside<B: Bucket + Send, G: Gate + Sync, P: Report + Drop, R: Threads
     let means = Means::lend(alloc, script, lent.shelf, texts.members());
     match Shared::open(alloc, world) {
         Ok((shared, root)) => {
-            let run = Running {
-                rt,
-                gate,
-                script,
-                means: &means,
-                shared: &shared,
-            };
-            let (came, root) = run_phases(&run, root, &mut progress);
+            let (came, root) = run_phases(
+                &Running {
+                    rt,
+                    gate,
+                    script,
+                    means: &means,
+                    shared: &shared,
+                },
+                root,
+                &mut progress,
+            );
             let closed = shared.close(root);
             // what every world keeps, as this one does
             let kept = closed.world();
