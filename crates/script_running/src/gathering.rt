@@ -328,7 +328,7 @@ fn take_parts(
 {
     match work.asking() {
         Some(_) => take_all(alloc, place, slots),
-        None => take_one(alloc, own_gateway(work), place, slots),
+        None => take_own(alloc, own_gateway(work), place, slots),
     }
 }
 
@@ -357,7 +357,7 @@ fn take_all(alloc: Global, place: usize, slots: &mut Slots) -> Result<Vec<Part>,
 }
 
 /// Takes what one worker came to in the task at a place, by its gateway, if it is one's.
-fn take_one(
+fn take_own(
     alloc: Global,
     gateway: Option<u32>,
     place: usize,

@@ -8,4 +8,4 @@ returns-in-Some-clause-parts c = all_taken (λ v. v.items) c.args.slots.now c.ar
 
 pub returns-in-None-clause-parts : goal.returns-in-None-clause-parts
 returns-in-None-clause-parts c =
-    one_taken (λ v. v.items) c.args.slots.now c.args.place c.args.work.now c.take_one.result c.asking.result c.own_gateway.result c.asking.ensures (ap is_some c.in-None.is) (c.own_gateway.ensures c.args.place) c.take_one.ensures.parts
+    one_taken (λ v. v.items) c.args.slots.now c.args.place c.args.work.now c.take_own.result c.asking.result c.own_gateway.result c.asking.ensures (ap is_some c.in-None.is) (c.own_gateway.ensures c.args.place) c.take_own.ensures.parts

@@ -1,7 +1,7 @@
 use Rattle.std.proofs.Common.{◌∙◌, ap, Some, None}
 use Rattle.script_running.proofs.Telling.{one_laid}
-use Rattle.script_running.proofs.gathering.take_one.Goals.{in-Some+in_ok-take_of-in-Some, in-None+in_ok-take_part-in-None}
-use Rattle.script_running.proofs.gathering.take_one.Goals as goal
+use Rattle.script_running.proofs.gathering.take_own.Goals.{in-Some+in_ok-take_of-in-Some, in-None+in_ok-take_part-in-None}
+use Rattle.script_running.proofs.gathering.take_own.Goals as goal
 
 pub returns-clause-parts : goal.returns-clause-parts
 returns-clause-parts c = elim c.match-gateway.branch [
