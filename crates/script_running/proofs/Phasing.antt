@@ -287,7 +287,7 @@ module _ (script : Script) (shelf : List ShelfBlock) (place : ℕ) (phase : Phas
         comes (Err why) met keeps h = record {
           outcomes = outcomes;
           stopped = broke why outcomes (refl, met);
-          told = (report, still_same report new.report why (λ full. keeps full ∙ same), front_phases, phase ∷ drop (place + 1) script.phases, parts, told);
+          told = (report, still_same report new.report why (λ full. keeps full ∙ same), (front_phases, phase ∷ drop (place + 1) script.phases, parts, told));
         }
 
         pub phase_comes : (came : Result (Unit {0}) Broken) → HaveCome others came → (came ≡ Err broken.Full → new.report ≡ mid.report)

@@ -39,9 +39,9 @@ module _ {P : Type 0} (tells : P → Script → List Task → List Outcome → T
   broke_so setting place before now old report why r stopped same = record {
     outcomes = r.outcomes;
     stopped = stopped;
-    told = (old.report, same, take place setting.script.phases, drop place setting.script.phases, sym (take-append-drop place setting.script.phases), r.told);
+    told = (old.report, same, (take place setting.script.phases, drop place setting.script.phases, sym (take-append-drop place setting.script.phases), r.told));
   }
 
   -- a run that no phase broke off
   pub told_whole : (setting : Setting) (root : Known) (progress : Progress P) (r : HasReached tells setting root setting.script.phases progress) → HasToldFirst tells setting.script progress.report r.outcomes (Ok tt)
-  told_whole setting root progress r = (progress.report, (λ never. refl), setting.script.phases, [], sym (append-nil setting.script.phases), r.told)
+  told_whole setting root progress r = (progress.report, (λ never. refl), (setting.script.phases, [], sym (append-nil setting.script.phases), r.told))

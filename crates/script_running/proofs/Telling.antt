@@ -207,10 +207,10 @@ module _ {P : Type 0} (tells : P → Script → List Task → List Outcome → T
   ToldTo place report = (own : List Outcome) × AreTold slots 0 (take place tasks) own × AddsTo tells script (take place tasks) own first report
 
   pub told_none : ToldTo 0 first
-  told_none = ([], subst (λ (ts : List Task). AreTold slots 0 ts [] × AddsTo tells script ts [] first first) (sym (take_none tasks)) (refl, adds_none tells script first))
+  told_none = let none = subst (λ (ts : List Task). AreTold slots 0 ts [] × AddsTo tells script ts [] first first) (sym (take_none tasks)) (refl, adds_none tells script first) in ([], none.0, none.1)
 
   pub told_all : (place : ℕ) (report : P) → length tasks ≤ place → ToldTo place report → (own : List Outcome) × AreTold slots 0 tasks own × AddsTo tells script tasks own first report
-  told_all place report all told = (told.0, subst (λ (ts : List Task). AreTold slots 0 ts told.0 × AddsTo tells script ts told.0 first report) (take_all place tasks all) (told.1, told.2))
+  told_all place report all told = let whole = subst (λ (ts : List Task). AreTold slots 0 ts told.0 × AddsTo tells script ts told.0 first report) (take_all place tasks all) (told.1, told.2) in (told.0, whole.0, whole.1)
 
   -- the tasks so far, and the next one
   pub told_next : (now : Slots) (place : ℕ) (task : Task) (old new : P) → AreLeftFrom place slots now → place < length tasks → task ≡ get_or tasks place task → ToldTo place old
@@ -220,4 +220,5 @@ module _ {P : Type 0} (tells : P → Script → List Task → List Outcome → T
       let by : IsToldBy task.work (parts_at slots place task.work) one.0 = subst (λ (l : List Part). IsToldBy task.work l one.0) (parts_left place slots now task.work left) one.1 in
       let more = told_more slots 0 (take place tasks) task told.0 one.0 told.1 (subst (λ (n : ℕ). IsToldBy task.work (parts_at slots n task.work) one.0) here by) in
       let adds = adds_more tells script (take place tasks) (task ∷ []) told.0 (one.0 ∷ []) first old new told.2 one.2 in
-      (told.0 ++ one.0 ∷ [], subst (λ (l : List Task). AreTold slots 0 l (told.0 ++ one.0 ∷ []) × AddsTo tells script l (told.0 ++ one.0 ∷ []) first new) (sym (take_place tasks place task (found tasks place place task refl within value))) (more, adds))
+      let both = subst (λ (l : List Task). AreTold slots 0 l (told.0 ++ one.0 ∷ []) × AddsTo tells script l (told.0 ++ one.0 ∷ []) first new) (sym (take_place tasks place task (found tasks place place task refl within value))) (more, adds) in
+      (told.0 ++ one.0 ∷ [], both.0, both.1)
