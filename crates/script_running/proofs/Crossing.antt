@@ -25,14 +25,8 @@ use Rattle.script_running.specs.contracts.worker.WorkerJob as WorkerJob
 use Rattle.script_running.specs.contracts.shelf.ShelfBlock as ShelfBlock
 use Rattle.script_running.specs.contracts.shelf.ShelfFound as ShelfFound
 
-kept_sync : IsSync Kept.the_row
-kept_sync = search (sendable, crosses, block.the_send, block.the_sync, seen.the_sync) depth 40 fits 40000
-
-kept_send : IsSend Kept.the_row
-kept_send = search (sendable, crosses, block.the_send, block.the_sync, seen.the_send) depth 40 fits 40000
-
 kept_sent : IsSend (Kept.the_field).row
-kept_sent = let kept = kept_send in search (sendable, crosses) depth 24
+kept_sent = search (sendable, crosses, block.the_send, block.the_sync, seen.the_send) depth 40 fits 40000
 
 blob_send : IsSend Blob.the_row
 blob_send = let kept = kept_sent in search (sendable, crosses) depth 24
@@ -41,7 +35,7 @@ blob_sent : IsSend (Blob.the_field).row
 blob_sent = let blob = blob_send in search (sendable, crosses) depth 24
 
 kept_field : IsSync (Kept.the_field).row
-kept_field = let kept = kept_sync in search (sendable, crosses) depth 24
+kept_field = search (sendable, crosses, block.the_send, block.the_sync, seen.the_sync) depth 40 fits 40000
 
 blob_sync : IsSync Blob.the_row
 blob_sync = let kept = kept_field in search (sendable, crosses) depth 24
@@ -56,7 +50,7 @@ found_sync : IsSync ShelfFound.the_row
 found_sync = let object = object_field in search (sendable, crosses) depth 24
 
 found_field : IsSync (ShelfFound.the_field).row
-found_field = let found = found_sync in search (sendable, crosses) depth 24
+found_field = let object = object_field in search (sendable, crosses) depth 40 fits 40000
 
 shelf_sync : IsSync ShelfBlock.the_row
 shelf_sync = let found = found_sync in let field = found_field in search (sendable, crosses) depth 40

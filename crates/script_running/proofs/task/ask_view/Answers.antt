@@ -29,11 +29,11 @@ returns-clause-asked g c = λ holding selector sees at.
     asked_again holding own selector rules c.args.means.now.script.rules low high seat old new (record { view = c.args.sight.now.view; cache = c.take_cache.new.cache }) c.take_cache.result same c.rules.ensures.are
     (call_asked holding (asking own rules.replicas low high) seat old new c.take_cache.result c.args.sight.now (record { view = c.args.sight.now.view; cache = c.take_cache.new.cache }) c.in-Some.view (held c.in-Ok-own_cache.own)
     c.in-Some.is refl (c.in-Ok-own_cache.ensures ∙ ap cache_of c.take.ensures.value)
-    (λ used line_low line_high number. call_told c.in-Some.view (asking own rules.replicas low high) (held c.in-Ok-own_cache.own) seat old new used line_low line_high number _ _ c.run_call-driven.result c.take_cache.result c.take_cache.ensures.came c.take_cache.ensures.cache drives)
+    (λ used same. call_told c.in-Some.view (asking own rules.replicas low high) (held c.in-Ok-own_cache.own) seat old new used same _ _ c.run_call-driven.result c.take_cache.result c.take_cache.ensures.came c.take_cache.ensures.cache drives)
     sees)
 
 pub returns-clause-hand : goal.returns-clause-hand
-returns-clause-hand g c = end_left g.H.Hand.told g.H.Hand.keeps (λ (left : CallLeft). part.Query (call_part left.end)) _ _ c.run_call-driven.result c.take_cache.result c.take_cache.ensures.came c.run_call-driven.ensures.hand
+returns-clause-hand g c = end_left g.H.Hand.told g.H.Hand.keeps (λ (left : CallLeft). part.Query (call_part c.in-Some.view.first left.end)) _ _ c.run_call-driven.result c.take_cache.result c.take_cache.ensures.came c.run_call-driven.ensures.hand
 
 pub returns-in_default-selector-clause-asked : goal.returns-in_default-selector-clause-asked
 returns-in_default-selector-clause-asked g c = λ holding selector sees at.
