@@ -33,7 +33,7 @@ lone worker = is_none worker.gateway
 
 module _ {State Own : Type 0} (setting : Setting) (seats : ℕ → ℕ) (conduct : Conduct State Own) (has : HasActors setting seats conduct) where
   -- the ends of the workers without a gateway
-  acted_by : List Worker → List (List Own) → List (List End)
+  abbrev acted_by : List Worker → List (List Own) → List (List End)
   acted_by [] ends = []
   acted_by (w ∷ ws) [] = []
   acted_by (w ∷ ws) (own ∷ ends) = cond (is_none w.gateway) (map has.end_as own ∷ acted_by ws ends) (acted_by ws ends)
@@ -98,7 +98,7 @@ module _ {State Own : Type 0} (setting : Setting) (seats : ℕ → ℕ) (conduct
       kept = λ gateway none. refl;
     }
 
-  ends_acted : ℕ → List (List (List Own)) → List (List (List End))
+  abbrev ends_acted : ℕ → List (List (List Own)) → List (List (List End))
   ends_acted number [] = []
   ends_acted number (own ∷ ends) = acted_by (conduct.workers number) own ∷ ends_acted (number + 1) ends
 
