@@ -131,3 +131,9 @@ module _ {State Own : Type 0} (setting : Setting) (seats : ℕ → ℕ) (conduct
     kept = kept;
     phases = phases_acted 0 before setting.script.phases journal ends (λ k p own. ap (slice_get setting.script.phases) (omega arith) ∙ own) run;
   }
+
+  -- under this numbering
+  pub seats_kept : (numbered : IsNumbering setting seats) (journal : List Entry) (before : ℕ → State) (ends : List (List (List Own))) (kept : IsJournal setting.script.rules.tick.ms journal) (run : PhasesRun (working conduct) 0 before setting.script.phases journal ends) (seat : ℕ)
+      → (conduct_acts numbered journal before ends kept run).seats seat ≡ seats seat
+  unfolding conduct_acts
+  seats_kept numbered journal before ends kept run seat = refl

@@ -33,7 +33,7 @@ use Rattle.lifecycle_core.specs.Holdings.{Holding, Holdings, Use, holding_of, no
 use Rattle.lifecycle_core.specs.Phases.{IsRunOf, by_script}
 use Rattle.lifecycle_core.specs.Setting.{Setting}
 use Rattle.lifecycle_core.specs.Tasks.{End, PartTask, QueryTask, TaskRun, ask_to, sync_rules, synced_with}
-use Rattle.lifecycle_core.proofs.phases.Acted.{conduct_acts, no_gateway}
+use Rattle.lifecycle_core.proofs.phases.Acted.{conduct_acts, no_gateway, seats_kept}
 use Rattle.lifecycle_core.proofs.phases.GatewayParts.{part_entries, query_is}
 use Rattle.lifecycle_core.proofs.misses.GatewayEntries.{call_reads, sync_reads}
 
@@ -197,7 +197,7 @@ a_gateway (Some g) is = (g, refl)
 -- what a worker without a gateway does asks for nothing that it holds
 done_by : (setting : Setting) (who : Who) (place : ℕ) (w : Work) (before after held : Holding) (made : List Entry) (end : Option End) → who.gateway ≡ None → TaskRun setting who place w before made end after → (left : Holding) × TaskRun setting who place w held made end left
 done_by setting who place (Upload ulid stop) before after held made end none run = (held, (run.0, refl))
-done_by setting who place (Sync gateway) before after held made end none (own, run, is, left) = (synced_with held made own, (own, (run, (is, refl))))
+done_by setting who place (Sync gateway) before after held made end none (own, run, is, left) = (synced_with held made own, (own, run, is, refl))
 done_by setting who place (Compact stop) before after held made end none run = (held, (run.0, refl))
 done_by setting who place (Clean stop) before after held made end none run = (held, (run.0, refl))
 done_by setting who place (Query low high selector) before after held made end none run =
@@ -265,5 +265,5 @@ runs_act setting journal ends lawful run = conduct_acts setting same_seat (by_sc
 
 -- at its own seats
 pub seats_stay : (setting : Setting) (journal : List Entry) (ends : List (List (List End))) (lawful : IsLawfulScript setting.script) (run : IsRunOf setting journal ends) (seat : ℕ) → (runs_act setting journal ends lawful run).seats seat ≡ seat
-unfolding runs_act conduct_acts
-seats_stay setting journal ends lawful run seat = refl
+unfolding runs_act
+seats_stay setting journal ends lawful run seat = seats_kept setting same_seat (by_script setting) (script_acts setting lawful) (own_numbering setting lawful) journal none_held ends run.kept run.phases seat
