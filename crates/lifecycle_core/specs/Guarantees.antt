@@ -138,12 +138,11 @@ pub record IsSoundCall (setting : Setting) (watch : Watch) (journal : List Entry
       → (series : List Series) (sources : List ℕ) → end ≡ Some (ended.Answer series sources)
       → (ulid : ℕ) → IsSettled setting journal rules used ulid → Contains sources ulid
 
--- What is guaranteed of a run that came to these ends. A failed call is shown by the journal, and an object that a compaction misses
--- is explained by it, whatever the bucket does; and where each phase was done before the next one began, so that gateways used their
--- last views, an object that a query misses too. Where the
--- bucket is honest, nothing is found damaged, each answered query is sound, and each complete block holds what its sources hold. And
--- where no call failed and each phase was done before the next one began, every task ends well if no entry breaks a rule, or if the
--- bucket is honest and nothing is deleted.
+-- What is guaranteed of a run that came to these ends. Whatever the bucket does, a failed call is shown by the journal, and an object
+-- that a compaction misses is explained by it; so is one that a query misses, where each phase was done before the next one began, so
+-- that gateways used their last views. Where the bucket is honest, nothing is found damaged, each answered query is sound, and each
+-- complete block holds what its sources hold. And where no call failed and each phase was done before the next one began, every task
+-- ends well if no entry breaks a rule, or if the bucket is honest and nothing is deleted.
 pub record IsGuaranteed (setting : Setting) (journal : List Entry)
     (ends : List (List (List End))) : Type 0 where
   pub explained : IsInTurn setting ends → AreMissesExplained setting journal ends
