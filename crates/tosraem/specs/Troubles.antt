@@ -39,4 +39,4 @@ unfoldable pub report_trouble_of : ErrorKind → ReportTrouble
 report_trouble_of kinds.BrokenPipe = reports.ReaderGone
 report_trouble_of kinds.StorageFull = reports.Full
 report_trouble_of kinds.QuotaExceeded = reports.Full
-report_trouble_of others = reports.Other
+report_trouble_of _ = reports.Other

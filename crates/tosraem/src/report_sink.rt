@@ -1,4 +1,4 @@
-//! Standard output as a sink, which keeps why it failed.
+//! Standard output as a sink, which keeps why it failed, and which failures the report tells of.
 
 ghost use Rattle.std.specs.Prelude.{◌≡◌, ◌≢◌, None};
 ghost use Rattle.std.specs.IoError.{error_kind};
