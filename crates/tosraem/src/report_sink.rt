@@ -1,4 +1,4 @@
-//! Standard output as a sink, which keeps why it failed, and which failures the report tells of.
+//! Standard output as a sink, which keeps why it failed.
 
 ghost use Rattle.std.specs.Prelude.{◌≡◌, ◌≢◌, None};
 ghost use Rattle.std.specs.IoError.{error_kind};
