@@ -1,4 +1,2 @@
 pub mod Advice
 pub mod Calls
-pub mod Said
-pub mod Troubles

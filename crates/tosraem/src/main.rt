@@ -15,17 +15,13 @@ ghost use Rattle.replay_cli.specs.call_verdicts.specs.declared.verdict.Verdict.T
 ghost use Rattle.tosraem.specs.Calls.{IsServed, names_replay};
 
 mod advice;
-mod report_sink;
 mod room;
-mod troubles;
 
 use crate::advice::tell;
-use crate::report_sink::ReportSink;
 use crate::room::WithRoom;
-use crate::troubles::Troubles;
 use bucket_core::{Sink, Site, Source};
 use dir_bucket::HostSite;
-use replay_cli::{ReaderSource, Run, Status, run_replay, run_tool};
+use replay_cli::{ReaderSource, Run, Status, WriterSink, run_replay, run_tool};
 use std::alloc::Global;
 use std::process::ExitCode;
 use std::sync::Wait;
@@ -35,36 +31,23 @@ use std::{env, io};
 fn main(rt: HostRuntime) -> ExitCode {
     let alloc = rt.alloc();
     let host: Result<_, _> = rt.clone();
-    let (number, troubles) = match (words_of(alloc, &rt), host) {
-        (Ok(words), Ok(host)) => serve(&rt, alloc, &words, HostSite::new(host)),
-        _ => (Status::NoMemory.number(), Troubles::none()),
+    let number = match (words_of(alloc, &rt), host) {
+        (Ok(words), Ok(host)) => {
+            run(
+                &rt,
+                alloc,
+                &words,
+                &mut HostSite::new(host),
+                &mut ReaderSource::new(rt.reader()),
+                &mut WriterSink::new(io::writer(&rt)),
+            )
+            .status
+        }
+        _ => Status::NoMemory.number(),
     };
     // A failure to say it changes nothing.
-    let _ = tell(number, troubles, &mut rt.stderr());
+    let _ = tell(number, &mut rt.stderr());
     ExitCode::from(number)
-}
-
-/// Does what the words ask for, and tells its status and what trouble there was.
-fn serve(
-    rt: &HostRuntime,
-    alloc: Global,
-    words: &[String],
-    site: HostSite<HostRuntime>,
-) -> (u8, Troubles) {
-    let mut site = site;
-    let mut script = ReaderSource::new(rt.reader());
-    let mut out = ReportSink::new(io::writer(rt));
-    let run = run(rt, alloc, words, &mut site, &mut script, &mut out);
-    let troubles = Troubles {
-        bucket: site
-            .bucket_trouble()
-            .or(run.store.as_ref().and_then(|bucket| bucket.trouble())),
-        shelf: site
-            .shelf_trouble()
-            .or(run.shelf.as_ref().and_then(|shelf| shelf.trouble())),
-        report: out.trouble(),
-    };
-    (run.status, troubles)
 }
 
 /// Does what the words ask for: with threads where they name a replay, and else one task after another. It hands back the run that
