@@ -241,7 +241,7 @@ module _ (setting : Setting) (seat : Hand → ℕ) (place : ℕ) (task : Task) (
   })
 
   both : (one two : List Entry) (old mid new : List Entry) → mid ≡ old ++ one → new ≡ mid ++ two → new ≡ old ++ (one ++ two)
-  both one two old mid new first then = then ∙ ap (λ (l : List Entry). l ++ two) first ∙ append_assoc old one two
+  both one two old mid new first later = later ∙ ap (λ (l : List Entry). l ++ two) first ∙ append_assoc old one two
 
   module _ (number : ℕ) (hand : Hand) (shown gateways : List Sight) (old mid new : List Entry) (parts : List Part) (f : Front number shown old mid parts) (at : slice_get duties number ≡ Some (own_duty hand)) where
     next : drop number duties ≡ own_duty hand ∷ drop (number + 1) duties

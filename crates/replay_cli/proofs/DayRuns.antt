@@ -2,6 +2,7 @@
 use Rattle.std.proofs.Common.{◌≡◌, ℕ, Bool, true, false, List, [], ◌++◌, length, take, refl, sym, ◌∙◌, ap, subst, inl, inr}
 use Rattle.std.specs.Prelude.{Option, Some, None, Result, Ok, Err}
 use Rattle.std.specs.List.{list_all}
+use Rattle.bucket_core.specs.MemoryBucket.{bucket_told}
 use Rattle.bucket_core.specs.Told.{BucketTold}
 use Rattle.bucket_core.specs.declared.memory_bucket.MemoryBucket.{MemoryBucket}
 use Rattle.world_core.specs.Keeping.{IsFull}
@@ -126,7 +127,7 @@ day_full_told script journal tally (Err broken.NoMemory) v whole filled short = 
 pub unnoted_day : (entries : List Entry) → entries ≡ [] → IsDayNoted verdict.NoMemory (Some entries) None
 unnoted_day entries none = (none, refl, tt)
 
-pub day_noted : (v : Verdict) (entries : List Entry) (bucket : MemoryBucket) (note : Option (RunNote MemoryBucket)) → IsNoted met (λ (b : MemoryBucket). None) v (Some entries) (Some bucket) note → IsDayNoted v (Some entries) note
+pub day_noted : (v : Verdict) (entries : List Entry) (bucket : MemoryBucket) (note : Option (RunNote MemoryBucket)) → IsNoted met bucket_told v (Some entries) (Some bucket) note → IsDayNoted v (Some entries) note
 day_noted v entries bucket None noted = (noted.0, noted.1, tt)
 day_noted v entries bucket (Some n) noted = record { journal_is = noted.journal_is; store_is = refl; full = noted.full; short = noted.short; asks = noted.asks }
 

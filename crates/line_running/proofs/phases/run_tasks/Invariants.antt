@@ -11,7 +11,7 @@ use Rattle.line_running.proofs.phases.run_tasks.Given as goal
 abbrev pub invariant-loop-place : goal.invariant-loop-place
 invariant-loop-place g l = record {
   done : (views : Holdings) → AreSeen views l.initial.sights
-      → TasksDone g.R.Report.tells (setting_by l.phase.script l.phase.means.now.shelf) (seat_of l.phase.seats.workers) (take l.place l.phase.tasks) views l.sights l.initial.hand.world.journal l.hand.world.journal l.lines;
+      → TasksDone g.R.Report.tells (setting_by l.phase.script.now l.phase.means.now.shelf) (seat_of l.phase.seats.workers) (take l.place l.phase.tasks.now) views l.sights l.initial.hand.world.journal l.hand.world.journal l.lines;
   hand : TurnedRun g.B.Bucket.told l.initial.hand l.hand false false;
   ready : length l.sights ≡ length l.initial.sights;
 }

@@ -1,7 +1,10 @@
-use Rattle.std.proofs.Common.{◌≡◌, ◌∷◌, [], ◌+◌, length, length-append, refl, sym, ◌∙◌, ap, arith}
+use Rattle.std.proofs.Common.{◌≡◌, ◌∷◌, [], ◌+◌, length, length-append, refl, sym, ◌∙◌, ap, subst, arith, List}
+use Rattle.world_core.specs.declared.entry.Entry.{Entry}
+use Rattle.line_running.specs.Progress.{PartStep}
 use Rattle.script_workers.specs.Hands.{gateway_count, hands_of_task}
 use Rattle.report_lines.specs.lifecycle_core.specs.InLine.{seat_of}
 use Rattle.report_lines.specs.script_running.specs.Lending.{setting_in}
+use Rattle.report_lines.specs.script_running.specs.Outcomes.{Outcome}
 use Rattle.report_lines.specs.script_running.proofs.AllParts.{all_parts, few_parts}
 use Rattle.line_running.proofs.Steps.{all_done, counted, duties_long, duty_at, gathered_is, none_begun, none_done, part_broken, part_more, sync_within, task_begins}
 use Rattle.line_running.proofs.Turns.{broke, ended, idle, not_full, seated, still, then_more}
@@ -28,14 +31,14 @@ loop-number-init g c = record {
 pub hand_at-who-requires : goal.hand_at-who-requires
 hand_at-who-requires g c = record {
   few = (let m = c.args.phase.now.means.now in let few = c.requires.lawful.few_gateways in let below = c.loop-number-test.true in
-      let count = counted m.script c.requires.lawful c.args.task.now.work c.args.place c.args.sights.now c.len.result c.hand_count-count.result c.requires.ready (omega (arith, c.len.ensures)) (c.hand_count-count.ensures c.args.place) in
+      let count = counted m.script c.requires.lawful c.args.task.now.work c.args.place c.args.sights.now (length c.args.sights.now) c.hand_count-count.result c.requires.ready refl (c.hand_count-count.ensures c.args.place) in
       let most = few_parts c.args.task.now.work (gateway_count m.script.gateways) c.args.place (omega (arith, few)) in omega (arith, below, count, most));
 }
 
 pub do_part-requires-clause-within : goal.do_part-requires-clause-within
 do_part-requires-clause-within g c =
     let m = c.args.phase.now.means.now in
-    let count = counted m.script c.requires.lawful c.args.task.now.work c.args.place c.args.sights.now c.len.result c.hand_count-count.result c.requires.ready (omega (arith, c.len.ensures)) (c.hand_count-count.ensures c.args.place) in
+    let count = counted m.script c.requires.lawful c.args.task.now.work c.args.place c.args.sights.now (length c.args.sights.now) c.hand_count-count.result c.requires.ready refl (c.hand_count-count.ensures c.args.place) in
     let at = c.hand_at-who.ensures (gateway_count m.script.gateways) (omega (arith, c.loop-number-test.true, count)) in
     sync_within m.script c.requires.lawful c.args.place c.loop-number.number c.args.task.now.work c.hand_at-who.result c.requires.work at c.loop-number.sights (c.loop-number.invariant.ready ∙ c.requires.ready)
 
@@ -43,29 +46,31 @@ pub returns-in-Err-clause-step : goal.returns-in-Err-clause-step
 returns-in-Err-clause-step g c = λ views shows.
     let m = c.args.phase.now.means.now in
     let seat = seat_of c.args.phase.now.seats.workers in
-    let count = counted m.script c.requires.lawful c.args.task.now.work c.args.place c.args.sights.now c.len.result c.hand_count-count.result c.requires.ready (omega (arith, c.len.ensures)) (c.hand_count-count.ensures c.args.place) in
+    let count = counted m.script c.requires.lawful c.args.task.now.work c.args.place c.args.sights.now (length c.args.sights.now) c.hand_count-count.result c.requires.ready refl (c.hand_count-count.ensures c.args.place) in
     let at = c.hand_at-who.ensures (gateway_count m.script.gateways) (omega (arith, c.loop-number-test.true, count)) in
     let f = c.loop-number.invariant.done views shows in
     part_broken (setting_in m) seat c.args.place c.args.task.now views c.loop-number.number c.hand_at-who.result c.loop-number.sights c.do_part.new.sights
     c.args.hand.now.world.journal c.loop-number.hand.world.journal c.do_part.new.hand.world.journal c.loop-number.parts.items f (duty_at (setting_in m) c.args.place c.loop-number.number c.args.task.now c.hand_at-who.result at)
-    (task_begins (setting_in m) c.args.place c.args.task.now c.requires.lawful c.requires.work) c.do_part.result c.in-Err.broken c.in-Err.is (c.do_part.ensures.step seat c.args.place f.after (ap (λ h. h.seat) c.at_seat.ensures ∙ c.seat_of.ensures) f.shows)
+    (task_begins (setting_in m) c.args.place c.args.task.now c.requires.lawful c.requires.work) c.do_part.result c.in-Err.broken c.in-Err.is (subst (λ (es : List Entry). PartStep (setting_in m) seat c.args.place c.args.task.now c.hand_at-who.result f.after c.do_part.new.sights es c.do_part.new.hand.world.journal c.do_part.result) (ap (λ h. h.world.journal) c.at_seat.ensures)
+    (c.do_part.ensures.step seat c.args.place f.after (ap (λ h. h.seat) c.at_seat.ensures ∙ c.seat_of.ensures) f.shows))
 
 pub returns-in-Err-clause-hand : goal.returns-in-Err-clause-hand
-returns-in-Err-clause-hand g c = broke g.B.Bucket.told c.args.hand.now c.loop-number.hand c.do_part.new.hand c.do_part.result c.in-Err.broken c.in-Err.is c.loop-number.invariant.hand
+returns-in-Err-clause-hand g c = broke g.B.Bucket.told Outcome c.args.hand.now c.loop-number.hand c.do_part.new.hand c.do_part.result c.in-Err.broken c.in-Err.is c.loop-number.invariant.hand
     (seated g.B.Bucket.told c.loop-number.hand c.at_seat.new.self c.do_part.new.hand _ _ _ c.at_seat.ensures c.do_part.ensures.hand)
 
 pub loop-number-preserved : goal.loop-number-preserved
 loop-number-preserved g c =
     let m = c.args.phase.now.means.now in
     let seat = seat_of c.args.phase.now.seats.workers in
-    let count = counted m.script c.requires.lawful c.args.task.now.work c.args.place c.args.sights.now c.len.result c.hand_count-count.result c.requires.ready (omega (arith, c.len.ensures)) (c.hand_count-count.ensures c.args.place) in
+    let count = counted m.script c.requires.lawful c.args.task.now.work c.args.place c.args.sights.now (length c.args.sights.now) c.hand_count-count.result c.requires.ready refl (c.hand_count-count.ensures c.args.place) in
     let at = c.hand_at-who.ensures (gateway_count m.script.gateways) (omega (arith, c.loop-number-test.true, count)) in
     record {
       done = λ views shows.
           let f = c.loop-number.invariant.done views shows in
           part_more (setting_in m) seat c.args.place c.args.task.now views c.loop-number.number c.hand_at-who.result c.loop-number.sights c.do_part.new.sights
           c.args.hand.now.world.journal c.loop-number.hand.world.journal c.do_part.new.hand.world.journal c.loop-number.parts.items f (duty_at (setting_in m) c.args.place c.loop-number.number c.args.task.now c.hand_at-who.result at)
-          c.do_part.result c.in-Ok-do_part.part c.push_reserved.new.self.items c.in-Ok-do_part.is c.push_reserved.ensures.items (c.do_part.ensures.step seat c.args.place f.after (ap (λ h. h.seat) c.at_seat.ensures ∙ c.seat_of.ensures) f.shows);
+          c.do_part.result c.in-Ok-do_part.part c.push_reserved.new.self.items c.in-Ok-do_part.is c.push_reserved.ensures.items (subst (λ (es : List Entry). PartStep (setting_in m) seat c.args.place c.args.task.now c.hand_at-who.result f.after c.do_part.new.sights es c.do_part.new.hand.world.journal c.do_part.result) (ap (λ h. h.world.journal) c.at_seat.ensures)
+          (c.do_part.ensures.step seat c.args.place f.after (ap (λ h. h.seat) c.at_seat.ensures ∙ c.seat_of.ensures) f.shows));
       hand = then_more g.B.Bucket.told c.args.hand.now c.loop-number.hand c.do_part.new.hand _ _ c.loop-number.invariant.hand
           (ended g.B.Bucket.told c.loop-number.hand c.do_part.new.hand c.do_part.result c.in-Ok-do_part.part c.in-Ok-do_part.is
           (seated g.B.Bucket.told c.loop-number.hand c.at_seat.new.self c.do_part.new.hand _ _ _ c.at_seat.ensures c.do_part.ensures.hand));
@@ -77,7 +82,7 @@ loop-number-preserved g c =
 pub gathered_outcome-requires : goal.gathered_outcome-requires
 gathered_outcome-requires g c = record {
   few = (let m = c.args.phase.now.means.now in let few = c.requires.lawful.few_gateways in let i = c.loop-number.invariant.count in
-      let count = counted m.script c.requires.lawful c.args.task.now.work c.args.place c.args.sights.now c.len.result c.hand_count-count.result c.requires.ready (omega (arith, c.len.ensures)) (c.hand_count-count.ensures c.args.place) in
+      let count = counted m.script c.requires.lawful c.args.task.now.work c.args.place c.args.sights.now (length c.args.sights.now) c.hand_count-count.result c.requires.ready refl (c.hand_count-count.ensures c.args.place) in
       let most = few_parts c.args.task.now.work (gateway_count m.script.gateways) c.args.place (omega (arith, few)) in
       let upto = c.loop-number.auto.number-end in omega (arith, i, count, most, upto));
 }
@@ -86,7 +91,7 @@ pub returns-clause-step : goal.returns-clause-step
 returns-clause-step g c = λ views shows.
     let m = c.args.phase.now.means.now in
     let seat = seat_of c.args.phase.now.seats.workers in
-    let count = counted m.script c.requires.lawful c.args.task.now.work c.args.place c.args.sights.now c.len.result c.hand_count-count.result c.requires.ready (omega (arith, c.len.ensures)) (c.hand_count-count.ensures c.args.place) in
+    let count = counted m.script c.requires.lawful c.args.task.now.work c.args.place c.args.sights.now (length c.args.sights.now) c.hand_count-count.result c.requires.ready refl (c.hand_count-count.ensures c.args.place) in
     let f = c.loop-number.invariant.done views shows in
     let whole : c.loop-number.number ≡ length (hands_of_task (gateway_count m.script.gateways) c.args.place c.args.task.now.work) = omega (arith, c.loop-number-test.false, c.loop-number.auto.number-end, count) in
     all_done (setting_in m) seat c.args.place c.args.task.now views c.loop-number.number c.loop-number.sights c.args.hand.now.world.journal c.loop-number.hand.world.journal c.loop-number.parts.items c.gathered_outcome.result f
